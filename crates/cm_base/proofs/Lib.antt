@@ -1,0 +1,3 @@
+-- The laws of sets of capabilities, which later proofs cite, and the lemmas that this crate's functions stand on.
+pub mod CapSets
+pub mod Tables

@@ -1,0 +1,10 @@
+-- Two words for outcomes that all contracts share.
+use Rattle.std.specs.Prelude.{◌≡◌, Result, IfOk, OnErr}
+
+-- This holds of the value, or there was no memory for it: the error is want of memory alone.
+abbrev pub OrNoMemory : {T E : Type 0} → Result T E → (T → Type 0) → Type 0
+OrNoMemory r P = IfOk r P
+
+-- After a refusal the value is what it was.
+abbrev pub UnchangedOnErr : {T E V : Type 0} → Result T E → V → V → Type 0
+UnchangedOnErr r old new = OnErr r (new ≡ old)

@@ -1,0 +1,107 @@
+-- What the replay of a log in a world answers, by how its files were read.
+use Rattle.std.proofs.Common.{◌≡◌, ◌≢◌, ◌≤◌, ◌⊎◌, ◌+◌, ℕ, List, [], ◌∷◌, Option, None, Some, Result, Ok, Err, refl, sym, ap, ◌∙◌, le_of_eq, arith}
+use Rattle.std.specs.Prelude.{IfSome}
+use Rattle.cm_base.specs.declared.status.Status.{Status}
+use Rattle.cm_base.specs.declared.status.Status.TheVariants as answers
+use Rattle.cm_cli.proofs.Waiting.{all_waits}
+use Rattle.cm_cli.specs.Answers.{ReplayAnswer, WritesReport, CountsStay}
+use Rattle.cm_cli.specs.Machine.{state_of, world_of}
+use Rattle.cm_cli.specs.Reading.{WorldStands}
+use Rattle.cm_cli.specs.Telling.{IsTold, Tells, short_report, log_report}
+use Rattle.cm_cli.specs.declared.telling.Short.{Short}
+use Rattle.cm_cli.specs.declared.telling.Short.TheVariants as short
+use Rattle.cm_io.specs.Shelf.{Files, bytes_at, Rose}
+use Rattle.model_cred.specs.Call.{Event}
+use Rattle.model_cred.specs.Process.{Process, State}
+use Rattle.model_cred.specs.World.{World}
+use Rattle.model_run.specs.Step.{Outcome, Goes, NoProcess, Wrong, NoRule, outcome}
+use Rattle.model_text.specs.Cut.{lines_of}
+use Rattle.model_text.specs.Line.{Line, NoEvent, Tells as TellsEvent, Faulty, Unbuilt, script_line}
+use Rattle.model_text.specs.Report.{Report, replay, replayed, by_line, by_outcome, text_of}
+
+-- a fact of what is told, from another
+pub if_told : {T : Type 0} {P Q : T → Type 0} (o : Option T) → IfSome o P → ((x : T) → P x → Q x) → IfSome o Q
+if_told None h f = h
+if_told (Some x) h f = f x h
+
+-- a fact of whatever is told
+pub if_any : {T : Type 0} {Q : T → Type 0} (o : Option T) → ((x : T) → Q x) → IfSome o Q
+if_any None f = tt
+if_any (Some x) f = f x
+
+-- no report of one piece but the usage has its status
+pub short_not_usage : (why : Short) → why ≢ short.Usage → (short_report why).status ≢ answers.Usage
+short_not_usage short.Usage not is = not refl
+short_not_usage short.NotBuilt not is = cc
+short_not_usage short.BadWorld not is = cc
+short_not_usage short.WorldLimit not is = cc
+short_not_usage short.LogLimit not is = cc
+
+outcome_not_usage : (n count : ℕ) (e : Event) (rest : State → ℕ → Report) → ((s : State) (c : ℕ) → (rest s c).status ≢ answers.Usage) → (become : Outcome) → (by_outcome n count e rest become).status ≢ answers.Usage
+outcome_not_usage n count e rest told (Goes s) = told s (count + 1)
+outcome_not_usage n count e rest told NoProcess = λ is. cc
+outcome_not_usage n count e rest told (Wrong res) = λ is. cc
+outcome_not_usage n count e rest told NoRule = λ is. cc
+
+line_not_usage : (w : World) (s : State) (n count : ℕ) (rest : State → ℕ → Report) → ((s' : State) (c : ℕ) → (rest s' c).status ≢ answers.Usage) → (line : Line) → (by_line w s n count rest line).status ≢ answers.Usage
+line_not_usage w s n count rest told NoEvent = told s count
+line_not_usage w s n count rest told (TellsEvent e) = outcome_not_usage n count e rest told (outcome w s e)
+line_not_usage w s n count rest told Faulty = λ is. cc
+line_not_usage w s n count rest told Unbuilt = λ is. cc
+
+replayed_not_usage : (w : World) (lines : List (List ℕ)) (s : State) (n count : ℕ) → (replayed w lines s n count).status ≢ answers.Usage
+replayed_not_usage w [] s n count = λ is. cc
+replayed_not_usage w (line ∷ lines) s n count = line_not_usage w s n count (λ s' c. replayed w lines s' (n + 1) c) (λ s' c. replayed_not_usage w lines s' (n + 1) c) (script_line line)
+
+-- nor has the report of a log
+pub log_not_usage : (ps : List Process) (log : List ℕ) → (log_report ps log).status ≢ answers.Usage
+log_not_usage ps log = replayed_not_usage (world_of ps) (lines_of log) (state_of ps) 1 0
+
+module _ (held : Option Files) (world log : List ℕ) (answer : Status) (w w' : Option (List ℕ)) (reads reads' : List ℕ → ℕ) (writes writes' : ℕ) where
+  -- the files were read, and a report was told
+  pub answers_report : (r : Report) → IfSome held (λ files. replay (bytes_at files world) (bytes_at files log) ≡ r) → ((n : List ℕ) → reads' n ≡ reads n) → r.status ≢ answers.Usage
+      → Tells r answer w w' writes writes' → ReplayAnswer held world log answer w w' reads reads' writes writes'
+  answers_report r ready same not_usage told = record {
+    status = if_told held ready (λ files is is_told. told.status is_told ∙ ap (λ (q : Report). q.status) (sym is));
+    text = if_told held ready (λ files is. rw is (record { whole = told.text; front = told.front }));
+    read_fault = λ fault. absurd (told.never_read_fault fault);
+    read_order = if_any held (λ files fault. absurd (told.never_read_fault fault));
+    read_silent = λ fault. absurd (told.never_read_fault fault);
+    write_fault = told.write_fault;
+    no_fault = λ is_told. record { reads_same = same; writes_same = told.no_fault is_told };
+    read_later = λ n. le_of_eq (sym (same n));
+    write_later = told.later;
+    not_usage = λ is. not_usage (sym (told.status (record { not_read_fault = λ e. absurd (let no : answers.Usage ≡ answers.ReadFault = sym is ∙ e in cc); not_write_fault = λ e. absurd (let no : answers.Usage ≡ answers.WriteFault = sym is ∙ e in cc); not_memory = λ e. absurd (let no : answers.Usage ≡ answers.NoMemory = sym is ∙ e in cc) })) ∙ is);
+  }
+
+-- a read failed
+pub answers_read_fault : (held : Option Files) (world log : List ℕ) (w : Option (List ℕ)) (reads reads' : List ℕ → ℕ) (writes : ℕ) → Rose (reads world) (reads' world) ⊎ Rose (reads log) (reads' log)
+    → IfSome held (λ files. Rose (reads world) (reads' world) ⊎ WorldStands (bytes_at files world)) → ((n : List ℕ) → reads n ≤ reads' n) → ReplayAnswer held world log answers.ReadFault w w reads reads' writes writes
+answers_read_fault held world log w reads reads' writes rose order later = record {
+  status = if_any held (λ files told. absurd (told.not_read_fault refl));
+  text = if_any held (λ files. record { whole = λ told. absurd (told.not_read_fault refl); front = (_, all_waits w _) });
+  read_fault = λ _. rose;
+  read_order = if_told held order (λ files h _. h);
+  read_silent = λ _. refl;
+  write_fault = λ is. cc;
+  no_fault = λ told. absurd (told.not_read_fault refl);
+  read_later = later;
+  write_later = le_of_eq refl;
+  not_usage = λ is. cc;
+}
+
+-- there was no memory for the files
+pub answers_no_memory : (held : Option Files) (world log : List ℕ) (w : Option (List ℕ)) (reads reads' : List ℕ → ℕ) (writes : ℕ) → ((n : List ℕ) → reads' n ≡ reads n)
+    → ReplayAnswer held world log answers.NoMemory w w reads reads' writes writes
+answers_no_memory held world log w reads reads' writes same = record {
+  status = if_any held (λ files told. absurd (told.not_memory refl));
+  text = if_any held (λ files. record { whole = λ told. absurd (told.not_memory refl); front = (_, all_waits w _) });
+  read_fault = λ is. cc;
+  read_order = if_any held (λ files is. cc);
+  read_silent = λ is. cc;
+  write_fault = λ is. cc;
+  no_fault = λ told. absurd (told.not_memory refl);
+  read_later = λ n. le_of_eq (sym (same n));
+  write_later = le_of_eq refl;
+  not_usage = λ is. cc;
+}

@@ -1,0 +1,39 @@
+-- The text of lines one after another, and what pieces written one after another come to.
+use Rattle.std.proofs.Common.{◌≡◌, ℕ, List, [], ◌∷◌, ◌++◌, Result, OnOk, sym, ap, ◌∙◌, append_assoc, append-nil}
+use Rattle.std.proofs.lemmas.Grind.{flat_map-append}
+use Rattle.std.proofs.lemmas.Result.{IfOk-equal}
+use Rattle.model_text.specs.Report.{ReportLine, Plain, line_text, text_of}
+
+-- the text of lines and then more lines
+pub text_of_append : (a b : List ReportLine) → text_of (a ++ b) ≡ text_of a ++ text_of b
+text_of_append a b = flat_map-append (λ line. line_text line ++ 10 ∷ []) a b
+
+-- the text of a line and then more lines
+pub text_of_cons : (l : ReportLine) (ls : List ReportLine) → text_of (l ∷ ls) ≡ text_of (l ∷ []) ++ text_of ls
+text_of_cons l ls = text_of_append (l ∷ []) ls
+
+-- the text of one line
+pub text_of_one : (l : ReportLine) → text_of (l ∷ []) ≡ line_text l ++ 10 ∷ []
+text_of_one l = append-nil (line_text l ++ 10 ∷ [])
+
+-- A loop's step: what is written and the text of the lines that are left, after one line more.
+pub text_of_step : (now new all : List ℕ) (l : ReportLine) (ls : List ReportLine)
+    → new ≡ now ++ text_of (l ∷ []) → now ++ text_of (l ∷ ls) ≡ all → new ++ text_of ls ≡ all
+text_of_step now new all l ls wrote whole =
+    rw wrote (append_assoc now (text_of (l ∷ [])) (text_of ls) ∙ ap (λ t. now ++ t) (sym (text_of_cons l ls)) ∙ whole)
+
+-- The same for several lines.
+pub text_of_steps : (now new all : List ℕ) (ls more : List ReportLine)
+    → new ≡ now ++ text_of ls → now ++ text_of (ls ++ more) ≡ all → new ++ text_of more ≡ all
+text_of_steps now new all ls more wrote whole =
+    rw wrote (append_assoc now (text_of ls) (text_of more) ∙ ap (λ t. now ++ t) (sym (text_of_append ls more)) ∙ whole)
+
+-- two pieces and a last one
+pub joined : (old one two a b c : List ℕ) → one ≡ old ++ a → two ≡ one ++ b → two ++ c ≡ old ++ (a ++ b ++ c)
+joined old one two a b c first second = rw (second, first) (simp append_assoc)
+
+-- the last piece of a line of plain text
+pub plain : {T E : Type 0} (r : Result T E) (old now new text : List ℕ)
+    → OnOk r (new ≡ now) → now ≡ old ++ (text ++ 10 ∷ []) → OnOk r (new ≡ old ++ text_of (Plain text ∷ []))
+plain r old now new text wrote same =
+    IfOk-equal r new now (old ++ text_of (Plain text ∷ [])) wrote (same ∙ ap (λ t. old ++ t) (sym (text_of_one (Plain text))))

@@ -1,0 +1,74 @@
+-- The turn of one process is the step of the machine.
+use Rattle.std.proofs.Common.{◌≡◌, ℕ, zero, suc, ◌<◌, true, false, Bool, length, List, [], ◌∷◌, Option, Some, None, refl, sym, ◌∙◌, ap, arith, subst, get_or, slice_get, slice_set, cond}
+use Rattle.cm_base.specs.declared.res.Res.{Res}
+use Rattle.cm_cli.proofs.Places.{pid_of_at, get_of_at, found_at, put_ascends, put_at, pid_of_put}
+use Rattle.cm_cli.specs.Machine.{pid_at, state_of, IsTurn}
+use Rattle.cm_cli.specs.Turns.{IsLiveTurn, IsToldTurn}
+use Rattle.cm_cli.specs.declared.processes.Turn.{Turn}
+use Rattle.cm_cli.specs.declared.processes.Turn.TheVariants as turn
+use Rattle.model_cred.specs.Call.{Call, Event}
+use Rattle.model_cred.specs.Process.{Process, Ascends, process_at, put_process}
+use Rattle.model_cred.specs.Space.{initial_space, first_spaces}
+use Rattle.model_cred.specs.World.{World}
+use Rattle.model_rules.specs.Answer.{Answer}
+use Rattle.model_run.specs.Outside.{comes_from_outside}
+use Rattle.model_run.specs.Same.{same_res}
+use Rattle.model_run.specs.Step.{outcome, outcome_for, told_call, told_answer, answer_of, answer_in, Goes, Wrong, with_cred, Outcome}
+use Rattle.std.specs.Prelude.{MatchBool}
+
+-- a process put back unchanged leaves the list as it was
+put_same : (ps : List Process) (i : ℕ) (p : Process) → i < length ps → p ≡ get_or ps i p → slice_set ps i p ≡ ps
+put_same [] i p h is = absurd (omega arith)
+put_same (q ∷ ps) zero p h is = ap (λ (r : Process). r ∷ ps) is
+put_same (q ∷ ps) (suc i) p h is = ap (λ (rs : List Process). q ∷ rs) (put_same ps i p (omega arith) is)
+
+-- the told result against an answer
+told_turn : (ps : List Process) (i : ℕ) (old new : Process) (told : Res) (a : Option Answer) (t : Turn) → Ascends ps → i < length ps → old ≡ get_or ps i old
+    → IsToldTurn old new told a t → IsTurn t (slice_set ps i new) (told_answer (state_of ps) old told a)
+told_turn ps i old new told None t up h is turns = absurd turns
+told_turn ps i old new told (Some a) turn.Goes up h is turns =
+    let put : put_process (record old { cred = a.cred }) ps ≡ slice_set ps i (record old { cred = a.cred }) = put_at ps i (record old { cred = a.cred }) up h (sym (pid_of_at ps i old h is)) in
+    let written : slice_set ps i (record old { cred = a.cred }) ≡ slice_set ps i new = ap (λ (p : Process). slice_set ps i p) (sym turns.1) in
+    ap (λ (b : Bool). cond b (Goes (with_cred (state_of ps) old a.cred)) (Wrong a.res)) turns.0 ∙ ap (λ (qs : List Process). Goes (state_of qs)) (put ∙ written)
+told_turn ps i old new told (Some a) (turn.Wrong res) up h is turns =
+    ap (λ (b : Bool). cond b (Goes (with_cred (state_of ps) old a.cred)) (Wrong a.res)) turns.0 ∙ ap Wrong (sym turns.1)
+
+-- with an error from outside, or by the rules
+called_turn : (ps : List Process) (i : ℕ) (old new : Process) (call : Call) (told : Res) (a : Option Answer) (t : Turn) (outside : Bool) → Ascends ps → i < length ps → old ≡ get_or ps i old
+    → MatchBool outside ((t ≡ turn.Goes) × (new ≡ old)) (IsToldTurn old new told a t) → IsTurn t (slice_set ps i new) (cond outside (Goes (state_of ps)) (told_answer (state_of ps) old told a))
+called_turn ps i old new call told a t true up h is turns =
+    let back : slice_set ps i new ≡ ps = ap (λ (p : Process). slice_set ps i p) turns.1 ∙ put_same ps i old h is in
+    let goes : IsTurn turn.Goes (slice_set ps i new) (Goes (state_of ps)) = ap (λ (qs : List Process). Goes (state_of qs)) (sym back) in
+    subst (λ (u : Turn). IsTurn u (slice_set ps i new) (Goes (state_of ps))) (sym turns.0) goes
+called_turn ps i old new call told a t false up h is turns = told_turn ps i old new told a t up h is turns
+
+-- the rules' answer to a process in the initial space
+answered : (ps : List Process) (p : Process) (call : Call) → p.space ≡ 0 → answer_of (state_of ps) p call ≡ answer_in initial_space p.cred call
+answered ps p call is = rw is refl
+
+-- the turn of the caller at its place is what becomes of the event
+pub turned : (ps : List Process) (i : ℕ) (old new : Process) (e : Event) (t : Turn) → Ascends ps → i < length ps → old ≡ get_or ps i old → slice_get ps i ≡ process_at ps e.pid
+    → IsLiveTurn old new e t → (w : World) → IsTurn t (slice_set ps i new) (outcome w (state_of ps) e)
+turned ps i old new e t up h is found turns w =
+    let caller : process_at ps e.pid ≡ Some old = sym found ∙ get_of_at ps i old h is in
+    let by_answer : IsTurn t (slice_set ps i new) (cond (comes_from_outside e.call e.res) (Goes (state_of ps)) (told_answer (state_of ps) old e.res (answer_in initial_space old.cred e.call))) =
+    called_turn ps i old new e.call e.res (answer_in initial_space old.cred e.call) t (comes_from_outside e.call e.res) up h is turns.turn in
+    let by_rules : IsTurn t (slice_set ps i new) (outcome_for (state_of ps) (Some old) e) =
+    subst (λ (a : Option Answer). IsTurn t (slice_set ps i new) (cond (comes_from_outside e.call e.res) (Goes (state_of ps)) (told_answer (state_of ps) old e.res a))) (sym (answered ps old e.call turns.initial)) by_answer in
+    subst (λ (p : Option Process). IsTurn t (slice_set ps i new) (outcome_for (state_of ps) p e)) (sym caller) by_rules
+
+-- and the processes go on ascending
+pub turned_ascends : (ps : List Process) (i : ℕ) (old new : Process) (e : Event) (t : Turn) → Ascends ps → i < length ps → old ≡ get_or ps i old → IsLiveTurn old new e t → Ascends (slice_set ps i new)
+turned_ascends ps i old new e t up h is turns = put_ascends ps i new up h (turns.same_pid ∙ sym (pid_of_at ps i old h is))
+
+found_pid : (ps : List Process) (pid : ℕ) (p : Process) → process_at ps pid ≡ Some p → p.pid ≡ pid
+found_pid [] pid p is = absurd (cc)
+found_pid (q ∷ ps) pid p is = grind (arith, is, found_pid ps pid p)
+
+-- the caller is found at its place after the turn too
+pub turned_found : (ps : List Process) (i : ℕ) (old new : Process) (e : Event) (t : Turn) → Ascends ps → i < length ps → old ≡ get_or ps i old → slice_get ps i ≡ process_at ps e.pid
+    → IsLiveTurn old new e t → i < length (slice_set ps i new) → slice_get (slice_set ps i new) i ≡ process_at (slice_set ps i new) e.pid
+turned_found ps i old new e t up h is found turns within =
+    let caller : process_at ps e.pid ≡ Some old = sym found ∙ get_of_at ps i old h is in
+    found_at (slice_set ps i new) (turned_ascends ps i old new e t up h is turns) i e.pid within
+    (pid_of_put ps i new h ∙ turns.same_pid ∙ found_pid ps e.pid old caller)

@@ -1,0 +1,12 @@
+use Rattle.cm_cli.proofs.Complete.{by_cause, completed}
+use Rattle.cm_cli.proofs.Replaying.{if_told}
+use Rattle.cm_cli.proofs.commands.run.Goals as goal
+use Rattle.cm_cli.specs.Words.{bytes_of}
+
+pub returns-clause-answers : goal.returns-clause-answers
+returns-clause-answers g c = if_told (g.H.Shelf.held c.args.shelf.now) c.carry_out.ensures.status (λ files is told. by_cause (bytes_of c.args.words.now.items) files _ (is told))
+
+pub returns-clause-complete : goal.returns-clause-complete
+returns-clause-complete g c =
+    if_told (g.H.Shelf.held c.args.shelf.now) c.carry_out.ensures.status (λ files is valid none.
+    completed (bytes_of c.args.words.now.items) files _ _ _ _ _ is c.carry_out.ensures.read_fault c.carry_out.ensures.write_fault valid none)

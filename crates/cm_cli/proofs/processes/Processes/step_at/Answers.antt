@@ -1,0 +1,23 @@
+use Rattle.std.proofs.Common.{◌≡◌, ◌<◌, length, List, slice_get, slice_set, get_or, sym, subst, rules}
+use Rattle.cm_cli.proofs.Turns.{turned, turned_ascends, turned_found}
+use Rattle.cm_cli.proofs.processes.Processes.step_at.Goals as goal
+use Rattle.cm_cli.specs.Machine.{IsTurn, state_of}
+use Rattle.model_cred.specs.Process.{Process, process_at}
+use Rattle.model_cred.specs.World.{World}
+use Rattle.model_run.specs.Step.{outcome}
+
+pub invariant_of-self : goal.invariant_of-self
+invariant_of-self c =
+    turned_ascends c.self.inside.list.items c.args.at c.index_mut-live.result.now c.take_step.new.live c.args.event.now c.take_step.result
+    c.self.invariant (rw (sym c.self.view_is) at c.requires.here) c.index_mut-live.ensures.value c.take_step.ensures
+
+pub returns-clause-turn : goal.returns-clause-turn
+returns-clause-turn c = λ w.
+    subst (λ (ps : List Process). IsTurn c.take_step.result (slice_set c.self.inside.list.items c.args.at c.take_step.new.live) (outcome w (state_of ps) c.args.event.now)) c.self.view_is
+    (turned c.self.inside.list.items c.args.at c.index_mut-live.result.now c.take_step.new.live c.args.event.now c.take_step.result
+    c.self.invariant (rw (sym c.self.view_is) at c.requires.here) c.index_mut-live.ensures.value (rw (sym c.self.view_is) at c.requires.caller) c.take_step.ensures w)
+
+pub returns-clause-caller_after : goal.returns-clause-caller_after
+returns-clause-caller_after c =
+    turned_found c.self.inside.list.items c.args.at c.index_mut-live.result.now c.take_step.new.live c.args.event.now c.take_step.result
+    c.self.invariant (rw (sym c.self.view_is) at c.requires.here) c.index_mut-live.ensures.value (rw (sym c.self.view_is) at c.requires.caller) c.take_step.ensures (search rules)

@@ -1,0 +1,21 @@
+use Rattle.std.proofs.Common.{◌≡◌, ◌≤◌, ◌<◌, ◌+◌, length, ◌++◌}
+use Rattle.cm_cli.proofs.replay.replay_lines.Given as goal
+use Rattle.cm_cli.specs.Machine.{state_of}
+use Rattle.cm_cli.specs.Sent.{IsSent}
+use Rattle.model_cred.specs.World.{World}
+use Rattle.model_text.specs.Cut.{lines_of}
+use Rattle.model_text.specs.Report.{text_of, replayed}
+
+-- The report of the lines that are left goes on from what is written and what waits.
+abbrev pub invariant-loop-line : goal.invariant-loop-line
+invariant-loop-line g l = record {
+  status : (w : World) → (replayed w (lines_of l.rest) (state_of l.processes) l.number l.count).status ≡ (replayed w (lines_of l.fn.log) (state_of l.initial.processes) 1 0).status;
+  sent : (w : World) → IsSent (g.K.Sink.written l.initial.out) (g.K.Sink.written l.out) (l.text.items ++ text_of (replayed w (lines_of l.rest) (state_of l.processes) l.number l.count).lines)
+      (l.initial.text.items ++ text_of (replayed w (lines_of l.fn.log) (state_of l.initial.processes) 1 0).lines);
+  faults : g.K.Sink.faults l.out ≡ g.K.Sink.faults l.initial.out;
+  counted : l.count < l.number;
+  numbered : l.number + length l.rest ≤ length l.fn.log + 1;
+}
+
+abbrev pub decreases-loop-line : goal.decreases-loop-line
+decreases-loop-line g l = length l.rest

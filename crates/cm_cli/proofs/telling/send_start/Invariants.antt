@@ -1,0 +1,12 @@
+use Rattle.std.proofs.Common.{◌≡◌, ◌++◌, map, drop}
+use Rattle.cm_cli.proofs.telling.send_start.Given as goal
+use Rattle.cm_cli.specs.Sent.{IsSent}
+use Rattle.model_text.specs.Report.{text_of, Credentials}
+
+-- The lines of the processes that are left come behind what is written and what waits.
+abbrev pub invariant-loop-live : goal.invariant-loop-live
+invariant-loop-live g l = record {
+  sent : IsSent (g.K.Sink.written l.initial.out) (g.K.Sink.written l.out) (l.text.items ++ text_of (map Credentials (drop l.live-index l.live-items)))
+      (l.initial.text.items ++ text_of (map Credentials l.live-items));
+  faults : g.K.Sink.faults l.out ≡ g.K.Sink.faults l.initial.out;
+}

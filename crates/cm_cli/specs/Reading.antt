@@ -1,0 +1,72 @@
+-- What the files of a replay come to, where the shelf tells what it holds, and the counts of its faults.
+use Rattle.std.specs.Prelude.{◌≡◌, ◌≢◌, ◌⊎◌, ◌≤◌, ◌<◌, ℕ, length, List, Option, Result, Ok, Err, Vec}
+use Rattle.std.specs.declared.alloc.Global.{Global}
+use Rattle.cm_cli.specs.Machine.{world_of}
+use Rattle.cm_cli.specs.Telling.{short_report, log_report}
+use Rattle.cm_cli.specs.declared.reading.Unready.{Unready}
+use Rattle.cm_cli.specs.declared.reading.Unready.TheVariants as unready
+use Rattle.cm_cli.specs.declared.telling.Short.{Short}
+use Rattle.cm_cli.specs.declared.telling.Short.TheVariants as short
+use Rattle.cm_io.specs.Shelf.{Rose}
+use Rattle.cm_io.specs.declared.whole.WholeError.{WholeError}
+use Rattle.cm_io.specs.declared.whole.WholeError.TheVariants as whole
+use Rattle.model_cred.specs.Process.{Process}
+use Rattle.model_cred.specs.World.{World}
+use Rattle.model_text.specs.Report.{Report, replay, world_limit, log_limit}
+use Rattle.model_text.specs.WorldText.{WorldText, Reads, Bad, NotBuilt, world_text}
+
+-- the bytes of a world, within the limit, read so
+pub record ReadsAs (bytes : List ℕ) (text : WorldText) : Type 0 where
+  pub size : length bytes ≤ world_limit
+  pub text_is : world_text bytes ≡ text
+
+-- nothing in the bytes of a world is refused
+abbrev pub WorldStands : List ℕ → Type 0
+WorldStands bytes = (w : World) × ReadsAs bytes (Reads w)
+
+-- what the bytes of a world come to
+abbrev pub IsWorldRead : Result (List Process) Unready → List ℕ → Type 0
+IsWorldRead (Ok processes) bytes = ReadsAs bytes (Reads (world_of processes))
+IsWorldRead (Err (unready.Refused short.WorldLimit)) bytes = world_limit < length bytes
+IsWorldRead (Err (unready.Refused short.BadWorld)) bytes = ReadsAs bytes Bad
+IsWorldRead (Err (unready.Refused short.NotBuilt)) bytes = ReadsAs bytes NotBuilt
+IsWorldRead (Err (unready.Refused short.LogLimit)) bytes = ⊥
+IsWorldRead (Err (unready.Refused short.Usage)) bytes = ⊥
+IsWorldRead (Err unready.ReadFault) bytes = Unit {0}
+IsWorldRead (Err unready.NoMemory) bytes = Unit {0}
+
+-- what the bytes of a log come to
+abbrev pub IsLogRead : Result (Vec ℕ Global) Unready → List ℕ → Type 0
+IsLogRead (Ok text) bytes = (length bytes ≤ log_limit) × (text.items ≡ bytes)
+IsLogRead (Err (unready.Refused short.LogLimit)) bytes = log_limit < length bytes
+IsLogRead (Err (unready.Refused short.WorldLimit)) bytes = ⊥
+IsLogRead (Err (unready.Refused short.BadWorld)) bytes = ⊥
+IsLogRead (Err (unready.Refused short.NotBuilt)) bytes = ⊥
+IsLogRead (Err (unready.Refused short.Usage)) bytes = ⊥
+IsLogRead (Err unready.ReadFault) bytes = Unit {0}
+IsLogRead (Err unready.NoMemory) bytes = Unit {0}
+
+-- the report that the files come to
+abbrev pub IsReady : Result (List Process × Vec ℕ Global) Unready → Report → Type 0
+IsReady (Ok (processes, log)) r = r ≡ log_report processes log.items
+IsReady (Err (unready.Refused why)) r = r ≡ short_report why
+IsReady (Err unready.ReadFault) r = Unit {0}
+IsReady (Err unready.NoMemory) r = Unit {0}
+
+-- the counts of faults before and after a file was read: only `ReadFault` raises one, and it raises that of its name
+pub record FileFaults {T : Type 0} (before now : List ℕ → ℕ) (name : List ℕ) (r : Result T Unready) : Type 0 where
+  pub later : (n : List ℕ) → before n ≤ now n
+  pub fault : r ≡ Err unready.ReadFault → Rose (before name) (now name)
+  pub others : r ≢ Err unready.ReadFault → (n : List ℕ) → now n ≡ before n
+
+-- the same of a world and a log: a fault of the log comes only where the world is read and refuses nothing
+pub record FilesFaults {T : Type 0} (before now : List ℕ → ℕ) (world log : List ℕ) (r : Result T Unready) : Type 0 where
+  pub later : (n : List ℕ) → before n ≤ now n
+  pub fault : r ≡ Err unready.ReadFault → Rose (before world) (now world) ⊎ Rose (before log) (now log)
+  pub others : r ≢ Err unready.ReadFault → (n : List ℕ) → now n ≡ before n
+
+-- why a file was not read whole, with what tells that it is past its limit
+abbrev pub unready_by : WholeError → Short → Unready
+unready_by whole.Read past = unready.ReadFault
+unready_by whole.TooMuch past = unready.Refused past
+unready_by whole.NoMemory past = unready.NoMemory

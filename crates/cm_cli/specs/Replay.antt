@@ -1,0 +1,31 @@
+-- What the lines of a log come to, as the code goes over them.
+use Rattle.std.specs.Prelude.{◌≡◌, ◌≤◌, ℕ, List, ◌++◌}
+use Rattle.cm_base.specs.declared.status.Status.{Status}
+use Rattle.cm_cli.specs.Machine.{state_of}
+use Rattle.cm_cli.specs.declared.replay.LineTurn.{LineTurn}
+use Rattle.cm_cli.specs.declared.replay.LineTurn.TheVariants as turn
+use Rattle.model_cred.specs.Process.{Process, State}
+use Rattle.model_cred.specs.World.{World}
+use Rattle.model_text.specs.Line.{Line}
+use Rattle.model_text.specs.Report.{Report, by_line, text_of}
+
+-- The report is these bytes and then the next report.
+pub record Continues (r next : Report) (more : List ℕ) : Type 0 where
+  pub status : r.status ≡ next.status
+  pub text : text_of r.lines ≡ more ++ text_of next.lines
+
+-- The report is this status, and these bytes.
+pub record Finishes (r : Report) (end : Status) (bytes : List ℕ) : Type 0 where
+  pub status : r.status ≡ end
+  pub text : text_of r.lines ≡ bytes
+
+-- A line with its number and so many events before it turned the processes before into those after, and wrote the
+-- bytes: the report goes on behind them, or ends with them.
+abbrev pub IsLineTurn : LineTurn → List Process → List Process → ℕ → ℕ → Line → List ℕ → Type 0
+IsLineTurn (turn.Goes events) before after number count line bytes = (w : World) (rest : State → ℕ → Report) → Continues (by_line w (state_of before) number count rest line) (rest (state_of after) events) bytes
+IsLineTurn (turn.Ends status) before after number count line bytes = (w : World) (rest : State → ℕ → Report) → Finishes (by_line w (state_of before) number count rest line) status bytes
+
+-- the number of events behind a line is at most this
+abbrev pub CountsUpTo : LineTurn → ℕ → Type 0
+CountsUpTo (turn.Goes events) most = events ≤ most
+CountsUpTo (turn.Ends status) most = Unit {0}

@@ -1,0 +1,48 @@
+-- What a command that tells a report owes: its status, what is written, and the count of the sink's faults.
+use Rattle.std.specs.Prelude.{◌≡◌, ◌≢◌, ◌≤◌, ℕ, codes, List, Option}
+use Rattle.cm_base.specs.declared.status.Status.{Status}
+use Rattle.cm_base.specs.declared.status.Status.TheVariants as answers
+use Rattle.cm_cli.specs.Machine.{state_of, world_of}
+use Rattle.cm_cli.specs.Sent.{IsFront}
+use Rattle.cm_cli.specs.declared.telling.Short.{Short}
+use Rattle.cm_cli.specs.declared.telling.Short.TheVariants as short
+use Rattle.cm_io.specs.Shelf.{Rose}
+use Rattle.cm_io.specs.declared.outside.Outside.{Outside}
+use Rattle.cm_io.specs.declared.outside.Outside.TheVariants as outside
+use Rattle.cm_io.specs.Sink.{then_written}
+use Rattle.model_cred.specs.Process.{Process}
+use Rattle.model_text.specs.Cut.{lines_of}
+use Rattle.model_text.specs.Report.{Report, after, start_lines, replayed, text_of, says, limit_hit, not_built, usage, world_limit, log_limit}
+
+-- The status is that of a report: neither a fault of reading or writing, nor want of memory.
+pub record IsTold (answer : Status) : Type 0 where
+  pub not_read_fault : answer ≢ answers.ReadFault
+  pub not_write_fault : answer ≢ answers.WriteFault
+  pub not_memory : answer ≢ answers.NoMemory
+
+-- The answer tells the report: with its status all of its text is written, with any other a front of it.
+pub record Tells (r : Report) (answer : Status) (written written' : Option (List ℕ)) (faults faults' : ℕ) : Type 0 where
+  pub status : IsTold answer → answer ≡ r.status
+  pub text : IsTold answer → written' ≡ then_written written (text_of r.lines)
+  pub front : IsFront written written' (text_of r.lines)
+  pub never_read_fault : answer ≢ answers.ReadFault
+  pub write_fault : answer ≡ answers.WriteFault → Rose faults faults'
+  pub no_fault : IsTold answer → faults' ≡ faults
+  pub later : faults ≤ faults'
+
+-- the reports of one piece
+abbrev pub short_report : Short → Report
+short_report short.Usage = usage
+short_report short.NotBuilt = not_built
+short_report short.BadWorld = says answers.BadWorld (codes "bad world")
+short_report short.WorldLimit = limit_hit (codes "world") world_limit
+short_report short.LogLimit = limit_hit (codes "log") log_limit
+
+-- the report of a log in the world of these processes
+abbrev pub log_report : List Process → List ℕ → Report
+log_report processes log = after (start_lines (world_of processes)) (replayed (world_of processes) (lines_of log) (state_of processes) 1 0)
+
+-- the answer where the sink failed, or memory was wanting
+abbrev pub stopped_by : Outside → Status
+stopped_by outside.Failed = answers.WriteFault
+stopped_by outside.NoMemory = answers.NoMemory

@@ -1,0 +1,122 @@
+// The top call.
+ghost use Rattle.std.specs.Prelude.{◌≡◌, ◌≢◌, ◌≤◌, ℕ, List, IfSome};
+ghost use Rattle.cm_cli.specs.Answers.{report_over, WritesReport, NamesFault, FaultsInOrder, IsUsageAnswer, NoneRose, CountsStay, IsValid, ReplayAnswer, ComesByCause, IsAcceptedOrNoMemory};
+ghost use Rattle.cm_cli.specs.Telling.{IsTold};
+ghost use Rattle.cm_cli.specs.Words.{bytes_of};
+ghost use Rattle.cm_io.specs.Shelf.{Rose};
+ghost use Rattle.model_text.specs.Command.{command_of, NoForm};
+
+use crate::reading::{Unready, read_files};
+use crate::telling::{Short, tell_log, tell_short};
+use crate::words::{Command, read_words};
+use cm_base::Status;
+use cm_io::{Shelf, Sink, SureShelf, SureSink};
+use std::alloc::Global;
+
+/// Carries out the command that the words name: reads the files from the shelf, and writes the report to the sink.
+///
+/// The answer is the report's status. `ReadFault` comes only where a read of a file that the words name failed, and
+/// then nothing is written; `WriteFault` only where a write failed, and `NoMemory` where there was no memory: then a
+/// front of the report is written.
+pub fn run<H: Shelf, K: Sink>(
+    alloc: Global,
+    words: &Vec<String>,
+    shelf: &mut H,
+    out: &mut K,
+) -> Status
+    // Where the shelf tells what it holds, the answer is the report's status, and its text is written.
+    ensures status { IfSome (H.held shelf.old) (λ files. IsTold result → result ≡ (report_over (bytes_of words.now.items) files).status) }
+    ensures text { IfSome (H.held shelf.old) (λ files.
+        WritesReport (report_over (bytes_of words.now.items) files) result (K.written out.old) (K.written out.new)) }
+
+    // Faults of the outside come only where its counts rose.
+    ensures read_fault { result ≡ Status.ReadFault → NamesFault (bytes_of words.now.items) (H.faults shelf.old) (H.faults shelf.new) }
+    ensures read_order { IfSome (H.held shelf.old) (λ files. result ≡ Status.ReadFault →
+        FaultsInOrder (bytes_of words.now.items) files (H.faults shelf.old) (H.faults shelf.new)) }
+    ensures read_silent { result ≡ Status.ReadFault → K.written out.new ≡ K.written out.old }
+    ensures write_fault { result ≡ Status.WriteFault → Rose (K.faults out.old) (K.faults out.new) }
+    ensures no_fault { IsTold result → CountsStay (H.faults shelf.old) (H.faults shelf.new) (K.faults out.old) (K.faults out.new) }
+    ensures read_later { (n : List ℕ) → H.faults shelf.old n ≤ H.faults shelf.new n }
+    ensures write_later { K.faults out.old ≤ K.faults out.new }
+    ensures held { H.held shelf.new ≡ H.held shelf.old }
+
+    // Words of no form give the usage, and no other words do.
+    ensures usage { result ≡ Status.Usage → command_of (bytes_of words.now.items) ≡ NoForm }
+    ensures no_form { command_of (bytes_of words.now.items) ≡ NoForm → IsUsageAnswer result }
+
+    // Each answer of a report has its cause in the words and the files, and each cause its answer.
+    ensures answers { IfSome (H.held shelf.old) (λ files. IsTold result → ComesByCause (bytes_of words.now.items) files result) }
+
+    // Where nothing in the input is refused and no fault was counted, the log is accepted, or there was no memory.
+    ensures complete { IfSome (H.held shelf.old) (λ files. IsValid (bytes_of words.now.items) files →
+        NoneRose (H.faults shelf.old) (H.faults shelf.new) (K.faults out.old) (K.faults out.new) → IsAcceptedOrNoMemory result) }
+{
+    carry_out(alloc, words, shelf, out)
+}
+
+/// `run` over a shelf and a sink that never fail: no fault is answered.
+pub fn run_surely(
+    alloc: Global,
+    words: &Vec<String>,
+    shelf: &mut SureShelf,
+    out: &mut SureSink,
+) -> Status
+    ensures no_read_fault { result ≢ Status.ReadFault }
+    ensures no_write_fault { result ≢ Status.WriteFault }
+{
+    run(alloc, words, shelf, out)
+}
+
+fn carry_out<H: Shelf, K: Sink>(
+    alloc: Global,
+    words: &Vec<String>,
+    shelf: &mut H,
+    out: &mut K,
+) -> Status
+    ensures status { IfSome (H.held shelf.old) (λ files. IsTold result → result ≡ (report_over (bytes_of words.now.items) files).status) }
+    ensures text { IfSome (H.held shelf.old) (λ files.
+        WritesReport (report_over (bytes_of words.now.items) files) result (K.written out.old) (K.written out.new)) }
+
+    // Faults of the outside come only where its counts rose.
+    ensures read_fault { result ≡ Status.ReadFault → NamesFault (bytes_of words.now.items) (H.faults shelf.old) (H.faults shelf.new) }
+    ensures read_order { IfSome (H.held shelf.old) (λ files. result ≡ Status.ReadFault →
+        FaultsInOrder (bytes_of words.now.items) files (H.faults shelf.old) (H.faults shelf.new)) }
+    ensures read_silent { result ≡ Status.ReadFault → K.written out.new ≡ K.written out.old }
+    ensures write_fault { result ≡ Status.WriteFault → Rose (K.faults out.old) (K.faults out.new) }
+    ensures no_fault { IsTold result → CountsStay (H.faults shelf.old) (H.faults shelf.new) (K.faults out.old) (K.faults out.new) }
+    ensures read_later { (n : List ℕ) → H.faults shelf.old n ≤ H.faults shelf.new n }
+    ensures write_later { K.faults out.old ≤ K.faults out.new }
+    ensures held { H.held shelf.new ≡ H.held shelf.old }
+
+    // Words of no form give the usage, and no other words do.
+    ensures usage { result ≡ Status.Usage → command_of (bytes_of words.now.items) ≡ NoForm }
+    ensures no_form { command_of (bytes_of words.now.items) ≡ NoForm → IsUsageAnswer result }
+{
+    match read_words(words) {
+        Command::NoForm => tell_short(alloc, Short::Usage, out),
+        Command::Later => tell_short(alloc, Short::NotBuilt, out),
+        Command::Replay(world, log) => run_replay(alloc, world, log, shelf, out),
+    }
+}
+
+fn run_replay<H: Shelf, K: Sink>(
+    alloc: Global,
+    world: &str,
+    log: &str,
+    shelf: &mut H,
+    out: &mut K,
+) -> Status
+    ensures answer { ReplayAnswer (H.held shelf.old) world.now log.now result (K.written out.old) (K.written out.new)
+        (H.faults shelf.old) (H.faults shelf.new) (K.faults out.old) (K.faults out.new) }
+    ensures held { H.held shelf.new ≡ H.held shelf.old }
+{
+    match read_files(alloc, shelf, world, log) {
+        Ok((processes, text)) => {
+            let mut processes = processes;
+            tell_log(alloc, &mut processes, &text, out)
+        }
+        Err(Unready::Refused(short)) => tell_short(alloc, short, out),
+        Err(Unready::ReadFault) => Status::ReadFault,
+        Err(Unready::NoMemory) => Status::NoMemory,
+    }
+}

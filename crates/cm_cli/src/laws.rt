@@ -1,0 +1,21 @@
+// Laws of the report that the top call writes.
+ghost use Rattle.model_text.specs.Laws.{EachByItsCause, AcceptedIsRun, ImpossibleIsNoStep};
+
+/// A status comes exactly by its cause, whatever the words and the files.
+#[tactic(auto, using(model_text::proofs::Statuses::each_by_its_cause))]
+pub fn each_by_its_cause()
+    ensures { EachByItsCause }
+{}
+
+/// Where the status is accepted, the events of the log are a run from the world's state, and the last credential line
+/// of each process is its credential in the state reached.
+#[tactic(auto, using(model_text::proofs::Endings::accepted_is_run))]
+pub fn accepted_is_run()
+    ensures { AcceptedIsRun }
+{}
+
+/// Where it is impossible, the events before that line are a run, and no state follows by its event.
+#[tactic(auto, using(model_text::proofs::Endings::impossible_is_no_step))]
+pub fn impossible_is_no_step()
+    ensures { ImpossibleIsNoStep }
+{}

@@ -1,0 +1,169 @@
+// The live processes of the machine, by ascending pid. Each stands in the initial user namespace (so far).
+ghost use Rattle.std.specs.Prelude.{◌≡◌, ◌<◌, length, IfSome, IfNone, None, Some, slice_get};
+ghost use Rattle.model_cred.specs.Process.{Ascends, process_at};
+ghost use Rattle.cm_cli.specs.Turns.{IsLiveTurn, is_outside};
+ghost use Rattle.model_run.specs.Same.{same_res, same_errno};
+
+use crate::rule::set_resuid;
+use cm_base::{Errno, Pid, Res};
+use cm_state::{Call, Cred, Event};
+use std::marker::Model;
+
+/// A live process.
+#[derive(Debug, Drop)]
+pub(crate) struct Live {
+    pub pid: Pid,
+    pub cred: Cred,
+}
+
+impl Model for Live {
+    ghost use Rattle.std.specs.Prelude.{None};
+    ghost use Rattle.model_cred.specs.Process.{Process};
+
+    ghost Value = { Process };
+
+    ghost view = { λ p. record { pid = p.pid; forebear = None; space = 0; cred = p.cred } };
+}
+
+/// What becomes of the event of a live process: a step, or none, with the rules' own answer.
+#[derive(Debug, Drop)]
+pub(crate) enum Turn {
+    Goes,
+    Wrong(Res),
+}
+
+/// The live processes, their pids ascending.
+#[derive(Debug, Drop)]
+pub(crate) struct Processes {
+    list: Vec<Live>,
+}
+
+impl Model for Processes {
+    ghost use Rattle.std.specs.Prelude.{List};
+    ghost use Rattle.model_cred.specs.Process.{Process, Ascends};
+
+    ghost Value = { List Process };
+
+    ghost view = { λ p. p.list.items };
+
+    ghost invariant = { λ p. Ascends p.list.items };
+}
+
+impl Processes {
+    ghost use Rattle.cm_cli.specs.Machine.{state_of, IsTurn};
+    ghost use Rattle.model_cred.specs.World.{World};
+    ghost use Rattle.model_run.specs.Step.{outcome};
+
+    /// The processes of a list whose pids ascend.
+    pub fn from_list(list: Vec<Live>) -> Processes
+        requires { Ascends list.items }
+        ensures { result ≡ list.items }
+    {
+        Processes { list }
+    }
+
+    /// The processes, by ascending pid.
+    pub fn list(&self) -> &[Live]
+        ensures { result.now ≡ self.now }
+    {
+        &self.list
+    }
+
+    /// The process at a place.
+    pub fn at(&self, at: usize) -> &Live
+        requires { at < length self.now }
+        ensures { slice_get self.now at ≡ Some result.now }
+    {
+        &self.list[at]
+    }
+
+    /// The place of a live process. None exactly where no live process has the pid.
+    pub fn find(&self, pid: Pid) -> Option<usize>
+        ensures found { IfSome result (λ i. (i < length self.now) × (slice_get self.now i ≡ process_at self.now pid)) }
+        ensures none { IfNone result (process_at self.now pid ≡ None) }
+    {
+        place_of(&self.list, pid.number())
+    }
+
+    /// Makes the step of an event of the process at this place, and says what becomes of the event.
+    pub fn step_at(&mut self, at: usize, event: &Event) -> Turn
+        requires here { at < length self.old }
+        requires caller { slice_get self.old at ≡ process_at self.old event.now.pid }
+        ensures turn { (w : World) → IsTurn result self.new (outcome w (state_of self.old) event.now) }
+        ensures still_here { at < length self.new }
+        ensures caller_after { slice_get self.new at ≡ process_at self.new event.now.pid }
+    {
+        let live = &mut self.list[at];
+        take_step(live, event)
+    }
+}
+
+// The step of one process: its new credential, or the rules' own answer against the told one.
+fn take_step(live: &mut Live, event: &Event) -> Turn
+    ensures { IsLiveTurn live.old live.new event.now result }
+{
+    let cred = &mut live.cred;
+    if comes_from_outside(&event.res) {
+        return Turn::Goes;
+    }
+    let Call::SetResUid(r, e, s) = event.call;
+    let answer = set_resuid(cred, r, e, s);
+    if is_same(&event.res, &answer) {
+        Turn::Goes
+    } else {
+        Turn::Wrong(answer)
+    }
+}
+
+// The told result is the given one.
+fn is_same(told: &Res, given: &Res) -> bool
+    ensures { result ≡ same_res told.now given.now }
+{
+    match (told, given) {
+        (Res::Done, Res::Done) => true,
+        (Res::Id(a), Res::Id(b)) => *a == *b,
+        (Res::Child(a), Res::Child(b)) => a.number() == b.number(),
+        (Res::Err(a), Res::Err(b)) => is_same_error(*a, *b),
+        _ => false,
+    }
+}
+
+fn is_same_error(told: Errno, given: Errno) -> bool
+    ensures { result ≡ same_errno told given }
+{
+    told as u8 == given as u8
+}
+
+// An error that setresuid may answer for causes outside the machine (setresuid(2); choice).
+fn comes_from_outside(res: &Res) -> bool
+    ensures { result ≡ is_outside res.now }
+{
+    matches!(
+        res,
+        Res::Err(Errno::ENOMEM | Errno::EAGAIN | Errno::EINTR | Errno::EFAULT | Errno::EIO)
+    )
+}
+
+// The place of a pid in a list whose pids ascend, by halves.
+fn place_of(list: &[Live], pid: u32) -> Option<usize>
+    requires { Ascends list.now }
+    ensures found { IfSome result (λ i. (i < length list.now) × (slice_get list.now i ≡ process_at list.now pid)) }
+    ensures none { IfNone result (process_at list.now pid ≡ None) }
+{
+    let mut low = 0;
+    let mut high = list.len();
+    while low < high {
+        let middle = low + (high - low) / 2;
+        let live = &list[middle];
+        let here = live.pid.number();
+        if here == pid {
+            return Some(middle);
+        }
+        if here < pid {
+            low = middle + 1;
+        } else {
+            high = middle;
+        }
+    }
+    None
+}

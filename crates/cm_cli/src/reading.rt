@@ -1,0 +1,91 @@
+// Reading the files of a replay: the world, and then the log.
+ghost use Rattle.std.specs.Prelude.{◌≡◌, ◌≢◌, ◌⊎◌, Err, IfSome};
+ghost use Rattle.cm_cli.specs.Reading.{IsWorldRead, IsLogRead, IsReady, FileFaults, FilesFaults, WorldStands, unready_by};
+ghost use Rattle.cm_io.specs.Shelf.{bytes_at, Rose};
+ghost use Rattle.model_text.specs.Report.{replay};
+
+use crate::processes::Processes;
+use crate::telling::Short;
+use crate::world::{WorldError, read_world};
+use cm_io::{Shelf, WholeError, read_whole};
+use std::alloc::Global;
+
+const WORLD_LIMIT: usize = 1_048_576;
+
+const LOG_LIMIT: usize = 67_108_864;
+
+/// Why there is nothing to replay: a report of one piece tells it, a read failed, or there was no memory.
+#[derive(Clone, Copy, Debug)]
+pub(crate) enum Unready {
+    Refused(Short),
+    ReadFault,
+    NoMemory,
+}
+
+/// Reads a world and a log.
+pub(crate) fn read_files<H: Shelf>(
+    alloc: Global,
+    shelf: &mut H,
+    world: &str,
+    log: &str,
+) -> Result<(Processes, Vec<u8>), Unready>
+    ensures ready { IfSome (H.held shelf.old) (λ files. IsReady result (replay (bytes_at files world.now) (bytes_at files log.now))) }
+    ensures not_usage { result ≢ Err (Unready.Refused Short.Usage) }
+    ensures held { H.held shelf.new ≡ H.held shelf.old }
+    ensures faults { FilesFaults (H.faults shelf.old) (H.faults shelf.new) world.now log.now result }
+    // Only a world that stands lets the log be read.
+    ensures order { IfSome (H.held shelf.old) (λ files. result ≡ Err Unready.ReadFault →
+        Rose (H.faults shelf.old world.now) (H.faults shelf.new world.now) ⊎ WorldStands (bytes_at files world.now)) }
+{
+    let processes = match read_world_file(alloc, shelf, world) {
+        Ok(processes) => processes,
+        Err(why) => return Err(why),
+    };
+    match read_log_file(alloc, shelf, log) {
+        Ok(text) => Ok((processes, text)),
+        Err(why) => Err(why),
+    }
+}
+
+fn read_world_file<H: Shelf>(alloc: Global, shelf: &mut H, name: &str) -> Result<Processes, Unready>
+    ensures read { IfSome (H.held shelf.old) (λ files. IsWorldRead result (bytes_at files name.now)) }
+    ensures not_usage { result ≢ Err (Unready.Refused Short.Usage) }
+    ensures held { H.held shelf.new ≡ H.held shelf.old }
+    ensures faults { FileFaults (H.faults shelf.old) (H.faults shelf.new) name.now result }
+{
+    let mut text = Vec::new(alloc);
+    match read_whole(alloc, shelf, name, WORLD_LIMIT, &mut text) {
+        Ok(()) => {}
+        Err(why) => return Err(unread(why, Short::WorldLimit)),
+    }
+    match read_world(alloc, &text) {
+        Ok(processes) => Ok(processes),
+        Err(WorldError::Bad) => Err(Unready::Refused(Short::BadWorld)),
+        Err(WorldError::NotBuilt) => Err(Unready::Refused(Short::NotBuilt)),
+        Err(WorldError::NoMemory) => Err(Unready::NoMemory),
+    }
+}
+
+fn read_log_file<H: Shelf>(alloc: Global, shelf: &mut H, name: &str) -> Result<Vec<u8>, Unready>
+    ensures read { IfSome (H.held shelf.old) (λ files. IsLogRead result (bytes_at files name.now)) }
+    ensures not_usage { result ≢ Err (Unready.Refused Short.Usage) }
+    ensures held { H.held shelf.new ≡ H.held shelf.old }
+    ensures faults { FileFaults (H.faults shelf.old) (H.faults shelf.new) name.now result }
+{
+    let mut text = Vec::new(alloc);
+    match read_whole(alloc, shelf, name, LOG_LIMIT, &mut text) {
+        Ok(()) => Ok(text),
+        Err(why) => Err(unread(why, Short::LogLimit)),
+    }
+}
+
+// Why a file was not read whole; past its limit the report tells it.
+fn unread(why: WholeError, past: Short) -> Unready
+    ensures { result ≡ unready_by why past }
+{
+    match why {
+        WholeError::Read => Unready::ReadFault,
+        WholeError::TooMuch => Unready::Refused(past),
+        WholeError::NoMemory => Unready::NoMemory,
+    }
+}

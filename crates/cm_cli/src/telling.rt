@@ -1,0 +1,121 @@
+// Telling a report: what is written goes to the sink, and the answer says how it went.
+ghost use Rattle.std.specs.Prelude.{◌≡◌, ◌++◌, OnOk, OnErr, List, map};
+ghost use Rattle.cm_cli.specs.Sent.{IsSent, IsFront};
+ghost use Rattle.cm_cli.specs.Telling.{Tells, short_report, log_report, stopped_by};
+ghost use Rattle.cm_io.specs.Sink.{WriteFaults};
+ghost use Rattle.model_text.specs.Report.{text_of, Credentials};
+
+use crate::processes::Processes;
+use crate::replay::replay_lines;
+use crate::sending::{send, send_full};
+use crate::writing::{
+    put_bad_world, put_log_limit, put_not_built, put_process, put_usage, put_world_limit,
+};
+use cm_base::{NoMemory, Status};
+use cm_io::{Outside, Sink};
+use std::alloc::Global;
+
+/// A report of one piece, which no log has a part in.
+#[derive(Clone, Copy, Debug)]
+pub(crate) enum Short {
+    Usage,
+    NotBuilt,
+    BadWorld,
+    WorldLimit,
+    LogLimit,
+}
+
+/// Tells a report of one piece.
+pub(crate) fn tell_short<K: Sink>(alloc: Global, short: Short, out: &mut K) -> Status
+    ensures { Tells (short_report short) result (K.written out.old) (K.written out.new) (K.faults out.old) (K.faults out.new) }
+{
+    let mut text = Vec::new(alloc);
+    match put_short(&mut text, short) {
+        Ok(()) => {}
+        Err(NoMemory) => return Status::NoMemory,
+    }
+    match send(&mut text, out) {
+        Ok(()) => status_of(short),
+        Err(why) => stopped(why),
+    }
+}
+
+fn put_short(text: &mut Vec<u8>, short: Short) -> Result<(), NoMemory>
+    ensures { OnOk result (text.new.items ≡ text.old.items ++ text_of (short_report short).lines) }
+{
+    match short {
+        Short::Usage => put_usage(text),
+        Short::NotBuilt => put_not_built(text),
+        Short::BadWorld => put_bad_world(text),
+        Short::WorldLimit => put_world_limit(text),
+        Short::LogLimit => put_log_limit(text),
+    }
+}
+
+fn status_of(short: Short) -> Status
+    ensures { result ≡ (short_report short).status }
+{
+    match short {
+        Short::Usage => Status::Usage,
+        Short::NotBuilt => Status::NotBuilt,
+        Short::BadWorld => Status::BadWorld,
+        Short::WorldLimit | Short::LogLimit => Status::Limit,
+    }
+}
+
+/// Tells the report of a log in the world of these processes.
+pub(crate) fn tell_log<K: Sink>(
+    alloc: Global,
+    processes: &mut Processes,
+    log: &[u8],
+    out: &mut K,
+) -> Status
+    ensures { Tells (log_report processes.old log.now) result (K.written out.old) (K.written out.new) (K.faults out.old) (K.faults out.new) }
+{
+    let mut text = Vec::new(alloc);
+    match send_start(processes, &mut text, out) {
+        Ok(()) => {}
+        Err(why) => return stopped(why),
+    }
+    let status = match replay_lines(processes, log, &mut text, out) {
+        Ok(status) => status,
+        Err(why) => return stopped(why),
+    };
+    match send(&mut text, out) {
+        Ok(()) => status,
+        Err(why) => stopped(why),
+    }
+}
+
+// The credential lines at the start.
+fn send_start<K: Sink>(
+    processes: &Processes,
+    text: &mut Vec<u8>,
+    out: &mut K,
+) -> Result<(), Outside>
+    ensures sent { OnOk result (IsSent (K.written out.old) (K.written out.new) text.new.items (text.old.items ++ text_of (map Credentials processes.now))) }
+    ensures stopped { OnErr result (IsFront (K.written out.old) (K.written out.new) (text.old.items ++ text_of (map Credentials processes.now))) }
+    ensures cause { WriteFaults (K.faults out.old) (K.faults out.new) result }
+{
+    for live in processes.list() {
+        match put_process(text, live) {
+            Ok(()) => {}
+            Err(NoMemory) => return Err(Outside::NoMemory),
+        }
+        match send_full(text, out) {
+            Ok(()) => {}
+            Err(why) => return Err(why),
+        }
+    }
+    Ok(())
+}
+
+// The answer where a report could not be told to its end.
+fn stopped(why: Outside) -> Status
+    ensures { result ≡ stopped_by why }
+{
+    match why {
+        Outside::Failed => Status::WriteFault,
+        Outside::NoMemory => Status::NoMemory,
+    }
+}

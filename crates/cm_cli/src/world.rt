@@ -1,0 +1,108 @@
+// The reader of a world's text: TOML, from which come the form of the log and the processes.
+// What a text may say is in model_text/specs/WorldText.antt, a definition for each function here.
+ghost use Rattle.std.specs.Prelude.{◌≡◌, IfOk};
+ghost use Rattle.toml.specs.Parse.{parse_document};
+ghost use Rattle.toml.specs.View.{table_view};
+ghost use Rattle.model_text.specs.WorldText.{Reads, Bad, NotBuilt, built_table, table_text, document_text, world_text};
+ghost use Rattle.cm_cli.specs.Machine.{world_of};
+ghost use Rattle.cm_cli.specs.declared.world.WorldError.TheVariants.{NoMemory};
+
+mod later;
+mod rows;
+mod table;
+#[cfg(test)]
+mod tests;
+mod uids;
+
+use crate::processes::Processes;
+use later::asks_more;
+use rows::{distinct_processes, no_processes};
+use std::alloc::{AllocError, AllocFailed, Global};
+use table::{has_only, is_text_at, value_at};
+use toml::{Table, Value};
+
+/// Why a text gives no world.
+#[derive(Clone, Copy, Debug, PartialEq, Eq)]
+pub(crate) enum WorldError {
+    /// It has a fault.
+    Bad,
+    /// It asks for what isn't built.
+    NotBuilt,
+    /// There was no memory to read it, which says nothing of the text.
+    NoMemory,
+}
+
+impl From<AllocError> for WorldError {
+    ghost from_gives = { λ _ e. e ≡ NoMemory };
+
+    fn from(_: AllocError) -> WorldError {
+        WorldError::NoMemory
+    }
+}
+
+impl<T: Drop> From<AllocFailed<T>> for WorldError {
+    ghost from_gives = { λ _ e. e ≡ NoMemory };
+
+    fn from(_: AllocFailed<T>) -> WorldError {
+        WorldError::NoMemory
+    }
+}
+
+/// The world of a text, as its processes. A text that isn't UTF-8 is Bad.
+pub(crate) fn read_world(alloc: Global, text: &[u8]) -> Result<Processes, WorldError>
+    ensures read { IfOk result (λ processes. world_text text.now ≡ Reads (world_of processes)) }
+    ensures bad { result ≡ Err WorldError.Bad → world_text text.now ≡ Bad }
+    ensures not_built { result ≡ Err WorldError.NotBuilt → world_text text.now ≡ NotBuilt }
+{
+    match std::str::from_utf8(text) {
+        Ok(text) => read_document(alloc, text),
+        Err(_) => Err(WorldError::Bad),
+    }
+}
+
+/// The world of a text that is UTF-8.
+fn read_document(alloc: Global, text: &str) -> Result<Processes, WorldError>
+    ensures read { IfOk result (λ processes.
+        document_text (parse_document text.now) ≡ Reads (world_of processes)) }
+    ensures bad { result ≡ Err WorldError.Bad → document_text (parse_document text.now) ≡ Bad }
+    ensures not_built { result ≡ Err WorldError.NotBuilt
+        → document_text (parse_document text.now) ≡ NotBuilt }
+{
+    match toml::table_from_str(alloc, text) {
+        Ok(table) => read_table(alloc, &table),
+        Err(why) if why.is_memory() => Err(WorldError::NoMemory),
+        Err(_) => Err(WorldError::Bad),
+    }
+}
+
+/// The world of a text's whole table. What isn't built is told before any fault of what is.
+fn read_table(alloc: Global, table: &Table) -> Result<Processes, WorldError>
+    ensures read { IfOk result (λ processes.
+        table_text (table_view table.now) ≡ Reads (world_of processes)) }
+    ensures bad { result ≡ Err WorldError.Bad → table_text (table_view table.now) ≡ Bad }
+    ensures not_built { result ≡ Err WorldError.NotBuilt
+        → table_text (table_view table.now) ≡ NotBuilt }
+{
+    if asks_more(table) {
+        return Err(WorldError::NotBuilt);
+    }
+    read_built(alloc, table)
+}
+
+/// The world of a table that asks for nothing beyond what is built.
+fn read_built(alloc: Global, table: &Table) -> Result<Processes, WorldError>
+    ensures read { IfOk result (λ processes.
+        built_table (table_view table.now) ≡ Reads (world_of processes)) }
+    ensures bad { result ≡ Err WorldError.Bad → built_table (table_view table.now) ≡ Bad }
+    ensures not_built { result ≡ Err WorldError.NotBuilt
+        → built_table (table_view table.now) ≡ NotBuilt }
+{
+    if !has_only(table, &["log", "process"]) || !is_text_at(table, "log", "script") {
+        return Err(WorldError::Bad);
+    }
+    match value_at(table, "process") {
+        None => Ok(no_processes(alloc)),
+        Some(Value::Array(rows)) => distinct_processes(alloc, rows),
+        Some(_) => Err(WorldError::Bad),
+    }
+}

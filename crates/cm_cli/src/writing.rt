@@ -1,0 +1,15 @@
+// The lines of a report, written at the end of a byte buffer, each with its LF. Each function promises the text of the
+// definitions; where there is no memory, what the buffer holds isn't said.
+mod credentials;
+mod events;
+mod numbers;
+#[cfg(test)]
+mod tests;
+mod verdicts;
+
+pub(crate) use credentials::{put_credentials, put_process};
+pub(crate) use events::put_event;
+pub(crate) use verdicts::{
+    put_bad_log, put_bad_world, put_end, put_log_limit, put_no_process, put_not_built, put_usage,
+    put_world_limit, put_wrong,
+};

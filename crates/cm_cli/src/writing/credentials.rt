@@ -1,0 +1,161 @@
+// The credential line of a process.
+ghost use Rattle.std.specs.Prelude.{◌≡◌, ◌++◌, [], ◌∷◌, None, OnOk, codes, decimal, flat_map};
+ghost use Rattle.model_text.specs.Print.{ids_text, groups_text, all_ids_text, sets_text, bounds_text, flags_text};
+ghost use Rattle.model_text.specs.Report.{text_of, Credentials};
+
+use super::numbers::{put, put_decimal, put_hex2, put_hex16};
+use crate::processes::Live;
+use cm_base::{Kgid, NoMemory, Pid};
+use cm_state::Cred;
+
+/// The credential line of a live process.
+#[inline]
+pub(crate) fn put_process(text: &mut Vec<u8>, live: &Live) -> Result<(), NoMemory>
+    ensures { OnOk result (text.new.items ≡ text.old.items ++ text_of (Credentials live.now ∷ [])) }
+{
+    put_credentials(text, live.pid, &live.cred)
+}
+
+/// The credential line of a process of that pid in the initial user namespace.
+pub(crate) fn put_credentials(text: &mut Vec<u8>, pid: Pid, cred: &Cred) -> Result<(), NoMemory>
+    ensures { OnOk result (text.new.items ≡ text.old.items
+        ++ text_of (Credentials (record { pid = pid; forebear = None; space = 0; cred = cred.now }) ∷ [])) }
+{
+    put_place(text, pid)?;
+    put_all_ids(text, cred)?;
+    put_sets(text, cred)?;
+    put_bounds(text, cred)?;
+    put_flags(text, cred)?;
+    put(text, b"\n")
+}
+
+#[inline]
+fn put_place(text: &mut Vec<u8>, pid: Pid) -> Result<(), NoMemory>
+    ensures { OnOk result (text.new.items ≡ text.old.items ++ (codes "> " ++ decimal pid ++ codes " init")) }
+{
+    put(text, b"> ")?;
+    put_decimal(text, pid.number() as u64)?;
+    put(text, b" init")
+}
+
+#[inline]
+#[tactic(auto, unfolding(model_text::specs::Print::all_ids_text))]
+fn put_all_ids(text: &mut Vec<u8>, cred: &Cred) -> Result<(), NoMemory>
+    ensures { OnOk result (text.new.items ≡ text.old.items ++ all_ids_text cred.now) }
+{
+    put(text, b" uid=")?;
+    put_uids(text, cred)?;
+    put(text, b" gid=")?;
+    put_gids(text, cred)?;
+    put(text, b" groups=")?;
+    put_groups(text, cred.groups.items())
+}
+
+#[inline]
+fn put_uids(text: &mut Vec<u8>, cred: &Cred) -> Result<(), NoMemory>
+    ensures { OnOk result (text.new.items ≡ text.old.items ++ ids_text cred.now.uid) }
+{
+    put_ids(
+        text,
+        cred.ruid.number(),
+        cred.euid.number(),
+        cred.suid.number(),
+        cred.fsuid.number(),
+    )
+}
+
+#[inline]
+fn put_gids(text: &mut Vec<u8>, cred: &Cred) -> Result<(), NoMemory>
+    ensures { OnOk result (text.new.items ≡ text.old.items ++ ids_text cred.now.gid) }
+{
+    put_ids(
+        text,
+        cred.rgid.number(),
+        cred.egid.number(),
+        cred.sgid.number(),
+        cred.fsgid.number(),
+    )
+}
+
+#[inline]
+#[tactic(auto, unfolding(model_text::specs::Print::ids_text))]
+fn put_ids(
+    text: &mut Vec<u8>,
+    real: u32,
+    effective: u32,
+    saved: u32,
+    fs: u32,
+) -> Result<(), NoMemory>
+    ensures { OnOk result (text.new.items ≡ text.old.items
+        ++ ids_text (record { real = real; effective = effective; saved = saved; fs = fs })) }
+{
+    put_decimal(text, real as u64)?;
+    put_after_comma(text, effective)?;
+    put_after_comma(text, saved)?;
+    put_after_comma(text, fs)
+}
+
+#[inline]
+fn put_after_comma(text: &mut Vec<u8>, id: u32) -> Result<(), NoMemory>
+    ensures { OnOk result (text.new.items ≡ text.old.items ++ 44 ∷ decimal id) }
+{
+    put(text, b",")?;
+    put_decimal(text, id as u64)
+}
+
+/// The groups joined by commas, `-` where there is none.
+#[inline]
+pub(super) fn put_groups(text: &mut Vec<u8>, groups: &[Kgid]) -> Result<(), NoMemory>
+    ensures { OnOk result (text.new.items ≡ text.old.items ++ groups_text groups.now) }
+{
+    match groups {
+        [] => put(text, b"-"),
+        [first, rest @ ..] => {
+            put_decimal(text, first.number() as u64)?;
+            put_rest(text, rest)
+        }
+    }
+}
+
+fn put_rest(text: &mut Vec<u8>, groups: &[Kgid]) -> Result<(), NoMemory>
+    ensures { OnOk result (text.new.items ≡ text.old.items ++ flat_map (λ g. 44 ∷ decimal g) groups.now) }
+{
+    for group in groups {
+        put_after_comma(text, group.number())?;
+    }
+    Ok(())
+}
+
+#[inline]
+#[tactic(auto, unfolding(model_text::specs::Print::sets_text))]
+fn put_sets(text: &mut Vec<u8>, cred: &Cred) -> Result<(), NoMemory>
+    ensures { OnOk result (text.new.items ≡ text.old.items ++ sets_text cred.now) }
+{
+    put(text, b" inh=")?;
+    put_hex16(text, cred.inh.bits())?;
+    put(text, b" prm=")?;
+    put_hex16(text, cred.prm.bits())?;
+    put(text, b" eff=")?;
+    put_hex16(text, cred.eff.bits())
+}
+
+#[inline]
+#[tactic(auto, unfolding(model_text::specs::Print::bounds_text))]
+fn put_bounds(text: &mut Vec<u8>, cred: &Cred) -> Result<(), NoMemory>
+    ensures { OnOk result (text.new.items ≡ text.old.items ++ bounds_text cred.now) }
+{
+    put(text, b" bnd=")?;
+    put_hex16(text, cred.bnd.bits())?;
+    put(text, b" amb=")?;
+    put_hex16(text, cred.amb.bits())
+}
+
+#[inline]
+#[tactic(auto, unfolding(model_text::specs::Print::flags_text))]
+fn put_flags(text: &mut Vec<u8>, cred: &Cred) -> Result<(), NoMemory>
+    ensures { OnOk result (text.new.items ≡ text.old.items ++ flags_text cred.now) }
+{
+    put(text, b" sec=")?;
+    put_hex2(text, cred.sec.bits())?;
+    put(text, if cred.nnp { b" nnp=1" } else { b" nnp=0" })
+}

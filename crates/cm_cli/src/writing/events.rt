@@ -1,0 +1,58 @@
+// The line of an event: the number of its line in the log, and the event as a script line.
+ghost use Rattle.std.specs.Prelude.{◌≡◌, ◌++◌, [], ◌∷◌, OnOk, codes};
+ghost use Rattle.cm_state.specs.Call.{call_of};
+ghost use Rattle.model_text.specs.Print.{call_text, id_text, res_text};
+ghost use Rattle.model_text.specs.Report.{text_of, Told};
+
+use super::numbers::{put, put_decimal, put_id};
+use cm_base::{NoMemory, Res};
+use cm_state::{Call, Event};
+
+/// The line of the event that the log's line of that number tells.
+#[tactic(auto, unfolding(model_text::specs::Print::event_line, model_text::specs::Print::event_text))]
+pub(crate) fn put_event(text: &mut Vec<u8>, number: u64, event: &Event) -> Result<(), NoMemory>
+    ensures { OnOk result (text.new.items ≡ text.old.items ++ text_of (Told number event.now ∷ [])) }
+{
+    put_decimal(text, number)?;
+    put(text, b": ")?;
+    put_decimal(text, event.pid.number() as u64)?;
+    put_call(text, &event.call)?;
+    put(text, b" = ")?;
+    put_res(text, &event.res)?;
+    put(text, b"\n")
+}
+
+#[inline]
+fn put_call(text: &mut Vec<u8>, call: &Call) -> Result<(), NoMemory>
+    ensures { OnOk result (text.new.items ≡ text.old.items ++ call_text (call_of call.now)) }
+{
+    match call {
+        Call::SetResUid(real, effective, saved) => {
+            put(text, b" setresuid ")?;
+            put_id(text, *real)?;
+            put_next_id(text, *effective)?;
+            put_next_id(text, *saved)
+        }
+    }
+}
+
+#[inline]
+fn put_next_id(text: &mut Vec<u8>, id: u32) -> Result<(), NoMemory>
+    ensures { OnOk result (text.new.items ≡ text.old.items ++ codes " " ++ id_text id) }
+{
+    put(text, b" ")?;
+    put_id(text, id)
+}
+
+/// What a call answered.
+#[inline]
+pub(super) fn put_res(text: &mut Vec<u8>, res: &Res) -> Result<(), NoMemory>
+    ensures { OnOk result (text.new.items ≡ text.old.items ++ res_text res.now) }
+{
+    match res {
+        Res::Done => put(text, b"0"),
+        Res::Id(id) => put_decimal(text, *id as u64),
+        Res::Child(pid) => put_decimal(text, pid.number() as u64),
+        Res::Err(error) => put(text, error.name().as_bytes()),
+    }
+}

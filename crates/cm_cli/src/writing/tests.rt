@@ -1,0 +1,62 @@
+use super::credentials::{put_credentials, put_groups};
+use super::events::put_event;
+use cm_base::{CapWord, Errno, Kgid, Kuid, Pid, Res, SecBits};
+use cm_state::{Call, Cred, Event, Groups};
+use std::test::Fail;
+
+#[test]
+fn credential_line(rt: HostRuntime) -> Result<(), Fail> {
+    let alloc = rt.alloc();
+    let pid = Pid::new(100).ok_or("pid")?;
+    let (user, group) = (Kuid::new(0).ok_or("uid")?, Kgid::new(0).ok_or("gid")?);
+    let root = Cred {
+        ruid: user,
+        euid: user,
+        suid: user,
+        fsuid: user,
+        rgid: group,
+        egid: group,
+        sgid: group,
+        fsgid: group,
+        groups: Groups::empty(alloc),
+        inh: CapWord::empty(),
+        prm: CapWord::full(),
+        eff: CapWord::full(),
+        bnd: CapWord::full(),
+        amb: CapWord::empty(),
+        sec: SecBits(0),
+        nnp: false,
+    };
+    let mut text = Vec::new(alloc);
+    put_credentials(&mut text, pid, &root)?;
+    assert_eq!(rt;
+        text.as_slice(),
+        b"> 100 init uid=0,0,0,0 gid=0,0,0,0 groups=- inh=0000000000000000 prm=000001ffffffffff eff=000001ffffffffff bnd=000001ffffffffff amb=0000000000000000 sec=00 nnp=0\n".as_slice()
+    );
+    text.clear();
+    let (first, last) = (
+        Kgid::new(1).ok_or("gid")?,
+        Kgid::new(4294967294).ok_or("gid")?,
+    );
+    let groups = [first, Kgid::new(5).ok_or("gid")?, last];
+    put_groups(&mut text, &groups)?;
+    assert_eq!(rt; text.as_slice(), b"1,5,4294967294".as_slice());
+    Ok(())
+}
+
+#[test]
+fn event_line(rt: HostRuntime) -> Result<(), Fail> {
+    let alloc = rt.alloc();
+    let event = Event {
+        pid: Pid::new(100).ok_or("pid")?,
+        call: Call::SetResUid(1000, 4294967295, 1000),
+        res: Res::Err(Errno::EPERM),
+    };
+    let mut text = Vec::new(alloc);
+    put_event(&mut text, 1, &event)?;
+    assert_eq!(rt;
+        text.as_slice(),
+        b"1: 100 setresuid 1000 -1 1000 = EPERM\n".as_slice()
+    );
+    Ok(())
+}

@@ -1,0 +1,7 @@
+-- What a shelf of real files counts.
+use Rattle.cm_io.specs.declared.counts.Counts.{Counts}
+use Rattle.cm_io.specs.declared.real.RealShelf.{RealShelf}
+
+-- how often each name failed
+abbrev pub real_counts : {R File Dir : Type 0} → RealShelf R File Dir → Counts
+real_counts shelf = shelf.counts

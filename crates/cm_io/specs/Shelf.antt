@@ -1,0 +1,34 @@
+-- What the reads of a shelf of files give, and how its counts of faults tell why a read failed.
+use Rattle.std.specs.Prelude.{◌≡◌, ◌⊎◌, ◌<◌, ◌≤◌, ◌-◌, ◌^◌, ℕ, List, [], ◌∷◌, length, take, drop, Option, IfSome, Result, Err, IfOk, OnOk, if◌then◌else◌}
+use Rattle.std.specs.Str.{bytes_eq}
+use Rattle.cm_io.specs.declared.outside.Outside.{Outside}
+use Rattle.cm_io.specs.declared.outside.Outside.TheVariants.{Failed, NoMemory}
+
+-- files, each a name with its bytes
+abbrev pub Files : Type 0
+Files = List (List ℕ × List ℕ)
+
+-- the bytes under a name, which are those of the first file of that name, and none where no file has it
+abbrev pub bytes_at : Files → List ℕ → List ℕ
+bytes_at [] name = []
+bytes_at (file ∷ files) name = if bytes_eq file.0 name then file.1 else bytes_at files name
+
+-- a count of faults rose, or stands at the last value that it can have
+abbrev pub Rose : ℕ → ℕ → Type 0
+Rose before now = (before < now) ⊎ (2 ^ 64 - 1 ≤ now)
+
+-- the first n bytes of a buffer are those of a text from a place on; n is 0 only at the text's end or for an empty buffer
+pub record ReadsText (text : List ℕ) (place : ℕ) (buffer : List ℕ) (n : ℕ) : Type 0 where
+  pub part : take n buffer ≡ take n (drop place text)
+  pub end : n ≡ 0 → (length buffer ≡ 0) ⊎ (length text ≤ place)
+
+-- where it is told what the shelf holds, the buffer after a read has the bytes under the name, from a place on
+abbrev pub ReadsHeld : Option Files → List ℕ → ℕ → List ℕ → Result ℕ Outside → Type 0
+ReadsHeld held name place buffer r = IfSome held (λ files. IfOk r (ReadsText (bytes_at files name) place buffer))
+
+-- the counts of faults before and after a read of a name: only a read that failed raises one, and it raises that of its name
+pub record ReadFaults {T : Type 0} (before now : List ℕ → ℕ) (name : List ℕ) (r : Result T Outside) : Type 0 where
+  pub later : (n : List ℕ) → before n ≤ now n
+  pub ok : OnOk r ((n : List ℕ) → now n ≡ before n)
+  pub failed : r ≡ Err Failed → Rose (before name) (now name)
+  pub no_memory : r ≡ Err NoMemory → (n : List ℕ) → now n ≡ before n

@@ -1,0 +1,31 @@
+//! How the program meets the outside: files that are read, a sink that is written, and what fails there.
+//!
+//! `Shelf` and `Sink` say what each call gives, and have counts of faults, so that an error always has
+//! its cause. `MemShelf` and `MemSink` stand in memory and fail at chosen calls, the devices of
+//! `SureShelf` and `SureSink` never fail, and `RealShelf` and `RealSink` are files and a writer of the
+//! system. `read_whole` and `write_all` go on until all is read or written.
+#![tactic(auto)]
+
+mod counts;
+mod memory;
+mod names;
+mod outside;
+mod real;
+mod shelf;
+mod sink;
+mod sure;
+mod texts;
+mod turns;
+mod whole;
+
+pub use memory::{MemShelf, MemSink};
+pub use names::are_distinct;
+pub use outside::{NoMemory, Outside};
+pub use real::{RealShelf, RealSink};
+pub use shelf::Shelf;
+pub use sink::Sink;
+pub use sure::{SureShelf, SureSink};
+pub use whole::{WholeError, read_whole, write_all};
+
+#[cfg(test)]
+mod tests;

@@ -1,0 +1,156 @@
+// A shelf and a sink in memory, of which the calls that are to fail are known beforehand: with them
+// one can try what a program does when the outside fails.
+ghost use Rattle.std.specs.Prelude.{◌≡◌, vec_len};
+
+use crate::counts::Counts;
+use crate::texts::{copy_part, text_of};
+use crate::turns::Turns;
+use crate::{NoMemory, Outside, Shelf, Sink};
+use std::alloc::Global;
+
+/// Files in memory. Reads are counted from 1, and those with given numbers fail; so does each read
+/// of a name that isn't held. The number of reads stays at 2^64 - 1.
+#[derive(Drop)]
+pub struct MemShelf {
+    counts: Counts,
+    texts: Vec<Vec<u8>>,
+    turns: Turns,
+    ghost one_text_each: { vec_len texts ≡ vec_len counts.names },
+}
+
+impl MemShelf {
+    ghost use Rattle.std.specs.Prelude.{ℕ, List, Some, IfOk, IsTrue, length};
+    ghost use Rattle.cm_io.specs.Names.{are_distinct};
+    ghost use Rattle.cm_io.specs.Turns.{StartsTurns};
+    ghost use Rattle.cm_io.specs.Memory.{files_of, shelf_turns};
+
+    /// A shelf that holds `texts` under `names`, of which the reads with the numbers `fail` fail. No
+    /// read was made yet, and all counts are 0. `NoMemory` is want of memory for the counts.
+    pub fn new(
+        alloc: Global,
+        names: Vec<String>,
+        texts: Vec<Vec<u8>>,
+        fail: Vec<u64>,
+    ) -> Result<MemShelf, NoMemory>
+        requires distinct { IsTrue (are_distinct names.items) }
+        requires one_text_each { vec_len texts ≡ vec_len names }
+        ensures held { IfOk result (λ s.
+            ⟦<MemShelf as Shelf>⟧.held s ≡ Some (files_of names.items texts.items)) }
+        ensures faults { IfOk result (λ s. (n : List ℕ) → ⟦<MemShelf as Shelf>⟧.faults s n ≡ 0) }
+        ensures turns { IfOk result (λ s. StartsTurns (shelf_turns s) fail.items) }
+    {
+        Ok(MemShelf {
+            counts: Counts::new(alloc, names)?,
+            texts,
+            turns: Turns::new(fail),
+        })
+    }
+}
+
+impl Shelf for MemShelf {
+    ghost use Rattle.std.specs.Prelude.{◌≢◌, ◌≤◌, ◌↔◌, length, Some, IsTrue, IfOk};
+    ghost use Rattle.cm_io.specs.Shelf.{ReadsHeld, ReadFaults};
+    ghost use Rattle.cm_io.specs.Counts.{count_of, OthersStay};
+    ghost use Rattle.cm_io.specs.Turns.{TakesTurn};
+    ghost use Rattle.cm_io.specs.Memory.{files_of, read_fails, shelf_turns, shelf_counts};
+
+    ghost held = { λ s. Some (files_of s.counts.names.items s.texts.items) };
+
+    ghost faults = { λ s name. count_of s.counts name };
+
+    /// Fails where this read is one of those that are to fail, and where no file has the name; else it
+    /// gives as much as there is and fits. It never wants memory, and a failure changes nothing but the
+    /// name's count; names that aren't held share one.
+    fn read_at(&mut self, name: &str, at: u64, buf: &mut [u8]) -> Result<usize, Outside>
+        ensures count { IfOk result (λ n. n ≤ length buf.new) }
+        ensures read { ReadsHeld (⟦<MemShelf as Shelf>⟧.held self.old) name.now at buf.new result }
+        ensures held { ⟦<MemShelf as Shelf>⟧.held self.new ≡ ⟦<MemShelf as Shelf>⟧.held self.old }
+        ensures cause { ReadFaults (⟦<MemShelf as Shelf>⟧.faults self.old)
+            (⟦<MemShelf as Shelf>⟧.faults self.new) name.now result }
+
+        // It fails at its turns and at names that aren't held, and at nothing else.
+        ensures fails { (result ≡ Err Outside.Failed) ↔ IsTrue (read_fails self.old name.now) }
+        ensures no_want { result ≢ Err Outside.NoMemory }
+        ensures turn { TakesTurn (shelf_turns self.old) (shelf_turns self.new) }
+        ensures others { OthersStay (shelf_counts self.old) (shelf_counts self.new) name.now }
+    {
+        let fails = self.turns.next_fails();
+        match text_of(self.counts.names(), &self.texts, name) {
+            Some(text) if !fails => Ok(copy_part(text, at, buf)),
+            _ => {
+                self.counts.raise(name);
+                Err(Outside::Failed)
+            }
+        }
+    }
+}
+
+/// Keeps in memory what is written. Writes are counted from 1, and those with given numbers fail. The
+/// number of writes stays at 2^64 - 1.
+#[derive(Drop)]
+pub struct MemSink {
+    bytes: Vec<u8>,
+    turns: Turns,
+    faults: u64,
+}
+
+impl MemSink {
+    ghost use Rattle.std.specs.Prelude.{[], Some};
+    ghost use Rattle.cm_io.specs.Turns.{StartsTurns};
+    ghost use Rattle.cm_io.specs.Memory.{sink_turns};
+
+    /// A sink of which the writes with the numbers `fail` fail. Nothing is written, no write was made
+    /// yet, and the count is 0.
+    pub fn new(alloc: Global, fail: Vec<u64>) -> MemSink
+        ensures written { ⟦<MemSink as Sink>⟧.written result ≡ Some [] }
+        ensures faults { ⟦<MemSink as Sink>⟧.faults result ≡ 0 }
+        ensures turns { StartsTurns (sink_turns result) fail.items }
+    {
+        MemSink {
+            bytes: Vec::new(alloc),
+            turns: Turns::new(fail),
+            faults: 0,
+        }
+    }
+
+    /// What was written.
+    pub fn bytes(&self) -> &[u8]
+        ensures { ⟦<MemSink as Sink>⟧.written self.now ≡ Some result.now }
+    {
+        &self.bytes
+    }
+}
+
+impl Sink for MemSink {
+    ghost use Rattle.std.specs.Prelude.{◌≤◌, ◌↔◌, length, Some, IsTrue, IfOk};
+    ghost use Rattle.cm_io.specs.Sink.{then_written, sent, WriteFaults};
+    ghost use Rattle.cm_io.specs.Turns.{is_due, TakesTurn};
+    ghost use Rattle.cm_io.specs.Memory.{sink_turns};
+
+    ghost written = { λ s. Some s.bytes.items };
+
+    ghost faults = { λ s. s.faults };
+
+    /// Takes the whole piece, and fails where this write is one of those that are to fail. `NoMemory` is
+    /// want of memory for the piece. After an error nothing more is written, and the write was counted.
+    fn write(&mut self, piece: &[u8]) -> Result<usize, Outside>
+        ensures count { IfOk result (λ n. n ≤ length piece.now) }
+        ensures some { IfOk result (λ n. n ≡ 0 → length piece.now ≡ 0) }
+        ensures written { ⟦<MemSink as Sink>⟧.written self.new
+            ≡ then_written (⟦<MemSink as Sink>⟧.written self.old) (sent piece.now result) }
+        ensures cause { WriteFaults (⟦<MemSink as Sink>⟧.faults self.old)
+            (⟦<MemSink as Sink>⟧.faults self.new) result }
+
+        // It fails at its turns and nowhere else, and takes the whole piece or nothing.
+        ensures fails { (result ≡ Err Outside.Failed) ↔ IsTrue (is_due (sink_turns self.old)) }
+        ensures whole { IfOk result (λ n. n ≡ length piece.now) }
+        ensures turn { TakesTurn (sink_turns self.old) (sink_turns self.new) }
+    {
+        if self.turns.next_fails() {
+            self.faults = self.faults.saturating_add(1);
+            return Err(Outside::Failed);
+        }
+        self.bytes.extend_from_slice(piece)?;
+        Ok(piece.len())
+    }
+}

@@ -1,0 +1,27 @@
+// Files as the program sees them: bytes under names, read from a place on.
+ghost use Rattle.std.specs.Prelude.{◌≡◌, ◌≤◌, List, ℕ, Option, length, IfOk};
+ghost use Rattle.cm_io.specs.Shelf.{Files, ReadsHeld, ReadFaults};
+
+use crate::Outside;
+
+/// Files that can be read by their names.
+pub trait Shelf {
+    /// The files that it holds, where that is told.
+    ghost held: { Self → Option Files };
+
+    /// How often a read of each name has failed. A count stays at 2^64 - 1.
+    ghost faults: { Self → List ℕ → ℕ };
+
+    /// Reads the file of this name from the byte `at` on, where the first byte is 0, into the front of
+    /// `buf`, and gives how many bytes that were. Where it is told what is held, 0 comes only at the
+    /// end of the file or for an empty `buf`, and a name that isn't held has no bytes.
+    ///
+    /// `Failed` comes only where the name's count of faults rose, and `NoMemory` where the shelf itself
+    /// wanted memory: then no count rose. What is held stays the same. After an error `buf` may have
+    /// any bytes.
+    fn read_at(&mut self, name: &str, at: u64, buf: &mut [u8]) -> Result<usize, Outside>
+        ensures count { IfOk result (λ n. n ≤ length buf.new) }
+        ensures read { ReadsHeld (held self.old) name.now at buf.new result }
+        ensures held { held self.new ≡ held self.old }
+        ensures cause { ReadFaults (faults self.old) (faults self.new) name.now result };
+}

@@ -1,0 +1,174 @@
+// What the devices answer, call by call.
+use super::*;
+use std::alloc::{AllocError, Global};
+use std::process::Abort;
+use std::test::Fail;
+use std::{env, fs, io, process};
+
+const NAMES: [&str; 2] = ["world", "log"];
+
+const TEXTS: [&[u8]; 2] = [b"abcdef", b"x"];
+
+fn names(alloc: Global) -> Result<Vec<String>, AllocError> {
+    let mut names = Vec::new(alloc);
+    for name in NAMES {
+        names.push(String::from_str(alloc, name)?)?;
+    }
+    Ok(names)
+}
+
+fn texts(alloc: Global) -> Result<Vec<Vec<u8>>, AllocError> {
+    let mut texts = Vec::new(alloc);
+    for text in TEXTS {
+        texts.push(text.to_vec(alloc)?)?;
+    }
+    Ok(texts)
+}
+
+fn mem_shelf(rt: &impl Abort, alloc: Global, fail: &[u64]) -> Result<MemShelf, Fail> {
+    let (names, texts) = (names(alloc)?, texts(alloc)?);
+    assert!(rt; are_distinct(&names));
+    assert_eq!(rt; texts.len(), names.len());
+    Ok(MemShelf::new(alloc, names, texts, fail.to_vec(alloc)?)?)
+}
+
+fn sure_shelf(rt: &impl Abort, alloc: Global) -> Result<SureShelf, Fail> {
+    let (names, texts) = (names(alloc)?, texts(alloc)?);
+    assert!(rt; are_distinct(&names));
+    assert_eq!(rt; texts.len(), names.len());
+    Ok(SureShelf::new(alloc, names, texts)?)
+}
+
+// Reads into a buffer of a length, and compares with what is to come.
+fn check_reads(rt: &impl Abort, shelf: &mut impl Shelf, rows: &[(&str, u64, usize, &[u8])]) {
+    for (name, at, len, want) in rows {
+        let mut buf = [0u8; 8];
+        let len = (*len).min(8);
+        let got = shelf.read_at(name, *at, &mut buf[..len]);
+        assert_eq!(rt; got, Ok(want.len()), "{name} at {at}");
+        assert!(rt; buf.starts_with(want), "{name} at {at}");
+    }
+}
+
+const ROWS: [(&str, u64, usize, &[u8]); 7] = [
+    ("world", 0, 8, b"abcdef"),
+    ("world", 0, 4, b"abcd"),
+    ("world", 4, 4, b"ef"),
+    ("world", 6, 4, b""),
+    ("world", 9, 4, b""),
+    ("world", 0, 0, b""),
+    ("log", 0, 4, b"x"),
+];
+
+#[test]
+fn shelves_in_memory_read(rt: HostRuntime) -> Result<(), Fail> {
+    check_reads(&rt, &mut mem_shelf(&rt, rt.alloc(), &[])?, &ROWS);
+    let mut sure = sure_shelf(&rt, rt.alloc())?;
+    check_reads(&rt, &mut sure, &ROWS);
+    check_reads(&rt, &mut sure, &[("plan", 0, 4, b"")]);
+    Ok(())
+}
+
+#[test]
+fn reads_fail_at_their_turns(rt: HostRuntime) -> Result<(), Fail> {
+    let mut shelf = mem_shelf(&rt, rt.alloc(), &[2, 4])?;
+    let mut buf = [0u8; 1];
+    for (name, want) in [
+        ("log", Ok(1)),
+        ("log", Err(Outside::Failed)),
+        ("log", Ok(1)),
+        ("world", Err(Outside::Failed)),
+        ("plan", Err(Outside::Failed)),
+        ("world", Ok(1)),
+    ] {
+        assert_eq!(rt; shelf.read_at(name, 0, &mut buf), want, "{name}");
+    }
+    Ok(())
+}
+
+#[test]
+fn sinks_in_memory_write(rt: HostRuntime) -> Result<(), Fail> {
+    let alloc = rt.alloc();
+    let mut sink = MemSink::new(alloc, [2].to_vec(alloc)?);
+    assert_eq!(rt; sink.write(b"ab"), Ok(2));
+    assert_eq!(rt; sink.write(b"cd"), Err(Outside::Failed));
+    assert_eq!(rt; write_all(&mut sink, b"ef"), Ok(()));
+    assert_eq!(rt; sink.bytes(), b"abef".as_slice());
+    let mut sure = SureSink::new(alloc);
+    assert_eq!(rt; write_all(&mut sure, b"abc"), Ok(()));
+    assert_eq!(rt; sure.bytes(), b"abc".as_slice());
+    Ok(())
+}
+
+#[test]
+fn files_are_read_whole(rt: HostRuntime) -> Result<(), Fail> {
+    let alloc = rt.alloc();
+    for (fail, name, limit, want, read) in [
+        ([9], "world", 6, Ok(()), b"abcdef".as_slice()),
+        (
+            [9],
+            "world",
+            5,
+            Err(WholeError::TooMuch),
+            b"abcdef".as_slice(),
+        ),
+        ([9], "world", 2, Err(WholeError::TooMuch), b"abc".as_slice()),
+        ([2], "world", 6, Err(WholeError::Read), b"abcdef".as_slice()),
+        ([9], "plan", 6, Err(WholeError::Read), b"".as_slice()),
+    ] {
+        let mut shelf = mem_shelf(&rt, alloc, &fail)?;
+        let mut text = Vec::new(alloc);
+        let got = read_whole(alloc, &mut shelf, name, limit, &mut text);
+        assert_eq!(rt; got, want, "{name} up to {limit}");
+        assert_eq!(rt; text.as_slice(), read, "{name} up to {limit}");
+    }
+    Ok(())
+}
+
+#[test]
+fn real_files_are_read(rt: HostRuntime) -> Result<(), Fail> {
+    let alloc = rt.alloc();
+    let dir = env::temp_dir(&rt)?;
+    let dir = dir.as_str();
+    let id = process::id(rt.process());
+    let path = format!(in alloc; "{dir}/cm_io_{id}")?;
+    let long = vec![in alloc; b'y'; 70_000]?;
+    fs::write(&rt, path.as_str(), long.as_slice())?;
+    let mut names = Vec::new(alloc);
+    names.push(path.clone()?)?;
+    let mut shelf = RealShelf::new(&rt, alloc, &names)?;
+    let mut text = Vec::new(alloc);
+    let got = read_whole(alloc, &mut shelf, path.as_str(), 70_000, &mut text);
+    assert_eq!(rt; got, Ok(()));
+    assert!(rt; text.as_slice() == long.as_slice());
+    fs::write(&rt, path.as_str(), "abcdef")?;
+    let name = path.as_str();
+    let rows = [
+        (name, 0, 4, b"abcd".as_slice()),
+        (name, 4, 4, b"ef".as_slice()),
+        (name, 6, 4, b"".as_slice()),
+        (name, 2, 2, b"cd".as_slice()),
+    ];
+    check_reads(&rt, &mut shelf, &rows);
+    fs::remove_file(&rt, path.as_str())?;
+    for name in [path.as_str(), dir, "/no/such/file"] {
+        let got = shelf.read_at(name, 0, &mut [0; 4]);
+        assert_eq!(rt; got, Err(Outside::Failed), "{name}");
+    }
+    Ok(())
+}
+
+#[test]
+fn a_writer_is_written(rt: HostRuntime) -> Result<(), Fail> {
+    let mut bytes = Vec::new(rt.alloc());
+    let mut sink = RealSink::new(&mut bytes);
+    assert_eq!(rt; write_all(&mut sink, b"abc"), Ok(()));
+    assert_eq!(rt; sink.write(b""), Ok(0));
+    assert_eq!(rt; bytes.as_slice(), b"abc".as_slice());
+    // A slice takes what fits, and then nothing.
+    let mut room = [0u8; 3];
+    let mut sink = RealSink::new(room.as_mut_slice());
+    assert_eq!(rt; sink.write(b"abcd"), Ok(3));
+    assert_eq!(rt; sink.write(b"d"), Err(Outside::Failed));
+    Ok(())
+}

@@ -1,0 +1,2 @@
+//! Definitions: credentials, id maps, user namespaces, processes, the state, calls and events. No code.
+#![tactic(auto)]

@@ -1,0 +1,6 @@
+-- The rules of the calls, by topic.
+pub mod Answer
+pub mod Securebits
+pub mod Zero
+pub mod Fixups
+pub mod SetId

@@ -1,0 +1,11 @@
+pub mod StepFacts
+pub mod Tellings
+pub mod Starts
+pub mod Replays
+pub mod Statuses
+pub mod Endings
+pub mod Texts
+pub mod Cases
+pub mod ReportCases
+pub mod WorldCases
+pub mod WholeCases

@@ -1,0 +1,137 @@
+-- The processes at a world's start: no pid stands twice, so the credential lines at the start show each of them.
+use Rattle.std.proofs.Common.{◌≡◌, ℕ, ◌==◌, Bool, true, false, cond, ◌&&◌, ◌||◌, List, [], ◌∷◌, map, Option, Some, None, refl, ◌∙◌, ap, subst, arith, ◌≢◌, ◌<◌, inl, inr}
+use Rattle.std.proofs.lemmas.Bool.{cases_lt, lt-ltb, le-ltb}
+use Rattle.std.specs.Prelude.{codes}
+use Rattle.std.specs.Str.{is_utf8}
+use Rattle.std.specs.Option.{option_or}
+use Rattle.model_cred.specs.Process.{Process, process_at, Ascends}
+use Rattle.model_cred.specs.World.{World}
+use Rattle.model_text.specs.Laws.{last_credentials}
+use Rattle.model_text.specs.Report.{Credentials}
+use Rattle.model_text.specs.Toml.{has_only, is_text}
+use Rattle.model_text.specs.WorldText.{WorldText, Reads, Bad, NotBuilt, world_text, document_text, table_text, built_table, distinct_world, world_with, in_order, placed, are_distinct, has_pid, asks_more, processes_of}
+use Rattle.toml.specs.Data.{Members, get_member}
+use Rattle.toml.specs.Parse.{parse_document}
+
+-- ---- the order of pids
+-- a process that is placed among others adds its pid alone
+has_pid_placed : (pid : ℕ) (p : Process) (ps : List Process) → has_pid pid (placed p ps) ≡ (p.pid == pid || has_pid pid ps)
+has_pid_placed pid p [] = refl
+has_pid_placed pid p (q ∷ ps) = grind (arith, has_pid_placed pid p ps)
+
+-- among processes with distinct pids, where its own isn't taken, the pids stay distinct
+distinct_placed : (p : Process) (ps : List Process) → has_pid p.pid ps ≡ false → are_distinct ps ≡ true → are_distinct (placed p ps) ≡ true
+distinct_placed p [] free distinct = refl
+distinct_placed p (q ∷ ps) free distinct = grind (arith, free, distinct, distinct_placed p ps, has_pid_placed q.pid p ps)
+
+-- the order takes no pid away and adds none
+has_pid_in_order : (pid : ℕ) (ps : List Process) → has_pid pid (in_order ps) ≡ has_pid pid ps
+has_pid_in_order pid [] = refl
+has_pid_in_order pid (p ∷ ps) = has_pid_placed pid p (in_order ps) ∙ ap (λ (b : Bool). p.pid == pid || b) (has_pid_in_order pid ps)
+
+-- distinct pids stay distinct in their order
+pub distinct_in_order : (ps : List Process) → are_distinct ps ≡ true → are_distinct (in_order ps) ≡ true
+distinct_in_order [] distinct = refl
+distinct_in_order (p ∷ ps) distinct = grind (arith, distinct, distinct_in_order ps, distinct_placed p (in_order ps), has_pid_in_order p.pid ps)
+
+-- placing keeps who is found by a pid
+placed_finds : (p : Process) (ps : List Process) → has_pid p.pid ps ≡ false → (pid : ℕ) → process_at (placed p ps) pid ≡ process_at (p ∷ ps) pid
+placed_finds p [] free pid = refl
+placed_finds p (q ∷ ps) free pid = grind (arith, free, placed_finds p ps)
+
+-- and so does the order, where no pid stands twice
+pub in_order_finds : (ps : List Process) → are_distinct ps ≡ true → (pid : ℕ) → process_at (in_order ps) pid ≡ process_at ps pid
+in_order_finds [] distinct pid = refl
+in_order_finds (p ∷ ps) distinct pid = grind (arith, distinct, in_order_finds ps, placed_finds p (in_order ps), has_pid_in_order p.pid ps)
+
+-- a process that is placed among others whose pids ascend leaves them ascending, where its own isn't taken
+placed_ascends : (p : Process) (ps : List Process) → has_pid p.pid ps ≡ false → Ascends ps → Ascends (placed p ps)
+placed_ascends p [] free up = tt
+placed_ascends p (q ∷ []) free up =
+    elim (cases_lt p.pid q.pid) [
+      | inl lower ↦ rw (lt-ltb p.pid q.pid lower) (lower, tt)
+      | inr upper ↦ rw (le-ltb p.pid q.pid upper) (let other : q.pid ≢ p.pid = λ same. grind (arith, free, same) in omega arith, tt)
+    ]
+placed_ascends p (q ∷ r ∷ ps) free up =
+    elim (cases_lt p.pid q.pid) [
+      | inl lower ↦ rw (lt-ltb p.pid q.pid lower) (lower, up)
+      | inr upper ↦
+          let other : q.pid ≢ p.pid = λ same. grind (arith, free, same) in
+          let below : q.pid < p.pid = omega arith in
+          let rest : Ascends (placed p (r ∷ ps)) = placed_ascends p (r ∷ ps) (grind (arith, free)) up.1 in
+          rw (le-ltb p.pid q.pid upper) (behind q p r ps below up.0 rest)
+    ]
+  where
+    behind : (q p r : Process) (ps : List Process) → q.pid < p.pid → q.pid < r.pid → Ascends (placed p (r ∷ ps)) → Ascends (q ∷ placed p (r ∷ ps))
+    behind q p r ps low lower up =
+        elim (cases_lt p.pid r.pid) [
+          | inl before ↦ rw (lt-ltb p.pid r.pid before) (low, rw (lt-ltb p.pid r.pid before) at up)
+          | inr after ↦ rw (le-ltb p.pid r.pid after) (lower, rw (le-ltb p.pid r.pid after) at up)
+        ]
+
+-- the pids of the processes in their order ascend, where no pid stands twice
+pub in_order_ascends : (ps : List Process) → are_distinct ps ≡ true → Ascends (in_order ps)
+in_order_ascends [] distinct = tt
+in_order_ascends (p ∷ ps) distinct =
+    placed_ascends p (in_order ps) (has_pid_in_order p.pid ps ∙ grind (arith, distinct)) (in_order_ascends ps (grind (arith, distinct)))
+
+-- ---- what a world's text reads as
+unless : (test : Bool) (t : WorldText) (w : World) → cond test NotBuilt t ≡ Reads w → t ≡ Reads w
+unless true t w is = absurd (cc)
+unless false t w is = is
+
+where_true : (test : Bool) (t : WorldText) (w : World) → cond test t Bad ≡ Reads w → (test ≡ true) × (t ≡ Reads w)
+where_true true t w is = (refl, is)
+where_true false t w is = absurd (cc)
+
+-- the world is made of processes with distinct pids
+Made : World → Type 0
+Made w = (ps : List Process) × (are_distinct ps ≡ true) × (world_with ps ≡ w)
+
+read_processes : (read : Option (List Process)) (w : World) → distinct_world read ≡ Reads w → Made w
+unfolding Made
+read_processes None w is = absurd (cc)
+read_processes (Some ps) w is =
+    let parts : (are_distinct ps ≡ true) × (Reads (world_with ps) ≡ Reads w) = where_true (are_distinct ps) (Reads (world_with ps)) w is in
+    (ps, parts.0, let same : Reads (world_with ps) ≡ Reads w = parts.1 in cc)
+
+read_table : (top : Members) (w : World) → table_text top ≡ Reads w → Made w
+read_table top w is =
+    let processes : Option (List Process) = processes_of (get_member (codes "process") top) in
+    let test : Bool = has_only (codes "log" ∷ codes "process" ∷ []) top && is_text (codes "script") (get_member (codes "log") top) in
+    read_processes processes w (where_true test (distinct_world processes) w (unless (asks_more top) (built_table top) w is)).1
+
+read_document : (document : Option Members) (w : World) → document_text document ≡ Reads w → Made w
+read_document None w is = absurd (cc)
+read_document (Some top) w is = read_table top w is
+
+start_made : (bytes : List ℕ) (w : World) → world_text bytes ≡ Reads w → Made w
+start_made bytes w is = read_document (parse_document bytes) w (where_true (is_utf8 bytes) (document_text (parse_document bytes)) w is).1
+
+-- no pid stands twice in the world of a text
+pub start_distinct : (bytes : List ℕ) (w : World) → world_text bytes ≡ Reads w → are_distinct w.start.processes ≡ true
+unfolding Made
+start_distinct bytes w is =
+    let made : Made w = start_made bytes w is in
+    subst (λ (x : World). are_distinct x.start.processes ≡ true) made.2 (distinct_in_order made.0 made.1)
+
+-- and the pids ascend
+pub start_ascends : (bytes : List ℕ) (w : World) → world_text bytes ≡ Reads w → Ascends w.start.processes
+unfolding Made
+start_ascends bytes w is =
+    let made : Made w = start_made bytes w is in
+    subst (λ (x : World). Ascends x.start.processes) made.2 (in_order_ascends made.0 made.1)
+
+-- ---- the credential lines at the start
+not_found : (pid : ℕ) (ps : List Process) → has_pid pid ps ≡ false → process_at ps pid ≡ None
+not_found pid [] free = refl
+not_found pid (p ∷ ps) free = grind (arith, free, not_found pid ps)
+
+or_none : (o : Option Process) → option_or o None ≡ o
+or_none None = refl
+or_none (Some p) = refl
+
+-- the last credential line of a process that has its pid alone shows it
+pub start_shows : (ps : List Process) → are_distinct ps ≡ true → (pid : ℕ) → last_credentials pid (map Credentials ps) ≡ process_at ps pid
+start_shows [] distinct pid = refl
+start_shows (p ∷ ps) distinct pid = grind (arith, distinct, start_shows ps, not_found pid ps, or_none (process_at ps pid))

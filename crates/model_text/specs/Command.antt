@@ -1,0 +1,37 @@
+-- The words of the command line (choice).
+use Rattle.std.specs.Prelude.{ℕ, codes, bytes_eq, Bool, false, nat_le, length, ◌==◌, List, [], ◌∷◌, Option, Some, None, if◌then◌else◌}
+use Rattle.model_text.specs.Token.{number_token}
+
+-- Replay of a log in a world; one of the other forms; none of the forms.
+pub data Command : Type 0 where
+  Replay : List ℕ → List ℕ → Command
+  Later : Command
+  NoForm : Command
+
+abbrev pub replay_words : List (List ℕ) → Command
+replay_words (world ∷ log ∷ []) = Replay world log
+replay_words _ = NoForm
+
+-- so many words behind the command
+abbrev pub later_words : ℕ → List (List ℕ) → Command
+later_words count words = if length words == count then Later else NoForm
+
+-- the number of a drill: at most 100000
+abbrev pub is_drill_number : Option ℕ → Bool
+is_drill_number None = false
+is_drill_number (Some n) = nat_le n 100000
+
+abbrev pub drill_words : List (List ℕ) → Command
+drill_words (n ∷ []) = if is_drill_number (number_token n) then Later else NoForm
+drill_words _ = NoForm
+
+-- what the words ask for
+abbrev pub command_of : List (List ℕ) → Command
+command_of [] = NoForm
+command_of (name ∷ words) =
+    if bytes_eq name (codes "replay") then replay_words words
+    else if bytes_eq name (codes "audit") then later_words 4 words
+    else if bytes_eq name (codes "check") then later_words 5 words
+    else if bytes_eq name (codes "confirm") then later_words 5 words
+    else if bytes_eq name (codes "drill") then drill_words words
+    else NoForm

@@ -1,0 +1,26 @@
+-- How a text is cut into lines, and a line into tokens (choice).
+use Rattle.std.specs.Prelude.{ℕ, ◌==◌, ◌||◌, Bool, false, not, List, [], ◌∷◌, if◌then◌else◌}
+
+-- the first piece with a byte more at its front; the piece of that byte alone where there is none
+abbrev pub grown : ℕ → List (List ℕ) → List (List ℕ)
+grown byte [] = (byte ∷ []) ∷ []
+grown byte (piece ∷ pieces) = (byte ∷ piece) ∷ pieces
+
+-- The lines of a text: each ends before its LF, and a last line without LF counts where it isn't empty.
+abbrev pub lines_of : List ℕ → List (List ℕ)
+lines_of [] = []
+lines_of (byte ∷ text) = if byte == 10 then [] ∷ lines_of text else grown byte (lines_of text)
+
+-- a blank is a space, a tab or a CR
+abbrev pub is_blank : ℕ → Bool
+is_blank byte = byte == 32 || byte == 9 || byte == 13
+
+-- the text goes on with a byte that is no blank
+abbrev pub goes_on : List ℕ → Bool
+goes_on [] = false
+goes_on (byte ∷ text) = not (is_blank byte)
+
+-- the tokens of a line, which blanks part
+abbrev pub tokens_of : List ℕ → List (List ℕ)
+tokens_of [] = []
+tokens_of (byte ∷ text) = if is_blank byte then tokens_of text else (if goes_on text then grown byte (tokens_of text) else (byte ∷ []) ∷ tokens_of text)

@@ -1,0 +1,33 @@
+-- What is proved of the report as a whole.
+use Rattle.std.specs.Prelude.{◌≡◌, ◌↔◌, ℕ, ◌==◌, List, [], ◌∷◌, Option, Some, None, if◌then◌else◌}
+use Rattle.std.specs.Option.{option_or}
+use Rattle.cm_base.specs.declared.status.Status.{Status}
+use Rattle.cm_base.specs.declared.status.Status.TheVariants as status
+use Rattle.model_cred.specs.Process.{Process, State, process_at}
+use Rattle.model_text.specs.Causes.{Cause, IsAccepted, IsImpossible}
+use Rattle.model_text.specs.Report.{ReportLine, Credentials, Told, Plain, report}
+
+-- A status comes exactly by its cause, whatever the words and the files.
+unfoldable pub EachByItsCause : Type 0
+EachByItsCause = (words : List (List ℕ)) (bytes : List ℕ → List ℕ) (st : Status) → ((report words bytes).status ≡ st) ↔ Cause words bytes st
+
+-- the process of the last credential line of that pid
+abbrev pub last_credentials : ℕ → List ReportLine → Option Process
+last_credentials pid [] = None
+last_credentials pid (Credentials p ∷ lines) = option_or (last_credentials pid lines) (if p.pid == pid then Some p else None)
+last_credentials pid (Told number e ∷ lines) = last_credentials pid lines
+last_credentials pid (Plain text ∷ lines) = last_credentials pid lines
+
+-- The last credential line of each live process in the state shows it as it is there, and no other pid has one.
+abbrev pub Shows : List ReportLine → State → Type 0
+Shows lines s = (pid : ℕ) → last_credentials pid lines ≡ process_at s.processes pid
+
+-- Where the status is accepted, the events of the log are a run from the world's state, and the report shows the state
+-- that the run reaches.
+unfoldable pub AcceptedIsRun : Type 0
+AcceptedIsRun = (words : List (List ℕ)) (bytes : List ℕ → List ℕ) → (report words bytes).status ≡ status.Accepted → (is : IsAccepted words bytes) × Shows (report words bytes).lines is.state
+
+-- Where it is impossible, the events before a line are a run, no state follows by the line's event, and the report shows
+-- the state that the run reaches.
+unfoldable pub ImpossibleIsNoStep : Type 0
+ImpossibleIsNoStep = (words : List (List ℕ)) (bytes : List ℕ → List ℕ) → (report words bytes).status ≡ status.Impossible → (is : IsImpossible words bytes) × Shows (report words bytes).lines is.state

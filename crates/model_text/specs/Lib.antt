@@ -1,0 +1,12 @@
+-- The texts that the program reads and writes.
+pub mod Cut
+pub mod Token
+pub mod Calls
+pub mod Line
+pub mod Toml
+pub mod WorldText
+pub mod Print
+pub mod Command
+pub mod Report
+pub mod Causes
+pub mod Laws

@@ -1,0 +1,88 @@
+-- The lines of a report: credentials and events, as text (choice).
+use Rattle.std.specs.Prelude.{ℕ, codes, decimal, ◌+◌, ◌/◌, ◌%◌, ◌==◌, nat_lt, List, [], ◌∷◌, ◌++◌, zero, suc, if◌then◌else◌}
+use Rattle.cm_base.specs.Names.{errno_name}
+use Rattle.cm_base.specs.declared.res.Res.{Res}
+use Rattle.cm_base.specs.declared.res.Res.TheVariants.{Done, Id, Child, Err}
+use Rattle.model_cred.specs.Credential.{Credential, FourIds}
+use Rattle.model_cred.specs.Process.{Process}
+use Rattle.model_cred.specs.Call.{Call, SetResUid, Event}
+
+-- a hexadecimal digit in lower case
+abbrev pub hex_digit : ℕ → ℕ
+hex_digit d = if nat_lt d 10 then 48 + d else 87 + d
+
+-- the number in so many hexadecimal digits
+abbrev pub hex : ℕ → ℕ → List ℕ
+hex zero n = []
+hex (suc digits) n = hex digits (n / 16) ++ hex_digit (n % 16) ∷ []
+
+-- 16 digits of a set
+unfoldable pub hex_set : ℕ → List ℕ
+hex_set n = hex 16 n
+
+-- two digits of the securebits
+unfoldable pub hex_bits : ℕ → List ℕ
+hex_bits n = hex 2 n
+
+-- numbers, joined by commas
+abbrev pub comma_list : List ℕ → List ℕ
+comma_list [] = []
+comma_list (n ∷ []) = decimal n
+comma_list (n ∷ m ∷ more) = decimal n ++ 44 ∷ comma_list (m ∷ more)
+
+-- real, effective, saved and fs id
+unfoldable pub ids_text : FourIds → List ℕ
+ids_text ids = comma_list (ids.real ∷ ids.effective ∷ ids.saved ∷ ids.fs ∷ [])
+
+-- the supplementary groups, `-` where there is none
+abbrev pub groups_text : List ℕ → List ℕ
+groups_text [] = codes "-"
+groups_text (g ∷ groups) = comma_list (g ∷ groups)
+
+-- the token of a space: `init` for the initial one
+abbrev pub space_token : ℕ → List ℕ
+space_token n = if n == 0 then codes "init" else codes "#" ++ decimal n
+
+-- pid and space
+unfoldable pub place_text : Process → List ℕ
+place_text p = codes "> " ++ decimal p.pid ++ codes " " ++ space_token p.space
+
+unfoldable pub all_ids_text : Credential → List ℕ
+all_ids_text c = codes " uid=" ++ ids_text c.uid ++ codes " gid=" ++ ids_text c.gid ++ codes " groups=" ++ groups_text c.groups
+
+unfoldable pub sets_text : Credential → List ℕ
+sets_text c = codes " inh=" ++ hex_set c.inheritable ++ codes " prm=" ++ hex_set c.permitted ++ codes " eff=" ++ hex_set c.effective
+
+unfoldable pub bounds_text : Credential → List ℕ
+bounds_text c = codes " bnd=" ++ hex_set c.bounding ++ codes " amb=" ++ hex_set c.ambient
+
+unfoldable pub flags_text : Credential → List ℕ
+flags_text c = codes " sec=" ++ hex_bits c.securebits ++ codes " nnp=" ++ (if c.no_new_privs then codes "1" else codes "0")
+
+-- The credential line of a process.
+unfoldable pub credential_line : Process → List ℕ
+credential_line p = place_text p ++ all_ids_text p.cred ++ sets_text p.cred ++ bounds_text p.cred ++ flags_text p.cred
+
+-- an id of a call, `-1` for 4294967295
+abbrev pub id_text : ℕ → List ℕ
+id_text id = if id == 4294967295 then codes "-1" else decimal id
+
+-- a result
+abbrev pub res_text : Res → List ℕ
+res_text Done = codes "0"
+res_text (Id n) = decimal n
+res_text (Child p) = decimal p
+res_text (Err e) = errno_name e
+
+-- a call with its arguments (built so far: setresuid)
+abbrev pub call_text : Call → List ℕ
+call_text (SetResUid r e s) = codes " setresuid " ++ id_text r ++ codes " " ++ id_text e ++ codes " " ++ id_text s
+call_text _ = []
+
+-- an event as a script line
+unfoldable pub event_text : Event → List ℕ
+event_text e = decimal e.pid ++ call_text e.call ++ codes " = " ++ res_text e.res
+
+-- the event of a line, with the line's number
+unfoldable pub event_line : ℕ → Event → List ℕ
+event_line number e = decimal number ++ codes ": " ++ event_text e

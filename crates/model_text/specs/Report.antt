@@ -1,0 +1,145 @@
+-- The report: what a command answers and writes, by its words and by the bytes of the files.
+use Rattle.std.specs.Prelude.{ℕ, codes, decimal, ◌+◌, nat_lt, length, List, [], ◌∷◌, ◌++◌, map, Option, Some, None, if◌then◌else◌, flat_map}
+use Rattle.cm_base.specs.declared.status.Status.{Status}
+use Rattle.cm_base.specs.declared.status.Status.TheVariants as status
+use Rattle.model_cred.specs.Call.{Event}
+use Rattle.model_cred.specs.Process.{Process, State, process_at}
+use Rattle.model_cred.specs.World.{World}
+use Rattle.model_run.specs.Step.{Outcome, Goes, NoProcess, Wrong, outcome}
+use Rattle.model_text.specs.Command.{Command, Replay, Later, NoForm, command_of}
+use Rattle.model_text.specs.Cut.{lines_of}
+use Rattle.model_text.specs.Line.{Line, NoEvent, Tells, Faulty, Unbuilt, script_line}
+use Rattle.model_text.specs.Print.{credential_line, event_line, res_text}
+use Rattle.model_text.specs.WorldText.{WorldText, Reads, Bad, world_text}
+use Rattle.model_text.specs.WorldText as texts
+
+-- A line of the report: the credentials of a process; an event with the number of its line; any other text.
+pub data ReportLine : Type 0 where
+  Credentials : Process → ReportLine
+  Told : ℕ → Event → ReportLine
+  Plain : List ℕ → ReportLine
+
+pub record Report : Type 0 where
+  pub status : Status
+  pub lines : List ReportLine
+
+-- the text of a line
+abbrev pub line_text : ReportLine → List ℕ
+line_text (Credentials p) = credential_line p
+line_text (Told number e) = event_line number e
+line_text (Plain text) = text
+
+-- each line and its LF
+abbrev pub text_of : List ReportLine → List ℕ
+text_of lines = flat_map (λ line. line_text line ++ 10 ∷ []) lines
+
+-- a report of one status and one line
+abbrev pub says : Status → List ℕ → Report
+says status text = record { status = status; lines = Plain text ∷ [] }
+
+-- the report with lines before it
+abbrev pub after : List ReportLine → Report → Report
+after lines rest = record { status = rest.status; lines = lines ++ rest.lines }
+
+-- how a numbered line begins that ends the report
+abbrev pub at_line : List ℕ → ℕ → List ℕ
+at_line words number = words ++ decimal number
+
+-- why an event is impossible
+abbrev pub reason : Outcome → List ℕ
+reason (Wrong res) = codes "the rules give " ++ res_text res
+reason NoProcess = codes "no process"
+reason _ = []
+
+-- an event that is no step, with the number of its line
+abbrev pub impossible : ℕ → Outcome → Report
+impossible number why = says status.Impossible (at_line (codes "impossible line ") number ++ codes ": " ++ reason why)
+
+-- a line with a fault
+abbrev pub bad_log : ℕ → Report
+bad_log number = says status.BadLog (at_line (codes "bad log line ") number)
+
+-- what is asked for isn't built
+abbrev pub not_built : Report
+not_built = says status.NotBuilt (codes "not built")
+
+-- a limit that was exceeded
+abbrev pub limit_hit : List ℕ → ℕ → Report
+limit_hit name number = says status.Limit (codes "limit " ++ name ++ codes " " ++ decimal number)
+
+-- the end of the log, with the number of its events
+abbrev pub ended : ℕ → Report
+ended count = says status.Accepted (at_line (codes "end ") count)
+
+-- the credential line of a process, where there is one
+abbrev pub credentials_if : Option Process → List ReportLine
+credentials_if None = []
+credentials_if (Some p) = Credentials p ∷ []
+
+-- the lines of an event that is a step to the state: the event, and its caller's credentials where it is alive
+abbrev pub step_lines : State → ℕ → Event → List ReportLine
+step_lines s number e = Told number e ∷ credentials_if (process_at s.processes e.pid)
+
+-- the report from an event on, by what becomes of it; the rest goes on from a state with so many events before
+abbrev pub by_outcome : ℕ → ℕ → Event → (State → ℕ → Report) → Outcome → Report
+by_outcome number count e rest (Goes s) = after (step_lines s number e) (rest s (count + 1))
+by_outcome number count e rest why = impossible number why
+
+-- the report from a line on
+abbrev pub by_line : World → State → ℕ → ℕ → (State → ℕ → Report) → Line → Report
+by_line w s number count rest NoEvent = rest s count
+by_line w s number count rest (Tells e) = by_outcome number count e rest (outcome w s e)
+by_line w s number count rest Faulty = bad_log number
+by_line w s number count rest Unbuilt = not_built
+
+-- The replay of the lines of a log: from a state on, the first line having the number, with so many events before.
+abbrev pub replayed : World → List (List ℕ) → State → ℕ → ℕ → Report
+replayed w [] s number count = ended count
+replayed w (line ∷ lines) s number count = by_line w s number count (λ s' count'. replayed w lines s' (number + 1) count') (script_line line)
+
+-- the credential lines at the start
+abbrev pub start_lines : World → List ReportLine
+start_lines w = map Credentials w.start.processes
+
+-- the most bytes of a world
+abbrev pub world_limit : ℕ
+world_limit = 1048576
+
+-- the most bytes of a log
+abbrev pub log_limit : ℕ
+log_limit = 67108864
+
+-- the replay of a log in a world
+abbrev pub world_replay : World → List ℕ → Report
+world_replay w log = if nat_lt log_limit (length log) then limit_hit (codes "log") log_limit else after (start_lines w) (replayed w (lines_of log) w.start 1 0)
+
+-- the replay of a log by what the world's text comes to
+abbrev pub by_world : WorldText → List ℕ → Report
+by_world Bad log = says status.BadWorld (codes "bad world")
+by_world texts.NotBuilt log = not_built
+by_world (Reads w) log = world_replay w log
+
+-- the replay of a log by the world's text
+abbrev pub replay : List ℕ → List ℕ → Report
+replay world log = if nat_lt world_limit (length world) then limit_hit (codes "world") world_limit else by_world (world_text world) log
+
+-- the five forms of the command line
+abbrev pub usage : Report
+usage = record {
+  status = status.Usage;
+  lines = Plain (codes "usage: credaudit replay WORLD LOG")
+      ∷ Plain (codes "usage: credaudit audit WORLD LOG PID RIGHT")
+      ∷ Plain (codes "usage: credaudit check WORLD LOG PID RIGHT CERT")
+      ∷ Plain (codes "usage: credaudit confirm WORLD LOG PID RIGHT RUN")
+      ∷ Plain (codes "usage: credaudit drill N") ∷ [];
+}
+
+-- the report of a command over files that hold these bytes under their names
+abbrev pub command_report : Command → (List ℕ → List ℕ) → Report
+command_report NoForm bytes = usage
+command_report Later bytes = not_built
+command_report (Replay world log) bytes = replay (bytes world) (bytes log)
+
+-- the report of the words
+abbrev pub report : List (List ℕ) → (List ℕ → List ℕ) → Report
+report words bytes = command_report (command_of words) bytes

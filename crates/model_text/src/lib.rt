@@ -1,0 +1,2 @@
+//! Definitions: the texts of worlds, logs and reports. No code.
+#![tactic(auto)]
