@@ -7,7 +7,7 @@ use Rattle.cm_cli.specs.Machine.{state_of}
 use Rattle.cm_cli.specs.Replay.{Continues, Finishes, IsLineTurn}
 use Rattle.model_cred.specs.Call.{Event}
 use Rattle.model_cred.specs.Process.{Process, State, process_at}
-use Rattle.model_run.specs.Step.{Outcome, Goes, Wrong}
+use Rattle.model_run.specs.Step.{Outcome, Goes, PidInUse, Wrong}
 use Rattle.model_text.specs.Report.{Report, ReportLine, Credentials, Told, by_line, by_outcome, impossible, text_of, step_lines, credentials_if, replayed}
 use Rattle.model_text.specs.Cut.{lines_of}
 use Rattle.model_text.specs.Line.{script_line}
@@ -29,6 +29,11 @@ goes_on_after number count e rest become after p goes found = rw goes (record {
       ∙ ap (λ (ls : List ReportLine). text_of ls ++ text_of (rest (state_of after) (count + 1)).lines) (two_lines after number e p found)
       ∙ ap (λ (t : List ℕ). t ++ text_of (rest (state_of after) (count + 1)).lines) (text_of_append (Told number e ∷ []) (Credentials p ∷ []));
 })
+
+-- an event whose child is alive ends the report
+pub ends_at_pid_in_use : (number count : ℕ) (e : Event) (rest : State → ℕ → Report) (become : Outcome) → become ≡ PidInUse
+    → Finishes (by_outcome number count e rest become) status.Impossible (text_of (impossible number PidInUse).lines)
+ends_at_pid_in_use number count e rest become in_use = rw in_use (record { status = refl; text = refl })
 
 -- an event that is no step ends the report
 pub ends_at_wrong : (number count : ℕ) (e : Event) (rest : State → ℕ → Report) (become : Outcome) (res : Res) → become ≡ Wrong res

@@ -14,7 +14,7 @@ use Rattle.cm_io.specs.Shelf.{Files, bytes_at, Rose}
 use Rattle.model_cred.specs.Call.{Event}
 use Rattle.model_cred.specs.Process.{Process, State}
 use Rattle.model_cred.specs.World.{World}
-use Rattle.model_run.specs.Step.{Outcome, Goes, NoProcess, Wrong, NoRule, outcome}
+use Rattle.model_run.specs.Step.{Outcome, Goes, NoProcess, NoSpace, PidInUse, Wrong, outcome}
 use Rattle.model_text.specs.Cut.{lines_of}
 use Rattle.model_text.specs.Line.{Line, NoEvent, Tells as TellsEvent, Faulty, Unbuilt, script_line}
 use Rattle.model_text.specs.Report.{Report, replay, replayed, by_line, by_outcome, text_of}
@@ -41,7 +41,8 @@ outcome_not_usage : (n count : ℕ) (e : Event) (rest : State → ℕ → Report
 outcome_not_usage n count e rest told (Goes s) = told s (count + 1)
 outcome_not_usage n count e rest told NoProcess = λ is. cc
 outcome_not_usage n count e rest told (Wrong res) = λ is. cc
-outcome_not_usage n count e rest told NoRule = λ is. cc
+outcome_not_usage n count e rest told NoSpace = λ is. cc
+outcome_not_usage n count e rest told PidInUse = λ is. cc
 
 line_not_usage : (w : World) (s : State) (n count : ℕ) (rest : State → ℕ → Report) → ((s' : State) (c : ℕ) → (rest s' c).status ≢ answers.Usage) → (line : Line) → (by_line w s n count rest line).status ≢ answers.Usage
 line_not_usage w s n count rest told NoEvent = told s count

@@ -15,7 +15,7 @@ use Rattle.model_text.specs.Cut.{lines_of}
 use Rattle.model_cred.specs.Call.{Event}
 use Rattle.model_cred.specs.Process.{State}
 use Rattle.model_cred.specs.World.{World}
-use Rattle.model_run.specs.Step.{Outcome, Goes, NoProcess, Wrong, NoRule, outcome}
+use Rattle.model_run.specs.Step.{Outcome, Goes, NoProcess, NoSpace, PidInUse, Wrong, outcome}
 use Rattle.model_text.specs.Line.{Line, NoEvent, Tells as TellsEvent, Faulty, Unbuilt, script_line}
 use Rattle.model_text.specs.Report.{Report, Credentials, text_of, replayed, start_lines, by_line, by_outcome}
 
@@ -74,7 +74,8 @@ told_outcome : (n count : ℕ) (e : Event) (rest : State → ℕ → Report) →
 told_outcome n count e rest told (Goes s) = told s (count + 1)
 told_outcome n count e rest told NoProcess = told_impossible
 told_outcome n count e rest told (Wrong res) = told_impossible
-told_outcome n count e rest told NoRule = told_impossible
+told_outcome n count e rest told NoSpace = told_impossible
+told_outcome n count e rest told PidInUse = told_impossible
 
 told_line : (w : World) (s : State) (n count : ℕ) (rest : State → ℕ → Report) → ((s' : State) (c : ℕ) → IsTold (rest s' c).status) → (line : Line) → IsTold (by_line w s n count rest line).status
 told_line w s n count rest told NoEvent = told s count

@@ -3,17 +3,18 @@ use Rattle.std.proofs.Common.{◌≡◌, ℕ, zero, suc, ◌<◌, true, false, B
 use Rattle.cm_base.specs.declared.res.Res.{Res}
 use Rattle.cm_cli.proofs.Places.{pid_of_at, get_of_at, found_at, put_ascends, put_at, pid_of_put}
 use Rattle.cm_cli.specs.Machine.{pid_at, state_of, IsTurn}
-use Rattle.cm_cli.specs.Turns.{IsLiveTurn, IsToldTurn}
+use Rattle.cm_cli.specs.Turns.{IsLiveTurn, IsToldTurn, initial_answer, is_setresuid}
 use Rattle.cm_cli.specs.declared.processes.Turn.{Turn}
 use Rattle.cm_cli.specs.declared.processes.Turn.TheVariants as turn
-use Rattle.model_cred.specs.Call.{Call, Event}
+use Rattle.model_cred.specs.Call.{Call, SetResUid, Event}
 use Rattle.model_cred.specs.Process.{Process, Ascends, process_at, put_process}
-use Rattle.model_cred.specs.Space.{initial_space, first_spaces}
+use Rattle.model_cred.specs.Space.{initial_space, first_spaces, space_of}
 use Rattle.model_cred.specs.World.{World}
 use Rattle.model_rules.specs.Answer.{Answer}
+use Rattle.model_rules.specs.SetId.{setresuid}
 use Rattle.model_run.specs.Outside.{comes_from_outside}
 use Rattle.model_run.specs.Same.{same_res}
-use Rattle.model_run.specs.Step.{outcome, outcome_for, told_call, told_answer, answer_of, answer_in, Goes, Wrong, with_cred, Outcome}
+use Rattle.model_run.specs.Step.{Outcome, Goes, NoSpace, PidInUse, Wrong, outcome, outcome_for, told_call, names_no_space, is_living_child, with_cred}
 use Rattle.std.specs.Prelude.{MatchBool}
 
 -- a process put back unchanged leaves the list as it was
@@ -23,39 +24,61 @@ put_same (q ∷ ps) zero p h is = ap (λ (r : Process). r ∷ ps) is
 put_same (q ∷ ps) (suc i) p h is = ap (λ (rs : List Process). q ∷ rs) (put_same ps i p (omega arith) is)
 
 -- the told result against an answer
-told_turn : (ps : List Process) (i : ℕ) (old new : Process) (told : Res) (a : Option Answer) (t : Turn) → Ascends ps → i < length ps → old ≡ get_or ps i old
-    → IsToldTurn old new told a t → IsTurn t (slice_set ps i new) (told_answer (state_of ps) old told a)
-told_turn ps i old new told None t up h is turns = absurd turns
-told_turn ps i old new told (Some a) turn.Goes up h is turns =
+told_turn : (ps : List Process) (i : ℕ) (old new : Process) (told : Res) (a : Answer) (t : Turn) → Ascends ps → i < length ps → old ≡ get_or ps i old
+    → IsToldTurn old new told a t → IsTurn t (slice_set ps i new) (cond (same_res told a.res) (Goes (with_cred (state_of ps) old a.cred)) (Wrong a.res))
+told_turn ps i old new told a turn.Goes up h is turns =
     let put : put_process (record old { cred = a.cred }) ps ≡ slice_set ps i (record old { cred = a.cred }) = put_at ps i (record old { cred = a.cred }) up h (sym (pid_of_at ps i old h is)) in
     let written : slice_set ps i (record old { cred = a.cred }) ≡ slice_set ps i new = ap (λ (p : Process). slice_set ps i p) (sym turns.1) in
     ap (λ (b : Bool). cond b (Goes (with_cred (state_of ps) old a.cred)) (Wrong a.res)) turns.0 ∙ ap (λ (qs : List Process). Goes (state_of qs)) (put ∙ written)
-told_turn ps i old new told (Some a) (turn.Wrong res) up h is turns =
+told_turn ps i old new told a turn.PidInUse up h is turns = absurd turns
+told_turn ps i old new told a (turn.Wrong res) up h is turns =
     ap (λ (b : Bool). cond b (Goes (with_cred (state_of ps) old a.cred)) (Wrong a.res)) turns.0 ∙ ap Wrong (sym turns.1)
 
 -- with an error from outside, or by the rules
-called_turn : (ps : List Process) (i : ℕ) (old new : Process) (call : Call) (told : Res) (a : Option Answer) (t : Turn) (outside : Bool) → Ascends ps → i < length ps → old ≡ get_or ps i old
-    → MatchBool outside ((t ≡ turn.Goes) × (new ≡ old)) (IsToldTurn old new told a t) → IsTurn t (slice_set ps i new) (cond outside (Goes (state_of ps)) (told_answer (state_of ps) old told a))
-called_turn ps i old new call told a t true up h is turns =
+called_turn : (ps : List Process) (i : ℕ) (old new : Process) (told : Res) (a : Answer) (t : Turn) (outside : Bool) → Ascends ps → i < length ps → old ≡ get_or ps i old
+    → MatchBool outside ((t ≡ turn.Goes) × (new ≡ old)) (IsToldTurn old new told a t)
+    → IsTurn t (slice_set ps i new) (cond outside (Goes (state_of ps)) (cond (same_res told a.res) (Goes (with_cred (state_of ps) old a.cred)) (Wrong a.res)))
+called_turn ps i old new told a t true up h is turns =
     let back : slice_set ps i new ≡ ps = ap (λ (p : Process). slice_set ps i p) turns.1 ∙ put_same ps i old h is in
     let goes : IsTurn turn.Goes (slice_set ps i new) (Goes (state_of ps)) = ap (λ (qs : List Process). Goes (state_of qs)) (sym back) in
     subst (λ (u : Turn). IsTurn u (slice_set ps i new) (Goes (state_of ps))) (sym turns.0) goes
-called_turn ps i old new call told a t false up h is turns = told_turn ps i old new told a t up h is turns
+called_turn ps i old new told a t false up h is turns = told_turn ps i old new told a t up h is turns
 
--- the rules' answer to a process in the initial space
-answered : (ps : List Process) (p : Process) (call : Call) → p.space ≡ 0 → answer_of (state_of ps) p call ≡ answer_in initial_space p.cred call
-answered ps p call is = rw is refl
+-- what becomes of a call of setresuid in the initial space, whose told result is no living child
+setresuid_call : (w : World) (ps : List Process) (p : Process) (r e s : ℕ) (told : Res) → p.space ≡ 0
+    → told_call w (state_of ps) p (SetResUid r e s) told
+    ≡ cond (comes_from_outside (SetResUid r e s) told) (Goes (state_of ps)) (cond (same_res told (setresuid initial_space p.cred r e s).res) (Goes (with_cred (state_of ps) p (setresuid initial_space p.cred r e s).cred)) (Wrong (setresuid initial_space p.cred r e s).res))
+setresuid_call w ps p r e s told is =
+    ap (λ (n : ℕ).
+    cond (comes_from_outside (SetResUid r e s) told) (Goes (state_of ps))
+    (cond (same_res told (setresuid (space_of first_spaces n) p.cred r e s).res) (Goes (with_cred (state_of ps) p (setresuid (space_of first_spaces n) p.cred r e s).cred)) (Wrong (setresuid (space_of first_spaces n) p.cred r e s).res))) is
+
+-- the event of a caller, whose told result is no living child
+caller_turn : (w : World) (ps : List Process) (i : ℕ) (old new : Process) (call : Call) (told : Res) (t : Turn) → is_setresuid call ≡ true → Ascends ps → i < length ps → old ≡ get_or ps i old → old.space ≡ 0
+    → MatchBool (comes_from_outside call told) ((t ≡ turn.Goes) × (new ≡ old)) (IsToldTurn old new told (initial_answer old.cred call) t)
+    → is_living_child ps told ≡ false
+    → IsTurn t (slice_set ps i new) (cond (names_no_space first_spaces call) NoSpace (cond (is_living_child ps told) PidInUse (told_call w (state_of ps) old call told)))
+caller_turn w ps i old new (SetResUid r e s) told t of_setresuid up h is initial turns no_child =
+    rw (no_child, setresuid_call w ps old r e s told initial)
+    (called_turn ps i old new told (setresuid initial_space old.cred r e s) t (comes_from_outside (SetResUid r e s) told) up h is turns)
+caller_turn w ps i old new _ told t of_setresuid up h is initial turns no_child = absurd (cc)
 
 -- the turn of the caller at its place is what becomes of the event
 pub turned : (ps : List Process) (i : ℕ) (old new : Process) (e : Event) (t : Turn) → Ascends ps → i < length ps → old ≡ get_or ps i old → slice_get ps i ≡ process_at ps e.pid
-    → IsLiveTurn old new e t → (w : World) → IsTurn t (slice_set ps i new) (outcome w (state_of ps) e)
-turned ps i old new e t up h is found turns w =
+    → is_living_child ps e.res ≡ false → IsLiveTurn old new e t → (w : World) → IsTurn t (slice_set ps i new) (outcome w (state_of ps) e)
+turned ps i old new e t up h is found no_child turns w =
     let caller : process_at ps e.pid ≡ Some old = sym found ∙ get_of_at ps i old h is in
-    let by_answer : IsTurn t (slice_set ps i new) (cond (comes_from_outside e.call e.res) (Goes (state_of ps)) (told_answer (state_of ps) old e.res (answer_in initial_space old.cred e.call))) =
-    called_turn ps i old new e.call e.res (answer_in initial_space old.cred e.call) t (comes_from_outside e.call e.res) up h is turns.turn in
-    let by_rules : IsTurn t (slice_set ps i new) (outcome_for (state_of ps) (Some old) e) =
-    subst (λ (a : Option Answer). IsTurn t (slice_set ps i new) (cond (comes_from_outside e.call e.res) (Goes (state_of ps)) (told_answer (state_of ps) old e.res a))) (sym (answered ps old e.call turns.initial)) by_answer in
-    subst (λ (p : Option Process). IsTurn t (slice_set ps i new) (outcome_for (state_of ps) p e)) (sym caller) by_rules
+    let by_rules : IsTurn t (slice_set ps i new) (outcome_for w (state_of ps) (Some old) e) =
+    caller_turn w ps i old new e.call e.res t turns.call up h is turns.initial turns.turn no_child in
+    subst (λ (p : Option Process). IsTurn t (slice_set ps i new) (outcome_for w (state_of ps) p e)) (sym caller) by_rules
+
+-- an event whose told child is alive
+pub in_use : (ps : List Process) (i : ℕ) (e : Event) (p : Process) → i < length ps → slice_get ps i ≡ process_at ps e.pid → slice_get ps i ≡ Some p → names_no_space first_spaces e.call ≡ false
+    → is_living_child ps e.res ≡ true → (w : World) → outcome w (state_of ps) e ≡ PidInUse
+in_use ps i e p h found here named living w =
+    ap (λ (q : Option Process). outcome_for w (state_of ps) q e) (sym found ∙ here)
+    ∙ ap (λ (b : Bool). cond b NoSpace (cond (is_living_child ps e.res) PidInUse (told_call w (state_of ps) p e.call e.res))) named
+    ∙ ap (λ (b : Bool). cond b PidInUse (told_call w (state_of ps) p e.call e.res)) living
 
 -- and the processes go on ascending
 pub turned_ascends : (ps : List Process) (i : ℕ) (old new : Process) (e : Event) (t : Turn) → Ascends ps → i < length ps → old ≡ get_or ps i old → IsLiveTurn old new e t → Ascends (slice_set ps i new)

@@ -25,10 +25,12 @@ impl Model for Live {
     ghost view = { λ p. record { pid = p.pid; forebear = None; space = 0; cred = p.cred } };
 }
 
-/// What becomes of the event of a live process: a step, or none, with the rules' own answer.
+/// What becomes of the event of a live process: a step, or none: its child is alive already, or the rules give another
+/// answer than the told one.
 #[derive(Debug, Drop)]
 pub(crate) enum Turn {
     Goes,
+    PidInUse,
     Wrong(Res),
 }
 
@@ -52,7 +54,7 @@ impl Model for Processes {
 impl Processes {
     ghost use Rattle.cm_cli.specs.Machine.{state_of, IsTurn};
     ghost use Rattle.model_cred.specs.World.{World};
-    ghost use Rattle.model_run.specs.Step.{outcome};
+    ghost use Rattle.model_run.specs.Step.{outcome, is_living_child};
 
     /// The processes of a list whose pids ascend.
     pub fn from_list(list: Vec<Live>) -> Processes
@@ -93,8 +95,21 @@ impl Processes {
         ensures still_here { at < length self.new }
         ensures caller_after { slice_get self.new at ≡ process_at self.new event.now.pid }
     {
+        if self.has_child(&event.res) {
+            return Turn::PidInUse;
+        }
         let live = &mut self.list[at];
         take_step(live, event)
+    }
+
+    // The result is a child that is alive already.
+    fn has_child(&self, res: &Res) -> bool
+        ensures { result ≡ is_living_child self.now res.now }
+    {
+        match res {
+            Res::Child(pid) => self.find(*pid).is_some(),
+            _ => false,
+        }
     }
 }
 

@@ -13,7 +13,8 @@ use crate::line::{Line, read_line};
 use crate::processes::{Processes, Turn};
 use crate::sending::send_full;
 use crate::writing::{
-    put_bad_log, put_end, put_event, put_no_process, put_not_built, put_process, put_wrong,
+    put_bad_log, put_end, put_event, put_no_process, put_not_built, put_pid_in_use, put_process,
+    put_wrong,
 };
 use cm_base::{NoMemory, Status};
 use cm_io::{Outside, Sink};
@@ -114,6 +115,10 @@ fn take_event(
             put_event(text, number, event)?;
             put_process(text, processes.at(at))?;
             Ok(LineTurn::Goes(count + 1))
+        }
+        Turn::PidInUse => {
+            put_pid_in_use(text, number)?;
+            Ok(LineTurn::Ends(Status::Impossible))
         }
         Turn::Wrong(given) => {
             put_wrong(text, number, &given)?;

@@ -10,6 +10,6 @@ mod verdicts;
 pub(crate) use credentials::{put_credentials, put_process};
 pub(crate) use events::put_event;
 pub(crate) use verdicts::{
-    put_bad_log, put_bad_world, put_end, put_log_limit, put_no_process, put_not_built, put_usage,
-    put_world_limit, put_wrong,
+    put_bad_log, put_bad_world, put_end, put_log_limit, put_no_process, put_not_built,
+    put_pid_in_use, put_usage, put_world_limit, put_wrong,
 };

@@ -1,6 +1,6 @@
 -- Credentials (credentials(7), capabilities(7)).
-use Rattle.std.specs.Prelude.{◌≡◌, ℕ, ◌+◌, ◌<◌, ◌≤◌, ◌^◌, ◌||◌, ◌==◌, Bool, true, false, List, [], ◌∷◌}
-use Rattle.cm_base.specs.CapSet.{is_within, full, none, IsCapSet}
+use Rattle.std.specs.Prelude.{◌≡◌, ℕ, ◌+◌, ◌<◌, ◌≤◌, ◌^◌, ◌||◌, ◌==◌, Bool, true, nat_lt, List, [], ◌∷◌, if◌then◌else◌}
+use Rattle.cm_base.specs.CapSet.{is_within, IsCapSet}
 
 -- The four user ids, or the four group ids, of a process (credentials(7), "User and group identifiers").
 pub record FourIds : Type 0 where
@@ -34,18 +34,19 @@ pub record Included (c : Credential) : Type 0 where
 abbrev pub IsId : ℕ → Type 0
 IsId id = id < 4294967295
 
+-- The four are ids.
 pub record AreIds (ids : FourIds) : Type 0 where
   pub real : IsId ids.real
   pub effective : IsId ids.effective
   pub saved : IsId ids.saved
   pub fs : IsId ids.fs
 
--- ids ascending, each once, from the low one on
+-- the list is of ids from the low one on, ascending, each once
 abbrev pub AscendFrom : ℕ → List ℕ → Type 0
 AscendFrom low [] = Unit {0}
 AscendFrom low (id ∷ ids) = (low ≤ id) × IsId id × AscendFrom (id + 1) ids
 
--- What every credential keeps.
+-- What every credential keeps. That the effective and the ambient set are sets of capabilities follows.
 pub record Keeps (c : Credential) : Type 0 where
   pub included : Included c
   pub uid : AreIds c.uid
@@ -55,6 +56,19 @@ pub record Keeps (c : Credential) : Type 0 where
   pub permitted : IsCapSet c.permitted
   pub bounding : IsCapSet c.bounding
   pub securebits : c.securebits < 2 ^ 8
+
+-- a list of ids that ascend, each once, and one more
+abbrev pub insert_id : ℕ → List ℕ → List ℕ
+insert_id id [] = id ∷ []
+insert_id id (other ∷ ids) =
+    if nat_lt id other then id ∷ other ∷ ids
+    else if id == other then other ∷ ids
+    else other ∷ insert_id id ids
+
+-- the ids of a list, ascending, each once
+abbrev pub id_set : List ℕ → List ℕ
+id_set [] = []
+id_set (id ∷ ids) = insert_id id (id_set ids)
 
 -- four times the one id
 abbrev pub all_four : ℕ → FourIds

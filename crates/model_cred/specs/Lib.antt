@@ -1,12 +1,15 @@
 -- What the machine speaks of: plain records of numbers and lists.
 pub mod IdMap
+pub mod MapFault
 pub mod Credential
 pub mod Space
 pub mod Process
+pub mod Files
+pub mod CallKind
 pub mod Call
+pub mod Right
 pub mod World
 pub use Rattle.cm_base.specs.CapSet
 pub use Rattle.cm_base.specs.Names
 pub use Rattle.cm_base.specs.Number
 pub use Rattle.cm_base.specs.Outcome
-pub use Rattle.cm_base.specs.Statuses

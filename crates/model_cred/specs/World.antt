@@ -1,13 +1,24 @@
 -- The world: what is declared before a log begins.
-use Rattle.std.specs.Prelude.{ℕ}
-use Rattle.model_cred.specs.Process.{State}
+use Rattle.std.specs.Prelude.{ℕ, List}
+use Rattle.model_cred.specs.CallKind.{Filter}
+use Rattle.model_cred.specs.Files.{FileTable, KeepsFiles}
+use Rattle.model_cred.specs.Process.{State, KeepsState}
 
 -- The form of the log (choice).
 pub data LogForm : Type 0 where
   Script : LogForm
   Strace : LogForm
 
--- The state at the log's begin, and the form of the log.
+-- The state at the log's begin, the names of the declared spaces (of space 1, of space 2, and so on), the mounts and
+-- files, the filter that binds what comes after the log, and the form of the log. Names and paths are lists of bytes.
 pub record World : Type 0 where
   pub start : State
+  pub names : List (List ℕ)
+  pub files : FileTable
+  pub filter : Filter
   pub form : LogForm
+
+-- What every world keeps: its state has what a state keeps, and its files what files keep.
+pub record KeepsWorld (w : World) : Type 0 where
+  pub start : KeepsState w.start
+  pub files : KeepsFiles w.files

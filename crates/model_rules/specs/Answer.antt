@@ -1,9 +1,10 @@
--- What a call that changes its caller alone answers, and the credential that it leaves.
+-- The answer of a call that changes the credential of its caller alone.
 use Rattle.cm_base.specs.declared.errno.Errno.{Errno}
 use Rattle.cm_base.specs.declared.res.Res.{Res}
 use Rattle.cm_base.specs.declared.res.Res.TheVariants.{Done, Err}
 use Rattle.model_cred.specs.Credential.{Credential}
 
+-- What a call answers, and the credential that it leaves.
 pub record Answer : Type 0 where
   pub res : Res
   pub cred : Credential

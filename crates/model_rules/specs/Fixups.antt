@@ -1,8 +1,9 @@
 -- What a change of user ids does to the sets (capabilities(7), "Effect of user ID changes on capabilities").
-use Rattle.std.specs.Prelude.{◌&&◌, Bool, not, if◌then◌else◌}
-use Rattle.cm_base.specs.CapSet.{none}
+use Rattle.std.specs.Prelude.{ℕ, ◌&&◌, not, if◌then◌else◌}
+use Rattle.cm_base.specs.CapSet.{none, union, meet, minus}
 use Rattle.model_cred.specs.Credential.{Credential, FourIds}
 use Rattle.model_cred.specs.Space.{Space}
+use Rattle.model_rules.specs.Caps.{fs_caps}
 use Rattle.model_rules.specs.Securebits.{has_flag, keep_caps, no_setuid_fixup}
 use Rattle.model_rules.specs.Zero.{is_zero, has_zero}
 
@@ -26,3 +27,15 @@ following_effective s old c =
 -- The fixups of a change from the old user ids, in this order, unless SECBIT_NO_SETUID_FIXUP is set.
 abbrev pub fixed_up : Space → FourIds → Credential → Credential
 fixed_up s old c = if has_flag c no_setuid_fixup then c else following_effective s old (after_losing_root s old c)
+
+-- Where the fs id went from inside 0 to another, the capabilities that follow it are taken out of the effective set;
+-- where it went from another to inside 0, those of them that are permitted come in.
+abbrev pub following_fs : Space → ℕ → Credential → Credential
+following_fs s old c =
+    if is_zero s old && not (is_zero s c.uid.fs) then record c { effective = minus c.effective fs_caps }
+    else if not (is_zero s old) && is_zero s c.uid.fs then record c { effective = union c.effective (meet c.permitted fs_caps) }
+    else c
+
+-- The fixup of setfsuid alone (choice) from the old fs user id, unless SECBIT_NO_SETUID_FIXUP is set.
+abbrev pub fs_fixed_up : Space → ℕ → Credential → Credential
+fs_fixed_up s old c = if has_flag c no_setuid_fixup then c else following_fs s old c

@@ -1,17 +1,12 @@
 -- Inside 0 of a space: the id to which its map takes 0 (user_namespaces(7)), which the rules treat as root.
-use Rattle.std.specs.Prelude.{ℕ, ◌==◌, ◌||◌, Bool, false, Option, None, Some}
+use Rattle.std.specs.Prelude.{ℕ, ◌||◌, Bool, Option}
 use Rattle.model_cred.specs.Credential.{FourIds}
-use Rattle.model_cred.specs.IdMap.{down, extents_of}
+use Rattle.model_cred.specs.IdMap.{down, extents_of, is_the}
 use Rattle.model_cred.specs.Space.{Space}
 
 -- the id that the space's map of user ids gives to inside 0
 abbrev pub zero_of : Space → Option ℕ
 zero_of s = down (extents_of s.uids) 0
-
--- the id is the one, where there is one
-abbrev pub is_the : Option ℕ → ℕ → Bool
-is_the None id = false
-is_the (Some root) id = id == root
 
 -- the user id is inside 0 of the space
 abbrev pub is_zero : Space → ℕ → Bool

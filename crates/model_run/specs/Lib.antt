@@ -1,4 +1,8 @@
 -- Steps and runs of the machine.
 pub mod Same
 pub mod Outside
+pub mod Ruling
 pub mod Step
+pub mod Family
+pub mod Later
+pub mod Holds

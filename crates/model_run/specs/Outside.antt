@@ -1,6 +1,6 @@
 -- Errors that a call may answer for causes outside the machine (memory, signals, bad addresses, the disk), with
 -- nothing changed (choice; the ERRORS sections of the calls' manual pages).
-use Rattle.std.specs.Prelude.{◌||◌, Bool, true, false}
+use Rattle.std.specs.Prelude.{Bool, true, false}
 use Rattle.cm_base.specs.declared.errno.Errno.{Errno}
 use Rattle.cm_base.specs.declared.errno.Errno.TheVariants.{EINVAL, ENOMEM, EAGAIN, EINTR, EFAULT, EIO, ENOENT, EACCES, ENOTDIR, ELOOP, ENAMETOOLONG, E2BIG, ENOEXEC, ETXTBSY, ELIBBAD}
 use Rattle.cm_base.specs.declared.res.Res.{Res}

@@ -1,60 +1,64 @@
 -- Steps and runs. A step is one completed call of one live process: what the rules give for it, or an error from
 -- outside with nothing changed.
-use Rattle.std.specs.Prelude.{◌≡◌, ℕ, Bool, List, [], ◌∷◌, Option, Some, None, if◌then◌else◌}
+use Rattle.std.specs.Prelude.{◌≡◌, ℕ, Bool, false, not, List, [], ◌∷◌, Option, Some, None, if◌then◌else◌}
 use Rattle.cm_base.specs.declared.res.Res.{Res}
-use Rattle.model_cred.specs.Call.{Call, SetResUid, Event}
-use Rattle.model_cred.specs.Credential.{Credential}
-use Rattle.model_cred.specs.Process.{Process, State, process_at, put_process}
-use Rattle.model_cred.specs.Space.{Space, Spaces, space_at}
+use Rattle.cm_base.specs.declared.res.Res.TheVariants.{Child}
+use Rattle.model_cred.specs.Call.{Call, SetNs, WriteUidMap, WriteGidMap, WriteSetgroups, Event}
+use Rattle.model_cred.specs.Process.{Process, State, process_at, is_alive}
+use Rattle.model_cred.specs.Space.{Spaces, stands}
 use Rattle.model_cred.specs.World.{World}
-use Rattle.model_rules.specs.Answer.{Answer}
-use Rattle.model_rules.specs.SetId.{setresuid}
 use Rattle.model_run.specs.Outside.{comes_from_outside}
+use Rattle.model_run.specs.Ruling.{Ruling, ruling, own}
 use Rattle.model_run.specs.Same.{same_res}
+pub use Rattle.model_run.specs.Ruling.{with_cred}
 
 -- What becomes of an event: a step to a state, or the reason why it is none. `Wrong` has the rules' own answer.
--- `NoRule` is for the calls whose rules aren't stated yet.
 pub data Outcome : Type 0 where
   Goes : State → Outcome
   NoProcess : Outcome
+  NoSpace : Outcome
+  PidInUse : Outcome
   Wrong : Res → Outcome
-  NoRule : Outcome
 
--- what the rules answer a caller in a space that has this credential
-abbrev pub answer_in : Space → Credential → Call → Option Answer
-answer_in s c (SetResUid r e v) = Some (setresuid s c r e v)
-answer_in s c _ = None
+-- the call names a space that doesn't stand
+abbrev pub names_no_space : Spaces → Call → Bool
+names_no_space spaces (SetNs n) = not (stands spaces n)
+names_no_space spaces (WriteUidMap n list) = not (stands spaces n)
+names_no_space spaces (WriteGidMap n list) = not (stands spaces n)
+names_no_space spaces (WriteSetgroups n deny) = not (stands spaces n)
+names_no_space spaces _ = false
 
--- what the rules answer a process, by the space that it is in
-abbrev pub answer_at : Option Space → Credential → Call → Option Answer
-answer_at None c call = None
-answer_at (Some s) c call = answer_in s c call
+-- the result is a child whose pid is alive already
+abbrev pub is_living_child : List Process → Res → Bool
+is_living_child processes (Child pid) = is_alive processes pid
+is_living_child processes _ = false
 
--- what the rules answer a process
-abbrev pub answer_of : State → Process → Call → Option Answer
-answer_of s p call = answer_at (space_at s.spaces p.space) p.cred call
+-- the child that is told, 0 (which is no pid) where there is none
+abbrev pub told_child : Res → ℕ
+told_child (Child pid) = pid
+told_child _ = 0
 
--- the state with another credential of the process
-abbrev pub with_cred : State → Process → Credential → State
-with_cred s p c = record s { processes = put_process (record p { cred = c }) s.processes }
+-- the result that is told against what the rules give for it, and against their own answer
+abbrev pub told_rules : Res → Ruling → Ruling → Outcome
+told_rules told given own = if same_res told given.res then Goes given.state else Wrong own.res
 
--- the answer of the rules against the result that is told
-abbrev pub told_answer : State → Process → Res → Option Answer → Outcome
-told_answer s p told None = NoRule
-told_answer s p told (Some answer) = if same_res told answer.res then Goes (with_cred s p answer.cred) else Wrong answer.res
-
--- the call of a live process with the result that is told
-abbrev pub told_call : State → Process → Call → Res → Outcome
-told_call s p call told = if comes_from_outside call told then Goes s else told_answer s p told (answer_of s p call)
+-- The call of a live process with the result that is told: an error from outside with nothing changed, or what the rules
+-- give. (A filter of the process's own, which no process has yet, is to be asked here, before both.)
+abbrev pub told_call : World → State → Process → Call → Res → Outcome
+told_call w s p call told =
+    if comes_from_outside call told then Goes s else told_rules told (ruling w s p call (told_child told)) (own w s p call)
 
 -- the event with the process that its pid names
-abbrev pub outcome_for : State → Option Process → Event → Outcome
-outcome_for s None e = NoProcess
-outcome_for s (Some p) e = told_call s p e.call e.res
+abbrev pub outcome_for : World → State → Option Process → Event → Outcome
+outcome_for w s None e = NoProcess
+outcome_for w s (Some p) e =
+    if names_no_space s.spaces e.call then NoSpace
+    else if is_living_child s.processes e.res then PidInUse
+    else told_call w s p e.call e.res
 
 -- what becomes of an event in a state
 abbrev pub outcome : World → State → Event → Outcome
-outcome w s e = outcome_for s (process_at s.processes e.pid) e
+outcome w s e = outcome_for w s (process_at s.processes e.pid) e
 
 -- the event leads from the one state to the other
 abbrev pub Step : World → State → Event → State → Type 0

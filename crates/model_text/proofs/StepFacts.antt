@@ -8,7 +8,11 @@ use Rattle.model_cred.specs.Process.{Process, State, process_at, put_process}
 use Rattle.model_cred.specs.World.{World}
 use Rattle.model_run.specs.Outside.{comes_from_outside}
 use Rattle.model_run.specs.Same.{same_res}
-use Rattle.model_run.specs.Step.{Outcome, Goes, Wrong, Step, outcome_for, told_call, told_answer, answer_of, with_cred}
+use Rattle.model_run.specs.Step.{Outcome, Goes, PidInUse, Wrong, Step, outcome_for, told_call, told_rules, told_child, is_living_child, with_cred}
+use Rattle.model_run.specs.Ruling.{ruling, own}
+use Rattle.model_rules.specs.Answer.{Answer}
+use Rattle.model_rules.specs.SetId.{setresuid}
+use Rattle.model_cred.specs.Space.{space_of}
 
 -- the call is setresuid
 abbrev pub IsSetResUid : Call → Type 0
@@ -46,32 +50,35 @@ unfolding Changes
 gone s p c s' true res is = let state : with_cred s p c ≡ s' = cc in inr (c, ap (λ (x : State). x.processes) (sym state))
 gone s p c s' false res is = absurd (cc)
 
-answer_changes : (s : State) (p : Process) (call : Call) (told : Res) (s' : State) → told_answer s p told (answer_of s p call) ≡ Goes s' → Changes s p s'
-answer_changes s p call told s' goes =
-    elim (answer_of s p call) as (λ a. told_answer s p told a ≡ Goes s' → Changes s p s') [
-      | None ↦ λ is. absurd (cc)
-      | Some a ↦ λ is. gone s p a.cred s' (same_res told a.res) a.res is
+-- what the rules answer to setresuid in the space that the process is in
+abbrev answer : State → Process → ℕ → ℕ → ℕ → Answer
+answer s p r e v = setresuid (space_of s.spaces p.space) p.cred r e v
+
+-- the call with the result that is told
+call_changes : (w : World) (s : State) (p : Process) (r e v : ℕ) (told : Res) (s' : State) → told_call w s p (SetResUid r e v) told ≡ Goes s' → Changes s p s'
+unfolding Changes
+call_changes w s p r e v told s' goes =
+    elim (comes_from_outside (SetResUid r e v) told) as (λ (outside : Bool). cond outside (Goes s) (told_rules told (ruling w s p (SetResUid r e v) (told_child told)) (own w s p (SetResUid r e v))) ≡ Goes s' → Changes s p s') [
+      | true ↦ λ is. let state : s ≡ s' = cc in inl (ap (λ (x : State). x.processes) (sym state))
+      | false ↦ λ is. gone s p (answer s p r e v).cred s' (same_res told (answer s p r e v).res) (answer s p r e v).res is
     ] goes
 
-call_changes : (s : State) (p : Process) (call : Call) (told : Res) (s' : State) → told_call s p call told ≡ Goes s' → Changes s p s'
-unfolding Changes
-call_changes s p call told s' goes =
-    elim (comes_from_outside call told) as (λ (outside : Bool). cond outside (Goes s) (told_answer s p told (answer_of s p call)) ≡ Goes s' → Changes s p s') [
-      | true ↦ λ is. let state : s ≡ s' = cc in inl (ap (λ (x : State). x.processes) (sym state))
-      | false ↦ λ is. answer_changes s p call told s' is
-    ] goes
+-- unless the result is a child that lives
+living_changes : (w : World) (s : State) (p : Process) (r e v : ℕ) (told : Res) (s' : State) (living : Bool) → cond living PidInUse (told_call w s p (SetResUid r e v) told) ≡ Goes s' → Changes s p s'
+living_changes w s p r e v told s' true is = absurd (cc)
+living_changes w s p r e v told s' false is = call_changes w s p r e v told s' is
 
 -- the caller is found, and its step changes the processes so
 Made : State → Event → State → Type 0
 Made s e s' = (p : Process) × (process_at s.processes e.pid ≡ Some p) × Changes s p s'
 
-made_by : (s : State) (e : Event) (s' : State) (found : Option Process) → process_at s.processes e.pid ≡ found → outcome_for s found e ≡ Goes s' → Made s e s'
+made_by : (w : World) (s : State) (e : Event) (s' : State) (found : Option Process) → IsSetResUid e.call → process_at s.processes e.pid ≡ found → outcome_for w s found e ≡ Goes s' → Made s e s'
 unfolding Made
-made_by s e s' None is goes = absurd (cc)
-made_by s e s' (Some p) is goes = (p, is, call_changes s p e.call e.res s' goes)
+made_by w s e s' None call is goes = absurd (cc)
+made_by w s e s' (Some p) (r, u, v, call) is goes = (p, is, living_changes w s p r u v e.res s' (is_living_child s.processes e.res) (rw call at goes))
 
 made : (w : World) (s : State) (e : Event) (s' : State) → IsSetResUid e.call → Step w s e s' → Made s e s'
-made w s e s' of_setresuid goes = made_by s e s' (process_at s.processes e.pid) refl goes
+made w s e s' call goes = made_by w s e s' (process_at s.processes e.pid) call refl goes
 
 -- the caller is found before
 pub caller_before : (w : World) (s : State) (e : Event) (s' : State) → IsSetResUid e.call → Step w s e s' → (p : Process) × (process_at s.processes e.pid ≡ Some p)

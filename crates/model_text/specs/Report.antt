@@ -5,7 +5,7 @@ use Rattle.cm_base.specs.declared.status.Status.TheVariants as status
 use Rattle.model_cred.specs.Call.{Event}
 use Rattle.model_cred.specs.Process.{Process, State, process_at}
 use Rattle.model_cred.specs.World.{World}
-use Rattle.model_run.specs.Step.{Outcome, Goes, NoProcess, Wrong, outcome}
+use Rattle.model_run.specs.Step.{Outcome, Goes, NoProcess, NoSpace, PidInUse, Wrong, outcome}
 use Rattle.model_text.specs.Command.{Command, Replay, Later, NoForm, command_of}
 use Rattle.model_text.specs.Cut.{lines_of}
 use Rattle.model_text.specs.Line.{Line, NoEvent, Tells, Faulty, Unbuilt, script_line}
@@ -49,7 +49,9 @@ at_line words number = words ++ decimal number
 abbrev pub reason : Outcome → List ℕ
 reason (Wrong res) = codes "the rules give " ++ res_text res
 reason NoProcess = codes "no process"
-reason _ = []
+reason NoSpace = codes "no space"
+reason PidInUse = codes "pid in use"
+reason (Goes s) = []
 
 -- an event that is no step, with the number of its line
 abbrev pub impossible : ℕ → Outcome → Report

@@ -5,6 +5,8 @@ use Rattle.cm_base.specs.CapSet.{full, none}
 use Rattle.model_cred.specs.Credential.{Credential, FourIds, all_four}
 use Rattle.model_cred.specs.Process.{Process}
 use Rattle.model_cred.specs.Space.{first_spaces}
+use Rattle.model_cred.specs.Files.{FileTable, plain_mount}
+use Rattle.model_cred.specs.CallKind.{no_filter}
 use Rattle.model_cred.specs.World.{World, Script}
 use Rattle.model_text.specs.Toml.{has_key_of, has_only, number_below, is_text}
 use Rattle.toml.specs.Data.{Data, array, table, Items, no_items, item, Members, get_member}
@@ -127,9 +129,19 @@ abbrev pub in_order : List Process → List Process
 in_order [] = []
 in_order (p ∷ processes) = placed p (in_order processes)
 
--- the world of these processes in the initial space
+-- the mount `root`, which always stands, and no declared files
+abbrev pub root_alone : FileTable
+root_alone = record { mounts = plain_mount (codes "root") ∷ []; rows = [] }
+
+-- the world of these processes, by ascending pid, in the initial space
 abbrev pub world_with : List Process → World
-world_with processes = record { start = record { processes = in_order processes; spaces = first_spaces }; form = Script }
+world_with processes = record {
+  start = record { processes = in_order processes; spaces = first_spaces };
+  names = [];
+  files = root_alone;
+  filter = no_filter;
+  form = Script;
+}
 
 abbrev pub distinct_world : Option (List Process) → WorldText
 distinct_world None = Bad

@@ -1,8 +1,8 @@
 use Rattle.std.proofs.Common.{◌≡◌, ℕ, List, [], ◌∷◌, ◌++◌, ap, ◌∙◌, sym, append_assoc}
-use Rattle.cm_cli.proofs.LogTurns.{goes_on_after, ends_at_wrong}
+use Rattle.cm_cli.proofs.LogTurns.{goes_on_after, ends_at_wrong, ends_at_pid_in_use}
 use Rattle.cm_cli.proofs.replay.take_event.Goals as goal
 use Rattle.model_text.specs.Report.{text_of, Told, Credentials, impossible}
-use Rattle.model_run.specs.Step.{Wrong}
+use Rattle.model_run.specs.Step.{PidInUse, Wrong}
 
 pub returns-in_ok-put_process-in-Goes-clause-turn : goal.returns-in_ok-put_process-in-Goes-clause-turn
 returns-in_ok-put_process-in-Goes-clause-turn c = (
@@ -16,4 +16,11 @@ returns-in_ok-put_wrong-in-Wrong-clause-turn c = (
   text_of (impossible c.args.number (Wrong c.in-Wrong.given)).lines,
   c.in_ok-put_wrong-in-Wrong.ensures,
   λ w rest. ends_at_wrong c.args.number c.args.count c.args.event.now rest _ c.in-Wrong.given (c.in-Wrong.ensures.turn w),
+)
+
+pub returns-in_ok-put_pid_in_use-in-PidInUse-clause-turn : goal.returns-in_ok-put_pid_in_use-in-PidInUse-clause-turn
+returns-in_ok-put_pid_in_use-in-PidInUse-clause-turn c = (
+  text_of (impossible c.args.number PidInUse).lines,
+  c.in_ok-put_pid_in_use-in-PidInUse.ensures,
+  λ w rest. ends_at_pid_in_use c.args.number c.args.count c.args.event.now rest _ (c.in-PidInUse.ensures.turn w),
 )

@@ -1,10 +1,11 @@
-use Rattle.std.proofs.Common.{◌≡◌, ◌<◌, length, List, slice_get, slice_set, get_or, sym, subst, rules}
+use Rattle.std.proofs.Common.{◌≡◌, ◌<◌, length, List, slice_get, slice_set, get_or, false, sym, subst, rules, ◌∙◌, ap}
 use Rattle.cm_cli.proofs.Turns.{turned, turned_ascends, turned_found}
 use Rattle.cm_cli.proofs.processes.Processes.step_at.Goals as goal
 use Rattle.cm_cli.specs.Machine.{IsTurn, state_of}
+use Rattle.model_cred.specs.Call.{Event}
 use Rattle.model_cred.specs.Process.{Process, process_at}
 use Rattle.model_cred.specs.World.{World}
-use Rattle.model_run.specs.Step.{outcome}
+use Rattle.model_run.specs.Step.{outcome, is_living_child}
 
 pub invariant_of-self : goal.invariant_of-self
 invariant_of-self c =
@@ -13,9 +14,12 @@ invariant_of-self c =
 
 pub returns-clause-turn : goal.returns-clause-turn
 returns-clause-turn c = λ w.
+    let no_child : is_living_child c.self.inside.list.items c.args.event.now.res ≡ false =
+    ap (λ (ps : List Process). is_living_child ps c.args.event.now.res) c.self.view_is
+    ∙ ap (λ (e : Event). is_living_child c.args.self.now e.res) (sym c.event.view_is) ∙ sym c.has_child.ensures ∙ c.if-has_child.false in
     subst (λ (ps : List Process). IsTurn c.take_step.result (slice_set c.self.inside.list.items c.args.at c.take_step.new.live) (outcome w (state_of ps) c.args.event.now)) c.self.view_is
     (turned c.self.inside.list.items c.args.at c.index_mut-live.result.now c.take_step.new.live c.args.event.now c.take_step.result
-    c.self.invariant (rw (sym c.self.view_is) at c.requires.here) c.index_mut-live.ensures.value (rw (sym c.self.view_is) at c.requires.caller) c.take_step.ensures w)
+    c.self.invariant (rw (sym c.self.view_is) at c.requires.here) c.index_mut-live.ensures.value (rw (sym c.self.view_is) at c.requires.caller) no_child c.take_step.ensures w)
 
 pub returns-clause-caller_after : goal.returns-clause-caller_after
 returns-clause-caller_after c =

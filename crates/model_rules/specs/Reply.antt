@@ -1,0 +1,83 @@
+-- What the rules answer a caller, what becomes of the caller, and what becomes of the spaces. What births and exits do
+-- to the processes stands apart (they depend on which pids are alive).
+use Rattle.std.specs.Prelude.{ℕ, length, ◌∷◌}
+use Rattle.cm_base.specs.declared.res.Res.{Res}
+use Rattle.cm_base.specs.declared.res.Res.TheVariants.{Done}
+use Rattle.model_cred.specs.Call.{Call, SetUid, SetReUid, SetResUid, SetFsUid, SetGid, SetReGid, SetResGid, SetFsGid, SetGroups, CapSet, BsetDrop, AmbRaise, AmbLower, AmbClear, SecureBits, KeepCaps, NoNewPrivs, Fork, CloneUser, Unshare, SetNs, WriteUidMap, WriteGidMap, WriteSetgroups, Exec, Exit}
+use Rattle.model_cred.specs.Credential.{Credential}
+use Rattle.model_cred.specs.Files.{FileTable}
+use Rattle.model_cred.specs.Space.{Spaces, space_of}
+use Rattle.model_rules.specs.Answer.{Answer, done}
+use Rattle.model_rules.specs.CapCalls.{capset, bset_drop, amb_raise, amb_lower, amb_clear, secure_bits, set_keep_caps, set_no_new_privs}
+use Rattle.model_rules.specs.Exec.{execve}
+use Rattle.model_rules.specs.Maps.{Written, write_uid_map, write_gid_map, write_setgroups}
+use Rattle.model_rules.specs.Namespaces.{create, created_by, join}
+use Rattle.model_rules.specs.SetGroups.{setgroups}
+use Rattle.model_rules.specs.SetId.{setuid, setreuid, setresuid, setfsuid, setgid, setregid, setresgid, setfsgid}
+
+-- What a call answers, and the space and the credential in which it leaves its caller.
+pub record Reply : Type 0 where
+  pub res : Res
+  pub space : ℕ
+  pub cred : Credential
+
+-- the caller stays in its space
+abbrev pub stays : ℕ → Answer → Reply
+stays at answer = record { res = answer.res; space = at; cred = answer.cred }
+
+-- the second space where the call is done, else the first
+abbrev pub place_after : Res → ℕ → ℕ → ℕ
+place_after Done at target = target
+place_after _ at target = at
+
+-- the caller goes to another space where the call is done
+abbrev pub goes_to : ℕ → ℕ → Answer → Reply
+goes_to at target answer = record { res = answer.res; space = place_after answer.res at target; cred = answer.cred }
+
+-- a write leaves its caller as it was
+abbrev pub writes : ℕ → Credential → Written → Reply
+writes at c w = record { res = w.res; space = at; cred = c }
+
+-- What the rules answer a caller in the space `at` with that credential. fork, clone and exit leave it as it was; of
+-- clone_user this is the refusal of a new space, if there is one.
+abbrev pub reply : FileTable → Spaces → ℕ → Credential → Call → Reply
+reply files spaces at c (SetUid id) = stays at (setuid (space_of spaces at) c id)
+reply files spaces at c (SetReUid r e) = stays at (setreuid (space_of spaces at) c r e)
+reply files spaces at c (SetResUid r e v) = stays at (setresuid (space_of spaces at) c r e v)
+reply files spaces at c (SetFsUid id) = stays at (setfsuid (space_of spaces at) c id)
+reply files spaces at c (SetGid id) = stays at (setgid (space_of spaces at) c id)
+reply files spaces at c (SetReGid r e) = stays at (setregid (space_of spaces at) c r e)
+reply files spaces at c (SetResGid r e v) = stays at (setresgid (space_of spaces at) c r e v)
+reply files spaces at c (SetFsGid id) = stays at (setfsgid (space_of spaces at) c id)
+reply files spaces at c (SetGroups ids) = stays at (setgroups (space_of spaces at) c ids)
+reply files spaces at c (CapSet effective permitted inheritable) = stays at (capset c effective permitted inheritable)
+reply files spaces at c (BsetDrop cap) = stays at (bset_drop c cap)
+reply files spaces at c (AmbRaise cap) = stays at (amb_raise c cap)
+reply files spaces at c (AmbLower cap) = stays at (amb_lower c cap)
+reply files spaces at c AmbClear = stays at (amb_clear c)
+reply files spaces at c (SecureBits bits) = stays at (secure_bits c bits)
+reply files spaces at c (KeepCaps argument) = stays at (set_keep_caps c argument)
+reply files spaces at c (NoNewPrivs argument) = stays at (set_no_new_privs c argument)
+reply files spaces at c Fork = stays at (done c)
+reply files spaces at c CloneUser = stays at (record (create spaces at c) { cred = c })
+reply files spaces at c Unshare = goes_to at (length spaces) (create spaces at c)
+reply files spaces at c (SetNs target) = goes_to at target (join spaces at c target)
+reply files spaces at c (WriteUidMap target list) = writes at c (write_uid_map spaces at c target list)
+reply files spaces at c (WriteGidMap target list) = writes at c (write_gid_map spaces at c target list)
+reply files spaces at c (WriteSetgroups target deny) = writes at c (write_setgroups spaces at c target deny)
+reply files spaces at c (Exec f) = stays at (execve files spaces at c f)
+reply files spaces at c Exit = stays at (done c)
+
+-- the spaces and the new one where it is made, else the spaces
+abbrev pub spaces_with : Res → Spaces → ℕ → Credential → Spaces
+spaces_with Done spaces at c = created_by spaces at c ∷ spaces
+spaces_with _ spaces at c = spaces
+
+-- The spaces after a call: making one adds the newest, a write changes one, and all other calls leave them.
+abbrev pub spaces_after : Spaces → ℕ → Credential → Call → Spaces
+spaces_after spaces at c CloneUser = spaces_with (create spaces at c).res spaces at c
+spaces_after spaces at c Unshare = spaces_with (create spaces at c).res spaces at c
+spaces_after spaces at c (WriteUidMap target list) = (write_uid_map spaces at c target list).spaces
+spaces_after spaces at c (WriteGidMap target list) = (write_gid_map spaces at c target list).spaces
+spaces_after spaces at c (WriteSetgroups target deny) = (write_setgroups spaces at c target deny).spaces
+spaces_after spaces at c _ = spaces
