@@ -30,7 +30,7 @@ pub record Included (c : Credential) : Type 0 where
   pub ambient_permitted : is_within c.ambient c.permitted ≡ true
   pub ambient_inheritable : is_within c.ambient c.inheritable ≡ true
 
--- an id: 4294967295 stands for none (credentials(7))
+-- an id: 4294967295 stands for none (user_namespaces(7), "User and group ID mappings: uid_map and gid_map")
 abbrev pub IsId : ℕ → Type 0
 IsId id = id < 4294967295
 

@@ -26,12 +26,12 @@ abbrev pub is_outside : List Extent → ℕ → Bool
 is_outside [] id = false
 is_outside (e ∷ map) id = if lies_in e.outside e.length id then true else is_outside map id
 
--- A map that isn't written maps nothing ("if the map isn't written, ids are unmapped").
+-- A map that isn't written maps nothing (a new namespace "starts out without a mapping of user IDs (group IDs)").
 abbrev pub extents_of : Option (List Extent) → List Extent
 extents_of None = []
 extents_of (Some map) = map
 
--- The outside ids of the map are ids: 4294967295 is none (credentials(7)).
+-- The outside ids of the map are ids: 4294967295, which is -1, is none ("unmapped and unusable").
 abbrev pub HasIds : List Extent → Type 0
 HasIds map = All (λ e. e.outside + e.length ≤ 4294967295) map
 

@@ -8,7 +8,7 @@ use Rattle.model_rules.specs.Answer.{Answer, done, refused}
 use Rattle.model_rules.specs.Caps.{cap_setpcap, last_cap}
 use Rattle.model_rules.specs.Securebits.{has_flag, keep_caps, no_cap_ambient_raise, lock_of, locks, locked_flags}
 
--- the caller may change its inheritable set, bounding set and securebits
+-- the caller has CAP_SETPCAP
 abbrev pub has_setpcap : Credential → Bool
 has_setpcap c = holds c.effective cap_setpcap
 

@@ -23,15 +23,17 @@ abbrev pub is_mapped_in : Space → Credential → Bool
 is_mapped_in s c = is_outside (extents_of s.uids) c.uid.effective && is_outside (extents_of s.gids) c.gid.effective
 
 -- Making a space, by unshare(2) for the caller or by clone(2) for the child: ENOSPC where the caller's space is at the
--- deepest level, then EPERM where the effective user or group id isn't mapped in it (the order is a choice).
+-- deepest level (unshare(2), "ERRORS"; user_namespaces(7) has its older name EUSERS), then EPERM where the effective user
+-- or group id isn't mapped in it (the order is a choice).
 abbrev pub create : Spaces → ℕ → Credential → Answer
 create spaces at c =
     if not (nat_lt (level spaces at) deepest) then refused ENOSPC c
     else if not (is_mapped_in (space_of spaces at) c) then refused EPERM c
     else done (as_newcomer c)
 
--- The space that a process in the space `at` makes: no maps yet, the setgroups word of the parent
--- (user_namespaces(7), "The /proc/pid/setgroups file").
+-- The space that a process in the space `at` makes: that is its parent, the effective user id its owner
+-- (user_namespaces(7), "Capabilities"); no maps yet, the setgroups word of the parent ("The /proc/pid/setgroups file"),
+-- and whether its maker has CAP_SETFCAP.
 abbrev pub created_by : Spaces → ℕ → Credential → Space
 created_by spaces at c = record {
   parent = Some at;

@@ -36,7 +36,7 @@ pub the_attribute_of_a_space_serves_there_and_below : Leads (world_of (p3 100000
     (three (with_net_raw 100005) (with_net_raw 101005) (user 300005))
 the_attribute_of_a_space_serves_there_and_below = refl
 
--- the attribute of the initial root serves everywhere, and not above the box
+-- the attribute of the initial root serves everywhere, that of the box's root not above the box
 pub the_attribute_of_the_initial_space_serves_everywhere : Leads (world_of (p3 0)) (three (user 100005) (user 101005) (user 300005))
     (done 11 (Exec (Row 0)) ∷ done 12 (Exec (Row 0)) ∷ done 13 (Exec (Row 0)) ∷ [])
     (three (with_net_raw 100005) (with_net_raw 101005) (with_net_raw 300005))
@@ -89,7 +89,7 @@ su_of uid gid = record file { uid = uid; gid = gid; mode = 0o4755 }
 abbrev in_box : Credential → State
 in_box c = record { processes = in_space 1 100 c ∷ []; spaces = space 0 1000 (ids 0 100000 65536 ∷ []) ∷ first_spaces }
 
--- the root of the space gets all by a program of its own root
+-- a user of the space gets all by a set-user-ID program of the space's root
 pub a_program_of_the_space_s_root_gives_all : Leads (world_of (su_of 100000 100000)) (in_box (user 100005))
     (done 100 (Exec (Row 0)) ∷ [])
     (in_box (record (user 100005) { uid = with_real 100005 100000; permitted = full; effective = full }))

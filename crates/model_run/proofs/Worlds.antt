@@ -19,7 +19,8 @@ use Rattle.model_run.specs.Step.{Outcome, Goes, NoProcess, NoSpace, PidInUse, Wr
 abbrev pub unchanged : ℕ
 unchanged = 4294967295
 
--- a credential with these user ids' effective one as all four, group ids 0, all capabilities for user 0 and none else
+-- a credential with that id as all four user ids, group ids 0, and all capabilities permitted and effective for user 0
+-- alone
 abbrev pub user : ℕ → Credential
 user id = record {
   uid = all_four id;
@@ -50,7 +51,7 @@ with_processes processes = record { processes = processes; spaces = first_spaces
 abbrev pub one : Credential → State
 one c = with_processes (process 100 c ∷ [])
 
--- a space with these maps, whose setgroups word is "allow", made without CAP_SETFCAP
+-- a space with that map for users and for groups, whose setgroups word is "allow", made without CAP_SETFCAP
 abbrev pub space : ℕ → ℕ → List Extent → Space
 space parent owner map = record { parent = Some parent; owner = owner; uids = Some map; gids = Some map; deny = false; creator_setfcap = false }
 
