@@ -1,8 +1,9 @@
 -- Declared mounts and files.
-use Rattle.std.specs.Prelude.{ℕ, Bool, false, List, Option, None, IfSome, All}
+use Rattle.std.specs.Prelude.{◌≡◌, ℕ, ◌<◌, Bool, false, length, slice_get, List, Option, None, IfSome, IsSomeAnd, All}
 use Rattle.cm_base.specs.CapSet.{IsCapSet}
 use Rattle.model_cred.specs.Credential.{IsId}
 use Rattle.model_cred.specs.IdMap.{HasIds, Extent, initial_map}
+use Rattle.model_cred.specs.MapFault.{IsMap}
 
 -- A map of user ids and a map of group ids.
 pub record MapPair : Type 0 where
@@ -62,17 +63,26 @@ pub record KeepsRow (row : FileRow) : Type 0 where
   pub gid : IsId row.gid
   pub caps : IfSome row.caps KeepsCaps
 
--- What two maps keep: their outside ids are ids.
+-- What two maps keep: they are maps, and their outside ids are ids.
 pub record KeepsPair (maps : MapPair) : Type 0 where
   pub uids : HasIds maps.uids
   pub gids : HasIds maps.gids
+  pub uid_map : IsMap maps.uids
+  pub gid_map : IsMap maps.gids
 
 -- What a mount keeps: so do its filesystem's maps and its own.
 pub record KeepsMount (m : Mount) : Type 0 where
   pub fs : KeepsPair m.fs
   pub map : IfSome m.map KeepsPair
 
--- What the declared mounts and files keep.
+-- The row of that number is there, and is no script.
+abbrev pub IsProgram : List FileRow → ℕ → Type 0
+IsProgram rows n = IsSomeAnd (slice_get rows n) (λ row. row.interpreter ≡ None)
+
+-- What the declared mounts and files keep: each mount and each row by itself, each row's mount is in the table, and
+-- each interpreter is a row that is no script itself.
 pub record KeepsFiles (files : FileTable) : Type 0 where
   pub mounts : All KeepsMount files.mounts
   pub rows : All KeepsRow files.rows
+  pub mounted : All (λ row. row.mount < length files.mounts) files.rows
+  pub interpreters : All (λ row. IfSome row.interpreter (IsProgram files.rows)) files.rows

@@ -1,6 +1,6 @@
 -- Which lists of extents are a map (user_namespaces(7), "Defining user and group ID mappings: writing to uid_map and
 -- gid_map": the validity rules).
-use Rattle.std.specs.Prelude.{ℕ, ◌+◌, ◌==◌, ◌&&◌, ◌||◌, Bool, nat_lt, is_none, length, List, [], ◌∷◌, Option, None, Some, if◌then◌else◌}
+use Rattle.std.specs.Prelude.{ℕ, IsTrue, ◌+◌, ◌==◌, ◌&&◌, ◌||◌, Bool, nat_lt, is_none, length, List, [], ◌∷◌, Option, None, Some, if◌then◌else◌}
 use Rattle.std.specs.Option.{option_or}
 use Rattle.model_cred.specs.IdMap.{Extent}
 
@@ -53,3 +53,7 @@ map_fault list =
 -- the list is a map
 abbrev pub is_map : List Extent → Bool
 is_map list = is_none (map_fault list)
+
+-- The list is a map.
+abbrev pub IsMap : List Extent → Type 0
+IsMap list = IsTrue (is_map list)

@@ -1,5 +1,5 @@
 -- The world: what is declared before a log begins.
-use Rattle.std.specs.Prelude.{ℕ, List}
+use Rattle.std.specs.Prelude.{ℕ, ◌<◌, length, List, All}
 use Rattle.model_cred.specs.CallKind.{Filter}
 use Rattle.model_cred.specs.Files.{FileTable, KeepsFiles}
 use Rattle.model_cred.specs.Process.{State, KeepsState}
@@ -18,7 +18,9 @@ pub record World : Type 0 where
   pub filter : Filter
   pub form : LogForm
 
--- What every world keeps: its state has what a state keeps, and its files what files keep.
+-- What every world keeps: its state has what a state keeps, its files what files keep, and the space of each mount
+-- stands (spaces never go, so it stands after each step too).
 pub record KeepsWorld (w : World) : Type 0 where
   pub start : KeepsState w.start
   pub files : KeepsFiles w.files
+  pub mounts : All (λ m. m.space < length w.start.spaces) w.files.mounts
