@@ -66,7 +66,7 @@ def refused_allocation(example, number):
 
 
 def allocations(example, jobs):
-    counts, whole, number, good = collections.Counter(), 0, 0, True
+    counts, whole, number, good, spared = collections.Counter(), 0, 0, True, []
     with concurrent.futures.ThreadPoolExecutor(jobs) as pool:
         while whole < IN_A_ROW:
             numbers = range(number + 1, number + 1 + jobs)
@@ -76,11 +76,14 @@ def allocations(example, jobs):
                     print(f"allocation {number}: status {got[0]}, {len(got[1])} bytes that are no right answer")
                     good = False
                 whole = whole + 1 if answer == "whole report" else 0
+                spared += [str(number)] if whole else []
                 counts[answer or "wrong"] += 1
                 if whole == IN_A_ROW:
                     break
     counts["whole report"] -= IN_A_ROW
     show(f"allocations: {number - IN_A_ROW} refused, one a run", counts)
+    if spared[:-IN_A_ROW]:
+        print("  (the whole report came where these were refused: " + ", ".join(spared[:-IN_A_ROW]) + ")")
     return good
 
 
