@@ -1,14 +1,12 @@
 -- That valid input without faults is accepted, or memory ran out.
-use Rattle.std.proofs.Common.{◌≡◌, ◌≢◌, ◌⊎◌, ◌↔◌, ◌<◌, ◌≤◌, ◌^◌, ◌-◌, ℕ, List, Option, inl, inr, refl, sym, ap, ◌∙◌, arith}
+use Rattle.std.proofs.Common.{◌≡◌, ◌≢◌, ℕ, List, inl, inr, refl, arith}
 use Rattle.cm_base.specs.declared.status.Status.{Status}
 use Rattle.cm_base.specs.declared.status.Status.TheVariants as answers
 use Rattle.cm_cli.specs.Answers.{report_over, ComesByCause, IsValid, IsAcceptedOrNoMemory, NoneRose, NamesFault}
 use Rattle.cm_cli.specs.Telling.{IsTold}
 use Rattle.cm_io.specs.Shelf.{Files, bytes_at, Rose}
 use Rattle.model_text.proofs.Statuses.{each_by_its_cause}
-use Rattle.model_text.specs.Causes.{Cause}
 use Rattle.model_text.specs.Laws.{EachByItsCause}
-use Rattle.model_text.specs.Report.{report}
 
 -- the answer's cause, from its being the report's status
 pub by_cause : (words : List (List ℕ)) (files : Files) (answer : Status) → answer ≡ (report_over words files).status → ComesByCause words files answer

@@ -1,7 +1,7 @@
 -- The first line of a text.
-use Rattle.std.proofs.Common.{◌≡◌, ◌≢◌, ℕ, zero, suc, ◌<◌, ◌≤◌, ◌+◌, ◌==◌, true, false, Bool, length, List, [], ◌∷◌, refl, sym, ◌∙◌, ap, arith, get_or, take, drop, cond, nat_eq, length-drop, ◌-◌}
+use Rattle.std.proofs.Common.{◌≡◌, ◌≢◌, ℕ, zero, suc, ◌<◌, ◌≤◌, length, List, [], ◌∷◌, refl, ◌∙◌, ap, arith, get_or, take, drop, length-drop, ◌-◌}
 use Rattle.std.proofs.lemmas.List.{take_all, drop_all}
-use Rattle.model_text.specs.Cut.{lines_of, grown}
+use Rattle.model_text.specs.Cut.{lines_of}
 
 -- a byte before a line is its first byte
 longer : (b : ℕ) (bs : List ℕ) (line : List ℕ) (others : List (List ℕ)) → b ≢ 10 → lines_of bs ≡ line ∷ others → lines_of (b ∷ bs) ≡ (b ∷ line) ∷ others

@@ -1,5 +1,5 @@
 -- Processes whose pids ascend, by their places.
-use Rattle.std.proofs.Common.{◌≡◌, ◌≢◌, ℕ, zero, suc, ◌<◌, ◌≤◌, ◌+◌, ◌==◌, true, false, length, List, [], ◌∷◌, Option, Some, None, refl, sym, ◌∙◌, ap, arith, cond, nat_eq, get_or, slice_get, slice_set, slice_index_or, add-one}
+use Rattle.std.proofs.Common.{◌≡◌, ◌≢◌, ℕ, zero, suc, ◌<◌, ◌≤◌, ◌+◌, length, List, [], ◌∷◌, Some, None, refl, sym, ap, arith, get_or, slice_get, slice_set}
 use Rattle.cm_cli.specs.Machine.{pid_at}
 use Rattle.model_cred.specs.Process.{Process, Ascends, process_at, put_process}
 

@@ -1,13 +1,13 @@
 -- What the replay of a log in a world answers, by how its files were read.
-use Rattle.std.proofs.Common.{◌≡◌, ◌≢◌, ◌≤◌, ◌⊎◌, ◌+◌, ℕ, List, [], ◌∷◌, Option, None, Some, Result, Ok, Err, refl, sym, ap, ◌∙◌, le_of_eq, arith}
+use Rattle.std.proofs.Common.{◌≡◌, ◌≢◌, ◌≤◌, ◌⊎◌, ◌+◌, ℕ, List, [], ◌∷◌, Option, None, Some, refl, sym, ap, ◌∙◌, le_of_eq}
 use Rattle.std.specs.Prelude.{IfSome}
 use Rattle.cm_base.specs.declared.status.Status.{Status}
 use Rattle.cm_base.specs.declared.status.Status.TheVariants as answers
 use Rattle.cm_cli.proofs.Waiting.{all_waits}
-use Rattle.cm_cli.specs.Answers.{ReplayAnswer, WritesReport, CountsStay}
+use Rattle.cm_cli.specs.Answers.{ReplayAnswer}
 use Rattle.cm_cli.specs.Machine.{state_of, world_of}
 use Rattle.cm_cli.specs.Reading.{WorldStands}
-use Rattle.cm_cli.specs.Telling.{IsTold, Tells, short_report, log_report}
+use Rattle.cm_cli.specs.Telling.{Tells, short_report, log_report}
 use Rattle.cm_cli.specs.declared.telling.Short.{Short}
 use Rattle.cm_cli.specs.declared.telling.Short.TheVariants as short
 use Rattle.cm_io.specs.Shelf.{Files, bytes_at, Rose}
@@ -17,7 +17,7 @@ use Rattle.model_cred.specs.World.{World}
 use Rattle.model_run.specs.Step.{Outcome, Goes, NoProcess, NoSpace, PidInUse, Wrong, outcome}
 use Rattle.model_text.specs.Cut.{lines_of}
 use Rattle.model_text.specs.Line.{Line, NoEvent, Tells as TellsEvent, Faulty, Unbuilt, script_line}
-use Rattle.model_text.specs.Report.{Report, replay, replayed, by_line, by_outcome, text_of}
+use Rattle.model_text.specs.Report.{Report, replay, replayed, by_line, by_outcome}
 
 -- a fact of what is told, from another
 pub if_told : {T : Type 0} {P Q : T → Type 0} (o : Option T) → IfSome o P → ((x : T) → P x → Q x) → IfSome o Q

@@ -1,6 +1,6 @@
 -- The first token of a line.
-use Rattle.std.proofs.Common.{◌≡◌, ℕ, zero, suc, ◌<◌, ◌≤◌, true, false, Bool, length, List, [], ◌∷◌, refl, sym, ◌∙◌, ap, arith, get_or, take, drop, cond}
-use Rattle.model_text.specs.Cut.{tokens_of, is_blank, goes_on, grown}
+use Rattle.std.proofs.Common.{◌≡◌, ℕ, zero, suc, ◌<◌, ◌≤◌, true, false, length, List, [], ◌∷◌, refl, arith, get_or, take, drop}
+use Rattle.model_text.specs.Cut.{tokens_of, is_blank, goes_on}
 
 -- a byte before a token that goes on is its first byte
 extend : (b : ℕ) (bs : List ℕ) (token : List ℕ) (others : List (List ℕ)) → is_blank b ≡ false → goes_on bs ≡ true → tokens_of bs ≡ token ∷ others → tokens_of (b ∷ bs) ≡ (b ∷ token) ∷ others

@@ -1,12 +1,12 @@
 -- A report that is told, or that stops.
-use Rattle.std.proofs.Common.{◌≡◌, ◌≢◌, ◌≤◌, ◌+◌, ℕ, List, [], ◌∷◌, ◌++◌, map, append-nil, le_of_eq, Option, Result, Ok, Err, refl, sym, ap, ◌∙◌, arith}
+use Rattle.std.proofs.Common.{◌≡◌, ◌≢◌, ◌≤◌, ◌+◌, ℕ, List, [], ◌∷◌, ◌++◌, map, append-nil, le_of_eq, Option, refl, sym, ap, ◌∙◌}
 use Rattle.cm_base.specs.declared.status.Status.{Status}
 use Rattle.cm_base.specs.declared.status.Status.TheVariants as answers
 use Rattle.cm_cli.proofs.ReportText.{text_of_append}
 use Rattle.cm_cli.specs.Machine.{state_of, world_of}
 use Rattle.cm_cli.specs.Sent.{IsSent, IsFront}
 use Rattle.cm_cli.specs.Telling.{IsTold, Tells, stopped_by, log_report}
-use Rattle.cm_io.specs.Sink.{then_written, WriteFaults}
+use Rattle.cm_io.specs.Sink.{then_written}
 use Rattle.cm_io.specs.declared.outside.Outside.{Outside}
 use Rattle.cm_io.specs.declared.outside.Outside.TheVariants as outside
 use Rattle.cm_io.specs.Shelf.{Rose}
@@ -17,7 +17,7 @@ use Rattle.model_cred.specs.Process.{State}
 use Rattle.model_cred.specs.World.{World}
 use Rattle.model_run.specs.Step.{Outcome, Goes, NoProcess, NoSpace, PidInUse, Wrong, outcome}
 use Rattle.model_text.specs.Line.{Line, NoEvent, Tells as TellsEvent, Faulty, Unbuilt, script_line}
-use Rattle.model_text.specs.Report.{Report, Credentials, text_of, replayed, start_lines, by_line, by_outcome}
+use Rattle.model_text.specs.Report.{Report, Credentials, text_of, replayed, by_line, by_outcome}
 
 -- a report that stopped at an error: a front of it is written
 pub stops : (r : Report) (why : Outside) (answer : Status) (w w' : Option (List ℕ)) (f f' : ℕ) → answer ≡ stopped_by why → IsFront w w' (text_of r.lines)

@@ -1,8 +1,8 @@
 -- The turn of one process is the step of the machine.
-use Rattle.std.proofs.Common.{◌≡◌, ℕ, zero, suc, ◌<◌, true, false, Bool, length, List, [], ◌∷◌, Option, Some, None, refl, sym, ◌∙◌, ap, arith, subst, get_or, slice_get, slice_set, cond}
+use Rattle.std.proofs.Common.{◌≡◌, ℕ, zero, suc, ◌<◌, true, false, Bool, length, List, [], ◌∷◌, Option, Some, sym, ◌∙◌, ap, arith, subst, get_or, slice_get, slice_set, cond}
 use Rattle.cm_base.specs.declared.res.Res.{Res}
 use Rattle.cm_cli.proofs.Places.{pid_of_at, get_of_at, found_at, put_ascends, put_at, pid_of_put}
-use Rattle.cm_cli.specs.Machine.{pid_at, state_of, IsTurn}
+use Rattle.cm_cli.specs.Machine.{state_of, IsTurn}
 use Rattle.cm_cli.specs.Turns.{IsLiveTurn, IsToldTurn, initial_answer, is_setresuid}
 use Rattle.cm_cli.specs.declared.processes.Turn.{Turn}
 use Rattle.cm_cli.specs.declared.processes.Turn.TheVariants as turn
@@ -14,7 +14,7 @@ use Rattle.model_rules.specs.Answer.{Answer}
 use Rattle.model_rules.specs.SetId.{setresuid}
 use Rattle.model_run.specs.Outside.{comes_from_outside}
 use Rattle.model_run.specs.Same.{same_res}
-use Rattle.model_run.specs.Step.{Outcome, Goes, NoSpace, PidInUse, Wrong, outcome, outcome_for, told_call, names_no_space, is_living_child, with_cred}
+use Rattle.model_run.specs.Step.{Goes, NoSpace, PidInUse, Wrong, outcome, outcome_for, told_call, names_no_space, is_living_child, with_cred}
 use Rattle.std.specs.Prelude.{MatchBool}
 
 -- a process put back unchanged leaves the list as it was

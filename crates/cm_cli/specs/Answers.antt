@@ -8,7 +8,7 @@ use Rattle.cm_cli.specs.Telling.{IsTold}
 use Rattle.cm_io.specs.Shelf.{Files, bytes_at, Rose}
 use Rattle.cm_io.specs.Sink.{then_written}
 use Rattle.model_text.specs.Causes.{Cause}
-use Rattle.model_text.specs.Command.{Command, Replay, NoForm, command_of}
+use Rattle.model_text.specs.Command.{Replay, command_of}
 use Rattle.model_text.specs.Report.{Report, report, replay, text_of}
 
 -- the report of the words over files

@@ -1,9 +1,7 @@
 -- The state and the world of a list of processes, all in the initial user namespace, and what a call comes to there.
-use Rattle.std.specs.Prelude.{◌≡◌, ℕ, zero, suc, List, [], ◌∷◌, Option, Some, None, Result, Ok, Err, if◌then◌else◌}
-use Rattle.cm_base.specs.declared.res.Res.{Res}
+use Rattle.std.specs.Prelude.{◌≡◌, ℕ, zero, suc, List, [], ◌∷◌}
 use Rattle.cm_cli.specs.declared.processes.Turn.{Turn}
 use Rattle.cm_cli.specs.declared.processes.Turn.TheVariants as turn
-use Rattle.model_cred.specs.Call.{Event}
 use Rattle.model_cred.specs.Process.{Process, State}
 use Rattle.model_cred.specs.Space.{first_spaces}
 use Rattle.model_cred.specs.CallKind.{no_filter}

@@ -1,5 +1,5 @@
 -- What the files of a replay come to, where the shelf tells what it holds, and the counts of its faults.
-use Rattle.std.specs.Prelude.{◌≡◌, ◌≢◌, ◌⊎◌, ◌≤◌, ◌<◌, ℕ, length, List, Option, Result, Ok, Err, Vec}
+use Rattle.std.specs.Prelude.{◌≡◌, ◌≢◌, ◌⊎◌, ◌≤◌, ◌<◌, ℕ, length, List, Result, Ok, Err, Vec}
 use Rattle.std.specs.declared.alloc.Global.{Global}
 use Rattle.cm_cli.specs.Machine.{world_of}
 use Rattle.cm_cli.specs.Telling.{short_report, log_report}
@@ -12,7 +12,7 @@ use Rattle.cm_io.specs.declared.whole.WholeError.{WholeError}
 use Rattle.cm_io.specs.declared.whole.WholeError.TheVariants as whole
 use Rattle.model_cred.specs.Process.{Process}
 use Rattle.model_cred.specs.World.{World}
-use Rattle.model_text.specs.Report.{Report, replay, world_limit, log_limit}
+use Rattle.model_text.specs.Report.{Report, world_limit, log_limit}
 use Rattle.model_text.specs.WorldText.{WorldText, Reads, Bad, NotBuilt, world_text}
 
 -- the bytes of a world, within the limit, read so

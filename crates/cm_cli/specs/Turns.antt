@@ -1,5 +1,5 @@
 -- What the call of one process comes to, in the initial user namespace.
-use Rattle.std.specs.Prelude.{◌≡◌, Bool, true, false, MatchBool, ℕ}
+use Rattle.std.specs.Prelude.{◌≡◌, Bool, true, false, MatchBool}
 use Rattle.cm_base.specs.declared.res.Res.{Res}
 use Rattle.cm_cli.specs.declared.processes.Turn.{Turn}
 use Rattle.cm_cli.specs.declared.processes.Turn.TheVariants as turn

@@ -17,3 +17,6 @@ mod writing;
 pub use cm_base::Status;
 pub use commands::{run, run_surely};
 pub use laws::{accepted_is_run, each_by_its_cause, impossible_is_no_step};
+
+#[cfg(test)]
+mod tests;

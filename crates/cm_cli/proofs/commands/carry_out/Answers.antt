@@ -1,4 +1,4 @@
-use Rattle.std.proofs.Common.{◌≡◌, ◌∙◌, sym, ap}
+use Rattle.std.proofs.Common.{◌∙◌, sym, ap}
 use Rattle.cm_cli.proofs.Replaying.{if_told}
 use Rattle.cm_cli.specs.Words.{command_view, bytes_of}
 use Rattle.model_text.specs.Command.{command_of}

@@ -1,10 +1,8 @@
-use Rattle.std.proofs.Common.{◌≡◌, ◌≢◌, ◌∙◌, sym, ap, Err, refl}
+use Rattle.std.proofs.Common.{ap, Err, refl}
 use Rattle.cm_cli.proofs.Replaying.{answers_report, answers_read_fault, answers_no_memory, log_not_usage, short_not_usage, if_told}
 use Rattle.cm_cli.proofs.commands.run_replay.Goals as goal
 use Rattle.cm_cli.specs.Telling.{short_report, log_report}
-use Rattle.cm_cli.specs.declared.reading.Unready.{Unready}
 use Rattle.cm_cli.specs.declared.reading.Unready.TheVariants as unready
-use Rattle.cm_cli.specs.declared.telling.Short.TheVariants as short
 
 pub returns-in-Ok-clause-answer : goal.returns-in-Ok-clause-answer
 returns-in-Ok-clause-answer g c =

@@ -1,7 +1,7 @@
-use Rattle.std.proofs.Common.{◌≡◌, ◌∷◌, List, ℕ, sym, ◌∙◌, true, [], arith, refl}
+use Rattle.std.proofs.Common.{◌≡◌, sym, ◌∙◌, true, arith, refl}
 use Rattle.cm_cli.proofs.Tokens.{token_front}
 use Rattle.cm_cli.proofs.line.next_token.Goals as goal
-use Rattle.model_text.specs.Cut.{tokens_of, goes_on}
+use Rattle.model_text.specs.Cut.{goes_on}
 
 pub returns : goal.returns
 returns c =

@@ -1,4 +1,4 @@
-use Rattle.std.proofs.Common.{◌≡◌, ◌≢◌, ℕ, ◌<◌, ◌≤◌, ◌+◌, ◌-◌, ◌/◌, length, sym, ◌∙◌, ap, arith, subst}
+use Rattle.std.proofs.Common.{◌≡◌, ◌<◌, ◌+◌, ◌-◌, ◌/◌, length, sym, ◌∙◌, ap, arith}
 use Rattle.cm_cli.specs.Machine.{pid_at}
 use Rattle.cm_cli.proofs.Places.{pid_of_at, below_up_to, above_from, found_at, not_found}
 use Rattle.cm_cli.proofs.processes.place_of.Goals as goal

@@ -1,4 +1,4 @@
-use Rattle.std.proofs.Common.{◌-◌, ◌≡◌, ◌<◌, ◌≤◌, length, ℕ}
+use Rattle.std.proofs.Common.{◌-◌, ◌<◌, ◌≤◌, length, ℕ}
 use Rattle.cm_cli.specs.Machine.{pid_at}
 use Rattle.cm_cli.proofs.processes.place_of.Given as goal
 

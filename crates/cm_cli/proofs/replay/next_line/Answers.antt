@@ -1,4 +1,4 @@
-use Rattle.std.proofs.Common.{◌≡◌, ◌≢◌, ℕ, suc, ◌<◌, ◌+◌, ◌-◌, length, List, [], ◌∷◌, take, drop, refl, sym, ◌∙◌, ap, arith, get_or}
+use Rattle.std.proofs.Common.{arith}
 use Rattle.cm_cli.proofs.FirstLine.{first_line_whole, first_line_cut}
 use Rattle.cm_cli.proofs.replay.next_line.Goals as goal
 

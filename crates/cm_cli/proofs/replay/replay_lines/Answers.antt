@@ -1,10 +1,7 @@
-use Rattle.std.proofs.Common.{◌≡◌, ℕ, ◌<◌, ◌≤◌, ◌+◌, List, ◌++◌, length, refl, sym, ◌∙◌, ap, arith}
+use Rattle.std.proofs.Common.{sym, ◌∙◌, arith}
 use Rattle.cm_cli.proofs.LogTurns.{next_status, next_waits}
 use Rattle.cm_cli.proofs.Waiting.{sent_on, front_on, more_waits, front_of_more, waits_as}
 use Rattle.cm_cli.proofs.replay.replay_lines.Goals as goal
-use Rattle.cm_cli.specs.Machine.{state_of}
-use Rattle.model_text.specs.Cut.{lines_of}
-use Rattle.model_text.specs.Report.{text_of, replayed}
 
 pub returns-in-Err-clause-stopped : goal.returns-in-Err-clause-stopped
 returns-in-Err-clause-stopped g c = λ w. (_, c.loop-line.invariant.sent w)

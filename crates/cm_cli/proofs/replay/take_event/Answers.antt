@@ -1,4 +1,4 @@
-use Rattle.std.proofs.Common.{◌≡◌, ℕ, List, [], ◌∷◌, ◌++◌, ap, ◌∙◌, sym, append_assoc}
+use Rattle.std.proofs.Common.{ℕ, List, [], ◌∷◌, ◌++◌, ap, ◌∙◌, sym, append_assoc}
 use Rattle.cm_cli.proofs.LogTurns.{goes_on_after, ends_at_wrong, ends_at_pid_in_use}
 use Rattle.cm_cli.proofs.replay.take_event.Goals as goal
 use Rattle.model_text.specs.Report.{text_of, Told, Credentials, impossible}

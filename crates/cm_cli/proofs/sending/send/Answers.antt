@@ -1,4 +1,4 @@
-use Rattle.std.proofs.Common.{◌≡◌, List, ℕ, take, ◌∙◌, ap}
+use Rattle.std.proofs.Common.{List, ℕ, take, ◌∙◌, ap}
 use Rattle.cm_cli.proofs.Waiting.{taken}
 use Rattle.cm_cli.proofs.sending.send.Goals as goal
 use Rattle.cm_io.specs.Sink.{then_written}

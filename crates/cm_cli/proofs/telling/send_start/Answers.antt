@@ -1,11 +1,8 @@
-use Rattle.std.proofs.Common.{◌≡◌, ◌∙◌}
+use Rattle.std.proofs.Common.{◌∙◌}
 use Rattle.cm_cli.proofs.Starting.{start_step}
 use Rattle.cm_cli.proofs.Waiting.{sent_on, front_on, more_waits, front_of_more, waits_as}
 use Rattle.cm_cli.proofs.telling.send_start.Goals as goal
-use Rattle.std.proofs.Common.{List, ℕ, ◌++◌, map, sym, ap}
-use Rattle.cm_cli.specs.Sent.{IsSent, IsFront}
-use Rattle.model_cred.specs.Process.{Process}
-use Rattle.model_text.specs.Report.{Credentials, text_of}
+use Rattle.std.proofs.Common.{sym}
 
 pub returns-in-Err-send_full-clause-stopped : goal.returns-in-Err-send_full-clause-stopped
 returns-in-Err-send_full-clause-stopped g c =

@@ -1,12 +1,10 @@
-use Rattle.std.proofs.Common.{◌≡◌, ◌∙◌, ◌++◌, List, ℕ, [], map, sym, ap, Err, arith}
+use Rattle.std.proofs.Common.{◌∙◌, sym, ap, Err}
 use Rattle.cm_cli.proofs.Told.{stops, tells_whole, log_text, replayed_told}
-use Rattle.cm_cli.proofs.Waiting.{sent_on, front_on, more_waits, front_of_longer, waits_as}
+use Rattle.cm_cli.proofs.Waiting.{sent_on, front_on, more_waits, front_of_longer}
 use Rattle.cm_cli.proofs.telling.tell_log.Goals as goal
 use Rattle.cm_cli.specs.Machine.{state_of, world_of}
-use Rattle.cm_cli.specs.Sent.{IsSent, IsFront}
 use Rattle.cm_cli.specs.Telling.{log_report}
 use Rattle.model_text.specs.Cut.{lines_of}
-use Rattle.model_text.specs.Report.{Credentials, text_of, replayed}
 
 pub returns-in-Err : goal.returns-in-Err
 returns-in-Err g c =

@@ -1,10 +1,9 @@
-use Rattle.std.proofs.Common.{◌≡◌, ◌<◌, length, List, slice_get, slice_set, get_or, false, sym, subst, rules, ◌∙◌, ap}
+use Rattle.std.proofs.Common.{◌≡◌, List, slice_set, false, sym, subst, rules, ◌∙◌, ap}
 use Rattle.cm_cli.proofs.Turns.{turned, turned_ascends, turned_found}
 use Rattle.cm_cli.proofs.processes.Processes.step_at.Goals as goal
 use Rattle.cm_cli.specs.Machine.{IsTurn, state_of}
 use Rattle.model_cred.specs.Call.{Event}
-use Rattle.model_cred.specs.Process.{Process, process_at}
-use Rattle.model_cred.specs.World.{World}
+use Rattle.model_cred.specs.Process.{Process}
 use Rattle.model_run.specs.Step.{outcome, is_living_child}
 
 pub invariant_of-self : goal.invariant_of-self
