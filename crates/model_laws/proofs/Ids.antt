@@ -1,0 +1,166 @@
+-- The calls that set ids give ids.
+use Rattle.std.proofs.Common.{◌≡◌, ℕ, ◌+◌, ◌-◌, ◌<◌, ◌≤◌, ◌==◌, ◌&&◌, ◌||◌, not, Bool, true, false, List, [], ◌∷◌, Option, Some, None, if◌then◌else◌, refl, sym, ◌∙◌, inl, inr, subst, arith}
+use Rattle.std.specs.Prelude.{Result, Ok, option_and_then, option_map, nat_le, nat_lt}
+use Rattle.std.specs.declared.result.Result.TheVariants.{Err}
+use Rattle.std.proofs.lemmas.Bool.{cases_Bool, eqb-false, ltb-true, ltb-false, leb-true, cond-true, cond-false, and_parts}
+use Rattle.std.proofs.lemmas.List.Elements.{All-head, All-tail}
+use Rattle.cm_base.specs.declared.errno.Errno.{Errno}
+use Rattle.cm_base.specs.declared.errno.Errno.TheVariants.{EPERM, EINVAL}
+use Rattle.model_cred.specs.Credential.{FourIds, AreIds, AscendFrom, IsId, insert_id, id_set, all_four, is_one_of_three}
+use Rattle.model_cred.specs.IdMap.{Extent, HasIds, down, lies_in}
+use Rattle.model_rules.specs.SetGroups.{all_down}
+use Rattle.model_rules.specs.SetId.{asked, minus_one, one_mapped, both_mapped, all_mapped, set_res, set_re, set_one, set_fs, with_fs, saved_after, is_given}
+
+-- what holds of both holds of the one that a test chooses
+pub either : {A : Type 0} (P : A → Type 0) (b : Bool) (x y : A) → P x → P y → P (if b then x else y)
+either P true x y first second = first
+either P false x y first second = second
+
+-- the outside ids of one line are ids
+abbrev pub FitsIds : Extent → Type 0
+FitsIds e = e.outside + e.length ≤ 4294967295
+
+-- a map whose outside ids are ids gives ids
+pub down_id : (map : List Extent) (id out : ℕ) → HasIds map → down map id ≡ Some out → IsId out
+down_id [] id out ids is = absurd (cc)
+down_id (e ∷ map) id out ids is =
+    elim (cases_Bool (lies_in e.inside e.length id)) [
+      | inl within ↦
+          let it : Some (e.outside + (id - e.inside)) ≡ Some out = sym (cond-true (lies_in e.inside e.length id) (Some (e.outside + (id - e.inside))) (down map id) within) ∙ is in
+          let e_is : e.outside + (id - e.inside) ≡ out = cc in
+          let parts : (nat_le e.inside id ≡ true) × (nat_lt id (e.inside + e.length) ≡ true) = and_parts _ _ within in
+          let low : e.inside ≤ id = leb-true e.inside id parts.0 in
+          let high : id < e.inside + e.length = ltb-true id (e.inside + e.length) parts.1 in
+          let fits : e.outside + e.length ≤ 4294967295 = All-head FitsIds e map ids in
+          omega arith
+      | inr outside ↦
+          down_id map id out (All-tail FitsIds e map ids) (sym (cond-false (lies_in e.inside e.length id) (Some (e.outside + (id - e.inside))) (down map id) outside) ∙ is)
+    ]
+
+-- what is asked for is an id
+pub asked_id : (map : List Extent) (old given id : ℕ) → HasIds map → IsId old → asked map old given ≡ Some id → IsId id
+asked_id map old given id ids small is =
+    elim (cases_Bool (given == minus_one)) [
+      | inl same ↦
+          let it : Some old ≡ Some id = sym (cond-true (given == minus_one) (Some old) (down map given) same) ∙ is in
+          let e : old ≡ id = cc in
+          omega arith
+      | inr other ↦ down_id map given id ids (sym (cond-false (given == minus_one) (Some old) (down map given) other) ∙ is)
+    ]
+
+-- the new ids, if there are any, are ids
+pub record GivesIds (r : Result FourIds Errno) : Type 0 where
+  pub ids : (ids : FourIds) → r ≡ Ok ids → AreIds ids
+
+gives_ok : (ids : FourIds) → AreIds ids → GivesIds (Ok ids)
+gives_ok ids are = record { ids = λ others is. let e : ids ≡ others = cc in subst AreIds e are }
+
+gives_error : (e : Errno) → GivesIds (Err e)
+gives_error e = record { ids = λ ids wrong. absurd (cc) }
+
+one_gives : (o : Option ℕ) (f : ℕ → Result FourIds Errno) → ((a : ℕ) → o ≡ Some a → GivesIds (f a)) → GivesIds (one_mapped o f)
+one_gives None f gives = gives_error EINVAL
+one_gives (Some a) f gives = gives a refl
+
+both_give : (o p : Option ℕ) (f : ℕ → ℕ → Result FourIds Errno) → ((a b : ℕ) → o ≡ Some a → p ≡ Some b → GivesIds (f a b)) → GivesIds (both_mapped o p f)
+both_give None p f gives = gives_error EINVAL
+both_give (Some a) None f gives = gives_error EINVAL
+both_give (Some a) (Some b) f gives = gives a b refl refl
+
+all_give : (o p q : Option ℕ) (f : ℕ → ℕ → ℕ → Result FourIds Errno)
+    → ((a b c : ℕ) → o ≡ Some a → p ≡ Some b → q ≡ Some c → GivesIds (f a b c)) → GivesIds (all_mapped o p q f)
+all_give None p q f gives = gives_error EINVAL
+all_give (Some a) None q f gives = gives_error EINVAL
+all_give (Some a) (Some b) None f gives = gives_error EINVAL
+all_give (Some a) (Some b) (Some c) f gives = gives a b c refl refl refl
+
+pub set_res_ids : (map : List Extent) (privileged : Bool) (old : FourIds) (r e s : ℕ) → HasIds map → AreIds old → GivesIds (set_res map privileged old r e s)
+set_res_ids map privileged old r e s ids are =
+    all_give (asked map old.real r) (asked map old.effective e) (asked map old.saved s) _ (λ real effective saved is_real is_effective is_saved.
+    either GivesIds (privileged || (is_one_of_three old real && is_one_of_three old effective && is_one_of_three old saved))
+    (Ok (record { real = real; effective = effective; saved = saved; fs = effective })) (Err EPERM)
+    (gives_ok (record { real = real; effective = effective; saved = saved; fs = effective }) (record {
+      real = asked_id map old.real r real ids are.real is_real;
+      effective = asked_id map old.effective e effective ids are.effective is_effective;
+      saved = asked_id map old.saved s saved ids are.saved is_saved;
+      fs = asked_id map old.effective e effective ids are.effective is_effective;
+    }))
+    (gives_error EPERM))
+
+pub set_re_ids : (map : List Extent) (privileged : Bool) (old : FourIds) (r e : ℕ) → HasIds map → AreIds old → GivesIds (set_re map privileged old r e)
+set_re_ids map privileged old r e ids are =
+    both_give (asked map old.real r) (asked map old.effective e) _ (λ real effective is_real is_effective.
+    either GivesIds (privileged || ((real == old.real || real == old.effective) && is_one_of_three old effective))
+    (Ok (record { real = real; effective = effective; saved = saved_after old r e effective; fs = effective })) (Err EPERM)
+    (gives_ok (record { real = real; effective = effective; saved = saved_after old r e effective; fs = effective }) (record {
+      real = asked_id map old.real r real ids are.real is_real;
+      effective = asked_id map old.effective e effective ids are.effective is_effective;
+      saved = either IsId (is_given r || (is_given e && not (effective == old.real))) effective old.saved
+          (asked_id map old.effective e effective ids are.effective is_effective) are.saved;
+      fs = asked_id map old.effective e effective ids are.effective is_effective;
+    }))
+    (gives_error EPERM))
+
+pub set_one_ids : (map : List Extent) (privileged : Bool) (old : FourIds) (argument : ℕ) → HasIds map → AreIds old → GivesIds (set_one map privileged old argument)
+set_one_ids map privileged old argument ids are =
+    one_gives (down map argument) _ (λ id is.
+    let small : IsId id = down_id map argument id ids is in
+    either GivesIds privileged (Ok (all_four id)) (if id == old.real || id == old.saved then Ok (record old { effective = id; fs = id }) else Err EPERM)
+    (gives_ok (all_four id) (record { real = small; effective = small; saved = small; fs = small }))
+    (either GivesIds (id == old.real || id == old.saved) (Ok (record old { effective = id; fs = id })) (Err EPERM)
+    (gives_ok (record old { effective = id; fs = id }) (record { real = are.real; effective = small; saved = are.saved; fs = small }))
+    (gives_error EPERM)))
+
+with_fs_ids : (privileged : Bool) (old : FourIds) (o : Option ℕ) → AreIds old → ((id : ℕ) → o ≡ Some id → IsId id) → AreIds (with_fs privileged old o)
+with_fs_ids privileged old None are small = are
+with_fs_ids privileged old (Some id) are small =
+    either AreIds (privileged || is_one_of_three old id || id == old.fs) (record old { fs = id }) old
+    (record { real = are.real; effective = are.effective; saved = are.saved; fs = small id refl }) are
+
+pub set_fs_ids : (map : List Extent) (privileged : Bool) (old : FourIds) (argument : ℕ) → HasIds map → AreIds old → AreIds (set_fs map privileged old argument)
+set_fs_ids map privileged old argument ids are = with_fs_ids privileged old (down map argument) are (λ id is. down_id map argument id ids is)
+
+-- ---- groups
+-- each of a list is an id
+abbrev pub AreAllIds : List ℕ → Type 0
+AreAllIds [] = Unit {0}
+AreAllIds (id ∷ ids) = IsId id × AreAllIds ids
+
+-- what a list of ids is mapped to are ids, by what the first and the rest are mapped to
+all_down_step : (first : Option ℕ) (rest : Option (List ℕ)) (out : List ℕ) → ((id : ℕ) → first ≡ Some id → IsId id)
+    → ((ids : List ℕ) → rest ≡ Some ids → AreAllIds ids)
+    → option_and_then (λ f. option_map (λ r. f ∷ r) rest) first ≡ Some out → AreAllIds out
+all_down_step None rest out small smalls is = absurd (cc)
+all_down_step (Some id) None out small smalls is = absurd (cc)
+all_down_step (Some id) (Some ids) out small smalls is =
+    let e : (id ∷ ids) ≡ out = cc in subst AreAllIds e (small id refl, smalls ids refl)
+
+pub all_down_ids : (map : List Extent) (ids out : List ℕ) → HasIds map → all_down map ids ≡ Some out → AreAllIds out
+all_down_ids map [] out has is = let e : [] ≡ out = cc in subst AreAllIds e tt
+all_down_ids map (id ∷ ids) out has is =
+    all_down_step (down map id) (all_down map ids) out (λ k e. down_id map id k has e) (λ rest e. all_down_ids map ids rest has e) is
+
+insert_ascends : (low id : ℕ) (ids : List ℕ) → low ≤ id → IsId id → AscendFrom low ids → AscendFrom low (insert_id id ids)
+insert_ascends low id [] above small ascends = (above, small, tt)
+insert_ascends low id (other ∷ ids) above small ascends =
+    elim (cases_Bool (nat_lt id other)) [
+      | inl less ↦
+          let below : id < other = ltb-true id other less in
+          let next : id + 1 ≤ other = omega arith in
+          subst (AscendFrom low) (sym (cond-true (nat_lt id other) (id ∷ other ∷ ids) (if id == other then other ∷ ids else other ∷ insert_id id ids) less))
+          (above, small, (next, ascends.1, ascends.2))
+      | inr not_less ↦
+          subst (AscendFrom low) (sym (cond-false (nat_lt id other) (id ∷ other ∷ ids) (if id == other then other ∷ ids else other ∷ insert_id id ids) not_less))
+          (elim (cases_Bool (id == other)) [
+            | inl same ↦ subst (AscendFrom low) (sym (cond-true (id == other) (other ∷ ids) (other ∷ insert_id id ids) same)) ascends
+            | inr differs ↦
+                let high : other ≤ id = ltb-false id other not_less in
+                let next : other + 1 ≤ id = let apart : id ≡ other → ⊥ = eqb-false id other differs in omega arith in
+                subst (AscendFrom low) (sym (cond-false (id == other) (other ∷ ids) (other ∷ insert_id id ids) differs))
+                (ascends.0, ascends.1, insert_ascends (other + 1) id ids next small ascends.2)
+          ])
+    ]
+
+pub id_set_ascends : (ids : List ℕ) → AreAllIds ids → AscendFrom 0 (id_set ids)
+id_set_ascends [] small = tt
+id_set_ascends (id ∷ ids) small = insert_ascends 0 id (id_set ids) (omega arith) small.0 (id_set_ascends ids small.1)

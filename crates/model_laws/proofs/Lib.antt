@@ -1,0 +1,21 @@
+-- The proofs of the laws.
+pub mod Chains
+pub mod StepParts
+pub mod Ids
+pub mod Results
+pub mod Refusals
+pub mod Credentials
+pub mod Trees
+pub mod Orders
+pub mod Keeping
+pub mod Lookups
+pub mod Effects
+pub mod Kin
+pub mod Reaching
+pub mod Members
+pub mod SavedIds
+pub mod RootFiles
+pub mod Writing
+pub mod Pids
+pub mod Owning
+pub mod ForebearCases

@@ -1,0 +1,185 @@
+-- A process's own step.
+use Rattle.std.proofs.Common.{◌≡◌, ◌⊎◌, ℕ, Bool, true, false, List, Option, Some, None, if◌then◌else◌, refl, sym, ap, ◌∙◌, inl, inr, subst}
+use Rattle.std.proofs.lemmas.Bool.{cases_Bool, eq-eqb, cond-true, cond-false}
+use Rattle.cm_base.specs.declared.errno.Errno.{Errno}
+use Rattle.cm_base.specs.declared.errno.Errno.TheVariants.{EAGAIN}
+use Rattle.cm_base.specs.declared.res.Res.{Res}
+use Rattle.cm_base.specs.declared.res.Res.TheVariants.{Done, Id, Child, Err}
+use Rattle.model_cred.specs.Call.{Call, Fork, CloneUser, Exit, Event}
+use Rattle.model_cred.specs.Process.{Process, State, process_at, insert_process, is_alive, is_pid}
+use Rattle.model_cred.specs.Space.{Spaces}
+use Rattle.model_cred.specs.World.{World}
+use Rattle.model_run.specs.Outside.{comes_from_outside}
+use Rattle.model_run.specs.Ruling.{Ruling, ruling, own, free_pid, birth, birth_unless, reply_to, state_left, spaces_left, fork_child, clone_child}
+use Rattle.model_run.specs.Same.{same_res, errno_number}
+use Rattle.model_run.specs.Step.{Goes, NoSpace, PidInUse, Wrong, Step, outcome, outcome_for, told_call, told_rules, told_child, names_no_space, is_living_child}
+use Rattle.model_laws.specs.Owns.{OwnIsStep, WrongHasOwnAnswer, AllPidsLive, AgainForWantOfPids}
+use Rattle.model_laws.proofs.Pids.{free_is_least}
+use Rattle.model_laws.proofs.Refusals.{safe_ruling}
+use Rattle.model_laws.proofs.Effects.{outside_error}
+use Rattle.model_laws.proofs.Results.{IsRuled, reply_plain}
+
+-- ---- births
+-- The ruling with the child that the result tells is the ruling, and a child that it tells isn't alive.
+record Again (s : State) (rule : ℕ → Ruling) (n : ℕ) : Type 0 where
+  same : rule (told_child (rule n).res) ≡ rule n
+  fresh : (is_pid n ≡ true → is_alive s.processes n ≡ false) → is_living_child s.processes (rule n).res ≡ false
+
+again_birth : (s : State) (child : ℕ → Process) (after : Spaces) (n : ℕ) → ((m : ℕ) → (child m).pid ≡ m) → Again s (λ m. birth s (child m) after) n
+again_birth s child after n named =
+    elim (cases_Bool (is_pid (child n).pid)) [
+      | inl is ↦
+          let e : birth s (child n) after ≡ record { res = Child (child n).pid; state = record s { processes = insert_process (child n) s.processes; spaces = after } }
+          = cond-true (is_pid (child n).pid) (record { res = Child (child n).pid; state = record s { processes = insert_process (child n) s.processes; spaces = after } }) (record { res = Err EAGAIN; state = s }) is in
+          record {
+            same = ap (λ (r : Ruling). birth s (child (told_child r.res)) after) e ∙ ap (λ (m : ℕ). birth s (child m) after) (named n);
+            fresh = λ new. ap (λ (r : Ruling). is_living_child s.processes r.res) e
+                ∙ ap (is_alive s.processes) (named n) ∙ new (sym (ap is_pid (named n)) ∙ is);
+          }
+      | inr not_pid ↦
+          let e : birth s (child n) after ≡ record { res = Err EAGAIN; state = s }
+          = cond-false (is_pid (child n).pid) (record { res = Child (child n).pid; state = record s { processes = insert_process (child n) s.processes; spaces = after } }) (record { res = Err EAGAIN; state = s }) not_pid in
+          let zero_is : birth s (child 0) after ≡ record { res = Err EAGAIN; state = s }
+          = cond-false (is_pid (child 0).pid) (record { res = Child (child 0).pid; state = record s { processes = insert_process (child 0) s.processes; spaces = after } }) (record { res = Err EAGAIN; state = s }) (ap is_pid (named 0)) in
+          record {
+            same = ap (λ (r : Ruling). birth s (child (told_child r.res)) after) e ∙ zero_is ∙ sym e;
+            fresh = λ _. ap (λ (r : Ruling). is_living_child s.processes r.res) e;
+          }
+    ]
+
+again_unless : (r : Res) (s : State) (child : ℕ → Process) (after : Spaces) (n : ℕ) → ((m : ℕ) → (child m).pid ≡ m) → Again s (λ m. birth_unless r s (child m) after) n
+again_unless Done s child after n named = again_birth s child after n named
+again_unless (Id k) s child after n named = again_birth s child after n named
+again_unless (Child k) s child after n named = again_birth s child after n named
+again_unless (Err e) s child after n named = record { same = refl; fresh = λ _. refl }
+
+ruled_childless : (processes : List Process) (r : Res) → IsRuled r → is_living_child processes r ≡ false
+ruled_childless processes Done is = refl
+ruled_childless processes (Id n) is = refl
+ruled_childless processes (Child n) is = absurd is
+ruled_childless processes (Err e) is = refl
+
+again_left : (w : World) (s : State) (p : Process) (call : Call) (n : ℕ)
+    → Again s (λ m. record { res = (reply_to w s p call).res; state = state_left s p call (reply_to w s p call) }) n
+again_left w s p call n = record { same = refl; fresh = λ _. ruled_childless s.processes (reply_to w s p call).res (reply_plain w.files s.spaces p.space p.cred call).ruled }
+
+again : (w : World) (s : State) (p : Process) (call : Call) (n : ℕ) → Again s (ruling w s p call) n
+again w s p Fork n = again_birth s (fork_child p) s.spaces n (λ m. refl)
+again w s p CloneUser n = again_unless (reply_to w s p CloneUser).res s (clone_child s.spaces p) (spaces_left s p CloneUser) n (λ m. refl)
+again w s p Exit n = record { same = refl; fresh = λ _. refl }
+again w s p call n = again_left w s p call n
+
+-- ---- the own step
+same_itself : (r : Res) → same_res r r ≡ true
+same_itself Done = refl
+same_itself (Id n) = eq-eqb n n refl
+same_itself (Child n) = eq-eqb n n refl
+same_itself (Err e) = eq-eqb (errno_number e) (errno_number e) refl
+
+own_told : (w : World) (s : State) (pid : ℕ) (p : Process) (call : Call) → process_at s.processes pid ≡ Some p
+    → told_call w s p call (own w s p call).res ≡ Goes (own w s p call).state
+own_told w s pid p call lives =
+    let r : Ruling = own w s p call in
+    elim (cases_Bool (comes_from_outside call r.res)) [
+      | inl outside ↦
+          let error : (e : Errno) × (r.res ≡ Err e) = outside_error call r.res outside in
+          cond-true (comes_from_outside call r.res) (Goes s) (told_rules r.res (ruling w s p call (told_child r.res)) r) outside
+          ∙ ap (λ (t : State). Goes t) (sym ((safe_ruling w s pid p lives call (free_pid s)).keeps error.0 error.1))
+      | inr inside ↦
+          cond-false (comes_from_outside call r.res) (Goes s) (told_rules r.res (ruling w s p call (told_child r.res)) r) inside
+          ∙ ap (λ (x : Ruling). told_rules r.res x r) ((again w s p call (free_pid s)).same)
+          ∙ cond-true (same_res r.res r.res) (Goes r.state) (Wrong r.res) (same_itself r.res)
+    ]
+
+own_step : (w : World) (s : State) (e : Event) (p : Process) → process_at s.processes e.pid ≡ Some p → names_no_space s.spaces e.call ≡ false
+    → e.res ≡ (own w s p e.call).res → Step w s e (own w s p e.call).state
+own_step w s e p lives named told =
+    let fresh : is_living_child s.processes e.res ≡ false
+    = ap (is_living_child s.processes) told ∙ (again w s p e.call (free_pid s)).fresh (free_is_least s).fresh in
+    ap (λ (o : Option Process). outcome_for w s o e) lives
+    ∙ cond-false (names_no_space s.spaces e.call) NoSpace (if is_living_child s.processes e.res then PidInUse else told_call w s p e.call e.res) named
+    ∙ cond-false (is_living_child s.processes e.res) PidInUse (told_call w s p e.call e.res) fresh
+    ∙ ap (told_call w s p e.call) told
+    ∙ own_told w s e.pid p e.call lives
+
+pub own_is_step : OwnIsStep
+unfolding OwnIsStep
+own_is_step = own_step
+
+-- ---- what isn't the own answer
+-- a live caller of an event that is wrong for its result
+record WrongAnswer (w : World) (s : State) (e : Event) (answer : Res) : Type 0 where
+  caller : Process
+  lives : process_at s.processes e.pid ≡ Some caller
+  named : names_no_space s.spaces e.call ≡ false
+  own_answer : answer ≡ (own w s caller e.call).res
+
+wrong_rules : (w : World) (s : State) (e : Event) (answer : Res) (p : Process) → process_at s.processes e.pid ≡ Some p → names_no_space s.spaces e.call ≡ false
+    → (a b : Bool) (t : State) → (if a then Goes s else if b then Goes t else Wrong (own w s p e.call).res) ≡ Wrong answer → WrongAnswer w s e answer
+wrong_rules w s e answer p lives named true b t is = absurd (cc)
+wrong_rules w s e answer p lives named false true t is = absurd (cc)
+wrong_rules w s e answer p lives named false false t is =
+    record { caller = p; lives = lives; named = named; own_answer = let it : (own w s p e.call).res ≡ answer = cc in sym it }
+
+wrong_call : (w : World) (s : State) (e : Event) (answer : Res) (p : Process) → process_at s.processes e.pid ≡ Some p → (a b : Bool)
+    → names_no_space s.spaces e.call ≡ a → (if a then NoSpace else if b then PidInUse else told_call w s p e.call e.res) ≡ Wrong answer → WrongAnswer w s e answer
+wrong_call w s e answer p lives true b named is = absurd (cc)
+wrong_call w s e answer p lives false true named is = absurd (cc)
+wrong_call w s e answer p lives false false named is =
+    wrong_rules w s e answer p lives named (comes_from_outside e.call e.res) (same_res e.res (ruling w s p e.call (told_child e.res)).res)
+    (ruling w s p e.call (told_child e.res)).state is
+
+wrong_event : (w : World) (s : State) (e : Event) (answer : Res) (o : Option Process) → process_at s.processes e.pid ≡ o → outcome_for w s o e ≡ Wrong answer
+    → WrongAnswer w s e answer
+wrong_event w s e answer None lives is = absurd (cc)
+wrong_event w s e answer (Some p) lives is =
+    wrong_call w s e answer p lives (names_no_space s.spaces e.call) (is_living_child s.processes e.res) refl is
+
+pub wrong_has_own_answer : WrongHasOwnAnswer
+unfolding WrongHasOwnAnswer
+wrong_has_own_answer w s e answer is =
+    let wrong : WrongAnswer w s e answer = wrong_event w s e answer (process_at s.processes e.pid) refl is in
+    record {
+      caller = wrong.caller;
+      lives = wrong.lives;
+      own_answer = wrong.own_answer;
+      another_told = λ same.
+          let goes : outcome w s e ≡ Goes (own w s wrong.caller e.call).state = own_step w s e wrong.caller wrong.lives wrong.named (same ∙ wrong.own_answer) in
+          let never : Wrong answer ≡ Goes (own w s wrong.caller e.call).state = sym is ∙ goes in
+          cc;
+    }
+
+-- ---- EAGAIN
+-- the rules' own errors are others
+never_again : (r : Res) → IsRuled r → r ≡ Err EAGAIN → ⊥
+never_again r ruled is = subst IsRuled is ruled
+
+birth_again : (s : State) (child : Process) (after : Spaces) → (birth s child after).res ≡ Err EAGAIN → is_pid child.pid ≡ false
+birth_again s child after is = by (is_pid child.pid) is
+  where
+    by : (b : Bool) → (let r : Ruling = if b then record { res = Child child.pid; state = record s { processes = insert_process child s.processes; spaces = after } } else record { res = Err EAGAIN; state = s } in r).res ≡ Err EAGAIN → b ≡ false
+    by true wrong = absurd (let never : Child child.pid ≡ Err EAGAIN = wrong in cc)
+    by false it = refl
+
+unless_again : (r : Res) (s : State) (child : Process) (after : Spaces) → IsRuled r → (birth_unless r s child after).res ≡ Err EAGAIN → is_pid child.pid ≡ false
+unless_again Done s child after ruled is = birth_again s child after is
+unless_again (Id n) s child after ruled is = birth_again s child after is
+unless_again (Child n) s child after ruled is = birth_again s child after is
+unless_again (Err e) s child after ruled is = absurd (never_again (Err e) ruled is)
+
+left_again : (w : World) (s : State) (p : Process) (call : Call) → (reply_to w s p call).res ≡ Err EAGAIN → ((call ≡ Fork) ⊎ (call ≡ CloneUser)) × AllPidsLive s
+left_again w s p call is = absurd (never_again (reply_to w s p call).res (reply_plain w.files s.spaces p.space p.cred call).ruled is)
+
+own_again : (w : World) (s : State) (p : Process) (call : Call) → (own w s p call).res ≡ Err EAGAIN → ((call ≡ Fork) ⊎ (call ≡ CloneUser)) × AllPidsLive s
+own_again w s p Fork is = (inl refl, (free_is_least s).none (birth_again s (fork_child p (free_pid s)) s.spaces is))
+own_again w s p CloneUser is = (
+  inr refl,
+  (free_is_least s).none (unless_again (reply_to w s p CloneUser).res s (clone_child s.spaces p (free_pid s)) (spaces_left s p CloneUser)
+      (reply_plain w.files s.spaces p.space p.cred CloneUser).ruled is),
+)
+own_again w s p Exit is = absurd (let never : Done ≡ Err EAGAIN = is in cc)
+own_again w s p call is = left_again w s p call is
+
+pub again_for_want_of_pids : AgainForWantOfPids
+unfolding AgainForWantOfPids
+again_for_want_of_pids = own_again

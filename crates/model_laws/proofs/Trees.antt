@@ -1,0 +1,200 @@
+-- Each call keeps the tree of spaces and what each space keeps.
+use Rattle.std.proofs.Common.{◌≡◌, ◌≢◌, ℕ, suc, ◌+◌, ◌-◌, ◌<◌, ◌≤◌, ◌==◌, ◌&&◌, Bool, true, false, List, [], ◌∷◌, length, Option, Some, None, if◌then◌else◌, refl, sym, ap, ◌∙◌, inl, inr, subst, arith, lit<}
+use Rattle.std.specs.Prelude.{IsSomeAnd, nat_le, All, option_and_then, option_map, unwrap_or}
+use Rattle.std.proofs.lemmas.Bool.{cases_Bool, cases_eq, eq-eqb, ne_eqb, leb-true, cond-true, cond-false, and_parts}
+use Rattle.std.proofs.lemmas.List.Elements.{All-head, All-tail, All-nil, All-cons}
+use Rattle.cm_base.specs.declared.errno.Errno.{Errno}
+use Rattle.cm_base.specs.declared.errno.Errno.TheVariants.{EPERM, EINVAL}
+use Rattle.model_cred.specs.Credential.{Credential, Keeps}
+use Rattle.model_cred.specs.IdMap.{Extent, HasIds, extents_of}
+use Rattle.model_cred.specs.Space.{Space, Spaces, KeepsSpace, IsTree, space_of, no_space, put_space}
+use Rattle.model_rules.specs.Maps.{MapFile, UidMap, GidMap, Written, write_done, write_refused, write_map, write_mapped, write_setgroups, map_of, with_map, parent_map, extent_down, list_down}
+use Rattle.model_rules.specs.Namespaces.{created_by}
+use Rattle.model_laws.proofs.Chains.{space_newest, space_older, tree_older}
+use Rattle.model_laws.proofs.Ids.{FitsIds}
+
+-- a tree and what each of its spaces keeps
+pub record KeepsTree (spaces : Spaces) : Type 0 where
+  pub tree : IsTree spaces
+  pub each : All KeepsSpace spaces
+
+-- what stands in the place of a space keeps it too
+keeps_no_space : KeepsSpace no_space
+keeps_no_space = record { owner = lit< tt; uids = All-nil FitsIds; gids = All-nil FitsIds }
+
+-- a space by its number
+space_of_newest : (t : Space) (older : Spaces) (n : ℕ) → n ≡ length older → space_of (t ∷ older) n ≡ t
+space_of_newest t older n same = ap (λ o. unwrap_or o no_space) (space_newest t older n same)
+
+space_of_older : (t : Space) (older : Spaces) (n : ℕ) → n ≢ length older → space_of (t ∷ older) n ≡ space_of older n
+space_of_older t older n other = ap (λ o. unwrap_or o no_space) (space_older t older n other)
+
+-- each space that is looked up keeps what a space keeps
+pub keeps_space_of : (spaces : Spaces) (n : ℕ) → All KeepsSpace spaces → KeepsSpace (space_of spaces n)
+keeps_space_of [] n each = keeps_no_space
+keeps_space_of (t ∷ older) n each =
+    elim (cases_eq n (length older)) [
+      | inl same ↦ subst KeepsSpace (sym (space_of_newest t older n same)) (All-head KeepsSpace t older each)
+      | inr other ↦ subst KeepsSpace (sym (space_of_older t older n other)) (keeps_space_of older n (All-tail KeepsSpace t older each))
+    ]
+
+-- a space in the place of another
+put_newest : (new t : Space) (older : Spaces) (n : ℕ) → n ≡ length older → put_space n new (t ∷ older) ≡ new ∷ older
+put_newest new t older n same = cond-true (n == length older) (new ∷ older) (t ∷ put_space n new older) (eq-eqb n (length older) same)
+
+put_older : (new t : Space) (older : Spaces) (n : ℕ) → n ≢ length older → put_space n new (t ∷ older) ≡ t ∷ put_space n new older
+put_older new t older n other = cond-false (n == length older) (new ∷ older) (t ∷ put_space n new older) (ne_eqb n (length older) other)
+
+pub length_put : (n : ℕ) (new : Space) (spaces : Spaces) → length (put_space n new spaces) ≡ length spaces
+length_put n new [] = refl
+length_put n new (t ∷ older) =
+    elim (cases_eq n (length older)) [
+      | inl same ↦ ap length (put_newest new t older n same)
+      | inr other ↦ ap length (put_older new t older n other) ∙ ap suc (length_put n new older)
+    ]
+
+all_put : (n : ℕ) (new : Space) (spaces : Spaces) → KeepsSpace new → All KeepsSpace spaces → All KeepsSpace (put_space n new spaces)
+all_put n new [] keeps each = each
+all_put n new (t ∷ older) keeps each =
+    elim (cases_eq n (length older)) [
+      | inl same ↦ subst (All KeepsSpace) (sym (put_newest new t older n same)) (All-cons KeepsSpace new older keeps (All-tail KeepsSpace t older each))
+      | inr other ↦
+          subst (All KeepsSpace) (sym (put_older new t older n other))
+          (All-cons KeepsSpace t (put_space n new older) (All-head KeepsSpace t older each) (all_put n new older keeps (All-tail KeepsSpace t older each)))
+    ]
+
+-- the newest space over other older ones that are as many
+tree_over : (t : Space) (xs ys : Spaces) → length xs ≡ length ys → IsTree (t ∷ ys) → IsTree xs → IsTree (t ∷ xs)
+tree_over t xs [] same tree rest = absurd (no xs same rest)
+  where
+    no : (zs : Spaces) → length zs ≡ 0 → IsTree zs → ⊥
+    no [] e wrong = wrong
+    no (z ∷ zs) e _ = omega arith
+tree_over t [] (u ∷ ys) same tree rest = absurd rest
+tree_over t (v ∷ xs) (u ∷ ys) same tree rest = (subst (λ (n : ℕ). IsSomeAnd t.parent (λ p. p < n)) (sym same) tree.0, rest)
+
+-- the newest space changed, its parent kept
+tree_newest : (new t : Space) (older : Spaces) → new.parent ≡ t.parent → IsTree (t ∷ older) → IsTree (new ∷ older)
+tree_newest new t [] same tree = same ∙ tree
+tree_newest new t (u ∷ older) same tree = (subst (λ (o : Option ℕ). IsSomeAnd o (λ p. p < length (u ∷ older))) (sym same) tree.0, tree.1)
+
+tree_put : (n : ℕ) (new : Space) (spaces : Spaces) → n < length spaces → new.parent ≡ (space_of spaces n).parent → IsTree spaces → IsTree (put_space n new spaces)
+tree_put n new [] there same tree = tree
+tree_put n new (t ∷ older) there same tree =
+    elim (cases_eq n (length older)) [
+      | inl at ↦
+          subst IsTree (sym (put_newest new t older n at))
+          (tree_newest new t older (same ∙ ap (λ (s : Space). s.parent) (space_of_newest t older n at)) tree)
+      | inr other ↦
+          let low : n < length older = omega arith in
+          subst IsTree (sym (put_older new t older n other))
+          (tree_over t (put_space n new older) older (length_put n new older) tree
+          (tree_put n new older low (same ∙ ap (λ (s : Space). s.parent) (space_of_older t older n other)) (tree_older t older n low tree)))
+    ]
+
+-- a space in the place of another with the same parent
+pub keeps_put : (n : ℕ) (new : Space) (spaces : Spaces) → n < length spaces → new.parent ≡ (space_of spaces n).parent → KeepsSpace new
+    → KeepsTree spaces → KeepsTree (put_space n new spaces)
+keeps_put n new spaces there same keeps kept = record { tree = tree_put n new spaces there same kept.tree; each = all_put n new spaces keeps kept.each }
+
+-- a new space whose parent stands
+tree_grows : (new : Space) (at : ℕ) (spaces : Spaces) → new.parent ≡ Some at → at < length spaces → IsTree spaces → IsTree (new ∷ spaces)
+tree_grows new at [] parent there tree = absurd tree
+tree_grows new at (t ∷ older) parent there tree = (subst (λ (o : Option ℕ). IsSomeAnd o (λ p. p < length (t ∷ older))) (sym parent) there, tree)
+
+pub keeps_created : (spaces : Spaces) (at : ℕ) (c : Credential) → at < length spaces → Keeps c → KeepsTree spaces → KeepsTree (created_by spaces at c ∷ spaces)
+keeps_created spaces at c there keeps kept = record {
+  tree = tree_grows (created_by spaces at c) at spaces refl there kept.tree;
+  each = All-cons KeepsSpace (created_by spaces at c) spaces (record { owner = keeps.uid.effective; uids = All-nil FitsIds; gids = All-nil FitsIds }) kept.each;
+}
+
+-- ---- writes
+extent_fits : (map : List Extent) (e out : Extent) → HasIds map → extent_down map e ≡ Some out → FitsIds out
+extent_fits [] e out ids is = absurd (cc)
+extent_fits (p ∷ map) e out ids is =
+    elim (cases_Bool (nat_le p.inside e.outside && nat_le (e.outside + e.length) (p.inside + p.length))) [
+      | inl within ↦
+          let it : Some (record e { outside = p.outside + (e.outside - p.inside) }) ≡ Some out
+          = sym (cond-true (nat_le p.inside e.outside && nat_le (e.outside + e.length) (p.inside + p.length)) (Some (record e { outside = p.outside + (e.outside - p.inside) })) (extent_down map e) within) ∙ is in
+          let e_is : record e { outside = p.outside + (e.outside - p.inside) } ≡ out = cc in
+          let parts = and_parts (nat_le p.inside e.outside) (nat_le (e.outside + e.length) (p.inside + p.length)) within in
+          let low : p.inside ≤ e.outside = leb-true p.inside e.outside parts.0 in
+          let high : e.outside + e.length ≤ p.inside + p.length = leb-true (e.outside + e.length) (p.inside + p.length) parts.1 in
+          let fits : p.outside + p.length ≤ 4294967295 = All-head FitsIds p map ids in
+          subst FitsIds e_is (omega arith)
+      | inr outside ↦
+          extent_fits map e out (All-tail FitsIds p map ids)
+          (sym (cond-false (nat_le p.inside e.outside && nat_le (e.outside + e.length) (p.inside + p.length)) (Some (record e { outside = p.outside + (e.outside - p.inside) })) (extent_down map e) outside) ∙ is)
+    ]
+
+list_step : (first : Option Extent) (rest : Option (List Extent)) (out : List Extent) → ((e : Extent) → first ≡ Some e → FitsIds e)
+    → ((list : List Extent) → rest ≡ Some list → HasIds list)
+    → option_and_then (λ f. option_map (λ r. f ∷ r) rest) first ≡ Some out → HasIds out
+list_step None rest out fits all is = absurd (cc)
+list_step (Some e) None out fits all is = absurd (cc)
+list_step (Some e) (Some list) out fits all is = let it : (e ∷ list) ≡ out = cc in subst HasIds it (All-cons FitsIds e list (fits e refl) (all list refl))
+
+list_fits : (map list out : List Extent) → HasIds map → list_down map list ≡ Some out → HasIds out
+list_fits map [] out ids is = let it : [] ≡ out = cc in subst HasIds it (All-nil FitsIds)
+list_fits map (e ∷ list) out ids is =
+    list_step (extent_down map e) (list_down map list) out (λ f it. extent_fits map e f ids it) (λ rest it. list_fits map list rest ids it) is
+
+keeps_map_of : (file : MapFile) (t : Space) → KeepsSpace t → HasIds (extents_of (map_of file t))
+keeps_map_of UidMap t keeps = keeps.uids
+keeps_map_of GidMap t keeps = keeps.gids
+
+parent_fits : (file : MapFile) (spaces : Spaces) (t : Space) → All KeepsSpace spaces → HasIds (parent_map file spaces t)
+parent_fits file spaces t each = by_parent t.parent
+  where
+    by_parent : (o : Option ℕ) → HasIds (extents_of (option_and_then (λ p. map_of file (space_of spaces p)) o))
+    by_parent None = All-nil FitsIds
+    by_parent (Some p) = keeps_map_of file (space_of spaces p) (keeps_space_of spaces p each)
+
+keeps_with_map : (file : MapFile) (t : Space) (list : List Extent) → KeepsSpace t → HasIds list → KeepsSpace (with_map file t list)
+keeps_with_map UidMap t list keeps ids = record { owner = keeps.owner; uids = ids; gids = keeps.gids }
+keeps_with_map GidMap t list keeps ids = record { owner = keeps.owner; uids = keeps.uids; gids = ids }
+
+same_parent : (file : MapFile) (t : Space) (list : List Extent) → (with_map file t list).parent ≡ t.parent
+same_parent UidMap t list = refl
+same_parent GidMap t list = refl
+
+-- what a write leaves: a tree of as many spaces
+pub record GoodWrite (spaces : Spaces) (a : Written) : Type 0 where
+  pub keeps : KeepsTree a.spaces
+  pub count : length a.spaces ≡ length spaces
+
+write_either : (spaces : Spaces) (b : Bool) (x y : Written) → GoodWrite spaces x → GoodWrite spaces y → GoodWrite spaces (if b then x else y)
+write_either spaces true x y first second = first
+write_either spaces false x y first second = second
+
+good_refused : (e : Errno) (spaces : Spaces) → KeepsTree spaces → GoodWrite spaces (write_refused e spaces)
+good_refused e spaces kept = record { keeps = kept; count = refl }
+
+good_done : (spaces : Spaces) (n : ℕ) (new : Space) → n < length spaces → new.parent ≡ (space_of spaces n).parent → KeepsSpace new → KeepsTree spaces
+    → GoodWrite spaces (write_done spaces n new)
+good_done spaces n new there same keeps kept = record { keeps = keeps_put n new spaces there same keeps kept; count = length_put n new spaces }
+
+good_mapped : (file : MapFile) (spaces : Spaces) (at : ℕ) (c : Credential) (n : ℕ) (list : List Extent) (o : Option (List Extent)) → n < length spaces
+    → ((mapped : List Extent) → o ≡ Some mapped → HasIds mapped) → KeepsTree spaces → GoodWrite spaces (write_mapped file spaces at c n list o)
+good_mapped file spaces at c n list None there ids kept = good_refused EPERM spaces kept
+good_mapped file spaces at c n list (Some mapped) there ids kept =
+    write_either spaces _ _ _
+    (good_done spaces n (with_map file (space_of spaces n) mapped) there (same_parent file (space_of spaces n) mapped)
+    (keeps_with_map file (space_of spaces n) mapped (keeps_space_of spaces n kept.each) (ids mapped refl)) kept)
+    (good_refused EPERM spaces kept)
+
+pub good_map : (file : MapFile) (spaces : Spaces) (at : ℕ) (c : Credential) (n : ℕ) (list : List Extent) → n < length spaces → KeepsTree spaces
+    → GoodWrite spaces (write_map file spaces at c n list)
+good_map file spaces at c n list there kept =
+    write_either spaces _ _ _ (good_refused EPERM spaces kept)
+    (write_either spaces _ _ _ (good_refused EINVAL spaces kept)
+    (good_mapped file spaces at c n list (list_down (parent_map file spaces (space_of spaces n)) list) there
+    (λ mapped is. list_fits (parent_map file spaces (space_of spaces n)) list mapped (parent_fits file spaces (space_of spaces n) kept.each) is) kept))
+
+pub good_word : (spaces : Spaces) (at : ℕ) (c : Credential) (n : ℕ) (deny : Bool) → n < length spaces → KeepsTree spaces
+    → GoodWrite spaces (write_setgroups spaces at c n deny)
+good_word spaces at c n deny there kept =
+    let old : KeepsSpace (space_of spaces n) = keeps_space_of spaces n kept.each in
+    write_either spaces _ _ _
+    (good_done spaces n (record (space_of spaces n) { deny = deny }) there refl (record { owner = old.owner; uids = old.uids; gids = old.gids }) kept)
+    (good_refused EPERM spaces kept)

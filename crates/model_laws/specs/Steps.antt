@@ -1,0 +1,17 @@
+-- What holds of one step.
+use Rattle.std.specs.Prelude.{◌≡◌}
+use Rattle.cm_base.specs.declared.errno.Errno.{Errno}
+use Rattle.cm_base.specs.declared.res.Res.TheVariants.{Err}
+use Rattle.model_cred.specs.Call.{Event}
+use Rattle.model_cred.specs.Process.{State}
+use Rattle.model_cred.specs.World.{World}
+use Rattle.model_run.specs.Step.{Step}
+
+-- An event leads to at most one next state.
+unfoldable pub OneNextState : Type 0
+OneNextState = (w : World) (s : State) (e : Event) (a b : State) → Step w s e a → Step w s e b → a ≡ b
+
+-- A step whose result is an error, of the rules or from outside, changes nothing.
+unfoldable pub ErrorChangesNothing : Type 0
+ErrorChangesNothing = (w : World) (s : State) (e : Event) (error : Errno) (s' : State)
+    → Step w s e s' → e.res ≡ Err error → s' ≡ s
