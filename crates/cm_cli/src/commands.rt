@@ -54,7 +54,8 @@ pub fn run<H: Shelf, K: Sink>(
     carry_out(alloc, words, shelf, out)
 }
 
-/// `run` over a shelf and a sink that never fail: no fault is answered.
+/// `run` over a shelf and a sink that never fail: no fault is answered. Where nothing in the input is refused, the
+/// log is accepted, or there was no memory.
 pub fn run_surely(
     alloc: Global,
     words: &Vec<String>,
@@ -63,6 +64,20 @@ pub fn run_surely(
 ) -> Status
     ensures no_read_fault { result ≢ Status.ReadFault }
     ensures no_write_fault { result ≢ Status.WriteFault }
+
+    // The rest is as for every shelf and sink.
+    ensures status { IfSome (⟦<SureShelf as Shelf>⟧.held shelf.old) (λ files.
+        IsTold result → result ≡ (report_over (bytes_of words.now.items) files).status) }
+    ensures text { IfSome (⟦<SureShelf as Shelf>⟧.held shelf.old) (λ files.
+        WritesReport (report_over (bytes_of words.now.items) files) result
+        (⟦<SureSink as Sink>⟧.written out.old) (⟦<SureSink as Sink>⟧.written out.new)) }
+    ensures answers { IfSome (⟦<SureShelf as Shelf>⟧.held shelf.old) (λ files.
+        IsTold result → ComesByCause (bytes_of words.now.items) files result) }
+    ensures complete { IfSome (⟦<SureShelf as Shelf>⟧.held shelf.old) (λ files.
+        IsValid (bytes_of words.now.items) files → IsAcceptedOrNoMemory result) }
+    ensures held { ⟦<SureShelf as Shelf>⟧.held shelf.new ≡ ⟦<SureShelf as Shelf>⟧.held shelf.old }
+    ensures usage { result ≡ Status.Usage → command_of (bytes_of words.now.items) ≡ NoForm }
+    ensures no_form { command_of (bytes_of words.now.items) ≡ NoForm → IsUsageAnswer result }
 {
     run(alloc, words, shelf, out)
 }

@@ -1,5 +1,5 @@
 // The buffer in front of a sink: the report leaves it in large pieces.
-ghost use Rattle.std.specs.Prelude.{◌≡◌, [], OnOk, OnErr};
+ghost use Rattle.std.specs.Prelude.{◌≡◌, ◌<◌, [], OnOk, OnErr, vec_len};
 ghost use Rattle.cm_cli.specs.Sent.{IsSent, IsFront};
 ghost use Rattle.cm_io.specs.Sink.{WriteFaults};
 
@@ -8,10 +8,12 @@ use cm_io::{Outside, Sink, write_all};
 // A piece is sent once so many bytes wait.
 const PIECE: usize = 65_536;
 
-/// Sends what waits where it is a large piece. After an error a front of it is written.
+/// Sends what waits where it is a large piece, so that less than one waits behind it. After an error a front of it is
+/// written.
 #[tactic(auto, using(crate::proofs::Waiting::all_waits))]
 pub(crate) fn send_full<K: Sink>(text: &mut Vec<u8>, out: &mut K) -> Result<(), Outside>
     ensures sent { OnOk result (IsSent (K.written out.old) (K.written out.new) text.new.items text.old.items) }
+    ensures less { OnOk result (vec_len text.new < 65536) }
     ensures front { OnErr result (IsFront (K.written out.old) (K.written out.new) text.old.items) }
     ensures cause { WriteFaults (K.faults out.old) (K.faults out.new) result }
 {

@@ -1,0 +1,46 @@
+-- What every step keeps, in parts: of the spaces, and of one member. Beside what covering bounds say, the spaces are a
+-- tree, a member's space stands, and its sets are within one another.
+use Rattle.std.proofs.Common.{◌≡◌, ℕ, suc, ◌<◌, ◌≤◌, Some, length, arith}
+use Rattle.std.specs.Prelude.{IsTrue}
+use Rattle.std.specs.List.{list_any}
+use Rattle.std.proofs.Common.{◌∙◌, sym, ap, eqb}
+use Rattle.std.proofs.lemmas.Bool.{lt-ltb}
+use Rattle.model_cred.specs.Credential.{Credential, Included}
+use Rattle.model_cred.specs.Space.{Spaces, space_of, is_ancestor, chain, stands}
+use Rattle.model_box.specs.Row.{Part, Row, CredHas}
+use Rattle.model_box.specs.Covers.{RowOf, Stays, MapsIn, IsLater}
+use Rattle.model_box.specs.Spread.{IsNext}
+use Rattle.model_box.proofs.Trees.{Earlier, same_chain, ancestor_below}
+
+pub record SpacesFit (old new : Spaces) (bounds : Row → Part → ℕ → Type 0) : Type 0 where
+  pub before : Earlier old
+  pub earlier : Earlier new
+  pub grown : length old ≤ length new
+  pub stay : (n : ℕ) → n < length old → Stays (space_of old n) (space_of new n)
+  pub mapped : (n : ℕ) (row : Row) → RowOf (length old) new n row → MapsIn (space_of new n) (bounds row)
+  pub later : (n : ℕ) → length old ≤ n → n < length new → IsLater (length old) old new n bounds
+
+-- a credential is within a row
+abbrev pub InRow : (Part → ℕ → Type 0) → Credential → Type 0
+InRow row c = (part : Part) (x : ℕ) → CredHas c part x → row part x
+
+-- a member in the space `at` with that credential
+pub record MemberFits (old new : Spaces) (bounds : Row → Part → ℕ → Type 0) (at : ℕ) (c : Credential) : Type 0 where
+  pub here : at < length new
+  pub held : (row : Row) → RowOf (length old) new at row → InRow (bounds row) c
+  pub included : Included c
+
+module _ (old new : Spaces) (bounds : Row → Part → ℕ → Type 0) (fit : SpacesFit old new bounds) where
+  pub chain_stays : (n : ℕ) → n < length old → chain new n ≡ chain old n
+  chain_stays n low = same_chain old new fit.before fit.earlier fit.grown (λ m stands. (fit.stay m stands).parent) (suc n) n (omega arith) low
+
+  pub ancestor_stays : (m n : ℕ) → n < length old → IsTrue (is_ancestor new m n) → IsTrue (is_ancestor old m n)
+  ancestor_stays m n low above = ap (list_any (λ k. eqb k m)) (sym (chain_stays n low)) ∙ above
+
+  pub next_stays : (a n m : ℕ) → n < length old → IsTrue (is_ancestor new m n) → (space_of new m).parent ≡ Some a → IsNext old a n m
+  next_stays a n m low above parent =
+      let below : m ≤ n = ancestor_below new fit.earlier m n above in
+      (ancestor_stays m n low above, sym (fit.stay m (omega arith)).parent ∙ parent)
+
+  pub it_stands : (n : ℕ) → n < length old → IsTrue (stands old n)
+  it_stands n low = lt-ltb n (length old) low

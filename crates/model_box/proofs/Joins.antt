@@ -1,0 +1,190 @@
+-- Joining a space keeps a member covered.
+use Rattle.std.proofs.Common.{◌≡◌, ℕ, ◌<◌, ◌≤◌, Bool, Some, length, refl, sym, ◌∙◌, inl, inr, arith}
+use Rattle.std.specs.Prelude.{◌⊎◌, IsTrue}
+use Rattle.std.proofs.lemmas.Bool.{false≢true, cases_eq}
+use Rattle.cm_base.specs.CapSet.{holds}
+use Rattle.cm_base.proofs.CapSets.{holds_none, member_of_wider}
+use Rattle.model_cred.specs.CallKind.{CallKind}
+use Rattle.model_cred.specs.CallKind as kind
+use Rattle.model_cred.specs.Credential.{Credential, Included}
+use Rattle.model_cred.specs.Files.{FileTable}
+use Rattle.model_cred.specs.Space.{Spaces, space_of, is_ancestor}
+use Rattle.model_rules.specs.Caps.{cap_sys_admin}
+use Rattle.model_rules.specs.Namespaces.{as_newcomer}
+use Rattle.model_rules.specs.Power.{has_over}
+use Rattle.model_box.specs.Row.{Part, Uids, EffectiveUids, FsUids, Gids, EffectiveGids, FsGids, Groups, MappedUids, MappedGids, PermittedCaps, InheritableCaps, BoundingCaps, NewPrivs, RootCounts, LockClear, Row, Standing, Fresh, CredHas}
+use Rattle.model_box.specs.Rule.{Join}
+use Rattle.model_box.specs.Spread.{Brings, CanJoin, IsNext}
+use Rattle.model_box.specs.Closed.{Closed}
+use Rattle.model_box.specs.Covers.{RowOf, own, child, deeper}
+use Rattle.model_box.proofs.Trees.{ancestor_below, next_exists, power_cases, split_chain, row_standing, row_stands}
+use Rattle.model_box.proofs.Fits.{SpacesFit, MemberFits, InRow, next_stays, it_stands}
+
+-- ---- what a newcomer brings
+pub newcomer_included : (c : Credential) → Included (as_newcomer c)
+newcomer_included c = record { effective = refl; ambient_permitted = refl; ambient_inheritable = refl }
+
+pub brought : (row : Part → ℕ → Type 0) (c : Credential) → InRow row c → (part : Part) (x : ℕ) → CredHas (as_newcomer c) part x → Brings row part x
+brought row c held MappedUids x has = has
+brought row c held MappedGids x has = has
+brought row c held PermittedCaps x has = has
+brought row c held InheritableCaps x has = absurd (false≢true (sym (holds_none x) ∙ has))
+brought row c held BoundingCaps x has = has
+brought row c held RootCounts x has = has.0
+brought row c held LockClear x has = has.0
+brought row c held Uids x has = held Uids x has
+brought row c held EffectiveUids x has = held EffectiveUids x has
+brought row c held FsUids x has = held FsUids x has
+brought row c held Gids x has = held Gids x has
+brought row c held EffectiveGids x has = held EffectiveGids x has
+brought row c held FsGids x has = held FsGids x has
+brought row c held Groups x has = held Groups x has
+brought row c held NewPrivs x has = held NewPrivs x has
+
+-- who is a newcomer in a row already brings no more
+pub brought_again : (row : Part → ℕ → Type 0) (c : Credential) → InRow row (as_newcomer c) → (part : Part) (x : ℕ) → CredHas (as_newcomer c) part x
+    → Brings row part x
+brought_again row c held MappedUids x has = has
+brought_again row c held MappedGids x has = has
+brought_again row c held PermittedCaps x has = has
+brought_again row c held InheritableCaps x has = absurd (false≢true (sym (holds_none x) ∙ has))
+brought_again row c held BoundingCaps x has = has
+brought_again row c held RootCounts x has = has.0
+brought_again row c held LockClear x has = has.0
+brought_again row c held Uids x has = held Uids x has
+brought_again row c held EffectiveUids x has = held EffectiveUids x has
+brought_again row c held FsUids x has = held FsUids x has
+brought_again row c held Gids x has = held Gids x has
+brought_again row c held EffectiveGids x has = held EffectiveGids x has
+brought_again row c held FsGids x has = held FsGids x has
+brought_again row c held Groups x has = held Groups x has
+brought_again row c held NewPrivs x has = held NewPrivs x has
+
+-- a row that holds what the members of another bring holds what its own members bring
+pub filled_again : (row fresh : Part → ℕ → Type 0) → ((part : Part) (x : ℕ) → Brings row part x → fresh part x)
+    → (part : Part) (x : ℕ) → Brings fresh part x → fresh part x
+filled_again row fresh filled MappedUids x has = filled MappedUids x has
+filled_again row fresh filled MappedGids x has = filled MappedGids x has
+filled_again row fresh filled PermittedCaps x has = filled PermittedCaps x has
+filled_again row fresh filled InheritableCaps x has = filled InheritableCaps x has
+filled_again row fresh filled BoundingCaps x has = filled BoundingCaps x has
+filled_again row fresh filled RootCounts x has = filled RootCounts x has
+filled_again row fresh filled LockClear x has = filled LockClear x has
+filled_again row fresh filled Uids x has = has
+filled_again row fresh filled EffectiveUids x has = has
+filled_again row fresh filled FsUids x has = has
+filled_again row fresh filled Gids x has = has
+filled_again row fresh filled EffectiveGids x has = has
+filled_again row fresh filled FsGids x has = has
+filled_again row fresh filled Groups x has = has
+filled_again row fresh filled NewPrivs x has = has
+
+-- the parent of a later space has its row, or is the standing space of that row
+row_parent : {k : ℕ} {spaces : Spaces} {m a : ℕ} → RowOf k spaces m (Fresh a) → (at : ℕ) → (space_of spaces m).parent ≡ Some at
+    → RowOf k spaces at (Fresh a) ⊎ (at ≡ a)
+row_parent (child m p a late parent up) at owned =
+    let both : Some at ≡ Some p = sym owned ∙ parent in
+    let one : at ≡ p = cc in
+    inr (one ∙ (row_standing up).0)
+row_parent (deeper m p a late parent up) at owned =
+    let both : Some at ≡ Some p = sym owned ∙ parent in
+    let one : at ≡ p = cc in
+    inl (rw one up)
+
+module _ (permitted : CallKind → Bool) (files : FileTable) (old new : Spaces) (bounds : Row → Part → ℕ → Type 0)
+    (closed : Closed permitted files old bounds) (fit : SpacesFit old new bounds) (allowed : IsTrue (permitted kind.SetNs))
+    (at : ℕ) (c : Credential) (member : MemberFits old new bounds at c) where
+  -- a member above a standing space with power over it can join it
+  can_join : (n m : ℕ) → n < length old → IsNext old at n m → at < length old
+      → (IsTrue (holds c.effective cap_sys_admin) ⊎ ((space_of new m).owner ≡ c.uid.effective)) → m < length old → CanJoin old bounds at n
+  can_join n m low next stands cause m_low =
+      let held : InRow (bounds (Standing at)) c = member.held (Standing at) (own at stands) in
+      (m, next, (c.uid.effective, held EffectiveUids c.uid.effective refl), by cause) where
+        by : (IsTrue (holds c.effective cap_sys_admin) ⊎ ((space_of new m).owner ≡ c.uid.effective))
+            → (bounds (Standing at) PermittedCaps cap_sys_admin ⊎ bounds (Standing at) EffectiveUids (space_of old m).owner)
+        by (inl cap) = inl (member.held (Standing at) (own at stands) PermittedCaps cap_sys_admin (member_of_wider c.effective c.permitted member.included.effective cap_sys_admin cap))
+        by (inr owner) = inr (member.held (Standing at) (own at stands) EffectiveUids (space_of old m).owner (sym (fit.stay m m_low).owner ∙ owner))
+
+  -- so what it then has is in that space's row
+  joined_standing : (n : ℕ) → n < length old → at < length old → CanJoin old bounds at n → InRow (bounds (Standing n)) (as_newcomer c)
+  joined_standing n low stands joins part x has =
+      closed Join (Standing n) (it_stands old new bounds fit n low) part x
+      (allowed, (at, joins, brought (bounds (Standing at)) c (member.held (Standing at) (own at stands)) part x has))
+
+  -- power over a standing space from a space above it
+  joins_from_above : (n m : ℕ) → n < length old → IsTrue (is_ancestor new m n) → (space_of new m).parent ≡ Some at
+      → (IsTrue (holds c.effective cap_sys_admin) ⊎ ((space_of new m).owner ≡ c.uid.effective)) → InRow (bounds (Standing n)) (as_newcomer c)
+  joins_from_above n m low above parent cause =
+      let next : IsNext old at n m = next_stays old new bounds fit at n m low above parent in
+      let m_below : m ≤ n = ancestor_below new fit.earlier m n above in
+      let at_below : at < m = fit.earlier m at parent in
+      joined_standing n low (omega arith) (can_join n m low next (omega arith) cause (omega arith))
+
+  joins_by_set : (n : ℕ) → n < length old → (at ≡ n → ⊥) → IsTrue (is_ancestor new at n) → IsTrue (holds c.effective cap_sys_admin)
+      → InRow (bounds (Standing n)) (as_newcomer c)
+  joins_by_set n low other above cap =
+      let found = next_exists new fit.earlier at n above other in
+      joins_from_above n found.0 low found.1 found.2 (inl cap)
+
+  -- a standing target
+  join_standing : (n : ℕ) → n < length old → (n ≡ at → ⊥) → IsTrue (has_over new at c cap_sys_admin n) → InRow (bounds (Standing n)) (as_newcomer c)
+  join_standing n low other power =
+      let found = power_cases new at c.effective c.uid.effective cap_sys_admin n power in
+      elim found.2 [
+        | inl here ↦ joins_by_set n low (λ same. other (sym same)) (rw here.0 at found.1) here.1
+        | inr owned ↦ joins_from_above n found.0 low found.1 owned.0 (inr owned.1)
+      ]
+
+  -- A later target. Who joins it from above its standing space has the same power over that one, so what joining and then
+  -- making a space add holds this joiner too.
+  join_later : (t a : ℕ) → t < length new → RowOf (length old) new t (Fresh a) → IsTrue (has_over new at c cap_sys_admin t)
+      → InRow (bounds (Fresh a)) (as_newcomer c)
+  join_later t a low row power part x has = by found.2 (split_chain fit.earlier found.0 row found.1) where
+    found : (m : ℕ) × IsTrue (is_ancestor new m t)
+        × (((m ≡ at) × IsTrue (holds c.effective cap_sys_admin)) ⊎ (((space_of new m).parent ≡ Some at) × ((space_of new m).owner ≡ c.uid.effective)))
+    found = power_cases new at c.effective c.uid.effective cap_sys_admin t power
+
+    a_low : a < length old
+    a_low = (row_stands row).0
+
+    filled : (part : Part) (x : ℕ) → Brings (bounds (Standing a)) part x → bounds (Fresh a) part x
+    filled = (fit.later t (row_stands row).1 low).filled a row
+
+    inside : RowOf (length old) new at (Fresh a) → bounds (Fresh a) part x
+    inside row_at = filled_again (bounds (Standing a)) (bounds (Fresh a)) filled part x (brought (bounds (Fresh a)) c (member.held (Fresh a) row_at) part x has)
+
+    anchor : at ≡ a → bounds (Fresh a) part x
+    anchor same = filled part x (brought (bounds (Standing a)) c (member.held (Standing a) (rw same (own a a_low))) part x has)
+
+    above : InRow (bounds (Standing a)) (as_newcomer c) → bounds (Fresh a) part x
+    above joined = filled part x (brought_again (bounds (Standing a)) c joined part x has)
+
+    parent : RowOf (length old) new at (Fresh a) ⊎ (at ≡ a) → bounds (Fresh a) part x
+    parent (inl row_at) = inside row_at
+    parent (inr same) = anchor same
+
+    by : (((found.0 ≡ at) × IsTrue (holds c.effective cap_sys_admin)) ⊎ (((space_of new found.0).parent ≡ Some at) × ((space_of new found.0).owner ≡ c.uid.effective)))
+        → RowOf (length old) new found.0 (Fresh a) ⊎ IsTrue (is_ancestor new found.0 a) → bounds (Fresh a) part x
+    by (inl here) (inl row_at) = inside (rw here.0 at row_at)
+    by (inl here) (inr up) =
+        elim (cases_eq at a) [
+          | inl same ↦ anchor same
+          | inr other ↦ above (joins_by_set a a_low other (rw here.0 at up) here.1)
+        ]
+    by (inr owned) (inl row_m) = parent (row_parent row_m at owned.0)
+    by (inr owned) (inr up) = above (joins_from_above a found.0 a_low up owned.0 (inr owned.1))
+
+  in_row : (t : ℕ) → t < length new → (t ≡ at → ⊥) → IsTrue (has_over new at c cap_sys_admin t)
+      → (row : Row) → RowOf (length old) new t row → InRow (bounds row) (as_newcomer c)
+  in_row t low other power (Standing n) row_t =
+      let two = row_standing row_t in
+      join_standing n (rw two.0 at two.1) (λ same. other (two.0 ∙ same)) (rw two.0 at power)
+  in_row t low other power (Fresh a) row_t = join_later t a low row_t power
+
+  -- Joining a space keeps a member covered.
+  pub join_fits : (t : ℕ) → t < length new → (t ≡ at → ⊥) → IsTrue (has_over new at c cap_sys_admin t) → MemberFits old new bounds t (as_newcomer c)
+  join_fits t low other power = record {
+    here = low;
+    held = in_row t low other power;
+    included = newcomer_included c;
+  }

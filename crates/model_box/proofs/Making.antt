@@ -1,0 +1,155 @@
+-- Making a space keeps the spaces and the members covered.
+use Rattle.std.proofs.Common.{◌≡◌, ℕ, suc, ◌<◌, ◌≤◌, ◌-◌, ◌||◌, Bool, true, Some, List, ◌∷◌, length, refl, sym, ap, ◌∙◌, inl, inr, arith}
+use Rattle.std.specs.Prelude.{◌⊎◌, IsTrue, nat_lt}
+use Rattle.std.proofs.lemmas.Bool.{false≢true, cases_eq, and_parts}
+use Rattle.model_cred.specs.CallKind.{CallKind}
+use Rattle.model_cred.specs.CallKind as kind
+use Rattle.model_cred.specs.Credential.{Credential}
+use Rattle.model_cred.specs.Files.{FileTable}
+use Rattle.model_cred.specs.IdMap.{extents_of, is_outside}
+use Rattle.model_cred.specs.Space.{Space, Spaces, space_of, level}
+use Rattle.model_rules.specs.Namespaces.{as_newcomer, created_by, deepest, is_mapped_in}
+use Rattle.model_box.specs.Row.{Part, EffectiveUids, EffectiveGids, Row, Standing, Fresh}
+use Rattle.model_box.specs.Rule.{Create}
+use Rattle.model_box.specs.Spread.{Brings}
+use Rattle.model_box.specs.Closed.{Closed}
+use Rattle.model_box.specs.Covers.{RowOf, own, child, deeper, MapsIn, IsLater}
+use Rattle.model_box.proofs.Trees.{Earlier, space_of_newest, space_of_older, has_parent_stands, row_standing, row_stands, row_older}
+use Rattle.model_box.proofs.Fits.{SpacesFit, MemberFits, InRow, chain_stays, it_stands}
+use Rattle.model_box.proofs.Joins.{brought, filled_again, newcomer_included}
+
+pub row_here : {k : ℕ} {spaces : Spaces} → k ≤ length spaces → {n : ℕ} {row : Row} → RowOf k spaces n row → n < length spaces
+row_here grown (own n low) = omega arith
+row_here {spaces = spaces} grown (child n p a late parent up) = has_parent_stands spaces n p parent
+row_here {spaces = spaces} grown (deeper n p a late parent up) = has_parent_stands spaces n p parent
+
+module _ (permitted : CallKind → Bool) (files : FileTable) (old new : Spaces) (bounds : Row → Part → ℕ → Type 0)
+    (closed : Closed permitted files old bounds) (fit : SpacesFit old new bounds)
+    (at : ℕ) (c : Credential) (member : MemberFits old new bounds at c)
+    (allowed : IsTrue (permitted kind.Unshare || permitted kind.CloneUser))
+    (shallow : IsTrue (nat_lt (level new at) deepest)) (mapped : IsTrue (is_mapped_in (space_of new at) c)) where
+  newest_is : space_of (created_by new at c ∷ new) (length new) ≡ created_by new at c
+  newest_is = space_of_newest (created_by new at c) new
+
+  older_is : (n : ℕ) → n < length new → space_of (created_by new at c ∷ new) n ≡ space_of new n
+  older_is n low = space_of_older (created_by new at c) new n (λ same. omega arith)
+
+  the_parent : (p : ℕ) → (space_of (created_by new at c ∷ new) (length new)).parent ≡ Some p → p ≡ at
+  the_parent p parent =
+      let both : Some at ≡ Some p = sym (ap (λ (s : Space). s.parent) newest_is) ∙ parent in cc
+
+  made_earlier : Earlier (created_by new at c ∷ new)
+  made_earlier n p parent =
+      elim (cases_eq n (length new)) [
+        | inl same ↦ let p_is : p ≡ at = the_parent p (rw same at parent) in let here : at < length new = member.here in omega arith
+        | inr other ↦ fit.earlier n p (sym (ap (λ (s : Space). s.parent) (space_of_older (created_by new at c) new n other)) ∙ parent)
+      ]
+
+  older_row : (n : ℕ) (row : Row) → n < length new → RowOf (length old) (created_by new at c ∷ new) n row → RowOf (length old) new n row
+  older_row n row low row_n = row_older (created_by new at c) new made_earlier row_n low
+
+  -- the row of the new space belongs to the standing space of the maker's row
+  made_row : (a : ℕ) → RowOf (length old) (created_by new at c ∷ new) (length new) (Fresh a)
+      → RowOf (length old) new at (Standing a) ⊎ RowOf (length old) new at (Fresh a)
+  made_row a row = go row refl where
+    go : {n : ℕ} → RowOf (length old) (created_by new at c ∷ new) n (Fresh a) → n ≡ length new
+        → RowOf (length old) new at (Standing a) ⊎ RowOf (length old) new at (Fresh a)
+    go (child n p a' late parent up) same =
+        let p_is : p ≡ at = the_parent p (rw same at parent) in
+        inl (older_row at (Standing a') member.here (rw p_is at up))
+    go (deeper n p a' late parent up) same =
+        let p_is : p ≡ at = the_parent p (rw same at parent) in
+        inr (older_row at (Fresh a') member.here (rw p_is at up))
+
+  -- making a space from a standing one fills its fresh row
+  filled_from : (a : ℕ) → RowOf (length old) new at (Standing a) → (part : Part) (x : ℕ) → Brings (bounds (Standing a)) part x → bounds (Fresh a) part x
+  filled_from a row part x brings =
+      closed Create (Fresh a) (it_stands old new bounds fit a low) part x (
+        allowed,
+        (
+          rw (same ∙ ap (λ k. level old k) (row_standing row).0) at shallow,
+          (c.uid.effective, member.held (Standing a) row EffectiveUids c.uid.effective refl, (fit.mapped at (Standing a) row).uids c.uid.effective (and_parts (is_outside (extents_of (space_of new at).uids) c.uid.effective) (is_outside (extents_of (space_of new at).gids) c.gid.effective) mapped).0),
+          (c.gid.effective, member.held (Standing a) row EffectiveGids c.gid.effective refl, (fit.mapped at (Standing a) row).gids c.gid.effective (and_parts (is_outside (extents_of (space_of new at).uids) c.uid.effective) (is_outside (extents_of (space_of new at).gids) c.gid.effective) mapped).1),
+          brings,
+        ),
+      ) where
+        low : a < length old
+        low = rw (← (row_standing row).0) (row_standing row).1
+
+        same : level new at ≡ level old at
+        same = ap (λ (chain : List ℕ). length chain - 1) (chain_stays old new bounds fit at (row_standing row).1)
+
+  filled_made : (a : ℕ) → RowOf (length old) new at (Standing a) ⊎ RowOf (length old) new at (Fresh a)
+      → (part : Part) (x : ℕ) → Brings (bounds (Standing a)) part x → bounds (Fresh a) part x
+  filled_made a (inl row) = filled_from a row
+  filled_made a (inr row) = (fit.later at (row_stands row).1 member.here).filled a row
+
+  -- the new space has its word from the maker's
+  denied_made : (a : ℕ) → RowOf (length old) new at (Standing a) ⊎ RowOf (length old) new at (Fresh a)
+      → (space_of old a).deny ≡ true → (space_of new at).deny ≡ true
+  denied_made a (inl row) word = let two = row_standing row in (fit.stay at two.1).deny (rw two.0 word)
+  denied_made a (inr row) word = (fit.later at (row_stands row).1 member.here).deny a row word
+
+  made_later : IsLater (length old) old (created_by new at c ∷ new) (length new) bounds
+  made_later = record {
+    parent = (at, ap (λ (s : Space). s.parent) newest_is, member.here);
+    owner = λ p row parent row_p. rw newest_is (member.held row (older_row at row member.here (rw (the_parent p parent) at row_p)) EffectiveUids c.uid.effective refl);
+    deny = λ a row word. ap (λ (s : Space). s.deny) newest_is ∙ denied_made a (made_row a row) word;
+    filled = λ a row. filled_made a (made_row a row);
+  }
+
+  older_later : (n : ℕ) → n < length new → IsLater (length old) old new n bounds → IsLater (length old) old (created_by new at c ∷ new) n bounds
+  older_later n low later = record {
+    parent = (later.parent.0, ap (λ (s : Space). s.parent) (older_is n low) ∙ later.parent.1, later.parent.2);
+    owner = λ p row parent row_p.
+        let up : (space_of new n).parent ≡ Some p = sym (ap (λ (s : Space). s.parent) (older_is n low)) ∙ parent in
+        let p_low : p < n = fit.earlier n p up in
+        rw (older_is n low) (later.owner p row up (older_row p row (omega arith) row_p));
+    deny = λ a row word. ap (λ (s : Space). s.deny) (older_is n low) ∙ later.deny a (older_row n (Fresh a) low row) word;
+    filled = λ a row. later.filled a (older_row n (Fresh a) low row);
+  }
+
+  no_maps : (row : Row) → MapsIn (created_by new at c) (bounds row)
+  no_maps row = record { uids = λ x wrong. absurd (false≢true wrong); gids = λ x wrong. absurd (false≢true wrong) }
+
+  -- Making a space keeps the spaces covered.
+  pub made_fits : SpacesFit old (created_by new at c ∷ new) bounds
+  made_fits = record {
+    before = fit.before;
+    earlier = made_earlier;
+    grown = let grown : length old ≤ length new = fit.grown in omega arith;
+    stay = λ n low. let grown : length old ≤ length new = fit.grown in rw (older_is n (omega arith)) (fit.stay n low);
+    mapped = λ n row row_n.
+        let grown : length old ≤ length new = fit.grown in
+        let here : n < suc (length new) = row_here (omega arith) row_n in
+        elim (cases_eq n (length new)) [
+          | inl same ↦ rw (same, newest_is) (no_maps row)
+          | inr other ↦ rw (older_is n (omega arith)) (fit.mapped n row (older_row n row (omega arith) row_n))
+        ];
+    later = λ n late here.
+        elim (cases_eq n (length new)) [
+          | inl same ↦ rw same made_later
+          | inr other ↦ older_later n (omega arith) (fit.later n late (omega arith))
+        ];
+  }
+
+  made_in : (row : Row) → RowOf (length old) (created_by new at c ∷ new) (length new) row → InRow (bounds row) (as_newcomer c)
+  made_in (Standing n) row part x has = absurd (let two = row_standing row in let grown : length old ≤ length new = fit.grown in let low : length new < length old = two.1 in omega arith)
+  made_in (Fresh a) row part x has = by (made_row a row) where
+    by : RowOf (length old) new at (Standing a) ⊎ RowOf (length old) new at (Fresh a) → bounds (Fresh a) part x
+    by (inl row_at) = filled_from a row_at part x (brought (bounds (Standing a)) c (member.held (Standing a) row_at) part x has)
+    by (inr row_at) =
+        filled_again (bounds (Standing a)) (bounds (Fresh a)) (filled_made a (inr row_at)) part x
+        (brought (bounds (Fresh a)) c (member.held (Fresh a) row_at) part x has)
+
+  -- Who stands in the new space is covered.
+  pub maker_fits : MemberFits old (created_by new at c ∷ new) bounds (length new) (as_newcomer c)
+  maker_fits = record { here = omega arith; held = made_in; included = newcomer_included c }
+
+  -- So is everyone else.
+  pub others_fit : (place : ℕ) (d : Credential) → MemberFits old new bounds place d → MemberFits old (created_by new at c ∷ new) bounds place d
+  others_fit place d other = record {
+    here = let here : place < length new = other.here in omega arith;
+    held = λ row row_n. other.held row (older_row place row other.here row_n);
+    included = other.included;
+  }

@@ -1,0 +1,46 @@
+-- The laws as the contracts of `laws` state them, over bounds that tests give.
+use Rattle.model_box.specs.Laws.{tested, Soundness, Exclusion, CoversAtStart, Monotone, StandingApart, ExcludedRulesAddNothing, FilesOfWorldsFit, RowsByNumber, common, ClosedInCommon}
+use Rattle.std.proofs.lemmas.Bool.{and_parts, and_from}
+use Rattle.model_box.specs.Row.{row_number}
+use Rattle.model_box.proofs.Excludes as ends
+use Rattle.model_box.proofs.Monotone.{adds_more}
+use Rattle.model_box.proofs.Starts as starts
+use Rattle.model_box.proofs.Worlds.{run_fits}
+
+pub soundness : Soundness
+soundness permitted w s members bounds keeps files covers closed events later members_then run =
+    ends.soundness permitted w s members (tested bounds) keeps files covers closed events later members_then run
+
+pub exclusion : Exclusion
+exclusion permitted w s members bounds right keeps files standing covers closed apart events later members_then run pid member =
+    ends.exclusion permitted w s members (tested bounds) keeps files covers closed right standing apart events later members_then run pid member
+
+pub covers_at_start : CoversAtStart
+covers_at_start s members bounds keeps = (starts.covers_start s members (tested bounds) keeps, starts.holds_start s members (tested bounds))
+
+pub monotone : Monotone
+monotone permitted files spaces bounds wider within rule row part x added = adds_more permitted files spaces (tested bounds) (tested wider) within rule row part x added
+
+pub standing_apart : StandingApart
+standing_apart permitted files spaces bounds other within rule n part x added =
+    starts.standing_apart permitted files spaces (tested bounds) (tested other) within rule n part x added
+
+pub excluded_rules_add_nothing : ExcludedRulesAddNothing
+excluded_rules_add_nothing permitted files spaces bounds rule none row part x added =
+    starts.excluded_adds_nothing permitted files spaces (tested bounds) rule none row part x added
+
+pub rows_by_number : RowsByNumber
+rows_by_number = record { row = starts.row_back; number = starts.number_back }
+
+pub files_of_worlds_fit : FilesOfWorldsFit
+files_of_worlds_fit w keeps events later run = run_fits w keeps events later run
+
+pub closed_in_common : ClosedInCommon
+closed_in_common permitted files spaces bounds other first second rule row standing part x added =
+    and_from (bounds (row_number row) part x) (other (row_number row) part x)
+    (first rule row standing part x
+    (adds_more permitted files spaces (tested (common bounds other)) (tested bounds)
+    (λ r p y both. (and_parts (bounds (row_number r) p y) (other (row_number r) p y) both).0) rule row part x added))
+    (second rule row standing part x
+    (adds_more permitted files spaces (tested (common bounds other)) (tested other)
+    (λ r p y both. (and_parts (bounds (row_number r) p y) (other (row_number r) p y) both).1) rule row part x added))

@@ -1,0 +1,128 @@
+-- Writing the maps of a space and its setgroups word keeps the spaces and the members covered.
+use Rattle.std.proofs.Common.{◌≡◌, ℕ, suc, Bool, true, false, Some, List, [], ◌∷◌, length, refl, sym, ap, ◌∙◌, inl, inr, eqb}
+use Rattle.std.specs.Prelude.{◌⊎◌, if◌then◌else◌}
+use Rattle.std.proofs.lemmas.Bool.{cases_eq, eqb-true}
+use Rattle.model_cred.specs.Credential.{Credential}
+use Rattle.model_cred.specs.IdMap.{Extent}
+use Rattle.model_cred.specs.Space.{Space, Spaces, space_of, put_space}
+use Rattle.model_box.specs.Row.{Part, Row, Fresh}
+use Rattle.model_box.specs.Covers.{RowOf, Stays, MapsIn, IsLater}
+use Rattle.model_box.proofs.Trees.{space_of_newest, space_of_older, row_same}
+use Rattle.model_box.proofs.Fits.{SpacesFit, MemberFits}
+
+-- ---- another space in the place of one
+-- a choice, by its two ways
+pub choose : {A : Type 0} (P : A → Type 0) (b : Bool) (x y : A) → (b ≡ true → P x) → (b ≡ false → P y) → P (if b then x else y)
+choose P true x y first second = first refl
+choose P false x y first second = second refl
+
+pub length_put : (t : ℕ) (new : Space) (spaces : Spaces) → length (put_space t new spaces) ≡ length spaces
+length_put t new [] = refl
+length_put t new (s ∷ older) =
+    choose (λ (spaces : Spaces). length spaces ≡ suc (length older)) (eqb t (length older)) (new ∷ older) (s ∷ put_space t new older)
+    (λ _. refl) (λ _. ap suc (length_put t new older))
+
+pub put_cases : (t : ℕ) (new : Space) (spaces : Spaces) (n : ℕ)
+    → ((n ≡ t) × (space_of (put_space t new spaces) n ≡ new)) ⊎ (space_of (put_space t new spaces) n ≡ space_of spaces n)
+put_cases t new [] n = inr refl
+put_cases t new (s ∷ older) n =
+    choose (λ (after : Spaces). ((n ≡ t) × (space_of after n ≡ new)) ⊎ (space_of after n ≡ space_of (s ∷ older) n))
+    (eqb t (length older)) (new ∷ older) (s ∷ put_space t new older) here (there (put_cases t new older n)) where
+      here : eqb t (length older) ≡ true → ((n ≡ t) × (space_of (new ∷ older) n ≡ new)) ⊎ (space_of (new ∷ older) n ≡ space_of (s ∷ older) n)
+      here at =
+          elim (cases_eq n (length older)) [
+            | inl same ↦ inl (same ∙ sym (eqb-true t (length older) at), ap (space_of (new ∷ older)) same ∙ space_of_newest new older)
+            | inr other ↦ inr (space_of_older new older n other ∙ sym (space_of_older s older n other))
+          ]
+
+      below : (n ≡ length (put_space t new older) → ⊥) → (n ≡ length older → ⊥)
+          → ((n ≡ t) × (space_of (put_space t new older) n ≡ new)) ⊎ (space_of (put_space t new older) n ≡ space_of older n)
+          → ((n ≡ t) × (space_of (s ∷ put_space t new older) n ≡ new)) ⊎ (space_of (s ∷ put_space t new older) n ≡ space_of (s ∷ older) n)
+      below put_other other (inl at) = inl (at.0, space_of_older s (put_space t new older) n put_other ∙ at.1)
+      below put_other other (inr kept) = inr (space_of_older s (put_space t new older) n put_other ∙ kept ∙ sym (space_of_older s older n other))
+
+      there : ((n ≡ t) × (space_of (put_space t new older) n ≡ new)) ⊎ (space_of (put_space t new older) n ≡ space_of older n)
+          → eqb t (length older) ≡ false → ((n ≡ t) × (space_of (s ∷ put_space t new older) n ≡ new)) ⊎ (space_of (s ∷ put_space t new older) n ≡ space_of (s ∷ older) n)
+      there rest past =
+          elim (cases_eq n (length older)) [
+            | inl same ↦
+                let put_same : n ≡ length (put_space t new older) = same ∙ sym (length_put t new older) in
+                inr ((ap (space_of (s ∷ put_space t new older)) put_same ∙ space_of_newest s (put_space t new older)) ∙ sym (ap (space_of (s ∷ older)) same ∙ space_of_newest s older))
+            | inr other ↦ below (λ e. other (e ∙ length_put t new older)) other rest
+          ]
+
+-- A changed space that keeps what stays, and whose maps are in its row, keeps the spaces covered.
+module _ (old new : Spaces) (bounds : Row → Part → ℕ → Type 0) (fit : SpacesFit old new bounds)
+    (t : ℕ) (s : Space) (stays : Stays (space_of new t) s) (inside : (row : Row) → RowOf (length old) new t row → MapsIn s (bounds row)) where
+  put_parent : (n : ℕ) → (space_of (put_space t s new) n).parent ≡ (space_of new n).parent
+  put_parent n =
+      elim (put_cases t s new n) [
+        | inl at ↦ ap (λ (x : Space). x.parent) at.1 ∙ stays.parent ∙ ap (λ (k : ℕ). (space_of new k).parent) (sym at.0)
+        | inr same ↦ ap (λ (x : Space). x.parent) same
+      ]
+
+  put_owner : (n : ℕ) → (space_of (put_space t s new) n).owner ≡ (space_of new n).owner
+  put_owner n =
+      elim (put_cases t s new n) [
+        | inl at ↦ ap (λ (x : Space). x.owner) at.1 ∙ stays.owner ∙ ap (λ (k : ℕ). (space_of new k).owner) (sym at.0)
+        | inr same ↦ ap (λ (x : Space). x.owner) same
+      ]
+
+  put_deny : (n : ℕ) → (space_of new n).deny ≡ true → (space_of (put_space t s new) n).deny ≡ true
+  put_deny n word =
+      elim (put_cases t s new n) [
+        | inl at ↦ ap (λ (x : Space). x.deny) at.1 ∙ stays.deny (ap (λ (k : ℕ). (space_of new k).deny) (sym at.0) ∙ word)
+        | inr same ↦ ap (λ (x : Space). x.deny) same ∙ word
+      ]
+
+  put_uids : (n : ℕ) (map : List Extent) → (space_of new n).uids ≡ Some map → (space_of (put_space t s new) n).uids ≡ Some map
+  put_uids n map written =
+      elim (put_cases t s new n) [
+        | inl at ↦ ap (λ (x : Space). x.uids) at.1 ∙ stays.uids map (ap (λ (k : ℕ). (space_of new k).uids) (sym at.0) ∙ written)
+        | inr same ↦ ap (λ (x : Space). x.uids) same ∙ written
+      ]
+
+  put_gids : (n : ℕ) (map : List Extent) → (space_of new n).gids ≡ Some map → (space_of (put_space t s new) n).gids ≡ Some map
+  put_gids n map written =
+      elim (put_cases t s new n) [
+        | inl at ↦ ap (λ (x : Space). x.gids) at.1 ∙ stays.gids map (ap (λ (k : ℕ). (space_of new k).gids) (sym at.0) ∙ written)
+        | inr same ↦ ap (λ (x : Space). x.gids) same ∙ written
+      ]
+
+  put_row : (n : ℕ) (row : Row) → RowOf (length old) (put_space t s new) n row → RowOf (length old) new n row
+  put_row n row row_n = row_same (put_space t s new) new put_parent row_n
+
+  put_later : (n : ℕ) → IsLater (length old) old new n bounds → IsLater (length old) old (put_space t s new) n bounds
+  put_later n later = record {
+    parent = (later.parent.0, put_parent n ∙ later.parent.1, later.parent.2);
+    owner = λ p row parent row_p. rw (put_owner n) (later.owner p row (sym (put_parent n) ∙ parent) (put_row p row row_p));
+    deny = λ a row word. put_deny n (later.deny a (put_row n (Fresh a) row) word);
+    filled = λ a row. later.filled a (put_row n (Fresh a) row);
+  }
+
+  pub put_fits : SpacesFit old (put_space t s new) bounds
+  put_fits = record {
+    before = fit.before;
+    earlier = λ n p parent. fit.earlier n p (sym (put_parent n) ∙ parent);
+    grown = rw (length_put t s new) (fit.grown);
+    stay = λ n low. record {
+      parent = put_parent n ∙ (fit.stay n low).parent;
+      owner = put_owner n ∙ (fit.stay n low).owner;
+      uids = λ map written. put_uids n map ((fit.stay n low).uids map written);
+      gids = λ map written. put_gids n map ((fit.stay n low).gids map written);
+      deny = λ word. put_deny n ((fit.stay n low).deny word);
+    };
+    mapped = λ n row row_n.
+        elim (put_cases t s new n) [
+          | inl at ↦ rw at.1 (inside row (rw at.0 at (put_row n row row_n)))
+          | inr same ↦ rw same (fit.mapped n row (put_row n row row_n))
+        ];
+    later = λ n late here. put_later n (fit.later n late (rw (length_put t s new) at here));
+  }
+
+  pub put_members : (at : ℕ) (c : Credential) → MemberFits old new bounds at c → MemberFits old (put_space t s new) bounds at c
+  put_members at c member = record {
+    here = rw (length_put t s new) (member.here);
+    held = λ row row_at. member.held row (put_row at row row_at);
+    included = member.included;
+  }

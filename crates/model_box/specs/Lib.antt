@@ -1,0 +1,12 @@
+-- Bounds of what the members of a family can hold, the rules by which bounds are closed, and what closed bounds exclude.
+pub mod Row
+pub mod Rule
+pub mod Gains
+pub mod Files
+pub mod Spread
+pub mod Closed
+pub mod Covers
+pub mod Meets
+pub mod Start
+pub mod Laws
+pub mod Example
