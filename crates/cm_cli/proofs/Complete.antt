@@ -1,12 +1,18 @@
--- That valid input without faults is accepted, or memory ran out.
-use Rattle.std.proofs.Common.{◌≡◌, ◌≢◌, ℕ, List, inl, inr, refl, arith}
+-- That valid input without faults is accepted or answered, or memory ran out.
+use Rattle.std.proofs.Common.{◌≡◌, ◌≢◌, ◌⊎◌, ℕ, List, Option, None, Some, inl, inr, refl, sym, subst, ◌∙◌, arith}
 use Rattle.cm_base.specs.declared.status.Status.{Status}
 use Rattle.cm_base.specs.declared.status.Status.TheVariants as answers
-use Rattle.cm_cli.specs.Answers.{report_over, ComesByCause, IsValid, IsAcceptedOrNoMemory, NoneRose, NamesFault}
+use Rattle.cm_cli.specs.Answers.{report_over, ComesByCause, IsValid, IsCompleted, SaysYes, SaysNo, NoneRose, NamesFault}
 use Rattle.cm_cli.specs.Telling.{IsTold}
 use Rattle.cm_io.specs.Shelf.{Files, bytes_at, Rose}
+use Rattle.model_cred.specs.Process.{State}
+use Rattle.model_cred.specs.World.{World}
+use Rattle.model_text.proofs.Endings.{yes_is_never, no_is_way}
 use Rattle.model_text.proofs.Statuses.{each_by_its_cause}
-use Rattle.model_text.specs.Laws.{EachByItsCause}
+use Rattle.model_text.specs.Causes.{Cause, Behind, IsNo, IsBeyond}
+use Rattle.model_text.specs.Command.{command_of, query_of}
+use Rattle.model_text.specs.Query.{Query}
+use Rattle.model_text.specs.Laws.{EachByItsCause, YesIsNever, NoIsWay}
 
 -- the answer's cause, from its being the report's status
 pub by_cause : (words : List (List ℕ)) (files : Files) (answer : Status) → answer ≡ (report_over words files).status → ComesByCause words files answer
@@ -16,30 +22,73 @@ by_cause words files answer is st = rw is (each_by_its_cause words (bytes_at fil
 told : (st : Status) → st ≢ answers.ReadFault → st ≢ answers.WriteFault → st ≢ answers.NoMemory → IsTold st
 told st a b c = record { not_read_fault = a; not_write_fault = b; not_memory = c }
 
+T : Status → Type 0
+T st = (st ≢ answers.ReadFault) × (st ≢ answers.WriteFault) × (st ≢ answers.NoMemory)
+
+-- the cause of the answer, where it is a status of a report
+cause_of : (words : List (List ℕ)) (files : Files) (answer : Status) → (IsTold answer → ComesByCause words files answer) → T answer → Cause words (bytes_at files) answer
+unfolding T
+cause_of words files answer by (a, b, c) = (by (told answer a b c) answer).0 refl
+
+-- a replay that asks nothing has no answer to an audit
+asks_nothing : (words : List (List ℕ)) (bytes : List ℕ → List ℕ) (Answer : Query → World → State → Type 0) → query_of (command_of words) ≡ None → ¬ Behind words bytes Answer
+asks_nothing words bytes Answer none (is, q, asked, h) = absurd (let never : None ≡ Some q = sym none ∙ asked in cc)
+
+-- not built, and yet valid, is what an audit asks for alone
+valid_unbuilt : (words : List (List ℕ)) (files : Files) → IsValid words files → Cause words (bytes_at files) answers.NotBuilt → Behind words (bytes_at files) IsBeyond
+valid_unbuilt words files valid (inl unbuilt) = absurd (valid.not_built unbuilt)
+valid_unbuilt words files valid (inr beyond) = beyond
+
+-- what a status of a report stands for in valid input
+valid_by : (words : List (List ℕ)) (files : Files) (query : Option Query) (answer : Status) → query_of (command_of words) ≡ query → IsValid words files → Cause words (bytes_at files) answer → IsCompleted query answer
+valid_by words files None answers.Accepted asked valid h = inl refl
+valid_by words files (Some q) answers.Accepted asked valid h = inl refl
+valid_by words files None answers.No asked valid h = absurd (asks_nothing words (bytes_at files) IsNo asked h)
+valid_by words files (Some q) answers.No asked valid h = inr (inl refl)
+valid_by words files None answers.NotBuilt asked valid h = absurd (asks_nothing words (bytes_at files) IsBeyond asked (valid_unbuilt words files valid h))
+valid_by words files (Some q) answers.NotBuilt asked valid h = inr (inr (inl refl))
+valid_by words files query answers.Impossible asked valid h = absurd (valid.impossible h)
+valid_by words files query answers.BadWorld asked valid h = absurd (valid.bad_world h)
+valid_by words files query answers.BadLog asked valid h = absurd (valid.bad_log h)
+valid_by words files query answers.Usage asked valid h = absurd (valid.usage h)
+valid_by words files query answers.Limit asked valid h = absurd (valid.limit h)
+valid_by words files query answers.BadQuery asked valid h = absurd (valid.bad_query h)
+valid_by words files query _ asked valid h = absurd h
+
+no_memory : (query : Option Query) → IsCompleted query answers.NoMemory
+no_memory None = inr refl
+no_memory (Some q) = inr (inr (inr refl))
+
 -- valid input, where each answer of a report has its cause, and none of the faults is answered
-valid_accepted : (words : List (List ℕ)) (files : Files) (answer : Status) → (IsTold answer → ComesByCause words files answer) → answer ≢ answers.ReadFault → answer ≢ answers.WriteFault → IsValid words files → IsAcceptedOrNoMemory answer
-valid_accepted words files answers.NoMemory by no_read no_write valid = inr refl
-valid_accepted words files answers.ReadFault by no_read no_write valid = absurd (no_read refl)
-valid_accepted words files answers.WriteFault by no_read no_write valid = absurd (no_write refl)
-valid_accepted words files answers.Accepted by no_read no_write valid = inl refl
-valid_accepted words files answers.No by no_read no_write valid = absurd ((by (told answers.No (λ e. cc) (λ e. cc) (λ e. cc)) answers.No).0 refl)
-valid_accepted words files answers.Undecided by no_read no_write valid = absurd ((by (told answers.Undecided (λ e. cc) (λ e. cc) (λ e. cc)) answers.Undecided).0 refl)
-valid_accepted words files answers.Refused by no_read no_write valid = absurd ((by (told answers.Refused (λ e. cc) (λ e. cc) (λ e. cc)) answers.Refused).0 refl)
-valid_accepted words files answers.BadQuery by no_read no_write valid = absurd ((by (told answers.BadQuery (λ e. cc) (λ e. cc) (λ e. cc)) answers.BadQuery).0 refl)
-valid_accepted words files answers.Impossible by no_read no_write valid = absurd (valid.impossible ((by (told answers.Impossible (λ e. cc) (λ e. cc) (λ e. cc)) answers.Impossible).0 refl))
-valid_accepted words files answers.BadWorld by no_read no_write valid = absurd (valid.bad_world ((by (told answers.BadWorld (λ e. cc) (λ e. cc) (λ e. cc)) answers.BadWorld).0 refl))
-valid_accepted words files answers.BadLog by no_read no_write valid = absurd (valid.bad_log ((by (told answers.BadLog (λ e. cc) (λ e. cc) (λ e. cc)) answers.BadLog).0 refl))
-valid_accepted words files answers.Usage by no_read no_write valid = absurd (valid.usage ((by (told answers.Usage (λ e. cc) (λ e. cc) (λ e. cc)) answers.Usage).0 refl))
-valid_accepted words files answers.Limit by no_read no_write valid = absurd (valid.limit ((by (told answers.Limit (λ e. cc) (λ e. cc) (λ e. cc)) answers.Limit).0 refl))
-valid_accepted words files answers.NotBuilt by no_read no_write valid = absurd (valid.not_built ((by (told answers.NotBuilt (λ e. cc) (λ e. cc) (λ e. cc)) answers.NotBuilt).0 refl))
+valid_completed : (words : List (List ℕ)) (files : Files) (answer : Status) → (IsTold answer → ComesByCause words files answer) → answer ≢ answers.ReadFault → answer ≢ answers.WriteFault → IsValid words files
+    → (answer ≡ answers.NoMemory) ⊎ (answer ≢ answers.NoMemory) → IsCompleted (query_of (command_of words)) answer
+unfolding T
+valid_completed words files answer by no_read no_write valid (inl is) = rw is (no_memory (query_of (command_of words)))
+valid_completed words files answer by no_read no_write valid (inr not) =
+    valid_by words files (query_of (command_of words)) answer refl valid (cause_of words files answer by (no_read, no_write, not))
+
+wants_memory : (answer : Status) → (answer ≡ answers.NoMemory) ⊎ (answer ≢ answers.NoMemory)
+wants_memory answers.NoMemory = inl refl
+wants_memory _ = inr (λ e. cc)
 
 -- and no fault was counted
 pub completed : (words : List (List ℕ)) (files : Files) (answer : Status) (reads reads' : List ℕ → ℕ) (writes writes' : ℕ) → (IsTold answer → answer ≡ (report_over words files).status)
-    → (answer ≡ answers.ReadFault → NamesFault words reads reads') → (answer ≡ answers.WriteFault → Rose writes writes') → IsValid words files → NoneRose reads reads' writes writes' → IsAcceptedOrNoMemory answer
+    → (answer ≡ answers.ReadFault → NamesFault words reads reads') → (answer ≡ answers.WriteFault → Rose writes writes') → IsValid words files → NoneRose reads reads' writes writes' → IsCompleted (query_of (command_of words)) answer
 completed words files answer reads reads' writes writes' is read write valid none =
-    valid_accepted words files answer (λ is_told. by_cause words files answer (is is_told))
+    valid_completed words files answer (λ is_told. by_cause words files answer (is is_told))
     (λ fault. let named = read fault in elim named.rose [ inl world ↦ none.reads_same named.world world | inr log ↦ none.reads_same named.log log ])
-    (λ fault. none.writes_same (write fault)) valid
+    (λ fault. none.writes_same (write fault)) valid (wants_memory answer)
+
+-- what an audit says, where the answer is the report's status
+pub says_yes : (words : List (List ℕ)) (files : Files) (answer : Status) → (IsTold answer → answer ≡ (report_over words files).status) → answer ≡ answers.Accepted → SaysYes words files
+unfolding YesIsNever
+says_yes words files answer is said q asked =
+    yes_is_never words (bytes_at files) q asked (sym (is (subst (λ (st : Status). IsTold st) (sym said) (told answers.Accepted (λ e. cc) (λ e. cc) (λ e. cc)))) ∙ said)
+
+pub says_no : (words : List (List ℕ)) (files : Files) (answer : Status) → (IsTold answer → answer ≡ (report_over words files).status) → answer ≡ answers.No → SaysNo words files
+unfolding NoIsWay
+says_no words files answer is said =
+    no_is_way words (bytes_at files) (sym (is (subst (λ (st : Status). IsTold st) (sym said) (told answers.No (λ e. cc) (λ e. cc) (λ e. cc)))) ∙ said)
 
 -- a count that is always 0 never rises
 pub never_rises : ¬ Rose 0 0

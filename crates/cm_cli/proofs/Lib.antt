@@ -11,6 +11,7 @@ pub mod GroupText
 pub mod Members
 pub mod Order
 pub mod Starting
+pub mod Following
 pub mod Told
 pub mod Replaying
 pub mod Complete

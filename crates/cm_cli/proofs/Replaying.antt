@@ -1,11 +1,11 @@
 -- What the replay of a log in a world answers, by how its files were read.
-use Rattle.std.proofs.Common.{◌≡◌, ◌≢◌, ◌≤◌, ◌⊎◌, ◌+◌, ℕ, List, [], ◌∷◌, Option, None, Some, refl, sym, ap, ◌∙◌, le_of_eq}
+use Rattle.std.proofs.Common.{◌≡◌, ◌≢◌, ◌≤◌, ◌⊎◌, ◌+◌, ◌==◌, Bool, true, false, cond, length, ℕ, List, [], ◌∷◌, Option, None, Some, refl, sym, ap, ◌∙◌, le_of_eq}
 use Rattle.std.specs.Prelude.{IfSome}
 use Rattle.cm_base.specs.declared.status.Status.{Status}
 use Rattle.cm_base.specs.declared.status.Status.TheVariants as answers
 use Rattle.cm_cli.proofs.Waiting.{all_waits}
 use Rattle.cm_cli.specs.Answers.{ReplayAnswer}
-use Rattle.cm_cli.specs.Machine.{state_of, world_of}
+use Rattle.cm_cli.specs.Machine.{world_of}
 use Rattle.cm_cli.specs.Reading.{WorldStands}
 use Rattle.cm_cli.specs.Telling.{Tells, short_report, log_report}
 use Rattle.cm_cli.specs.declared.telling.Short.{Short}
@@ -13,11 +13,14 @@ use Rattle.cm_cli.specs.declared.telling.Short.TheVariants as short
 use Rattle.cm_io.specs.Shelf.{Files, bytes_at, Rose}
 use Rattle.model_cred.specs.Call.{Event}
 use Rattle.model_cred.specs.Process.{Process, State}
+use Rattle.model_cred.specs.Right.{Right, Cap, Uid, Gid}
 use Rattle.model_cred.specs.World.{World}
+use Rattle.model_run.specs.WayBack.{way_back}
 use Rattle.model_run.specs.Step.{Outcome, Goes, NoProcess, NoSpace, PidInUse, Wrong, outcome}
 use Rattle.model_text.specs.Cut.{lines_of}
-use Rattle.model_text.specs.Line.{Line, NoEvent, Tells as TellsEvent, Faulty, Unbuilt, script_line}
-use Rattle.model_text.specs.Report.{Report, replay, replayed, by_line, by_outcome}
+use Rattle.model_text.specs.Line.{Line, NoEvent, Tells as TellsEvent, Faulty, Unbuilt, script_line, events_of}
+use Rattle.model_text.specs.Query.{Query, asked_process, right_token}
+use Rattle.model_text.specs.Report.{Report, files_report, answered, go_on, verdict, asked_verdict, right_verdict, way_verdict, not_built, state_after, replayed, by_line, by_outcome}
 
 -- a fact of what is told, from another
 pub if_told : {T : Type 0} {P Q : T → Type 0} (o : Option T) → IfSome o P → ((x : T) → P x → Q x) → IfSome o Q
@@ -54,14 +57,43 @@ replayed_not_usage : (w : World) (lines : List (List ℕ)) (s : State) (n count 
 replayed_not_usage w [] s n count = λ is. cc
 replayed_not_usage w (line ∷ lines) s n count = line_not_usage w s n count (λ s' c. replayed w lines s' (n + 1) c) (λ s' c. replayed_not_usage w lines s' (n + 1) c) (script_line line)
 
--- nor has the report of a log
-pub log_not_usage : (ps : List Process) (log : List ℕ) → (log_report ps log).status ≢ answers.Usage
-log_not_usage ps log = replayed_not_usage (world_of ps) (lines_of log) (state_of ps) 1 0
+-- nor has an answer to an audit
+way_not_usage : (pid : ℕ) (way : Option (List Event)) → (way_verdict pid way).status ≢ answers.Usage
+way_not_usage pid None is = cc
+way_not_usage pid (Some way) is = cc
 
-module _ (held : Option Files) (world log : List ℕ) (answer : Status) (w w' : Option (List ℕ)) (reads reads' : List ℕ → ℕ) (writes writes' : ℕ) where
+right_not_usage : (s : State) (p : Process) (right : Right) → (right_verdict s p right).status ≢ answers.Usage
+right_not_usage s p (Gid k) is = cc
+right_not_usage s p (Cap cap n) is = cc
+right_not_usage s p (Uid k) is =
+    elim (length s.processes == 1) as (λ (b : Bool). (cond b (way_verdict p.pid (way_back p.cred p.pid k)) not_built).status ≡ answers.Usage → ⊥) [
+      | true ↦ way_not_usage p.pid (way_back p.cred p.pid k)
+      | false ↦ λ never. cc
+    ] is
+
+asked_not_usage : (s : State) (p : Option Process) (right : Option Right) → (asked_verdict s p right).status ≢ answers.Usage
+asked_not_usage s None right is = cc
+asked_not_usage s (Some p) None is = cc
+asked_not_usage s (Some p) (Some right) is = right_not_usage s p right is
+
+go_on_not_usage : (st : Status) (r next : Report) → r.status ≢ answers.Usage → next.status ≢ answers.Usage → (go_on st r next).status ≢ answers.Usage
+go_on_not_usage answers.Accepted r next first second = second
+go_on_not_usage _ r next first second = first
+
+answered_not_usage : (query : Option Query) (w : World) (lines : List (List ℕ)) → (answered query w lines).status ≢ answers.Usage
+answered_not_usage None w lines = replayed_not_usage w lines w.start 1 0
+answered_not_usage (Some q) w lines =
+    go_on_not_usage (replayed w lines w.start 1 0).status (replayed w lines w.start 1 0) (verdict (state_after w w.start (events_of lines)) q) (replayed_not_usage w lines w.start 1 0)
+    (asked_not_usage (state_after w w.start (events_of lines)) (asked_process (state_after w w.start (events_of lines)) q.pid) (right_token q.right))
+
+-- nor has the report of a log
+pub log_not_usage : (query : Option Query) (ps : List Process) (log : List ℕ) → (log_report query ps log).status ≢ answers.Usage
+log_not_usage query ps log = answered_not_usage query (world_of ps) (lines_of log)
+
+module _ (held : Option Files) (query : Option Query) (world log : List ℕ) (answer : Status) (w w' : Option (List ℕ)) (reads reads' : List ℕ → ℕ) (writes writes' : ℕ) where
   -- the files were read, and a report was told
-  pub answers_report : (r : Report) → IfSome held (λ files. replay (bytes_at files world) (bytes_at files log) ≡ r) → ((n : List ℕ) → reads' n ≡ reads n) → r.status ≢ answers.Usage
-      → Tells r answer w w' writes writes' → ReplayAnswer held world log answer w w' reads reads' writes writes'
+  pub answers_report : (r : Report) → IfSome held (λ files. files_report query (bytes_at files world) (bytes_at files log) ≡ r) → ((n : List ℕ) → reads' n ≡ reads n) → r.status ≢ answers.Usage
+      → Tells r answer w w' writes writes' → ReplayAnswer held query world log answer w w' reads reads' writes writes'
   answers_report r ready same not_usage told = record {
     status = if_told held ready (λ files is is_told. told.status is_told ∙ ap (λ (q : Report). q.status) (sym is));
     text = if_told held ready (λ files is. rw is (record { whole = told.text; front = told.front }));
@@ -76,9 +108,9 @@ module _ (held : Option Files) (world log : List ℕ) (answer : Status) (w w' : 
   }
 
 -- a read failed
-pub answers_read_fault : (held : Option Files) (world log : List ℕ) (w : Option (List ℕ)) (reads reads' : List ℕ → ℕ) (writes : ℕ) → Rose (reads world) (reads' world) ⊎ Rose (reads log) (reads' log)
-    → IfSome held (λ files. Rose (reads world) (reads' world) ⊎ WorldStands (bytes_at files world)) → ((n : List ℕ) → reads n ≤ reads' n) → ReplayAnswer held world log answers.ReadFault w w reads reads' writes writes
-answers_read_fault held world log w reads reads' writes rose order later = record {
+pub answers_read_fault : (held : Option Files) (query : Option Query) (world log : List ℕ) (w : Option (List ℕ)) (reads reads' : List ℕ → ℕ) (writes : ℕ) → Rose (reads world) (reads' world) ⊎ Rose (reads log) (reads' log)
+    → IfSome held (λ files. Rose (reads world) (reads' world) ⊎ WorldStands (bytes_at files world)) → ((n : List ℕ) → reads n ≤ reads' n) → ReplayAnswer held query world log answers.ReadFault w w reads reads' writes writes
+answers_read_fault held query world log w reads reads' writes rose order later = record {
   status = if_any held (λ files told. absurd (told.not_read_fault refl));
   text = if_any held (λ files. record { whole = λ told. absurd (told.not_read_fault refl); front = (_, all_waits w _) });
   read_fault = λ _. rose;
@@ -92,9 +124,9 @@ answers_read_fault held world log w reads reads' writes rose order later = recor
 }
 
 -- there was no memory for the files
-pub answers_no_memory : (held : Option Files) (world log : List ℕ) (w : Option (List ℕ)) (reads reads' : List ℕ → ℕ) (writes : ℕ) → ((n : List ℕ) → reads' n ≡ reads n)
-    → ReplayAnswer held world log answers.NoMemory w w reads reads' writes writes
-answers_no_memory held world log w reads reads' writes same = record {
+pub answers_no_memory : (held : Option Files) (query : Option Query) (world log : List ℕ) (w : Option (List ℕ)) (reads reads' : List ℕ → ℕ) (writes : ℕ) → ((n : List ℕ) → reads' n ≡ reads n)
+    → ReplayAnswer held query world log answers.NoMemory w w reads reads' writes writes
+answers_no_memory held query world log w reads reads' writes same = record {
   status = if_any held (λ files told. absurd (told.not_memory refl));
   text = if_any held (λ files. record { whole = λ told. absurd (told.not_memory refl); front = (_, all_waits w _) });
   read_fault = λ is. cc;

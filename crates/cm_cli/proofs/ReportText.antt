@@ -1,8 +1,11 @@
 -- The text of lines one after another, and what pieces written one after another come to.
-use Rattle.std.proofs.Common.{◌≡◌, ℕ, List, [], ◌∷◌, ◌++◌, Result, OnOk, sym, ap, ◌∙◌, append_assoc, append-nil}
+use Rattle.std.proofs.Common.{◌≡◌, ℕ, List, [], ◌∷◌, ◌++◌, Result, length, map, OnOk, sym, ap, ◌∙◌, append_assoc, append-nil}
 use Rattle.std.proofs.lemmas.Grind.{flat_map-append}
 use Rattle.std.proofs.lemmas.Result.{IfOk-equal}
-use Rattle.model_text.specs.Report.{ReportLine, Plain, line_text, text_of}
+use Rattle.model_text.specs.Report.{ReportLine, Plain, line_text, text_of, at_line, way_lines}
+use Rattle.model_cred.specs.Call.{Event}
+use Rattle.model_text.specs.Print.{event_text}
+use Rattle.std.specs.Prelude.{codes}
 
 -- the text of lines and then more lines
 pub text_of_append : (a b : List ReportLine) → text_of (a ++ b) ≡ text_of a ++ text_of b
@@ -37,3 +40,19 @@ pub plain : {T E : Type 0} (r : Result T E) (old now new text : List ℕ)
     → OnOk r (new ≡ now) → now ≡ old ++ (text ++ 10 ∷ []) → OnOk r (new ≡ old ++ text_of (Plain text ∷ []))
 plain r old now new text wrote same =
     IfOk-equal r new now (old ++ text_of (Plain text ∷ [])) wrote (same ∙ ap (λ t. old ++ t) (sym (text_of_one (Plain text))))
+
+-- the lines of a way back: how many calls, the calls, and the holder
+way_text : (pid : ℕ) (way : List Event)
+    → text_of (way_lines pid way) ≡ text_of (Plain (at_line (codes "no ") (length way)) ∷ []) ++ text_of (map (λ e. Plain (event_text e)) way) ++ text_of (Plain (at_line (codes "holder ") pid) ∷ [])
+way_text pid way =
+    let no : ReportLine = Plain (at_line (codes "no ") (length way)) in
+    let calls : List ReportLine = map (λ e. Plain (event_text e)) way in
+    let holder : ReportLine = Plain (at_line (codes "holder ") pid) in
+    text_of_append (no ∷ calls) (holder ∷ []) ∙ ap (λ t. t ++ text_of (holder ∷ [])) (text_of_cons no calls)
+
+-- the same, written one after another
+pub way_written : (old one two : List ℕ) (pid : ℕ) (way : List Event) → one ≡ old ++ text_of (Plain (at_line (codes "no ") (length way)) ∷ [])
+    → two ≡ one ++ text_of (map (λ e. Plain (event_text e)) way) → two ++ text_of (Plain (at_line (codes "holder ") pid) ∷ []) ≡ old ++ text_of (way_lines pid way)
+way_written old one two pid way first second =
+    joined old one two (text_of (Plain (at_line (codes "no ") (length way)) ∷ [])) (text_of (map (λ e. Plain (event_text e)) way)) (text_of (Plain (at_line (codes "holder ") pid) ∷ [])) first second
+    ∙ ap (λ t. old ++ t) (sym (way_text pid way))

@@ -1,11 +1,11 @@
 -- A report that is told, or that stops.
-use Rattle.std.proofs.Common.{◌≡◌, ◌≢◌, ◌≤◌, ◌+◌, ℕ, List, [], ◌∷◌, ◌++◌, map, append-nil, le_of_eq, Option, refl, sym, ap, ◌∙◌}
+use Rattle.std.proofs.Common.{◌≡◌, ◌≢◌, ◌≤◌, ◌+◌, ℕ, List, [], ◌∷◌, ◌++◌, map, append-nil, append_assoc, le_of_eq, Option, None, Some, ◌⊎◌, inl, inr, ◌==◌, Bool, true, false, cond, length, subst, refl, sym, ap, ◌∙◌}
 use Rattle.cm_base.specs.declared.status.Status.{Status}
 use Rattle.cm_base.specs.declared.status.Status.TheVariants as answers
 use Rattle.cm_cli.proofs.ReportText.{text_of_append}
 use Rattle.cm_cli.specs.Machine.{state_of, world_of}
 use Rattle.cm_cli.specs.Sent.{IsSent, IsFront}
-use Rattle.cm_cli.specs.Telling.{IsTold, Tells, stopped_by, log_report}
+use Rattle.cm_cli.specs.Telling.{IsTold, Tells, stopped_by, log_report, answer_to}
 use Rattle.cm_io.specs.Sink.{then_written}
 use Rattle.cm_io.specs.declared.outside.Outside.{Outside}
 use Rattle.cm_io.specs.declared.outside.Outside.TheVariants as outside
@@ -14,10 +14,14 @@ use Rattle.model_cred.specs.Process.{Process}
 use Rattle.model_text.specs.Cut.{lines_of}
 use Rattle.model_cred.specs.Call.{Event}
 use Rattle.model_cred.specs.Process.{State}
+use Rattle.model_cred.specs.Right.{Right, Cap, Uid, Gid}
 use Rattle.model_cred.specs.World.{World}
-use Rattle.model_run.specs.Step.{Outcome, Goes, NoProcess, NoSpace, PidInUse, Wrong, outcome}
-use Rattle.model_text.specs.Line.{Line, NoEvent, Tells as TellsEvent, Faulty, Unbuilt, script_line}
-use Rattle.model_text.specs.Report.{Report, Credentials, text_of, replayed, by_line, by_outcome}
+use Rattle.model_run.specs.WayBack.{way_back}
+use Rattle.model_run.specs.Step.{Outcome, Goes, NoProcess, NoSpace, PidInUse, Wrong, Run, outcome}
+use Rattle.model_text.specs.Line.{Line, NoEvent, Tells as TellsEvent, Faulty, Unbuilt, script_line, events_of}
+use Rattle.model_text.proofs.Statuses.{of_end, of_stop}
+use Rattle.model_text.specs.Query.{Query, asked_process, right_token}
+use Rattle.model_text.specs.Report.{Report, Credentials, text_of, answered, after, go_on, verdict, asked_verdict, right_verdict, way_verdict, not_built, state_after, replayed, by_line, by_outcome}
 
 -- a report that stopped at an error: a front of it is written
 pub stops : (r : Report) (why : Outside) (answer : Status) (w w' : Option (List ℕ)) (f f' : ℕ) → answer ≡ stopped_by why → IsFront w w' (text_of r.lines)
@@ -41,9 +45,78 @@ stops r outside.NoMemory answer w w' f f' is front later rose = record {
   later = later;
 }
 
--- the text of the log's report: the start lines, and the replay
-pub log_text : (ps : List Process) (log : List ℕ) → text_of (log_report ps log).lines ≡ text_of (map Credentials ps) ++ text_of (replayed (world_of ps) (lines_of log) (state_of ps) 1 0).lines
-log_text ps log = text_of_append (map Credentials ps) (replayed (world_of ps) (lines_of log) (state_of ps) 1 0).lines
+-- the text of the log's report: the start lines, and what is answered
+pub log_text : (query : Option Query) (ps : List Process) (log : List ℕ)
+    → text_of (log_report query ps log).lines ≡ text_of (map Credentials ps) ++ text_of (answered query (world_of ps) (lines_of log)).lines
+log_text query ps log = text_of_append (map Credentials ps) (answered query (world_of ps) (lines_of log)).lines
+
+-- the rest of a report behind the replay
+stopped_rest : (query : Option Query) (st : Status) (s : State) → st ≢ answers.Accepted → answer_to query st s ≡ record { status = st; lines = [] }
+stopped_rest None st s other = refl
+stopped_rest (Some q) answers.Accepted s other = absurd (other refl)
+stopped_rest (Some q) _ s other = refl
+
+-- What is answered is the replay, and then what comes behind it in the state that an accepted log leads to.
+pub record IsAnswered (query : Option Query) (w : World) (lines : List (List ℕ)) (st : Status) (s : State) : Type 0 where
+  pub status : (answered query w lines).status ≡ (answer_to query st s).status
+  pub text : text_of (answered query w lines).lines ≡ text_of (replayed w lines w.start 1 0).lines ++ text_of (answer_to query st s).lines
+
+accepted_answer : (q : Query) (w : World) (lines : List (List ℕ)) (s : State) → (replayed w lines w.start 1 0).status ≡ answers.Accepted → Run w w.start (events_of lines) s → IsAnswered (Some q) w lines answers.Accepted s
+accepted_answer q w lines s is run =
+    let same : answered (Some q) w lines ≡ after (replayed w lines w.start 1 0).lines (verdict s q) = of_end q w lines s is run in
+    record {
+      status = ap (λ (r : Report). r.status) same;
+      text = ap (λ (r : Report). text_of r.lines) same ∙ text_of_append (replayed w lines w.start 1 0).lines (verdict s q).lines;
+    }
+
+stopped_answer : (query : Option Query) (w : World) (lines : List (List ℕ)) (st : Status) (s : State) → (replayed w lines w.start 1 0).status ≡ st → st ≢ answers.Accepted → IsAnswered query w lines st s
+stopped_answer query w lines st s is other =
+    let same : answered query w lines ≡ replayed w lines w.start 1 0 = of_stop query w lines st is other in
+    let rest : answer_to query st s ≡ record { status = st; lines = [] } = stopped_rest query st s other in
+    record {
+      status = ap (λ (r : Report). r.status) same ∙ is ∙ sym (ap (λ (r : Report). r.status) rest);
+      text =
+          ap (λ (r : Report). text_of r.lines) same ∙ sym (append-nil (text_of (replayed w lines w.start 1 0).lines))
+          ∙ ap (λ (r : Report). text_of (replayed w lines w.start 1 0).lines ++ text_of r.lines) (sym rest);
+    }
+
+accepted_or_not : (st : Status) → (st ≡ answers.Accepted) ⊎ (st ≢ answers.Accepted)
+accepted_or_not answers.Accepted = inl refl
+accepted_or_not _ = inr (λ e. cc)
+
+pub is_answered : (query : Option Query) (w : World) (lines : List (List ℕ)) (st : Status) (s : State) → (replayed w lines w.start 1 0).status ≡ st → (st ≡ answers.Accepted → Run w w.start (events_of lines) s)
+    → IsAnswered query w lines st s
+is_answered None w lines st s is reached = record { status = is; text = sym (append-nil (text_of (replayed w lines w.start 1 0).lines)) }
+is_answered (Some q) w lines st s is reached =
+    elim (accepted_or_not st) [
+      | inl accepted ↦ subst (λ (x : Status). IsAnswered (Some q) w lines x s) (sym accepted) (accepted_answer q w lines s (is ∙ accepted) (reached accepted))
+      | inr other ↦ stopped_answer (Some q) w lines st s is other
+    ]
+
+-- the text of the log's report: the start lines, the replay, and the answer
+pub log_whole : (query : Option Query) (ps : List Process) (log : List ℕ) (st : Status) (s : State) → IsAnswered query (world_of ps) (lines_of log) st s
+    → text_of (log_report query ps log).lines ≡ (text_of (map Credentials ps) ++ text_of (replayed (world_of ps) (lines_of log) (state_of ps) 1 0).lines) ++ text_of (answer_to query st s).lines
+log_whole query ps log st s is =
+    log_text query ps log ∙ ap (λ (t : List ℕ). text_of (map Credentials ps) ++ t) is.text
+    ∙ sym (append_assoc (text_of (map Credentials ps)) (text_of (replayed (world_of ps) (lines_of log) (state_of ps) 1 0).lines) (text_of (answer_to query st s).lines))
+
+goes_longer : (st : Status) (r next : Report) → (more : List ℕ) × (text_of (go_on st r next).lines ≡ text_of r.lines ++ more)
+goes_longer answers.Accepted r next = (text_of next.lines, text_of_append r.lines next.lines)
+goes_longer _ r next = ([], sym (append-nil (text_of r.lines)))
+
+answered_longer : (query : Option Query) (w : World) (lines : List (List ℕ)) → (more : List ℕ) × (text_of (answered query w lines).lines ≡ text_of (replayed w lines w.start 1 0).lines ++ more)
+answered_longer None w lines = ([], sym (append-nil (text_of (replayed w lines w.start 1 0).lines)))
+answered_longer (Some q) w lines = goes_longer (replayed w lines w.start 1 0).status (replayed w lines w.start 1 0) (verdict (state_after w w.start (events_of lines)) q)
+
+-- it begins with the start lines and the replay
+pub log_longer : (query : Option Query) (ps : List Process) (log : List ℕ) → (more : List ℕ)
+    × (text_of (log_report query ps log).lines ≡ (text_of (map Credentials ps) ++ text_of (replayed (world_of ps) (lines_of log) (state_of ps) 1 0).lines) ++ more)
+log_longer query ps log =
+    let longer : (more : List ℕ) × (text_of (answered query (world_of ps) (lines_of log)).lines ≡ text_of (replayed (world_of ps) (lines_of log) (state_of ps) 1 0).lines ++ more) = answered_longer query (world_of ps) (lines_of log) in (
+      longer.0,
+      log_text query ps log ∙ ap (λ (t : List ℕ). text_of (map Credentials ps) ++ t) longer.1
+          ∙ sym (append_assoc (text_of (map Credentials ps)) (text_of (replayed (world_of ps) (lines_of log) (state_of ps) 1 0).lines) longer.0),
+    )
 
 -- all of a text is written where nothing of it waits
 all_written : (w w' : Option (List ℕ)) (whole : List ℕ) → IsSent w w' [] whole → w' ≡ then_written w whole
@@ -87,3 +160,38 @@ told_line w s n count rest told Unbuilt = is_told answers.NotBuilt (λ e. cc) (�
 pub replayed_told : (w : World) (lines : List (List ℕ)) (s : State) (n count : ℕ) → IsTold (replayed w lines s n count).status
 replayed_told w [] s n count = told_accepted
 replayed_told w (line ∷ lines) s n count = told_line w s n count (λ s' c. replayed w lines s' (n + 1) c) (λ s' c. replayed_told w lines s' (n + 1) c) (script_line line)
+
+-- and so has an answer to an audit
+told_way : (pid : ℕ) (way : Option (List Event)) → IsTold (way_verdict pid way).status
+told_way pid None = told_accepted
+told_way pid (Some way) = is_told answers.No (λ e. cc) (λ e. cc) (λ e. cc)
+
+told_unbuilt : IsTold answers.NotBuilt
+told_unbuilt = is_told answers.NotBuilt (λ e. cc) (λ e. cc) (λ e. cc)
+
+told_query : IsTold answers.BadQuery
+told_query = is_told answers.BadQuery (λ e. cc) (λ e. cc) (λ e. cc)
+
+told_right : (s : State) (p : Process) (right : Right) → IsTold (right_verdict s p right).status
+told_right s p (Gid k) = told_unbuilt
+told_right s p (Cap cap n) = told_unbuilt
+told_right s p (Uid k) =
+    elim (length s.processes == 1) as (λ (b : Bool). IsTold (cond b (way_verdict p.pid (way_back p.cred p.pid k)) not_built).status) [
+      | true ↦ told_way p.pid (way_back p.cred p.pid k)
+      | false ↦ told_unbuilt
+    ]
+
+told_asked : (s : State) (p : Option Process) (right : Option Right) → IsTold (asked_verdict s p right).status
+told_asked s None right = told_query
+told_asked s (Some p) None = told_query
+told_asked s (Some p) (Some right) = told_right s p right
+
+told_on : (st : Status) (r next : Report) → IsTold r.status → IsTold next.status → IsTold (go_on st r next).status
+told_on answers.Accepted r next first second = second
+told_on _ r next first second = first
+
+pub answered_told : (query : Option Query) (w : World) (lines : List (List ℕ)) → IsTold (answered query w lines).status
+answered_told None w lines = replayed_told w lines w.start 1 0
+answered_told (Some q) w lines =
+    let s : State = state_after w w.start (events_of lines) in
+    told_on (replayed w lines w.start 1 0).status (replayed w lines w.start 1 0) (verdict s q) (replayed_told w lines w.start 1 0) (told_asked s (asked_process s q.pid) (right_token q.right))

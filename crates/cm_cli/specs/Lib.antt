@@ -6,5 +6,6 @@ pub mod Replay
 pub mod Sent
 pub mod Telling
 pub mod Words
+pub mod Query
 pub mod Reading
 pub mod Answers

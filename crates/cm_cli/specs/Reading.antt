@@ -1,5 +1,5 @@
 -- What the files of a replay come to, where the shelf tells what it holds, and the counts of its faults.
-use Rattle.std.specs.Prelude.{◌≡◌, ◌≢◌, ◌⊎◌, ◌≤◌, ◌<◌, ℕ, length, List, Result, Ok, Err, Vec}
+use Rattle.std.specs.Prelude.{◌≡◌, ◌≢◌, ◌⊎◌, ◌≤◌, ◌<◌, ℕ, length, List, Option, Result, Ok, Err, Vec}
 use Rattle.std.specs.declared.alloc.Global.{Global}
 use Rattle.cm_cli.specs.Machine.{world_of}
 use Rattle.cm_cli.specs.Telling.{short_report, log_report}
@@ -12,6 +12,7 @@ use Rattle.cm_io.specs.declared.whole.WholeError.{WholeError}
 use Rattle.cm_io.specs.declared.whole.WholeError.TheVariants as whole
 use Rattle.model_cred.specs.Process.{Process}
 use Rattle.model_cred.specs.World.{World}
+use Rattle.model_text.specs.Query.{Query}
 use Rattle.model_text.specs.Report.{Report, world_limit, log_limit}
 use Rattle.model_text.specs.WorldText.{WorldText, Reads, Bad, NotBuilt, world_text}
 
@@ -46,12 +47,12 @@ IsLogRead (Err (unready.Refused short.Usage)) bytes = ⊥
 IsLogRead (Err unready.ReadFault) bytes = Unit {0}
 IsLogRead (Err unready.NoMemory) bytes = Unit {0}
 
--- the report that the files come to
-abbrev pub IsReady : Result (List Process × Vec ℕ Global) Unready → Report → Type 0
-IsReady (Ok (processes, log)) r = r ≡ log_report processes log.items
-IsReady (Err (unready.Refused why)) r = r ≡ short_report why
-IsReady (Err unready.ReadFault) r = Unit {0}
-IsReady (Err unready.NoMemory) r = Unit {0}
+-- the report that the files come to, with what is asked behind the log
+abbrev pub IsReady : Option Query → Result (List Process × Vec ℕ Global) Unready → Report → Type 0
+IsReady query (Ok (processes, log)) r = r ≡ log_report query processes log.items
+IsReady query (Err (unready.Refused why)) r = r ≡ short_report why
+IsReady query (Err unready.ReadFault) r = Unit {0}
+IsReady query (Err unready.NoMemory) r = Unit {0}
 
 -- the counts of faults before and after a file was read: only `ReadFault` raises one, and it raises that of its name
 pub record FileFaults {T : Type 0} (before now : List ℕ → ℕ) (name : List ℕ) (r : Result T Unready) : Type 0 where

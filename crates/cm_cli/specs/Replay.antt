@@ -1,12 +1,14 @@
 -- What the lines of a log come to, as the code goes over them.
-use Rattle.std.specs.Prelude.{◌≡◌, ◌≤◌, ℕ, List, ◌++◌}
+use Rattle.std.specs.Prelude.{◌≡◌, ◌≢◌, ◌≤◌, ℕ, List, ◌++◌}
 use Rattle.cm_base.specs.declared.status.Status.{Status}
+use Rattle.cm_base.specs.declared.status.Status.TheVariants as answers
 use Rattle.cm_cli.specs.Machine.{state_of}
 use Rattle.cm_cli.specs.declared.replay.LineTurn.{LineTurn}
 use Rattle.cm_cli.specs.declared.replay.LineTurn.TheVariants as turn
 use Rattle.model_cred.specs.Process.{Process, State}
 use Rattle.model_cred.specs.World.{World}
-use Rattle.model_text.specs.Line.{Line}
+use Rattle.model_run.specs.Step.{Step}
+use Rattle.model_text.specs.Line.{Line, NoEvent, Tells, Faulty, Unbuilt}
 use Rattle.model_text.specs.Report.{Report, by_line, text_of}
 
 -- The report is these bytes and then the next report.
@@ -29,3 +31,11 @@ IsLineTurn (turn.Ends status) before after number count line bytes = (w : World)
 abbrev pub CountsUpTo : LineTurn → ℕ → Type 0
 CountsUpTo (turn.Goes events) most = events ≤ most
 CountsUpTo (turn.Ends status) most = Unit {0}
+
+-- The line turned the processes before into those after by a step, or left them; or it ended the replay before its end.
+abbrev pub IsPassed : LineTurn → List Process → List Process → Line → Type 0
+IsPassed (turn.Goes events) before after NoEvent = after ≡ before
+IsPassed (turn.Goes events) before after (Tells e) = (w : World) → Step w (state_of before) e (state_of after)
+IsPassed (turn.Goes events) before after Faulty = ⊥
+IsPassed (turn.Goes events) before after Unbuilt = ⊥
+IsPassed (turn.Ends status) before after line = status ≢ answers.Accepted

@@ -1,8 +1,8 @@
 -- What a command that tells a report owes: its status, what is written, and the count of the sink's faults.
-use Rattle.std.specs.Prelude.{◌≡◌, ◌≢◌, ◌≤◌, ℕ, codes, List, Option}
+use Rattle.std.specs.Prelude.{◌≡◌, ◌≢◌, ◌≤◌, ℕ, codes, List, [], Option, Some}
 use Rattle.cm_base.specs.declared.status.Status.{Status}
 use Rattle.cm_base.specs.declared.status.Status.TheVariants as answers
-use Rattle.cm_cli.specs.Machine.{state_of, world_of}
+use Rattle.cm_cli.specs.Machine.{world_of}
 use Rattle.cm_cli.specs.Sent.{IsFront}
 use Rattle.cm_cli.specs.declared.telling.Short.{Short}
 use Rattle.cm_cli.specs.declared.telling.Short.TheVariants as short
@@ -10,9 +10,10 @@ use Rattle.cm_io.specs.Shelf.{Rose}
 use Rattle.cm_io.specs.declared.outside.Outside.{Outside}
 use Rattle.cm_io.specs.declared.outside.Outside.TheVariants as outside
 use Rattle.cm_io.specs.Sink.{then_written}
-use Rattle.model_cred.specs.Process.{Process}
+use Rattle.model_cred.specs.Process.{Process, State}
 use Rattle.model_text.specs.Cut.{lines_of}
-use Rattle.model_text.specs.Report.{Report, after, start_lines, replayed, text_of, says, limit_hit, not_built, usage, world_limit, log_limit}
+use Rattle.model_text.specs.Query.{Query}
+use Rattle.model_text.specs.Report.{Report, after, start_lines, answered, verdict, text_of, says, limit_hit, not_built, usage, world_limit, log_limit}
 
 -- The status is that of a report: neither a fault of reading or writing, nor want of memory.
 pub record IsTold (answer : Status) : Type 0 where
@@ -38,9 +39,14 @@ short_report short.BadWorld = says answers.BadWorld (codes "bad world")
 short_report short.WorldLimit = limit_hit (codes "world") world_limit
 short_report short.LogLimit = limit_hit (codes "log") log_limit
 
--- the report of a log in the world of these processes
-abbrev pub log_report : List Process → List ℕ → Report
-log_report processes log = after (start_lines (world_of processes)) (replayed (world_of processes) (lines_of log) (state_of processes) 1 0)
+-- the report of a log in the world of these processes, with what is asked behind it
+abbrev pub log_report : Option Query → List Process → List ℕ → Report
+log_report query processes log = after (start_lines (world_of processes)) (answered query (world_of processes) (lines_of log))
+
+-- what comes behind the replay of a log that ends so, in the state that it leads to: the status, and more lines
+abbrev pub answer_to : Option Query → Status → State → Report
+answer_to (Some q) answers.Accepted s = verdict s q
+answer_to _ st s = record { status = st; lines = [] }
 
 -- the answer where the sink failed, or memory was wanting
 abbrev pub stopped_by : Outside → Status

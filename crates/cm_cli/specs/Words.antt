@@ -12,5 +12,6 @@ bytes_of words = map (λ word. string_bytes word) words
 -- the command of the definitions
 abbrev pub command_view : Command → model.Command
 command_view (code.Replay world log) = model.Replay world.now log.now
+command_view (code.Audit world log query) = model.Audit world.now log.now query.pid.now query.right.now
 command_view code.Later = model.Later
 command_view code.NoForm = model.NoForm

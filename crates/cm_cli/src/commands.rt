@@ -1,11 +1,13 @@
 // The top call.
 ghost use Rattle.std.specs.Prelude.{◌≡◌, ◌≢◌, ◌≤◌, ℕ, List, IfSome};
-ghost use Rattle.cm_cli.specs.Answers.{report_over, WritesReport, NamesFault, FaultsInOrder, IsUsageAnswer, NoneRose, CountsStay, IsValid, ReplayAnswer, ComesByCause, IsAcceptedOrNoMemory};
+ghost use Rattle.cm_cli.specs.Answers.{report_over, WritesReport, NamesFault, FaultsInOrder, IsUsageAnswer, NoneRose, CountsStay, IsValid, ReplayAnswer, ComesByCause, IsCompleted, SaysYes, SaysNo};
+ghost use Rattle.cm_cli.specs.Query.{query_if};
 ghost use Rattle.cm_cli.specs.Telling.{IsTold};
 ghost use Rattle.cm_cli.specs.Words.{bytes_of};
 ghost use Rattle.cm_io.specs.Shelf.{Rose};
-ghost use Rattle.model_text.specs.Command.{command_of, NoForm};
+ghost use Rattle.model_text.specs.Command.{command_of, query_of, NoForm};
 
+use crate::query::Query;
 use crate::reading::{Unready, read_files};
 use crate::telling::{Short, tell_log, tell_short};
 use crate::words::{Command, read_words};
@@ -47,15 +49,22 @@ pub fn run<H: Shelf, K: Sink>(
     // Each answer of a report has its cause in the words and the files, and each cause its answer.
     ensures answers { IfSome (H.held shelf.old) (λ files. IsTold result → ComesByCause (bytes_of words.now.items) files result) }
 
-    // Where nothing in the input is refused and no fault was counted, the log is accepted, or there was no memory.
+    // What an audit says: with status 0, which writes yes, no list of later setresuid calls of the one process that lives
+    // behind the log ends where it has the user id that is asked for; with status 1 the lines that are written show one.
+    ensures yes { IfSome (H.held shelf.old) (λ files. result ≡ Status.Accepted → SaysYes (bytes_of words.now.items) files) }
+    ensures no { IfSome (H.held shelf.old) (λ files. result ≡ Status.No → SaysNo (bytes_of words.now.items) files) }
+
+    // Where nothing in the input is refused and no fault was counted, a replay is accepted, and an audit answers yes, no or
+    // not built; or there was no memory.
     ensures complete { IfSome (H.held shelf.old) (λ files. IsValid (bytes_of words.now.items) files →
-        NoneRose (H.faults shelf.old) (H.faults shelf.new) (K.faults out.old) (K.faults out.new) → IsAcceptedOrNoMemory result) }
+        NoneRose (H.faults shelf.old) (H.faults shelf.new) (K.faults out.old) (K.faults out.new) →
+        IsCompleted (query_of (command_of (bytes_of words.now.items))) result) }
 {
     carry_out(alloc, words, shelf, out)
 }
 
-/// `run` over a shelf and a sink that never fail: no fault is answered. Where nothing in the input is refused, the
-/// log is accepted, or there was no memory.
+/// `run` over a shelf and a sink that never fail: no fault is answered. Where nothing in the input is refused, a replay
+/// is accepted, and an audit answers yes, no or not built; or there was no memory.
 pub fn run_surely(
     alloc: Global,
     words: &Vec<String>,
@@ -73,8 +82,10 @@ pub fn run_surely(
         (⟦<SureSink as Sink>⟧.written out.old) (⟦<SureSink as Sink>⟧.written out.new)) }
     ensures answers { IfSome (⟦<SureShelf as Shelf>⟧.held shelf.old) (λ files.
         IsTold result → ComesByCause (bytes_of words.now.items) files result) }
+    ensures yes { IfSome (⟦<SureShelf as Shelf>⟧.held shelf.old) (λ files. result ≡ Status.Accepted → SaysYes (bytes_of words.now.items) files) }
+    ensures no { IfSome (⟦<SureShelf as Shelf>⟧.held shelf.old) (λ files. result ≡ Status.No → SaysNo (bytes_of words.now.items) files) }
     ensures complete { IfSome (⟦<SureShelf as Shelf>⟧.held shelf.old) (λ files.
-        IsValid (bytes_of words.now.items) files → IsAcceptedOrNoMemory result) }
+        IsValid (bytes_of words.now.items) files → IsCompleted (query_of (command_of (bytes_of words.now.items))) result) }
     ensures held { ⟦<SureShelf as Shelf>⟧.held shelf.new ≡ ⟦<SureShelf as Shelf>⟧.held shelf.old }
     ensures usage { result ≡ Status.Usage → command_of (bytes_of words.now.items) ≡ NoForm }
     ensures no_form { command_of (bytes_of words.now.items) ≡ NoForm → IsUsageAnswer result }
@@ -110,25 +121,28 @@ fn carry_out<H: Shelf, K: Sink>(
     match read_words(words) {
         Command::NoForm => tell_short(alloc, Short::Usage, out),
         Command::Later => tell_short(alloc, Short::NotBuilt, out),
-        Command::Replay(world, log) => run_replay(alloc, world, log, shelf, out),
+        Command::Replay(world, log) => run_log(alloc, world, log, None, shelf, out),
+        Command::Audit(world, log, query) => run_log(alloc, world, log, Some(query), shelf, out),
     }
 }
 
-fn run_replay<H: Shelf, K: Sink>(
+// The replay of a log in a world, and the answer to what is asked behind it.
+fn run_log<H: Shelf, K: Sink>(
     alloc: Global,
     world: &str,
     log: &str,
+    query: Option<Query<'_>>,
     shelf: &mut H,
     out: &mut K,
 ) -> Status
-    ensures answer { ReplayAnswer (H.held shelf.old) world.now log.now result (K.written out.old) (K.written out.new)
+    ensures answer { ReplayAnswer (H.held shelf.old) (query_if query.entry) world.now log.now result (K.written out.old) (K.written out.new)
         (H.faults shelf.old) (H.faults shelf.new) (K.faults out.old) (K.faults out.new) }
     ensures held { H.held shelf.new ≡ H.held shelf.old }
 {
     match read_files(alloc, shelf, world, log) {
         Ok((processes, text)) => {
             let mut processes = processes;
-            tell_log(alloc, &mut processes, &text, out)
+            tell_log(alloc, &mut processes, &text, query, out)
         }
         Err(Unready::Refused(short)) => tell_short(alloc, short, out),
         Err(Unready::ReadFault) => Status::ReadFault,

@@ -1,5 +1,5 @@
 // Laws of the report that the top call writes.
-ghost use Rattle.model_text.specs.Laws.{EachByItsCause, AcceptedIsRun, ImpossibleIsNoStep};
+ghost use Rattle.model_text.specs.Laws.{EachByItsCause, AcceptedIsRun, ImpossibleIsNoStep, YesIsNever, NoIsWay};
 
 /// A status comes exactly by its cause, whatever the words and the files.
 #[tactic(auto, using(model_text::proofs::Statuses::each_by_its_cause))]
@@ -18,4 +18,17 @@ pub fn accepted_is_run()
 #[tactic(auto, using(model_text::proofs::Endings::impossible_is_no_step))]
 pub fn impossible_is_no_step()
     ensures { ImpossibleIsNoStep }
+{}
+
+/// Where an audit's status is 0, one process lives behind the log, and no list of later setresuid calls of it, of any
+/// length, ends where its effective user id is the one that is asked for.
+#[tactic(auto, using(model_text::proofs::Endings::yes_is_never))]
+pub fn yes_is_never()
+    ensures { YesIsNever }
+{}
+
+/// Where it is 1, the last lines of the report show such a list, which does.
+#[tactic(auto, using(model_text::proofs::Endings::no_is_way))]
+pub fn no_is_way()
+    ensures { NoIsWay }
 {}

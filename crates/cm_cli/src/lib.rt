@@ -1,22 +1,27 @@
 //! The top call: a command's words, the files that they name, and the report.
 #![tactic(auto)]
 
+mod answer;
+#[cfg(test)]
+mod audit_tests;
 mod commands;
 mod laws;
 mod line;
 mod processes;
+mod query;
 mod reading;
 mod replay;
 mod rule;
 mod sending;
 mod telling;
+#[cfg(test)]
+mod tests;
 mod words;
 mod world;
 mod writing;
 
 pub use cm_base::Status;
 pub use commands::{run, run_surely};
-pub use laws::{accepted_is_run, each_by_its_cause, impossible_is_no_step};
-
-#[cfg(test)]
-mod tests;
+pub use laws::{
+    accepted_is_run, each_by_its_cause, impossible_is_no_step, no_is_way, yes_is_never,
+};

@@ -128,7 +128,8 @@ fn begins_comment(token: &[u8]) -> bool
     }
 }
 
-fn read_pid(token: &[u8]) -> Option<Pid>
+/// The pid that a token is.
+pub(crate) fn read_pid(token: &[u8]) -> Option<Pid>
     ensures { result ≡ pid_token token.now }
 {
     match read_u32(token) {

@@ -1,8 +1,11 @@
 // Reading the files of a replay: the world, and then the log.
-ghost use Rattle.std.specs.Prelude.{◌≡◌, ◌≢◌, ◌⊎◌, Err, IfSome};
+ghost use Rattle.std.specs.Prelude.{◌≡◌, ◌≢◌, ◌⊎◌, Err, IfSome, IfOk, Option};
 ghost use Rattle.cm_cli.specs.Reading.{IsWorldRead, IsLogRead, IsReady, FileFaults, FilesFaults, WorldStands, unready_by};
 ghost use Rattle.cm_io.specs.Shelf.{bytes_at, Rose};
-ghost use Rattle.model_text.specs.Report.{replay};
+ghost use Rattle.model_text.specs.Report.{files_report};
+ghost use Rattle.model_text.specs.Query.{Query};
+ghost use Rattle.model_run.specs.WayBack.{StateFollows};
+ghost use Rattle.cm_cli.specs.Machine.{state_of};
 
 use crate::processes::Processes;
 use crate::telling::Short;
@@ -29,7 +32,10 @@ pub(crate) fn read_files<H: Shelf>(
     world: &str,
     log: &str,
 ) -> Result<(Processes, Vec<u8>), Unready>
-    ensures ready { IfSome (H.held shelf.old) (λ files. IsReady result (replay (bytes_at files world.now) (bytes_at files log.now))) }
+    ensures ready { IfSome (H.held shelf.old) (λ files. (query : Option Query) →
+        IsReady query result (files_report query (bytes_at files world.now) (bytes_at files log.now))) }
+    // The sets of each process follow its user ids.
+    ensures follows { IfOk result (λ read. StateFollows (state_of read.0)) }
     ensures not_usage { result ≢ Err (Unready.Refused Short.Usage) }
     ensures held { H.held shelf.new ≡ H.held shelf.old }
     ensures faults { FilesFaults (H.faults shelf.old) (H.faults shelf.new) world.now log.now result }
@@ -49,6 +55,7 @@ pub(crate) fn read_files<H: Shelf>(
 
 fn read_world_file<H: Shelf>(alloc: Global, shelf: &mut H, name: &str) -> Result<Processes, Unready>
     ensures read { IfSome (H.held shelf.old) (λ files. IsWorldRead result (bytes_at files name.now)) }
+    ensures follows { IfOk result (λ processes. StateFollows (state_of processes)) }
     ensures not_usage { result ≢ Err (Unready.Refused Short.Usage) }
     ensures held { H.held shelf.new ≡ H.held shelf.old }
     ensures faults { FileFaults (H.faults shelf.old) (H.faults shelf.new) name.now result }

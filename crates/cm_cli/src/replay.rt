@@ -1,12 +1,13 @@
 // The replay of a log's lines: each is read, its event is made a step, and its lines of the report are written.
 ghost use Rattle.std.specs.Prelude.{◌≡◌, ◌≤◌, ◌<◌, ◌+◌, ◌^◌, ◌++◌, ℕ, List, [], ◌∷◌, length, IfOk, OnOk, OnErr, MatchOption, slice_index, ◌≢◌, vec_len};
 ghost use Rattle.cm_cli.specs.Machine.{state_of, world_of};
-ghost use Rattle.cm_cli.specs.Replay.{IsLineTurn, CountsUpTo};
+ghost use Rattle.cm_cli.specs.Replay.{IsLineTurn, CountsUpTo, IsPassed};
 ghost use Rattle.cm_cli.specs.Sent.{IsSent, IsFront};
 ghost use Rattle.cm_io.specs.Sink.{then_written, WriteFaults};
 ghost use Rattle.model_cred.specs.World.{World};
+ghost use Rattle.model_run.specs.Step.{Run};
 ghost use Rattle.model_text.specs.Cut.{lines_of};
-ghost use Rattle.model_text.specs.Line.{script_line, Tells};
+ghost use Rattle.model_text.specs.Line.{script_line, Tells, events_of};
 ghost use Rattle.model_text.specs.Report.{text_of, replayed};
 
 use crate::line::{Line, read_line};
@@ -41,6 +42,9 @@ pub(crate) fn replay_lines<K: Sink>(
     ensures stopped { (w : World) → OnErr result (IsFront (K.written out.old) (K.written out.new)
         (text.old.items ++ text_of (replayed w (lines_of log.now) (state_of processes.old) 1 0).lines)) }
     ensures cause { WriteFaults (K.faults out.old) (K.faults out.new) result }
+    // Where the log is accepted, the processes are those of the state that its events lead to.
+    ensures reached { IfOk result (λ status. status ≡ Status.Accepted → (w : World) →
+        Run w (state_of processes.old) (events_of (lines_of log.now)) (state_of processes.new)) }
 {
     let mut rest = log;
     let mut number: u64 = 1;
@@ -79,6 +83,7 @@ fn take_line(
     ensures turn { IfOk result (λ turn. (bytes : List ℕ) × (text.new.items ≡ text.old.items ++ bytes)
         × IsLineTurn turn processes.old processes.new number count (script_line line.now) bytes) }
     ensures count { IfOk result (λ turn. CountsUpTo turn (count + 1)) }
+    ensures passed { IfOk result (λ turn. IsPassed turn processes.old processes.new (script_line line.now)) }
 {
     match read_line(line) {
         Line::NoEvent => Ok(LineTurn::Goes(count)),
@@ -105,6 +110,7 @@ fn take_event(
     ensures turn { IfOk result (λ turn. (bytes : List ℕ) × (text.new.items ≡ text.old.items ++ bytes)
         × IsLineTurn turn processes.old processes.new number count (Tells event.now) bytes) }
     ensures count { IfOk result (λ turn. CountsUpTo turn (count + 1)) }
+    ensures passed { IfOk result (λ turn. IsPassed turn processes.old processes.new (Tells event.now)) }
 {
     let Some(at) = processes.find(event.pid) else {
         put_no_process(text, number)?;

@@ -1,11 +1,16 @@
 // Telling a report: what is written goes to the sink, and the answer says how it went.
 ghost use Rattle.std.specs.Prelude.{◌≡◌, ◌++◌, OnOk, OnErr, List, map};
+ghost use Rattle.cm_cli.specs.Machine.{state_of};
+ghost use Rattle.cm_cli.specs.Query.{query_if};
 ghost use Rattle.cm_cli.specs.Sent.{IsSent, IsFront};
 ghost use Rattle.cm_cli.specs.Telling.{Tells, short_report, log_report, stopped_by};
 ghost use Rattle.cm_io.specs.Sink.{WriteFaults};
+ghost use Rattle.model_run.specs.WayBack.{StateFollows};
 ghost use Rattle.model_text.specs.Report.{text_of, Credentials};
 
+use crate::answer::put_answer;
 use crate::processes::Processes;
+use crate::query::Query;
 use crate::replay::replay_lines;
 use crate::sending::{send, send_full};
 use crate::writing::{
@@ -63,23 +68,29 @@ fn status_of(short: Short) -> Status
     }
 }
 
-/// Tells the report of a log in the world of these processes.
+/// Tells the report of a log in the world of these processes, and behind an accepted log the answer to what is asked.
 pub(crate) fn tell_log<K: Sink>(
     alloc: Global,
     processes: &mut Processes,
     log: &[u8],
+    query: Option<Query<'_>>,
     out: &mut K,
 ) -> Status
-    ensures { Tells (log_report processes.old log.now) result (K.written out.old) (K.written out.new) (K.faults out.old) (K.faults out.new) }
+    requires { StateFollows (state_of processes.old) }
+    ensures { Tells (log_report (query_if query.entry) processes.old log.now) result (K.written out.old) (K.written out.new) (K.faults out.old) (K.faults out.new) }
 {
     let mut text = Vec::new(alloc);
     match send_start(processes, &mut text, out) {
         Ok(()) => {}
         Err(why) => return stopped(why),
     }
-    let status = match replay_lines(processes, log, &mut text, out) {
+    let replayed = match replay_lines(processes, log, &mut text, out) {
         Ok(status) => status,
         Err(why) => return stopped(why),
+    };
+    let status = match put_answer(alloc, processes, query, replayed, &mut text) {
+        Ok(status) => status,
+        Err(NoMemory) => return Status::NoMemory,
     };
     match send(&mut text, out) {
         Ok(()) => status,

@@ -323,7 +323,7 @@ fn words_are_read(rt: HostRuntime) -> Result<(), Fail> {
         (&["drill", "0", "0"], Status::Usage, USAGE),
         (&["drill", "0"], Status::NotBuilt, "not built\n"),
         (&["drill", "00100000"], Status::NotBuilt, "not built\n"),
-        (&["audit", "", "", "", ""], Status::NotBuilt, "not built\n"),
+        (&["audit", "", "", "", ""], Status::ReadFault, ""),
         (
             &["check", "", "", "", "", ""],
             Status::NotBuilt,

@@ -1,15 +1,18 @@
 // The words of the command line, and which command they name (choice).
 ghost use Rattle.std.specs.Prelude.{◌≡◌, ◌∷◌};
 ghost use Rattle.cm_cli.specs.Words.{command_view, bytes_of};
-ghost use Rattle.model_text.specs.Command.{command_of, replay_words, later_words, drill_words, is_drill_number};
+ghost use Rattle.model_text.specs.Command.{command_of, replay_words, audit_words, later_words, drill_words, is_drill_number};
 ghost use Rattle.model_text.specs.Token.{number_token};
 
+use crate::query::Query;
 use cm_base::read_u32;
 
-/// What the words ask for: the replay of a log in a world, one of the forms that aren't built, or none of the forms.
+/// What the words ask for: the replay of a log in a world, an audit behind it, one of the forms that aren't built, or
+/// none of the forms.
 #[derive(Clone, Copy, Debug)]
 pub(crate) enum Command<'a> {
     Replay(&'a str, &'a str),
+    Audit(&'a str, &'a str, Query<'a>),
     Later,
     NoForm,
 }
@@ -30,7 +33,7 @@ fn read_named<'a>(name: &str, words: &'a [String]) -> Command<'a>
     if name == "replay" {
         read_replay(words)
     } else if name == "audit" {
-        read_later(4, words)
+        read_audit(words)
     } else if name == "check" || name == "confirm" {
         read_later(5, words)
     } else if name == "drill" {
@@ -45,6 +48,21 @@ fn read_replay(words: &[String]) -> Command<'_>
 {
     match words {
         [world, log] => Command::Replay(world.as_str(), log.as_str()),
+        _ => Command::NoForm,
+    }
+}
+
+fn read_audit(words: &[String]) -> Command<'_>
+    ensures { command_view result ≡ audit_words (bytes_of words.now) }
+{
+    match words {
+        [world, log, pid, right] => {
+            let query = Query {
+                pid: pid.as_str(),
+                right: right.as_str(),
+            };
+            Command::Audit(world.as_str(), log.as_str(), query)
+        }
         _ => Command::NoForm,
     }
 }

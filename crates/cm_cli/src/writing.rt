@@ -1,5 +1,6 @@
 // The lines of a report, written at the end of a byte buffer, each with its LF. Each function promises the text of the
 // definitions; where there is no memory, what the buffer holds isn't said.
+mod answers;
 mod credentials;
 mod events;
 mod numbers;
@@ -7,6 +8,7 @@ mod numbers;
 mod tests;
 mod verdicts;
 
+pub(crate) use answers::{put_bad_pid, put_bad_right, put_way, put_yes};
 pub(crate) use credentials::{put_credentials, put_process};
 pub(crate) use events::put_event;
 pub(crate) use verdicts::{

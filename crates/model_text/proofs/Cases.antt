@@ -5,7 +5,7 @@ use Rattle.cm_base.specs.declared.res.Res.{Res}
 use Rattle.cm_base.specs.declared.res.Res.TheVariants.{Done, Err}
 use Rattle.cm_base.specs.declared.errno.Errno.TheVariants.{EPERM, ENOSPC}
 use Rattle.model_cred.specs.Call.{SetResUid}
-use Rattle.model_text.specs.Command.{Replay, Later, NoForm, command_of}
+use Rattle.model_text.specs.Command.{Replay, Audit, Later, NoForm, command_of}
 use Rattle.model_text.specs.Cut.{lines_of, tokens_of}
 use Rattle.model_text.specs.Line.{Line, NoEvent, Tells, Faulty, Unbuilt, script_line}
 use Rattle.model_text.specs.Token.{number_token, pid_token, id_token, result_token}
@@ -156,8 +156,8 @@ replay_needs_a_log = refl
 pub replay_of_three_words : command_of (codes "replay" ∷ codes "w" ∷ codes "l" ∷ codes "x" ∷ []) ≡ NoForm
 replay_of_three_words = refl
 
-pub audit_comes_later : command_of (codes "audit" ∷ codes "w" ∷ codes "l" ∷ codes "100" ∷ codes "r" ∷ []) ≡ Later
-audit_comes_later = refl
+pub audit_of_four_words : command_of (codes "audit" ∷ codes "w" ∷ codes "l" ∷ codes "100" ∷ codes "r" ∷ []) ≡ Audit (codes "w") (codes "l") (codes "100") (codes "r")
+audit_of_four_words = refl
 
 pub audit_of_three_words : command_of (codes "audit" ∷ codes "w" ∷ codes "l" ∷ codes "100" ∷ []) ≡ NoForm
 audit_of_three_words = refl

@@ -1,30 +1,80 @@
 -- What accepted and impossible say: a run of the events, and the last credential lines of the state that it reaches.
-use Rattle.std.proofs.Common.{◌≡◌, ℕ, ◌+◌, List, [], ◌∷◌, ◌++◌, Option, ◌∙◌, ap, subst}
+use Rattle.std.proofs.Common.{◌≡◌, ℕ, ◌+◌, ◌==◌, inl, inr, Bool, true, false, cond, length, List, [], ◌∷◌, ◌++◌, map, Option, None, Some, refl, sym, ◌∙◌, ap, subst, append_assoc}
+use Rattle.std.specs.Prelude.{codes}
 use Rattle.std.specs.Option.{option_or}
 use Rattle.cm_base.specs.declared.status.Status.{Status}
+use Rattle.cm_base.specs.declared.status.Status.TheVariants as status
+use Rattle.model_cred.specs.Call.{Event}
 use Rattle.model_cred.specs.Process.{Process, State}
+use Rattle.model_cred.specs.Right.{Right, Cap, Uid, Gid}
 use Rattle.model_cred.specs.World.{World}
 use Rattle.model_run.specs.Step.{outcome}
+use Rattle.model_run.specs.WayBack.{BringsBack, way_back}
 use Rattle.model_text.proofs.Replays.{GoesOn, Passes, run_passes, last_append, shown}
 use Rattle.model_text.proofs.Starts.{start_distinct, start_shows}
-use Rattle.model_text.proofs.Statuses.{has_its_cause, of_begins, no_step, over_all}
-use Rattle.model_text.specs.Causes.{Begins, Reaches, Cause, IsAccepted, IsImpossible}
-use Rattle.model_text.specs.Laws.{AcceptedIsRun, ImpossibleIsNoStep, Shows, last_credentials}
-use Rattle.model_text.specs.Line.{Line}
-use Rattle.model_text.specs.Report.{Report, report, replayed, by_line, start_lines}
+use Rattle.model_text.proofs.Statuses.{has_its_cause, of_begins, of_asked, no_step, over_all}
+use Rattle.model_text.proofs.Verdicts.{accepted_follows, no_shows}
+use Rattle.model_text.specs.Causes.{Begins, Reaches, Cause, IsAccepted, IsImpossible, Behind, IsYes, IsNo}
+use Rattle.model_text.specs.Command.{command_of, query_of}
+use Rattle.model_text.specs.Laws.{AcceptedIsRun, ImpossibleIsNoStep, YesIsNever, NoIsWay, ShowsWay, Shows, last_credentials}
+use Rattle.model_text.specs.Line.{Line, events_of}
+use Rattle.model_text.specs.Print.{event_text}
+use Rattle.model_text.specs.Query.{Query, asked_process, right_token}
+use Rattle.model_text.specs.Report.{Report, ReportLine, Plain, report, replayed, by_line, start_lines, at_line, not_built, answered, go_on, verdict, asked_verdict, right_verdict, way_verdict, way_lines, state_after}
+
+-- an answer has no credential lines
+way_silent : (pid : ℕ) (way : List Event) (last : ReportLine) → last_credentials pid (last ∷ []) ≡ None → last_credentials pid (map (λ e. Plain (event_text e)) way ++ last ∷ []) ≡ None
+way_silent pid [] last is = is
+way_silent pid (e ∷ way) last is = way_silent pid way last is
+
+way_verdict_silent : (pid n : ℕ) (way : Option (List Event)) → last_credentials pid (way_verdict n way).lines ≡ None
+way_verdict_silent pid n None = refl
+way_verdict_silent pid n (Some way) = way_silent pid way (Plain (at_line (codes "holder ") n)) refl
+
+right_silent : (pid : ℕ) (s : State) (p : Process) (right : Right) → last_credentials pid (right_verdict s p right).lines ≡ None
+right_silent pid s p (Gid k) = refl
+right_silent pid s p (Cap cap n) = refl
+right_silent pid s p (Uid k) =
+    elim (length s.processes == 1) as (λ (b : Bool). last_credentials pid (cond b (way_verdict p.pid (way_back p.cred p.pid k)) not_built).lines ≡ None) [
+      | true ↦ way_verdict_silent pid p.pid (way_back p.cred p.pid k)
+      | false ↦ refl
+    ]
+
+asked_silent : (pid : ℕ) (s : State) (p : Option Process) (right : Option Right) → last_credentials pid (asked_verdict s p right).lines ≡ None
+asked_silent pid s None right = refl
+asked_silent pid s (Some p) None = refl
+asked_silent pid s (Some p) (Some right) = right_silent pid s p right
+
+-- so the lines of a replay show the same with it and without it
+go_on_shows : (pid : ℕ) (st : Status) (replay next : Report) → last_credentials pid next.lines ≡ None → last_credentials pid (go_on st replay next).lines ≡ last_credentials pid replay.lines
+go_on_shows pid status.Accepted replay next silent =
+    last_append pid replay.lines next.lines ∙ ap (λ (o : Option Process). option_or o (last_credentials pid replay.lines)) silent
+go_on_shows pid _ replay next silent = refl
+
+answered_shows : (pid : ℕ) (query : Option Query) (w : World) (lines : List (List ℕ)) → last_credentials pid (answered query w lines).lines ≡ last_credentials pid (replayed w lines w.start 1 0).lines
+answered_shows pid None w lines = refl
+answered_shows pid (Some q) w lines =
+    let s : State = state_after w w.start (events_of lines) in
+    go_on_shows pid (replayed w lines w.start 1 0).status (replayed w lines w.start 1 0) (verdict s q) (asked_silent pid s (asked_process s q.pid) (right_token q.right))
 
 -- the last credential line of a process in the report is what its lines show from the world's state on
 report_shows : (words : List (List ℕ)) (bytes : List ℕ → List ℕ) (w : World) (lines : List (List ℕ)) → Begins words bytes w lines → (pid : ℕ)
     → last_credentials pid (report words bytes).lines ≡ shown pid w.start (replayed w lines w.start 1 0).lines
 report_shows words bytes w lines begins pid =
-    ap (λ (r : Report). last_credentials pid r.lines) (of_begins words bytes w lines begins) ∙ last_append pid (start_lines w) (replayed w lines w.start 1 0).lines
+    ap (λ (r : Report). last_credentials pid r.lines) (of_begins words bytes w lines begins) ∙ last_append pid (start_lines w) (answered (query_of (command_of words)) w lines).lines
+    ∙ ap (λ (o : Option Process). option_or o (last_credentials pid (start_lines w))) (answered_shows pid (query_of (command_of words)) w lines)
     ∙ ap (λ (o : Option Process). option_or (last_credentials pid (replayed w lines w.start 1 0).lines) o)
     (start_shows w.start.processes (start_distinct (bytes begins.names.world) w begins.names.reads) pid)
+
+-- where the status is 0, the log is accepted
+accepted_by : (words : List (List ℕ)) (bytes : List ℕ → List ℕ) → Cause words bytes status.Accepted → IsAccepted words bytes
+accepted_by words bytes (inl (asked, is)) = is
+accepted_by words bytes (inr (is, q, asked, h)) = is
 
 pub accepted_is_run : AcceptedIsRun
 unfolding AcceptedIsRun
 accepted_is_run words bytes said =
-    let is : IsAccepted words bytes = subst (λ (st : Status). Cause words bytes st) said (has_its_cause words bytes) in
+    let is : IsAccepted words bytes = accepted_by words bytes (subst (λ (st : Status). Cause words bytes st) said (has_its_cause words bytes)) in
     let ended : (n c : ℕ) × GoesOn is.world.start (replayed is.world is.lines is.world.start 1 0) is.state (replayed is.world [] is.state n c) = over_all is.world is.lines is.state is.whole is.run in
     (is, λ pid. report_shows words bytes is.world is.lines is.begins pid ∙ ended.2.shown pid)
 
@@ -43,3 +93,39 @@ unfolding ImpossibleIsNoStep
 impossible_is_no_step words bytes said =
     let is : IsImpossible words bytes = subst (λ (st : Status). Cause words bytes st) said (has_its_cause words bytes) in
     (is, impossible_shows words bytes is)
+
+-- ---- what an audit says
+yes_by : (words : List (List ℕ)) (bytes : List ℕ → List ℕ) (q : Query) → query_of (command_of words) ≡ Some q → Cause words bytes status.Accepted → (is : IsAccepted words bytes) × IsYes q is.world is.state
+yes_by words bytes q asked (inl (none, is)) = absurd (let never : None ≡ Some q = sym none ∙ asked in cc)
+yes_by words bytes q asked (inr (is, q', asked', h)) =
+    let both : Some q' ≡ Some q = sym asked' ∙ asked in
+    let same : q' ≡ q = cc in
+    (is, subst (λ (x : Query). IsYes x is.world is.state) same h)
+
+pub yes_is_never : YesIsNever
+unfolding YesIsNever
+yes_is_never words bytes q asked said = yes_by words bytes q asked (subst (λ (st : Status). Cause words bytes st) said (has_its_cause words bytes))
+
+no_by : (words : List (List ℕ)) (bytes : List ℕ → List ℕ) → Behind words bytes IsNo → ShowsWay words bytes (report words bytes).lines
+no_by words bytes (is, q, asked, (p, k, asks, back)) =
+    let shown : (way : List Event) × BringsBack is.world is.state p.pid k way × (verdict is.state q ≡ way_verdict p.pid (Some way)) = no_shows is.world is.state q p k (accepted_follows words bytes is) asks back in
+    let replay : List ReportLine = (replayed is.world is.lines is.world.start 1 0).lines in
+    record {
+      accepted = is;
+      query = q;
+      asked = asked;
+      process = p;
+      id = k;
+      asks = asks;
+      way = shown.0;
+      back = shown.1;
+      before = start_lines is.world ++ replay;
+      last =
+          ap (λ (r : Report). r.lines) (of_asked words bytes is q asked)
+          ∙ ap (λ (r : Report). start_lines is.world ++ (replay ++ r.lines)) shown.2
+          ∙ sym (append_assoc (start_lines is.world) replay (way_lines p.pid shown.0));
+    }
+
+pub no_is_way : NoIsWay
+unfolding NoIsWay
+no_is_way words bytes said = no_by words bytes (subst (λ (st : Status). Cause words bytes st) said (has_its_cause words bytes))

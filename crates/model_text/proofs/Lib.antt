@@ -2,6 +2,7 @@ pub mod StepFacts
 pub mod Tellings
 pub mod Starts
 pub mod Replays
+pub mod Verdicts
 pub mod Statuses
 pub mod Endings
 pub mod Texts

@@ -10,7 +10,7 @@ use Rattle.model_text.specs.Laws.{last_credentials}
 use Rattle.model_text.specs.Report.{Credentials}
 use Rattle.model_text.specs.Toml.{has_only, is_text}
 use Rattle.model_text.specs.WorldText.{WorldText, Reads, Bad, NotBuilt, world_text, document_text, table_text, built_table, distinct_world, world_with, in_order, placed, are_distinct, has_pid, asks_more, processes_of}
-use Rattle.toml.specs.Data.{Members, get_member}
+use Rattle.toml.specs.Data.{Data, Members, get_member}
 use Rattle.toml.specs.Parse.{parse_document}
 
 -- ---- the order of pids
@@ -84,28 +84,28 @@ where_true : (test : Bool) (t : WorldText) (w : World) → cond test t Bad ≡ R
 where_true true t w is = (refl, is)
 where_true false t w is = absurd (cc)
 
--- the world is made of processes with distinct pids
-Made : World → Type 0
-Made w = (ps : List Process) × (are_distinct ps ≡ true) × (world_with ps ≡ w)
+-- the world is made of processes with distinct pids, which come from a value
+unfoldable pub Made : World → Type 0
+Made w = (ps : List Process) × (are_distinct ps ≡ true) × (world_with ps ≡ w) × ((value : Option Data) × (processes_of value ≡ Some ps))
 
-read_processes : (read : Option (List Process)) (w : World) → distinct_world read ≡ Reads w → Made w
+read_processes : (value : Option Data) (read : Option (List Process)) (w : World) → processes_of value ≡ read → distinct_world read ≡ Reads w → Made w
 unfolding Made
-read_processes None w is = absurd (cc)
-read_processes (Some ps) w is =
+read_processes value None w of_value is = absurd (cc)
+read_processes value (Some ps) w of_value is =
     let parts : (are_distinct ps ≡ true) × (Reads (world_with ps) ≡ Reads w) = where_true (are_distinct ps) (Reads (world_with ps)) w is in
-    (ps, parts.0, let same : Reads (world_with ps) ≡ Reads w = parts.1 in cc)
+    (ps, parts.0, let same : Reads (world_with ps) ≡ Reads w = parts.1 in cc, (value, of_value))
 
 read_table : (top : Members) (w : World) → table_text top ≡ Reads w → Made w
 read_table top w is =
     let processes : Option (List Process) = processes_of (get_member (codes "process") top) in
     let test : Bool = has_only (codes "log" ∷ codes "process" ∷ []) top && is_text (codes "script") (get_member (codes "log") top) in
-    read_processes processes w (where_true test (distinct_world processes) w (unless (asks_more top) (built_table top) w is)).1
+    read_processes (get_member (codes "process") top) processes w refl (where_true test (distinct_world processes) w (unless (asks_more top) (built_table top) w is)).1
 
 read_document : (document : Option Members) (w : World) → document_text document ≡ Reads w → Made w
 read_document None w is = absurd (cc)
 read_document (Some top) w is = read_table top w is
 
-start_made : (bytes : List ℕ) (w : World) → world_text bytes ≡ Reads w → Made w
+pub start_made : (bytes : List ℕ) (w : World) → world_text bytes ≡ Reads w → Made w
 start_made bytes w is = read_document (parse_document bytes) w (where_true (is_utf8 bytes) (document_text (parse_document bytes)) w is).1
 
 -- no pid stands twice in the world of a text

@@ -1,5 +1,5 @@
 -- Each status comes exactly by its cause.
-use Rattle.std.proofs.Common.{◌≡◌, ℕ, ◌+◌, ◌<◌, ◌≤◌, inl, inr, Bool, true, false, cond, nat_lt, length, List, [], ◌∷◌, ◌++◌, refl, sym, ◌∙◌, ap, subst, arith, append-nil}
+use Rattle.std.proofs.Common.{◌≡◌, ◌≢◌, Option, None, Some, ℕ, ◌+◌, ◌<◌, ◌≤◌, inl, inr, Bool, true, false, cond, nat_lt, length, List, [], ◌∷◌, ◌++◌, refl, sym, ◌∙◌, ap, subst, arith, append-nil}
 use Rattle.std.specs.Prelude.{codes}
 use Rattle.cm_base.specs.declared.status.Status.{Status}
 use Rattle.cm_base.specs.declared.status.Status.TheVariants as status
@@ -9,12 +9,14 @@ use Rattle.model_cred.specs.World.{World}
 use Rattle.model_run.specs.Step.{Outcome, Goes, Step, Run, outcome}
 use Rattle.model_text.proofs.Replays.{GoesOn, Passes, run_passes, events_past_none, events_past_told}
 use Rattle.model_text.proofs.StepFacts.{goes_or_not}
-use Rattle.model_text.specs.Causes.{events_of, AreWhole, Names, Begins, Reaches, IsImpossible, StopsAt, IsLongWorld, IsLongLog, Cause}
-use Rattle.model_text.specs.Command.{Command, Replay, Later, NoForm, command_of}
+use Rattle.model_text.proofs.Verdicts.{run_after, accepted_follows, VerdictCause, verdict_cause, verdict_by}
+use Rattle.model_text.specs.Causes.{events_of, AreWhole, Names, Begins, Reaches, IsImpossible, StopsAt, IsLongWorld, IsLongLog, IsAccepted, Cause}
+use Rattle.model_text.specs.Command.{Command, Replay, Audit, Later, NoForm, command_of, files_of, query_of}
 use Rattle.model_text.specs.Cut.{lines_of}
 use Rattle.model_text.specs.Laws.{EachByItsCause}
 use Rattle.model_text.specs.Line.{Line, NoEvent, Tells, Faulty, Unbuilt, script_line}
-use Rattle.model_text.specs.Report.{Report, report, command_report, replay, by_world, world_replay, replayed, by_line, by_outcome, impossible, limit_hit, after, start_lines, world_limit, log_limit}
+use Rattle.model_text.specs.Report.{Report, report, command_report, files_report, by_world, world_report, answered, go_on, verdict, state_after, replayed, by_line, by_outcome, impossible, limit_hit, after, start_lines, world_limit, log_limit}
+use Rattle.model_text.specs.Query.{Query}
 use Rattle.model_text.specs.WorldText.{WorldText, Reads, Bad, world_text}
 use Rattle.model_text.specs.WorldText as texts
 
@@ -115,37 +117,79 @@ reaches words bytes w lines s line begins stop = record {
   run = stop.run;
 }
 
--- how the replay of a log that begins ends is the cause of the status
-cause_of_end : (words : List (List ℕ)) (bytes : List ℕ → List ℕ) (w : World) (lines : List (List ℕ)) (st : Status) → Begins words bytes w lines → Ends w w.start lines st → Cause words bytes st
-cause_of_end words bytes w lines status.Accepted begins h = record { world = w; lines = lines; state = h.0; begins = begins; whole = h.1; run = h.2 }
-cause_of_end words bytes w lines status.Impossible begins h = record { world = w; state = h.0; line = h.1; event = h.2; reaches = reaches words bytes w lines h.0 h.1 begins h.3; tells = h.4; no_step = h.5 }
-cause_of_end words bytes w lines status.BadLog begins h = record { world = w; state = h.0; line = h.1; reaches = reaches words bytes w lines h.0 h.1 begins h.2; stands_for = h.3 }
-cause_of_end words bytes w lines status.NotBuilt begins h = inr (inr (record { world = w; state = h.0; line = h.1; reaches = reaches words bytes w lines h.0 h.1 begins h.2; stands_for = h.3 }))
-cause_of_end words bytes w lines _ begins h = absurd h
+-- how the replay of a log that begins ends, but at its end, is the cause of the status
+cause_of_end : (words : List (List ℕ)) (bytes : List ℕ → List ℕ) (w : World) (lines : List (List ℕ)) (st : Status) → Begins words bytes w lines → Ends w w.start lines st → st ≢ status.Accepted → Cause words bytes st
+cause_of_end words bytes w lines status.Accepted begins h other = absurd (other refl)
+cause_of_end words bytes w lines status.Impossible begins h other = record { world = w; state = h.0; line = h.1; event = h.2; reaches = reaches words bytes w lines h.0 h.1 begins h.3; tells = h.4; no_step = h.5 }
+cause_of_end words bytes w lines status.BadLog begins h other = record { world = w; state = h.0; line = h.1; reaches = reaches words bytes w lines h.0 h.1 begins h.2; stands_for = h.3 }
+cause_of_end words bytes w lines status.NotBuilt begins h other = inl (inr (inr (record { world = w; state = h.0; line = h.1; reaches = reaches words bytes w lines h.0 h.1 begins h.2; stands_for = h.3 })))
+cause_of_end words bytes w lines _ begins h other = absurd h
 
-caused_by_log : (words : List (List ℕ)) (bytes : List ℕ → List ℕ) (log : List ℕ) (w : World) → Names words bytes (Reads w) log → (over : Bool) → nat_lt log_limit (length (bytes log)) ≡ over
-    → Cause words bytes (world_replay w (bytes log)).status
-caused_by_log words bytes log w names true is = rw is (inr (w, log, names, above_limit log_limit (length (bytes log)) is))
-caused_by_log words bytes log w names false is =
+-- and at its end the log is accepted
+accepted_of_end : (words : List (List ℕ)) (bytes : List ℕ → List ℕ) (w : World) (lines : List (List ℕ)) → Begins words bytes w lines → Ends w w.start lines status.Accepted → IsAccepted words bytes
+accepted_of_end words bytes w lines begins h = record { world = w; lines = lines; state = h.0; begins = begins; whole = h.1; run = h.2 }
+
+-- the cause of an answer behind an accepted log is that of the status
+cause_of_verdict : (words : List (List ℕ)) (bytes : List ℕ → List ℕ) (is : IsAccepted words bytes) (q : Query) (st : Status) → query_of (command_of words) ≡ Some q → VerdictCause q is.world is.state st → Cause words bytes st
+cause_of_verdict words bytes is q status.Accepted asked h = inr (is, q, asked, h)
+cause_of_verdict words bytes is q status.No asked h = (is, q, asked, h)
+cause_of_verdict words bytes is q status.BadQuery asked h = (is, q, asked, h)
+cause_of_verdict words bytes is q status.NotBuilt asked h = inr (is, q, asked, h)
+cause_of_verdict words bytes is q _ asked h = absurd h
+
+-- the answer behind a replay
+cause_behind : (words : List (List ℕ)) (bytes : List ℕ → List ℕ) (w : World) (lines : List (List ℕ)) (replay next : Report) (st : Status) → Begins words bytes w lines → replay.status ≡ st → Ends w w.start lines st
+    → (Ends w w.start lines status.Accepted → Cause words bytes next.status) → Cause words bytes (go_on st replay next).status
+cause_behind words bytes w lines replay next status.Accepted begins is h answer = answer h
+cause_behind words bytes w lines replay next status.Impossible begins is h answer = rw is (cause_of_end words bytes w lines status.Impossible begins h (λ e. cc))
+cause_behind words bytes w lines replay next status.BadLog begins is h answer = rw is (cause_of_end words bytes w lines status.BadLog begins h (λ e. cc))
+cause_behind words bytes w lines replay next status.NotBuilt begins is h answer = rw is (cause_of_end words bytes w lines status.NotBuilt begins h (λ e. cc))
+cause_behind words bytes w lines replay next _ begins is h answer = absurd h
+
+cause_of_replay : (words : List (List ℕ)) (bytes : List ℕ → List ℕ) (w : World) (lines : List (List ℕ)) (st : Status) → query_of (command_of words) ≡ None → Begins words bytes w lines → Ends w w.start lines st → Cause words bytes st
+cause_of_replay words bytes w lines status.Accepted asked begins h = inl (asked, accepted_of_end words bytes w lines begins h)
+cause_of_replay words bytes w lines status.Impossible asked begins h = cause_of_end words bytes w lines status.Impossible begins h (λ e. cc)
+cause_of_replay words bytes w lines status.BadLog asked begins h = cause_of_end words bytes w lines status.BadLog begins h (λ e. cc)
+cause_of_replay words bytes w lines status.NotBuilt asked begins h = cause_of_end words bytes w lines status.NotBuilt begins h (λ e. cc)
+cause_of_replay words bytes w lines _ asked begins h = absurd h
+
+caused_by_answer : (words : List (List ℕ)) (bytes : List ℕ → List ℕ) (w : World) (lines : List (List ℕ)) (query : Option Query) → query_of (command_of words) ≡ query → Begins words bytes w lines → Cause words bytes (answered query w lines).status
+unfolding accepted_of_end
+caused_by_answer words bytes w lines None asked begins = cause_of_replay words bytes w lines (replayed w lines w.start 1 0).status asked begins (replay_ends w lines w.start 1 0)
+caused_by_answer words bytes w lines (Some q) asked begins =
+    let replay : Report = replayed w lines w.start 1 0 in
+    cause_behind words bytes w lines replay (verdict (state_after w w.start (events_of lines)) q) replay.status begins refl (replay_ends w lines w.start 1 0)
+    (λ h.
+    let is : IsAccepted words bytes = accepted_of_end words bytes w lines begins h in
+    let there : state_after w w.start (events_of lines) ≡ h.0 = run_after w (events_of lines) w.start h.0 h.2 in
+    subst (λ (s : State). Cause words bytes (verdict s q).status) (sym there) (cause_of_verdict words bytes is q (verdict h.0 q).status asked (verdict_cause w h.0 q (accepted_follows words bytes is))))
+
+caused_by_log : (words : List (List ℕ)) (bytes : List ℕ → List ℕ) (log : List ℕ) (w : World) (query : Option Query) → query_of (command_of words) ≡ query → Names words bytes (Reads w) log
+    → (over : Bool) → nat_lt log_limit (length (bytes log)) ≡ over → Cause words bytes (world_report query w (bytes log)).status
+caused_by_log words bytes log w query asked names true is = rw is (inr (w, log, names, above_limit log_limit (length (bytes log)) is))
+caused_by_log words bytes log w query asked names false is =
     let begins : Begins words bytes w (lines_of (bytes log)) = record { log = log; names = names; size = below_limit log_limit (length (bytes log)) is; cut = refl } in
-    rw is (cause_of_end words bytes w (lines_of (bytes log)) _ begins (replay_ends w (lines_of (bytes log)) w.start 1 0))
+    rw is (caused_by_answer words bytes w (lines_of (bytes log)) query asked begins)
 
-caused_by_world : (words : List (List ℕ)) (bytes : List ℕ → List ℕ) (log : List ℕ) (text : WorldText) → Names words bytes text log → Cause words bytes (by_world text (bytes log)).status
-caused_by_world words bytes log Bad names = (log, names)
-caused_by_world words bytes log texts.NotBuilt names = inr (inl (log, names))
-caused_by_world words bytes log (Reads w) names = caused_by_log words bytes log w names (nat_lt log_limit (length (bytes log))) refl
+caused_by_world : (words : List (List ℕ)) (bytes : List ℕ → List ℕ) (log : List ℕ) (query : Option Query) (text : WorldText) → query_of (command_of words) ≡ query → Names words bytes text log
+    → Cause words bytes (by_world query text (bytes log)).status
+caused_by_world words bytes log query Bad asked names = (log, names)
+caused_by_world words bytes log query texts.NotBuilt asked names = inl (inr (inl (log, names)))
+caused_by_world words bytes log query (Reads w) asked names = caused_by_log words bytes log w query asked names (nat_lt log_limit (length (bytes log))) refl
 
-caused_by_size : (words : List (List ℕ)) (bytes : List ℕ → List ℕ) (world log : List ℕ) → command_of words ≡ Replay world log → (over : Bool) → nat_lt world_limit (length (bytes world)) ≡ over
-    → Cause words bytes (replay (bytes world) (bytes log)).status
-caused_by_size words bytes world log command true is = rw is (inl (world, log, command, above_limit world_limit (length (bytes world)) is))
-caused_by_size words bytes world log command false is =
+caused_by_size : (words : List (List ℕ)) (bytes : List ℕ → List ℕ) (world log : List ℕ) (query : Option Query) → files_of (command_of words) ≡ Some (world, log) → query_of (command_of words) ≡ query
+    → (over : Bool) → nat_lt world_limit (length (bytes world)) ≡ over → Cause words bytes (files_report query (bytes world) (bytes log)).status
+caused_by_size words bytes world log query command asked true is = rw is (inl (world, log, command, above_limit world_limit (length (bytes world)) is))
+caused_by_size words bytes world log query command asked false is =
     let names : Names words bytes (world_text (bytes world)) log = record { world = world; command = command; size = below_limit world_limit (length (bytes world)) is; reads = refl } in
-    rw is (caused_by_world words bytes log (world_text (bytes world)) names)
+    rw is (caused_by_world words bytes log query (world_text (bytes world)) asked names)
 
 caused_by_command : (words : List (List ℕ)) (bytes : List ℕ → List ℕ) (command : Command) → command_of words ≡ command → Cause words bytes (command_report command bytes).status
 caused_by_command words bytes NoForm is = is
-caused_by_command words bytes Later is = inl is
-caused_by_command words bytes (Replay world log) is = caused_by_size words bytes world log is (nat_lt world_limit (length (bytes world))) refl
+caused_by_command words bytes Later is = inl (inl is)
+caused_by_command words bytes (Replay world log) is = caused_by_size words bytes world log None (ap files_of is) (ap query_of is) (nat_lt world_limit (length (bytes world))) refl
+caused_by_command words bytes (Audit world log pid right) is =
+    caused_by_size words bytes world log (Some (record { pid = pid; right = right })) (ap files_of is) (ap query_of is) (nat_lt world_limit (length (bytes world))) refl
 
 -- the cause of the status that the report has holds
 pub has_its_cause : (words : List (List ℕ)) (bytes : List ℕ → List ℕ) → Cause words bytes (report words bytes).status
@@ -161,20 +205,48 @@ is_above limit size over = grind (arith, over)
 of_command : (words : List (List ℕ)) (bytes : List ℕ → List ℕ) (command : Command) → command_of words ≡ command → report words bytes ≡ command_report command bytes
 of_command words bytes command is = ap (λ (c : Command). command_report c bytes) is
 
-of_size : (world log : List ℕ) → length world ≤ world_limit → replay world log ≡ by_world (world_text world) log
-of_size world log within = ap (λ (over : Bool). cond over (limit_hit (codes "world") world_limit) (by_world (world_text world) log)) (not_above world_limit (length world) within)
+of_files : (command : Command) (bytes : List ℕ → List ℕ) (world log : List ℕ) → files_of command ≡ Some (world, log) → command_report command bytes ≡ files_report (query_of command) (bytes world) (bytes log)
+of_files NoForm bytes world log is = absurd (cc)
+of_files Later bytes world log is = absurd (cc)
+of_files (Replay world' log') bytes world log is =
+    let same : (world', log') ≡ (world, log) = cc in
+    ap (λ (names : List ℕ × List ℕ). files_report None (bytes names.0) (bytes names.1)) same
+of_files (Audit world' log' pid right) bytes world log is =
+    let same : (world', log') ≡ (world, log) = cc in
+    ap (λ (names : List ℕ × List ℕ). files_report (Some (record { pid = pid; right = right })) (bytes names.0) (bytes names.1)) same
+
+of_size : (query : Option Query) (world log : List ℕ) → length world ≤ world_limit → files_report query world log ≡ by_world query (world_text world) log
+of_size query world log within = ap (λ (over : Bool). cond over (limit_hit (codes "world") world_limit) (by_world query (world_text world) log)) (not_above world_limit (length world) within)
 
 -- the report where the words name a world and a log
-of_names : (words : List (List ℕ)) (bytes : List ℕ → List ℕ) (text : WorldText) (log : List ℕ) → Names words bytes text log → report words bytes ≡ by_world text (bytes log)
+of_names : (words : List (List ℕ)) (bytes : List ℕ → List ℕ) (text : WorldText) (log : List ℕ) → Names words bytes text log → report words bytes ≡ by_world (query_of (command_of words)) text (bytes log)
 of_names words bytes text log names =
-    of_command words bytes (Replay names.world log) names.command ∙ of_size (bytes names.world) (bytes log) names.size ∙ ap (λ (t : WorldText). by_world t (bytes log)) names.reads
+    of_files (command_of words) bytes names.world log names.command ∙ of_size (query_of (command_of words)) (bytes names.world) (bytes log) names.size
+    ∙ ap (λ (t : WorldText). by_world (query_of (command_of words)) t (bytes log)) names.reads
 
 -- the report where the replay of a log begins
-pub of_begins : (words : List (List ℕ)) (bytes : List ℕ → List ℕ) (w : World) (lines : List (List ℕ)) → Begins words bytes w lines → report words bytes ≡ after (start_lines w) (replayed w lines w.start 1 0)
+pub of_begins : (words : List (List ℕ)) (bytes : List ℕ → List ℕ) (w : World) (lines : List (List ℕ)) → Begins words bytes w lines
+    → report words bytes ≡ after (start_lines w) (answered (query_of (command_of words)) w lines)
 of_begins words bytes w lines begins =
     of_names words bytes (Reads w) begins.log begins.names
-    ∙ ap (λ (over : Bool). cond over (limit_hit (codes "log") log_limit) (after (start_lines w) (replayed w (lines_of (bytes begins.log)) w.start 1 0))) (not_above log_limit (length (bytes begins.log)) begins.size)
-    ∙ ap (λ (ls : List (List ℕ)). after (start_lines w) (replayed w ls w.start 1 0)) begins.cut
+    ∙ ap (λ (over : Bool). cond over (limit_hit (codes "log") log_limit) (after (start_lines w) (answered (query_of (command_of words)) w (lines_of (bytes begins.log))))) (not_above log_limit (length (bytes begins.log)) begins.size)
+    ∙ ap (λ (ls : List (List ℕ)). after (start_lines w) (answered (query_of (command_of words)) w ls)) begins.cut
+
+stops_there : (st : Status) (replay next : Report) → st ≢ status.Accepted → go_on st replay next ≡ replay
+stops_there status.Accepted replay next other = absurd (other refl)
+stops_there _ replay next other = refl
+
+-- where the replay ends before its end, that is all
+pub of_stop : (query : Option Query) (w : World) (lines : List (List ℕ)) (st : Status) → (replayed w lines w.start 1 0).status ≡ st → st ≢ status.Accepted → answered query w lines ≡ replayed w lines w.start 1 0
+of_stop None w lines st is other = refl
+of_stop (Some q) w lines st is other = stops_there (replayed w lines w.start 1 0).status (replayed w lines w.start 1 0) _ (λ accepted. other (sym is ∙ accepted))
+
+-- where it is accepted, the answer comes behind it
+pub of_end : (q : Query) (w : World) (lines : List (List ℕ)) (s : State) → (replayed w lines w.start 1 0).status ≡ status.Accepted → Run w w.start (events_of lines) s
+    → answered (Some q) w lines ≡ after (replayed w lines w.start 1 0).lines (verdict s q)
+of_end q w lines s is run =
+    ap (λ (st : Status). go_on st (replayed w lines w.start 1 0) (verdict (state_after w w.start (events_of lines)) q)) is
+    ∙ ap (λ (t : State). after (replayed w lines w.start 1 0).lines (verdict t q)) (run_after w (events_of lines) w.start s run)
 
 -- the replay of whole lines whose events are a run goes over to its end
 pub over_all : (w : World) (lines : List (List ℕ)) (s : State) → AreWhole lines → Run w w.start (events_of lines) s → (n c : ℕ) × GoesOn w.start (replayed w lines w.start 1 0) s (replayed w [] s n c)
@@ -182,49 +254,73 @@ over_all w lines s whole run =
     let passed : Passes w lines [] w.start s 1 0 = run_passes w lines [] w.start s whole run 1 0 in
     (passed.0, passed.1, subst (λ (ls : List (List ℕ)). GoesOn w.start (replayed w ls w.start 1 0) s (replayed w [] s passed.0 passed.1)) (append-nil lines) passed.2)
 
-by_end : (words : List (List ℕ)) (bytes : List ℕ → List ℕ) (w : World) (lines : List (List ℕ)) (s : State) → Begins words bytes w lines → AreWhole lines → Run w w.start (events_of lines) s → (report words bytes).status ≡ status.Accepted
-by_end words bytes w lines s begins whole run = ap (λ (r : Report). r.status) (of_begins words bytes w lines begins) ∙ (over_all w lines s whole run).2.status
+-- the replay of an accepted log has that status
+pub replay_accepted : (words : List (List ℕ)) (bytes : List ℕ → List ℕ) (is : IsAccepted words bytes) → (replayed is.world is.lines is.world.start 1 0).status ≡ status.Accepted
+replay_accepted words bytes is = (over_all is.world is.lines is.state is.whole is.run).2.status
 
-by_reach : (words : List (List ℕ)) (bytes : List ℕ → List ℕ) (w : World) (s : State) (line : List ℕ) → Reaches words bytes w s line → (st : Status) → ((n c : ℕ) (next : State → ℕ → Report) → (by_line w s n c next (script_line line)).status ≡ st)
-    → (report words bytes).status ≡ st
-by_reach words bytes w s line h st stops =
+by_end : (words : List (List ℕ)) (bytes : List ℕ → List ℕ) → query_of (command_of words) ≡ None → IsAccepted words bytes → (report words bytes).status ≡ status.Accepted
+by_end words bytes asked is =
+    ap (λ (r : Report). r.status) (of_begins words bytes is.world is.lines is.begins)
+    ∙ ap (λ (query : Option Query). (answered query is.world is.lines).status) asked ∙ replay_accepted words bytes is
+
+-- the report where an audit asks behind an accepted log
+pub of_asked : (words : List (List ℕ)) (bytes : List ℕ → List ℕ) (is : IsAccepted words bytes) (q : Query) → query_of (command_of words) ≡ Some q
+    → report words bytes ≡ after (start_lines is.world) (after (replayed is.world is.lines is.world.start 1 0).lines (verdict is.state q))
+of_asked words bytes is q asked =
+    of_begins words bytes is.world is.lines is.begins
+    ∙ ap (λ (query : Option Query). after (start_lines is.world) (answered query is.world is.lines)) asked
+    ∙ ap (λ (r : Report). after (start_lines is.world) r) (of_end q is.world is.lines is.state (replay_accepted words bytes is) is.run)
+
+by_verdict : (words : List (List ℕ)) (bytes : List ℕ → List ℕ) (is : IsAccepted words bytes) (q : Query) (st : Status) → query_of (command_of words) ≡ Some q → VerdictCause q is.world is.state st → (report words bytes).status ≡ st
+by_verdict words bytes is q st asked h =
+    ap (λ (r : Report). r.status) (of_asked words bytes is q asked) ∙ verdict_by is.world is.state q st (accepted_follows words bytes is) h
+
+by_reach : (words : List (List ℕ)) (bytes : List ℕ → List ℕ) (w : World) (s : State) (line : List ℕ) → Reaches words bytes w s line → (st : Status) → st ≢ status.Accepted
+    → ((n c : ℕ) (next : State → ℕ → Report) → (by_line w s n c next (script_line line)).status ≡ st) → (report words bytes).status ≡ st
+by_reach words bytes w s line h st other stops =
     let passed : Passes w h.before (line ∷ h.later) w.start s 1 0 = run_passes w h.before (line ∷ h.later) w.start s h.whole h.run 1 0 in
-    ap (λ (r : Report). r.status) (of_begins words bytes w (h.before ++ line ∷ h.later) h.begins) ∙ passed.2.status ∙ stops passed.0 passed.1 (λ s' c'. replayed w h.later s' (passed.0 + 1) c')
+    let is : (replayed w (h.before ++ line ∷ h.later) w.start 1 0).status ≡ st = passed.2.status ∙ stops passed.0 passed.1 (λ s' c'. replayed w h.later s' (passed.0 + 1) c') in
+    ap (λ (r : Report). r.status) (of_begins words bytes w (h.before ++ line ∷ h.later) h.begins)
+    ∙ ap (λ (r : Report). r.status) (of_stop (query_of (command_of words)) w (h.before ++ line ∷ h.later) st is other) ∙ is
 
 by_impossible : (words : List (List ℕ)) (bytes : List ℕ → List ℕ) → IsImpossible words bytes → (report words bytes).status ≡ status.Impossible
 by_impossible words bytes is =
-    by_reach words bytes is.world is.state is.line is.reaches status.Impossible
+    by_reach words bytes is.world is.state is.line is.reaches status.Impossible (λ e. cc)
     (λ n c next. ap (λ (l : Line). (by_line is.world is.state n c next l).status) is.tells
     ∙ ap (λ (r : Report). r.status) (no_step n c is.event next (outcome is.world is.state is.event) is.no_step))
 
-by_stop : (words : List (List ℕ)) (bytes : List ℕ → List ℕ) (stop : Line) → StopsAt words bytes stop → (st : Status) → ((w : World) (s : State) (n c : ℕ) (next : State → ℕ → Report) → (by_line w s n c next stop).status ≡ st)
+by_stop : (words : List (List ℕ)) (bytes : List ℕ → List ℕ) (stop : Line) → StopsAt words bytes stop → (st : Status) → st ≢ status.Accepted → ((w : World) (s : State) (n c : ℕ) (next : State → ℕ → Report) → (by_line w s n c next stop).status ≡ st)
     → (report words bytes).status ≡ st
-by_stop words bytes stop is st ends =
-    by_reach words bytes is.world is.state is.line is.reaches st
+by_stop words bytes stop is st other ends =
+    by_reach words bytes is.world is.state is.line is.reaches st other
     (λ n c next. ap (λ (l : Line). (by_line is.world is.state n c next l).status) is.stands_for ∙ ends is.world is.state n c next)
 
 by_long_world : (words : List (List ℕ)) (bytes : List ℕ → List ℕ) → IsLongWorld words bytes → (report words bytes).status ≡ status.Limit
 by_long_world words bytes (world, log, command, over) =
-    ap (λ (r : Report). r.status) (of_command words bytes (Replay world log) command)
-    ∙ ap (λ (b : Bool). (cond b (limit_hit (codes "world") world_limit) (by_world (world_text (bytes world)) (bytes log))).status) (is_above world_limit (length (bytes world)) over)
+    ap (λ (r : Report). r.status) (of_files (command_of words) bytes world log command)
+    ∙ ap (λ (b : Bool). (cond b (limit_hit (codes "world") world_limit) (by_world (query_of (command_of words)) (world_text (bytes world)) (bytes log))).status) (is_above world_limit (length (bytes world)) over)
 
 by_long_log : (words : List (List ℕ)) (bytes : List ℕ → List ℕ) → IsLongLog words bytes → (report words bytes).status ≡ status.Limit
 by_long_log words bytes (w, log, names, over) =
     ap (λ (r : Report). r.status) (of_names words bytes (Reads w) log names)
-    ∙ ap (λ (b : Bool). (cond b (limit_hit (codes "log") log_limit) (after (start_lines w) (replayed w (lines_of (bytes log)) w.start 1 0))).status) (is_above log_limit (length (bytes log)) over)
+    ∙ ap (λ (b : Bool). (cond b (limit_hit (codes "log") log_limit) (after (start_lines w) (answered (query_of (command_of words)) w (lines_of (bytes log))))).status) (is_above log_limit (length (bytes log)) over)
 
 -- the status whose cause holds is that of the report
 pub by_its_cause : (words : List (List ℕ)) (bytes : List ℕ → List ℕ) (st : Status) → Cause words bytes st → (report words bytes).status ≡ st
-by_its_cause words bytes status.Accepted is = by_end words bytes is.world is.lines is.state is.begins is.whole is.run
+by_its_cause words bytes status.Accepted (inl (asked, is)) = by_end words bytes asked is
+by_its_cause words bytes status.Accepted (inr (is, q, asked, h)) = by_verdict words bytes is q status.Accepted asked h
+by_its_cause words bytes status.No (is, q, asked, h) = by_verdict words bytes is q status.No asked h
+by_its_cause words bytes status.BadQuery (is, q, asked, h) = by_verdict words bytes is q status.BadQuery asked h
 by_its_cause words bytes status.Impossible is = by_impossible words bytes is
 by_its_cause words bytes status.BadWorld (log, names) = ap (λ (r : Report). r.status) (of_names words bytes Bad log names)
-by_its_cause words bytes status.BadLog is = by_stop words bytes Faulty is status.BadLog (λ w s n c next. refl)
+by_its_cause words bytes status.BadLog is = by_stop words bytes Faulty is status.BadLog (λ e. cc) (λ w s n c next. refl)
 by_its_cause words bytes status.Usage is = ap (λ (r : Report). r.status) (of_command words bytes NoForm is)
 by_its_cause words bytes status.Limit (inl long) = by_long_world words bytes long
 by_its_cause words bytes status.Limit (inr long) = by_long_log words bytes long
-by_its_cause words bytes status.NotBuilt (inl later) = ap (λ (r : Report). r.status) (of_command words bytes Later later)
-by_its_cause words bytes status.NotBuilt (inr (inl (log, names))) = ap (λ (r : Report). r.status) (of_names words bytes texts.NotBuilt log names)
-by_its_cause words bytes status.NotBuilt (inr (inr is)) = by_stop words bytes Unbuilt is status.NotBuilt (λ w s n c next. refl)
+by_its_cause words bytes status.NotBuilt (inl (inl later)) = ap (λ (r : Report). r.status) (of_command words bytes Later later)
+by_its_cause words bytes status.NotBuilt (inl (inr (inl (log, names)))) = ap (λ (r : Report). r.status) (of_names words bytes texts.NotBuilt log names)
+by_its_cause words bytes status.NotBuilt (inr (is, q, asked, h)) = by_verdict words bytes is q status.NotBuilt asked h
+by_its_cause words bytes status.NotBuilt (inl (inr (inr is))) = by_stop words bytes Unbuilt is status.NotBuilt (λ e. cc) (λ w s n c next. refl)
 by_its_cause words bytes _ never = absurd never
 
 -- A status comes exactly by its cause, whatever the words and the files.

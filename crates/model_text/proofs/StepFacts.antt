@@ -2,7 +2,7 @@
 -- All that these laws need of the machine's definition of a step is here.
 use Rattle.std.proofs.Common.{◌≡◌, ◌≢◌, ℕ, ◌⊎◌, inl, inr, Bool, true, false, cond, List, [], ◌∷◌, Option, Some, None, refl, sym, ◌∙◌, ap, arith}
 use Rattle.cm_base.specs.declared.res.Res.{Res}
-use Rattle.model_cred.specs.Call.{Call, SetResUid, Event}
+use Rattle.model_cred.specs.Call.{SetResUid, Event}
 use Rattle.model_cred.specs.Credential.{Credential}
 use Rattle.model_cred.specs.Process.{Process, State, process_at, put_process}
 use Rattle.model_cred.specs.World.{World}
@@ -10,13 +10,10 @@ use Rattle.model_run.specs.Outside.{comes_from_outside}
 use Rattle.model_run.specs.Same.{same_res}
 use Rattle.model_run.specs.Step.{Outcome, Goes, PidInUse, Wrong, Step, outcome_for, told_call, told_rules, told_child, is_living_child, with_cred}
 use Rattle.model_run.specs.Ruling.{ruling, own}
+pub use Rattle.model_run.specs.WayBack.{IsSetResUid}
 use Rattle.model_rules.specs.Answer.{Answer}
 use Rattle.model_rules.specs.SetId.{setresuid}
 use Rattle.model_cred.specs.Space.{space_of}
-
--- the call is setresuid
-abbrev pub IsSetResUid : Call → Type 0
-IsSetResUid call = (r e v : ℕ) × (call ≡ SetResUid r e v)
 
 -- ---- whether an event goes on
 -- an outcome is a step to a state, or it is none

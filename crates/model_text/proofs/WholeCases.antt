@@ -48,3 +48,36 @@ pub words_of_no_form : Says (report [] (files [] [])) status.Usage
     ∷ codes "usage: credaudit drill N" ∷ [])
 unfolding report_on_literals world_on_literals
 words_of_no_form = record { status = refl; text = refl }
+
+-- ---- audits
+-- the words `audit w l`, a pid and a right
+abbrev pub audit_words : List ℕ → List ℕ → List (List ℕ)
+audit_words pid right = codes "audit" ∷ codes "w" ∷ codes "l" ∷ pid ∷ right ∷ []
+
+-- root's world, and a log
+abbrev pub root_files : List ℕ → List ℕ → List ℕ
+root_files log = files (codes "log = \"script\"\n[[process]]\npid = 100\nuid = 0\n") log
+
+pub root_that_steps_down_comes_back : Says (report (audit_words (codes "100") (codes "uid:7")) (root_files (codes "100 setresuid -1 1000 -1 = 0\n"))) status.No
+    (root_line ∷ codes "1: 100 setresuid -1 1000 -1 = 0"
+    ∷ codes "> 100 init uid=0,1000,0,1000 gid=0,0,0,0 groups=- inh=0000000000000000 prm=000001ffffffffff eff=0000000000000000 bnd=000001ffffffffff amb=0000000000000000 sec=00 nnp=0"
+    ∷ codes "end 1" ∷ codes "no 2" ∷ codes "100 setresuid -1 0 -1 = 0" ∷ codes "100 setresuid -1 7 -1 = 0" ∷ codes "holder 100" ∷ [])
+unfolding report_on_literals world_on_literals
+root_that_steps_down_comes_back = record { status = refl; text = refl }
+
+pub root_that_gives_up_its_ids_does_not : Says (report (audit_words (codes "100") (codes "uid:0")) (root_files (codes "100 setresuid 1000 1000 1000 = 0\n"))) status.Accepted
+    (root_line ∷ codes "1: 100 setresuid 1000 1000 1000 = 0" ∷ user_line ∷ codes "end 1" ∷ codes "yes" ∷ [])
+unfolding report_on_literals world_on_literals
+root_that_gives_up_its_ids_does_not = record { status = refl; text = refl }
+
+pub pid_of_no_process : Says (report (audit_words (codes "101") (codes "uid:0")) (root_files [])) status.BadQuery (root_line ∷ codes "end 0" ∷ codes "bad query: pid" ∷ [])
+unfolding report_on_literals world_on_literals
+pid_of_no_process = record { status = refl; text = refl }
+
+pub text_of_no_right : Says (report (audit_words (codes "100") (codes "cap:CAP_KILL@child")) (root_files [])) status.BadQuery (root_line ∷ codes "end 0" ∷ codes "bad query: right" ∷ [])
+unfolding report_on_literals world_on_literals
+text_of_no_right = record { status = refl; text = refl }
+
+pub capability_is_not_built : Says (report (audit_words (codes "100") (codes "cap:CAP_KILL@#5")) (root_files [])) status.NotBuilt (root_line ∷ codes "end 0" ∷ codes "not built" ∷ [])
+unfolding report_on_literals world_on_literals
+capability_is_not_built = record { status = refl; text = refl }

@@ -1,25 +1,20 @@
 -- Why a command answers what it does, in the words of worlds, events and runs: each status and its cause.
-use Rattle.std.specs.Prelude.{◌≡◌, ◌≤◌, ◌<◌, ◌⊎◌, ℕ, length, List, [], ◌∷◌, ◌++◌, Option, Some, None, filter_map}
+use Rattle.std.specs.Prelude.{◌≡◌, ◌≤◌, ◌<◌, ◌⊎◌, ℕ, length, List, [], ◌∷◌, ◌++◌, Some, None}
 use Rattle.cm_base.specs.declared.status.Status.{Status}
 use Rattle.cm_base.specs.declared.status.Status.TheVariants as status
 use Rattle.model_cred.specs.Call.{Event}
-use Rattle.model_cred.specs.Process.{State}
+use Rattle.model_cred.specs.Process.{Process, State}
+use Rattle.model_cred.specs.Right.{Right, Uid}
 use Rattle.model_cred.specs.World.{World}
 use Rattle.model_run.specs.Step.{Step, Run}
-use Rattle.model_text.specs.Command.{Replay, Later, NoForm, command_of}
+use Rattle.model_run.specs.WayBack.{BringsBack, CanComeBack}
+use Rattle.model_text.specs.Command.{Later, NoForm, command_of, files_of, query_of}
 use Rattle.model_text.specs.Cut.{lines_of}
 use Rattle.model_text.specs.Line.{Line, NoEvent, Tells, Faulty, Unbuilt, script_line}
+pub use Rattle.model_text.specs.Line.{told_event, events_of}
+use Rattle.model_text.specs.Query.{Query, asked_process, right_token}
 use Rattle.model_text.specs.Report.{world_limit, log_limit}
 use Rattle.model_text.specs.WorldText.{WorldText, Reads, Bad, NotBuilt, world_text}
-
--- the event that a line tells, where it tells one
-abbrev pub told_event : Line → Option Event
-told_event (Tells e) = Some e
-told_event _ = None
-
--- the events that lines tell, in their order
-abbrev pub events_of : List (List ℕ) → List Event
-events_of lines = filter_map (λ line. told_event (script_line line)) lines
 
 -- the line is whole: it tells an event or none
 abbrev pub IsWhole : List ℕ → Type 0
@@ -30,10 +25,10 @@ abbrev pub AreWhole : List (List ℕ) → Type 0
 AreWhole [] = Unit {0}
 AreWhole (line ∷ lines) = IsWhole line × AreWhole lines
 
--- The words name a world, whose text is within its limit and reads so, and this log.
+-- The words, of a replay or of an audit, name a world, whose text is within its limit and reads so, and this log.
 pub record Names (words : List (List ℕ)) (bytes : List ℕ → List ℕ) (text : WorldText) (log : List ℕ) : Type 0 where
   pub world : List ℕ
-  pub command : command_of words ≡ Replay world log
+  pub command : files_of (command_of words) ≡ Some (world, log)
   pub size : length (bytes world) ≤ world_limit
   pub reads : world_text (bytes world) ≡ text
 
@@ -52,7 +47,7 @@ pub record Reaches (words : List (List ℕ)) (bytes : List ℕ → List ℕ) (w 
   pub whole : AreWhole before
   pub run : Run w w.start (events_of before) s
 
--- Accepted: all lines are whole, and their events are a run, which leads to the state.
+-- The log is accepted: all lines are whole, and their events are a run, which leads to the state.
 pub record IsAccepted (words : List (List ℕ)) (bytes : List ℕ → List ℕ) : Type 0 where
   pub world : World
   pub lines : List (List ℕ)
@@ -81,20 +76,57 @@ pub record StopsAt (words : List (List ℕ)) (bytes : List ℕ → List ℕ) (st
 
 -- the world that the words name is too long
 abbrev pub IsLongWorld : List (List ℕ) → (List ℕ → List ℕ) → Type 0
-IsLongWorld words bytes = (world : List ℕ) × (log : List ℕ) × (command_of words ≡ Replay world log) × (world_limit < length (bytes world))
+IsLongWorld words bytes = (world : List ℕ) × (log : List ℕ) × (files_of (command_of words) ≡ Some (world, log)) × (world_limit < length (bytes world))
 
 -- the words name a world, and the log is too long
 abbrev pub IsLongLog : List (List ℕ) → (List ℕ → List ℕ) → Type 0
 IsLongLog words bytes = (w : World) × (log : List ℕ) × Names words bytes (Reads w) log × (log_limit < length (bytes log))
 
--- The cause of each status that comes of the words and of the bytes of the files. Not built are the other commands, a
--- world that asks for more, and the line of a call that isn't built, behind a run.
+-- ---- the answer to an audit, in the state behind an accepted log
+-- the query's pid is that of a live process, and its right is a right
+pub record Asks (q : Query) (s : State) (p : Process) (right : Right) : Type 0 where
+  pub process : asked_process s q.pid ≡ Some p
+  pub asked : right_token q.right ≡ Some right
+
+-- one process lives, and the query asks for a user id of it
+pub record AsksAlone (q : Query) (s : State) (p : Process) (k : ℕ) : Type 0 where
+  pub asks : Asks q s p (Uid k)
+  pub alone : length s.processes ≡ 1
+
+-- Yes: no list of later setresuid calls of the process, of any length, ends where it holds the user id.
+abbrev pub IsYes : Query → World → State → Type 0
+IsYes q w s = (p : Process) × (k : ℕ) × AsksAlone q s p k × ((run : List Event) → ¬ BringsBack w s p.pid k run)
+
+-- No: some such list does.
+abbrev pub IsNo : Query → World → State → Type 0
+IsNo q w s = (p : Process) × (k : ℕ) × AsksAlone q s p k × CanComeBack w s p.pid k
+
+-- A bad query: its pid is that of no live process; or its right is none.
+abbrev pub IsBadQuery : Query → World → State → Type 0
+IsBadQuery q w s = (asked_process s q.pid ≡ None) ⊎ ((p : Process) × (asked_process s q.pid ≡ Some p) × (right_token q.right ≡ None))
+
+-- Beyond what is built: a right other than a user id, or several processes.
+abbrev pub IsBeyond : Query → World → State → Type 0
+IsBeyond q w s = (p : Process) × (right : Right) × Asks q s p right × (((k : ℕ) → ¬ (right ≡ Uid k)) ⊎ (1 < length s.processes))
+
+-- The words ask a query, and behind the accepted log this holds of it.
+abbrev pub Behind : List (List ℕ) → (List ℕ → List ℕ) → (Query → World → State → Type 0) → Type 0
+Behind words bytes Answer = (is : IsAccepted words bytes) × (q : Query) × (query_of (command_of words) ≡ Some q) × Answer q is.world is.state
+
+-- ---- the causes
+-- Not built are the other commands, a world that asks for more, and the line of a call that isn't built, behind a run.
+abbrev pub IsUnbuilt : List (List ℕ) → (List ℕ → List ℕ) → Type 0
+IsUnbuilt words bytes = (command_of words ≡ Later) ⊎ ((log : List ℕ) × Names words bytes NotBuilt log) ⊎ StopsAt words bytes Unbuilt
+
+-- The cause of each status that comes of the words and of the bytes of the files.
 abbrev pub Cause : List (List ℕ) → (List ℕ → List ℕ) → Status → Type 0
-Cause words bytes status.Accepted = IsAccepted words bytes
+Cause words bytes status.Accepted = ((query_of (command_of words) ≡ None) × IsAccepted words bytes) ⊎ Behind words bytes IsYes
+Cause words bytes status.No = Behind words bytes IsNo
 Cause words bytes status.Impossible = IsImpossible words bytes
 Cause words bytes status.BadWorld = (log : List ℕ) × Names words bytes Bad log
 Cause words bytes status.BadLog = StopsAt words bytes Faulty
 Cause words bytes status.Usage = command_of words ≡ NoForm
 Cause words bytes status.Limit = IsLongWorld words bytes ⊎ IsLongLog words bytes
-Cause words bytes status.NotBuilt = (command_of words ≡ Later) ⊎ ((log : List ℕ) × Names words bytes NotBuilt log) ⊎ StopsAt words bytes Unbuilt
+Cause words bytes status.BadQuery = Behind words bytes IsBadQuery
+Cause words bytes status.NotBuilt = IsUnbuilt words bytes ⊎ Behind words bytes IsBeyond
 Cause words bytes _ = ⊥

@@ -6,6 +6,7 @@ pub mod Line
 pub mod Toml
 pub mod WorldText
 pub mod Print
+pub mod Query
 pub mod Command
 pub mod Report
 pub mod Causes

@@ -1,5 +1,5 @@
 -- What a line of a script log stands for: PID CALL ARGUMENTS = RESULT (choice).
-use Rattle.std.specs.Prelude.{ℕ, codes, bytes_eq, List, [], ◌∷◌, Option, Some, None, if◌then◌else◌}
+use Rattle.std.specs.Prelude.{ℕ, codes, bytes_eq, List, [], ◌∷◌, Option, Some, None, if◌then◌else◌, filter_map}
 use Rattle.cm_base.specs.declared.res.Res.{Res}
 use Rattle.model_cred.specs.Call.{SetResUid, Event}
 use Rattle.model_text.specs.Cut.{tokens_of}
@@ -46,3 +46,12 @@ tokens_line (first ∷ rest) = if is_comment first then NoEvent else pid_line (p
 -- the line
 abbrev pub script_line : List ℕ → Line
 script_line line = tokens_line (tokens_of line)
+
+-- the event that a line tells, where it tells one
+abbrev pub told_event : Line → Option Event
+told_event (Tells e) = Some e
+told_event _ = None
+
+-- the events that lines tell, in their order
+abbrev pub events_of : List (List ℕ) → List Event
+events_of lines = filter_map (λ line. told_event (script_line line)) lines

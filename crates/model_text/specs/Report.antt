@@ -1,15 +1,18 @@
 -- The report: what a command answers and writes, by its words and by the bytes of the files.
-use Rattle.std.specs.Prelude.{ℕ, codes, decimal, ◌+◌, nat_lt, length, List, [], ◌∷◌, ◌++◌, map, Option, Some, None, if◌then◌else◌, flat_map}
+use Rattle.std.specs.Prelude.{ℕ, codes, decimal, ◌+◌, ◌==◌, nat_lt, length, List, [], ◌∷◌, ◌++◌, map, Option, Some, None, if◌then◌else◌, flat_map}
 use Rattle.cm_base.specs.declared.status.Status.{Status}
 use Rattle.cm_base.specs.declared.status.Status.TheVariants as status
 use Rattle.model_cred.specs.Call.{Event}
 use Rattle.model_cred.specs.Process.{Process, State, process_at}
+use Rattle.model_cred.specs.Right.{Right, Cap, Uid, Gid}
 use Rattle.model_cred.specs.World.{World}
 use Rattle.model_run.specs.Step.{Outcome, Goes, NoProcess, NoSpace, PidInUse, Wrong, outcome}
-use Rattle.model_text.specs.Command.{Command, Replay, Later, NoForm, command_of}
+use Rattle.model_run.specs.WayBack.{way_back}
+use Rattle.model_text.specs.Command.{Command, Replay, Audit, Later, NoForm, command_of}
 use Rattle.model_text.specs.Cut.{lines_of}
-use Rattle.model_text.specs.Line.{Line, NoEvent, Tells, Faulty, Unbuilt, script_line}
-use Rattle.model_text.specs.Print.{credential_line, event_line, res_text}
+use Rattle.model_text.specs.Line.{Line, NoEvent, Tells, Faulty, Unbuilt, script_line, events_of}
+use Rattle.model_text.specs.Print.{credential_line, event_line, event_text, res_text}
+use Rattle.model_text.specs.Query.{Query, asked_process, right_token}
 use Rattle.model_text.specs.WorldText.{WorldText, Reads, Bad, world_text}
 use Rattle.model_text.specs.WorldText as texts
 
@@ -99,6 +102,56 @@ abbrev pub replayed : World → List (List ℕ) → State → ℕ → ℕ → Re
 replayed w [] s number count = ended count
 replayed w (line ∷ lines) s number count = by_line w s number count (λ s' count'. replayed w lines s' (number + 1) count') (script_line line)
 
+-- The state that events lead to. (An event that is no step changes nothing; behind an accepted log there is none.)
+abbrev pub state_or : State → Outcome → State
+state_or s (Goes s') = s'
+state_or s _ = s
+
+abbrev pub state_after : World → State → List Event → State
+state_after w s [] = s
+state_after w s (e ∷ es) = state_after w (state_or s (outcome w s e)) es
+
+-- ---- the answer to an audit
+-- the lines of a way back: how many calls, each as a script line, and who holds the right at its end
+abbrev pub way_lines : ℕ → List Event → List ReportLine
+way_lines pid way =
+    Plain (at_line (codes "no ") (length way)) ∷ map (λ e. Plain (event_text e)) way ++ Plain (at_line (codes "holder ") pid) ∷ []
+
+-- the answer by the way back of the process: yes where there is none, it can't come back
+abbrev pub way_verdict : ℕ → Option (List Event) → Report
+way_verdict pid None = says status.Accepted (codes "yes")
+way_verdict pid (Some way) = record { status = status.No; lines = way_lines pid way }
+
+-- the answer about a right of a process of a state. So far it is built for a user id where one process lives.
+abbrev pub right_verdict : State → Process → Right → Report
+right_verdict s p (Uid k) = if length s.processes == 1 then way_verdict p.pid (way_back p.cred p.pid k) else not_built
+right_verdict s p (Gid k) = not_built
+right_verdict s p (Cap cap n) = not_built
+
+-- a query that names no live process, or no right
+abbrev pub bad_query : List ℕ → Report
+bad_query word = says status.BadQuery (codes "bad query: " ++ word)
+
+abbrev pub asked_verdict : State → Option Process → Option Right → Report
+asked_verdict s None right = bad_query (codes "pid")
+asked_verdict s (Some p) None = bad_query (codes "right")
+asked_verdict s (Some p) (Some right) = right_verdict s p right
+
+-- the answer to a query in a state
+abbrev pub verdict : State → Query → Report
+verdict s q = asked_verdict s (asked_process s q.pid) (right_token q.right)
+
+-- ---- the report of a command
+-- behind a replay that is accepted comes another report
+abbrev pub go_on : Status → Report → Report → Report
+go_on status.Accepted replay next = after replay.lines next
+go_on _ replay next = replay
+
+-- the replay of lines, and behind an accepted log the answer to what is asked
+abbrev pub answered : Option Query → World → List (List ℕ) → Report
+answered None w lines = replayed w lines w.start 1 0
+answered (Some q) w lines = let replay = replayed w lines w.start 1 0 in go_on replay.status replay (verdict (state_after w w.start (events_of lines)) q)
+
 -- the credential lines at the start
 abbrev pub start_lines : World → List ReportLine
 start_lines w = map Credentials w.start.processes
@@ -111,19 +164,19 @@ world_limit = 1048576
 abbrev pub log_limit : ℕ
 log_limit = 67108864
 
--- the replay of a log in a world
-abbrev pub world_replay : World → List ℕ → Report
-world_replay w log = if nat_lt log_limit (length log) then limit_hit (codes "log") log_limit else after (start_lines w) (replayed w (lines_of log) w.start 1 0)
+-- the report of a log in a world, with what is asked behind it
+abbrev pub world_report : Option Query → World → List ℕ → Report
+world_report query w log = if nat_lt log_limit (length log) then limit_hit (codes "log") log_limit else after (start_lines w) (answered query w (lines_of log))
 
--- the replay of a log by what the world's text comes to
-abbrev pub by_world : WorldText → List ℕ → Report
-by_world Bad log = says status.BadWorld (codes "bad world")
-by_world texts.NotBuilt log = not_built
-by_world (Reads w) log = world_replay w log
+-- the report of a log by what the world's text comes to
+abbrev pub by_world : Option Query → WorldText → List ℕ → Report
+by_world query Bad log = says status.BadWorld (codes "bad world")
+by_world query texts.NotBuilt log = not_built
+by_world query (Reads w) log = world_report query w log
 
--- the replay of a log by the world's text
-abbrev pub replay : List ℕ → List ℕ → Report
-replay world log = if nat_lt world_limit (length world) then limit_hit (codes "world") world_limit else by_world (world_text world) log
+-- the report of a log by the world's text
+abbrev pub files_report : Option Query → List ℕ → List ℕ → Report
+files_report query world log = if nat_lt world_limit (length world) then limit_hit (codes "world") world_limit else by_world query (world_text world) log
 
 -- the five forms of the command line
 abbrev pub usage : Report
@@ -140,7 +193,8 @@ usage = record {
 abbrev pub command_report : Command → (List ℕ → List ℕ) → Report
 command_report NoForm bytes = usage
 command_report Later bytes = not_built
-command_report (Replay world log) bytes = replay (bytes world) (bytes log)
+command_report (Replay world log) bytes = files_report None (bytes world) (bytes log)
+command_report (Audit world log pid right) bytes = files_report (Some (record { pid = pid; right = right })) (bytes world) (bytes log)
 
 -- the report of the words
 abbrev pub report : List (List ℕ) → (List ℕ → List ℕ) → Report

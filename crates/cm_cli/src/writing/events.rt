@@ -1,8 +1,8 @@
 // The line of an event: the number of its line in the log, and the event as a script line.
 ghost use Rattle.std.specs.Prelude.{◌≡◌, ◌++◌, [], ◌∷◌, OnOk, codes};
 ghost use Rattle.cm_state.specs.Call.{call_of};
-ghost use Rattle.model_text.specs.Print.{call_text, id_text, res_text};
-ghost use Rattle.model_text.specs.Report.{text_of, Told};
+ghost use Rattle.model_text.specs.Print.{call_text, event_text, id_text, res_text};
+ghost use Rattle.model_text.specs.Report.{text_of, Told, Plain};
 
 use super::numbers::{put, put_decimal, put_id};
 use cm_base::{NoMemory, Res};
@@ -15,6 +15,18 @@ pub(crate) fn put_event(text: &mut Vec<u8>, number: u64, event: &Event) -> Resul
 {
     put_decimal(text, number)?;
     put(text, b": ")?;
+    put_decimal(text, event.pid.number() as u64)?;
+    put_call(text, &event.call)?;
+    put(text, b" = ")?;
+    put_res(text, &event.res)?;
+    put(text, b"\n")
+}
+
+/// The event as a script line.
+#[tactic(auto, unfolding(model_text::specs::Print::event_text))]
+pub(super) fn put_script(text: &mut Vec<u8>, event: &Event) -> Result<(), NoMemory>
+    ensures { OnOk result (text.new.items ≡ text.old.items ++ text_of (Plain (event_text event.now) ∷ [])) }
+{
     put_decimal(text, event.pid.number() as u64)?;
     put_call(text, &event.call)?;
     put(text, b" = ")?;

@@ -1,4 +1,4 @@
-use Rattle.cm_cli.proofs.Complete.{by_cause, completed}
+use Rattle.cm_cli.proofs.Complete.{by_cause, completed, says_yes, says_no}
 use Rattle.cm_cli.proofs.Replaying.{if_told}
 use Rattle.cm_cli.proofs.commands.run.Goals as goal
 use Rattle.cm_cli.specs.Words.{bytes_of}
@@ -10,3 +10,9 @@ pub returns-clause-complete : goal.returns-clause-complete
 returns-clause-complete g c =
     if_told (g.H.Shelf.held c.args.shelf.now) c.carry_out.ensures.status (λ files is valid none.
     completed (bytes_of c.args.words.now.items) files _ _ _ _ _ is c.carry_out.ensures.read_fault c.carry_out.ensures.write_fault valid none)
+
+pub returns-clause-yes : goal.returns-clause-yes
+returns-clause-yes g c = if_told (g.H.Shelf.held c.args.shelf.now) c.carry_out.ensures.status (λ files is said. says_yes (bytes_of c.args.words.now.items) files _ is said)
+
+pub returns-clause-no : goal.returns-clause-no
+returns-clause-no g c = if_told (g.H.Shelf.held c.args.shelf.now) c.carry_out.ensures.status (λ files is said. says_no (bytes_of c.args.words.now.items) files _ is said)

@@ -1,7 +1,12 @@
-use Rattle.std.proofs.Common.{sym, ◌∙◌, arith}
+use Rattle.std.proofs.Common.{◌≡◌, ℕ, List, [], subst, refl, sym, ◌∙◌, arith}
+use Rattle.cm_cli.proofs.Following.{passed_on}
 use Rattle.cm_cli.proofs.LogTurns.{next_status, next_waits}
 use Rattle.cm_cli.proofs.Waiting.{sent_on, front_on, more_waits, front_of_more, waits_as}
 use Rattle.cm_cli.proofs.replay.replay_lines.Goals as goal
+use Rattle.cm_cli.specs.Machine.{state_of}
+use Rattle.model_run.specs.Step.{Run}
+use Rattle.model_text.specs.Cut.{lines_of}
+use Rattle.model_text.specs.Line.{events_of}
 
 pub returns-in-Err-clause-stopped : goal.returns-in-Err-clause-stopped
 returns-in-Err-clause-stopped g c = λ w. (_, c.loop-line.invariant.sent w)
@@ -17,6 +22,7 @@ pub loop-line-preserved : goal.loop-line-preserved
 loop-line-preserved g c =
     let turn = rw c.in-Goes.is at c.in-Ok.ensures.turn in
     let events = rw c.in-Goes.is at c.in-Ok.ensures.count in
+    let passed = rw c.in-Goes.is at c.in-Ok.ensures.passed in
     record {
       status = λ w.
           sym (next_status w c.loop-line.rest.now c.in-Some.after.now c.in-Some.line.now c.loop-line.processes c.take_line.new.processes c.loop-line.number c.loop-line.count c.in-Some.ensures.line
@@ -27,9 +33,15 @@ loop-line-preserved g c =
           c.in-Goes.events turn.0 c.loop-line.text.items c.take_line.new.text.items turn.1 turn.2 in
           sent_on (waits_as _ _ waits (c.loop-line.invariant.sent w)) (more_waits c.in-Ok-send_full.ensures.sent _);
       faults = c.in-Ok-send_full.ensures.cause.ok ∙ c.loop-line.invariant.faults;
+      reached = λ w s run.
+          c.loop-line.invariant.reached w s (passed_on w c.loop-line.rest.now c.in-Some.after.now c.in-Some.line.now c.in-Goes.events c.loop-line.processes c.take_line.new.processes s c.in-Some.ensures.line passed run);
       counted = omega (arith, events);
       numbered = omega (arith, c.in-Some.ensures.shorter);
     }
 
 pub returns-in-Err-put_end-clause-stopped : goal.returns-in-Err-put_end-clause-stopped
 returns-in-Err-put_end-clause-stopped g c = λ w. (_, c.loop-line.invariant.sent w)
+
+pub returns-in-Ok-put_end-clause-reached : goal.returns-in-Ok-put_end-clause-reached
+returns-in-Ok-put_end-clause-reached g c = λ accepted w. c.loop-line.invariant.reached w (state_of c.loop-line.processes)
+    (let none : lines_of c.loop-line.rest.now ≡ [] = rw c.in_default.is at c.next_line.ensures.line in subst (λ (ls : List (List ℕ)). Run w (state_of c.loop-line.processes) (events_of ls) (state_of c.loop-line.processes)) (sym none) refl)

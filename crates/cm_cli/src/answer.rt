@@ -1,0 +1,102 @@
+// The answer to an audit, behind an accepted log: one process lives, and is asked for a user id (so far).
+ghost use Rattle.std.specs.Prelude.{◌≡◌, ◌++◌, Some, IfSome, IfNone, None, IfOk, OnOk, slice_get, length, ◌<◌};
+ghost use Rattle.cm_cli.specs.Machine.{state_of};
+ghost use Rattle.cm_cli.specs.Query.{query_view, query_if, right_view};
+ghost use Rattle.cm_cli.specs.Telling.{answer_to};
+ghost use Rattle.model_run.specs.WayBack.{SetsFollowIds, StateFollows, way_back};
+ghost use Rattle.model_text.specs.Query.{asked_process};
+ghost use Rattle.model_text.specs.Report.{text_of, verdict, right_verdict, way_verdict};
+
+use crate::line::read_pid;
+use crate::processes::{Live, Processes};
+use crate::query::{Query, Right, read_right};
+use crate::writing::{put_bad_pid, put_bad_right, put_not_built, put_way, put_yes};
+use cm_audit::audit_uid;
+use cm_base::{Kuid, NoMemory, Status};
+use std::alloc::Global;
+
+/// Answers what is asked behind a replay that ended with this status, and says the status of the whole.
+pub(crate) fn put_answer(
+    alloc: Global,
+    processes: &Processes,
+    query: Option<Query<'_>>,
+    replayed: Status,
+    text: &mut Vec<u8>,
+) -> Result<Status, NoMemory>
+    requires { replayed ≡ Status.Accepted → StateFollows (state_of processes.now) }
+    ensures status { IfOk result (λ status. status ≡ (answer_to (query_if query.entry) replayed (state_of processes.now)).status) }
+    ensures text { OnOk result (text.new.items ≡ text.old.items ++ text_of (answer_to (query_if query.entry) replayed (state_of processes.now)).lines) }
+{
+    match (query, replayed) {
+        (Some(query), Status::Accepted) => put_verdict(alloc, processes, query, text),
+        _ => Ok(replayed),
+    }
+}
+
+fn put_verdict(
+    alloc: Global,
+    processes: &Processes,
+    query: Query<'_>,
+    text: &mut Vec<u8>,
+) -> Result<Status, NoMemory>
+    requires { StateFollows (state_of processes.now) }
+    ensures status { IfOk result (λ status. status ≡ (verdict (state_of processes.now) (query_view query.entry)).status) }
+    ensures text { OnOk result (text.new.items ≡ text.old.items ++ text_of (verdict (state_of processes.now) (query_view query.entry)).lines) }
+{
+    let Some(at) = place_asked(processes, query.pid.as_bytes()) else {
+        put_bad_pid(text)?;
+        return Ok(Status::BadQuery);
+    };
+    let Some(right) = read_right(query.right.as_bytes()) else {
+        put_bad_right(text)?;
+        return Ok(Status::BadQuery);
+    };
+    put_right(alloc, processes, at, right, text)
+}
+
+// The place of the live process whose pid the text is.
+fn place_asked(processes: &Processes, text: &[u8]) -> Option<usize>
+    ensures found { IfSome result (λ i. (i < length processes.now) × (slice_get processes.now i ≡ asked_process (state_of processes.now) text.now)) }
+    ensures none { IfNone result (asked_process (state_of processes.now) text.now ≡ None) }
+{
+    let pid = read_pid(text)?;
+    processes.find(pid)
+}
+
+fn put_right(
+    alloc: Global,
+    processes: &Processes,
+    at: usize,
+    right: Right,
+    text: &mut Vec<u8>,
+) -> Result<Status, NoMemory>
+    requires here { at < length processes.now }
+    requires follows { StateFollows (state_of processes.now) }
+    ensures status { IfOk result (λ status. IfSome (slice_get processes.now at) (λ p. status ≡ (right_verdict (state_of processes.now) p (right_view right)).status)) }
+    ensures text { OnOk result (IfSome (slice_get processes.now at) (λ p. text.new.items ≡ text.old.items ++ text_of (right_verdict (state_of processes.now) p (right_view right)).lines)) }
+{
+    match right {
+        Right::Uid(k) if processes.list().len() == 1 => put_uid(alloc, processes.at(at), k, text),
+        _ => {
+            put_not_built(text)?;
+            Ok(Status::NotBuilt)
+        }
+    }
+}
+
+fn put_uid(alloc: Global, live: &Live, k: Kuid, text: &mut Vec<u8>) -> Result<Status, NoMemory>
+    requires { SetsFollowIds live.now.cred }
+    ensures status { IfOk result (λ status. status ≡ (way_verdict live.now.pid (way_back live.now.cred live.now.pid k)).status) }
+    ensures text { OnOk result (text.new.items ≡ text.old.items ++ text_of (way_verdict live.now.pid (way_back live.now.cred live.now.pid k)).lines) }
+{
+    match audit_uid(alloc, &live.cred, live.pid, k)? {
+        None => {
+            put_yes(text)?;
+            Ok(Status::Accepted)
+        }
+        Some(way) => {
+            put_way(text, live.pid, &way)?;
+            Ok(Status::No)
+        }
+    }
+}

@@ -1,0 +1,91 @@
+// What an audit asks: the texts of a pid and of a right (choice).
+ghost use Rattle.std.specs.Prelude.{◌≡◌, ◌<◌, ◌==◌, length, position, option_map, IfSome, MatchOption, None, Some};
+ghost use Rattle.cm_cli.specs.Query.{right_view};
+ghost use Rattle.model_text.specs.Query.{behind, id_number, space_number, cap_text, right_token};
+
+use cm_base::{Cap, Kgid, Kuid, read_u32};
+
+/// The words of a query.
+#[derive(Clone, Copy, Debug)]
+pub(crate) struct Query<'a> {
+    pub pid: &'a str,
+    pub right: &'a str,
+}
+
+/// A right that a process may hold: a capability over a space, an effective user id, or a group id.
+#[derive(Clone, Copy, Debug)]
+pub(crate) enum Right {
+    Cap(Cap, u32),
+    Uid(Kuid),
+    Gid(Kgid),
+}
+
+/// The right that a text is: `uid:K`, `gid:K` or `cap:NAME@SPACE`.
+pub(crate) fn read_right(text: &[u8]) -> Option<Right>
+    ensures { option_map right_view result ≡ right_token text.now }
+{
+    if let Some(uid) = behind(b"uid:", text) {
+        let id = read_uid(uid)?;
+        return Some(Right::Uid(id));
+    }
+    if let Some(gid) = behind(b"gid:", text) {
+        let id = read_gid(gid)?;
+        return Some(Right::Gid(id));
+    }
+    let cap = behind(b"cap:", text)?;
+    read_cap(cap)
+}
+
+fn read_uid(text: &[u8]) -> Option<Kuid>
+    ensures { result ≡ id_number text.now }
+{
+    match read_u32(text) {
+        Ok(n) => Kuid::new(n),
+        Err(_) => None,
+    }
+}
+
+fn read_gid(text: &[u8]) -> Option<Kgid>
+    ensures { result ≡ id_number text.now }
+{
+    match read_u32(text) {
+        Ok(n) => Kgid::new(n),
+        Err(_) => None,
+    }
+}
+
+// The name of a capability, `@` and a space.
+fn read_cap(text: &[u8]) -> Option<Right>
+    ensures { option_map right_view result ≡ cap_text text.now }
+{
+    let at = place_of_at(text)?;
+    let cap = Cap::from_name(&text[..at])?;
+    let space = read_space(&text[at + 1..])?;
+    Some(Right::Cap(cap, space))
+}
+
+// The place of the first `@`.
+fn place_of_at(text: &[u8]) -> Option<usize>
+    ensures at { result ≡ position (λ byte. byte == 64) text.now }
+    ensures within { IfSome result (λ at. at < length text.now) }
+{
+    text.iter().position(|byte| *byte == b'@')
+}
+
+// The number of a space; no name is declared so far.
+fn read_space(text: &[u8]) -> Option<u32>
+    ensures { result ≡ space_number text.now }
+{
+    if text == b"init".as_slice() {
+        return Some(0);
+    }
+    let number = behind(b"#", text)?;
+    read_u32(number).ok()
+}
+
+// What stands behind these bytes, where the text begins with them.
+fn behind<'a>(front: &[u8], text: &'a [u8]) -> Option<&'a [u8]>
+    ensures { MatchOption result (behind front.now text.now ≡ None) (λ rest. behind front.now text.now ≡ Some rest.now) }
+{
+    text.strip_prefix(front)
+}
