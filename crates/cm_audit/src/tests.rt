@@ -47,7 +47,9 @@ fn with_ids(alloc: Global, ids: [Kuid; 3], group: Kgid, all: bool) -> Cred
 fn ids_of(rt: &impl Abort, alloc: Global, calls: &[Event]) -> Result<Vec<u32>, Fail> {
     let mut ids = Vec::new(alloc);
     for event in calls {
-        let Call::SetResUid(real, effective, saved) = event.call;
+        let Call::SetResUid(real, effective, saved) = event.call else {
+            return Err(Fail::from("another call"));
+        };
         assert_eq!(rt; event.pid.number(), 100);
         assert_eq!(rt; real, 4294967295);
         assert_eq!(rt; saved, 4294967295);

@@ -66,8 +66,15 @@ impl Model for Cap {
 }
 
 impl Cap {
+    /// CAP_SETGID: to make arbitrary changes of group ids and the group list (capabilities(7)).
+    pub const SETGID: Cap = Cap(6);
+
     /// CAP_SETUID: to make arbitrary changes of user ids (capabilities(7)).
     pub const SETUID: Cap = Cap(7);
+
+    /// CAP_SETPCAP: to add to the inheritable set from the bounding one, to drop from the bounding set, and to change the
+    /// securebits (capabilities(7)).
+    pub const SETPCAP: Cap = Cap(8);
 
     /// The capability of that name. None exactly where it is none of the 41 names.
     pub fn from_name(name: &[u8]) -> Option<Cap>

@@ -5,11 +5,9 @@ use Rattle.cm_base.specs.declared.status.Status.TheVariants as answers
 use Rattle.cm_cli.specs.Answers.{report_over, ComesByCause, IsValid, IsCompleted, SaysYes, SaysNo, NoneRose, NamesFault}
 use Rattle.cm_cli.specs.Telling.{IsTold}
 use Rattle.cm_io.specs.Shelf.{Files, bytes_at, Rose}
-use Rattle.model_cred.specs.Process.{State}
-use Rattle.model_cred.specs.World.{World}
 use Rattle.model_text.proofs.Endings.{yes_is_never, no_is_way}
 use Rattle.model_text.proofs.Statuses.{each_by_its_cause}
-use Rattle.model_text.specs.Causes.{Cause, Behind, IsNo, IsBeyond}
+use Rattle.model_text.specs.Causes.{Cause, Behind, IsAccepted, IsNo, IsBeyond}
 use Rattle.model_text.specs.Command.{command_of, query_of}
 use Rattle.model_text.specs.Query.{Query}
 use Rattle.model_text.specs.Laws.{EachByItsCause, YesIsNever, NoIsWay}
@@ -31,7 +29,7 @@ unfolding T
 cause_of words files answer by (a, b, c) = (by (told answer a b c) answer).0 refl
 
 -- a replay that asks nothing has no answer to an audit
-asks_nothing : (words : List (List ℕ)) (bytes : List ℕ → List ℕ) (Answer : Query → World → State → Type 0) → query_of (command_of words) ≡ None → ¬ Behind words bytes Answer
+asks_nothing : (words : List (List ℕ)) (bytes : List ℕ → List ℕ) (Answer : (words : List (List ℕ)) (bytes : List ℕ → List ℕ) → IsAccepted words bytes → Query → Type 0) → query_of (command_of words) ≡ None → ¬ Behind words bytes Answer
 asks_nothing words bytes Answer none (is, q, asked, h) = absurd (let never : None ≡ Some q = sym none ∙ asked in cc)
 
 -- not built, and yet valid, is what an audit asks for alone

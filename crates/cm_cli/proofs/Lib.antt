@@ -1,6 +1,8 @@
 -- Lemmas of this crate, by topic.
 pub mod Places
 pub mod Tokens
+pub mod CallNames
+pub mod Arguments
 pub mod LogTurns
 pub mod Waiting
 pub mod FirstLine
@@ -9,6 +11,7 @@ pub mod ReportText
 pub mod HexDigits
 pub mod GroupText
 pub mod Members
+pub mod CapTexts
 pub mod Order
 pub mod Starting
 pub mod Following

@@ -14,6 +14,7 @@ use Rattle.model_text.specs.Line.{script_line}
 use Rattle.model_cred.specs.World.{World}
 use Rattle.cm_base.specs.declared.status.Status.{Status}
 use Rattle.cm_cli.specs.declared.replay.LineTurn.TheVariants as turn
+use Rattle.cm_cli.specs.declared.replay.Tally.{Tally}
 
 -- the lines of a step whose caller lives on
 two_lines : (after : List Process) (number : ℕ) (e : Event) (p : Process) → process_at after e.pid ≡ Some p → step_lines (state_of after) number e ≡ Told number e ∷ Credentials p ∷ []
@@ -47,17 +48,17 @@ module _ (w : World) (rest after line : List ℕ) (ps ps' : List Process) (numbe
 
   -- where the replay goes on: the status is that of the lines after, and what is still to be written is the bytes of
   -- this line and the report after it
-  pub next_status : (events : ℕ) (bytes : List ℕ) → IsLineTurn (turn.Goes events) ps ps' number count (script_line line) bytes
-      → (replayed w (lines_of rest) (state_of ps) number count).status ≡ (replayed w (lines_of after) (state_of ps') (number + 1) events).status
-  next_status events bytes turns = ap (λ (r : Report). r.status) report_from ∙ (turns w (λ s c. replayed w (lines_of after) s (number + 1) c)).status
+  pub next_status : (tally : Tally) (bytes : List ℕ) → IsLineTurn (turn.Goes tally) ps ps' number count (script_line line) bytes
+      → (replayed w (lines_of rest) (state_of ps) number count).status ≡ (replayed w (lines_of after) (state_of ps') (number + 1) tally.events).status
+  next_status tally bytes turns = ap (λ (r : Report). r.status) report_from ∙ (turns w (λ s c. replayed w (lines_of after) s (number + 1) c)).status
 
-  pub next_waits : (events : ℕ) (bytes text text' : List ℕ) → text' ≡ text ++ bytes → IsLineTurn (turn.Goes events) ps ps' number count (script_line line) bytes
-      → text ++ text_of (replayed w (lines_of rest) (state_of ps) number count).lines ≡ text' ++ text_of (replayed w (lines_of after) (state_of ps') (number + 1) events).lines
-  next_waits events bytes text text' put turns =
+  pub next_waits : (tally : Tally) (bytes text text' : List ℕ) → text' ≡ text ++ bytes → IsLineTurn (turn.Goes tally) ps ps' number count (script_line line) bytes
+      → text ++ text_of (replayed w (lines_of rest) (state_of ps) number count).lines ≡ text' ++ text_of (replayed w (lines_of after) (state_of ps') (number + 1) tally.events).lines
+  next_waits tally bytes text text' put turns =
       ap (λ (r : Report). text ++ text_of r.lines) report_from
       ∙ ap (λ (t : List ℕ). text ++ t) (turns w (λ s c. replayed w (lines_of after) s (number + 1) c)).text
       ∙ sym (append_assoc text bytes _)
-      ∙ ap (λ (t : List ℕ). t ++ text_of (replayed w (lines_of after) (state_of ps') (number + 1) events).lines) (sym put)
+      ∙ ap (λ (t : List ℕ). t ++ text_of (replayed w (lines_of after) (state_of ps') (number + 1) tally.events).lines) (sym put)
 
   -- where it ends
   pub end_status : (end : Status) (bytes : List ℕ) → IsLineTurn (turn.Ends end) ps ps' number count (script_line line) bytes

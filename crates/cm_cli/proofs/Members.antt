@@ -1,5 +1,5 @@
 -- A table and an array of a TOML text, as the definitions see them and as the code goes through them.
-use Rattle.std.proofs.Common.{◌≡◌, ◌≢◌, ℕ, Bool, ◌||◌, ◌&&◌, List, [], ◌∷◌, length, map, None, String, Global, string_bytes, bytes_eq, inl, inr, refl, ap}
+use Rattle.std.proofs.Common.{◌≡◌, ◌≢◌, ℕ, Bool, ◌||◌, ◌&&◌, List, [], ◌∷◌, ◌++◌, length, map, Option, None, option_map, String, Global, string_bytes, bytes_eq, inl, inr, refl, ap}
 use Rattle.std.specs.List.{list_any, list_all}
 use Rattle.std.specs.Map.{keys_of}
 use Rattle.std.specs.Str.{IsUtf8, is_utf8}
@@ -8,7 +8,8 @@ use Rattle.std.proofs.lemmas.Str.{IsUtf8-from_is_utf8}
 use Rattle.toml.specs.View.{view, items_view, members_view}
 use Rattle.toml.specs.declared.value.Value.{Value}
 use Rattle.model_text.specs.Toml.{has_only}
-use Rattle.model_text.specs.WorldText.{row_asks_more, some_row_asks_more, ids_in_array, Bad, world_text}
+use Rattle.model_text.specs.ProcessText.{ids_in_array}
+use Rattle.model_text.specs.WorldText.{row_has, some_row_has, Bad, world_text}
 
 -- a test of each element, over a mapped list
 pub list_any-map : {X Y : Type 0} (p : X → Bool) (h : Y → X) (ys : List Y) → list_any p (map h ys) ≡ list_any (λ y. p (h y)) ys
@@ -21,9 +22,9 @@ has_only-members_view keys [] = refl
 has_only-members_view keys (e ∷ es) = ap (λ b. list_any (bytes_eq (string_bytes e.0)) keys && b) (has_only-members_view keys es)
 
 -- the rows, one by one
-pub some_row_asks_more-items_view : (rows : List Value) → some_row_asks_more (items_view rows) ≡ list_any (λ row. row_asks_more (view row)) rows
-some_row_asks_more-items_view [] = refl
-some_row_asks_more-items_view (row ∷ rows) = ap (λ b. row_asks_more (view row) || b) (some_row_asks_more-items_view rows)
+pub some_row_has-items_view : (keys : List (List ℕ)) (rows : List Value) → some_row_has keys (items_view rows) ≡ list_any (λ row. row_has keys (view row)) rows
+some_row_has-items_view keys [] = refl
+some_row_has-items_view keys (row ∷ rows) = ap (λ b. row_has keys (view row) || b) (some_row_has-items_view keys rows)
 
 -- an array of another length has no four ids
 pub ids_in_array-not_four : (ids : List Value) → length ids ≢ 4 → ids_in_array (items_view ids) ≡ None
@@ -33,6 +34,10 @@ ids_in_array-not_four (r ∷ e ∷ []) ne = refl
 ids_in_array-not_four (r ∷ e ∷ s ∷ []) ne = refl
 ids_in_array-not_four (r ∷ e ∷ s ∷ f ∷ []) ne = absurd (ne refl)
 ids_in_array-not_four (r ∷ e ∷ s ∷ f ∷ x ∷ more) ne = refl
+
+-- ids that are read already, before others
+abbrev pub after_ids : List ℕ → Option (List ℕ) → Option (List ℕ)
+after_ids ids more = option_map (λ others. ids ++ others) more
 
 -- bytes that are no text
 pub world_text-not_utf8 : (bytes : List ℕ) → ¬ IsUtf8 bytes → world_text bytes ≡ Bad

@@ -10,7 +10,8 @@ use Rattle.toml.specs.declared.value.Value.{Value}
 use Rattle.model_cred.specs.Process.{Process, Ascends}
 use Rattle.model_cred.specs.World.{World}
 use Rattle.cm_cli.specs.Machine.{world_of}
-use Rattle.model_text.specs.WorldText.{Reads, Bad, process_row, process_rows, one_more, distinct_world, world_with, are_distinct, has_pid, placed, in_order}
+use Rattle.model_text.specs.ProcessText.{process_row}
+use Rattle.model_text.specs.WorldText.{Reads, Bad, process_rows, one_more, distinct_world, world_with, are_distinct, has_pid, placed, in_order}
 
 -- each process at its pid
 abbrev pub by_pid : List Process → List (ℕ × Process)
@@ -163,12 +164,12 @@ drop-before rows left row some within is =
 
 -- The row before the last ones is no process; it has a pid that stands there; its pid is new.
 module _ (rows : List Value) (left : ℕ) (row : Value) (some : 0 < left) (within : left ≤ length rows) (is : row ≡ get_or rows (left - 1) row) where
-  pub bad_row_before : None ≡ process_row (view row) → distinct_world (process_rows (items_view rows)) ≡ Bad
-  bad_row_before no_process = bad_drop (left - 1) rows (rw (drop-before rows left row some within is) (bad_row row (drop left rows) (sym no_process)))
+  pub bad_row_before : process_row (view row) ≡ None → distinct_world (process_rows (items_view rows)) ≡ Bad
+  bad_row_before no_process = bad_drop (left - 1) rows (rw (drop-before rows left row some within is) (bad_row row (drop left rows) no_process))
 
-  module _ (entries : List (ℕ × Process)) (p : Process) (pid : ℕ) (read : Some p ≡ process_row (view row)) (same : pid ≡ p.pid) (so_far : AreRead (drop left rows) entries) where
+  module _ (entries : List (ℕ × Process)) (p : Process) (pid : ℕ) (read : process_row (view row) ≡ Some p) (same : pid ≡ p.pid) (so_far : AreRead (drop left rows) entries) where
     pub bad_twice_before : is_some (lookup (is_at (nat_cmp pid)) entries) ≡ true → distinct_world (process_rows (items_view rows)) ≡ Bad
-    bad_twice_before found = bad_drop (left - 1) rows (rw (drop-before rows left row some within is) (bad_twice row (drop left rows) entries p (sym read) so_far (rw same at found)))
+    bad_twice_before found = bad_drop (left - 1) rows (rw (drop-before rows left row some within is) (bad_twice row (drop left rows) entries p read so_far (rw same at found)))
 
     pub AreRead-before : is_some (lookup (is_at (nat_cmp pid)) entries) ≡ false → AreRead (drop (left - 1) rows) (insert_entry nat_cmp entries pid p)
-    AreRead-before new = rw (drop-before rows left row some within is, same) (AreRead-more row (drop left rows) entries p (sym read) so_far (rw same at new))
+    AreRead-before new = rw (drop-before rows left row some within is, same) (AreRead-more row (drop left rows) entries p read so_far (rw same at new))

@@ -1,5 +1,5 @@
 -- What the replay of a log in a world answers, by how its files were read.
-use Rattle.std.proofs.Common.{◌≡◌, ◌≢◌, ◌≤◌, ◌⊎◌, ◌+◌, ◌==◌, Bool, true, false, cond, length, ℕ, List, [], ◌∷◌, Option, None, Some, refl, sym, ap, ◌∙◌, le_of_eq}
+use Rattle.std.proofs.Common.{◌≡◌, ◌≢◌, ◌≤◌, ◌⊎◌, ◌+◌, ◌==◌, ◌&&◌, ◌||◌, not, Bool, true, false, cond, length, ℕ, List, [], ◌∷◌, Option, None, Some, refl, sym, ap, ◌∙◌, le_of_eq}
 use Rattle.std.specs.Prelude.{IfSome}
 use Rattle.cm_base.specs.declared.status.Status.{Status}
 use Rattle.cm_base.specs.declared.status.Status.TheVariants as answers
@@ -15,12 +15,12 @@ use Rattle.model_cred.specs.Call.{Event}
 use Rattle.model_cred.specs.Process.{Process, State}
 use Rattle.model_cred.specs.Right.{Right, Cap, Uid, Gid}
 use Rattle.model_cred.specs.World.{World}
-use Rattle.model_run.specs.WayBack.{way_back}
+use Rattle.model_run.specs.WayBack.{are_setresuids, way_back}
 use Rattle.model_run.specs.Step.{Outcome, Goes, NoProcess, NoSpace, PidInUse, Wrong, outcome}
 use Rattle.model_text.specs.Cut.{lines_of}
 use Rattle.model_text.specs.Line.{Line, NoEvent, Tells as TellsEvent, Faulty, Unbuilt, script_line, events_of}
 use Rattle.model_text.specs.Query.{Query, asked_process, right_token}
-use Rattle.model_text.specs.Report.{Report, files_report, answered, go_on, verdict, asked_verdict, right_verdict, way_verdict, not_built, state_after, replayed, by_line, by_outcome}
+use Rattle.model_text.specs.Report.{Report, files_report, answered, go_on, verdict_behind, asked_verdict, right_verdict, way_verdict, not_built, state_after, replayed, by_line, by_outcome}
 
 -- a fact of what is told, from another
 pub if_told : {T : Type 0} {P Q : T → Type 0} (o : Option T) → IfSome o P → ((x : T) → P x → Q x) → IfSome o Q
@@ -62,33 +62,33 @@ way_not_usage : (pid : ℕ) (way : Option (List Event)) → (way_verdict pid way
 way_not_usage pid None is = cc
 way_not_usage pid (Some way) is = cc
 
-right_not_usage : (s : State) (p : Process) (right : Right) → (right_verdict s p right).status ≢ answers.Usage
-right_not_usage s p (Gid k) is = cc
-right_not_usage s p (Cap cap n) is = cc
-right_not_usage s p (Uid k) is =
-    elim (length s.processes == 1) as (λ (b : Bool). (cond b (way_verdict p.pid (way_back p.cred p.pid k)) not_built).status ≡ answers.Usage → ⊥) [
+right_not_usage : (more : Bool) (s : State) (p : Process) (right : Right) → (right_verdict more s p right).status ≢ answers.Usage
+right_not_usage more s p (Gid k) is = cc
+right_not_usage more s p (Cap cap n) is = cc
+right_not_usage more s p (Uid k) is =
+    elim (not more && length s.processes == 1) as (λ (b : Bool). (cond b (way_verdict p.pid (way_back p.cred p.pid k)) not_built).status ≡ answers.Usage → ⊥) [
       | true ↦ way_not_usage p.pid (way_back p.cred p.pid k)
       | false ↦ λ never. cc
     ] is
 
-asked_not_usage : (s : State) (p : Option Process) (right : Option Right) → (asked_verdict s p right).status ≢ answers.Usage
-asked_not_usage s None right is = cc
-asked_not_usage s (Some p) None is = cc
-asked_not_usage s (Some p) (Some right) is = right_not_usage s p right is
+asked_not_usage : (more : Bool) (s : State) (p : Option Process) (right : Option Right) → (asked_verdict more s p right).status ≢ answers.Usage
+asked_not_usage more s None right is = cc
+asked_not_usage more s (Some p) None is = cc
+asked_not_usage more s (Some p) (Some right) is = right_not_usage more s p right is
 
 go_on_not_usage : (st : Status) (r next : Report) → r.status ≢ answers.Usage → next.status ≢ answers.Usage → (go_on st r next).status ≢ answers.Usage
 go_on_not_usage answers.Accepted r next first second = second
 go_on_not_usage _ r next first second = first
 
-answered_not_usage : (query : Option Query) (w : World) (lines : List (List ℕ)) → (answered query w lines).status ≢ answers.Usage
-answered_not_usage None w lines = replayed_not_usage w lines w.start 1 0
-answered_not_usage (Some q) w lines =
-    go_on_not_usage (replayed w lines w.start 1 0).status (replayed w lines w.start 1 0) (verdict (state_after w w.start (events_of lines)) q) (replayed_not_usage w lines w.start 1 0)
-    (asked_not_usage (state_after w w.start (events_of lines)) (asked_process (state_after w w.start (events_of lines)) q.pid) (right_token q.right))
+answered_not_usage : (query : Option Query) (more : Bool) (w : World) (lines : List (List ℕ)) → (answered query more w lines).status ≢ answers.Usage
+answered_not_usage None more w lines = replayed_not_usage w lines w.start 1 0
+answered_not_usage (Some q) more w lines =
+    go_on_not_usage (replayed w lines w.start 1 0).status (replayed w lines w.start 1 0) (verdict_behind more w (events_of lines) q) (replayed_not_usage w lines w.start 1 0)
+    (asked_not_usage (more || not (are_setresuids (events_of lines))) (state_after w w.start (events_of lines)) (asked_process (state_after w w.start (events_of lines)) q.pid) (right_token q.right))
 
 -- nor has the report of a log
-pub log_not_usage : (query : Option Query) (ps : List Process) (log : List ℕ) → (log_report query ps log).status ≢ answers.Usage
-log_not_usage query ps log = answered_not_usage query (world_of ps) (lines_of log)
+pub log_not_usage : (query : Option Query) (more : Bool) (ps : List Process) (log : List ℕ) → (log_report query more ps log).status ≢ answers.Usage
+log_not_usage query more ps log = answered_not_usage query more (world_of ps) (lines_of log)
 
 module _ (held : Option Files) (query : Option Query) (world log : List ℕ) (answer : Status) (w w' : Option (List ℕ)) (reads reads' : List ℕ → ℕ) (writes writes' : ℕ) where
   -- the files were read, and a report was told

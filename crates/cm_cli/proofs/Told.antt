@@ -1,5 +1,5 @@
 -- A report that is told, or that stops.
-use Rattle.std.proofs.Common.{◌≡◌, ◌≢◌, ◌≤◌, ◌+◌, ℕ, List, [], ◌∷◌, ◌++◌, map, append-nil, append_assoc, le_of_eq, Option, None, Some, ◌⊎◌, inl, inr, ◌==◌, Bool, true, false, cond, length, subst, refl, sym, ap, ◌∙◌}
+use Rattle.std.proofs.Common.{◌≡◌, ◌≢◌, ◌≤◌, ◌+◌, ℕ, List, [], ◌∷◌, ◌++◌, map, append-nil, append_assoc, le_of_eq, Option, None, Some, ◌⊎◌, inl, inr, ◌==◌, ◌&&◌, ◌||◌, not, Bool, true, false, cond, length, subst, refl, sym, ap, ◌∙◌}
 use Rattle.cm_base.specs.declared.status.Status.{Status}
 use Rattle.cm_base.specs.declared.status.Status.TheVariants as answers
 use Rattle.cm_cli.proofs.ReportText.{text_of_append}
@@ -16,12 +16,12 @@ use Rattle.model_cred.specs.Call.{Event}
 use Rattle.model_cred.specs.Process.{State}
 use Rattle.model_cred.specs.Right.{Right, Cap, Uid, Gid}
 use Rattle.model_cred.specs.World.{World}
-use Rattle.model_run.specs.WayBack.{way_back}
+use Rattle.model_run.specs.WayBack.{are_setresuids, way_back}
 use Rattle.model_run.specs.Step.{Outcome, Goes, NoProcess, NoSpace, PidInUse, Wrong, Run, outcome}
 use Rattle.model_text.specs.Line.{Line, NoEvent, Tells as TellsEvent, Faulty, Unbuilt, script_line, events_of}
 use Rattle.model_text.proofs.Statuses.{of_end, of_stop}
 use Rattle.model_text.specs.Query.{Query, asked_process, right_token}
-use Rattle.model_text.specs.Report.{Report, Credentials, text_of, answered, after, go_on, verdict, asked_verdict, right_verdict, way_verdict, not_built, state_after, replayed, by_line, by_outcome}
+use Rattle.model_text.specs.Report.{Report, Credentials, text_of, answered, after, go_on, verdict, verdict_behind, asked_verdict, right_verdict, way_verdict, not_built, state_after, replayed, by_line, by_outcome}
 
 -- a report that stopped at an error: a front of it is written
 pub stops : (r : Report) (why : Outside) (answer : Status) (w w' : Option (List ℕ)) (f f' : ℕ) → answer ≡ stopped_by why → IsFront w w' (text_of r.lines)
@@ -46,33 +46,38 @@ stops r outside.NoMemory answer w w' f f' is front later rose = record {
 }
 
 -- the text of the log's report: the start lines, and what is answered
-pub log_text : (query : Option Query) (ps : List Process) (log : List ℕ)
-    → text_of (log_report query ps log).lines ≡ text_of (map Credentials ps) ++ text_of (answered query (world_of ps) (lines_of log)).lines
-log_text query ps log = text_of_append (map Credentials ps) (answered query (world_of ps) (lines_of log)).lines
+pub log_text : (query : Option Query) (more : Bool) (ps : List Process) (log : List ℕ)
+    → text_of (log_report query more ps log).lines ≡ text_of (map Credentials ps) ++ text_of (answered query more (world_of ps) (lines_of log)).lines
+log_text query more ps log = text_of_append (map Credentials ps) (answered query more (world_of ps) (lines_of log)).lines
 
 -- the rest of a report behind the replay
-stopped_rest : (query : Option Query) (st : Status) (s : State) → st ≢ answers.Accepted → answer_to query st s ≡ record { status = st; lines = [] }
-stopped_rest None st s other = refl
-stopped_rest (Some q) answers.Accepted s other = absurd (other refl)
-stopped_rest (Some q) _ s other = refl
+stopped_rest : (query : Option Query) (more : Bool) (st : Status) (s : State) → st ≢ answers.Accepted → answer_to query more st s ≡ record { status = st; lines = [] }
+stopped_rest None more st s other = refl
+stopped_rest (Some q) more answers.Accepted s other = absurd (other refl)
+stopped_rest (Some q) more _ s other = refl
 
 -- What is answered is the replay, and then what comes behind it in the state that an accepted log leads to.
-pub record IsAnswered (query : Option Query) (w : World) (lines : List (List ℕ)) (st : Status) (s : State) : Type 0 where
-  pub status : (answered query w lines).status ≡ (answer_to query st s).status
-  pub text : text_of (answered query w lines).lines ≡ text_of (replayed w lines w.start 1 0).lines ++ text_of (answer_to query st s).lines
+pub record IsAnswered (query : Option Query) (more : Bool) (w : World) (lines : List (List ℕ)) (behind : Bool) (st : Status) (s : State) : Type 0 where
+  pub status : (answered query more w lines).status ≡ (answer_to query behind st s).status
+  pub text : text_of (answered query more w lines).lines ≡ text_of (replayed w lines w.start 1 0).lines ++ text_of (answer_to query behind st s).lines
 
-accepted_answer : (q : Query) (w : World) (lines : List (List ℕ)) (s : State) → (replayed w lines w.start 1 0).status ≡ answers.Accepted → Run w w.start (events_of lines) s → IsAnswered (Some q) w lines answers.Accepted s
-accepted_answer q w lines s is run =
-    let same : answered (Some q) w lines ≡ after (replayed w lines w.start 1 0).lines (verdict s q) = of_end q w lines s is run in
+-- there is more behind the log than the weak audit knows, by what the world says and by the events
+abbrev pub more_behind : Bool → List (List ℕ) → Bool
+more_behind more lines = more || not (are_setresuids (events_of lines))
+
+accepted_answer : (q : Query) (more : Bool) (w : World) (lines : List (List ℕ)) (s : State) → (replayed w lines w.start 1 0).status ≡ answers.Accepted → Run w w.start (events_of lines) s
+    → IsAnswered (Some q) more w lines (more_behind more lines) answers.Accepted s
+accepted_answer q more w lines s is run =
+    let same : answered (Some q) more w lines ≡ after (replayed w lines w.start 1 0).lines (verdict (more_behind more lines) s q) = of_end q more w lines s is run in
     record {
       status = ap (λ (r : Report). r.status) same;
-      text = ap (λ (r : Report). text_of r.lines) same ∙ text_of_append (replayed w lines w.start 1 0).lines (verdict s q).lines;
+      text = ap (λ (r : Report). text_of r.lines) same ∙ text_of_append (replayed w lines w.start 1 0).lines (verdict (more_behind more lines) s q).lines;
     }
 
-stopped_answer : (query : Option Query) (w : World) (lines : List (List ℕ)) (st : Status) (s : State) → (replayed w lines w.start 1 0).status ≡ st → st ≢ answers.Accepted → IsAnswered query w lines st s
-stopped_answer query w lines st s is other =
-    let same : answered query w lines ≡ replayed w lines w.start 1 0 = of_stop query w lines st is other in
-    let rest : answer_to query st s ≡ record { status = st; lines = [] } = stopped_rest query st s other in
+stopped_answer : (query : Option Query) (more : Bool) (w : World) (lines : List (List ℕ)) (behind : Bool) (st : Status) (s : State) → (replayed w lines w.start 1 0).status ≡ st → st ≢ answers.Accepted → IsAnswered query more w lines behind st s
+stopped_answer query more w lines behind st s is other =
+    let same : answered query more w lines ≡ replayed w lines w.start 1 0 = of_stop query more w lines st is other in
+    let rest : answer_to query behind st s ≡ record { status = st; lines = [] } = stopped_rest query behind st s other in
     record {
       status = ap (λ (r : Report). r.status) same ∙ is ∙ sym (ap (λ (r : Report). r.status) rest);
       text =
@@ -84,37 +89,39 @@ accepted_or_not : (st : Status) → (st ≡ answers.Accepted) ⊎ (st ≢ answer
 accepted_or_not answers.Accepted = inl refl
 accepted_or_not _ = inr (λ e. cc)
 
-pub is_answered : (query : Option Query) (w : World) (lines : List (List ℕ)) (st : Status) (s : State) → (replayed w lines w.start 1 0).status ≡ st → (st ≡ answers.Accepted → Run w w.start (events_of lines) s)
-    → IsAnswered query w lines st s
-is_answered None w lines st s is reached = record { status = is; text = sym (append-nil (text_of (replayed w lines w.start 1 0).lines)) }
-is_answered (Some q) w lines st s is reached =
+pub is_answered : (query : Option Query) (more : Bool) (w : World) (lines : List (List ℕ)) (behind : Bool) (st : Status) (s : State) → (replayed w lines w.start 1 0).status ≡ st
+    → (st ≡ answers.Accepted → Run w w.start (events_of lines) s) → (st ≡ answers.Accepted → behind ≡ more_behind more lines) → IsAnswered query more w lines behind st s
+is_answered None more w lines behind st s is reached told = record { status = is; text = sym (append-nil (text_of (replayed w lines w.start 1 0).lines)) }
+is_answered (Some q) more w lines behind st s is reached told =
     elim (accepted_or_not st) [
-      | inl accepted ↦ subst (λ (x : Status). IsAnswered (Some q) w lines x s) (sym accepted) (accepted_answer q w lines s (is ∙ accepted) (reached accepted))
-      | inr other ↦ stopped_answer (Some q) w lines st s is other
+      | inl accepted ↦
+          subst (λ (b : Bool). IsAnswered (Some q) more w lines b st s) (sym (told accepted))
+          (subst (λ (x : Status). IsAnswered (Some q) more w lines (more_behind more lines) x s) (sym accepted) (accepted_answer q more w lines s (is ∙ accepted) (reached accepted)))
+      | inr other ↦ stopped_answer (Some q) more w lines behind st s is other
     ]
 
 -- the text of the log's report: the start lines, the replay, and the answer
-pub log_whole : (query : Option Query) (ps : List Process) (log : List ℕ) (st : Status) (s : State) → IsAnswered query (world_of ps) (lines_of log) st s
-    → text_of (log_report query ps log).lines ≡ (text_of (map Credentials ps) ++ text_of (replayed (world_of ps) (lines_of log) (state_of ps) 1 0).lines) ++ text_of (answer_to query st s).lines
-log_whole query ps log st s is =
-    log_text query ps log ∙ ap (λ (t : List ℕ). text_of (map Credentials ps) ++ t) is.text
-    ∙ sym (append_assoc (text_of (map Credentials ps)) (text_of (replayed (world_of ps) (lines_of log) (state_of ps) 1 0).lines) (text_of (answer_to query st s).lines))
+pub log_whole : (query : Option Query) (more : Bool) (ps : List Process) (log : List ℕ) (behind : Bool) (st : Status) (s : State) → IsAnswered query more (world_of ps) (lines_of log) behind st s
+    → text_of (log_report query more ps log).lines ≡ (text_of (map Credentials ps) ++ text_of (replayed (world_of ps) (lines_of log) (state_of ps) 1 0).lines) ++ text_of (answer_to query behind st s).lines
+log_whole query more ps log behind st s is =
+    log_text query more ps log ∙ ap (λ (t : List ℕ). text_of (map Credentials ps) ++ t) is.text
+    ∙ sym (append_assoc (text_of (map Credentials ps)) (text_of (replayed (world_of ps) (lines_of log) (state_of ps) 1 0).lines) (text_of (answer_to query behind st s).lines))
 
 goes_longer : (st : Status) (r next : Report) → (more : List ℕ) × (text_of (go_on st r next).lines ≡ text_of r.lines ++ more)
 goes_longer answers.Accepted r next = (text_of next.lines, text_of_append r.lines next.lines)
 goes_longer _ r next = ([], sym (append-nil (text_of r.lines)))
 
-answered_longer : (query : Option Query) (w : World) (lines : List (List ℕ)) → (more : List ℕ) × (text_of (answered query w lines).lines ≡ text_of (replayed w lines w.start 1 0).lines ++ more)
-answered_longer None w lines = ([], sym (append-nil (text_of (replayed w lines w.start 1 0).lines)))
-answered_longer (Some q) w lines = goes_longer (replayed w lines w.start 1 0).status (replayed w lines w.start 1 0) (verdict (state_after w w.start (events_of lines)) q)
+answered_longer : (query : Option Query) (more : Bool) (w : World) (lines : List (List ℕ)) → (longer : List ℕ) × (text_of (answered query more w lines).lines ≡ text_of (replayed w lines w.start 1 0).lines ++ longer)
+answered_longer None more w lines = ([], sym (append-nil (text_of (replayed w lines w.start 1 0).lines)))
+answered_longer (Some q) more w lines = goes_longer (replayed w lines w.start 1 0).status (replayed w lines w.start 1 0) (verdict_behind more w (events_of lines) q)
 
 -- it begins with the start lines and the replay
-pub log_longer : (query : Option Query) (ps : List Process) (log : List ℕ) → (more : List ℕ)
-    × (text_of (log_report query ps log).lines ≡ (text_of (map Credentials ps) ++ text_of (replayed (world_of ps) (lines_of log) (state_of ps) 1 0).lines) ++ more)
-log_longer query ps log =
-    let longer : (more : List ℕ) × (text_of (answered query (world_of ps) (lines_of log)).lines ≡ text_of (replayed (world_of ps) (lines_of log) (state_of ps) 1 0).lines ++ more) = answered_longer query (world_of ps) (lines_of log) in (
+pub log_longer : (query : Option Query) (more : Bool) (ps : List Process) (log : List ℕ) → (longer : List ℕ)
+    × (text_of (log_report query more ps log).lines ≡ (text_of (map Credentials ps) ++ text_of (replayed (world_of ps) (lines_of log) (state_of ps) 1 0).lines) ++ longer)
+log_longer query more ps log =
+    let longer : (rest : List ℕ) × (text_of (answered query more (world_of ps) (lines_of log)).lines ≡ text_of (replayed (world_of ps) (lines_of log) (state_of ps) 1 0).lines ++ rest) = answered_longer query more (world_of ps) (lines_of log) in (
       longer.0,
-      log_text query ps log ∙ ap (λ (t : List ℕ). text_of (map Credentials ps) ++ t) longer.1
+      log_text query more ps log ∙ ap (λ (t : List ℕ). text_of (map Credentials ps) ++ t) longer.1
           ∙ sym (append_assoc (text_of (map Credentials ps)) (text_of (replayed (world_of ps) (lines_of log) (state_of ps) 1 0).lines) longer.0),
     )
 
@@ -172,26 +179,27 @@ told_unbuilt = is_told answers.NotBuilt (λ e. cc) (λ e. cc) (λ e. cc)
 told_query : IsTold answers.BadQuery
 told_query = is_told answers.BadQuery (λ e. cc) (λ e. cc) (λ e. cc)
 
-told_right : (s : State) (p : Process) (right : Right) → IsTold (right_verdict s p right).status
-told_right s p (Gid k) = told_unbuilt
-told_right s p (Cap cap n) = told_unbuilt
-told_right s p (Uid k) =
-    elim (length s.processes == 1) as (λ (b : Bool). IsTold (cond b (way_verdict p.pid (way_back p.cred p.pid k)) not_built).status) [
+told_right : (more : Bool) (s : State) (p : Process) (right : Right) → IsTold (right_verdict more s p right).status
+told_right more s p (Gid k) = told_unbuilt
+told_right more s p (Cap cap n) = told_unbuilt
+told_right more s p (Uid k) =
+    elim (not more && length s.processes == 1) as (λ (b : Bool). IsTold (cond b (way_verdict p.pid (way_back p.cred p.pid k)) not_built).status) [
       | true ↦ told_way p.pid (way_back p.cred p.pid k)
       | false ↦ told_unbuilt
     ]
 
-told_asked : (s : State) (p : Option Process) (right : Option Right) → IsTold (asked_verdict s p right).status
-told_asked s None right = told_query
-told_asked s (Some p) None = told_query
-told_asked s (Some p) (Some right) = told_right s p right
+told_asked : (more : Bool) (s : State) (p : Option Process) (right : Option Right) → IsTold (asked_verdict more s p right).status
+told_asked more s None right = told_query
+told_asked more s (Some p) None = told_query
+told_asked more s (Some p) (Some right) = told_right more s p right
 
 told_on : (st : Status) (r next : Report) → IsTold r.status → IsTold next.status → IsTold (go_on st r next).status
 told_on answers.Accepted r next first second = second
 told_on _ r next first second = first
 
-pub answered_told : (query : Option Query) (w : World) (lines : List (List ℕ)) → IsTold (answered query w lines).status
-answered_told None w lines = replayed_told w lines w.start 1 0
-answered_told (Some q) w lines =
+pub answered_told : (query : Option Query) (more : Bool) (w : World) (lines : List (List ℕ)) → IsTold (answered query more w lines).status
+answered_told None more w lines = replayed_told w lines w.start 1 0
+answered_told (Some q) more w lines =
     let s : State = state_after w w.start (events_of lines) in
-    told_on (replayed w lines w.start 1 0).status (replayed w lines w.start 1 0) (verdict s q) (replayed_told w lines w.start 1 0) (told_asked s (asked_process s q.pid) (right_token q.right))
+    told_on (replayed w lines w.start 1 0).status (replayed w lines w.start 1 0) (verdict_behind more w (events_of lines) q) (replayed_told w lines w.start 1 0)
+    (told_asked (more_behind more lines) s (asked_process s q.pid) (right_token q.right))

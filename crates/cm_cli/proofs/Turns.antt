@@ -1,21 +1,23 @@
 -- The turn of one process is the step of the machine.
-use Rattle.std.proofs.Common.{◌≡◌, ℕ, zero, suc, ◌<◌, true, false, Bool, length, List, [], ◌∷◌, Option, Some, sym, ◌∙◌, ap, arith, subst, get_or, slice_get, slice_set, cond}
+use Rattle.std.proofs.Common.{Result, Ok, Err, ◌≡◌, ℕ, zero, suc, ◌<◌, true, false, Bool, length, List, [], ◌∷◌, Option, Some, refl, sym, ◌∙◌, ap, arith, subst, get_or, slice_get, slice_set, cond}
 use Rattle.cm_base.specs.declared.res.Res.{Res}
 use Rattle.cm_cli.proofs.Places.{pid_of_at, get_of_at, found_at, put_ascends, put_at, pid_of_put}
 use Rattle.cm_cli.specs.Machine.{state_of, IsTurn}
-use Rattle.cm_cli.specs.Turns.{IsLiveTurn, IsToldTurn, initial_answer, is_setresuid}
+use Rattle.cm_cli.specs.Turns.{IsLiveTurn, IsToldTurn, answer_in}
 use Rattle.cm_cli.specs.declared.processes.Turn.{Turn}
 use Rattle.cm_cli.specs.declared.processes.Turn.TheVariants as turn
-use Rattle.model_cred.specs.Call.{Call, SetResUid, Event}
+use Rattle.model_cred.specs.Call.{Call, Event, kind_of, SetUid, SetReUid, SetResUid, SetFsUid, SetGid, SetReGid, SetResGid, SetFsGid, SetGroups}
+use Rattle.model_cred.specs.Credential.{Credential}
 use Rattle.model_cred.specs.Process.{Process, Ascends, process_at, put_process}
-use Rattle.model_cred.specs.Space.{initial_space, first_spaces, space_of}
+use Rattle.model_cred.specs.Space.{initial_space, first_spaces}
 use Rattle.model_cred.specs.World.{World}
 use Rattle.model_rules.specs.Answer.{Answer}
-use Rattle.model_rules.specs.SetId.{setresuid}
 use Rattle.model_run.specs.Outside.{comes_from_outside}
 use Rattle.model_run.specs.Same.{same_res}
 use Rattle.model_run.specs.Step.{Goes, NoSpace, PidInUse, Wrong, outcome, outcome_for, told_call, names_no_space, is_living_child, with_cred}
-use Rattle.std.specs.Prelude.{MatchBool}
+use Rattle.model_text.specs.Line.{is_built}
+use Rattle.std.specs.Prelude.{MatchBool, IfOk}
+use Rattle.cm_base.specs.declared.memory.NoMemory.{NoMemory}
 
 -- a process put back unchanged leaves the list as it was
 put_same : (ps : List Process) (i : ℕ) (p : Process) → i < length ps → p ≡ get_or ps i p → slice_set ps i p ≡ ps
@@ -44,24 +46,54 @@ called_turn ps i old new told a t true up h is turns =
     subst (λ (u : Turn). IsTurn u (slice_set ps i new) (Goes (state_of ps))) (sym turns.0) goes
 called_turn ps i old new told a t false up h is turns = told_turn ps i old new told a t up h is turns
 
--- what becomes of a call of setresuid in the initial space, whose told result is no living child
-setresuid_call : (w : World) (ps : List Process) (p : Process) (r e s : ℕ) (told : Res) → p.space ≡ 0
-    → told_call w (state_of ps) p (SetResUid r e s) told
-    ≡ cond (comes_from_outside (SetResUid r e s) told) (Goes (state_of ps)) (cond (same_res told (setresuid initial_space p.cred r e s).res) (Goes (with_cred (state_of ps) p (setresuid initial_space p.cred r e s).cred)) (Wrong (setresuid initial_space p.cred r e s).res))
-setresuid_call w ps p r e s told is =
-    ap (λ (n : ℕ).
-    cond (comes_from_outside (SetResUid r e s) told) (Goes (state_of ps))
-    (cond (same_res told (setresuid (space_of first_spaces n) p.cred r e s).res) (Goes (with_cred (state_of ps) p (setresuid (space_of first_spaces n) p.cred r e s).cred)) (Wrong (setresuid (space_of first_spaces n) p.cred r e s).res))) is
+-- what becomes of a call of a process in the initial space, by the rules' answer
+abbrev BecomesBy : World → List Process → Process → Call → Res → Answer → Type 0
+BecomesBy w ps p call told a =
+    told_call w (state_of ps) p call told ≡ cond (comes_from_outside call told) (Goes (state_of ps)) (cond (same_res told a.res) (Goes (with_cred (state_of ps) p a.cred)) (Wrong a.res))
+
+-- a process in the initial space
+abbrev home : ℕ → Option ℕ → Credential → Process
+home pid forebear c = record { pid = pid; forebear = forebear; space = 0; cred = c }
+
+home_call : (w : World) (ps : List Process) (pid : ℕ) (forebear : Option ℕ) (c : Credential) (call : Call) (told : Res) → is_built (kind_of call) ≡ true → BecomesBy w ps (home pid forebear c) call told (answer_in initial_space c call)
+home_call w ps pid forebear c (SetUid id) told built = refl
+home_call w ps pid forebear c (SetReUid r e) told built = refl
+home_call w ps pid forebear c (SetResUid r e v) told built = refl
+home_call w ps pid forebear c (SetFsUid id) told built = refl
+home_call w ps pid forebear c (SetGid id) told built = refl
+home_call w ps pid forebear c (SetReGid r e) told built = refl
+home_call w ps pid forebear c (SetResGid r e v) told built = refl
+home_call w ps pid forebear c (SetFsGid id) told built = refl
+home_call w ps pid forebear c (SetGroups ids) told built = refl
+home_call w ps pid forebear c _ told built = absurd (cc)
+
+-- of whichever process that stands there
+built_call : (w : World) (ps : List Process) (p : Process) (call : Call) (told : Res) → is_built (kind_of call) ≡ true → p.space ≡ 0 → BecomesBy w ps p call told (answer_in initial_space p.cred call)
+built_call w ps p call told built at =
+    subst (λ (n : ℕ). BecomesBy w ps (record { pid = p.pid; forebear = p.forebear; space = n; cred = p.cred }) call told (answer_in initial_space p.cred call)) (sym at)
+    (home_call w ps p.pid p.forebear p.cred call told built)
+
+-- a call that is built names no space
+names_none : (call : Call) → is_built (kind_of call) ≡ true → names_no_space first_spaces call ≡ false
+names_none (SetUid id) built = refl
+names_none (SetReUid r e) built = refl
+names_none (SetResUid r e v) built = refl
+names_none (SetFsUid id) built = refl
+names_none (SetGid id) built = refl
+names_none (SetReGid r e) built = refl
+names_none (SetResGid r e v) built = refl
+names_none (SetFsGid id) built = refl
+names_none (SetGroups ids) built = refl
+names_none _ built = absurd (cc)
 
 -- the event of a caller, whose told result is no living child
-caller_turn : (w : World) (ps : List Process) (i : ℕ) (old new : Process) (call : Call) (told : Res) (t : Turn) → is_setresuid call ≡ true → Ascends ps → i < length ps → old ≡ get_or ps i old → old.space ≡ 0
-    → MatchBool (comes_from_outside call told) ((t ≡ turn.Goes) × (new ≡ old)) (IsToldTurn old new told (initial_answer old.cred call) t)
+caller_turn : (w : World) (ps : List Process) (i : ℕ) (old new : Process) (call : Call) (told : Res) (t : Turn) → is_built (kind_of call) ≡ true → Ascends ps → i < length ps → old ≡ get_or ps i old → old.space ≡ 0
+    → MatchBool (comes_from_outside call told) ((t ≡ turn.Goes) × (new ≡ old)) (IsToldTurn old new told (answer_in initial_space old.cred call) t)
     → is_living_child ps told ≡ false
     → IsTurn t (slice_set ps i new) (cond (names_no_space first_spaces call) NoSpace (cond (is_living_child ps told) PidInUse (told_call w (state_of ps) old call told)))
-caller_turn w ps i old new (SetResUid r e s) told t of_setresuid up h is initial turns no_child =
-    rw (no_child, setresuid_call w ps old r e s told initial)
-    (called_turn ps i old new told (setresuid initial_space old.cred r e s) t (comes_from_outside (SetResUid r e s) told) up h is turns)
-caller_turn w ps i old new _ told t of_setresuid up h is initial turns no_child = absurd (cc)
+caller_turn w ps i old new call told t built up h is initial turns no_child =
+    rw (names_none call built, no_child, built_call w ps old call told built initial)
+    (called_turn ps i old new told (answer_in initial_space old.cred call) t (comes_from_outside call told) up h is turns)
 
 -- the turn of the caller at its place is what becomes of the event
 pub turned : (ps : List Process) (i : ℕ) (old new : Process) (e : Event) (t : Turn) → Ascends ps → i < length ps → old ≡ get_or ps i old → slice_get ps i ≡ process_at ps e.pid
@@ -81,17 +113,28 @@ in_use ps i e p h found here named living w =
     ∙ ap (λ (b : Bool). cond b PidInUse (told_call w (state_of ps) p e.call e.res)) living
 
 -- and the processes go on ascending
-pub turned_ascends : (ps : List Process) (i : ℕ) (old new : Process) (e : Event) (t : Turn) → Ascends ps → i < length ps → old ≡ get_or ps i old → IsLiveTurn old new e t → Ascends (slice_set ps i new)
-turned_ascends ps i old new e t up h is turns = put_ascends ps i new up h (turns.same_pid ∙ sym (pid_of_at ps i old h is))
+pub turned_ascends : (ps : List Process) (i : ℕ) (old new : Process) → Ascends ps → i < length ps → old ≡ get_or ps i old → new.pid ≡ old.pid → Ascends (slice_set ps i new)
+turned_ascends ps i old new up h is same = put_ascends ps i new up h (same ∙ sym (pid_of_at ps i old h is))
 
 found_pid : (ps : List Process) (pid : ℕ) (p : Process) → process_at ps pid ≡ Some p → p.pid ≡ pid
 found_pid [] pid p is = absurd (cc)
 found_pid (q ∷ ps) pid p is = grind (arith, is, found_pid ps pid p)
 
 -- the caller is found at its place after the turn too
-pub turned_found : (ps : List Process) (i : ℕ) (old new : Process) (e : Event) (t : Turn) → Ascends ps → i < length ps → old ≡ get_or ps i old → slice_get ps i ≡ process_at ps e.pid
-    → IsLiveTurn old new e t → i < length (slice_set ps i new) → slice_get (slice_set ps i new) i ≡ process_at (slice_set ps i new) e.pid
-turned_found ps i old new e t up h is found turns within =
-    let caller : process_at ps e.pid ≡ Some old = sym found ∙ get_of_at ps i old h is in
-    found_at (slice_set ps i new) (turned_ascends ps i old new e t up h is turns) i e.pid within
-    (pid_of_put ps i new h ∙ turns.same_pid ∙ found_pid ps e.pid old caller)
+pub turned_found : (ps : List Process) (i : ℕ) (old new : Process) (pid : ℕ) → Ascends ps → i < length ps → old ≡ get_or ps i old → slice_get ps i ≡ process_at ps pid
+    → new.pid ≡ old.pid → i < length (slice_set ps i new) → slice_get (slice_set ps i new) i ≡ process_at (slice_set ps i new) pid
+turned_found ps i old new pid up h is found same within =
+    let caller : process_at ps pid ≡ Some old = sym found ∙ get_of_at ps i old h is in
+    found_at (slice_set ps i new) (turned_ascends ps i old new up h is same) i pid within
+    (pid_of_put ps i new h ∙ same ∙ found_pid ps pid old caller)
+
+-- the turn that is answered, where it is
+pub turned_if : (ps : List Process) (i : ℕ) (old new : Process) (e : Event) (r : Result Turn NoMemory) → Ascends ps → i < length ps → old ≡ get_or ps i old → slice_get ps i ≡ process_at ps e.pid
+    → is_living_child ps e.res ≡ false → IfOk r (λ t. IsLiveTurn old new e t) → IfOk r (λ t. (w : World) → IsTurn t (slice_set ps i new) (outcome w (state_of ps) e))
+turned_if ps i old new e (Ok t) up h is found no_child turns = λ w. turned ps i old new e t up h is found no_child turns w
+turned_if ps i old new e (Err why) up h is found no_child turns = tt
+
+-- what holds whatever is answered
+pub if_ok : {T E : Type 0} {P : Type 0} (r : Result T E) → P → IfOk r (λ t. P)
+if_ok (Ok t) h = h
+if_ok (Err why) h = tt

@@ -87,7 +87,7 @@ IsCompleted (Some q) answer = (answer ≡ answers.Accepted) ⊎ (answer ≡ answ
 -- What yes says of an audit: one process lives behind the log, and no list of later setresuid calls of it, of any length,
 -- ends where it holds the user id that the words ask for.
 abbrev pub SaysYes : List (List ℕ) → Files → Type 0
-SaysYes words files = (q : Query) → query_of (command_of words) ≡ Some q → (is : IsAccepted words (bytes_at files)) × IsYes q is.world is.state
+SaysYes words files = (q : Query) → query_of (command_of words) ≡ Some q → (is : IsAccepted words (bytes_at files)) × IsYes words (bytes_at files) is q
 
 -- What no says: the last lines of the report show such a list, which does.
 abbrev pub SaysNo : List (List ℕ) → Files → Type 0

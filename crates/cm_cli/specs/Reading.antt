@@ -3,6 +3,7 @@ use Rattle.std.specs.Prelude.{◌≡◌, ◌≢◌, ◌⊎◌, ◌≤◌, ◌<�
 use Rattle.std.specs.declared.alloc.Global.{Global}
 use Rattle.cm_cli.specs.Machine.{world_of}
 use Rattle.cm_cli.specs.Telling.{short_report, log_report}
+use Rattle.cm_cli.specs.declared.reading.Start.{Start}
 use Rattle.cm_cli.specs.declared.reading.Unready.{Unready}
 use Rattle.cm_cli.specs.declared.reading.Unready.TheVariants as unready
 use Rattle.cm_cli.specs.declared.telling.Short.{Short}
@@ -10,11 +11,10 @@ use Rattle.cm_cli.specs.declared.telling.Short.TheVariants as short
 use Rattle.cm_io.specs.Shelf.{Rose}
 use Rattle.cm_io.specs.declared.whole.WholeError.{WholeError}
 use Rattle.cm_io.specs.declared.whole.WholeError.TheVariants as whole
-use Rattle.model_cred.specs.Process.{Process}
 use Rattle.model_cred.specs.World.{World}
 use Rattle.model_text.specs.Query.{Query}
 use Rattle.model_text.specs.Report.{Report, world_limit, log_limit}
-use Rattle.model_text.specs.WorldText.{WorldText, Reads, Bad, NotBuilt, world_text}
+use Rattle.model_text.specs.WorldText.{WorldText, Reads, Bad, NotBuilt, world_text, text_says_more}
 
 -- the bytes of a world, within the limit, read so
 pub record ReadsAs (bytes : List ℕ) (text : WorldText) : Type 0 where
@@ -26,8 +26,8 @@ abbrev pub WorldStands : List ℕ → Type 0
 WorldStands bytes = (w : World) × ReadsAs bytes (Reads w)
 
 -- what the bytes of a world come to
-abbrev pub IsWorldRead : Result (List Process) Unready → List ℕ → Type 0
-IsWorldRead (Ok processes) bytes = ReadsAs bytes (Reads (world_of processes))
+abbrev pub IsWorldRead : Result Start Unready → List ℕ → Type 0
+IsWorldRead (Ok start) bytes = ReadsAs bytes (Reads (world_of start.processes)) × (start.more ≡ text_says_more bytes)
 IsWorldRead (Err (unready.Refused short.WorldLimit)) bytes = world_limit < length bytes
 IsWorldRead (Err (unready.Refused short.BadWorld)) bytes = ReadsAs bytes Bad
 IsWorldRead (Err (unready.Refused short.NotBuilt)) bytes = ReadsAs bytes NotBuilt
@@ -48,8 +48,8 @@ IsLogRead (Err unready.ReadFault) bytes = Unit {0}
 IsLogRead (Err unready.NoMemory) bytes = Unit {0}
 
 -- the report that the files come to, with what is asked behind the log
-abbrev pub IsReady : Option Query → Result (List Process × Vec ℕ Global) Unready → Report → Type 0
-IsReady query (Ok (processes, log)) r = r ≡ log_report query processes log.items
+abbrev pub IsReady : Option Query → Result (Start × Vec ℕ Global) Unready → Report → Type 0
+IsReady query (Ok (start, log)) r = r ≡ log_report query start.more start.processes log.items
 IsReady query (Err (unready.Refused why)) r = r ≡ short_report why
 IsReady query (Err unready.ReadFault) r = Unit {0}
 IsReady query (Err unready.NoMemory) r = Unit {0}

@@ -1,5 +1,5 @@
 -- What the lines of a log come to, as the code goes over them.
-use Rattle.std.specs.Prelude.{◌≡◌, ◌≢◌, ◌≤◌, ℕ, List, ◌++◌}
+use Rattle.std.specs.Prelude.{◌≡◌, ◌≢◌, ◌≤◌, ◌&&◌, ℕ, Bool, true, List, ◌++◌}
 use Rattle.cm_base.specs.declared.status.Status.{Status}
 use Rattle.cm_base.specs.declared.status.Status.TheVariants as answers
 use Rattle.cm_cli.specs.Machine.{state_of}
@@ -8,6 +8,7 @@ use Rattle.cm_cli.specs.declared.replay.LineTurn.TheVariants as turn
 use Rattle.model_cred.specs.Process.{Process, State}
 use Rattle.model_cred.specs.World.{World}
 use Rattle.model_run.specs.Step.{Step}
+use Rattle.model_run.specs.WayBack.{is_setresuid}
 use Rattle.model_text.specs.Line.{Line, NoEvent, Tells, Faulty, Unbuilt}
 use Rattle.model_text.specs.Report.{Report, by_line, text_of}
 
@@ -24,18 +25,28 @@ pub record Finishes (r : Report) (end : Status) (bytes : List ℕ) : Type 0 wher
 -- A line with its number and so many events before it turned the processes before into those after, and wrote the
 -- bytes: the report goes on behind them, or ends with them.
 abbrev pub IsLineTurn : LineTurn → List Process → List Process → ℕ → ℕ → Line → List ℕ → Type 0
-IsLineTurn (turn.Goes events) before after number count line bytes = (w : World) (rest : State → ℕ → Report) → Continues (by_line w (state_of before) number count rest line) (rest (state_of after) events) bytes
+IsLineTurn (turn.Goes tally) before after number count line bytes = (w : World) (rest : State → ℕ → Report) → Continues (by_line w (state_of before) number count rest line) (rest (state_of after) tally.events) bytes
 IsLineTurn (turn.Ends status) before after number count line bytes = (w : World) (rest : State → ℕ → Report) → Finishes (by_line w (state_of before) number count rest line) status bytes
 
 -- the number of events behind a line is at most this
 abbrev pub CountsUpTo : LineTurn → ℕ → Type 0
-CountsUpTo (turn.Goes events) most = events ≤ most
+CountsUpTo (turn.Goes tally) most = tally.events ≤ most
 CountsUpTo (turn.Ends status) most = Unit {0}
 
 -- The line turned the processes before into those after by a step, or left them; or it ended the replay before its end.
 abbrev pub IsPassed : LineTurn → List Process → List Process → Line → Type 0
-IsPassed (turn.Goes events) before after NoEvent = after ≡ before
-IsPassed (turn.Goes events) before after (Tells e) = (w : World) → Step w (state_of before) e (state_of after)
-IsPassed (turn.Goes events) before after Faulty = ⊥
-IsPassed (turn.Goes events) before after Unbuilt = ⊥
+IsPassed (turn.Goes tally) before after NoEvent = after ≡ before
+IsPassed (turn.Goes tally) before after (Tells e) = (w : World) → Step w (state_of before) e (state_of after)
+IsPassed (turn.Goes tally) before after Faulty = ⊥
+IsPassed (turn.Goes tally) before after Unbuilt = ⊥
 IsPassed (turn.Ends status) before after line = status ≢ answers.Accepted
+
+-- the event of a line, where it tells one, is a call of setresuid
+abbrev pub tells_setresuid : Line → Bool
+tells_setresuid (Tells e) = is_setresuid e.call
+tells_setresuid _ = true
+
+-- Behind the line each event is a call of setresuid exactly where each before it is, and its own.
+abbrev pub TellsSetResUids : LineTurn → Bool → Line → Type 0
+TellsSetResUids (turn.Goes tally) before line = tally.setresuids ≡ (before && tells_setresuid line)
+TellsSetResUids (turn.Ends status) before line = Unit {0}

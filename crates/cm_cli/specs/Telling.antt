@@ -1,5 +1,5 @@
 -- What a command that tells a report owes: its status, what is written, and the count of the sink's faults.
-use Rattle.std.specs.Prelude.{◌≡◌, ◌≢◌, ◌≤◌, ℕ, codes, List, [], Option, Some}
+use Rattle.std.specs.Prelude.{◌≡◌, ◌≢◌, ◌≤◌, ℕ, Bool, codes, List, [], Option, Some}
 use Rattle.cm_base.specs.declared.status.Status.{Status}
 use Rattle.cm_base.specs.declared.status.Status.TheVariants as answers
 use Rattle.cm_cli.specs.Machine.{world_of}
@@ -40,13 +40,13 @@ short_report short.WorldLimit = limit_hit (codes "world") world_limit
 short_report short.LogLimit = limit_hit (codes "log") log_limit
 
 -- the report of a log in the world of these processes, with what is asked behind it
-abbrev pub log_report : Option Query → List Process → List ℕ → Report
-log_report query processes log = after (start_lines (world_of processes)) (answered query (world_of processes) (lines_of log))
+abbrev pub log_report : Option Query → Bool → List Process → List ℕ → Report
+log_report query more processes log = after (start_lines (world_of processes)) (answered query more (world_of processes) (lines_of log))
 
 -- what comes behind the replay of a log that ends so, in the state that it leads to: the status, and more lines
-abbrev pub answer_to : Option Query → Status → State → Report
-answer_to (Some q) answers.Accepted s = verdict s q
-answer_to _ st s = record { status = st; lines = [] }
+abbrev pub answer_to : Option Query → Bool → Status → State → Report
+answer_to (Some q) more answers.Accepted s = verdict more s q
+answer_to _ more st s = record { status = st; lines = [] }
 
 -- the answer where the sink failed, or memory was wanting
 abbrev pub stopped_by : Outside → Status

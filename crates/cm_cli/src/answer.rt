@@ -1,5 +1,5 @@
 // The answer to an audit, behind an accepted log: one process lives, and is asked for a user id (so far).
-ghost use Rattle.std.specs.Prelude.{◌≡◌, ◌++◌, Some, IfSome, IfNone, None, IfOk, OnOk, slice_get, length, ◌<◌};
+ghost use Rattle.std.specs.Prelude.{◌≡◌, ◌++◌, false, Some, IfSome, IfNone, None, IfOk, OnOk, slice_get, length, ◌<◌};
 ghost use Rattle.cm_cli.specs.Machine.{state_of};
 ghost use Rattle.cm_cli.specs.Query.{query_view, query_if, right_view};
 ghost use Rattle.cm_cli.specs.Telling.{answer_to};
@@ -15,20 +15,22 @@ use cm_audit::audit_uid;
 use cm_base::{Kuid, NoMemory, Status};
 use std::alloc::Global;
 
-/// Answers what is asked behind a replay that ended with this status, and says the status of the whole.
+/// Answers what is asked behind a replay that ended with this status, and says the status of the whole. `more` says that
+/// there is more to the processes than the weak audit knows.
 pub(crate) fn put_answer(
     alloc: Global,
     processes: &Processes,
     query: Option<Query<'_>>,
     replayed: Status,
+    more: bool,
     text: &mut Vec<u8>,
 ) -> Result<Status, NoMemory>
-    requires { replayed ≡ Status.Accepted → StateFollows (state_of processes.now) }
-    ensures status { IfOk result (λ status. status ≡ (answer_to (query_if query.entry) replayed (state_of processes.now)).status) }
-    ensures text { OnOk result (text.new.items ≡ text.old.items ++ text_of (answer_to (query_if query.entry) replayed (state_of processes.now)).lines) }
+    requires { replayed ≡ Status.Accepted → more ≡ false → StateFollows (state_of processes.now) }
+    ensures status { IfOk result (λ status. status ≡ (answer_to (query_if query.entry) more replayed (state_of processes.now)).status) }
+    ensures text { OnOk result (text.new.items ≡ text.old.items ++ text_of (answer_to (query_if query.entry) more replayed (state_of processes.now)).lines) }
 {
     match (query, replayed) {
-        (Some(query), Status::Accepted) => put_verdict(alloc, processes, query, text),
+        (Some(query), Status::Accepted) => put_verdict(alloc, processes, query, more, text),
         _ => Ok(replayed),
     }
 }
@@ -37,11 +39,12 @@ fn put_verdict(
     alloc: Global,
     processes: &Processes,
     query: Query<'_>,
+    more: bool,
     text: &mut Vec<u8>,
 ) -> Result<Status, NoMemory>
-    requires { StateFollows (state_of processes.now) }
-    ensures status { IfOk result (λ status. status ≡ (verdict (state_of processes.now) (query_view query.entry)).status) }
-    ensures text { OnOk result (text.new.items ≡ text.old.items ++ text_of (verdict (state_of processes.now) (query_view query.entry)).lines) }
+    requires { more ≡ false → StateFollows (state_of processes.now) }
+    ensures status { IfOk result (λ status. status ≡ (verdict more (state_of processes.now) (query_view query.entry)).status) }
+    ensures text { OnOk result (text.new.items ≡ text.old.items ++ text_of (verdict more (state_of processes.now) (query_view query.entry)).lines) }
 {
     let Some(at) = place_asked(processes, query.pid.as_bytes()) else {
         put_bad_pid(text)?;
@@ -51,7 +54,7 @@ fn put_verdict(
         put_bad_right(text)?;
         return Ok(Status::BadQuery);
     };
-    put_right(alloc, processes, at, right, text)
+    put_right(alloc, processes, at, right, more, text)
 }
 
 // The place of the live process whose pid the text is.
@@ -68,15 +71,18 @@ fn put_right(
     processes: &Processes,
     at: usize,
     right: Right,
+    more: bool,
     text: &mut Vec<u8>,
 ) -> Result<Status, NoMemory>
     requires here { at < length processes.now }
-    requires follows { StateFollows (state_of processes.now) }
-    ensures status { IfOk result (λ status. IfSome (slice_get processes.now at) (λ p. status ≡ (right_verdict (state_of processes.now) p (right_view right)).status)) }
-    ensures text { OnOk result (IfSome (slice_get processes.now at) (λ p. text.new.items ≡ text.old.items ++ text_of (right_verdict (state_of processes.now) p (right_view right)).lines)) }
+    requires follows { more ≡ false → StateFollows (state_of processes.now) }
+    ensures status { IfOk result (λ status. IfSome (slice_get processes.now at) (λ p. status ≡ (right_verdict more (state_of processes.now) p (right_view right)).status)) }
+    ensures text { OnOk result (IfSome (slice_get processes.now at) (λ p. text.new.items ≡ text.old.items ++ text_of (right_verdict more (state_of processes.now) p (right_view right)).lines)) }
 {
     match right {
-        Right::Uid(k) if processes.list().len() == 1 => put_uid(alloc, processes.at(at), k, text),
+        Right::Uid(k) if !more && processes.list().len() == 1 => {
+            put_uid(alloc, processes.at(at), k, text)
+        }
         _ => {
             put_not_built(text)?;
             Ok(Status::NotBuilt)

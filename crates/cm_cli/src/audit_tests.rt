@@ -11,6 +11,12 @@ pid = 100
 uid = 0
 ";
 
+const ROOT_AND_GROUP: &[u8] = b"log = \"script\"
+[[process]]
+pid = 100
+gid = 0
+";
+
 // Its real and saved id are 0, and its sets are empty: the effective id of its start is 1000.
 const BARE: &[u8] = b"log = \"script\"
 [[process]]
@@ -286,6 +292,44 @@ end 0
 not built
 ",
         },
+        // The world says more of the process, though no more than it has by default.
+        Row {
+            world: ROOT_AND_GROUP,
+            log: b"",
+            pid: "100",
+            right: "uid:7",
+            status: Status::NotBuilt,
+            report: b"> 100 init uid=0,0,0,0 gid=0,0,0,0 groups=- inh=0000000000000000 prm=000001ffffffffff eff=000001ffffffffff bnd=000001ffffffffff amb=0000000000000000 sec=00 nnp=0
+end 0
+not built
+",
+        },
+        // An event is another call, though setresuid would do the same.
+        Row {
+            world: ROOT,
+            log: b"100 setuid 5 = 0\n",
+            pid: "100",
+            right: "uid:7",
+            status: Status::NotBuilt,
+            report: b"> 100 init uid=0,0,0,0 gid=0,0,0,0 groups=- inh=0000000000000000 prm=000001ffffffffff eff=000001ffffffffff bnd=000001ffffffffff amb=0000000000000000 sec=00 nnp=0
+1: 100 setuid 5 = 0
+> 100 init uid=5,5,5,5 gid=0,0,0,0 groups=- inh=0000000000000000 prm=0000000000000000 eff=0000000000000000 bnd=000001ffffffffff amb=0000000000000000 sec=00 nnp=0
+end 1
+not built
+",
+        },
+        // A bad query is told before that.
+        Row {
+            world: ROOT_AND_GROUP,
+            log: b"",
+            pid: "101",
+            right: "uid:7",
+            status: Status::BadQuery,
+            report: b"> 100 init uid=0,0,0,0 gid=0,0,0,0 groups=- inh=0000000000000000 prm=000001ffffffffff eff=000001ffffffffff bnd=000001ffffffffff amb=0000000000000000 sec=00 nnp=0
+end 0
+bad query: pid
+",
+        },
         Row {
             world: TWO,
             log: b"",
@@ -320,7 +364,7 @@ impossible line 1: the rules give EPERM
         },
         Row {
             world: BARE,
-            log: b"100 setuid 7 = 0\n",
+            log: b"100 fork = 7\n",
             pid: "101",
             right: "uid:x",
             status: Status::NotBuilt,

@@ -4,6 +4,8 @@
 mod answer;
 #[cfg(test)]
 mod audit_tests;
+#[cfg(test)]
+mod call_tests;
 mod commands;
 mod laws;
 mod line;
@@ -11,7 +13,7 @@ mod processes;
 mod query;
 mod reading;
 mod replay;
-mod rule;
+mod rules;
 mod sending;
 mod telling;
 #[cfg(test)]

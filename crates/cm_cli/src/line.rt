@@ -1,14 +1,22 @@
-// A line of a script log: PID CALL ARGUMENTS = RESULT, its tokens parted by blanks (choice). Built so far: setresuid.
-ghost use Rattle.std.specs.Prelude.{◌≡◌, ◌⊎◌, ◌<◌, ◌≤◌, ℕ, [], ◌∷◌, MatchOption, true, false, length, slice_index, bytes_eq};
-ghost use Rattle.std.specs.List.{list_any};
-ghost use Rattle.cm_cli.specs.Lines.{line_of};
-ghost use Rattle.model_text.specs.Calls.{is_call_name};
-ghost use Rattle.model_text.specs.Cut.{tokens_of, is_blank, goes_on};
-ghost use Rattle.model_text.specs.Line.{script_line, setresuid_line, setresuid_event};
-ghost use Rattle.model_text.specs.Token.{pid_token, id_token, result_token, is_comment};
+// A line of a script log: PID CALL ARGUMENTS = RESULT, its tokens parted by blanks (choice). Built so far: the calls that
+// set user ids, group ids and groups.
+ghost use Rattle.std.specs.Prelude.{◌≡◌, IfOk, Some, option_map};
+ghost use Rattle.cm_cli.specs.Lines.{kind_view, line_of};
+ghost use Rattle.model_text.specs.Cut.{tokens_of};
+ghost use Rattle.model_text.specs.Line.{script_line, call_line, kind_line, event_told, ending, is_built, result_of_kind};
+ghost use Rattle.model_text.specs.Token.{number_token, result_token};
 
-use cm_base::{Errno, Pid, Res, read_u32};
-use cm_state::{Call, Event};
+mod arguments;
+mod kind;
+mod tokens;
+
+use arguments::read_call;
+use cm_base::{Errno, NoMemory, Pid, Res, read_u32};
+use cm_state::Event;
+pub(crate) use kind::CallKind;
+use std::alloc::Global;
+pub(crate) use tokens::read_pid;
+use tokens::{begins_comment, next_token, stands_for_equals};
 
 /// What a line stands for: no event (blanks alone, a comment), an event, a fault, or a call that isn't built.
 #[derive(Debug, Drop)]
@@ -19,135 +27,119 @@ pub(crate) enum Line {
     Unbuilt,
 }
 
-const CALL_NAMES: [&str; 26] = [
-    "setuid",
-    "setreuid",
-    "setresuid",
-    "setfsuid",
-    "setgid",
-    "setregid",
-    "setresgid",
-    "setfsgid",
-    "setgroups",
-    "capset",
-    "bset_drop",
-    "amb_raise",
-    "amb_lower",
-    "amb_clear",
-    "securebits",
-    "keepcaps",
-    "no_new_privs",
-    "fork",
-    "clone_user",
-    "unshare",
-    "setns",
-    "write_uid_map",
-    "write_gid_map",
-    "write_setgroups",
-    "execve",
-    "exit",
-];
-
 /// What a line of a script log stands for.
-pub(crate) fn read_line(line: &[u8]) -> Line
-    ensures { line_of result ≡ script_line line.now }
+pub(crate) fn read_line(alloc: Global, line: &[u8]) -> Result<Line, NoMemory>
+    ensures { IfOk result (λ read. line_of read ≡ script_line line.now) }
 {
     let Some((first, rest)) = next_token(line) else {
-        return Line::NoEvent;
+        return Ok(Line::NoEvent);
     };
     if begins_comment(first) {
-        return Line::NoEvent;
+        return Ok(Line::NoEvent);
     }
-    let Some(pid) = read_pid(first) else {
-        return Line::Faulty;
-    };
-    let Some((name, rest)) = next_token(rest) else {
-        return Line::Faulty;
-    };
-    if name == b"setresuid".as_slice() {
-        return read_setresuid(pid, rest);
-    }
-    if names_call(name) {
-        Line::Unbuilt
-    } else {
-        Line::Faulty
+    match read_pid(first) {
+        Some(pid) => read_behind_pid(alloc, pid, rest),
+        None => Ok(Line::Faulty),
     }
 }
 
-// What stands behind `setresuid`: three ids, `=` and the result.
-fn read_setresuid(pid: Pid, text: &[u8]) -> Line
-    ensures { line_of result ≡ setresuid_line pid (tokens_of text.now) }
+// What stands behind the pid: the name of a call, its arguments, and its result.
+fn read_behind_pid(alloc: Global, pid: Pid, text: &[u8]) -> Result<Line, NoMemory>
+    ensures { IfOk result (λ read. line_of read ≡ call_line pid (tokens_of text.now)) }
 {
-    let Some((r, text)) = next_token(text) else {
-        return Line::Faulty;
+    let Some((name, rest)) = next_token(text) else {
+        return Ok(Line::Faulty);
     };
-    let Some((e, text)) = next_token(text) else {
-        return Line::Faulty;
+    match CallKind::from_name(name) {
+        Some(kind) => read_behind_name(alloc, pid, kind, rest),
+        None => Ok(Line::Faulty),
+    }
+}
+
+// What stands behind the name of a call of that kind.
+fn read_behind_name(alloc: Global, pid: Pid, kind: CallKind, text: &[u8]) -> Result<Line, NoMemory>
+    ensures { IfOk result (λ read. line_of read ≡ kind_line pid (Some (kind_view kind)) (tokens_of text.now)) }
+{
+    if !built(kind) {
+        return Ok(Line::Unbuilt);
+    }
+    match read_event(alloc, pid, kind, text)? {
+        Some(event) => Ok(Line::Tells(event)),
+        None => Ok(Line::Faulty),
+    }
+}
+
+// Calls of this kind are built.
+fn built(kind: CallKind) -> bool
+    ensures { result ≡ is_built (kind_view kind) }
+{
+    matches!(
+        kind,
+        CallKind::SetUid
+            | CallKind::SetReUid
+            | CallKind::SetResUid
+            | CallKind::SetFsUid
+            | CallKind::SetGid
+            | CallKind::SetReGid
+            | CallKind::SetResGid
+            | CallKind::SetFsGid
+            | CallKind::SetGroups
+    )
+}
+
+// The event that arguments and a result tell. None where they have a fault.
+fn read_event(
+    alloc: Global,
+    pid: Pid,
+    kind: CallKind,
+    text: &[u8],
+) -> Result<Option<Event>, NoMemory>
+    ensures { IfOk result (λ read. read ≡ event_told pid (kind_view kind) (tokens_of text.now)) }
+{
+    let Some((call, rest)) = read_call(alloc, kind, text)? else {
+        return Ok(None);
     };
-    let Some((s, text)) = next_token(text) else {
-        return Line::Faulty;
+    let Some(res) = read_ending(kind, rest) else {
+        return Ok(None);
     };
-    let Some((equals, text)) = next_token(text) else {
-        return Line::Faulty;
-    };
-    let Some((res, text)) = next_token(text) else {
-        return Line::Faulty;
-    };
+    Ok(Some(Event { pid, call, res }))
+}
+
+// The last two tokens: `=` and the result.
+fn read_ending(kind: CallKind, text: &[u8]) -> Option<Res>
+    ensures { result ≡ ending (kind_view kind) (tokens_of text.now) }
+{
+    let (equals, text) = next_token(text)?;
+    let (res, text) = next_token(text)?;
     let None = next_token(text) else {
-        return Line::Faulty;
+        return None;
     };
-    if equals != b"=".as_slice() {
-        return Line::Faulty;
+    if !stands_for_equals(equals) {
+        return None;
     }
-    match event_of(pid, r, e, s, res) {
-        Some(event) => Line::Tells(event),
-        None => Line::Faulty,
-    }
+    read_result(kind, res)
 }
 
-fn event_of(pid: Pid, r: &[u8], e: &[u8], s: &[u8], res: &[u8]) -> Option<Event>
-    ensures { result ≡ setresuid_event pid (id_token r.now) (id_token e.now) (id_token s.now) (result_token res.now) }
+// The result of a call of that kind: setfsuid and setfsgid tell the id from before, and have no error.
+fn read_result(kind: CallKind, token: &[u8]) -> Option<Res>
+    ensures { result ≡ result_of_kind (kind_view kind) token.now }
 {
-    let r = read_id(r)?;
-    let e = read_id(e)?;
-    let s = read_id(s)?;
-    let res = read_result(res)?;
-    Some(Event {
-        pid,
-        call: Call::SetResUid(r, e, s),
-        res,
-    })
-}
-
-fn begins_comment(token: &[u8]) -> bool
-    ensures { result ≡ is_comment token.now }
-{
-    match token {
-        [first, ..] => *first == b';',
-        [] => false,
+    match kind {
+        CallKind::SetFsUid | CallKind::SetFsGid => read_old_id(token),
+        _ => read_outcome(token),
     }
 }
 
-/// The pid that a token is.
-pub(crate) fn read_pid(token: &[u8]) -> Option<Pid>
-    ensures { result ≡ pid_token token.now }
+fn read_old_id(token: &[u8]) -> Option<Res>
+    ensures { result ≡ option_map Res.Id (number_token token.now) }
 {
     match read_u32(token) {
-        Ok(n) => Pid::new(n),
+        Ok(id) => Some(Res::Id(id)),
         Err(_) => None,
     }
 }
 
-fn read_id(token: &[u8]) -> Option<u32>
-    ensures { result ≡ id_token token.now }
-{
-    if token == b"-1".as_slice() {
-        return Some(u32::MAX);
-    }
-    read_u32(token).ok()
-}
-
-fn read_result(token: &[u8]) -> Option<Res>
+fn read_outcome(token: &[u8]) -> Option<Res>
     ensures { result ≡ result_token token.now }
 {
     if token == b"0".as_slice() {
@@ -155,62 +147,4 @@ fn read_result(token: &[u8]) -> Option<Res>
     }
     let error = Errno::from_name(token)?;
     Some(Res::Err(error))
-}
-
-fn names_call(token: &[u8]) -> bool
-    ensures { result ≡ is_call_name token.now }
-{
-    is_among(token, &CALL_NAMES)
-}
-
-fn is_among(name: &[u8], table: &[&str]) -> bool
-    ensures { result ≡ list_any (λ known. bytes_eq name.now known.now) table.now }
-{
-    table.iter().any(|known| name == known.as_bytes())
-}
-
-// The first token of a text, and what follows it. None exactly where the text has no token.
-fn next_token(text: &[u8]) -> Option<(&[u8], &[u8])>
-    ensures { MatchOption result (tokens_of text.now ≡ []) (λ p. tokens_of text.now ≡ p.0.now ∷ tokens_of p.1.now) }
-{
-    let text = skip_blanks(text);
-    if text.is_empty() {
-        return None;
-    }
-    let end = token_len(text);
-    Some(text.split_at(end))
-}
-
-fn skip_blanks(text: &[u8]) -> &[u8]
-    ensures same { tokens_of result.now ≡ tokens_of text.now }
-    ensures begins { (result.now ≡ []) ⊎ (goes_on result.now ≡ true) }
-{
-    let mut rest = text;
-    while let [byte, after @ ..] = rest {
-        if !blank(*byte) {
-            return rest;
-        }
-        rest = after;
-    }
-    rest
-}
-
-// How many bytes stand before the first blank.
-fn token_len(text: &[u8]) -> usize
-    ensures within { result ≤ length text.now }
-    ensures token { (k : ℕ) → k < result → is_blank (slice_index text.now k) ≡ false }
-    ensures ended { result < length text.now → is_blank (slice_index text.now result) ≡ true }
-{
-    for (i, byte) in text.iter().enumerate() {
-        if blank(*byte) {
-            return i;
-        }
-    }
-    text.len()
-}
-
-fn blank(byte: u8) -> bool
-    ensures { result ≡ is_blank byte }
-{
-    byte == b' ' || byte == b'\t' || byte == b'\r'
 }

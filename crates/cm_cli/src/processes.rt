@@ -1,12 +1,16 @@
 // The live processes of the machine, by ascending pid. Each stands in the initial user namespace (so far).
-ghost use Rattle.std.specs.Prelude.{◌≡◌, ◌<◌, length, IfSome, IfNone, None, Some, slice_get};
+ghost use Rattle.std.specs.Prelude.{◌≡◌, ◌<◌, length, IfSome, IfNone, IfOk, None, Some, slice_get};
 ghost use Rattle.model_cred.specs.Process.{Ascends, process_at};
-ghost use Rattle.cm_cli.specs.Turns.{IsLiveTurn, is_outside};
+ghost use Rattle.model_cred.specs.Space.{initial_space};
+ghost use Rattle.cm_cli.specs.Turns.{IsLiveTurn, is_common_res};
+ghost use Rattle.cm_state.specs.Call.{call_of};
+ghost use Rattle.model_run.specs.Outside.{comes_from_outside};
 ghost use Rattle.model_run.specs.Same.{same_res, same_errno};
 
-use crate::rule::set_resuid;
-use cm_base::{Errno, Pid, Res};
-use cm_state::{Call, Cred, Event};
+use crate::rules::answer;
+use cm_base::{Errno, NoMemory, Pid, Res};
+use cm_state::{Call, Cred, Event, Space};
+use std::alloc::Global;
 use std::marker::Model;
 
 /// A live process.
@@ -34,21 +38,23 @@ pub(crate) enum Turn {
     Wrong(Res),
 }
 
-/// The live processes, their pids ascending.
+/// The live processes, their pids ascending, and the initial user namespace, which they are in.
 #[derive(Debug, Drop)]
 pub(crate) struct Processes {
     list: Vec<Live>,
+    space: Space,
 }
 
 impl Model for Processes {
-    ghost use Rattle.std.specs.Prelude.{List};
+    ghost use Rattle.std.specs.Prelude.{◌≡◌, List};
     ghost use Rattle.model_cred.specs.Process.{Process, Ascends};
+    ghost use Rattle.model_cred.specs.Space.{initial_space};
 
     ghost Value = { List Process };
 
     ghost view = { λ p. p.list.items };
 
-    ghost invariant = { λ p. Ascends p.list.items };
+    ghost invariant = { λ p. Ascends p.list.items × (p.space ≡ initial_space) };
 }
 
 impl Processes {
@@ -57,11 +63,12 @@ impl Processes {
     ghost use Rattle.model_run.specs.Step.{outcome, is_living_child};
 
     /// The processes of a list whose pids ascend.
-    pub fn from_list(list: Vec<Live>) -> Processes
+    pub fn from_list(alloc: Global, list: Vec<Live>) -> Result<Processes, NoMemory>
         requires { Ascends list.items }
-        ensures { result ≡ list.items }
+        ensures { IfOk result (λ processes. processes ≡ list.items) }
     {
-        Processes { list }
+        let space = Space::initial(alloc)?;
+        Ok(Processes { list, space })
     }
 
     /// The processes, by ascending pid.
@@ -88,18 +95,18 @@ impl Processes {
     }
 
     /// Makes the step of an event of the process at this place, and says what becomes of the event.
-    pub fn step_at(&mut self, at: usize, event: &Event) -> Turn
+    pub fn step_at(&mut self, alloc: Global, at: usize, event: &Event) -> Result<Turn, NoMemory>
         requires here { at < length self.old }
         requires caller { slice_get self.old at ≡ process_at self.old event.now.pid }
-        ensures turn { (w : World) → IsTurn result self.new (outcome w (state_of self.old) event.now) }
-        ensures still_here { at < length self.new }
-        ensures caller_after { slice_get self.new at ≡ process_at self.new event.now.pid }
+        ensures turn { IfOk result (λ turn. (w : World) → IsTurn turn self.new (outcome w (state_of self.old) event.now)) }
+        ensures still_here { IfOk result (λ turn. at < length self.new) }
+        ensures caller_after { IfOk result (λ turn. slice_get self.new at ≡ process_at self.new event.now.pid) }
     {
         if self.has_child(&event.res) {
-            return Turn::PidInUse;
+            return Ok(Turn::PidInUse);
         }
         let live = &mut self.list[at];
-        take_step(live, event)
+        take_step(alloc, live, &self.space, event)
     }
 
     // The result is a child that is alive already.
@@ -113,20 +120,21 @@ impl Processes {
     }
 }
 
-// The step of one process: its new credential, or the rules' own answer against the told one.
-fn take_step(live: &mut Live, event: &Event) -> Turn
-    ensures { IsLiveTurn live.old live.new event.now result }
+// The step of one process in the initial space: its new credential, or the rules' own answer against the told one.
+fn take_step(alloc: Global, live: &mut Live, space: &Space, event: &Event) -> Result<Turn, NoMemory>
+    requires { space.now ≡ initial_space }
+    ensures turn { IfOk result (λ turn. IsLiveTurn live.old live.new event.now turn) }
+    ensures same_pid { live.new.pid ≡ live.old.pid }
 {
     let cred = &mut live.cred;
-    if comes_from_outside(&event.res) {
-        return Turn::Goes;
+    if from_outside(&event.call, &event.res) {
+        return Ok(Turn::Goes);
     }
-    let Call::SetResUid(r, e, s) = event.call;
-    let answer = set_resuid(cred, r, e, s);
-    if is_same(&event.res, &answer) {
-        Turn::Goes
+    let given = answer(alloc, cred, space, &event.call)?;
+    if is_same(&event.res, &given) {
+        Ok(Turn::Goes)
     } else {
-        Turn::Wrong(answer)
+        Ok(Turn::Wrong(given))
     }
 }
 
@@ -149,9 +157,19 @@ fn is_same_error(told: Errno, given: Errno) -> bool
     told as u8 == given as u8
 }
 
-// An error that setresuid may answer for causes outside the machine (setresuid(2); choice).
-fn comes_from_outside(res: &Res) -> bool
-    ensures { result ≡ is_outside res.now }
+// An error that a call may answer for causes outside the machine; setfsuid and setfsgid have none (choice; the calls'
+// manual pages, "ERRORS").
+fn from_outside(call: &Call, res: &Res) -> bool
+    ensures { result ≡ comes_from_outside (call_of call.now) res.now }
+{
+    match call {
+        Call::SetFsUid(_) | Call::SetFsGid(_) => false,
+        _ => is_common_error(res),
+    }
+}
+
+fn is_common_error(res: &Res) -> bool
+    ensures { result ≡ is_common_res res.now }
 {
     matches!(
         res,

@@ -1,11 +1,12 @@
 // The replay of a log's lines: each is read, its event is made a step, and its lines of the report are written.
-ghost use Rattle.std.specs.Prelude.{◌≡◌, ◌≤◌, ◌<◌, ◌+◌, ◌^◌, ◌++◌, ℕ, List, [], ◌∷◌, length, IfOk, OnOk, OnErr, MatchOption, slice_index, ◌≢◌, vec_len};
+ghost use Rattle.std.specs.Prelude.{◌≡◌, ◌≤◌, ◌<◌, ◌+◌, ◌^◌, ◌++◌, ◌&&◌, ℕ, List, [], ◌∷◌, length, IfOk, OnOk, OnErr, MatchOption, slice_index, ◌≢◌, vec_len};
 ghost use Rattle.cm_cli.specs.Machine.{state_of, world_of};
-ghost use Rattle.cm_cli.specs.Replay.{IsLineTurn, CountsUpTo, IsPassed};
+ghost use Rattle.cm_cli.specs.Replay.{IsLineTurn, CountsUpTo, IsPassed, TellsSetResUids};
 ghost use Rattle.cm_cli.specs.Sent.{IsSent, IsFront};
 ghost use Rattle.cm_io.specs.Sink.{then_written, WriteFaults};
 ghost use Rattle.model_cred.specs.World.{World};
 ghost use Rattle.model_run.specs.Step.{Run};
+ghost use Rattle.model_run.specs.WayBack.{are_setresuids, is_setresuid};
 ghost use Rattle.model_text.specs.Cut.{lines_of};
 ghost use Rattle.model_text.specs.Line.{script_line, Tells, events_of};
 ghost use Rattle.model_text.specs.Report.{text_of, replayed};
@@ -19,44 +20,70 @@ use crate::writing::{
 };
 use cm_base::{NoMemory, Status};
 use cm_io::{Outside, Sink};
-use cm_state::Event;
+use cm_state::{Call, Event};
+use std::alloc::Global;
 
-/// What a line comes to: the replay goes on with so many events behind it, or it ends.
+/// The events so far: how many, and whether each is a call of setresuid.
+#[derive(Clone, Copy, Debug)]
+pub(crate) struct Tally {
+    pub events: u64,
+    pub setresuids: bool,
+}
+
+/// What a line comes to: the replay goes on with these events behind it, or it ends.
 #[derive(Debug, Drop)]
 pub(crate) enum LineTurn {
-    Goes(u64),
+    Goes(Tally),
     Ends(Status),
+}
+
+/// How a replay ended, and whether each event of an accepted log is a call of setresuid.
+#[derive(Clone, Copy, Debug)]
+pub(crate) struct Replayed {
+    pub status: Status,
+    pub setresuids: bool,
 }
 
 /// Replays the lines of a log and ends the report. What it writes goes through the buffer `text` to the sink in large
 /// pieces; at `Ok` the rest of it waits in the buffer.
 pub(crate) fn replay_lines<K: Sink>(
+    alloc: Global,
     processes: &mut Processes,
     log: &[u8],
     text: &mut Vec<u8>,
     out: &mut K,
-) -> Result<Status, Outside>
-    ensures status { (w : World) → IfOk result (λ status. (replayed w (lines_of log.now) (state_of processes.old) 1 0).status ≡ status) }
+) -> Result<Replayed, Outside>
+    ensures status { (w : World) → IfOk result (λ end. (replayed w (lines_of log.now) (state_of processes.old) 1 0).status ≡ end.status) }
     ensures sent { (w : World) → OnOk result (IsSent (K.written out.old) (K.written out.new) text.new.items
         (text.old.items ++ text_of (replayed w (lines_of log.now) (state_of processes.old) 1 0).lines)) }
     ensures stopped { (w : World) → OnErr result (IsFront (K.written out.old) (K.written out.new)
         (text.old.items ++ text_of (replayed w (lines_of log.now) (state_of processes.old) 1 0).lines)) }
     ensures cause { WriteFaults (K.faults out.old) (K.faults out.new) result }
     // Where the log is accepted, the processes are those of the state that its events lead to.
-    ensures reached { IfOk result (λ status. status ≡ Status.Accepted → (w : World) →
+    ensures reached { IfOk result (λ end. end.status ≡ Status.Accepted → (w : World) →
         Run w (state_of processes.old) (events_of (lines_of log.now)) (state_of processes.new)) }
+    ensures setresuids { IfOk result (λ end. end.status ≡ Status.Accepted →
+        end.setresuids ≡ are_setresuids (events_of (lines_of log.now))) }
 {
     let mut rest = log;
     let mut number: u64 = 1;
-    let mut count: u64 = 0;
+    let mut tally = Tally {
+        events: 0,
+        setresuids: true,
+    };
     while let Some((line, after)) = next_line(rest) {
-        let turn = match take_line(processes, line, number, count, text) {
+        let turn = match take_line(alloc, processes, line, number, tally, text) {
             Ok(turn) => turn,
             Err(NoMemory) => return Err(Outside::NoMemory),
         };
         match turn {
-            LineTurn::Goes(events) => count = events,
-            LineTurn::Ends(status) => return Ok(status),
+            LineTurn::Goes(further) => tally = further,
+            LineTurn::Ends(status) => {
+                return Ok(Replayed {
+                    status,
+                    setresuids: false,
+                });
+            }
         }
         match send_full(text, out) {
             Ok(()) => {}
@@ -65,28 +92,33 @@ pub(crate) fn replay_lines<K: Sink>(
         rest = after;
         number += 1;
     }
-    match put_end(text, count) {
-        Ok(()) => Ok(Status::Accepted),
+    match put_end(text, tally.events) {
+        Ok(()) => Ok(Replayed {
+            status: Status::Accepted,
+            setresuids: tally.setresuids,
+        }),
         Err(NoMemory) => Err(Outside::NoMemory),
     }
 }
 
-// One line of the log, with its number and the number of events before it.
+// One line of the log, with its number and the events before it.
 fn take_line(
+    alloc: Global,
     processes: &mut Processes,
     line: &[u8],
     number: u64,
-    count: u64,
+    tally: Tally,
     text: &mut Vec<u8>,
 ) -> Result<LineTurn, NoMemory>
-    requires { count + 1 < 2 ^ 64 }
+    requires { tally.events + 1 < 2 ^ 64 }
     ensures turn { IfOk result (λ turn. (bytes : List ℕ) × (text.new.items ≡ text.old.items ++ bytes)
-        × IsLineTurn turn processes.old processes.new number count (script_line line.now) bytes) }
-    ensures count { IfOk result (λ turn. CountsUpTo turn (count + 1)) }
+        × IsLineTurn turn processes.old processes.new number tally.events (script_line line.now) bytes) }
+    ensures count { IfOk result (λ turn. CountsUpTo turn (tally.events + 1)) }
     ensures passed { IfOk result (λ turn. IsPassed turn processes.old processes.new (script_line line.now)) }
+    ensures setresuids { IfOk result (λ turn. TellsSetResUids turn tally.setresuids (script_line line.now)) }
 {
-    match read_line(line) {
-        Line::NoEvent => Ok(LineTurn::Goes(count)),
+    match read_line(alloc, line)? {
+        Line::NoEvent => Ok(LineTurn::Goes(tally)),
         Line::Faulty => {
             put_bad_log(text, number)?;
             Ok(LineTurn::Ends(Status::BadLog))
@@ -95,32 +127,34 @@ fn take_line(
             put_not_built(text)?;
             Ok(LineTurn::Ends(Status::NotBuilt))
         }
-        Line::Tells(event) => take_event(processes, &event, number, count, text),
+        Line::Tells(event) => take_event(alloc, processes, &event, number, tally, text),
     }
 }
 
 fn take_event(
+    alloc: Global,
     processes: &mut Processes,
     event: &Event,
     number: u64,
-    count: u64,
+    tally: Tally,
     text: &mut Vec<u8>,
 ) -> Result<LineTurn, NoMemory>
-    requires { count + 1 < 2 ^ 64 }
+    requires { tally.events + 1 < 2 ^ 64 }
     ensures turn { IfOk result (λ turn. (bytes : List ℕ) × (text.new.items ≡ text.old.items ++ bytes)
-        × IsLineTurn turn processes.old processes.new number count (Tells event.now) bytes) }
-    ensures count { IfOk result (λ turn. CountsUpTo turn (count + 1)) }
+        × IsLineTurn turn processes.old processes.new number tally.events (Tells event.now) bytes) }
+    ensures count { IfOk result (λ turn. CountsUpTo turn (tally.events + 1)) }
     ensures passed { IfOk result (λ turn. IsPassed turn processes.old processes.new (Tells event.now)) }
+    ensures setresuids { IfOk result (λ turn. TellsSetResUids turn tally.setresuids (Tells event.now)) }
 {
     let Some(at) = processes.find(event.pid) else {
         put_no_process(text, number)?;
         return Ok(LineTurn::Ends(Status::Impossible));
     };
-    match processes.step_at(at, event) {
+    match processes.step_at(alloc, at, event)? {
         Turn::Goes => {
             put_event(text, number, event)?;
             put_process(text, processes.at(at))?;
-            Ok(LineTurn::Goes(count + 1))
+            Ok(LineTurn::Goes(with_event(tally, event)))
         }
         Turn::PidInUse => {
             put_pid_in_use(text, number)?;
@@ -130,6 +164,18 @@ fn take_event(
             put_wrong(text, number, &given)?;
             Ok(LineTurn::Ends(Status::Impossible))
         }
+    }
+}
+
+// One event more.
+fn with_event(tally: Tally, event: &Event) -> Tally
+    requires { tally.events + 1 < 2 ^ 64 }
+    ensures events { result.events ≡ tally.events + 1 }
+    ensures setresuids { result.setresuids ≡ (tally.setresuids && is_setresuid event.now.call) }
+{
+    Tally {
+        events: tally.events + 1,
+        setresuids: tally.setresuids && matches!(event.call, Call::SetResUid(_, _, _)),
     }
 }
 

@@ -1,5 +1,5 @@
 // Telling a report: what is written goes to the sink, and the answer says how it went.
-ghost use Rattle.std.specs.Prelude.{◌≡◌, ◌++◌, OnOk, OnErr, List, map};
+ghost use Rattle.std.specs.Prelude.{◌≡◌, ◌++◌, ◌||◌, not, false, OnOk, OnErr, List, map};
 ghost use Rattle.cm_cli.specs.Machine.{state_of};
 ghost use Rattle.cm_cli.specs.Query.{query_if};
 ghost use Rattle.cm_cli.specs.Sent.{IsSent, IsFront};
@@ -69,26 +69,29 @@ fn status_of(short: Short) -> Status
 }
 
 /// Tells the report of a log in the world of these processes, and behind an accepted log the answer to what is asked.
+/// `more` says that the world declares more of a process than its pid and its user ids.
 pub(crate) fn tell_log<K: Sink>(
     alloc: Global,
     processes: &mut Processes,
+    more: bool,
     log: &[u8],
     query: Option<Query<'_>>,
     out: &mut K,
 ) -> Status
-    requires { StateFollows (state_of processes.old) }
-    ensures { Tells (log_report (query_if query.entry) processes.old log.now) result (K.written out.old) (K.written out.new) (K.faults out.old) (K.faults out.new) }
+    requires { more ≡ false → StateFollows (state_of processes.old) }
+    ensures { Tells (log_report (query_if query.entry) more processes.old log.now) result (K.written out.old) (K.written out.new) (K.faults out.old) (K.faults out.new) }
 {
     let mut text = Vec::new(alloc);
     match send_start(processes, &mut text, out) {
         Ok(()) => {}
         Err(why) => return stopped(why),
     }
-    let replayed = match replay_lines(processes, log, &mut text, out) {
-        Ok(status) => status,
+    let replayed = match replay_lines(alloc, processes, log, &mut text, out) {
+        Ok(replayed) => replayed,
         Err(why) => return stopped(why),
     };
-    let status = match put_answer(alloc, processes, query, replayed, &mut text) {
+    let more = has_more(more, replayed.setresuids);
+    let status = match put_answer(alloc, processes, query, replayed.status, more, &mut text) {
         Ok(status) => status,
         Err(NoMemory) => return Status::NoMemory,
     };
@@ -96,6 +99,14 @@ pub(crate) fn tell_log<K: Sink>(
         Ok(()) => status,
         Err(why) => stopped(why),
     }
+}
+
+// There is more behind the log than the weak audit knows: the world declares more, or an event is another call than
+// setresuid.
+fn has_more(more: bool, setresuids: bool) -> bool
+    ensures { result ≡ (more || not setresuids) }
+{
+    more || !setresuids
 }
 
 // The credential lines at the start.

@@ -5,4 +5,12 @@ use Rattle.model_cred.specs.Call as model
 
 -- the call of the definitions
 abbrev pub call_of : Call → model.Call
+call_of (code.SetUid id) = model.SetUid id
+call_of (code.SetReUid r e) = model.SetReUid r e
 call_of (code.SetResUid r e s) = model.SetResUid r e s
+call_of (code.SetFsUid id) = model.SetFsUid id
+call_of (code.SetGid id) = model.SetGid id
+call_of (code.SetReGid r e) = model.SetReGid r e
+call_of (code.SetResGid r e s) = model.SetResGid r e s
+call_of (code.SetFsGid id) = model.SetFsGid id
+call_of (code.SetGroups ids) = model.SetGroups ids

@@ -1,5 +1,6 @@
 -- How the code's types show themselves as those of the definitions.
 pub mod Call
+pub mod Places
 pub use Rattle.model_cred.specs.IdMap
 pub use Rattle.model_cred.specs.Credential
 pub use Rattle.model_cred.specs.Space

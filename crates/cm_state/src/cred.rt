@@ -1,6 +1,7 @@
 // The credentials of a process (credentials(7), capabilities(7)).
 use crate::Groups;
-use cm_base::{CapWord, Kgid, Kuid, SecBits};
+use cm_base::{CapWord, Kgid, Kuid, NoMemory, SecBits};
+use std::alloc::Global;
 use std::marker::Model;
 
 /// The credentials of a process: real, effective, saved and fs ids of user and group, the supplementary groups, the
@@ -47,4 +48,34 @@ impl Model for Cred {
     } };
 
     ghost invariant = { λ c. (is_within c.eff c.prm ≡ true) × (is_within c.amb c.prm ≡ true) × (is_within c.amb c.inh ≡ true) };
+}
+
+impl Cred {
+    ghost use Rattle.std.specs.Prelude.{◌≡◌};
+    ghost use Rattle.cm_base.specs.Outcome.{OrNoMemory};
+
+    /// The same credentials. Its only error is want of memory.
+    pub fn copy(&self, alloc: Global) -> Result<Cred, NoMemory>
+        ensures { OrNoMemory result (λ c. c ≡ self.now) }
+    {
+        let groups = self.groups.copy(alloc)?;
+        Ok(Cred {
+            ruid: self.ruid,
+            euid: self.euid,
+            suid: self.suid,
+            fsuid: self.fsuid,
+            rgid: self.rgid,
+            egid: self.egid,
+            sgid: self.sgid,
+            fsgid: self.fsgid,
+            groups,
+            inh: self.inh,
+            prm: self.prm,
+            eff: self.eff,
+            bnd: self.bnd,
+            amb: self.amb,
+            sec: self.sec,
+            nnp: self.nnp,
+        })
+    }
 }

@@ -1,5 +1,9 @@
 // The supplementary groups of a process (credentials(7)): ascending, each once.
-use cm_base::Kgid;
+ghost use Rattle.std.specs.Prelude.{◌≡◌, [], All, IfOk};
+ghost use Rattle.cm_base.specs.Outcome.{OrNoMemory};
+ghost use Rattle.model_cred.specs.Credential.{AscendFrom, IsId, id_set};
+
+use cm_base::{Kgid, NoMemory};
 use std::alloc::Global;
 use std::marker::Model;
 
@@ -20,9 +24,26 @@ impl Model for Groups {
     ghost invariant = { λ g. ∥ AscendFrom 0 g.items.items ∥₁ };
 }
 
-impl Groups {
-    ghost use Rattle.std.specs.Prelude.{◌≡◌, []};
+// Each of the list is an id. It does nothing but ask each for its number, whose range a proof knows from there.
+fn see_ids(list: &[Kgid])
+    ensures { All IsId list.now }
+{
+    for id in list {
+        id.number();
+    }
+}
 
+// Sorts the ids and drops the repeats: what is left is their set.
+fn sort_once(ids: &mut Vec<Kgid>)
+    ensures set { ids.new.items ≡ id_set ids.old.items }
+    ensures ascends { ∥ AscendFrom 0 ids.new.items ∥₁ }
+{
+    see_ids(ids);
+    ids.sort_unstable();
+    ids.dedup();
+}
+
+impl Groups {
     /// No group.
     pub fn empty(alloc: Global) -> Groups
         ensures { result ≡ [] }
@@ -30,6 +51,24 @@ impl Groups {
         Groups {
             items: Vec::new(alloc),
         }
+    }
+
+    /// The set of just the ids of the list, in whatever order they stand there and however often. Its only error is
+    /// want of memory.
+    pub fn make(alloc: Global, list: &[Kgid]) -> Result<Groups, NoMemory>
+        ensures { IfOk result (λ g. g ≡ id_set list.now) }
+    {
+        let mut items = Vec::from_slice(alloc, list)?;
+        sort_once(&mut items);
+        Ok(Groups { items })
+    }
+
+    /// The same groups. Its only error is want of memory.
+    pub fn copy(&self, alloc: Global) -> Result<Groups, NoMemory>
+        ensures { OrNoMemory result (λ g. g ≡ self.now) }
+    {
+        let list = Vec::from_slice(alloc, self.items.as_slice())?;
+        Ok(Groups { items: list })
     }
 
     /// The ids, ascending.

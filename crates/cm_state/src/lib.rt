@@ -1,14 +1,37 @@
-//! What the machine keeps and what a log tells, as types: credentials, calls and events.
+//! What the machine keeps and what a log tells, as types. The machine keeps a `State`: its processes (`Procs`, each a
+//! `Proc` with its `Cred` and `Groups`) and its user namespaces (`Spaces`, each a `Space`). A log tells `Event`s, each a
+//! `Call` with what it was given (`Ids`, `Extents`) and its `Res`.
 //! Contracts see each as the record of the definitions in model_cred.
 #![tactic(auto)]
 
 mod call;
 mod cred;
 mod event;
+mod extents;
 mod groups;
+mod ids;
+mod proc;
+mod procs;
+mod space;
+mod spaces;
+mod state;
 
 pub use call::Call;
 pub use cm_base::Res;
 pub use cred::Cred;
 pub use event::Event;
+pub use extents::Extents;
 pub use groups::Groups;
+pub use ids::Ids;
+pub use proc::Proc;
+pub use procs::Procs;
+pub use space::Space;
+pub use spaces::Spaces;
+pub use state::State;
+
+#[cfg(test)]
+mod space_tests;
+#[cfg(test)]
+mod state_tests;
+#[cfg(test)]
+mod tests;

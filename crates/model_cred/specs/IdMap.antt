@@ -1,5 +1,5 @@
 -- Id maps of user namespaces (user_namespaces(7), "User and group ID mappings: uid_map and gid_map").
-use Rattle.std.specs.Prelude.{ℕ, ◌+◌, ◌-◌, ◌≤◌, ◌==◌, ◌&&◌, Bool, true, false, nat_le, nat_lt, List, [], ◌∷◌, Option, Some, None, if◌then◌else◌, All}
+use Rattle.std.specs.Prelude.{◌≡◌, ℕ, ◌+◌, ◌-◌, ◌<◌, ◌≤◌, ◌==◌, ◌&&◌, Bool, true, false, nat_le, nat_lt, List, [], ◌∷◌, Option, Some, None, if◌then◌else◌, All, Any}
 
 -- One line of a map: the ids from inside on, length many, stand for those from outside on.
 pub record Extent : Type 0 where
@@ -43,3 +43,13 @@ initial_map = record { inside = 0; outside = 0; length = 4294967295 } ∷ []
 abbrev pub is_the : Option ℕ → ℕ → Bool
 is_the None n = false
 is_the (Some m) n = n == m
+
+-- The line holds the inside id, and the outside id lies as far behind its outside as the inside id behind its inside.
+pub record TakesTo (inside outside : ℕ) (e : Extent) : Type 0 where
+  pub from_first : e.inside ≤ inside
+  pub before_end : inside < e.inside + e.length
+  pub to : outside ≡ e.outside + (inside - e.inside)
+
+-- The map takes the inside id to the outside id: some line of it does.
+abbrev pub Maps : List Extent → ℕ → ℕ → Type 0
+Maps map inside outside = Any (TakesTo inside outside) map

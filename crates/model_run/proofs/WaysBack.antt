@@ -6,7 +6,7 @@ use Rattle.cm_base.specs.declared.errno.Errno.{Errno}
 use Rattle.cm_base.specs.declared.errno.Errno.TheVariants.{EPERM}
 use Rattle.cm_base.specs.declared.res.Res.{Res}
 use Rattle.cm_base.specs.declared.res.Res.TheVariants.{Done}
-use Rattle.model_cred.specs.Call.{SetResUid, Event}
+use Rattle.model_cred.specs.Call.{Call, SetResUid, Event}
 use Rattle.model_cred.specs.Credential.{Credential, FourIds, is_one_of_three}
 use Rattle.model_cred.specs.IdMap.{Extent, initial_map}
 use Rattle.model_cred.specs.Process.{Process, State, process_at, put_process}
@@ -21,7 +21,7 @@ use Rattle.model_run.specs.Outside.{comes_from_outside}
 use Rattle.model_run.specs.Ruling.{ruling, own}
 use Rattle.model_run.specs.Same.{same_res}
 use Rattle.model_run.specs.Step.{Goes, PidInUse, Wrong, Step, Run, outcome_for, told_call, told_rules, told_child, is_living_child, with_cred}
-use Rattle.model_run.specs.WayBack.{SetsFollowIds, has_root, alone, IsSetResUid, AreSetResUids, BringsBack, CanComeBack, becomes, way_back}
+use Rattle.model_run.specs.WayBack.{SetsFollowIds, has_root, alone, IsSetResUid, AreSetResUids, BringsBack, CanComeBack, becomes, way_back, is_setresuid, are_setresuids}
 pub use Rattle.model_run.specs.WayBack.{AllFollow, StateFollows}
 
 -- ---- the fixups, by what was and what is root
@@ -505,3 +505,19 @@ is_by w pid forebear c k follow id false false false a b d = never_back w pid fo
 -- back; else such a list.
 pub way_back_is : (w : World) (pid : ℕ) (forebear : Option ℕ) (c : Credential) (k : ℕ) → SetsFollowIds c → k < 4294967295 → IsWayBack w pid forebear c k (way_back c pid k)
 way_back_is w pid forebear c k follow id = is_by w pid forebear c k follow id _ _ _ refl refl refl
+
+-- ---- the test of events
+is_call : (call : Call) → is_setresuid call ≡ true → IsSetResUid call
+is_call (SetResUid r e v) is = (r, e, v, refl)
+is_call _ is = absurd (cc)
+
+-- events that pass the test are calls of setresuid
+pub all_setresuid : (es : List Event) → are_setresuids es ≡ true → AllSetResUid es
+all_setresuid [] is = tt
+all_setresuid (e ∷ es) is =
+    let both : (is_setresuid e.call ≡ true) × (are_setresuids es ≡ true) = both_true (is_setresuid e.call) (are_setresuids es) is in
+    (is_call e.call both.0, all_setresuid es both.1)
+
+-- so a run of such events keeps the sets following the user ids
+pub setresuids_follow : (w : World) (es : List Event) (s s' : State) → are_setresuids es ≡ true → StateFollows s → Run w s es s' → StateFollows s'
+setresuids_follow w es s s' is all run = run_follows w es s s' (all_setresuid es is) all run

@@ -1,5 +1,6 @@
 -- Whether one process alone can come back to a user id by setresuid(2), and by which calls.
 use Rattle.std.specs.Prelude.{◌≡◌, ℕ, ◌==◌, ◌||◌, ◌&&◌, Bool, true, false, List, [], ◌∷◌, Option, Some, None, if◌then◌else◌}
+use Rattle.std.specs.List.{list_all}
 use Rattle.cm_base.specs.CapSet.{none, holds}
 use Rattle.cm_base.specs.declared.res.Res.TheVariants.{Done}
 use Rattle.model_cred.specs.Call.{Call, SetResUid, Event}
@@ -44,6 +45,15 @@ alone pid forebear c = record {
 -- the call is setresuid
 abbrev pub IsSetResUid : Call → Type 0
 IsSetResUid call = (r e v : ℕ) × (call ≡ SetResUid r e v)
+
+-- the call is setresuid
+abbrev pub is_setresuid : Call → Bool
+is_setresuid (SetResUid r e v) = true
+is_setresuid _ = false
+
+-- each event is a call of setresuid, by whichever process
+abbrev pub are_setresuids : List Event → Bool
+are_setresuids es = list_all (λ e. is_setresuid e.call) es
 
 -- each event is a call of setresuid by the process
 abbrev pub AreSetResUids : ℕ → List Event → Type 0

@@ -1,5 +1,5 @@
 -- What accepted and impossible say: a run of the events, and the last credential lines of the state that it reaches.
-use Rattle.std.proofs.Common.{◌≡◌, ℕ, ◌+◌, ◌==◌, inl, inr, Bool, true, false, cond, length, List, [], ◌∷◌, ◌++◌, map, Option, None, Some, refl, sym, ◌∙◌, ap, subst, append_assoc}
+use Rattle.std.proofs.Common.{◌≡◌, ℕ, ◌+◌, ◌==◌, ◌||◌, ◌&&◌, not, inl, inr, Bool, true, false, cond, length, List, [], ◌∷◌, ◌++◌, map, Option, None, Some, refl, sym, ◌∙◌, ap, subst, append_assoc}
 use Rattle.std.specs.Prelude.{codes}
 use Rattle.std.specs.Option.{option_or}
 use Rattle.cm_base.specs.declared.status.Status.{Status}
@@ -9,18 +9,19 @@ use Rattle.model_cred.specs.Process.{Process, State}
 use Rattle.model_cred.specs.Right.{Right, Cap, Uid, Gid}
 use Rattle.model_cred.specs.World.{World}
 use Rattle.model_run.specs.Step.{outcome}
-use Rattle.model_run.specs.WayBack.{BringsBack, way_back}
+use Rattle.model_run.specs.WayBack.{are_setresuids, BringsBack, way_back}
 use Rattle.model_text.proofs.Replays.{GoesOn, Passes, run_passes, last_append, shown}
 use Rattle.model_text.proofs.Starts.{start_distinct, start_shows}
 use Rattle.model_text.proofs.Statuses.{has_its_cause, of_begins, of_asked, no_step, over_all}
-use Rattle.model_text.proofs.Verdicts.{accepted_follows, no_shows}
+use Rattle.model_text.proofs.Verdicts.{log_verdict, no_shows}
 use Rattle.model_text.specs.Causes.{Begins, Reaches, Cause, IsAccepted, IsImpossible, Behind, IsYes, IsNo}
 use Rattle.model_text.specs.Command.{command_of, query_of}
 use Rattle.model_text.specs.Laws.{AcceptedIsRun, ImpossibleIsNoStep, YesIsNever, NoIsWay, ShowsWay, Shows, last_credentials}
 use Rattle.model_text.specs.Line.{Line, events_of}
 use Rattle.model_text.specs.Print.{event_text}
 use Rattle.model_text.specs.Query.{Query, asked_process, right_token}
-use Rattle.model_text.specs.Report.{Report, ReportLine, Plain, report, replayed, by_line, start_lines, at_line, not_built, answered, go_on, verdict, asked_verdict, right_verdict, way_verdict, way_lines, state_after}
+use Rattle.model_text.specs.Report.{Report, ReportLine, Plain, report, replayed, by_line, start_lines, at_line, not_built, answered, go_on, verdict_behind, asked_verdict, right_verdict, way_verdict, way_lines, state_after}
+use Rattle.model_text.specs.WorldText.{text_says_more}
 
 -- an answer has no credential lines
 way_silent : (pid : ℕ) (way : List Event) (last : ReportLine) → last_credentials pid (last ∷ []) ≡ None → last_credentials pid (map (λ e. Plain (event_text e)) way ++ last ∷ []) ≡ None
@@ -31,19 +32,24 @@ way_verdict_silent : (pid n : ℕ) (way : Option (List Event)) → last_credenti
 way_verdict_silent pid n None = refl
 way_verdict_silent pid n (Some way) = way_silent pid way (Plain (at_line (codes "holder ") n)) refl
 
-right_silent : (pid : ℕ) (s : State) (p : Process) (right : Right) → last_credentials pid (right_verdict s p right).lines ≡ None
-right_silent pid s p (Gid k) = refl
-right_silent pid s p (Cap cap n) = refl
-right_silent pid s p (Uid k) =
-    elim (length s.processes == 1) as (λ (b : Bool). last_credentials pid (cond b (way_verdict p.pid (way_back p.cred p.pid k)) not_built).lines ≡ None) [
+right_silent : (pid : ℕ) (more : Bool) (s : State) (p : Process) (right : Right) → last_credentials pid (right_verdict more s p right).lines ≡ None
+right_silent pid more s p (Gid k) = refl
+right_silent pid more s p (Cap cap n) = refl
+right_silent pid more s p (Uid k) =
+    elim (not more && length s.processes == 1) as (λ (b : Bool). last_credentials pid (cond b (way_verdict p.pid (way_back p.cred p.pid k)) not_built).lines ≡ None) [
       | true ↦ way_verdict_silent pid p.pid (way_back p.cred p.pid k)
       | false ↦ refl
     ]
 
-asked_silent : (pid : ℕ) (s : State) (p : Option Process) (right : Option Right) → last_credentials pid (asked_verdict s p right).lines ≡ None
-asked_silent pid s None right = refl
-asked_silent pid s (Some p) None = refl
-asked_silent pid s (Some p) (Some right) = right_silent pid s p right
+asked_silent : (pid : ℕ) (more : Bool) (s : State) (p : Option Process) (right : Option Right) → last_credentials pid (asked_verdict more s p right).lines ≡ None
+asked_silent pid more s None right = refl
+asked_silent pid more s (Some p) None = refl
+asked_silent pid more s (Some p) (Some right) = right_silent pid more s p right
+
+verdict_silent : (pid : ℕ) (more : Bool) (w : World) (es : List Event) (q : Query) → last_credentials pid (verdict_behind more w es q).lines ≡ None
+verdict_silent pid more w es q =
+    let s : State = state_after w w.start es in
+    asked_silent pid (more || not (are_setresuids es)) s (asked_process s q.pid) (right_token q.right)
 
 -- so the lines of a replay show the same with it and without it
 go_on_shows : (pid : ℕ) (st : Status) (replay next : Report) → last_credentials pid next.lines ≡ None → last_credentials pid (go_on st replay next).lines ≡ last_credentials pid replay.lines
@@ -51,18 +57,19 @@ go_on_shows pid status.Accepted replay next silent =
     last_append pid replay.lines next.lines ∙ ap (λ (o : Option Process). option_or o (last_credentials pid replay.lines)) silent
 go_on_shows pid _ replay next silent = refl
 
-answered_shows : (pid : ℕ) (query : Option Query) (w : World) (lines : List (List ℕ)) → last_credentials pid (answered query w lines).lines ≡ last_credentials pid (replayed w lines w.start 1 0).lines
-answered_shows pid None w lines = refl
-answered_shows pid (Some q) w lines =
-    let s : State = state_after w w.start (events_of lines) in
-    go_on_shows pid (replayed w lines w.start 1 0).status (replayed w lines w.start 1 0) (verdict s q) (asked_silent pid s (asked_process s q.pid) (right_token q.right))
+answered_shows : (pid : ℕ) (query : Option Query) (more : Bool) (w : World) (lines : List (List ℕ)) → last_credentials pid (answered query more w lines).lines ≡ last_credentials pid (replayed w lines w.start 1 0).lines
+answered_shows pid None more w lines = refl
+answered_shows pid (Some q) more w lines =
+    go_on_shows pid (replayed w lines w.start 1 0).status (replayed w lines w.start 1 0) (verdict_behind more w (events_of lines) q) (verdict_silent pid more w (events_of lines) q)
 
 -- the last credential line of a process in the report is what its lines show from the world's state on
 report_shows : (words : List (List ℕ)) (bytes : List ℕ → List ℕ) (w : World) (lines : List (List ℕ)) → Begins words bytes w lines → (pid : ℕ)
     → last_credentials pid (report words bytes).lines ≡ shown pid w.start (replayed w lines w.start 1 0).lines
 report_shows words bytes w lines begins pid =
-    ap (λ (r : Report). last_credentials pid r.lines) (of_begins words bytes w lines begins) ∙ last_append pid (start_lines w) (answered (query_of (command_of words)) w lines).lines
-    ∙ ap (λ (o : Option Process). option_or o (last_credentials pid (start_lines w))) (answered_shows pid (query_of (command_of words)) w lines)
+    let query : Option Query = query_of (command_of words) in
+    let more : Bool = text_says_more (bytes begins.names.world) in
+    ap (λ (r : Report). last_credentials pid r.lines) (of_begins words bytes w lines begins) ∙ last_append pid (start_lines w) (answered query more w lines).lines
+    ∙ ap (λ (o : Option Process). option_or o (last_credentials pid (start_lines w))) (answered_shows pid query more w lines)
     ∙ ap (λ (o : Option Process). option_or (last_credentials pid (replayed w lines w.start 1 0).lines) o)
     (start_shows w.start.processes (start_distinct (bytes begins.names.world) w begins.names.reads) pid)
 
@@ -95,12 +102,12 @@ impossible_is_no_step words bytes said =
     (is, impossible_shows words bytes is)
 
 -- ---- what an audit says
-yes_by : (words : List (List ℕ)) (bytes : List ℕ → List ℕ) (q : Query) → query_of (command_of words) ≡ Some q → Cause words bytes status.Accepted → (is : IsAccepted words bytes) × IsYes q is.world is.state
+yes_by : (words : List (List ℕ)) (bytes : List ℕ → List ℕ) (q : Query) → query_of (command_of words) ≡ Some q → Cause words bytes status.Accepted → (is : IsAccepted words bytes) × IsYes words bytes is q
 yes_by words bytes q asked (inl (none, is)) = absurd (let never : None ≡ Some q = sym none ∙ asked in cc)
 yes_by words bytes q asked (inr (is, q', asked', h)) =
     let both : Some q' ≡ Some q = sym asked' ∙ asked in
     let same : q' ≡ q = cc in
-    (is, subst (λ (x : Query). IsYes x is.world is.state) same h)
+    (is, subst (λ (x : Query). IsYes words bytes is x) same h)
 
 pub yes_is_never : YesIsNever
 unfolding YesIsNever
@@ -108,7 +115,7 @@ yes_is_never words bytes q asked said = yes_by words bytes q asked (subst (λ (s
 
 no_by : (words : List (List ℕ)) (bytes : List ℕ → List ℕ) → Behind words bytes IsNo → ShowsWay words bytes (report words bytes).lines
 no_by words bytes (is, q, asked, (p, k, asks, back)) =
-    let shown : (way : List Event) × BringsBack is.world is.state p.pid k way × (verdict is.state q ≡ way_verdict p.pid (Some way)) = no_shows is.world is.state q p k (accepted_follows words bytes is) asks back in
+    let shown : (way : List Event) × BringsBack is.world is.state p.pid k way × (log_verdict words bytes is q ≡ way_verdict p.pid (Some way)) = no_shows words bytes is q p k asks back in
     let replay : List ReportLine = (replayed is.world is.lines is.world.start 1 0).lines in
     record {
       accepted = is;

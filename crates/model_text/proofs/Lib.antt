@@ -1,6 +1,8 @@
 pub mod StepFacts
 pub mod Tellings
 pub mod Starts
+pub mod Declared
+pub mod Places
 pub mod Replays
 pub mod Verdicts
 pub mod Statuses
@@ -10,3 +12,7 @@ pub mod Cases
 pub mod ReportCases
 pub mod WorldCases
 pub mod WholeCases
+pub mod LineCases
+pub mod CapCases
+pub mod ProcessCases
+pub mod SetIdCases

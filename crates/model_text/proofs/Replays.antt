@@ -8,11 +8,11 @@ use Rattle.model_cred.specs.Call.{Event}
 use Rattle.model_cred.specs.Process.{Process, State, process_at}
 use Rattle.model_cred.specs.World.{World}
 use Rattle.model_run.specs.Step.{Outcome, Step, Run, outcome}
-use Rattle.model_text.proofs.StepFacts.{IsSetResUid, pid_of_found, caller_after, others_stay}
-use Rattle.model_text.proofs.Tellings.{tells_setresuid}
+use Rattle.model_text.proofs.StepFacts.{pid_of_found, caller_after, others_stay}
+use Rattle.model_text.proofs.Tellings.{tells_built}
 use Rattle.model_text.specs.Causes.{told_event, events_of, AreWhole}
 use Rattle.model_text.specs.Laws.{last_credentials}
-use Rattle.model_text.specs.Line.{Line, NoEvent, Tells, script_line}
+use Rattle.model_text.specs.Line.{Line, NoEvent, Tells, script_line, IsBuilt}
 use Rattle.model_text.specs.Report.{Report, ReportLine, Credentials, Told, Plain, replayed, by_line, by_outcome, credentials_if}
 
 -- ---- the events of one line more
@@ -47,7 +47,7 @@ other_shown : (pid : ℕ) (p : Process) (before : Option Process) → p.pid ≢ 
 other_shown pid p before isnt = grind (arith, isnt)
 
 -- the credential line of a step shows the state that the step leads to
-step_shows : (w : World) (s : State) (e : Event) (s' : State) → IsSetResUid e.call → Step w s e s' → (pid : ℕ) → shown pid s (credentials_if (process_at s'.processes e.pid)) ≡ process_at s'.processes pid
+step_shows : (w : World) (s : State) (e : Event) (s' : State) → IsBuilt e.call → Step w s e s' → (pid : ℕ) → shown pid s (credentials_if (process_at s'.processes e.pid)) ≡ process_at s'.processes pid
 step_shows w s e s' call goes pid =
     let after : (p : Process) × (process_at s'.processes e.pid ≡ Some p) = caller_after w s e s' call goes in
     let own : after.0.pid ≡ e.pid = pid_of_found s'.processes e.pid after.0 after.1 in
@@ -58,7 +58,7 @@ step_shows w s e s' call goes pid =
     ]
 
 -- and so do the lines of the event before the rest of a report
-lines_show : (w : World) (s : State) (e : Event) (s' : State) → IsSetResUid e.call → Step w s e s' → (pid number : ℕ) (rest : List ReportLine)
+lines_show : (w : World) (s : State) (e : Event) (s' : State) → IsBuilt e.call → Step w s e s' → (pid number : ℕ) (rest : List ReportLine)
     → shown pid s ((Told number e ∷ credentials_if (process_at s'.processes e.pid)) ++ rest) ≡ shown pid s' rest
 lines_show w s e s' call goes pid number rest =
     ap (λ (o : Option Process). option_or o (process_at s.processes pid)) (last_append pid (credentials_if (process_at s'.processes e.pid)) rest)
@@ -91,7 +91,7 @@ past_told w line e before rest from mid to n c is goes later =
       later.1,
       record {
         status = ap (λ (r : Report). r.status) (same ∙ same') ∙ later.2.status;
-        shown = λ pid. ap (λ (r : Report). shown pid from r.lines) (same ∙ same') ∙ lines_show w from e mid (tells_setresuid line e is) goes pid n (next mid (c + 1)).lines ∙ later.2.shown pid;
+        shown = λ pid. ap (λ (r : Report). shown pid from r.lines) (same ∙ same') ∙ lines_show w from e mid (tells_built line e is) goes pid n (next mid (c + 1)).lines ∙ later.2.shown pid;
       },
     )
 

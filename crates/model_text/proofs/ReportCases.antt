@@ -1,5 +1,5 @@
 -- Worked cases of the report, by computation: the text of each kind of line, and whole replays.
-use Rattle.std.proofs.Common.{◌≡◌, ℕ, List, [], ◌∷◌, ◌++◌, None, refl}
+use Rattle.std.proofs.Common.{◌≡◌, ℕ, List, [], ◌∷◌, ◌++◌, None, false, refl}
 use Rattle.std.specs.Prelude.{⊤, codes, flat_map}
 use Rattle.std.specs.Fmt.{digits}
 use Rattle.cm_base.specs.declared.res.Res.TheVariants.{Done, Err}
@@ -12,7 +12,8 @@ use Rattle.model_cred.specs.Process.{Process}
 use Rattle.model_cred.specs.World.{World}
 use Rattle.model_text.specs.Print.{hex_set, hex_bits, ids_text, groups_text, space_token, place_text, all_ids_text, sets_text, bounds_text, flags_text, credential_line, id_text, event_text, event_line}
 use Rattle.model_text.specs.Report.{Report, text_of, world_report}
-use Rattle.model_text.specs.WorldText.{default_cred, world_with}
+use Rattle.model_text.proofs.Declared.{default_cred}
+use Rattle.model_text.specs.WorldText.{world_with}
 
 -- what a proof unfolds to compute a report at literals
 unfoldable pub report_on_literals : ⊤
@@ -77,51 +78,51 @@ root_line = codes "> 100 init uid=0,0,0,0 gid=0,0,0,0 groups=- inh=0000000000000
 abbrev pub user_line : List ℕ
 user_line = codes "> 100 init uid=1000,1000,1000,1000 gid=0,0,0,0 groups=- inh=0000000000000000 prm=0000000000000000 eff=0000000000000000 bnd=000001ffffffffff amb=0000000000000000 sec=00 nnp=0"
 
-pub empty_log_ends : Says (world_report None (world_of_100 0) []) status.Accepted (root_line ∷ codes "end 0" ∷ [])
+pub empty_log_ends : Says (world_report None false (world_of_100 0) []) status.Accepted (root_line ∷ codes "end 0" ∷ [])
 unfolding report_on_literals
 empty_log_ends = record { status = refl; text = refl }
 
-pub root_becomes_a_user : Says (world_report None (world_of_100 0) (codes "100 setresuid 1000 1000 1000 = 0\n")) status.Accepted
+pub root_becomes_a_user : Says (world_report None false (world_of_100 0) (codes "100 setresuid 1000 1000 1000 = 0\n")) status.Accepted
     (root_line ∷ codes "1: 100 setresuid 1000 1000 1000 = 0" ∷ user_line ∷ codes "end 1" ∷ [])
 unfolding report_on_literals
 root_becomes_a_user = record { status = refl; text = refl }
 
-pub user_stays_a_user : Says (world_report None (world_of_100 1000) (codes "100 setresuid -1 -1 -1 = 0\n100 setresuid 0 0 0 = 0\n")) status.Impossible
+pub user_stays_a_user : Says (world_report None false (world_of_100 1000) (codes "100 setresuid -1 -1 -1 = 0\n100 setresuid 0 0 0 = 0\n")) status.Impossible
     (user_line ∷ codes "1: 100 setresuid -1 -1 -1 = 0" ∷ user_line ∷ codes "impossible line 2: the rules give EPERM" ∷ [])
 unfolding report_on_literals
 user_stays_a_user = record { status = refl; text = refl }
 
-pub blank_lines_and_comments_are_no_events : Says (world_report None (world_of_100 1000) (codes "\n; nothing\n100 setresuid 1000 -1 -1 = 0")) status.Accepted
+pub blank_lines_and_comments_are_no_events : Says (world_report None false (world_of_100 1000) (codes "\n; nothing\n100 setresuid 1000 -1 -1 = 0")) status.Accepted
     (user_line ∷ codes "3: 100 setresuid 1000 -1 -1 = 0" ∷ user_line ∷ codes "end 1" ∷ [])
 unfolding report_on_literals
 blank_lines_and_comments_are_no_events = record { status = refl; text = refl }
 
-pub refusal_that_the_rules_give : Says (world_report None (world_of_100 1000) (codes "100 setresuid 0 0 0 = EPERM\n")) status.Accepted
+pub refusal_that_the_rules_give : Says (world_report None false (world_of_100 1000) (codes "100 setresuid 0 0 0 = EPERM\n")) status.Accepted
     (user_line ∷ codes "1: 100 setresuid 0 0 0 = EPERM" ∷ user_line ∷ codes "end 1" ∷ [])
 unfolding report_on_literals
 refusal_that_the_rules_give = record { status = refl; text = refl }
 
-pub error_from_outside_changes_nothing : Says (world_report None (world_of_100 1000) (codes "100 setresuid 1000 1000 1000 = EAGAIN\n")) status.Accepted
+pub error_from_outside_changes_nothing : Says (world_report None false (world_of_100 1000) (codes "100 setresuid 1000 1000 1000 = EAGAIN\n")) status.Accepted
     (user_line ∷ codes "1: 100 setresuid 1000 1000 1000 = EAGAIN" ∷ user_line ∷ codes "end 1" ∷ [])
 unfolding report_on_literals
 error_from_outside_changes_nothing = record { status = refl; text = refl }
 
-pub error_that_no_rule_gives : Says (world_report None (world_of_100 1000) (codes "100 setresuid 1000 1000 1000 = ENOSPC\n")) status.Impossible
+pub error_that_no_rule_gives : Says (world_report None false (world_of_100 1000) (codes "100 setresuid 1000 1000 1000 = ENOSPC\n")) status.Impossible
     (user_line ∷ codes "impossible line 1: the rules give 0" ∷ [])
 unfolding report_on_literals
 error_that_no_rule_gives = record { status = refl; text = refl }
 
-pub event_of_no_process : Says (world_report None (world_of_100 1000) (codes "101 setresuid 1000 1000 1000 = 0\n")) status.Impossible
+pub event_of_no_process : Says (world_report None false (world_of_100 1000) (codes "101 setresuid 1000 1000 1000 = 0\n")) status.Impossible
     (user_line ∷ codes "impossible line 1: no process" ∷ [])
 unfolding report_on_literals
 event_of_no_process = record { status = refl; text = refl }
 
-pub fault_in_the_second_line : Says (world_report None (world_of_100 1000) (codes "; a\n100 setresuid 1000 = 0\n")) status.BadLog
+pub fault_in_the_second_line : Says (world_report None false (world_of_100 1000) (codes "; a\n100 setresuid 1000 = 0\n")) status.BadLog
     (user_line ∷ codes "bad log line 2" ∷ [])
 unfolding report_on_literals
 fault_in_the_second_line = record { status = refl; text = refl }
 
-pub call_that_is_not_built : Says (world_report None (world_of_100 1000) (codes "100 fork = 101\n")) status.NotBuilt
+pub call_that_is_not_built : Says (world_report None false (world_of_100 1000) (codes "100 fork = 101\n")) status.NotBuilt
     (user_line ∷ codes "not built" ∷ [])
 unfolding report_on_literals
 call_that_is_not_built = record { status = refl; text = refl }

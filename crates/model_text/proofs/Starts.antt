@@ -1,5 +1,5 @@
 -- The processes at a world's start: no pid stands twice, so the credential lines at the start show each of them.
-use Rattle.std.proofs.Common.{◌≡◌, ℕ, ◌==◌, Bool, true, false, cond, ◌&&◌, ◌||◌, List, [], ◌∷◌, map, Option, Some, None, refl, ◌∙◌, ap, subst, arith, ◌≢◌, ◌<◌, inl, inr}
+use Rattle.std.proofs.Common.{◌≡◌, ℕ, ◌==◌, Bool, true, false, cond, ◌&&◌, ◌||◌, List, [], ◌∷◌, map, Option, Some, None, refl, sym, ◌∙◌, ap, subst, arith, ◌≢◌, ◌<◌, inl, inr}
 use Rattle.std.proofs.lemmas.Bool.{cases_lt, lt-ltb, le-ltb}
 use Rattle.std.specs.Prelude.{codes}
 use Rattle.std.specs.Str.{is_utf8}
@@ -9,7 +9,8 @@ use Rattle.model_cred.specs.World.{World}
 use Rattle.model_text.specs.Laws.{last_credentials}
 use Rattle.model_text.specs.Report.{Credentials}
 use Rattle.model_text.specs.Toml.{has_only, is_text}
-use Rattle.model_text.specs.WorldText.{WorldText, Reads, Bad, NotBuilt, world_text, document_text, table_text, built_table, distinct_world, world_with, in_order, placed, are_distinct, has_pid, asks_more, processes_of}
+use Rattle.model_text.specs.WorldText.{WorldText, Reads, Bad, NotBuilt, world_text, document_text, table_text, built_table, distinct_world, world_with, in_order, placed, are_distinct, has_pid, asks_more, processes_of, rows_have, says_more, document_says_more, text_says_more}
+use Rattle.model_text.specs.ProcessText.{further_keys}
 use Rattle.toml.specs.Data.{Data, Members, get_member}
 use Rattle.toml.specs.Parse.{parse_document}
 
@@ -84,43 +85,48 @@ where_true : (test : Bool) (t : WorldText) (w : World) → cond test t Bad ≡ R
 where_true true t w is = (refl, is)
 where_true false t w is = absurd (cc)
 
--- the world is made of processes with distinct pids, which come from a value
-unfoldable pub Made : World → Type 0
-Made w = (ps : List Process) × (are_distinct ps ≡ true) × (world_with ps ≡ w) × ((value : Option Data) × (processes_of value ≡ Some ps))
+-- The world is made of processes with distinct pids, which come from the rows of a value; whether they say more of a
+-- process than its user ids is told.
+pub record Made (w : World) (more : Bool) : Type 0 where
+  pub processes : List Process
+  pub distinct : are_distinct processes ≡ true
+  pub world : world_with processes ≡ w
+  pub value : Option Data
+  pub rows : processes_of value ≡ Some processes
+  pub says_more : rows_have further_keys value ≡ more
 
-read_processes : (value : Option Data) (read : Option (List Process)) (w : World) → processes_of value ≡ read → distinct_world read ≡ Reads w → Made w
-unfolding Made
-read_processes value None w of_value is = absurd (cc)
-read_processes value (Some ps) w of_value is =
+read_processes : (value : Option Data) (read : Option (List Process)) (w : World) → processes_of value ≡ read → distinct_world read ≡ Reads w → Made w (rows_have further_keys value)
+read_processes value None w rows is = absurd (cc)
+read_processes value (Some ps) w rows is =
     let parts : (are_distinct ps ≡ true) × (Reads (world_with ps) ≡ Reads w) = where_true (are_distinct ps) (Reads (world_with ps)) w is in
-    (ps, parts.0, let same : Reads (world_with ps) ≡ Reads w = parts.1 in cc, (value, of_value))
+    record { processes = ps; distinct = parts.0; world = let same : Reads (world_with ps) ≡ Reads w = parts.1 in cc; value = value; rows = rows; says_more = refl }
 
-read_table : (top : Members) (w : World) → table_text top ≡ Reads w → Made w
+read_table : (top : Members) (w : World) → table_text top ≡ Reads w → Made w (says_more top)
 read_table top w is =
-    let processes : Option (List Process) = processes_of (get_member (codes "process") top) in
+    let value : Option Data = get_member (codes "process") top in
     let test : Bool = has_only (codes "log" ∷ codes "process" ∷ []) top && is_text (codes "script") (get_member (codes "log") top) in
-    read_processes (get_member (codes "process") top) processes w refl (where_true test (distinct_world processes) w (unless (asks_more top) (built_table top) w is)).1
+    read_processes value (processes_of value) w refl (where_true test (distinct_world (processes_of value)) w (unless (asks_more top) (built_table top) w is)).1
 
-read_document : (document : Option Members) (w : World) → document_text document ≡ Reads w → Made w
+read_document : (document : Option Members) (w : World) → document_text document ≡ Reads w → Made w (document_says_more document)
 read_document None w is = absurd (cc)
 read_document (Some top) w is = read_table top w is
 
-pub start_made : (bytes : List ℕ) (w : World) → world_text bytes ≡ Reads w → Made w
-start_made bytes w is = read_document (parse_document bytes) w (where_true (is_utf8 bytes) (document_text (parse_document bytes)) w is).1
+pub start_made : (bytes : List ℕ) (w : World) → world_text bytes ≡ Reads w → Made w (text_says_more bytes)
+start_made bytes w is =
+    let parts : (is_utf8 bytes ≡ true) × (document_text (parse_document bytes) ≡ Reads w) = where_true (is_utf8 bytes) (document_text (parse_document bytes)) w is in
+    subst (λ (utf8 : Bool). Made w (utf8 && document_says_more (parse_document bytes))) (sym parts.0) (read_document (parse_document bytes) w parts.1)
 
 -- no pid stands twice in the world of a text
 pub start_distinct : (bytes : List ℕ) (w : World) → world_text bytes ≡ Reads w → are_distinct w.start.processes ≡ true
-unfolding Made
 start_distinct bytes w is =
-    let made : Made w = start_made bytes w is in
-    subst (λ (x : World). are_distinct x.start.processes ≡ true) made.2 (distinct_in_order made.0 made.1)
+    let made : Made w (text_says_more bytes) = start_made bytes w is in
+    subst (λ (x : World). are_distinct x.start.processes ≡ true) made.world (distinct_in_order made.processes made.distinct)
 
 -- and the pids ascend
 pub start_ascends : (bytes : List ℕ) (w : World) → world_text bytes ≡ Reads w → Ascends w.start.processes
-unfolding Made
 start_ascends bytes w is =
-    let made : Made w = start_made bytes w is in
-    subst (λ (x : World). Ascends x.start.processes) made.2 (in_order_ascends made.0 made.1)
+    let made : Made w (text_says_more bytes) = start_made bytes w is in
+    subst (λ (x : World). Ascends x.start.processes) made.world (in_order_ascends made.processes made.distinct)
 
 -- ---- the credential lines at the start
 not_found : (pid : ℕ) (ps : List Process) → has_pid pid ps ≡ false → process_at ps pid ≡ None

@@ -1,5 +1,5 @@
 -- Each status comes exactly by its cause.
-use Rattle.std.proofs.Common.{◌≡◌, ◌≢◌, Option, None, Some, ℕ, ◌+◌, ◌<◌, ◌≤◌, inl, inr, Bool, true, false, cond, nat_lt, length, List, [], ◌∷◌, ◌++◌, refl, sym, ◌∙◌, ap, subst, arith, append-nil}
+use Rattle.std.proofs.Common.{◌≡◌, ◌≢◌, Option, None, Some, ℕ, ◌+◌, ◌<◌, ◌≤◌, ◌||◌, not, inl, inr, Bool, true, false, cond, nat_lt, length, List, [], ◌∷◌, ◌++◌, refl, sym, ◌∙◌, ap, subst, arith, append-nil}
 use Rattle.std.specs.Prelude.{codes}
 use Rattle.cm_base.specs.declared.status.Status.{Status}
 use Rattle.cm_base.specs.declared.status.Status.TheVariants as status
@@ -7,17 +7,18 @@ use Rattle.model_cred.specs.Call.{Event}
 use Rattle.model_cred.specs.Process.{State}
 use Rattle.model_cred.specs.World.{World}
 use Rattle.model_run.specs.Step.{Outcome, Goes, Step, Run, outcome}
+use Rattle.model_run.specs.WayBack.{are_setresuids}
 use Rattle.model_text.proofs.Replays.{GoesOn, Passes, run_passes, events_past_none, events_past_told}
 use Rattle.model_text.proofs.StepFacts.{goes_or_not}
-use Rattle.model_text.proofs.Verdicts.{run_after, accepted_follows, VerdictCause, verdict_cause, verdict_by}
+use Rattle.model_text.proofs.Verdicts.{run_after, log_verdict, VerdictCause, verdict_cause, verdict_by}
 use Rattle.model_text.specs.Causes.{events_of, AreWhole, Names, Begins, Reaches, IsImpossible, StopsAt, IsLongWorld, IsLongLog, IsAccepted, Cause}
 use Rattle.model_text.specs.Command.{Command, Replay, Audit, Later, NoForm, command_of, files_of, query_of}
 use Rattle.model_text.specs.Cut.{lines_of}
 use Rattle.model_text.specs.Laws.{EachByItsCause}
 use Rattle.model_text.specs.Line.{Line, NoEvent, Tells, Faulty, Unbuilt, script_line}
-use Rattle.model_text.specs.Report.{Report, report, command_report, files_report, by_world, world_report, answered, go_on, verdict, state_after, replayed, by_line, by_outcome, impossible, limit_hit, after, start_lines, world_limit, log_limit}
+use Rattle.model_text.specs.Report.{Report, report, command_report, files_report, by_world, world_report, answered, go_on, verdict, verdict_behind, state_after, replayed, by_line, by_outcome, impossible, limit_hit, after, start_lines, world_limit, log_limit}
 use Rattle.model_text.specs.Query.{Query}
-use Rattle.model_text.specs.WorldText.{WorldText, Reads, Bad, world_text}
+use Rattle.model_text.specs.WorldText.{WorldText, Reads, Bad, world_text, text_says_more}
 use Rattle.model_text.specs.WorldText as texts
 
 -- ---- how the replay of lines ends
@@ -130,7 +131,7 @@ accepted_of_end : (words : List (List ℕ)) (bytes : List ℕ → List ℕ) (w :
 accepted_of_end words bytes w lines begins h = record { world = w; lines = lines; state = h.0; begins = begins; whole = h.1; run = h.2 }
 
 -- the cause of an answer behind an accepted log is that of the status
-cause_of_verdict : (words : List (List ℕ)) (bytes : List ℕ → List ℕ) (is : IsAccepted words bytes) (q : Query) (st : Status) → query_of (command_of words) ≡ Some q → VerdictCause q is.world is.state st → Cause words bytes st
+cause_of_verdict : (words : List (List ℕ)) (bytes : List ℕ → List ℕ) (is : IsAccepted words bytes) (q : Query) (st : Status) → query_of (command_of words) ≡ Some q → VerdictCause words bytes is q st → Cause words bytes st
 cause_of_verdict words bytes is q status.Accepted asked h = inr (is, q, asked, h)
 cause_of_verdict words bytes is q status.No asked h = (is, q, asked, h)
 cause_of_verdict words bytes is q status.BadQuery asked h = (is, q, asked, h)
@@ -153,26 +154,29 @@ cause_of_replay words bytes w lines status.BadLog asked begins h = cause_of_end 
 cause_of_replay words bytes w lines status.NotBuilt asked begins h = cause_of_end words bytes w lines status.NotBuilt begins h (λ e. cc)
 cause_of_replay words bytes w lines _ asked begins h = absurd h
 
-caused_by_answer : (words : List (List ℕ)) (bytes : List ℕ → List ℕ) (w : World) (lines : List (List ℕ)) (query : Option Query) → query_of (command_of words) ≡ query → Begins words bytes w lines → Cause words bytes (answered query w lines).status
+caused_by_answer : (words : List (List ℕ)) (bytes : List ℕ → List ℕ) (w : World) (lines : List (List ℕ)) (query : Option Query) → query_of (command_of words) ≡ query → (begins : Begins words bytes w lines)
+    → Cause words bytes (answered query (text_says_more (bytes begins.names.world)) w lines).status
 unfolding accepted_of_end
 caused_by_answer words bytes w lines None asked begins = cause_of_replay words bytes w lines (replayed w lines w.start 1 0).status asked begins (replay_ends w lines w.start 1 0)
 caused_by_answer words bytes w lines (Some q) asked begins =
     let replay : Report = replayed w lines w.start 1 0 in
-    cause_behind words bytes w lines replay (verdict (state_after w w.start (events_of lines)) q) replay.status begins refl (replay_ends w lines w.start 1 0)
+    let more : Bool = text_says_more (bytes begins.names.world) in
+    cause_behind words bytes w lines replay (verdict_behind more w (events_of lines) q) replay.status begins refl (replay_ends w lines w.start 1 0)
     (λ h.
     let is : IsAccepted words bytes = accepted_of_end words bytes w lines begins h in
     let there : state_after w w.start (events_of lines) ≡ h.0 = run_after w (events_of lines) w.start h.0 h.2 in
-    subst (λ (s : State). Cause words bytes (verdict s q).status) (sym there) (cause_of_verdict words bytes is q (verdict h.0 q).status asked (verdict_cause w h.0 q (accepted_follows words bytes is))))
+    subst (λ (s : State). Cause words bytes (verdict (more || not (are_setresuids (events_of lines))) s q).status) (sym there)
+    (cause_of_verdict words bytes is q (log_verdict words bytes is q).status asked (verdict_cause words bytes is q)))
 
-caused_by_log : (words : List (List ℕ)) (bytes : List ℕ → List ℕ) (log : List ℕ) (w : World) (query : Option Query) → query_of (command_of words) ≡ query → Names words bytes (Reads w) log
-    → (over : Bool) → nat_lt log_limit (length (bytes log)) ≡ over → Cause words bytes (world_report query w (bytes log)).status
+caused_by_log : (words : List (List ℕ)) (bytes : List ℕ → List ℕ) (log : List ℕ) (w : World) (query : Option Query) → query_of (command_of words) ≡ query → (names : Names words bytes (Reads w) log)
+    → (over : Bool) → nat_lt log_limit (length (bytes log)) ≡ over → Cause words bytes (world_report query (text_says_more (bytes names.world)) w (bytes log)).status
 caused_by_log words bytes log w query asked names true is = rw is (inr (w, log, names, above_limit log_limit (length (bytes log)) is))
 caused_by_log words bytes log w query asked names false is =
     let begins : Begins words bytes w (lines_of (bytes log)) = record { log = log; names = names; size = below_limit log_limit (length (bytes log)) is; cut = refl } in
     rw is (caused_by_answer words bytes w (lines_of (bytes log)) query asked begins)
 
-caused_by_world : (words : List (List ℕ)) (bytes : List ℕ → List ℕ) (log : List ℕ) (query : Option Query) (text : WorldText) → query_of (command_of words) ≡ query → Names words bytes text log
-    → Cause words bytes (by_world query text (bytes log)).status
+caused_by_world : (words : List (List ℕ)) (bytes : List ℕ → List ℕ) (log : List ℕ) (query : Option Query) (text : WorldText) → query_of (command_of words) ≡ query → (names : Names words bytes text log)
+    → Cause words bytes (by_world query (text_says_more (bytes names.world)) text (bytes log)).status
 caused_by_world words bytes log query Bad asked names = (log, names)
 caused_by_world words bytes log query texts.NotBuilt asked names = inl (inr (inl (log, names)))
 caused_by_world words bytes log query (Reads w) asked names = caused_by_log words bytes log w query asked names (nat_lt log_limit (length (bytes log))) refl
@@ -215,38 +219,41 @@ of_files (Audit world' log' pid right) bytes world log is =
     let same : (world', log') ≡ (world, log) = cc in
     ap (λ (names : List ℕ × List ℕ). files_report (Some (record { pid = pid; right = right })) (bytes names.0) (bytes names.1)) same
 
-of_size : (query : Option Query) (world log : List ℕ) → length world ≤ world_limit → files_report query world log ≡ by_world query (world_text world) log
-of_size query world log within = ap (λ (over : Bool). cond over (limit_hit (codes "world") world_limit) (by_world query (world_text world) log)) (not_above world_limit (length world) within)
+of_size : (query : Option Query) (world log : List ℕ) → length world ≤ world_limit → files_report query world log ≡ by_world query (text_says_more world) (world_text world) log
+of_size query world log within =
+    ap (λ (over : Bool). cond over (limit_hit (codes "world") world_limit) (by_world query (text_says_more world) (world_text world) log)) (not_above world_limit (length world) within)
 
 -- the report where the words name a world and a log
-of_names : (words : List (List ℕ)) (bytes : List ℕ → List ℕ) (text : WorldText) (log : List ℕ) → Names words bytes text log → report words bytes ≡ by_world (query_of (command_of words)) text (bytes log)
+of_names : (words : List (List ℕ)) (bytes : List ℕ → List ℕ) (text : WorldText) (log : List ℕ) → (names : Names words bytes text log)
+    → report words bytes ≡ by_world (query_of (command_of words)) (text_says_more (bytes names.world)) text (bytes log)
 of_names words bytes text log names =
     of_files (command_of words) bytes names.world log names.command ∙ of_size (query_of (command_of words)) (bytes names.world) (bytes log) names.size
-    ∙ ap (λ (t : WorldText). by_world (query_of (command_of words)) t (bytes log)) names.reads
+    ∙ ap (λ (t : WorldText). by_world (query_of (command_of words)) (text_says_more (bytes names.world)) t (bytes log)) names.reads
 
 -- the report where the replay of a log begins
-pub of_begins : (words : List (List ℕ)) (bytes : List ℕ → List ℕ) (w : World) (lines : List (List ℕ)) → Begins words bytes w lines
-    → report words bytes ≡ after (start_lines w) (answered (query_of (command_of words)) w lines)
+pub of_begins : (words : List (List ℕ)) (bytes : List ℕ → List ℕ) (w : World) (lines : List (List ℕ)) → (begins : Begins words bytes w lines)
+    → report words bytes ≡ after (start_lines w) (answered (query_of (command_of words)) (text_says_more (bytes begins.names.world)) w lines)
 of_begins words bytes w lines begins =
+    let answer : List (List ℕ) → Report = λ ls. after (start_lines w) (answered (query_of (command_of words)) (text_says_more (bytes begins.names.world)) w ls) in
     of_names words bytes (Reads w) begins.log begins.names
-    ∙ ap (λ (over : Bool). cond over (limit_hit (codes "log") log_limit) (after (start_lines w) (answered (query_of (command_of words)) w (lines_of (bytes begins.log))))) (not_above log_limit (length (bytes begins.log)) begins.size)
-    ∙ ap (λ (ls : List (List ℕ)). after (start_lines w) (answered (query_of (command_of words)) w ls)) begins.cut
+    ∙ ap (λ (over : Bool). cond over (limit_hit (codes "log") log_limit) (answer (lines_of (bytes begins.log)))) (not_above log_limit (length (bytes begins.log)) begins.size)
+    ∙ ap answer begins.cut
 
 stops_there : (st : Status) (replay next : Report) → st ≢ status.Accepted → go_on st replay next ≡ replay
 stops_there status.Accepted replay next other = absurd (other refl)
 stops_there _ replay next other = refl
 
 -- where the replay ends before its end, that is all
-pub of_stop : (query : Option Query) (w : World) (lines : List (List ℕ)) (st : Status) → (replayed w lines w.start 1 0).status ≡ st → st ≢ status.Accepted → answered query w lines ≡ replayed w lines w.start 1 0
-of_stop None w lines st is other = refl
-of_stop (Some q) w lines st is other = stops_there (replayed w lines w.start 1 0).status (replayed w lines w.start 1 0) _ (λ accepted. other (sym is ∙ accepted))
+pub of_stop : (query : Option Query) (more : Bool) (w : World) (lines : List (List ℕ)) (st : Status) → (replayed w lines w.start 1 0).status ≡ st → st ≢ status.Accepted → answered query more w lines ≡ replayed w lines w.start 1 0
+of_stop None more w lines st is other = refl
+of_stop (Some q) more w lines st is other = stops_there (replayed w lines w.start 1 0).status (replayed w lines w.start 1 0) _ (λ accepted. other (sym is ∙ accepted))
 
--- where it is accepted, the answer comes behind it
-pub of_end : (q : Query) (w : World) (lines : List (List ℕ)) (s : State) → (replayed w lines w.start 1 0).status ≡ status.Accepted → Run w w.start (events_of lines) s
-    → answered (Some q) w lines ≡ after (replayed w lines w.start 1 0).lines (verdict s q)
-of_end q w lines s is run =
-    ap (λ (st : Status). go_on st (replayed w lines w.start 1 0) (verdict (state_after w w.start (events_of lines)) q)) is
-    ∙ ap (λ (t : State). after (replayed w lines w.start 1 0).lines (verdict t q)) (run_after w (events_of lines) w.start s run)
+-- where it is accepted, the answer comes behind it, in the state that its events lead to
+pub of_end : (q : Query) (more : Bool) (w : World) (lines : List (List ℕ)) (s : State) → (replayed w lines w.start 1 0).status ≡ status.Accepted → Run w w.start (events_of lines) s
+    → answered (Some q) more w lines ≡ after (replayed w lines w.start 1 0).lines (verdict (more || not (are_setresuids (events_of lines))) s q)
+of_end q more w lines s is run =
+    ap (λ (st : Status). go_on st (replayed w lines w.start 1 0) (verdict_behind more w (events_of lines) q)) is
+    ∙ ap (λ (t : State). after (replayed w lines w.start 1 0).lines (verdict (more || not (are_setresuids (events_of lines))) t q)) (run_after w (events_of lines) w.start s run)
 
 -- the replay of whole lines whose events are a run goes over to its end
 pub over_all : (w : World) (lines : List (List ℕ)) (s : State) → AreWhole lines → Run w w.start (events_of lines) s → (n c : ℕ) × GoesOn w.start (replayed w lines w.start 1 0) s (replayed w [] s n c)
@@ -261,19 +268,18 @@ replay_accepted words bytes is = (over_all is.world is.lines is.state is.whole i
 by_end : (words : List (List ℕ)) (bytes : List ℕ → List ℕ) → query_of (command_of words) ≡ None → IsAccepted words bytes → (report words bytes).status ≡ status.Accepted
 by_end words bytes asked is =
     ap (λ (r : Report). r.status) (of_begins words bytes is.world is.lines is.begins)
-    ∙ ap (λ (query : Option Query). (answered query is.world is.lines).status) asked ∙ replay_accepted words bytes is
+    ∙ ap (λ (query : Option Query). (answered query (text_says_more (bytes is.begins.names.world)) is.world is.lines).status) asked ∙ replay_accepted words bytes is
 
 -- the report where an audit asks behind an accepted log
 pub of_asked : (words : List (List ℕ)) (bytes : List ℕ → List ℕ) (is : IsAccepted words bytes) (q : Query) → query_of (command_of words) ≡ Some q
-    → report words bytes ≡ after (start_lines is.world) (after (replayed is.world is.lines is.world.start 1 0).lines (verdict is.state q))
+    → report words bytes ≡ after (start_lines is.world) (after (replayed is.world is.lines is.world.start 1 0).lines (log_verdict words bytes is q))
 of_asked words bytes is q asked =
     of_begins words bytes is.world is.lines is.begins
-    ∙ ap (λ (query : Option Query). after (start_lines is.world) (answered query is.world is.lines)) asked
-    ∙ ap (λ (r : Report). after (start_lines is.world) r) (of_end q is.world is.lines is.state (replay_accepted words bytes is) is.run)
+    ∙ ap (λ (query : Option Query). after (start_lines is.world) (answered query (text_says_more (bytes is.begins.names.world)) is.world is.lines)) asked
+    ∙ ap (λ (r : Report). after (start_lines is.world) r) (of_end q (text_says_more (bytes is.begins.names.world)) is.world is.lines is.state (replay_accepted words bytes is) is.run)
 
-by_verdict : (words : List (List ℕ)) (bytes : List ℕ → List ℕ) (is : IsAccepted words bytes) (q : Query) (st : Status) → query_of (command_of words) ≡ Some q → VerdictCause q is.world is.state st → (report words bytes).status ≡ st
-by_verdict words bytes is q st asked h =
-    ap (λ (r : Report). r.status) (of_asked words bytes is q asked) ∙ verdict_by is.world is.state q st (accepted_follows words bytes is) h
+by_verdict : (words : List (List ℕ)) (bytes : List ℕ → List ℕ) (is : IsAccepted words bytes) (q : Query) (st : Status) → query_of (command_of words) ≡ Some q → VerdictCause words bytes is q st → (report words bytes).status ≡ st
+by_verdict words bytes is q st asked h = ap (λ (r : Report). r.status) (of_asked words bytes is q asked) ∙ verdict_by words bytes is q st h
 
 by_reach : (words : List (List ℕ)) (bytes : List ℕ → List ℕ) (w : World) (s : State) (line : List ℕ) → Reaches words bytes w s line → (st : Status) → st ≢ status.Accepted
     → ((n c : ℕ) (next : State → ℕ → Report) → (by_line w s n c next (script_line line)).status ≡ st) → (report words bytes).status ≡ st
@@ -281,7 +287,7 @@ by_reach words bytes w s line h st other stops =
     let passed : Passes w h.before (line ∷ h.later) w.start s 1 0 = run_passes w h.before (line ∷ h.later) w.start s h.whole h.run 1 0 in
     let is : (replayed w (h.before ++ line ∷ h.later) w.start 1 0).status ≡ st = passed.2.status ∙ stops passed.0 passed.1 (λ s' c'. replayed w h.later s' (passed.0 + 1) c') in
     ap (λ (r : Report). r.status) (of_begins words bytes w (h.before ++ line ∷ h.later) h.begins)
-    ∙ ap (λ (r : Report). r.status) (of_stop (query_of (command_of words)) w (h.before ++ line ∷ h.later) st is other) ∙ is
+    ∙ ap (λ (r : Report). r.status) (of_stop (query_of (command_of words)) (text_says_more (bytes h.begins.names.world)) w (h.before ++ line ∷ h.later) st is other) ∙ is
 
 by_impossible : (words : List (List ℕ)) (bytes : List ℕ → List ℕ) → IsImpossible words bytes → (report words bytes).status ≡ status.Impossible
 by_impossible words bytes is =
@@ -298,12 +304,12 @@ by_stop words bytes stop is st other ends =
 by_long_world : (words : List (List ℕ)) (bytes : List ℕ → List ℕ) → IsLongWorld words bytes → (report words bytes).status ≡ status.Limit
 by_long_world words bytes (world, log, command, over) =
     ap (λ (r : Report). r.status) (of_files (command_of words) bytes world log command)
-    ∙ ap (λ (b : Bool). (cond b (limit_hit (codes "world") world_limit) (by_world (query_of (command_of words)) (world_text (bytes world)) (bytes log))).status) (is_above world_limit (length (bytes world)) over)
+    ∙ ap (λ (b : Bool). (cond b (limit_hit (codes "world") world_limit) (by_world (query_of (command_of words)) (text_says_more (bytes world)) (world_text (bytes world)) (bytes log))).status) (is_above world_limit (length (bytes world)) over)
 
 by_long_log : (words : List (List ℕ)) (bytes : List ℕ → List ℕ) → IsLongLog words bytes → (report words bytes).status ≡ status.Limit
 by_long_log words bytes (w, log, names, over) =
     ap (λ (r : Report). r.status) (of_names words bytes (Reads w) log names)
-    ∙ ap (λ (b : Bool). (cond b (limit_hit (codes "log") log_limit) (after (start_lines w) (answered (query_of (command_of words)) w (lines_of (bytes log))))).status) (is_above log_limit (length (bytes log)) over)
+    ∙ ap (λ (b : Bool). (cond b (limit_hit (codes "log") log_limit) (after (start_lines w) (answered (query_of (command_of words)) (text_says_more (bytes names.world)) w (lines_of (bytes log))))).status) (is_above log_limit (length (bytes log)) over)
 
 -- the status whose cause holds is that of the report
 pub by_its_cause : (words : List (List ℕ)) (bytes : List ℕ → List ℕ) (st : Status) → Cause words bytes st → (report words bytes).status ≡ st

@@ -1,58 +1,117 @@
--- The events that script lines tell.
-use Rattle.std.proofs.Common.{◌≡◌, ℕ, Bool, true, false, cond, List, [], ◌∷◌, Option, Some, None}
-use Rattle.std.specs.Prelude.{codes, bytes_eq}
+-- The events that script lines tell: the call is of the kind that its line names, which is a built one.
+use Rattle.std.proofs.Common.{◌≡◌, ℕ, Bool, true, false, cond, List, [], ◌∷◌, Option, Some, None, refl, sym, ◌∙◌, ap}
+use Rattle.std.specs.Prelude.{option_map, option_and_then}
 use Rattle.cm_base.specs.declared.res.Res.{Res}
-use Rattle.model_cred.specs.Call.{Event}
-use Rattle.model_text.proofs.StepFacts.{IsSetResUid}
-use Rattle.model_text.specs.Calls.{is_call_name}
+use Rattle.model_cred.specs.Call.{Call, Event, kind_of, SetUid, SetReUid, SetResUid, SetFsUid, SetGid, SetReGid, SetResGid, SetFsGid, SetGroups}
+use Rattle.model_cred.specs.CallKind.{CallKind}
+use Rattle.model_cred.specs.CallKind as kind
+use Rattle.model_text.specs.Calls.{kind_named}
 use Rattle.model_text.specs.Cut.{tokens_of}
-use Rattle.model_text.specs.Line.{Line, NoEvent, Tells, Faulty, Unbuilt, tells, setresuid_event, setresuid_line, call_line, pid_line, tokens_line, script_line}
-use Rattle.model_text.specs.Token.{pid_token, id_token, result_token, is_comment}
+use Rattle.model_text.specs.Line.{Line, NoEvent, Tells, Faulty, Unbuilt, Tokens, next_id, with_one, with_two, with_three, ids_before, with_all, call_of_kind, ending, event_told, is_built, IsBuilt, tells, kind_line, call_line, pid_line, tokens_line, script_line}
+use Rattle.model_text.specs.Token.{pid_token, is_comment}
 
--- the line tells no event but one of setresuid
-TellsSetResUid : Line → Type 0
-TellsSetResUid line = (e : Event) → line ≡ Tells e → IsSetResUid e.call
+-- ---- the call that arguments give
+-- a call of the kind is read, or none
+IsOf : CallKind → Option (Call × Tokens) → Type 0
+IsOf kind None = Unit {0}
+IsOf kind (Some read) = kind_of read.0 ≡ kind
 
-silent : (line : Line) → ((e : Event) → line ≡ Tells e → ⊥) → TellsSetResUid line
-unfolding TellsSetResUid
+-- with each number of arguments it is the call that is made of them
+one_of : (kind : CallKind) (make : ℕ → Call) → ((a : ℕ) → kind_of (make a) ≡ kind) → (tokens : Tokens) → IsOf kind (with_one make tokens)
+unfolding IsOf
+one_of kind make of tokens =
+    elim (next_id tokens) as (λ (read : Option (ℕ × Tokens)). IsOf kind (option_map (λ first. (make first.0, first.1)) read)) [ None ↦ tt | Some first ↦ of first.0 ]
+
+two_of : (kind : CallKind) (make : ℕ → ℕ → Call) → ((a b : ℕ) → kind_of (make a b) ≡ kind) → (tokens : Tokens) → IsOf kind (with_two make tokens)
+unfolding IsOf
+two_of kind make of tokens =
+    elim (next_id tokens) as (λ (read : Option (ℕ × Tokens)). IsOf kind (option_and_then (λ first. with_one (make first.0) first.1) read)) [
+      | None ↦ tt
+      | Some first ↦ one_of kind (make first.0) (of first.0) first.1
+    ]
+
+three_of : (kind : CallKind) (make : ℕ → ℕ → ℕ → Call) → ((a b c : ℕ) → kind_of (make a b c) ≡ kind) → (tokens : Tokens) → IsOf kind (with_three make tokens)
+unfolding IsOf
+three_of kind make of tokens =
+    elim (next_id tokens) as (λ (read : Option (ℕ × Tokens)). IsOf kind (option_and_then (λ first. with_two (make first.0) first.1) read)) [
+      | None ↦ tt
+      | Some first ↦ two_of kind (make first.0) (of first.0) first.1
+    ]
+
+all_of : (kind : CallKind) (make : List ℕ → Call) → ((ids : List ℕ) → kind_of (make ids) ≡ kind) → (tokens : Tokens) → IsOf kind (with_all make tokens)
+unfolding IsOf
+all_of kind make of tokens =
+    elim (ids_before tokens) as (λ (read : Option (List ℕ × Tokens)). IsOf kind (option_map (λ all. (make all.0, all.1)) read)) [ None ↦ tt | Some all ↦ of all.0 ]
+
+-- the call of a kind is of that kind
+call_of : (kind : CallKind) (tokens : Tokens) → IsOf kind (call_of_kind kind tokens)
+unfolding IsOf
+call_of kind.SetUid tokens = one_of kind.SetUid SetUid (λ a. refl) tokens
+call_of kind.SetReUid tokens = two_of kind.SetReUid SetReUid (λ a b. refl) tokens
+call_of kind.SetResUid tokens = three_of kind.SetResUid SetResUid (λ a b c. refl) tokens
+call_of kind.SetFsUid tokens = one_of kind.SetFsUid SetFsUid (λ a. refl) tokens
+call_of kind.SetGid tokens = one_of kind.SetGid SetGid (λ a. refl) tokens
+call_of kind.SetReGid tokens = two_of kind.SetReGid SetReGid (λ a b. refl) tokens
+call_of kind.SetResGid tokens = three_of kind.SetResGid SetResGid (λ a b c. refl) tokens
+call_of kind.SetFsGid tokens = one_of kind.SetFsGid SetFsGid (λ a. refl) tokens
+call_of kind.SetGroups tokens = all_of kind.SetGroups SetGroups (λ ids. refl) tokens
+call_of _ tokens = tt
+
+-- ---- the event of a line
+-- the line tells no event but one of a call of the kind
+TellsKind : CallKind → Line → Type 0
+TellsKind kind line = (e : Event) → line ≡ Tells e → kind_of e.call ≡ kind
+
+told_by : (pid : ℕ) (kind : CallKind) (call : Call) (res : Option Res) → kind_of call ≡ kind → TellsKind kind (tells (option_map (λ res. record { pid = pid; call = call; res = res }) res))
+unfolding TellsKind
+told_by pid kind call None of e is = absurd (cc)
+told_by pid kind call (Some res) of e is = let same : call ≡ e.call = cc in ap kind_of (sym same) ∙ of
+
+told_of : (pid : ℕ) (kind : CallKind) (read : Option (Call × Tokens)) → IsOf kind read
+    → TellsKind kind (tells (option_and_then (λ read. option_map (λ res. record { pid = pid; call = read.0; res = res }) (ending kind read.1)) read))
+unfolding IsOf TellsKind
+told_of pid kind None of e is = absurd (cc)
+told_of pid kind (Some read) of e is = told_by pid kind read.0 (ending kind read.1) of e is
+
+-- the event that the tokens behind a call's name tell is of that call
+pub tells_kind : (pid : ℕ) (kind : CallKind) (tokens : Tokens) (e : Event) → tells (event_told pid kind tokens) ≡ Tells e → kind_of e.call ≡ kind
+unfolding TellsKind
+tells_kind pid kind tokens e is = told_of pid kind (call_of_kind kind tokens) (call_of kind tokens) e is
+
+-- the line tells no event but one of a built call
+TellsBuilt : Line → Type 0
+TellsBuilt line = (e : Event) → line ≡ Tells e → IsBuilt e.call
+
+silent : (line : Line) → ((e : Event) → line ≡ Tells e → ⊥) → TellsBuilt line
+unfolding TellsBuilt
 silent line never e is = absurd (never e is)
 
-faulty : TellsSetResUid Faulty
+faulty : TellsBuilt Faulty
 faulty = silent Faulty (λ e is. absurd (cc))
 
-either : (test : Bool) (one other : Line) → TellsSetResUid one → TellsSetResUid other → TellsSetResUid (cond test one other)
-either true one other left right = left
+either : (test : Bool) (one other : Line) → (test ≡ true → TellsBuilt one) → TellsBuilt other → TellsBuilt (cond test one other)
+either true one other left right = left refl
 either false one other left right = right
 
-of_event : (pid : ℕ) (r e s : Option ℕ) (res : Option Res) → TellsSetResUid (tells (setresuid_event pid r e s res))
-unfolding TellsSetResUid
-of_event pid (Some r) (Some e) (Some s) (Some res) event is = (r, e, s, cc)
-of_event pid (Some r) (Some e) (Some s) None event is = absurd (cc)
-of_event pid (Some r) (Some e) None res event is = absurd (cc)
-of_event pid (Some r) None s res event is = absurd (cc)
-of_event pid None e s res event is = absurd (cc)
+of_kind : (pid : ℕ) (kind : Option CallKind) (tokens : Tokens) → TellsBuilt (kind_line pid kind tokens)
+unfolding TellsBuilt
+of_kind pid None tokens = faulty
+of_kind pid (Some kind) tokens =
+    either (is_built kind) (tells (event_told pid kind tokens)) Unbuilt (λ built e is. ap is_built (tells_kind pid kind tokens e is) ∙ built) (silent Unbuilt (λ e is. absurd (cc)))
 
-of_setresuid : (pid : ℕ) (tokens : List (List ℕ)) → TellsSetResUid (setresuid_line pid tokens)
-of_setresuid pid (r ∷ e ∷ s ∷ equals ∷ res ∷ []) =
-    either (bytes_eq equals (codes "=")) (tells (setresuid_event pid (id_token r) (id_token e) (id_token s) (result_token res))) Faulty
-    (of_event pid (id_token r) (id_token e) (id_token s) (result_token res)) faulty
-of_setresuid pid _ = faulty
-
-of_call : (pid : ℕ) (tokens : List (List ℕ)) → TellsSetResUid (call_line pid tokens)
+of_call : (pid : ℕ) (tokens : Tokens) → TellsBuilt (call_line pid tokens)
 of_call pid [] = faulty
-of_call pid (name ∷ rest) =
-    either (bytes_eq name (codes "setresuid")) (setresuid_line pid rest) (cond (is_call_name name) Unbuilt Faulty) (of_setresuid pid rest)
-    (either (is_call_name name) Unbuilt Faulty (silent Unbuilt (λ e is. absurd (cc))) faulty)
+of_call pid (name ∷ tokens) = of_kind pid (kind_named name) tokens
 
-of_pid : (pid : Option ℕ) (tokens : List (List ℕ)) → TellsSetResUid (pid_line pid tokens)
-of_pid None rest = faulty
-of_pid (Some pid) rest = of_call pid rest
+of_pid : (pid : Option ℕ) (tokens : Tokens) → TellsBuilt (pid_line pid tokens)
+of_pid None tokens = faulty
+of_pid (Some pid) tokens = of_call pid tokens
 
-of_tokens : (tokens : List (List ℕ)) → TellsSetResUid (tokens_line tokens)
+of_tokens : (tokens : Tokens) → TellsBuilt (tokens_line tokens)
 of_tokens [] = silent NoEvent (λ e is. absurd (cc))
-of_tokens (first ∷ rest) = either (is_comment first) NoEvent (pid_line (pid_token first) rest) (silent NoEvent (λ e is. absurd (cc))) (of_pid (pid_token first) rest)
+of_tokens (first ∷ tokens) = either (is_comment first) NoEvent (pid_line (pid_token first) tokens) (λ _. silent NoEvent (λ e is. absurd (cc))) (of_pid (pid_token first) tokens)
 
--- a script line tells setresuid events only
-pub tells_setresuid : (line : List ℕ) (e : Event) → script_line line ≡ Tells e → IsSetResUid e.call
-unfolding TellsSetResUid
-tells_setresuid line e is = of_tokens (tokens_of line) e is
+-- a script line tells events of built calls only
+pub tells_built : (line : List ℕ) (e : Event) → script_line line ≡ Tells e → IsBuilt e.call
+unfolding TellsBuilt
+tells_built line e is = of_tokens (tokens_of line) e is

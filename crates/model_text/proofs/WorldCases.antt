@@ -4,7 +4,8 @@ use Rattle.std.specs.Prelude.{⊤, codes}
 use Rattle.std.specs.Str.{is_utf8, chars}
 use Rattle.model_cred.specs.Credential.{FourIds, all_four}
 use Rattle.model_cred.specs.Process.{Process}
-use Rattle.model_text.specs.WorldText.{Reads, Bad, NotBuilt, world_text, default_cred, world_with}
+use Rattle.model_text.specs.WorldText.{Reads, Bad, NotBuilt, world_text, world_with}
+use Rattle.model_text.proofs.Declared.{default_cred}
 use Rattle.toml.proofs.OnLiterals.{toml_on_literals}
 
 -- what a proof unfolds to compute a world at a literal
@@ -96,10 +97,27 @@ pub strace_is_not_built : world_text (codes "log = \"strace\"\n") ≡ NotBuilt
 unfolding world_on_literals
 strace_is_not_built = refl
 
-pub later_key_is_not_built : world_text (codes "log = \"script\"\n[[process]]\npid = 100\ngid = 0\n") ≡ NotBuilt
+pub later_key_is_not_built : world_text (codes "log = \"script\"\n[[process]]\npid = 100\nspace = \"init\"\n") ≡ NotBuilt
 unfolding world_on_literals
 later_key_is_not_built = refl
 
-pub what_is_not_built_comes_before_a_fault : world_text (codes "log = \"text\"\n[[process]]\npid = 0\ngid = 0\n") ≡ NotBuilt
+pub what_is_not_built_comes_before_a_fault : world_text (codes "log = \"text\"\n[[process]]\npid = 0\nparent = 0\n") ≡ NotBuilt
 unfolding world_on_literals
 what_is_not_built_comes_before_a_fault = refl
+
+pub rows_of_an_inline_array : world_text (codes "log = \"script\"\nprocess = [{pid = 200, uid = -0,}, {pid = 100, uid = +1_000}]\n")
+    ≡ Reads (world_with (process_of 200 (all_four 0) ∷ process_of 100 (all_four 1000) ∷ []))
+unfolding world_on_literals
+rows_of_an_inline_array = refl
+
+pub row_that_is_no_table : world_text (codes "log = \"script\"\nprocess = [5, {pid = 100}]\n") ≡ Bad
+unfolding world_on_literals
+row_that_is_no_table = refl
+
+pub later_key_behind_a_row_that_is_no_table : world_text (codes "log = \"script\"\nprocess = [5, {space = 1}]\n") ≡ NotBuilt
+unfolding world_on_literals
+later_key_behind_a_row_that_is_no_table = refl
+
+pub later_key_of_a_process_that_is_no_row : world_text (codes "log = \"script\"\nprocess = {space = 1}\n") ≡ Bad
+unfolding world_on_literals
+later_key_of_a_process_that_is_no_row = refl

@@ -1,5 +1,5 @@
 -- Why a command answers what it does, in the words of worlds, events and runs: each status and its cause.
-use Rattle.std.specs.Prelude.{◌≡◌, ◌≤◌, ◌<◌, ◌⊎◌, ℕ, length, List, [], ◌∷◌, ◌++◌, Some, None}
+use Rattle.std.specs.Prelude.{◌≡◌, ◌≤◌, ◌<◌, ◌⊎◌, ℕ, true, false, length, List, [], ◌∷◌, ◌++◌, Some, None}
 use Rattle.cm_base.specs.declared.status.Status.{Status}
 use Rattle.cm_base.specs.declared.status.Status.TheVariants as status
 use Rattle.model_cred.specs.Call.{Event}
@@ -7,14 +7,14 @@ use Rattle.model_cred.specs.Process.{Process, State}
 use Rattle.model_cred.specs.Right.{Right, Uid}
 use Rattle.model_cred.specs.World.{World}
 use Rattle.model_run.specs.Step.{Step, Run}
-use Rattle.model_run.specs.WayBack.{BringsBack, CanComeBack}
+use Rattle.model_run.specs.WayBack.{are_setresuids, BringsBack, CanComeBack}
 use Rattle.model_text.specs.Command.{Later, NoForm, command_of, files_of, query_of}
 use Rattle.model_text.specs.Cut.{lines_of}
 use Rattle.model_text.specs.Line.{Line, NoEvent, Tells, Faulty, Unbuilt, script_line}
 pub use Rattle.model_text.specs.Line.{told_event, events_of}
 use Rattle.model_text.specs.Query.{Query, asked_process, right_token}
 use Rattle.model_text.specs.Report.{world_limit, log_limit}
-use Rattle.model_text.specs.WorldText.{WorldText, Reads, Bad, NotBuilt, world_text}
+use Rattle.model_text.specs.WorldText.{WorldText, Reads, Bad, NotBuilt, world_text, text_says_more}
 
 -- the line is whole: it tells an event or none
 abbrev pub IsWhole : List ℕ → Type 0
@@ -88,30 +88,43 @@ pub record Asks (q : Query) (s : State) (p : Process) (right : Right) : Type 0 w
   pub process : asked_process s q.pid ≡ Some p
   pub asked : right_token q.right ≡ Some right
 
--- one process lives, and the query asks for a user id of it
-pub record AsksAlone (q : Query) (s : State) (p : Process) (k : ℕ) : Type 0 where
-  pub asks : Asks q s p (Uid k)
-  pub alone : length s.processes ≡ 1
+-- The weak audit knows what is behind the log: the world's text says no more of a process than its pid and its user ids,
+-- and each event is a call of setresuid.
+pub record IsKnown (words : List (List ℕ)) (bytes : List ℕ → List ℕ) (is : IsAccepted words bytes) : Type 0 where
+  pub world : text_says_more (bytes is.begins.names.world) ≡ false
+  pub events : are_setresuids (events_of is.lines) ≡ true
+
+-- it doesn't: the world's text says more, or an event is another call
+abbrev pub HasMore : (words : List (List ℕ)) (bytes : List ℕ → List ℕ) → IsAccepted words bytes → Type 0
+HasMore words bytes is = (text_says_more (bytes is.begins.names.world) ≡ true) ⊎ (are_setresuids (events_of is.lines) ≡ false)
+
+-- one process lives, the query asks for a user id of it, and the weak audit knows what is behind the log
+pub record AsksAlone (words : List (List ℕ)) (bytes : List ℕ → List ℕ) (is : IsAccepted words bytes) (q : Query) (p : Process) (k : ℕ) : Type 0 where
+  pub asks : Asks q is.state p (Uid k)
+  pub alone : length is.state.processes ≡ 1
+  pub known : IsKnown words bytes is
 
 -- Yes: no list of later setresuid calls of the process, of any length, ends where it holds the user id.
-abbrev pub IsYes : Query → World → State → Type 0
-IsYes q w s = (p : Process) × (k : ℕ) × AsksAlone q s p k × ((run : List Event) → ¬ BringsBack w s p.pid k run)
+abbrev pub IsYes : (words : List (List ℕ)) (bytes : List ℕ → List ℕ) → IsAccepted words bytes → Query → Type 0
+IsYes words bytes is q = (p : Process) × (k : ℕ) × AsksAlone words bytes is q p k × ((run : List Event) → ¬ BringsBack is.world is.state p.pid k run)
 
 -- No: some such list does.
-abbrev pub IsNo : Query → World → State → Type 0
-IsNo q w s = (p : Process) × (k : ℕ) × AsksAlone q s p k × CanComeBack w s p.pid k
+abbrev pub IsNo : (words : List (List ℕ)) (bytes : List ℕ → List ℕ) → IsAccepted words bytes → Query → Type 0
+IsNo words bytes is q = (p : Process) × (k : ℕ) × AsksAlone words bytes is q p k × CanComeBack is.world is.state p.pid k
 
 -- A bad query: its pid is that of no live process; or its right is none.
-abbrev pub IsBadQuery : Query → World → State → Type 0
-IsBadQuery q w s = (asked_process s q.pid ≡ None) ⊎ ((p : Process) × (asked_process s q.pid ≡ Some p) × (right_token q.right ≡ None))
+abbrev pub IsBadQuery : (words : List (List ℕ)) (bytes : List ℕ → List ℕ) → IsAccepted words bytes → Query → Type 0
+IsBadQuery words bytes is q = (asked_process is.state q.pid ≡ None) ⊎ ((p : Process) × (asked_process is.state q.pid ≡ Some p) × (right_token q.right ≡ None))
 
--- Beyond what is built: a right other than a user id, or several processes.
-abbrev pub IsBeyond : Query → World → State → Type 0
-IsBeyond q w s = (p : Process) × (right : Right) × Asks q s p right × (((k : ℕ) → ¬ (right ≡ Uid k)) ⊎ (1 < length s.processes))
+-- Beyond what is built: a right other than a user id, or several processes, or more than the weak audit knows.
+abbrev pub IsBeyond : (words : List (List ℕ)) (bytes : List ℕ → List ℕ) → IsAccepted words bytes → Query → Type 0
+IsBeyond words bytes is q =
+    (p : Process) × (right : Right) × Asks q is.state p right
+    × (((k : ℕ) → ¬ (right ≡ Uid k)) ⊎ (1 < length is.state.processes) ⊎ HasMore words bytes is)
 
 -- The words ask a query, and behind the accepted log this holds of it.
-abbrev pub Behind : List (List ℕ) → (List ℕ → List ℕ) → (Query → World → State → Type 0) → Type 0
-Behind words bytes Answer = (is : IsAccepted words bytes) × (q : Query) × (query_of (command_of words) ≡ Some q) × Answer q is.world is.state
+abbrev pub Behind : (words : List (List ℕ)) (bytes : List ℕ → List ℕ) → ((words : List (List ℕ)) (bytes : List ℕ → List ℕ) → IsAccepted words bytes → Query → Type 0) → Type 0
+Behind words bytes Answer = (is : IsAccepted words bytes) × (q : Query) × (query_of (command_of words) ≡ Some q) × Answer words bytes is q
 
 -- ---- the causes
 -- Not built are the other commands, a world that asks for more, and the line of a call that isn't built, behind a run.

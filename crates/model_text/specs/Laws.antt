@@ -41,7 +41,7 @@ ImpossibleIsNoStep = (words : List (List ℕ)) (bytes : List ℕ → List ℕ) �
 -- it, of any length, ends where it holds the user id that is asked for.
 unfoldable pub YesIsNever : Type 0
 YesIsNever = (words : List (List ℕ)) (bytes : List ℕ → List ℕ) (q : Query) → query_of (command_of words) ≡ Some q → (report words bytes).status ≡ status.Accepted
-    → (is : IsAccepted words bytes) × IsYes q is.world is.state
+    → (is : IsAccepted words bytes) × IsYes words bytes is q
 
 -- An answer no shows a list of later setresuid calls that does: its last lines are the way, which leads the one process
 -- that lives behind the log to the user id that is asked for.
@@ -51,7 +51,7 @@ pub record ShowsWay (words : List (List ℕ)) (bytes : List ℕ → List ℕ) (l
   pub asked : query_of (command_of words) ≡ Some query
   pub process : Process
   pub id : ℕ
-  pub asks : AsksAlone query accepted.state process id
+  pub asks : AsksAlone words bytes accepted query process id
   pub way : List Event
   pub back : BringsBack accepted.world accepted.state process.pid id way
   pub before : List ReportLine

@@ -3,7 +3,10 @@ pub mod Cut
 pub mod Token
 pub mod Calls
 pub mod Line
+pub mod Places
 pub mod Toml
+pub mod CapText
+pub mod ProcessText
 pub mod WorldText
 pub mod Print
 pub mod Query

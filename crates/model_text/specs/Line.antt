@@ -1,10 +1,14 @@
--- What a line of a script log stands for: PID CALL ARGUMENTS = RESULT (choice).
-use Rattle.std.specs.Prelude.{ℕ, codes, bytes_eq, List, [], ◌∷◌, Option, Some, None, if◌then◌else◌, filter_map}
+-- What a line of a script log stands for: PID CALL ARGUMENTS = RESULT (choice). Built so far: the calls that set user ids,
+-- group ids and groups. Of each part is said what it is and which tokens stand behind it.
+use Rattle.std.specs.Prelude.{◌≡◌, ℕ, Bool, true, false, List, [], ◌∷◌, Option, Some, None, if◌then◌else◌, filter_map, option_map, option_and_then}
 use Rattle.cm_base.specs.declared.res.Res.{Res}
-use Rattle.model_cred.specs.Call.{SetResUid, Event}
+use Rattle.cm_base.specs.declared.res.Res.TheVariants.{Id}
+use Rattle.model_cred.specs.Call.{Call, Event, kind_of, SetUid, SetReUid, SetResUid, SetFsUid, SetGid, SetReGid, SetResGid, SetFsGid, SetGroups}
+use Rattle.model_cred.specs.CallKind.{CallKind}
+use Rattle.model_cred.specs.CallKind as kind
+use Rattle.model_text.specs.Calls.{kind_named}
 use Rattle.model_text.specs.Cut.{tokens_of}
-use Rattle.model_text.specs.Token.{pid_token, id_token, result_token, is_comment}
-use Rattle.model_text.specs.Calls.{is_call_name}
+use Rattle.model_text.specs.Token.{number_token, pid_token, id_token, result_token, is_comment, is_equals}
 
 -- No event (blanks alone, or a comment); an event; a line with a fault; a line of a call that isn't built.
 pub data Line : Type 0 where
@@ -13,35 +17,113 @@ pub data Line : Type 0 where
   Faulty : Line
   Unbuilt : Line
 
+abbrev pub Tokens : Type 0
+Tokens = List (List ℕ)
+
+-- ---- the arguments
+-- an id, and the tokens behind it
+abbrev pub next_id : Tokens → Option (ℕ × Tokens)
+next_id [] = None
+next_id (token ∷ tokens) = option_map (λ id. (id, tokens)) (id_token token)
+
+-- a call with one id, and the tokens behind it
+abbrev pub with_one : (ℕ → Call) → Tokens → Option (Call × Tokens)
+with_one make tokens = option_map (λ first. (make first.0, first.1)) (next_id tokens)
+
+-- a call with two ids
+abbrev pub with_two : (ℕ → ℕ → Call) → Tokens → Option (Call × Tokens)
+with_two make tokens = option_and_then (λ first. with_one (make first.0) first.1) (next_id tokens)
+
+-- a call with three ids
+abbrev pub with_three : (ℕ → ℕ → ℕ → Call) → Tokens → Option (Call × Tokens)
+with_three make tokens = option_and_then (λ first. with_two (make first.0) first.1) (next_id tokens)
+
+-- one id more in front
+abbrev pub one_more : Option ℕ → Option (List ℕ × Tokens) → Option (List ℕ × Tokens)
+one_more (Some id) (Some (ids, tokens)) = Some (id ∷ ids, tokens)
+one_more _ _ = None
+
+-- the ids in front of the first `=`, and the tokens from there on
+abbrev pub ids_before : Tokens → Option (List ℕ × Tokens)
+ids_before [] = Some ([], [])
+ids_before (token ∷ tokens) = if is_equals token then Some ([], token ∷ tokens) else one_more (id_token token) (ids_before tokens)
+
+-- a call with any number of ids
+abbrev pub with_all : (List ℕ → Call) → Tokens → Option (Call × Tokens)
+with_all make tokens = option_map (λ all. (make all.0, all.1)) (ids_before tokens)
+
+-- a call of that kind with its arguments, and the tokens behind them; none for a kind that isn't built
+abbrev pub call_of_kind : CallKind → Tokens → Option (Call × Tokens)
+call_of_kind kind.SetUid tokens = with_one SetUid tokens
+call_of_kind kind.SetReUid tokens = with_two SetReUid tokens
+call_of_kind kind.SetResUid tokens = with_three SetResUid tokens
+call_of_kind kind.SetFsUid tokens = with_one SetFsUid tokens
+call_of_kind kind.SetGid tokens = with_one SetGid tokens
+call_of_kind kind.SetReGid tokens = with_two SetReGid tokens
+call_of_kind kind.SetResGid tokens = with_three SetResGid tokens
+call_of_kind kind.SetFsGid tokens = with_one SetFsGid tokens
+call_of_kind kind.SetGroups tokens = with_all SetGroups tokens
+call_of_kind _ tokens = None
+
+-- ---- the result
+-- the result of a call of that kind: the id from before for setfsuid and setfsgid, which have no error, else done or an error
+abbrev pub result_of_kind : CallKind → List ℕ → Option Res
+result_of_kind kind.SetFsUid token = option_map Id (number_token token)
+result_of_kind kind.SetFsGid token = option_map Id (number_token token)
+result_of_kind _ token = result_token token
+
+-- the last tokens: `=` and the result
+abbrev pub ending : CallKind → Tokens → Option Res
+ending kind (equals ∷ res ∷ []) = if is_equals equals then result_of_kind kind res else None
+ending kind _ = None
+
+-- ---- the line
+-- the event of a call of that kind by the process, as the tokens behind the call's name tell it
+abbrev pub event_told : ℕ → CallKind → Tokens → Option Event
+event_told pid kind tokens =
+    option_and_then (λ read. option_map (λ res. record { pid = pid; call = read.0; res = res }) (ending kind read.1)) (call_of_kind kind tokens)
+
+-- calls of this kind are built
+abbrev pub is_built : CallKind → Bool
+is_built kind.SetUid = true
+is_built kind.SetReUid = true
+is_built kind.SetResUid = true
+is_built kind.SetFsUid = true
+is_built kind.SetGid = true
+is_built kind.SetReGid = true
+is_built kind.SetResGid = true
+is_built kind.SetFsGid = true
+is_built kind.SetGroups = true
+is_built _ = false
+
+-- the call is of such a kind
+abbrev pub IsBuilt : Call → Type 0
+IsBuilt call = is_built (kind_of call) ≡ true
+
 -- an event, where there is one, and else a fault
 abbrev pub tells : Option Event → Line
 tells None = Faulty
 tells (Some e) = Tells e
 
--- setresuid with its three ids and its result
-abbrev pub setresuid_event : ℕ → Option ℕ → Option ℕ → Option ℕ → Option Res → Option Event
-setresuid_event pid (Some r) (Some e) (Some s) (Some res) = Some (record { pid = pid; call = SetResUid r e s; res = res })
-setresuid_event pid _ _ _ _ = None
-
--- the tokens behind `setresuid`: three ids, `=` and the result
-abbrev pub setresuid_line : ℕ → List (List ℕ) → Line
-setresuid_line pid (r ∷ e ∷ s ∷ equals ∷ res ∷ []) = if bytes_eq equals (codes "=") then tells (setresuid_event pid (id_token r) (id_token e) (id_token s) (result_token res)) else Faulty
-setresuid_line pid _ = Faulty
+-- the tokens behind the name of a call, which is none where it has no kind
+abbrev pub kind_line : ℕ → Option CallKind → Tokens → Line
+kind_line pid None tokens = Faulty
+kind_line pid (Some kind) tokens = if is_built kind then tells (event_told pid kind tokens) else Unbuilt
 
 -- the tokens behind the pid
-abbrev pub call_line : ℕ → List (List ℕ) → Line
+abbrev pub call_line : ℕ → Tokens → Line
 call_line pid [] = Faulty
-call_line pid (name ∷ rest) = if bytes_eq name (codes "setresuid") then setresuid_line pid rest else (if is_call_name name then Unbuilt else Faulty)
+call_line pid (name ∷ tokens) = kind_line pid (kind_named name) tokens
 
 -- the tokens behind the first one, which should be a pid
-abbrev pub pid_line : Option ℕ → List (List ℕ) → Line
-pid_line None rest = Faulty
-pid_line (Some pid) rest = call_line pid rest
+abbrev pub pid_line : Option ℕ → Tokens → Line
+pid_line None tokens = Faulty
+pid_line (Some pid) tokens = call_line pid tokens
 
 -- the tokens of a line
-abbrev pub tokens_line : List (List ℕ) → Line
+abbrev pub tokens_line : Tokens → Line
 tokens_line [] = NoEvent
-tokens_line (first ∷ rest) = if is_comment first then NoEvent else pid_line (pid_token first) rest
+tokens_line (first ∷ tokens) = if is_comment first then NoEvent else pid_line (pid_token first) tokens
 
 -- the line
 abbrev pub script_line : List ℕ → Line

@@ -1,11 +1,12 @@
 -- The lines of a report: credentials and events, as text (choice).
-use Rattle.std.specs.Prelude.{ℕ, codes, decimal, ◌+◌, ◌/◌, ◌%◌, ◌==◌, nat_lt, List, [], ◌∷◌, ◌++◌, zero, suc, if◌then◌else◌}
+use Rattle.std.specs.Prelude.{ℕ, codes, decimal, ◌+◌, ◌/◌, ◌%◌, ◌==◌, nat_lt, List, [], ◌∷◌, ◌++◌, zero, suc, if◌then◌else◌, flat_map}
 use Rattle.cm_base.specs.Names.{errno_name}
 use Rattle.cm_base.specs.declared.res.Res.{Res}
 use Rattle.cm_base.specs.declared.res.Res.TheVariants.{Done, Id, Child, Err}
 use Rattle.model_cred.specs.Credential.{Credential, FourIds}
 use Rattle.model_cred.specs.Process.{Process}
-use Rattle.model_cred.specs.Call.{Call, SetResUid, Event}
+use Rattle.model_cred.specs.Call.{Call, Event, kind_of, SetUid, SetReUid, SetResUid, SetFsUid, SetGid, SetReGid, SetResGid, SetFsGid, SetGroups}
+use Rattle.model_text.specs.Calls.{call_name}
 
 -- a hexadecimal digit in lower case
 abbrev pub hex_digit : ℕ → ℕ
@@ -74,10 +75,26 @@ res_text (Id n) = decimal n
 res_text (Child p) = decimal p
 res_text (Err e) = errno_name e
 
--- a call with its arguments (built so far: setresuid)
+-- ids of a call, each behind a space
+abbrev pub arguments_text : List ℕ → List ℕ
+arguments_text ids = flat_map (λ id. codes " " ++ id_text id) ids
+
+-- the ids that a call has as its arguments (built so far: the calls that set ids and groups)
+abbrev pub arguments_of : Call → List ℕ
+arguments_of (SetUid id) = id ∷ []
+arguments_of (SetReUid r e) = r ∷ e ∷ []
+arguments_of (SetResUid r e s) = r ∷ e ∷ s ∷ []
+arguments_of (SetFsUid id) = id ∷ []
+arguments_of (SetGid id) = id ∷ []
+arguments_of (SetReGid r e) = r ∷ e ∷ []
+arguments_of (SetResGid r e s) = r ∷ e ∷ s ∷ []
+arguments_of (SetFsGid id) = id ∷ []
+arguments_of (SetGroups ids) = ids
+arguments_of _ = []
+
+-- a call behind a space: its name and its arguments
 abbrev pub call_text : Call → List ℕ
-call_text (SetResUid r e s) = codes " setresuid " ++ id_text r ++ codes " " ++ id_text e ++ codes " " ++ id_text s
-call_text _ = []
+call_text call = codes " " ++ call_name (kind_of call) ++ arguments_text (arguments_of call)
 
 -- an event as a script line
 unfoldable pub event_text : Event → List ℕ

@@ -1,5 +1,5 @@
 -- The report: what a command answers and writes, by its words and by the bytes of the files.
-use Rattle.std.specs.Prelude.{ℕ, codes, decimal, ◌+◌, ◌==◌, nat_lt, length, List, [], ◌∷◌, ◌++◌, map, Option, Some, None, if◌then◌else◌, flat_map}
+use Rattle.std.specs.Prelude.{ℕ, codes, decimal, ◌+◌, ◌==◌, ◌&&◌, ◌||◌, Bool, not, nat_lt, length, List, [], ◌∷◌, ◌++◌, map, Option, Some, None, if◌then◌else◌, flat_map}
 use Rattle.cm_base.specs.declared.status.Status.{Status}
 use Rattle.cm_base.specs.declared.status.Status.TheVariants as status
 use Rattle.model_cred.specs.Call.{Event}
@@ -7,13 +7,13 @@ use Rattle.model_cred.specs.Process.{Process, State, process_at}
 use Rattle.model_cred.specs.Right.{Right, Cap, Uid, Gid}
 use Rattle.model_cred.specs.World.{World}
 use Rattle.model_run.specs.Step.{Outcome, Goes, NoProcess, NoSpace, PidInUse, Wrong, outcome}
-use Rattle.model_run.specs.WayBack.{way_back}
+use Rattle.model_run.specs.WayBack.{are_setresuids, way_back}
 use Rattle.model_text.specs.Command.{Command, Replay, Audit, Later, NoForm, command_of}
 use Rattle.model_text.specs.Cut.{lines_of}
 use Rattle.model_text.specs.Line.{Line, NoEvent, Tells, Faulty, Unbuilt, script_line, events_of}
 use Rattle.model_text.specs.Print.{credential_line, event_line, event_text, res_text}
 use Rattle.model_text.specs.Query.{Query, asked_process, right_token}
-use Rattle.model_text.specs.WorldText.{WorldText, Reads, Bad, world_text}
+use Rattle.model_text.specs.WorldText.{WorldText, Reads, Bad, world_text, text_says_more}
 use Rattle.model_text.specs.WorldText as texts
 
 -- A line of the report: the credentials of a process; an event with the number of its line; any other text.
@@ -122,24 +122,30 @@ abbrev pub way_verdict : ℕ → Option (List Event) → Report
 way_verdict pid None = says status.Accepted (codes "yes")
 way_verdict pid (Some way) = record { status = status.No; lines = way_lines pid way }
 
--- the answer about a right of a process of a state. So far it is built for a user id where one process lives.
-abbrev pub right_verdict : State → Process → Right → Report
-right_verdict s p (Uid k) = if length s.processes == 1 then way_verdict p.pid (way_back p.cred p.pid k) else not_built
-right_verdict s p (Gid k) = not_built
-right_verdict s p (Cap cap n) = not_built
+-- the answer about a right of a process of a state. So far it is built for a user id where one process lives, whose sets
+-- follow its user ids: not behind a world that says more of it than these, nor behind other calls than setresuid.
+abbrev pub right_verdict : Bool → State → Process → Right → Report
+right_verdict more s p (Uid k) = if not more && length s.processes == 1 then way_verdict p.pid (way_back p.cred p.pid k) else not_built
+right_verdict more s p (Gid k) = not_built
+right_verdict more s p (Cap cap n) = not_built
 
 -- a query that names no live process, or no right
 abbrev pub bad_query : List ℕ → Report
 bad_query word = says status.BadQuery (codes "bad query: " ++ word)
 
-abbrev pub asked_verdict : State → Option Process → Option Right → Report
-asked_verdict s None right = bad_query (codes "pid")
-asked_verdict s (Some p) None = bad_query (codes "right")
-asked_verdict s (Some p) (Some right) = right_verdict s p right
+abbrev pub asked_verdict : Bool → State → Option Process → Option Right → Report
+asked_verdict more s None right = bad_query (codes "pid")
+asked_verdict more s (Some p) None = bad_query (codes "right")
+asked_verdict more s (Some p) (Some right) = right_verdict more s p right
 
--- the answer to a query in a state
-abbrev pub verdict : State → Query → Report
-verdict s q = asked_verdict s (asked_process s q.pid) (right_token q.right)
+-- the answer to a query in a state, whether or not there is more to it than the weak audit knows
+abbrev pub verdict : Bool → State → Query → Report
+verdict more s q = asked_verdict more s (asked_process s q.pid) (right_token q.right)
+
+-- the answer behind events that are a run: there is more to it where the world says more, or an event is another call
+-- than setresuid
+abbrev pub verdict_behind : Bool → World → List Event → Query → Report
+verdict_behind more w es q = verdict (more || not (are_setresuids es)) (state_after w w.start es) q
 
 -- ---- the report of a command
 -- behind a replay that is accepted comes another report
@@ -148,9 +154,9 @@ go_on status.Accepted replay next = after replay.lines next
 go_on _ replay next = replay
 
 -- the replay of lines, and behind an accepted log the answer to what is asked
-abbrev pub answered : Option Query → World → List (List ℕ) → Report
-answered None w lines = replayed w lines w.start 1 0
-answered (Some q) w lines = let replay = replayed w lines w.start 1 0 in go_on replay.status replay (verdict (state_after w w.start (events_of lines)) q)
+abbrev pub answered : Option Query → Bool → World → List (List ℕ) → Report
+answered None more w lines = replayed w lines w.start 1 0
+answered (Some q) more w lines = let replay = replayed w lines w.start 1 0 in go_on replay.status replay (verdict_behind more w (events_of lines) q)
 
 -- the credential lines at the start
 abbrev pub start_lines : World → List ReportLine
@@ -165,18 +171,18 @@ abbrev pub log_limit : ℕ
 log_limit = 67108864
 
 -- the report of a log in a world, with what is asked behind it
-abbrev pub world_report : Option Query → World → List ℕ → Report
-world_report query w log = if nat_lt log_limit (length log) then limit_hit (codes "log") log_limit else after (start_lines w) (answered query w (lines_of log))
+abbrev pub world_report : Option Query → Bool → World → List ℕ → Report
+world_report query more w log = if nat_lt log_limit (length log) then limit_hit (codes "log") log_limit else after (start_lines w) (answered query more w (lines_of log))
 
--- the report of a log by what the world's text comes to
-abbrev pub by_world : Option Query → WorldText → List ℕ → Report
-by_world query Bad log = says status.BadWorld (codes "bad world")
-by_world query texts.NotBuilt log = not_built
-by_world query (Reads w) log = world_report query w log
+-- the report of a log by what the world's text comes to, and whether it says more of a process than its user ids
+abbrev pub by_world : Option Query → Bool → WorldText → List ℕ → Report
+by_world query more Bad log = says status.BadWorld (codes "bad world")
+by_world query more texts.NotBuilt log = not_built
+by_world query more (Reads w) log = world_report query more w log
 
 -- the report of a log by the world's text
 abbrev pub files_report : Option Query → List ℕ → List ℕ → Report
-files_report query world log = if nat_lt world_limit (length world) then limit_hit (codes "world") world_limit else by_world query (world_text world) log
+files_report query world log = if nat_lt world_limit (length world) then limit_hit (codes "world") world_limit else by_world query (text_says_more world) (world_text world) log
 
 -- the five forms of the command line
 abbrev pub usage : Report

@@ -30,3 +30,7 @@ result_token text = if bytes_eq text (codes "0") then Some Done else option_map 
 abbrev pub is_comment : List ℕ → Bool
 is_comment [] = false
 is_comment (byte ∷ text) = byte == 59
+
+-- the token is `=`, which stands in front of a result
+abbrev pub is_equals : List ℕ → Bool
+is_equals token = bytes_eq token (codes "=")

@@ -1,9 +1,9 @@
-// What a text may ask for that isn't built: such a text isn't read, whatever else stands in it.
-ghost use Rattle.std.specs.Prelude.{◌≡◌, codes};
+// What a text asks for that isn't built, and what it says of processes that the audit doesn't know. A text that asks
+// for what isn't built isn't read, whatever else stands in it.
+ghost use Rattle.std.specs.Prelude.{◌≡◌, codes, map};
 ghost use Rattle.toml.specs.Data.{get_member};
 ghost use Rattle.toml.specs.View.{view, table_view, items_view};
-ghost use Rattle.model_text.specs.Toml.{has_key_of};
-ghost use Rattle.model_text.specs.WorldText.{asks_more, later_keys, row_asks_more, some_row_asks_more, rows_ask_more};
+ghost use Rattle.model_text.specs.WorldText.{asks_more, says_more, row_has, some_row_has, rows_have};
 
 use super::table::{has_key_of, is_text_at, value_at};
 use toml::{Table, Value};
@@ -14,45 +14,16 @@ pub(super) fn asks_more(table: &Table) -> bool
 {
     has_key_of(table, &["space", "mount", "file", "filter"])
         || is_text_at(table, "log", "strace")
-        || rows_ask_more(table)
+        || rows_have(table, &["parent", "space"])
 }
 
-/// The rows of its processes do.
-fn rows_ask_more(table: &Table) -> bool
-    ensures { result ≡ rows_ask_more (get_member (codes "process") (table_view table.now)) }
+/// The whole table says more of a process than its pid and its user ids.
+pub(super) fn says_more(table: &Table) -> bool
+    ensures { result ≡ says_more (table_view table.now) }
 {
-    match value_at(table, "process") {
-        Some(Value::Array(rows)) => some_row_asks_more(rows),
-        _ => false,
-    }
-}
-
-/// One of the rows does.
-fn some_row_asks_more(rows: &[Value]) -> bool
-    ensures { result ≡ some_row_asks_more (items_view rows.now) }
-{
-    rows.iter().any(row_asks_more)
-}
-
-/// The row asks for what isn't built.
-fn row_asks_more(row: &Value) -> bool
-    ensures { result ≡ row_asks_more (view row.now) }
-{
-    match row {
-        Value::Table(row) => has_later_key(row),
-        _ => false,
-    }
-}
-
-/// The row has one of the keys of a process that aren't built.
-fn has_later_key(row: &Table) -> bool
-    ensures { result ≡ has_key_of later_keys (table_view row.now) }
-{
-    has_key_of(
-        row,
+    rows_have(
+        table,
         &[
-            "parent",
-            "space",
             "gid",
             "groups",
             "permitted",
@@ -64,4 +35,31 @@ fn has_later_key(row: &Table) -> bool
             "no_new_privs",
         ],
     )
+}
+
+/// One of the rows of its processes has one of the keys.
+fn rows_have(table: &Table, keys: &[&str]) -> bool
+    ensures { result ≡ rows_have (map (λ key. key.now) keys.now) (get_member (codes "process") (table_view table.now)) }
+{
+    match value_at(table, "process") {
+        Some(Value::Array(rows)) => some_row_has(rows, keys),
+        _ => false,
+    }
+}
+
+/// One of these rows does.
+fn some_row_has(rows: &[Value], keys: &[&str]) -> bool
+    ensures { result ≡ some_row_has (map (λ key. key.now) keys.now) (items_view rows.now) }
+{
+    rows.iter().any(|row| row_has(row, keys))
+}
+
+/// The row is a table that has one of the keys.
+fn row_has(row: &Value, keys: &[&str]) -> bool
+    ensures { result ≡ row_has (map (λ key. key.now) keys.now) (view row.now) }
+{
+    match row {
+        Value::Table(row) => has_key_of(row, keys),
+        _ => false,
+    }
 }

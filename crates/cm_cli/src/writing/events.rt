@@ -1,10 +1,11 @@
 // The line of an event: the number of its line in the log, and the event as a script line.
 ghost use Rattle.std.specs.Prelude.{◌≡◌, ◌++◌, [], ◌∷◌, OnOk, codes};
 ghost use Rattle.cm_state.specs.Call.{call_of};
-ghost use Rattle.model_text.specs.Print.{call_text, event_text, id_text, res_text};
+ghost use Rattle.model_text.specs.Print.{arguments_of, arguments_text, call_text, event_text, id_text, res_text};
 ghost use Rattle.model_text.specs.Report.{text_of, Told, Plain};
 
 use super::numbers::{put, put_decimal, put_id};
+use crate::line::CallKind;
 use cm_base::{NoMemory, Res};
 use cm_state::{Call, Event};
 
@@ -34,22 +35,49 @@ pub(super) fn put_script(text: &mut Vec<u8>, event: &Event) -> Result<(), NoMemo
     put(text, b"\n")
 }
 
+// A call behind a space: its name and its arguments.
 #[inline]
 fn put_call(text: &mut Vec<u8>, call: &Call) -> Result<(), NoMemory>
     ensures { OnOk result (text.new.items ≡ text.old.items ++ call_text (call_of call.now)) }
 {
+    put(text, b" ")?;
+    put(text, CallKind::of(call).name().as_bytes())?;
+    put_arguments(text, call)
+}
+
+// The ids of a call.
+#[inline]
+fn put_arguments(text: &mut Vec<u8>, call: &Call) -> Result<(), NoMemory>
+    ensures { OnOk result (text.new.items ≡ text.old.items ++ arguments_text (arguments_of (call_of call.now))) }
+{
     match call {
-        Call::SetResUid(real, effective, saved) => {
-            put(text, b" setresuid ")?;
-            put_id(text, *real)?;
-            put_next_id(text, *effective)?;
-            put_next_id(text, *saved)
+        Call::SetUid(id) | Call::SetFsUid(id) | Call::SetGid(id) | Call::SetFsGid(id) => {
+            put_argument(text, *id)
         }
+        Call::SetReUid(real, effective) | Call::SetReGid(real, effective) => {
+            put_argument(text, *real)?;
+            put_argument(text, *effective)
+        }
+        Call::SetResUid(real, effective, saved) | Call::SetResGid(real, effective, saved) => {
+            put_argument(text, *real)?;
+            put_argument(text, *effective)?;
+            put_argument(text, *saved)
+        }
+        Call::SetGroups(ids) => put_all(text, ids.items()),
     }
 }
 
+fn put_all(text: &mut Vec<u8>, ids: &[u32]) -> Result<(), NoMemory>
+    ensures { OnOk result (text.new.items ≡ text.old.items ++ arguments_text ids.now) }
+{
+    for id in ids {
+        put_argument(text, *id)?;
+    }
+    Ok(())
+}
+
 #[inline]
-fn put_next_id(text: &mut Vec<u8>, id: u32) -> Result<(), NoMemory>
+fn put_argument(text: &mut Vec<u8>, id: u32) -> Result<(), NoMemory>
     ensures { OnOk result (text.new.items ≡ text.old.items ++ codes " " ++ id_text id) }
 {
     put(text, b" ")?;

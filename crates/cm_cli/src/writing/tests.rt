@@ -1,7 +1,7 @@
 use super::credentials::{put_credentials, put_groups};
 use super::events::put_event;
 use cm_base::{CapWord, Errno, Kgid, Kuid, Pid, Res, SecBits};
-use cm_state::{Call, Cred, Event, Groups};
+use cm_state::{Call, Cred, Event, Groups, Ids};
 use std::test::Fail;
 
 #[test]
@@ -45,18 +45,40 @@ fn credential_line(rt: HostRuntime) -> Result<(), Fail> {
 }
 
 #[test]
-fn event_line(rt: HostRuntime) -> Result<(), Fail> {
+fn event_lines(rt: HostRuntime) -> Result<(), Fail> {
     let alloc = rt.alloc();
-    let event = Event {
-        pid: Pid::new(100).ok_or("pid")?,
-        call: Call::SetResUid(1000, 4294967295, 1000),
-        res: Res::Err(Errno::EPERM),
-    };
-    let mut text = Vec::new(alloc);
-    put_event(&mut text, 1, &event)?;
-    assert_eq!(rt;
-        text.as_slice(),
-        b"1: 100 setresuid 1000 -1 1000 = EPERM\n".as_slice()
-    );
+    let groups = vec![in alloc; 7, 4294967295, 0]?;
+    for (call, res, want) in [
+        (
+            Call::SetResUid(1000, 4294967295, 1000),
+            Res::Err(Errno::EPERM),
+            "1: 100 setresuid 1000 -1 1000 = EPERM\n",
+        ),
+        (
+            Call::SetReGid(4294967294, 0),
+            Res::Done,
+            "1: 100 setregid 4294967294 0 = 0\n",
+        ),
+        (
+            Call::SetFsUid(4294967295),
+            Res::Id(65534),
+            "1: 100 setfsuid -1 = 65534\n",
+        ),
+        (
+            Call::SetGroups(Ids::from_vec(groups)),
+            Res::Err(Errno::EINVAL),
+            "1: 100 setgroups 7 -1 0 = EINVAL\n",
+        ),
+        (
+            Call::SetGroups(Ids::from_vec(Vec::new(alloc))),
+            Res::Done,
+            "1: 100 setgroups = 0\n",
+        ),
+    ] {
+        let pid = Pid::new(100).ok_or("pid")?;
+        let mut text = Vec::new(alloc);
+        put_event(&mut text, 1, &Event { pid, call, res })?;
+        assert_eq!(rt; text.as_slice(), want.as_bytes());
+    }
     Ok(())
 }

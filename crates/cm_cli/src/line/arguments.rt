@@ -1,0 +1,117 @@
+// The arguments of a call in a script line. Each reader gives what it read and the text behind it.
+ghost use Rattle.std.specs.Prelude.{◌≡◌, ◌≢◌, ℕ, IfOk, option_map};
+ghost use Rattle.cm_cli.specs.Lines.{kind_view};
+ghost use Rattle.cm_state.specs.Call.{call_of};
+ghost use Rattle.model_cred.specs.Call as model;
+ghost use Rattle.model_text.specs.Cut.{tokens_of};
+ghost use Rattle.model_text.specs.Line.{call_of_kind, ids_before, with_all, with_two, with_three};
+
+use super::kind::CallKind;
+use super::tokens::{next_id, next_token, read_id, stands_for_equals};
+use cm_base::NoMemory;
+use cm_state::{Call, Ids};
+use std::alloc::Global;
+
+/// The call of that kind with the arguments that the text begins with, and what follows them. None where these are none
+/// of the kind, or calls of it aren't built.
+pub(super) fn read_call(
+    alloc: Global,
+    kind: CallKind,
+    text: &[u8],
+) -> Result<Option<(Call, &[u8])>, NoMemory>
+    ensures { IfOk result (λ read. option_map (λ p. (call_of p.0, tokens_of p.1.now)) read ≡ call_of_kind (kind_view kind) (tokens_of text.now)) }
+{
+    match kind {
+        CallKind::SetGroups => read_groups(alloc, text),
+        _ => Ok(read_ids(kind, text)),
+    }
+}
+
+// A call with one, two or three ids.
+fn read_ids(kind: CallKind, text: &[u8]) -> Option<(Call, &[u8])>
+    requires { kind ≢ CallKind.SetGroups }
+    ensures { option_map (λ p. (call_of p.0, tokens_of p.1.now)) result ≡ call_of_kind (kind_view kind) (tokens_of text.now) }
+{
+    match kind {
+        CallKind::SetUid => {
+            let (id, rest) = next_id(text)?;
+            Some((Call::SetUid(id), rest))
+        }
+        CallKind::SetReUid => {
+            let (r, e, rest) = next_two(text)?;
+            Some((Call::SetReUid(r, e), rest))
+        }
+        CallKind::SetResUid => {
+            let (r, e, s, rest) = next_three(text)?;
+            Some((Call::SetResUid(r, e, s), rest))
+        }
+        CallKind::SetFsUid => {
+            let (id, rest) = next_id(text)?;
+            Some((Call::SetFsUid(id), rest))
+        }
+        CallKind::SetGid => {
+            let (id, rest) = next_id(text)?;
+            Some((Call::SetGid(id), rest))
+        }
+        CallKind::SetReGid => {
+            let (r, e, rest) = next_two(text)?;
+            Some((Call::SetReGid(r, e), rest))
+        }
+        CallKind::SetResGid => {
+            let (r, e, s, rest) = next_three(text)?;
+            Some((Call::SetResGid(r, e, s), rest))
+        }
+        CallKind::SetFsGid => {
+            let (id, rest) = next_id(text)?;
+            Some((Call::SetFsGid(id), rest))
+        }
+        _ => None,
+    }
+}
+
+// Two ids, and what follows them.
+fn next_two(text: &[u8]) -> Option<(u32, u32, &[u8])>
+    ensures { (make : ℕ → ℕ → model.Call) → option_map (λ p. (make p.0 p.1, tokens_of p.2.now)) result ≡ with_two make (tokens_of text.now) }
+{
+    let (first, rest) = next_id(text)?;
+    let (second, rest) = next_id(rest)?;
+    Some((first, second, rest))
+}
+
+// Three ids, and what follows them.
+fn next_three(text: &[u8]) -> Option<(u32, u32, u32, &[u8])>
+    ensures { (make : ℕ → ℕ → ℕ → model.Call) → option_map (λ p. (make p.0 p.1 p.2, tokens_of p.3.now)) result ≡ with_three make (tokens_of text.now) }
+{
+    let (first, rest) = next_id(text)?;
+    let (second, third, rest) = next_two(rest)?;
+    Some((first, second, third, rest))
+}
+
+// setgroups with the ids in front of the `=`.
+fn read_groups(alloc: Global, text: &[u8]) -> Result<Option<(Call, &[u8])>, NoMemory>
+    ensures { IfOk result (λ read. option_map (λ p. (call_of p.0, tokens_of p.1.now)) read ≡ with_all model.SetGroups (tokens_of text.now)) }
+{
+    let Some((ids, rest)) = ids_before_equals(alloc, text)? else {
+        return Ok(None);
+    };
+    Ok(Some((Call::SetGroups(Ids::from_vec(ids)), rest)))
+}
+
+// The ids in front of the first `=`, and the text from there on. None where a token among them is no id.
+fn ids_before_equals(alloc: Global, text: &[u8]) -> Result<Option<(Vec<u32>, &[u8])>, NoMemory>
+    ensures { IfOk result (λ read. option_map (λ p. (p.0.items, tokens_of p.1.now)) read ≡ ids_before (tokens_of text.now)) }
+{
+    let mut ids = Vec::new(alloc);
+    let mut rest = text;
+    while let Some((token, after)) = next_token(rest) {
+        if stands_for_equals(token) {
+            return Ok(Some((ids, rest)));
+        }
+        let Some(id) = read_id(token) else {
+            return Ok(None);
+        };
+        ids.push(id)?;
+        rest = after;
+    }
+    Ok(Some((ids, rest)))
+}

@@ -1,0 +1,3 @@
+mod Faultless
+mod Sides
+pub mod Taken

@@ -1,0 +1,16 @@
+//! Id maps of user namespaces: lists of extents, which lists are a map, and what a map takes an id to, both ways.
+//! Contracts see a map as the list of its extents, in the order in which it was handed in.
+#![tactic(auto)]
+
+mod extent;
+mod fault;
+mod map;
+mod memory;
+
+pub use extent::Extent;
+pub use fault::BadMap;
+pub use map::IdMap;
+pub use memory::NoMemory;
+
+#[cfg(test)]
+mod tests;

@@ -1,0 +1,108 @@
+// An id map: a list of extents that is one by user_namespaces(7), with what it takes an id to, both ways.
+ghost use Rattle.std.specs.Prelude.{◌≡◌, ℕ, ◌<◌, ◌↔◌, None, Some, IfOk, IfSome};
+ghost use Rattle.std.specs.declared.result.Result.TheVariants.{Err};
+ghost use Rattle.model_cred.specs.IdMap.{down, up, initial_map, Maps};
+ghost use Rattle.model_cred.specs.MapFault.{map_fault};
+ghost use Rattle.cm_idmap.specs.Fault.{fault_of};
+ghost use Rattle.cm_idmap.specs.declared.fault.BadMap.{BadMap};
+ghost use Rattle.cm_idmap.specs.declared.fault.BadMap.TheVariants as answer;
+
+use crate::fault::first_fault;
+use crate::{BadMap, Extent, NoMemory};
+use std::alloc::Global;
+use std::marker::Model;
+
+/// A map from the ids of a user namespace, its inside ids, to outside ids. It takes no two ids to one.
+#[derive(Debug, Drop)]
+pub struct IdMap {
+    list: Vec<Extent>,
+}
+
+impl Model for IdMap {
+    ghost use Rattle.std.specs.Prelude.{List};
+    ghost use Rattle.model_cred.specs.IdMap.{Extent};
+    ghost use Rattle.model_cred.specs.MapFault.{IsMap};
+
+    ghost Value = { List Extent };
+
+    ghost view = { λ m. m.list.items };
+
+    ghost invariant = { λ m. IsMap m.list.items };
+}
+
+impl IdMap {
+    /// The map of a list of extents. The first fault of a list that is none is answered in this order (the order is a
+    /// choice): `Empty`, `TooMany` past 340 extents, the first extent with `ZeroLength` or `PastEnd`, then `Overlap` of
+    /// the least pair whose inside or outside ranges meet (user_namespaces(7)). `NoMemory` comes only for a map.
+    pub fn make(alloc: Global, list: &[Extent]) -> Result<IdMap, BadMap>
+        ensures made { IfOk result (λ m. (m ≡ list.now) × (map_fault list.now ≡ None)) }
+        ensures refused { (e : BadMap) → result ≡ Err e → map_fault list.now ≡ fault_of e }
+        ensures memory { result ≡ Err answer.NoMemory → map_fault list.now ≡ None }
+    {
+        if let Some(fault) = first_fault(list) {
+            return Err(fault);
+        }
+        match Vec::from_slice(alloc, list) {
+            Ok(list) => Ok(IdMap { list }),
+            Err(_) => Err(BadMap::NoMemory),
+        }
+    }
+
+    /// The map of the initial user namespace, `0 0 4294967295`: each id stands for itself.
+    pub fn initial(alloc: Global) -> Result<IdMap, NoMemory>
+        ensures { IfOk result (λ m. m ≡ initial_map) }
+    {
+        let all = Extent {
+            inside: 0,
+            outside: 0,
+            length: 4_294_967_295,
+        };
+        let list = vec![in alloc; all]?;
+        Ok(IdMap { list })
+    }
+
+    /// The outside id of an inside id, below 4294967295. None exactly where no extent holds the id
+    /// (user_namespaces(7)).
+    pub fn down(&self, inside: u32) -> Option<u32>
+        ensures image { result ≡ down self.now inside }
+        ensures is_id { IfSome result (λ id. id < 4294967295) }
+        ensures maps { (id : ℕ) → (result ≡ Some id) ↔ Maps self.now inside id }
+    {
+        for e in &self.list {
+            if e.inside <= inside && inside - e.inside < e.length {
+                return Some(e.outside + (inside - e.inside));
+            }
+        }
+        None
+    }
+
+    /// The inside id of an outside id, below 4294967295. None exactly where no extent holds the id
+    /// (user_namespaces(7)).
+    pub fn up(&self, outside: u32) -> Option<u32>
+        ensures image { result ≡ up self.now outside }
+        ensures is_id { IfSome result (λ id. id < 4294967295) }
+        ensures maps { (id : ℕ) → (result ≡ Some id) ↔ Maps self.now id outside }
+    {
+        for e in &self.list {
+            if e.outside <= outside && outside - e.outside < e.length {
+                return Some(e.inside + (outside - e.outside));
+            }
+        }
+        None
+    }
+
+    /// The extents, in the order in which they were handed in.
+    pub fn extents(&self) -> &[Extent]
+        ensures { result.now ≡ self.now }
+    {
+        &self.list
+    }
+
+    /// An equal map.
+    pub fn copy(&self, alloc: Global) -> Result<IdMap, NoMemory>
+        ensures { IfOk result (λ m. m ≡ self.now) }
+    {
+        let list = Vec::from_slice(alloc, &self.list)?;
+        Ok(IdMap { list })
+    }
+}

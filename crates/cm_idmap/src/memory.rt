@@ -1,0 +1,18 @@
+// Want of memory, the one answer that any call which takes memory may give.
+use std::alloc::{AllocError, AllocFailed};
+
+/// There was no memory. The call that answers it leaves its objects as they were.
+#[derive(Clone, Copy, Debug, PartialEq, Eq)]
+pub struct NoMemory;
+
+impl From<AllocError> for NoMemory {
+    fn from(_: AllocError) -> Self {
+        NoMemory
+    }
+}
+
+impl<T: Drop> From<AllocFailed<T>> for NoMemory {
+    fn from(_: AllocFailed<T>) -> Self {
+        NoMemory
+    }
+}

@@ -1,0 +1,127 @@
+// What a change of user ids does to the sets (capabilities(7), "Effect of user ID changes on capabilities"), unless
+// SECBIT_NO_SETUID_FIXUP is set. Root is here the id that the space's map of user ids gives to inside 0.
+ghost use Rattle.std.specs.Prelude.{◌≡◌, Option};
+ghost use Rattle.model_cred.specs.IdMap.{is_the};
+ghost use Rattle.model_cred.specs.Space as model;
+ghost use Rattle.model_rules.specs.Caps.{fs_caps};
+ghost use Rattle.model_rules.specs.Fixups.{without_root, after_losing_root, following_effective, fixed_up, following_fs, fs_fixed_up};
+ghost use Rattle.model_rules.specs.Zero.{zero_of, is_zero, has_zero};
+
+use crate::four::FourIds;
+use crate::mapped::down_in;
+use crate::uids::user_ids;
+use cm_base::CapWord;
+use cm_state::{Cred, Space};
+
+const NO_SETUID_FIXUP: u8 = 4;
+
+const KEEP_CAPS: u8 = 16;
+
+// CAP_CHOWN, CAP_DAC_OVERRIDE, CAP_DAC_READ_SEARCH, CAP_FOWNER, CAP_FSETID, CAP_LINUX_IMMUTABLE, CAP_MKNOD and
+// CAP_MAC_OVERRIDE, which follow the fs user id.
+const FS_CAPS: u64 = 0x1_0800_021f;
+
+// The fixups of setresuid(2), setreuid(2) and setuid(2), from the old user ids to those that the credential has now.
+pub(crate) fn fix_up(c: &mut Cred, s: &Space, old: FourIds)
+    ensures { c.new ≡ fixed_up s.now old c.old }
+{
+    if c.sec.has(NO_SETUID_FIXUP) {
+        return;
+    }
+    let root = root_of(s);
+    clear_without_root(c, root, old);
+    follow_effective(c, root, old);
+}
+
+// The id of inside 0, None where it isn't mapped.
+#[inline]
+fn root_of(s: &Space) -> Option<u32>
+    ensures { result ≡ zero_of s.now }
+{
+    down_in(&s.uids, 0)
+}
+
+// The id is root's.
+#[inline]
+fn is_root(root: Option<u32>, id: u32) -> bool
+    ensures { result ≡ is_the root id }
+{
+    match root {
+        Some(root) => id == root,
+        None => false,
+    }
+}
+
+// The real, the effective or the saved id is root's.
+#[inline]
+fn has_root(root: Option<u32>, ids: FourIds) -> bool
+    ensures { (s : model.Space) → root ≡ zero_of s → result ≡ has_zero s ids }
+{
+    is_root(root, ids.real) || is_root(root, ids.effective) || is_root(root, ids.saved)
+}
+
+// Where one of the three ids was root's and none is now.
+fn clear_without_root(c: &mut Cred, root: Option<u32>, old: FourIds)
+    ensures { (s : model.Space) → root ≡ zero_of s → c.new ≡ after_losing_root s old c.old }
+{
+    let now = user_ids(c);
+    if has_root(root, old) && !has_root(root, now) {
+        clear(c);
+    }
+}
+
+// Under SECBIT_KEEP_CAPS the permitted and effective sets stay.
+fn clear(c: &mut Cred)
+    ensures { c.new ≡ without_root c.old }
+{
+    if !c.sec.has(KEEP_CAPS) {
+        c.prm = CapWord::empty();
+        c.eff = CapWord::empty();
+    }
+    c.amb = CapWord::empty();
+}
+
+// Where the effective id went from root's to another the effective set is cleared; the other way it becomes the
+// permitted set.
+fn follow_effective(c: &mut Cred, root: Option<u32>, old: FourIds)
+    ensures { (s : model.Space) → root ≡ zero_of s → c.new ≡ following_effective s old c.old }
+{
+    let was = is_root(root, old.effective);
+    let is = is_root(root, c.euid.number());
+    if was && !is {
+        c.eff = CapWord::empty();
+    } else if !was && is {
+        c.eff = c.prm;
+    }
+}
+
+// The fixup of setfsuid(2), from the old fs user id to the one that the credential has now.
+pub(crate) fn fix_up_fs(c: &mut Cred, s: &Space, old: u32)
+    ensures { c.new ≡ fs_fixed_up s.now old c.old }
+{
+    if !c.sec.has(NO_SETUID_FIXUP) {
+        follow_fs(c, root_of(s), old);
+    }
+}
+
+// Where the fs id went from root's to another, the capabilities that follow it leave the effective set; the other way
+// those of them that are permitted come in.
+fn follow_fs(c: &mut Cred, root: Option<u32>, old: u32)
+    ensures { (s : model.Space) → root ≡ zero_of s → c.new ≡ following_fs s old c.old }
+{
+    let was = is_root(root, old);
+    let is = is_root(root, c.fsuid.number());
+    if was && !is {
+        c.eff = c.eff.minus(followers());
+    } else if !was && is {
+        c.eff = c.eff.union(c.prm.meet(followers()));
+    }
+}
+
+// The capabilities that follow the fs user id.
+#[inline]
+fn followers() -> CapWord
+    ensures { result ≡ fs_caps }
+{
+    CapWord::from_bits(FS_CAPS)
+}

@@ -1,0 +1,166 @@
+// The real, effective, saved and fs id, of user or of group, and the rules by which the calls change them (setresuid(2),
+// setreuid(2), setuid(2), setfsuid(2)). A rule knows the caller's map, and whether the caller has the capability.
+ghost use Rattle.std.specs.Prelude.{◌≡◌, ◌<◌};
+ghost use Rattle.model_cred.specs.Credential.{is_one_of_three, all_four};
+ghost use Rattle.model_cred.specs.IdMap.{extents_of};
+ghost use Rattle.model_rules.specs.SetId.{set_res as model_set_res, set_re as model_set_re, set_one as model_set_one, set_fs as model_set_fs, saved_after};
+
+use crate::mapped::{MINUS_ONE, asked_for, down_in};
+use cm_base::Errno;
+use cm_idmap::IdMap;
+use std::marker::Model;
+
+/// The four ids of a process, as the initial user namespace sees them: 0 to 4294967294.
+#[derive(Clone, Copy, Debug)]
+pub(crate) struct FourIds {
+    pub real: u32,
+    pub effective: u32,
+    pub saved: u32,
+    pub fs: u32,
+}
+
+impl Model for FourIds {
+    ghost use Rattle.model_cred.specs.Credential.{FourIds, AreIds};
+
+    ghost Value = { FourIds };
+
+    ghost view = { λ ids. record { real = ids.real; effective = ids.effective; saved = ids.saved; fs = ids.fs } };
+
+    ghost invariant = { λ ids. AreIds (record { real = ids.real; effective = ids.effective; saved = ids.saved; fs = ids.fs }) };
+
+    ghost inverse = { λ ids. record { real = ids.real; effective = ids.effective; saved = ids.saved; fs = ids.fs } };
+}
+
+impl FourIds {
+    // The id is the real, the effective or the saved one.
+    #[inline]
+    fn has(self, id: u32) -> bool
+        ensures { result ≡ is_one_of_three self id }
+    {
+        id == self.real || id == self.effective || id == self.saved
+    }
+}
+
+// setresuid(2) and setresgid(2): EINVAL for a given id without a mapping; else EPERM where without the capability one is
+// none of the old real, effective and saved id.
+pub(crate) fn set_res(
+    map: &Option<IdMap>,
+    privileged: bool,
+    old: FourIds,
+    r: u32,
+    e: u32,
+    s: u32,
+) -> Result<FourIds, Errno>
+    ensures { result ≡ model_set_res (extents_of map.now) privileged old r e s }
+{
+    let Some(real) = asked_for(map, old.real, r) else {
+        return Err(Errno::EINVAL);
+    };
+    let Some(effective) = asked_for(map, old.effective, e) else {
+        return Err(Errno::EINVAL);
+    };
+    let Some(saved) = asked_for(map, old.saved, s) else {
+        return Err(Errno::EINVAL);
+    };
+    if !privileged && !(old.has(real) && old.has(effective) && old.has(saved)) {
+        return Err(Errno::EPERM);
+    }
+    Ok(FourIds {
+        real,
+        effective,
+        saved,
+        fs: effective,
+    })
+}
+
+// setreuid(2) and setregid(2): EINVAL for a given id without a mapping; else EPERM where without the capability the real
+// id is neither the old real nor the effective one, or the effective id none of the three.
+pub(crate) fn set_re(
+    map: &Option<IdMap>,
+    privileged: bool,
+    old: FourIds,
+    r: u32,
+    e: u32,
+) -> Result<FourIds, Errno>
+    ensures { result ≡ model_set_re (extents_of map.now) privileged old r e }
+{
+    let Some(real) = asked_for(map, old.real, r) else {
+        return Err(Errno::EINVAL);
+    };
+    let Some(effective) = asked_for(map, old.effective, e) else {
+        return Err(Errno::EINVAL);
+    };
+    let may_real = real == old.real || real == old.effective;
+    if !privileged && !(may_real && old.has(effective)) {
+        return Err(Errno::EPERM);
+    }
+    Ok(FourIds {
+        real,
+        effective,
+        saved: saved_id(old, r, e, effective),
+        fs: effective,
+    })
+}
+
+// The saved id after setreuid(2): the new effective id where the real one was given, or an effective one that differs
+// from the old real id.
+#[inline]
+fn saved_id(old: FourIds, r: u32, e: u32, effective: u32) -> u32
+    ensures { result ≡ saved_after old r e effective }
+{
+    if r != MINUS_ONE || (e != MINUS_ONE && effective != old.real) {
+        effective
+    } else {
+        old.saved
+    }
+}
+
+// setuid(2) and setgid(2): EINVAL for an id without a mapping, as -1. With the capability all four become the id;
+// without it the effective and the fs id do, and EPERM comes where it is neither the old real nor the saved one.
+pub(crate) fn set_one(
+    map: &Option<IdMap>,
+    privileged: bool,
+    old: FourIds,
+    argument: u32,
+) -> Result<FourIds, Errno>
+    ensures { result ≡ model_set_one (extents_of map.now) privileged old argument }
+{
+    let Some(id) = down_in(map, argument) else {
+        return Err(Errno::EINVAL);
+    };
+    if privileged {
+        return Ok(all_of(id));
+    }
+    if id != old.real && id != old.saved {
+        return Err(Errno::EPERM);
+    }
+    Ok(FourIds {
+        effective: id,
+        fs: id,
+        ..old
+    })
+}
+
+#[inline]
+fn all_of(id: u32) -> FourIds
+    requires { id < 4294967295 }
+    ensures { result ≡ all_four id }
+{
+    FourIds {
+        real: id,
+        effective: id,
+        saved: id,
+        fs: id,
+    }
+}
+
+// setfsuid(2) and setfsgid(2), which have no error: the ids with another fs id where that is mapped, and is one of the
+// four or the caller has the capability; else the old ones.
+pub(crate) fn set_fs(map: &Option<IdMap>, privileged: bool, old: FourIds, argument: u32) -> FourIds
+    ensures { result ≡ model_set_fs (extents_of map.now) privileged old argument }
+{
+    match down_in(map, argument) {
+        Some(id) if privileged || old.has(id) || id == old.fs => FourIds { fs: id, ..old },
+        _ => old,
+    }
+}

@@ -1,0 +1,4 @@
+-- Lemmas of this crate, by topic.
+pub mod IdSets
+pub mod Places
+pub mod SpacePlaces

@@ -1,0 +1,41 @@
+// A process, as the machine keeps it: its pid, whom it descends from, where it is, and its credentials.
+use crate::Cred;
+use cm_base::{NoMemory, Pid, SpaceId};
+use std::alloc::Global;
+use std::marker::Model;
+
+/// A process: its pid; its forebear, the nearest living ancestor by birth, None where none lives (choice); the number
+/// of the user namespace that it is in; its credentials.
+#[derive(Debug, Drop)]
+pub struct Proc {
+    pub pid: Pid,
+    pub forebear: Option<Pid>,
+    pub space: SpaceId,
+    pub cred: Cred,
+}
+
+impl Model for Proc {
+    ghost use Rattle.model_cred.specs.Process.{Process};
+
+    ghost Value = { Process };
+
+    ghost view = { λ p. record { pid = p.pid; forebear = p.forebear; space = p.space.0; cred = p.cred } };
+}
+
+impl Proc {
+    ghost use Rattle.std.specs.Prelude.{◌≡◌};
+    ghost use Rattle.cm_base.specs.Outcome.{OrNoMemory};
+
+    /// The same process. Its only error is want of memory.
+    pub fn copy(&self, alloc: Global) -> Result<Proc, NoMemory>
+        ensures { OrNoMemory result (λ p. p ≡ self.now) }
+    {
+        let cred = self.cred.copy(alloc)?;
+        Ok(Proc {
+            pid: self.pid,
+            forebear: self.forebear,
+            space: self.space,
+            cred,
+        })
+    }
+}

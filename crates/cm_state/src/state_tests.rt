@@ -1,0 +1,161 @@
+// The parts of a state, its processes and its spaces, by hand: each call once, and copies.
+ghost use Rattle.std.specs.Prelude.{◌≡◌, IfOk};
+ghost use Rattle.model_cred.specs.Process.{Ascends};
+
+use crate::{Cred, Groups, Proc, Procs, Space, Spaces, State};
+use cm_base::{CapWord, Kgid, Kuid, NoMemory, Pid, SecBits, SpaceId};
+use std::alloc::Global;
+use std::test::Fail;
+
+fn kuid(id: u32) -> Kuid {
+    Kuid::new(id).unwrap_or(Kuid::new(0).unwrap())
+}
+
+fn kgid(id: u32) -> Kgid {
+    Kgid::new(id).unwrap_or(Kgid::new(0).unwrap())
+}
+
+fn pid(n: u32) -> Pid {
+    Pid::new(n).unwrap_or(Pid::new(1).unwrap())
+}
+
+// Credentials with eight ids and two groups.
+fn cred(alloc: Global) -> Result<Cred, NoMemory> {
+    let groups = Groups::make(alloc, &[kgid(27), kgid(4)])?;
+    Ok(Cred {
+        ruid: kuid(1),
+        euid: kuid(2),
+        suid: kuid(3),
+        fsuid: kuid(4),
+        rgid: kgid(5),
+        egid: kgid(6),
+        sgid: kgid(7),
+        fsgid: kgid(8),
+        groups,
+        inh: CapWord::empty(),
+        prm: CapWord::full(),
+        eff: CapWord::empty(),
+        bnd: CapWord::full(),
+        amb: CapWord::empty(),
+        sec: SecBits(47),
+        nnp: true,
+    })
+}
+
+// A process of that pid in the initial space.
+fn process(alloc: Global, n: u32) -> Result<Proc, NoMemory>
+    ensures { IfOk result (λ p. p.space ≡ 0) }
+{
+    let cred = cred(alloc)?;
+    Ok(Proc {
+        pid: pid(n),
+        forebear: Some(pid(1)),
+        space: SpaceId(0),
+        cred,
+    })
+}
+
+// Puts a process in its place, where none has its pid.
+fn put(procs: &mut Procs, p: Proc) -> Result<(), NoMemory>
+    requires { Ascends procs.old }
+    ensures { Ascends procs.new }
+{
+    match procs.find(p.pid) {
+        Some(_) => Ok(()),
+        None => procs.insert(p),
+    }
+}
+
+// Processes of the pids 100, 200 and 300, put in another order.
+fn three(alloc: Global) -> Result<Procs, NoMemory>
+    ensures { IfOk result (λ procs. Ascends procs) }
+{
+    let mut procs = Procs::from_vec(Vec::new(alloc));
+    put(&mut procs, process(alloc, 200)?)?;
+    put(&mut procs, process(alloc, 300)?)?;
+    put(&mut procs, process(alloc, 100)?)?;
+    Ok(procs)
+}
+
+// One process of pid 100 in the initial space, which stands alone.
+fn alone(alloc: Global) -> Result<State, NoMemory> {
+    let p = process(alloc, 100)?;
+    let list = vec![in alloc; p]?;
+    let spaces = Spaces::first(alloc)?;
+    let procs = Procs::from_vec(list);
+    Ok(State { procs, spaces })
+}
+
+// The pids of the processes are these, in this order.
+fn are(procs: &Procs, pids: &[u32]) -> bool {
+    procs
+        .items()
+        .iter()
+        .map(|p| p.pid.number())
+        .eq(pids.iter().copied())
+}
+
+#[test]
+fn a_copy_of_credentials_has_each_part(rt: HostRuntime) -> Result<(), Fail> {
+    let c = cred(rt.alloc())?.copy(rt.alloc())?;
+    let uids = [c.ruid, c.euid, c.suid, c.fsuid];
+    assert!(rt; uids == [kuid(1), kuid(2), kuid(3), kuid(4)]);
+    let gids = [c.rgid, c.egid, c.sgid, c.fsgid];
+    assert!(rt; gids == [kgid(5), kgid(6), kgid(7), kgid(8)]);
+    assert!(rt; c.groups.items() == [kgid(4), kgid(27)].as_slice());
+    assert!(rt; c.prm.bits() == 0x1ff_ffff_ffff && c.eff.bits() == 0);
+    assert!(rt; c.sec.bits() == 47 && c.nnp);
+    Ok(())
+}
+
+#[test]
+fn a_copy_of_a_space_has_the_maps_that_are_written(rt: HostRuntime) -> Result<(), Fail> {
+    let mut space = Space::initial(rt.alloc())?;
+    space.parent = Some(SpaceId(3));
+    space.gids = None;
+    let copy = space.copy(rt.alloc())?;
+    assert_eq!(rt; copy.parent, Some(SpaceId(3)));
+    assert!(rt; copy.uids.is_some() && copy.gids.is_none());
+    Ok(())
+}
+
+#[test]
+fn processes_are_found_put_in_and_taken_out(rt: HostRuntime) -> Result<(), Fail> {
+    let mut procs = three(rt.alloc())?;
+    assert!(rt; are(&procs, &[100, 200, 300]));
+    for (n, at) in [
+        (99, None),
+        (100, Some(0)),
+        (150, None),
+        (200, Some(1)),
+        (300, Some(2)),
+        (301, None),
+    ] {
+        assert_eq!(rt; procs.find(pid(n)), at);
+    }
+    assert!(rt; procs.items().len() == 3);
+    let gone = procs.remove(1);
+    assert_eq!(rt; gone.pid.number(), 200);
+    assert!(rt; are(&procs, &[100, 300]));
+    Ok(())
+}
+
+#[test]
+fn the_first_space_stands_alone(rt: HostRuntime) -> Result<(), Fail> {
+    let spaces = Spaces::first(rt.alloc())?.copy(rt.alloc())?;
+    assert_eq!(rt; spaces.count(), 1);
+    let space = spaces.get(SpaceId(0)).expect(&rt, "it stands");
+    assert!(rt; space.parent.is_none() && space.owner.number() == 0);
+    assert!(rt; spaces.get(SpaceId(1)).is_none());
+    Ok(())
+}
+
+#[test]
+fn a_copy_of_a_state_has_its_processes_and_spaces(rt: HostRuntime) -> Result<(), Fail> {
+    let state = alone(rt.alloc())?;
+    let copy = state.copy(rt.alloc())?;
+    assert!(rt; are(&copy.procs, &[100]));
+    assert_eq!(rt; copy.spaces.count(), 1);
+    assert!(rt; are(&state.procs, &[100]));
+    Ok(())
+}
