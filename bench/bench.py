@@ -1,19 +1,24 @@
 #!/usr/bin/env python3
 """Measures credaudit beside plain_replay.rs, an unproved Rust program that writes the same report.
 
-  bench.py [--runs N] [--only PART] [--work FOLDER] [PROGRAM]
+  bench.py [--runs N] [--only PART] [--kind KIND] [--work FOLDER] [PROGRAM]
 
 PROGRAM is credaudit; left out, the one that was built in this repository, and `none` measures the plain programs
 alone. Needs rustc. Each time is the least of N runs (5), the programs taking turns; output goes to /dev/null. PART is
 one of these, all being measured where it is left out:
 
-  ratio    a log of 64 MiB of setresuid lines against `tuned` and `replay` of plain_replay.rs, after a run that
-           compares the reports byte for byte
+  ratio    a log of 64 MiB against `tuned` and `replay` of plain_replay.rs, once the reports are the same byte for byte;
+           beside the least seconds the most, and the least and the most of the ratios to tuned, turn by turn
   linear   logs of 1, 4, 16 and 64 MiB: seconds for each MiB
   memory   the peak (VmHWM of /proc/PID/status, read 500 times a second) on the log of 64 MiB
   world    a world of 1 MiB, some 40,000 processes in no order, with an empty log
 
-The logs are made in FOLDER (a new one below /tmp where it is left out, removed at the end), 90 MB in all.
+KIND is what the logs of ratio, linear and memory have (left out: ratio is measured for each, the others for the first):
+
+  setresuid   one process of root, whose effective id goes to another and back
+  setuid      three processes; half of the lines are done, half are refused (EPERM, EINVAL)
+
+The logs are made in FOLDER (a new one below /tmp where it is left out, removed at the end), 90 MB for a kind.
 """
 import argparse
 import hashlib
@@ -28,6 +33,9 @@ BUILT = os.path.normpath(os.path.join(HERE, "..", "crates", "credaudit", "out", 
 MIB = 1 << 20
 SIZES = (1, 4, 16, 64)
 PARTS = ("ratio", "linear", "memory", "world")
+# Each kind of log: its events, more than fill 64 MiB, and the processes with their user ids.
+KINDS = {"setresuid": (2700000, {100: "0"}),
+         "setuid": (3400000, {100: "0", 101: "1000,1001,1002,1001", 102: "1000"})}
 
 
 def timed(words):
@@ -40,17 +48,21 @@ def timed(words):
     return seconds, child.returncode
 
 
-def least(commands, runs):
-    """The least seconds of each command; they take turns, after one run each that isn't counted."""
-    best = {}
+def seconds_of(commands, runs):
+    """The seconds of each command's runs; they take turns, after one run each that isn't counted."""
+    every = {name: [] for name in commands}
     for turn in range(runs + 1):
         for name, words in commands.items():
             seconds, status = timed(words)
             if status != 0:
                 sys.exit(f"bench.py: status {status} of {' '.join(words)}")
             if turn > 0:
-                best[name] = min(best.get(name, seconds), seconds)
-    return best
+                every[name].append(seconds)
+    return every
+
+
+def least(commands, runs):
+    return {name: min(seconds) for name, seconds in seconds_of(commands, runs).items()}
 
 
 def peak(words):
@@ -77,31 +89,108 @@ def digest(words):
     return child.wait(), length, sum_.hexdigest()
 
 
-def prepare(work):
-    plain = os.path.join(work, "plain_replay")
-    if not os.access(plain, os.X_OK):
-        subprocess.run(["rustc", "-O", os.path.join(HERE, "plain_replay.rs"), "-o", plain], check=True)
-    logs = {size: os.path.join(work, f"{size}.log") for size in SIZES}
-    if not all(map(os.path.exists, logs.values())):
-        text = subprocess.run([plain, "gen", "setresuid", "2700000", "7"], stdout=subprocess.PIPE, check=True).stdout
-        for size, name in logs.items():
-            with open(name, "wb") as log:
-                log.write(text[:text.rindex(b"\n", 0, size * MIB) + 1])
-    worlds = {name: os.path.join(work, name) for name in ("world.toml", "many.toml", "empty.log")}
-    with open(worlds["world.toml"], "w") as one:
-        one.write('log = "script"\n[[process]]\npid = 100\nuid = 0\n')
-    with open(worlds["many.toml"], "w") as many:
+def plain_program(work):
+    plain, source = os.path.join(work, "plain_replay"), os.path.join(HERE, "plain_replay.rs")
+    if not os.access(plain, os.X_OK) or os.path.getmtime(plain) < os.path.getmtime(source):
+        subprocess.run(["rustc", "-O", source, "-o", plain], check=True)
+    return plain
+
+
+class Logs:
+    """The logs of one kind, by MiB, and the commands that replay them."""
+
+    def __init__(self, kind, plain, program, work):
+        events, processes = KINDS[kind]
+        self.plain, self.program, self.world = plain, program, os.path.join(work, f"{kind}.toml")
+        self.processes = [f"{pid}:{uids}" for pid, uids in processes.items()]
+        with open(self.world, "w") as world:
+            rows = "".join(f"[[process]]\npid = {pid}\nuid = {f'[{u}]' if ',' in u else u}\n" for pid, u in processes.items())
+            world.write('log = "script"\n' + rows)
+        self.files = {size: os.path.join(work, f"{kind}{size}.log") for size in SIZES}
+        if not all(map(os.path.exists, self.files.values())):
+            text = subprocess.run([plain, "gen", kind, str(events), "7"], stdout=subprocess.PIPE, check=True).stdout
+            for size, name in self.files.items():
+                with open(name, "wb") as log:
+                    log.write(text[:text.rindex(b"\n", 0, size * MIB) + 1])
+
+    def commands(self, size, modes=("tuned",)):
+        every = {mode: [self.plain, mode, self.files[size], *self.processes] for mode in modes}
+        if self.program:
+            every["credaudit"] = [self.program, "replay", self.world, self.files[size]]
+        return every
+
+    def length(self):
+        return os.path.getsize(self.files[64])
+
+
+def ratio(kind, logs, runs):
+    reports = {name: digest(words) for name, words in logs.commands(64).items()}
+    if len(set(reports.values())) != 1:
+        sys.exit(f"bench.py: the reports of {kind} lines differ (status, length, SHA-256): {reports}")
+    print(f"log of {logs.length()} bytes of {kind} lines, report of {reports['tuned'][1]} bytes"
+          + (": the reports are the same" if logs.program else ""))
+    every = seconds_of(logs.commands(64, ("tuned", "replay")), runs)
+    print(f"{'program':24}{'seconds':>9}{'to':>9}{'MB of log/s':>13}{'of tuned':>10}{'turn by turn':>18}")
+    for name, seconds in every.items():
+        shown = name if name == "credaudit" else f"plain_replay {name}"
+        turns = [one / tuned for one, tuned in zip(seconds, every["tuned"])]
+        print(f"{shown:24}{min(seconds):9.3f}{max(seconds):9.3f}{logs.length() / 1e6 / min(seconds):13.1f}"
+              f"{min(seconds) / min(every['tuned']):10.2f}{f'{min(turns):.2f} to {max(turns):.2f}':>18}")
+    print()
+
+
+def linear(logs, runs):
+    best = {size: least(logs.commands(size), runs) for size in SIZES}
+    print(f"{'log':24}" + "".join(f"{size:>8} MiB" for size in SIZES))
+    for name in best[64]:
+        print(f"{name + ', ms for a MiB':24}" + "".join(f"{1000 * best[size][name] / size:12.2f}" for size in SIZES))
+    print()
+
+
+def memory(logs):
+    for name, words in logs.commands(64).items():
+        kib = peak(words)
+        beyond = f", the log and {(kib - logs.length() / 1024) / 1024:.1f} MiB" if name == "credaudit" else ""
+        print(f"{name + ', peak':24}{kib:9} KiB{beyond}")
+    print()
+
+
+def large_world(program, runs, work):
+    if not program:
+        print("world: plain_replay.rs reads no world; nothing is measured without credaudit")
+        return
+    world, log = os.path.join(work, "many.toml"), os.path.join(work, "empty.log")
+    open(log, "w").close()
+    with open(world, "w") as many:
         left, rows = MIB - many.write('log = "script"\n'), 0
         while left >= len(row := f"[[process]]\npid={10000 + rows * 40503 % 65536}\n" + ("uid=9\n" if rows % 3 else "")):
             left, rows = left - many.write(row), rows + 1
-    open(worlds["empty.log"], "w").close()
-    return plain, logs, worlds, rows
+    best = least({"credaudit": [program, "replay", world, log]}, runs)
+    print(f"world of {os.path.getsize(world)} bytes, {rows} processes: {best['credaudit']:.3f} s")
+
+
+def measure(program, asked, work):
+    parts = [asked.only] if asked.only else PARTS
+    plain = plain_program(work)
+    kinds = [asked.kind] if asked.kind else list(KINDS)
+    logs = {kind: Logs(kind, plain, program, work) for kind in kinds}
+    first = logs[kinds[0]]
+    if "ratio" in parts:
+        for kind in kinds:
+            ratio(kind, logs[kind], asked.runs)
+    if "linear" in parts:
+        linear(first, asked.runs)
+    if "memory" in parts:
+        memory(first)
+    if "world" in parts:
+        large_world(program, asked.runs, work)
 
 
 def main():
-    ask = argparse.ArgumentParser(usage="bench.py [--runs N] [--only PART] [--work FOLDER] [PROGRAM]")
+    ask = argparse.ArgumentParser(usage="bench.py [--runs N] [--only PART] [--kind KIND] [--work FOLDER] [PROGRAM]")
     ask.add_argument("--runs", type=int, default=5)
     ask.add_argument("--only", choices=PARTS)
+    ask.add_argument("--kind", choices=KINDS)
     ask.add_argument("--work")
     ask.add_argument("program", nargs="?", default=BUILT)
     asked = ask.parse_args()
@@ -110,51 +199,10 @@ def main():
         sys.exit(f"bench.py: {program} isn't there: build it first, with make at the top of the repository")
     if asked.work:
         os.makedirs(asked.work, exist_ok=True)
-        measure(program, asked.only, asked.runs, asked.work)
+        measure(program, asked, asked.work)
     else:
         with tempfile.TemporaryDirectory() as work:
-            measure(program, asked.only, asked.runs, work)
-
-
-def measure(program, only, runs, work):
-    plain, logs, worlds, processes = prepare(work)
-    parts = [only] if only else PARTS
-
-    def commands(size, modes=("tuned",)):
-        every = {mode: [plain, mode, logs[size], "100:0"] for mode in modes}
-        if program:
-            every["credaudit"] = [program, "replay", worlds["world.toml"], logs[size]]
-        return every
-
-    if "ratio" in parts:
-        reports = {name: digest(words) for name, words in commands(64).items()}
-        bytes_out = reports["tuned"][1]
-        print(f"log of {os.path.getsize(logs[64])} bytes, report of {bytes_out} bytes"
-              + (": the reports are " + ("the same" if len(set(reports.values())) == 1 else "NOT THE SAME") if program else ""))
-        best = least(commands(64, ("tuned", "replay")), runs)
-        print(f"{'program':24}{'seconds':>9}{'MB of log/s':>13}{'of tuned':>10}")
-        for name, seconds in best.items():
-            shown = name if name == "credaudit" else f"plain_replay {name}"
-            print(f"{shown:24}{seconds:9.3f}{os.path.getsize(logs[64]) / 1e6 / seconds:13.1f}{seconds / best['tuned']:10.2f}")
-        print()
-    if "linear" in parts:
-        best = {size: least(commands(size), runs) for size in SIZES}
-        print(f"{'log':24}" + "".join(f"{size:>8} MiB" for size in SIZES))
-        for name in best[64]:
-            print(f"{name + ', ms for a MiB':24}" + "".join(f"{1000 * best[size][name] / size:12.2f}" for size in SIZES))
-        print()
-    if "memory" in parts:
-        for name, words in commands(64).items():
-            kib = peak(words)
-            beyond = f", the log and {kib / 1024 - os.path.getsize(logs[64]) / MIB:.1f} MiB" if name == "credaudit" else ""
-            print(f"{name + ', peak':24}{kib:9} KiB{beyond}")
-        print()
-    if "world" in parts:
-        if not program:
-            print("world: plain_replay.rs reads no world; nothing is measured without credaudit")
-            return
-        best = least({"credaudit": [program, "replay", worlds["many.toml"], worlds["empty.log"]]}, runs)
-        print(f"world of {os.path.getsize(worlds['many.toml'])} bytes, {processes} processes: {best['credaudit']:.3f} s")
+            measure(program, asked, work)
 
 
 main()

@@ -2,14 +2,14 @@
 //! proofs. One file, no crates: `rustc -O plain_replay.rs`; bench.py builds and runs it.
 //!
 //!   plain_replay gen KIND N SEED        writes a script log of N events to stdout
-//!                                       KIND: setresuid | mixed | comments
+//!                                       KIND: setresuid | setuid | mixed | comments
 //!   plain_replay replay LOG PID:UID..   "plain": BufReader, split, BTreeMap, write!
 //!   plain_replay tuned  LOG PID:UID..   the same text; bytes parsed and printed by hand
 //!   plain_replay quiet  LOG PID:UID..   as tuned, but prints only the last line
 //!
-//! Script lines: setresuid, setuid, fork, exit, all in the initial user namespace. For logs of
-//! setresuid lines the report is that of credaudit, byte for byte, but that a bad line's fault is
-//! named. Statuses: 0, 3, 5.
+//! UID is one user id, or four joined by commas: real, effective, saved, fs. Script lines: setresuid,
+//! setuid, fork, exit, all in the initial user namespace. For logs of setresuid and setuid lines the
+//! report is that of credaudit, byte for byte, but that a bad line's fault is named. Statuses: 0, 3, 5.
 
 use std::collections::BTreeMap;
 use std::fs::File;
@@ -36,9 +36,9 @@ struct Cred {
 }
 
 impl Cred {
-    fn of(uid: u32) -> Cred {
-        let s = if uid == 0 { FULL } else { 0 };
-        Cred { uid: [uid; 4], gid: [0; 4], groups: Vec::new(), inh: 0, prm: s, eff: s, bnd: FULL, amb: 0, sec: 0, nnp: false }
+    fn of(uid: [u32; 4]) -> Cred {
+        let s = if uid[1] == 0 { FULL } else { 0 };
+        Cred { uid, gid: [0; 4], groups: Vec::new(), inh: 0, prm: s, eff: s, bnd: FULL, amb: 0, sec: 0, nnp: false }
     }
 
     /// What a change of user ids from `old` to `self.uid` does to the sets (capabilities(7)).
@@ -511,6 +511,21 @@ fn generate(kind: &str, n: u64, seed: u64) -> io::Result<()> {
                 writeln!(o, "100 setresuid -1 {e} -1 = 0")?;
             }
         }
+        // of 100:0, 101:1000,1001,1002,1001 and 102:1000: half are done (root's own id; the real and
+        // the saved id of the second, whose effective id turns between them), half are refused
+        "setuid" => {
+            for _ in 0..n {
+                let (kind, k) = (draw(8), 2000 + draw(60000));
+                match kind {
+                    0 | 1 => writeln!(o, "100 setuid 0 = 0")?,
+                    2 => writeln!(o, "101 setuid 1000 = 0")?,
+                    3 => writeln!(o, "101 setuid 1002 = 0")?,
+                    4 | 5 => writeln!(o, "101 setuid {k} = EPERM")?,
+                    6 => writeln!(o, "102 setuid {k} = EPERM")?,
+                    _ => writeln!(o, "102 setuid -1 = EINVAL")?,
+                }
+            }
+        }
         // fork a child, drop its ids, one refused return to 0, exit; 5 events a turn
         "mixed" => {
             let mut i = 0;
@@ -533,7 +548,7 @@ fn generate(kind: &str, n: u64, seed: u64) -> io::Result<()> {
 }
 
 fn usage() -> ! {
-    eprintln!("usage: plain_replay gen setresuid|mixed|comments N SEED\n       plain_replay replay|tuned|quiet LOG PID:UID..");
+    eprintln!("usage: plain_replay gen setresuid|setuid|mixed|comments N SEED\n       plain_replay replay|tuned|quiet LOG PID:UID..");
     exit(6)
 }
 
@@ -546,8 +561,13 @@ fn main() -> io::Result<()> {
         [mode @ ("replay" | "tuned" | "quiet"), log, procs @ ..] => {
             let mut m = Machine { procs: BTreeMap::new() };
             for p in procs {
-                let Some((pid, uid)) = p.split_once(':') else { usage() };
-                m.procs.insert(num(pid) as u32, Proc { parent: 0, cred: Cred::of(num(uid) as u32) });
+                let Some((pid, uids)) = p.split_once(':') else { usage() };
+                let uid = match uids.split(',').map(|u| num(u) as u32).collect::<Vec<_>>()[..] {
+                    [uid] => [uid; 4],
+                    [r, e, s, f] => [r, e, s, f],
+                    _ => usage(),
+                };
+                m.procs.insert(num(pid) as u32, Proc { parent: 0, cred: Cred::of(uid) });
             }
             let s = match *mode {
                 "replay" => replay_plain(log, m)?,
