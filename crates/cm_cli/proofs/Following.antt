@@ -1,10 +1,7 @@
 -- What is kept over a replay: the run that the processes go, and whether each event is a call of setresuid.
-use Rattle.std.proofs.Common.{Result, Ok, Err, ◌≡◌, ℕ, zero, suc, ◌&&◌, Bool, true, false, List, [], ◌∷◌, Some, refl, ◌∙◌, ap, subst, sym, slice_get}
+use Rattle.std.proofs.Common.{length, get_or, ◌<◌, ◌≡◌, ℕ, zero, suc, ◌&&◌, Bool, true, false, List, [], ◌∷◌, Some, refl, ◌∙◌, ap, subst, sym, slice_get}
+use Rattle.std.proofs.lemmas.Option.{slice_get_read}
 use Rattle.std.specs.List.{cons_option}
-use Rattle.std.specs.Prelude.{IfOk}
-use Rattle.cm_cli.specs.Machine.{state_of, world_of}
-use Rattle.cm_cli.specs.declared.reading.Start.{Start}
-use Rattle.cm_cli.specs.declared.reading.Unready.{Unready}
 use Rattle.cm_cli.specs.Replay.{IsPassed, TellsSetResUids, tells_setresuid}
 use Rattle.cm_cli.specs.declared.replay.Tally.{Tally}
 use Rattle.cm_cli.specs.declared.replay.LineTurn.TheVariants as turn
@@ -13,8 +10,6 @@ use Rattle.model_cred.specs.Process.{Process, State}
 use Rattle.model_cred.specs.World.{World}
 use Rattle.model_run.specs.Step.{Run}
 use Rattle.model_run.specs.WayBack.{AllFollow, SetsFollowIds, StateFollows, are_setresuids}
-use Rattle.model_text.proofs.Declared.{start_follows}
-use Rattle.model_text.specs.WorldText.{Reads, world_text, text_says_more}
 use Rattle.model_text.specs.Cut.{lines_of}
 use Rattle.model_text.specs.Line.{Line, NoEvent, Tells, Faulty, Unbuilt, script_line, told_event, events_of}
 
@@ -24,17 +19,22 @@ all_at [] i p all is = absurd (cc)
 all_at (q ∷ ps) zero p all is = let same : q ≡ p = cc in subst (λ (x : Process). SetsFollowIds x.cred) same all.1
 all_at (q ∷ ps) (suc i) p all is = all_at ps i p all.2 is
 
--- a line that is passed begins a run with the events behind it
-passed_by : (w : World) (line : Line) (tally : Tally) (ps ps' : List Process) (es : List Event) (s : State) → IsPassed (turn.Goes tally) ps ps' line → Run w (state_of ps') es s → Run w (state_of ps) (cons_option (told_event line) es) s
-passed_by w NoEvent tally ps ps' es s same run = subst (λ (qs : List Process). Run w (state_of qs) es s) same run
-passed_by w (Tells e) tally ps ps' es s step run = (state_of ps', step w, run)
-passed_by w Faulty tally ps ps' es s never run = absurd never
-passed_by w Unbuilt tally ps ps' es s never run = absurd never
+-- what a state keeps of each of its processes
+pub one_follows : (s : State) (ps : List Process) (i : ℕ) (p : Process) → StateFollows s → ps ≡ s.processes → i < length s.processes → p ≡ get_or ps i p → SetsFollowIds p.cred
+one_follows s ps i p all is within here =
+    all_at ps i p (subst (λ (qs : List Process). AllFollow qs) (sym is) all.processes) (slice_get_read ps (length ps) i p refl (subst (λ (qs : List Process). i < length qs) (sym is) within) here)
 
-pub passed_on : (w : World) (rest after line : List ℕ) (tally : Tally) (ps ps' : List Process) (s : State) → lines_of rest ≡ line ∷ lines_of after → IsPassed (turn.Goes tally) ps ps' (script_line line)
-    → Run w (state_of ps') (events_of (lines_of after)) s → Run w (state_of ps) (events_of (lines_of rest)) s
-passed_on w rest after line tally ps ps' s cut passed run =
-    subst (λ (ls : List (List ℕ)). Run w (state_of ps) (events_of ls) s) (sym cut) (passed_by w (script_line line) tally ps ps' (events_of (lines_of after)) s passed run)
+-- a line that is passed begins a run with the events behind it
+passed_by : (w : World) (line : Line) (tally : Tally) (from to : State) (es : List Event) (s : State) → IsPassed (turn.Goes tally) w from to line → Run w to es s → Run w from (cons_option (told_event line) es) s
+passed_by w NoEvent tally from to es s same run = subst (λ (x : State). Run w x es s) same run
+passed_by w (Tells e) tally from to es s step run = (to, step, run)
+passed_by w Faulty tally from to es s never run = absurd never
+passed_by w Unbuilt tally from to es s never run = absurd never
+
+pub passed_on : (w : World) (rest after line : List ℕ) (tally : Tally) (from to s : State) → lines_of rest ≡ line ∷ lines_of after → IsPassed (turn.Goes tally) w from to (script_line line)
+    → Run w to (events_of (lines_of after)) s → Run w from (events_of (lines_of rest)) s
+passed_on w rest after line tally from to s cut passed run =
+    subst (λ (ls : List (List ℕ)). Run w from (events_of ls) s) (sym cut) (passed_by w (script_line line) tally from to (events_of (lines_of after)) s passed run)
 
 -- ---- whether each event is a call of setresuid
 one_more_told : (line : Line) (es : List Event) → are_setresuids (cons_option (told_event line) es) ≡ (tells_setresuid line && are_setresuids es)
@@ -63,11 +63,3 @@ and_true false = refl
 -- at the end of the lines
 pub told_all : (rest : List ℕ) (before : Bool) → lines_of rest ≡ [] → before ≡ (before && are_setresuids (events_of (lines_of rest)))
 told_all rest before ended = sym (and_true before) ∙ ap (λ (ls : List (List ℕ)). before && are_setresuids (events_of ls)) (sym ended)
-
--- ---- the start of a log
--- Where a world's text says no more, the sets of each of its processes follow its user ids.
-pub start_follows_if : (r : Result Start Unready) (bytes : List ℕ) (list : List Process) (more : Bool) → IfOk r (λ start. (start.processes ≡ list) × (start.more ≡ more)) → world_text bytes ≡ Reads (world_of list) → more ≡ text_says_more bytes
-    → IfOk r (λ start. start.more ≡ false → StateFollows (state_of start.processes))
-start_follows_if (Err why) bytes list more made reads says = tt
-start_follows_if (Ok start) bytes list more made reads says = λ plain.
-    subst (λ (ps : List Process). StateFollows (state_of ps)) (sym made.0) (start_follows bytes (world_of list) reads (sym says ∙ sym made.1 ∙ plain))

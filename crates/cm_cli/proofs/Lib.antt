@@ -1,18 +1,13 @@
 -- Lemmas of this crate, by topic.
-pub mod Places
 pub mod Tokens
 pub mod CallNames
 pub mod Arguments
 pub mod LogTurns
 pub mod Waiting
 pub mod FirstLine
-pub mod Turns
 pub mod ReportText
 pub mod HexDigits
 pub mod GroupText
-pub mod Members
-pub mod CapTexts
-pub mod Order
 pub mod Starting
 pub mod Following
 pub mod Told

@@ -5,7 +5,8 @@ use Rattle.cm_base.specs.declared.status.Status.{Status}
 use Rattle.cm_base.specs.declared.status.Status.TheVariants as answers
 use Rattle.cm_cli.proofs.Waiting.{all_waits}
 use Rattle.cm_cli.specs.Answers.{ReplayAnswer}
-use Rattle.cm_cli.specs.Machine.{world_of}
+use Rattle.cm_world.specs.World.{world_of}
+use Rattle.cm_world.specs.declared.world.World as code
 use Rattle.cm_cli.specs.Reading.{WorldStands}
 use Rattle.cm_cli.specs.Telling.{Tells, short_report, log_report}
 use Rattle.cm_cli.specs.declared.telling.Short.{Short}
@@ -87,8 +88,8 @@ answered_not_usage (Some q) more w lines =
     (asked_not_usage (more || not (are_setresuids (events_of lines))) (state_after w w.start (events_of lines)) (asked_process (state_after w w.start (events_of lines)) q.pid) (right_token q.right))
 
 -- nor has the report of a log
-pub log_not_usage : (query : Option Query) (more : Bool) (ps : List Process) (log : List ℕ) → (log_report query more ps log).status ≢ answers.Usage
-log_not_usage query more ps log = answered_not_usage query more (world_of ps) (lines_of log)
+pub log_not_usage : (query : Option Query) (w : code.World) (log : List ℕ) → (log_report query w log).status ≢ answers.Usage
+log_not_usage query w log = answered_not_usage query w.more (world_of w) (lines_of log)
 
 module _ (held : Option Files) (query : Option Query) (world log : List ℕ) (answer : Status) (w w' : Option (List ℕ)) (reads reads' : List ℕ → ℕ) (writes writes' : ℕ) where
   -- the files were read, and a report was told

@@ -3,17 +3,17 @@ use Rattle.std.proofs.Common.{◌≡◌, ◌≢◌, ◌≤◌, ◌+◌, ℕ, Lis
 use Rattle.cm_base.specs.declared.status.Status.{Status}
 use Rattle.cm_base.specs.declared.status.Status.TheVariants as answers
 use Rattle.cm_cli.proofs.ReportText.{text_of_append}
-use Rattle.cm_cli.specs.Machine.{state_of, world_of}
 use Rattle.cm_cli.specs.Sent.{IsSent, IsFront}
 use Rattle.cm_cli.specs.Telling.{IsTold, Tells, stopped_by, log_report, answer_to}
 use Rattle.cm_io.specs.Sink.{then_written}
 use Rattle.cm_io.specs.declared.outside.Outside.{Outside}
 use Rattle.cm_io.specs.declared.outside.Outside.TheVariants as outside
 use Rattle.cm_io.specs.Shelf.{Rose}
-use Rattle.model_cred.specs.Process.{Process}
+use Rattle.cm_world.specs.World.{world_of}
+use Rattle.cm_world.specs.declared.world.World as code
 use Rattle.model_text.specs.Cut.{lines_of}
 use Rattle.model_cred.specs.Call.{Event}
-use Rattle.model_cred.specs.Process.{State}
+use Rattle.model_cred.specs.Process.{Process, State}
 use Rattle.model_cred.specs.Right.{Right, Cap, Uid, Gid}
 use Rattle.model_cred.specs.World.{World}
 use Rattle.model_run.specs.WayBack.{are_setresuids, way_back}
@@ -46,9 +46,9 @@ stops r outside.NoMemory answer w w' f f' is front later rose = record {
 }
 
 -- the text of the log's report: the start lines, and what is answered
-pub log_text : (query : Option Query) (more : Bool) (ps : List Process) (log : List ℕ)
-    → text_of (log_report query more ps log).lines ≡ text_of (map Credentials ps) ++ text_of (answered query more (world_of ps) (lines_of log)).lines
-log_text query more ps log = text_of_append (map Credentials ps) (answered query more (world_of ps) (lines_of log)).lines
+pub log_text : (query : Option Query) (w : code.World) (log : List ℕ)
+    → text_of (log_report query w log).lines ≡ text_of (map Credentials w.start.processes) ++ text_of (answered query w.more (world_of w) (lines_of log)).lines
+log_text query w log = text_of_append (map Credentials w.start.processes) (answered query w.more (world_of w) (lines_of log)).lines
 
 -- the rest of a report behind the replay
 stopped_rest : (query : Option Query) (more : Bool) (st : Status) (s : State) → st ≢ answers.Accepted → answer_to query more st s ≡ record { status = st; lines = [] }
@@ -101,11 +101,11 @@ is_answered (Some q) more w lines behind st s is reached told =
     ]
 
 -- the text of the log's report: the start lines, the replay, and the answer
-pub log_whole : (query : Option Query) (more : Bool) (ps : List Process) (log : List ℕ) (behind : Bool) (st : Status) (s : State) → IsAnswered query more (world_of ps) (lines_of log) behind st s
-    → text_of (log_report query more ps log).lines ≡ (text_of (map Credentials ps) ++ text_of (replayed (world_of ps) (lines_of log) (state_of ps) 1 0).lines) ++ text_of (answer_to query behind st s).lines
-log_whole query more ps log behind st s is =
-    log_text query more ps log ∙ ap (λ (t : List ℕ). text_of (map Credentials ps) ++ t) is.text
-    ∙ sym (append_assoc (text_of (map Credentials ps)) (text_of (replayed (world_of ps) (lines_of log) (state_of ps) 1 0).lines) (text_of (answer_to query behind st s).lines))
+pub log_whole : (query : Option Query) (w : code.World) (log : List ℕ) (behind : Bool) (st : Status) (s : State) → IsAnswered query w.more (world_of w) (lines_of log) behind st s
+    → text_of (log_report query w log).lines ≡ (text_of (map Credentials w.start.processes) ++ text_of (replayed (world_of w) (lines_of log) w.start 1 0).lines) ++ text_of (answer_to query behind st s).lines
+log_whole query w log behind st s is =
+    log_text query w log ∙ ap (λ (t : List ℕ). text_of (map Credentials w.start.processes) ++ t) is.text
+    ∙ sym (append_assoc (text_of (map Credentials w.start.processes)) (text_of (replayed (world_of w) (lines_of log) w.start 1 0).lines) (text_of (answer_to query behind st s).lines))
 
 goes_longer : (st : Status) (r next : Report) → (more : List ℕ) × (text_of (go_on st r next).lines ≡ text_of r.lines ++ more)
 goes_longer answers.Accepted r next = (text_of next.lines, text_of_append r.lines next.lines)
@@ -116,13 +116,13 @@ answered_longer None more w lines = ([], sym (append-nil (text_of (replayed w li
 answered_longer (Some q) more w lines = goes_longer (replayed w lines w.start 1 0).status (replayed w lines w.start 1 0) (verdict_behind more w (events_of lines) q)
 
 -- it begins with the start lines and the replay
-pub log_longer : (query : Option Query) (more : Bool) (ps : List Process) (log : List ℕ) → (longer : List ℕ)
-    × (text_of (log_report query more ps log).lines ≡ (text_of (map Credentials ps) ++ text_of (replayed (world_of ps) (lines_of log) (state_of ps) 1 0).lines) ++ longer)
-log_longer query more ps log =
-    let longer : (rest : List ℕ) × (text_of (answered query more (world_of ps) (lines_of log)).lines ≡ text_of (replayed (world_of ps) (lines_of log) (state_of ps) 1 0).lines ++ rest) = answered_longer query more (world_of ps) (lines_of log) in (
+pub log_longer : (query : Option Query) (w : code.World) (log : List ℕ) → (longer : List ℕ)
+    × (text_of (log_report query w log).lines ≡ (text_of (map Credentials w.start.processes) ++ text_of (replayed (world_of w) (lines_of log) w.start 1 0).lines) ++ longer)
+log_longer query w log =
+    let longer : (rest : List ℕ) × (text_of (answered query w.more (world_of w) (lines_of log)).lines ≡ text_of (replayed (world_of w) (lines_of log) w.start 1 0).lines ++ rest) = answered_longer query w.more (world_of w) (lines_of log) in (
       longer.0,
-      log_text query more ps log ∙ ap (λ (t : List ℕ). text_of (map Credentials ps) ++ t) longer.1
-          ∙ sym (append_assoc (text_of (map Credentials ps)) (text_of (replayed (world_of ps) (lines_of log) (state_of ps) 1 0).lines) longer.0),
+      log_text query w log ∙ ap (λ (t : List ℕ). text_of (map Credentials w.start.processes) ++ t) longer.1
+          ∙ sym (append_assoc (text_of (map Credentials w.start.processes)) (text_of (replayed (world_of w) (lines_of log) w.start 1 0).lines) longer.0),
     )
 
 -- all of a text is written where nothing of it waits

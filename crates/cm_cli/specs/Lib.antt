@@ -1,7 +1,5 @@
 -- What the contracts of this crate cite beside the definitions.
 pub mod Lines
-pub mod Machine
-pub mod Turns
 pub mod Replay
 pub mod Sent
 pub mod Telling

@@ -1,9 +1,9 @@
 -- What the files of a replay come to, where the shelf tells what it holds, and the counts of its faults.
 use Rattle.std.specs.Prelude.{◌≡◌, ◌≢◌, ◌⊎◌, ◌≤◌, ◌<◌, ℕ, length, List, Option, Result, Ok, Err, Vec}
 use Rattle.std.specs.declared.alloc.Global.{Global}
-use Rattle.cm_cli.specs.Machine.{world_of}
+use Rattle.cm_world.specs.World.{world_of}
+use Rattle.cm_world.specs.declared.world.World as code
 use Rattle.cm_cli.specs.Telling.{short_report, log_report}
-use Rattle.cm_cli.specs.declared.reading.Start.{Start}
 use Rattle.cm_cli.specs.declared.reading.Unready.{Unready}
 use Rattle.cm_cli.specs.declared.reading.Unready.TheVariants as unready
 use Rattle.cm_cli.specs.declared.telling.Short.{Short}
@@ -26,8 +26,8 @@ abbrev pub WorldStands : List ℕ → Type 0
 WorldStands bytes = (w : World) × ReadsAs bytes (Reads w)
 
 -- what the bytes of a world come to
-abbrev pub IsWorldRead : Result Start Unready → List ℕ → Type 0
-IsWorldRead (Ok start) bytes = ReadsAs bytes (Reads (world_of start.processes)) × (start.more ≡ text_says_more bytes)
+abbrev pub IsWorldRead : Result code.World Unready → List ℕ → Type 0
+IsWorldRead (Ok w) bytes = ReadsAs bytes (Reads (world_of w)) × (w.more ≡ text_says_more bytes)
 IsWorldRead (Err (unready.Refused short.WorldLimit)) bytes = world_limit < length bytes
 IsWorldRead (Err (unready.Refused short.BadWorld)) bytes = ReadsAs bytes Bad
 IsWorldRead (Err (unready.Refused short.NotBuilt)) bytes = ReadsAs bytes NotBuilt
@@ -48,8 +48,8 @@ IsLogRead (Err unready.ReadFault) bytes = Unit {0}
 IsLogRead (Err unready.NoMemory) bytes = Unit {0}
 
 -- the report that the files come to, with what is asked behind the log
-abbrev pub IsReady : Option Query → Result (Start × Vec ℕ Global) Unready → Report → Type 0
-IsReady query (Ok (start, log)) r = r ≡ log_report query start.more start.processes log.items
+abbrev pub IsReady : Option Query → Result (code.World × Vec ℕ Global) Unready → Report → Type 0
+IsReady query (Ok (w, log)) r = r ≡ log_report query w log.items
 IsReady query (Err (unready.Refused why)) r = r ≡ short_report why
 IsReady query (Err unready.ReadFault) r = Unit {0}
 IsReady query (Err unready.NoMemory) r = Unit {0}

@@ -2,10 +2,9 @@
 use Rattle.std.specs.Prelude.{◌≡◌, ◌≢◌, ◌≤◌, ◌&&◌, ℕ, Bool, true, List, ◌++◌}
 use Rattle.cm_base.specs.declared.status.Status.{Status}
 use Rattle.cm_base.specs.declared.status.Status.TheVariants as answers
-use Rattle.cm_cli.specs.Machine.{state_of}
 use Rattle.cm_cli.specs.declared.replay.LineTurn.{LineTurn}
 use Rattle.cm_cli.specs.declared.replay.LineTurn.TheVariants as turn
-use Rattle.model_cred.specs.Process.{Process, State}
+use Rattle.model_cred.specs.Process.{State}
 use Rattle.model_cred.specs.World.{World}
 use Rattle.model_run.specs.Step.{Step}
 use Rattle.model_run.specs.WayBack.{is_setresuid}
@@ -22,24 +21,24 @@ pub record Finishes (r : Report) (end : Status) (bytes : List ℕ) : Type 0 wher
   pub status : r.status ≡ end
   pub text : text_of r.lines ≡ bytes
 
--- A line with its number and so many events before it turned the processes before into those after, and wrote the
--- bytes: the report goes on behind them, or ends with them.
-abbrev pub IsLineTurn : LineTurn → List Process → List Process → ℕ → ℕ → Line → List ℕ → Type 0
-IsLineTurn (turn.Goes tally) before after number count line bytes = (w : World) (rest : State → ℕ → Report) → Continues (by_line w (state_of before) number count rest line) (rest (state_of after) tally.events) bytes
-IsLineTurn (turn.Ends status) before after number count line bytes = (w : World) (rest : State → ℕ → Report) → Finishes (by_line w (state_of before) number count rest line) status bytes
+-- A line with its number and so many events before it turned the state before into the one after, and wrote the bytes:
+-- the report goes on behind them, or ends with them.
+abbrev pub IsLineTurn : LineTurn → World → State → State → ℕ → ℕ → Line → List ℕ → Type 0
+IsLineTurn (turn.Goes tally) w before after number count line bytes = (rest : State → ℕ → Report) → Continues (by_line w before number count rest line) (rest after tally.events) bytes
+IsLineTurn (turn.Ends status) w before after number count line bytes = (rest : State → ℕ → Report) → Finishes (by_line w before number count rest line) status bytes
 
 -- the number of events behind a line is at most this
 abbrev pub CountsUpTo : LineTurn → ℕ → Type 0
 CountsUpTo (turn.Goes tally) most = tally.events ≤ most
 CountsUpTo (turn.Ends status) most = Unit {0}
 
--- The line turned the processes before into those after by a step, or left them; or it ended the replay before its end.
-abbrev pub IsPassed : LineTurn → List Process → List Process → Line → Type 0
-IsPassed (turn.Goes tally) before after NoEvent = after ≡ before
-IsPassed (turn.Goes tally) before after (Tells e) = (w : World) → Step w (state_of before) e (state_of after)
-IsPassed (turn.Goes tally) before after Faulty = ⊥
-IsPassed (turn.Goes tally) before after Unbuilt = ⊥
-IsPassed (turn.Ends status) before after line = status ≢ answers.Accepted
+-- The line turned the state before into the one after by a step, or left it; or it ended the replay before its end.
+abbrev pub IsPassed : LineTurn → World → State → State → Line → Type 0
+IsPassed (turn.Goes tally) w before after NoEvent = after ≡ before
+IsPassed (turn.Goes tally) w before after (Tells e) = Step w before e after
+IsPassed (turn.Goes tally) w before after Faulty = ⊥
+IsPassed (turn.Goes tally) w before after Unbuilt = ⊥
+IsPassed (turn.Ends status) w before after line = status ≢ answers.Accepted
 
 -- the event of a line, where it tells one, is a call of setresuid
 abbrev pub tells_setresuid : Line → Bool

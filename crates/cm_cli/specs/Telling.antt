@@ -2,7 +2,6 @@
 use Rattle.std.specs.Prelude.{◌≡◌, ◌≢◌, ◌≤◌, ℕ, Bool, codes, List, [], Option, Some}
 use Rattle.cm_base.specs.declared.status.Status.{Status}
 use Rattle.cm_base.specs.declared.status.Status.TheVariants as answers
-use Rattle.cm_cli.specs.Machine.{world_of}
 use Rattle.cm_cli.specs.Sent.{IsFront}
 use Rattle.cm_cli.specs.declared.telling.Short.{Short}
 use Rattle.cm_cli.specs.declared.telling.Short.TheVariants as short
@@ -10,7 +9,9 @@ use Rattle.cm_io.specs.Shelf.{Rose}
 use Rattle.cm_io.specs.declared.outside.Outside.{Outside}
 use Rattle.cm_io.specs.declared.outside.Outside.TheVariants as outside
 use Rattle.cm_io.specs.Sink.{then_written}
-use Rattle.model_cred.specs.Process.{Process, State}
+use Rattle.cm_world.specs.World.{world_of}
+use Rattle.cm_world.specs.declared.world.World.{World}
+use Rattle.model_cred.specs.Process.{State}
 use Rattle.model_text.specs.Cut.{lines_of}
 use Rattle.model_text.specs.Query.{Query}
 use Rattle.model_text.specs.Report.{Report, after, start_lines, answered, verdict, text_of, says, limit_hit, not_built, usage, world_limit, log_limit}
@@ -39,9 +40,9 @@ short_report short.BadWorld = says answers.BadWorld (codes "bad world")
 short_report short.WorldLimit = limit_hit (codes "world") world_limit
 short_report short.LogLimit = limit_hit (codes "log") log_limit
 
--- the report of a log in the world of these processes, with what is asked behind it
-abbrev pub log_report : Option Query → Bool → List Process → List ℕ → Report
-log_report query more processes log = after (start_lines (world_of processes)) (answered query more (world_of processes) (lines_of log))
+-- the report of a log in the world, with what is asked behind it
+abbrev pub log_report : Option Query → World → List ℕ → Report
+log_report query w log = after (start_lines (world_of w)) (answered query w.more (world_of w) (lines_of log))
 
 -- what comes behind the replay of a log that ends so, in the state that it leads to: the status, and more lines
 abbrev pub answer_to : Option Query → Bool → Status → State → Report

@@ -1,6 +1,5 @@
 // The answer to an audit, behind an accepted log: one process lives, and is asked for a user id (so far).
 ghost use Rattle.std.specs.Prelude.{◌≡◌, ◌++◌, false, Some, IfSome, IfNone, None, IfOk, OnOk, slice_get, length, ◌<◌};
-ghost use Rattle.cm_cli.specs.Machine.{state_of};
 ghost use Rattle.cm_cli.specs.Query.{query_view, query_if, right_view};
 ghost use Rattle.cm_cli.specs.Telling.{answer_to};
 ghost use Rattle.model_run.specs.WayBack.{SetsFollowIds, StateFollows, way_back};
@@ -8,45 +7,45 @@ ghost use Rattle.model_text.specs.Query.{asked_process};
 ghost use Rattle.model_text.specs.Report.{text_of, verdict, right_verdict, way_verdict};
 
 use crate::line::read_pid;
-use crate::processes::{Live, Processes};
 use crate::query::{Query, Right, read_right};
 use crate::writing::{put_bad_pid, put_bad_right, put_not_built, put_way, put_yes};
 use cm_audit::audit_uid;
 use cm_base::{Kuid, NoMemory, Status};
+use cm_state::{Proc, State};
 use std::alloc::Global;
 
 /// Answers what is asked behind a replay that ended with this status, and says the status of the whole. `more` says that
 /// there is more to the processes than the weak audit knows.
 pub(crate) fn put_answer(
     alloc: Global,
-    processes: &Processes,
+    state: &State,
     query: Option<Query<'_>>,
     replayed: Status,
     more: bool,
     text: &mut Vec<u8>,
 ) -> Result<Status, NoMemory>
-    requires { replayed ≡ Status.Accepted → more ≡ false → StateFollows (state_of processes.now) }
-    ensures status { IfOk result (λ status. status ≡ (answer_to (query_if query.entry) more replayed (state_of processes.now)).status) }
-    ensures text { OnOk result (text.new.items ≡ text.old.items ++ text_of (answer_to (query_if query.entry) more replayed (state_of processes.now)).lines) }
+    requires { replayed ≡ Status.Accepted → more ≡ false → StateFollows state.now }
+    ensures status { IfOk result (λ status. status ≡ (answer_to (query_if query.entry) more replayed state.now).status) }
+    ensures text { OnOk result (text.new.items ≡ text.old.items ++ text_of (answer_to (query_if query.entry) more replayed state.now).lines) }
 {
     match (query, replayed) {
-        (Some(query), Status::Accepted) => put_verdict(alloc, processes, query, more, text),
+        (Some(query), Status::Accepted) => put_verdict(alloc, state, query, more, text),
         _ => Ok(replayed),
     }
 }
 
 fn put_verdict(
     alloc: Global,
-    processes: &Processes,
+    state: &State,
     query: Query<'_>,
     more: bool,
     text: &mut Vec<u8>,
 ) -> Result<Status, NoMemory>
-    requires { more ≡ false → StateFollows (state_of processes.now) }
-    ensures status { IfOk result (λ status. status ≡ (verdict more (state_of processes.now) (query_view query.entry)).status) }
-    ensures text { OnOk result (text.new.items ≡ text.old.items ++ text_of (verdict more (state_of processes.now) (query_view query.entry)).lines) }
+    requires { more ≡ false → StateFollows state.now }
+    ensures status { IfOk result (λ status. status ≡ (verdict more state.now (query_view query.entry)).status) }
+    ensures text { OnOk result (text.new.items ≡ text.old.items ++ text_of (verdict more state.now (query_view query.entry)).lines) }
 {
-    let Some(at) = place_asked(processes, query.pid.as_bytes()) else {
+    let Some(at) = place_asked(state, query.pid.as_bytes()) else {
         put_bad_pid(text)?;
         return Ok(Status::BadQuery);
     };
@@ -54,34 +53,34 @@ fn put_verdict(
         put_bad_right(text)?;
         return Ok(Status::BadQuery);
     };
-    put_right(alloc, processes, at, right, more, text)
+    put_right(alloc, state, at, right, more, text)
 }
 
 // The place of the live process whose pid the text is.
-fn place_asked(processes: &Processes, text: &[u8]) -> Option<usize>
-    ensures found { IfSome result (λ i. (i < length processes.now) × (slice_get processes.now i ≡ asked_process (state_of processes.now) text.now)) }
-    ensures none { IfNone result (asked_process (state_of processes.now) text.now ≡ None) }
+fn place_asked(state: &State, text: &[u8]) -> Option<usize>
+    ensures found { IfSome result (λ i. (i < length state.now.processes) × (slice_get state.now.processes i ≡ asked_process state.now text.now)) }
+    ensures none { IfNone result (asked_process state.now text.now ≡ None) }
 {
     let pid = read_pid(text)?;
-    processes.find(pid)
+    state.procs.find(pid)
 }
 
 fn put_right(
     alloc: Global,
-    processes: &Processes,
+    state: &State,
     at: usize,
     right: Right,
     more: bool,
     text: &mut Vec<u8>,
 ) -> Result<Status, NoMemory>
-    requires here { at < length processes.now }
-    requires follows { more ≡ false → StateFollows (state_of processes.now) }
-    ensures status { IfOk result (λ status. IfSome (slice_get processes.now at) (λ p. status ≡ (right_verdict more (state_of processes.now) p (right_view right)).status)) }
-    ensures text { OnOk result (IfSome (slice_get processes.now at) (λ p. text.new.items ≡ text.old.items ++ text_of (right_verdict more (state_of processes.now) p (right_view right)).lines)) }
+    requires here { at < length state.now.processes }
+    requires follows { more ≡ false → StateFollows state.now }
+    ensures status { IfOk result (λ status. IfSome (slice_get state.now.processes at) (λ p. status ≡ (right_verdict more state.now p (right_view right)).status)) }
+    ensures text { OnOk result (IfSome (slice_get state.now.processes at) (λ p. text.new.items ≡ text.old.items ++ text_of (right_verdict more state.now p (right_view right)).lines)) }
 {
     match right {
-        Right::Uid(k) if !more && processes.list().len() == 1 => {
-            put_uid(alloc, processes.at(at), k, text)
+        Right::Uid(k) if !more && state.procs.items().len() == 1 => {
+            put_uid(alloc, &state.procs.items()[at], k, text)
         }
         _ => {
             put_not_built(text)?;
@@ -90,18 +89,18 @@ fn put_right(
     }
 }
 
-fn put_uid(alloc: Global, live: &Live, k: Kuid, text: &mut Vec<u8>) -> Result<Status, NoMemory>
-    requires { SetsFollowIds live.now.cred }
-    ensures status { IfOk result (λ status. status ≡ (way_verdict live.now.pid (way_back live.now.cred live.now.pid k)).status) }
-    ensures text { OnOk result (text.new.items ≡ text.old.items ++ text_of (way_verdict live.now.pid (way_back live.now.cred live.now.pid k)).lines) }
+fn put_uid(alloc: Global, p: &Proc, k: Kuid, text: &mut Vec<u8>) -> Result<Status, NoMemory>
+    requires { SetsFollowIds p.now.cred }
+    ensures status { IfOk result (λ status. status ≡ (way_verdict p.now.pid (way_back p.now.cred p.now.pid k)).status) }
+    ensures text { OnOk result (text.new.items ≡ text.old.items ++ text_of (way_verdict p.now.pid (way_back p.now.cred p.now.pid k)).lines) }
 {
-    match audit_uid(alloc, &live.cred, live.pid, k)? {
+    match audit_uid(alloc, &p.cred, p.pid, k)? {
         None => {
             put_yes(text)?;
             Ok(Status::Accepted)
         }
         Some(way) => {
-            put_way(text, live.pid, &way)?;
+            put_way(text, p.pid, &way)?;
             Ok(Status::No)
         }
     }

@@ -364,7 +364,7 @@ impossible line 1: the rules give EPERM
         },
         Row {
             world: BARE,
-            log: b"100 fork = 7\n",
+            log: b"100 unshare = 0\n",
             pid: "101",
             right: "uid:x",
             status: Status::NotBuilt,

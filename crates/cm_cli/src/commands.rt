@@ -140,10 +140,7 @@ fn run_log<H: Shelf, K: Sink>(
     ensures held { H.held shelf.new ≡ H.held shelf.old }
 {
     match read_files(alloc, shelf, world, log) {
-        Ok((start, text)) => {
-            let mut processes = start.processes;
-            tell_log(alloc, &mut processes, start.more, &text, query, out)
-        }
+        Ok((w, text)) => tell_log(alloc, &w, &text, query, out),
         Err(Unready::Refused(short)) => tell_short(alloc, short, out),
         Err(Unready::ReadFault) => Status::ReadFault,
         Err(Unready::NoMemory) => Status::NoMemory,

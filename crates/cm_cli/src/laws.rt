@@ -8,7 +8,7 @@ pub fn each_by_its_cause()
 {}
 
 /// Where the status is accepted, the events of the log are a run from the world's state, and the last credential line
-/// of each process is its credential in the state reached.
+/// of each process that lives in the state reached is its credential there.
 #[tactic(auto, using(model_text::proofs::Endings::accepted_is_run))]
 pub fn accepted_is_run()
     ensures { AcceptedIsRun }

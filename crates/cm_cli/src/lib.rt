@@ -9,17 +9,16 @@ mod call_tests;
 mod commands;
 mod laws;
 mod line;
-mod processes;
 mod query;
 mod reading;
 mod replay;
-mod rules;
 mod sending;
 mod telling;
 #[cfg(test)]
 mod tests;
+#[cfg(test)]
+mod tree_tests;
 mod words;
-mod world;
 mod writing;
 
 pub use cm_base::Status;

@@ -1,10 +1,11 @@
 // A line of a script log: PID CALL ARGUMENTS = RESULT, its tokens parted by blanks (choice). Built so far: the calls that
-// set user ids, group ids and groups.
+// set user ids, group ids and groups, those of capset and prctl, fork and exit.
 ghost use Rattle.std.specs.Prelude.{◌≡◌, IfOk, Some, option_map};
+ghost use Rattle.cm_base.specs.Names.{errno_of};
 ghost use Rattle.cm_cli.specs.Lines.{kind_view, line_of};
 ghost use Rattle.model_text.specs.Cut.{tokens_of};
 ghost use Rattle.model_text.specs.Line.{script_line, call_line, kind_line, event_told, ending, is_built, result_of_kind};
-ghost use Rattle.model_text.specs.Token.{number_token, result_token};
+ghost use Rattle.model_text.specs.Token.{birth_token, done_token, number_token, result_token};
 
 mod arguments;
 mod kind;
@@ -84,6 +85,16 @@ fn built(kind: CallKind) -> bool
             | CallKind::SetResGid
             | CallKind::SetFsGid
             | CallKind::SetGroups
+            | CallKind::CapSet
+            | CallKind::BsetDrop
+            | CallKind::AmbRaise
+            | CallKind::AmbLower
+            | CallKind::AmbClear
+            | CallKind::SecureBits
+            | CallKind::KeepCaps
+            | CallKind::NoNewPrivs
+            | CallKind::Fork
+            | CallKind::Exit
     )
 }
 
@@ -120,12 +131,15 @@ fn read_ending(kind: CallKind, text: &[u8]) -> Option<Res>
     read_result(kind, res)
 }
 
-// The result of a call of that kind: setfsuid and setfsgid tell the id from before, and have no error.
+// The result of a call of that kind: setfsuid and setfsgid tell the id from before, and have no error; fork tells its
+// child's pid; exit has no error either.
 fn read_result(kind: CallKind, token: &[u8]) -> Option<Res>
     ensures { result ≡ result_of_kind (kind_view kind) token.now }
 {
     match kind {
         CallKind::SetFsUid | CallKind::SetFsGid => read_old_id(token),
+        CallKind::Fork => read_birth(token),
+        CallKind::Exit => read_done(token),
         _ => read_outcome(token),
     }
 }
@@ -145,6 +159,31 @@ fn read_outcome(token: &[u8]) -> Option<Res>
     if token == b"0".as_slice() {
         return Some(Res::Done);
     }
+    read_error(token)
+}
+
+fn read_birth(token: &[u8]) -> Option<Res>
+    ensures { result ≡ birth_token token.now }
+{
+    match read_pid(token) {
+        Some(pid) => Some(Res::Child(pid)),
+        None => read_error(token),
+    }
+}
+
+fn read_done(token: &[u8]) -> Option<Res>
+    ensures { result ≡ done_token token.now }
+{
+    if token == b"0".as_slice() {
+        Some(Res::Done)
+    } else {
+        None
+    }
+}
+
+fn read_error(token: &[u8]) -> Option<Res>
+    ensures { result ≡ option_map Res.Err (errno_of token.now) }
+{
     let error = Errno::from_name(token)?;
     Some(Res::Err(error))
 }

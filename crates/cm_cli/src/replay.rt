@@ -1,26 +1,27 @@
 // The replay of a log's lines: each is read, its event is made a step, and its lines of the report are written.
 ghost use Rattle.std.specs.Prelude.{◌≡◌, ◌≤◌, ◌<◌, ◌+◌, ◌^◌, ◌++◌, ◌&&◌, ℕ, List, [], ◌∷◌, length, IfOk, OnOk, OnErr, MatchOption, slice_index, ◌≢◌, vec_len};
-ghost use Rattle.cm_cli.specs.Machine.{state_of, world_of};
+ghost use Rattle.cm_world.specs.World.{world_of};
 ghost use Rattle.cm_cli.specs.Replay.{IsLineTurn, CountsUpTo, IsPassed, TellsSetResUids};
 ghost use Rattle.cm_cli.specs.Sent.{IsSent, IsFront};
 ghost use Rattle.cm_io.specs.Sink.{then_written, WriteFaults};
-ghost use Rattle.model_cred.specs.World.{World};
+ghost use Rattle.model_cred.specs.Process.{process_at};
 ghost use Rattle.model_run.specs.Step.{Run};
 ghost use Rattle.model_run.specs.WayBack.{are_setresuids, is_setresuid};
 ghost use Rattle.model_text.specs.Cut.{lines_of};
 ghost use Rattle.model_text.specs.Line.{script_line, Tells, events_of};
-ghost use Rattle.model_text.specs.Report.{text_of, replayed};
+ghost use Rattle.model_text.specs.Report.{text_of, replayed, Told, credentials_if, child_lines};
 
 use crate::line::{Line, read_line};
-use crate::processes::{Processes, Turn};
 use crate::sending::send_full;
 use crate::writing::{
-    put_bad_log, put_end, put_event, put_no_process, put_not_built, put_pid_in_use, put_process,
-    put_wrong,
+    put_bad_log, put_end, put_event, put_no_process, put_no_space, put_not_built, put_pid_in_use,
+    put_process, put_wrong,
 };
-use cm_base::{NoMemory, Status};
+use cm_base::{NoMemory, Pid, Res, Status};
 use cm_io::{Outside, Sink};
-use cm_state::{Call, Event};
+use cm_machine::{Machine, StepError};
+use cm_state::{Call, Event, State};
+use cm_world::World;
 use std::alloc::Global;
 
 /// The events so far: how many, and whether each is a call of setresuid.
@@ -48,20 +49,21 @@ pub(crate) struct Replayed {
 /// pieces; at `Ok` the rest of it waits in the buffer.
 pub(crate) fn replay_lines<K: Sink>(
     alloc: Global,
-    processes: &mut Processes,
+    w: &World,
+    machine: &mut Machine,
     log: &[u8],
     text: &mut Vec<u8>,
     out: &mut K,
 ) -> Result<Replayed, Outside>
-    ensures status { (w : World) → IfOk result (λ end. (replayed w (lines_of log.now) (state_of processes.old) 1 0).status ≡ end.status) }
-    ensures sent { (w : World) → OnOk result (IsSent (K.written out.old) (K.written out.new) text.new.items
-        (text.old.items ++ text_of (replayed w (lines_of log.now) (state_of processes.old) 1 0).lines)) }
-    ensures stopped { (w : World) → OnErr result (IsFront (K.written out.old) (K.written out.new)
-        (text.old.items ++ text_of (replayed w (lines_of log.now) (state_of processes.old) 1 0).lines)) }
+    ensures status { IfOk result (λ end. (replayed (world_of w.now) (lines_of log.now) machine.old.state 1 0).status ≡ end.status) }
+    ensures sent { OnOk result (IsSent (K.written out.old) (K.written out.new) text.new.items
+        (text.old.items ++ text_of (replayed (world_of w.now) (lines_of log.now) machine.old.state 1 0).lines)) }
+    ensures stopped { OnErr result (IsFront (K.written out.old) (K.written out.new)
+        (text.old.items ++ text_of (replayed (world_of w.now) (lines_of log.now) machine.old.state 1 0).lines)) }
     ensures cause { WriteFaults (K.faults out.old) (K.faults out.new) result }
-    // Where the log is accepted, the processes are those of the state that its events lead to.
-    ensures reached { IfOk result (λ end. end.status ≡ Status.Accepted → (w : World) →
-        Run w (state_of processes.old) (events_of (lines_of log.now)) (state_of processes.new)) }
+    // Where the log is accepted, the machine is in the state that its events lead to.
+    ensures reached { IfOk result (λ end. end.status ≡ Status.Accepted →
+        Run (world_of w.now) machine.old.state (events_of (lines_of log.now)) machine.new.state) }
     ensures setresuids { IfOk result (λ end. end.status ≡ Status.Accepted →
         end.setresuids ≡ are_setresuids (events_of (lines_of log.now))) }
 {
@@ -72,7 +74,7 @@ pub(crate) fn replay_lines<K: Sink>(
         setresuids: true,
     };
     while let Some((line, after)) = next_line(rest) {
-        let turn = match take_line(alloc, processes, line, number, tally, text) {
+        let turn = match take_line(alloc, w, machine, line, number, tally, text) {
             Ok(turn) => turn,
             Err(NoMemory) => return Err(Outside::NoMemory),
         };
@@ -104,7 +106,8 @@ pub(crate) fn replay_lines<K: Sink>(
 // One line of the log, with its number and the events before it.
 fn take_line(
     alloc: Global,
-    processes: &mut Processes,
+    w: &World,
+    machine: &mut Machine,
     line: &[u8],
     number: u64,
     tally: Tally,
@@ -112,9 +115,9 @@ fn take_line(
 ) -> Result<LineTurn, NoMemory>
     requires { tally.events + 1 < 2 ^ 64 }
     ensures turn { IfOk result (λ turn. (bytes : List ℕ) × (text.new.items ≡ text.old.items ++ bytes)
-        × IsLineTurn turn processes.old processes.new number tally.events (script_line line.now) bytes) }
+        × IsLineTurn turn (world_of w.now) machine.old.state machine.new.state number tally.events (script_line line.now) bytes) }
     ensures count { IfOk result (λ turn. CountsUpTo turn (tally.events + 1)) }
-    ensures passed { IfOk result (λ turn. IsPassed turn processes.old processes.new (script_line line.now)) }
+    ensures passed { IfOk result (λ turn. IsPassed turn (world_of w.now) machine.old.state machine.new.state (script_line line.now)) }
     ensures setresuids { IfOk result (λ turn. TellsSetResUids turn tally.setresuids (script_line line.now)) }
 {
     match read_line(alloc, line)? {
@@ -127,13 +130,14 @@ fn take_line(
             put_not_built(text)?;
             Ok(LineTurn::Ends(Status::NotBuilt))
         }
-        Line::Tells(event) => take_event(alloc, processes, &event, number, tally, text),
+        Line::Tells(event) => take_event(alloc, w, machine, &event, number, tally, text),
     }
 }
 
 fn take_event(
     alloc: Global,
-    processes: &mut Processes,
+    w: &World,
+    machine: &mut Machine,
     event: &Event,
     number: u64,
     tally: Tally,
@@ -141,29 +145,64 @@ fn take_event(
 ) -> Result<LineTurn, NoMemory>
     requires { tally.events + 1 < 2 ^ 64 }
     ensures turn { IfOk result (λ turn. (bytes : List ℕ) × (text.new.items ≡ text.old.items ++ bytes)
-        × IsLineTurn turn processes.old processes.new number tally.events (Tells event.now) bytes) }
+        × IsLineTurn turn (world_of w.now) machine.old.state machine.new.state number tally.events (Tells event.now) bytes) }
     ensures count { IfOk result (λ turn. CountsUpTo turn (tally.events + 1)) }
-    ensures passed { IfOk result (λ turn. IsPassed turn processes.old processes.new (Tells event.now)) }
+    ensures passed { IfOk result (λ turn. IsPassed turn (world_of w.now) machine.old.state machine.new.state (Tells event.now)) }
     ensures setresuids { IfOk result (λ turn. TellsSetResUids turn tally.setresuids (Tells event.now)) }
 {
-    let Some(at) = processes.find(event.pid) else {
-        put_no_process(text, number)?;
-        return Ok(LineTurn::Ends(Status::Impossible));
-    };
-    match processes.step_at(alloc, at, event)? {
-        Turn::Goes => {
-            put_event(text, number, event)?;
-            put_process(text, processes.at(at))?;
+    match machine.step(alloc, w, event) {
+        Ok(()) => {
+            put_step(text, &machine.state, number, event)?;
             Ok(LineTurn::Goes(with_event(tally, event)))
         }
-        Turn::PidInUse => {
+        Err(StepError::NoProcess) => {
+            put_no_process(text, number)?;
+            Ok(LineTurn::Ends(Status::Impossible))
+        }
+        Err(StepError::NoSpace) => {
+            put_no_space(text, number)?;
+            Ok(LineTurn::Ends(Status::Impossible))
+        }
+        Err(StepError::PidInUse) => {
             put_pid_in_use(text, number)?;
             Ok(LineTurn::Ends(Status::Impossible))
         }
-        Turn::Wrong(given) => {
-            put_wrong(text, number, &given)?;
+        Err(StepError::Wrong { rules_give }) => {
+            put_wrong(text, number, &rules_give)?;
             Ok(LineTurn::Ends(Status::Impossible))
         }
+        Err(StepError::NoMemory) => Err(NoMemory),
+    }
+}
+
+// The lines of a step: the event, the caller's credentials where it lives on, and those of a child that was born.
+fn put_step(text: &mut Vec<u8>, state: &State, number: u64, event: &Event) -> Result<(), NoMemory>
+    ensures { OnOk result (text.new.items ≡ text.old.items
+        ++ ((text_of (Told number event.now ∷ []) ++ text_of (credentials_if (process_at state.now.processes event.now.pid)))
+        ++ text_of (child_lines state.now event.now.res))) }
+{
+    put_event(text, number, event)?;
+    put_living(text, state, event.pid)?;
+    put_child(text, state, &event.res)
+}
+
+// The credential line of the live process of that pid, where there is one.
+fn put_living(text: &mut Vec<u8>, state: &State, pid: Pid) -> Result<(), NoMemory>
+    ensures { OnOk result (text.new.items ≡ text.old.items ++ text_of (credentials_if (process_at state.now.processes pid))) }
+{
+    match state.procs.find(pid) {
+        Some(at) => put_process(text, &state.procs.items()[at]),
+        None => Ok(()),
+    }
+}
+
+// The credential line of the child that a result tells.
+fn put_child(text: &mut Vec<u8>, state: &State, res: &Res) -> Result<(), NoMemory>
+    ensures { OnOk result (text.new.items ≡ text.old.items ++ text_of (child_lines state.now res.now)) }
+{
+    match res {
+        Res::Child(pid) => put_living(text, state, *pid),
+        _ => Ok(()),
     }
 }
 

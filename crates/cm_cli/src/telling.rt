@@ -1,6 +1,5 @@
 // Telling a report: what is written goes to the sink, and the answer says how it went.
 ghost use Rattle.std.specs.Prelude.{◌≡◌, ◌++◌, ◌||◌, not, false, OnOk, OnErr, List, map};
-ghost use Rattle.cm_cli.specs.Machine.{state_of};
 ghost use Rattle.cm_cli.specs.Query.{query_if};
 ghost use Rattle.cm_cli.specs.Sent.{IsSent, IsFront};
 ghost use Rattle.cm_cli.specs.Telling.{Tells, short_report, log_report, stopped_by};
@@ -9,7 +8,6 @@ ghost use Rattle.model_run.specs.WayBack.{StateFollows};
 ghost use Rattle.model_text.specs.Report.{text_of, Credentials};
 
 use crate::answer::put_answer;
-use crate::processes::Processes;
 use crate::query::Query;
 use crate::replay::replay_lines;
 use crate::sending::{send, send_full};
@@ -18,6 +16,9 @@ use crate::writing::{
 };
 use cm_base::{NoMemory, Status};
 use cm_io::{Outside, Sink};
+use cm_machine::Machine;
+use cm_state::State;
+use cm_world::World;
 use std::alloc::Global;
 
 /// A report of one piece, which no log has a part in.
@@ -68,30 +69,39 @@ fn status_of(short: Short) -> Status
     }
 }
 
-/// Tells the report of a log in the world of these processes, and behind an accepted log the answer to what is asked.
-/// `more` says that the world declares more of a process than its pid and its user ids.
+/// Tells the report of a log in a world, and behind an accepted log the answer to what is asked.
 pub(crate) fn tell_log<K: Sink>(
     alloc: Global,
-    processes: &mut Processes,
-    more: bool,
+    w: &World,
     log: &[u8],
     query: Option<Query<'_>>,
     out: &mut K,
 ) -> Status
-    requires { more ≡ false → StateFollows (state_of processes.old) }
-    ensures { Tells (log_report (query_if query.entry) more processes.old log.now) result (K.written out.old) (K.written out.new) (K.faults out.old) (K.faults out.new) }
+    requires { w.now.more ≡ false → StateFollows w.now.start }
+    ensures { Tells (log_report (query_if query.entry) w.now log.now) result (K.written out.old) (K.written out.new) (K.faults out.old) (K.faults out.new) }
 {
+    let mut machine = match Machine::new(alloc, w) {
+        Ok(machine) => machine,
+        Err(NoMemory) => return Status::NoMemory,
+    };
     let mut text = Vec::new(alloc);
-    match send_start(processes, &mut text, out) {
+    match send_start(&w.start, &mut text, out) {
         Ok(()) => {}
         Err(why) => return stopped(why),
     }
-    let replayed = match replay_lines(alloc, processes, log, &mut text, out) {
+    let replayed = match replay_lines(alloc, w, &mut machine, log, &mut text, out) {
         Ok(replayed) => replayed,
         Err(why) => return stopped(why),
     };
-    let more = has_more(more, replayed.setresuids);
-    let status = match put_answer(alloc, processes, query, replayed.status, more, &mut text) {
+    let more = has_more(w.more, replayed.setresuids);
+    let status = match put_answer(
+        alloc,
+        &machine.state,
+        query,
+        replayed.status,
+        more,
+        &mut text,
+    ) {
         Ok(status) => status,
         Err(NoMemory) => return Status::NoMemory,
     };
@@ -110,17 +120,13 @@ fn has_more(more: bool, setresuids: bool) -> bool
 }
 
 // The credential lines at the start.
-fn send_start<K: Sink>(
-    processes: &Processes,
-    text: &mut Vec<u8>,
-    out: &mut K,
-) -> Result<(), Outside>
-    ensures sent { OnOk result (IsSent (K.written out.old) (K.written out.new) text.new.items (text.old.items ++ text_of (map Credentials processes.now))) }
-    ensures stopped { OnErr result (IsFront (K.written out.old) (K.written out.new) (text.old.items ++ text_of (map Credentials processes.now))) }
+fn send_start<K: Sink>(start: &State, text: &mut Vec<u8>, out: &mut K) -> Result<(), Outside>
+    ensures sent { OnOk result (IsSent (K.written out.old) (K.written out.new) text.new.items (text.old.items ++ text_of (map Credentials start.now.processes))) }
+    ensures stopped { OnErr result (IsFront (K.written out.old) (K.written out.new) (text.old.items ++ text_of (map Credentials start.now.processes))) }
     ensures cause { WriteFaults (K.faults out.old) (K.faults out.new) result }
 {
-    for live in processes.list() {
-        match put_process(text, live) {
+    for p in start.procs.items() {
+        match put_process(text, p) {
             Ok(()) => {}
             Err(NoMemory) => return Err(Outside::NoMemory),
         }

@@ -166,7 +166,7 @@ fn logs_are_replayed(rt: HostRuntime) -> Result<(), Fail> {
         // The report of the first line stands.
         (
             ROOT_WORLD,
-            "100 setresuid 7 -1 -1 = 0\n101 capset 0 = 0\n",
+            "100 setresuid 7 -1 -1 = 0\n101 unshare now = 0\n",
             Status::NotBuilt,
             &[ROOT, "1: 100 setresuid 7 -1 -1 = 0\n", SEVEN, "not built\n"],
         ),
@@ -279,7 +279,7 @@ fn worlds_are_read(rt: HostRuntime) -> Result<(), Fail> {
         ("uid = 0", Status::BadWorld, "bad world\n"),
         ("pid = 100", Status::BadWorld, "bad world\n"),
         ("pid = 7\npid = 8", Status::BadWorld, "bad world\n"),
-        ("pid = 7\nparent = 0", Status::NotBuilt, "not built\n"),
+        ("pid = 7\nparent = 0", Status::BadWorld, "bad world\n"),
         (
             "pid = 7\nspace = 1\nuid = [0]",
             Status::NotBuilt,

@@ -9,9 +9,9 @@ mod tests;
 mod verdicts;
 
 pub(crate) use answers::{put_bad_pid, put_bad_right, put_way, put_yes};
-pub(crate) use credentials::{put_credentials, put_process};
+pub(crate) use credentials::put_process;
 pub(crate) use events::put_event;
 pub(crate) use verdicts::{
-    put_bad_log, put_bad_world, put_end, put_log_limit, put_no_process, put_not_built,
-    put_pid_in_use, put_usage, put_world_limit, put_wrong,
+    put_bad_log, put_bad_world, put_end, put_log_limit, put_no_process, put_no_space,
+    put_not_built, put_pid_in_use, put_usage, put_world_limit, put_wrong,
 };

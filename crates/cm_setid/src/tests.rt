@@ -96,6 +96,8 @@ fn make(alloc: Global, c: &mut Cred, s: &Space, call: &Call) -> Result<Res, Fail
         Call::SetResGid(r, e, v) => set_resgid(c, s, *r, *e, *v),
         Call::SetFsGid(id) => set_fsgid(c, s, *id),
         Call::SetGroups(ids) => set_groups(alloc, c, s, ids.items())?,
+        // No row has another call.
+        _ => Res::Done,
     })
 }
 

@@ -1,5 +1,6 @@
 // The calls, with the arguments that the caller gave.
 use crate::Ids;
+use cm_base::CapWord;
 
 /// A call with its arguments: ids as the caller's user namespace sees them, 4294967295 for -1.
 #[derive(Debug, Drop)]
@@ -22,4 +23,28 @@ pub enum Call {
     SetFsGid(u32),
     /// setgroups(2), on the page of getgroups(2): the supplementary groups.
     SetGroups(Ids),
+    /// capset(2): the effective, permitted and inheritable set.
+    CapSet {
+        eff: CapWord,
+        prm: CapWord,
+        inh: CapWord,
+    },
+    /// PR_CAPBSET_DROP of prctl(2): the capability of that number goes from the bounding set.
+    BsetDrop(u32),
+    /// PR_CAP_AMBIENT_RAISE of PR_CAP_AMBIENT, prctl(2): the capability of that number comes to the ambient set.
+    AmbRaise(u32),
+    /// PR_CAP_AMBIENT_LOWER of PR_CAP_AMBIENT, prctl(2): the capability of that number goes from the ambient set.
+    AmbLower(u32),
+    /// PR_CAP_AMBIENT_CLEAR_ALL of PR_CAP_AMBIENT, prctl(2): the ambient set becomes empty.
+    AmbClear,
+    /// PR_SET_SECUREBITS of prctl(2): the securebits, as they are given.
+    SecureBits(u32),
+    /// PR_SET_KEEPCAPS of prctl(2): 1 sets SECBIT_KEEP_CAPS, 0 clears it.
+    KeepCaps(u32),
+    /// PR_SET_NO_NEW_PRIVS of prctl(2): 1 sets it.
+    NoNewPrivs(u32),
+    /// fork(2), or clone(2) without CLONE_NEWUSER: a child with a copy of the caller's credentials.
+    Fork,
+    /// _exit(2): the caller lives no longer.
+    Exit,
 }

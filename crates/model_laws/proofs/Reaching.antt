@@ -23,7 +23,7 @@ reaches_more (suc k) s root (Some pid) is =
       | inr further ↦ or_right (pid == root) (reaches_within (suc k) s root (forebear_of s pid)) (reaches_more k s root (forebear_of s pid) further)
     ]
 
-reaches_plus : (more k : ℕ) (s : State) (root pid : ℕ) → reaches_within k s root (Some pid) ≡ true → reaches_within (more + k) s root (Some pid) ≡ true
+pub reaches_plus : (more k : ℕ) (s : State) (root pid : ℕ) → reaches_within k s root (Some pid) ≡ true → reaches_within (more + k) s root (Some pid) ≡ true
 reaches_plus zero k s root pid is = let e : 0 + k ≡ k = omega arith in subst (λ (n : ℕ). reaches_within n s root (Some pid) ≡ true) (sym e) is
 reaches_plus (suc more) k s root pid is =
     let e : suc more + k ≡ suc (more + k) = omega arith in
@@ -165,7 +165,7 @@ chain_short s root k chain =
     omega arith
 
 -- a chain that reaches the root does so within as many steps as there are processes
-reaches_soon : (k : ℕ) (s : State) (root pid : ℕ) → is_alive s.processes root ≡ true → reaches_within k s root (Some pid) ≡ true → reaches s root pid ≡ true
+pub reaches_soon : (k : ℕ) (s : State) (root pid : ℕ) → is_alive s.processes root ≡ true → reaches_within k s root (Some pid) ≡ true → reaches s root pid ≡ true
 reaches_soon k s root pid alive is =
     let m : (m : ℕ) × Exactly m s root pid = least k s root pid is in
     let short : m.0 < length s.processes = chain_short s root m.0 (chain_of m.0 s root pid alive m.1) in

@@ -113,10 +113,10 @@ result_of_two_zeros_is_a_fault = refl
 pub pid_alone_is_a_fault : script_line (codes "100") ≡ Faulty
 pid_alone_is_a_fault = refl
 
-pub call_not_built : script_line (codes "100 fork = 101") ≡ Unbuilt
+pub call_not_built : script_line (codes "100 clone_user = 101") ≡ Unbuilt
 call_not_built = refl
 
-pub call_not_built_alone : script_line (codes "100 capset") ≡ Unbuilt
+pub call_not_built_alone : script_line (codes "100 execve") ≡ Unbuilt
 call_not_built_alone = refl
 
 pub unknown_call_is_a_fault : script_line (codes "100 setresuids 0 0 0 = 0") ≡ Faulty

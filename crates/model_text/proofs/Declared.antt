@@ -11,7 +11,7 @@ use Rattle.model_cred.specs.World.{World}
 use Rattle.model_run.specs.WayBack.{has_root, SetsFollowIds, AllFollow, StateFollows}
 use Rattle.model_text.proofs.Starts.{Made, start_made}
 use Rattle.model_text.specs.Places.{IsInitial}
-use Rattle.model_text.specs.ProcessText.{held_by_default, included, credential_of, credential_with, credential_declared, ids_value, pid_value, process_with, process_keys, process_row, further_keys}
+use Rattle.model_text.specs.ProcessText.{held_by_default, included, credential_of, credential_with, credential_declared, ids_value, pid_value, parent_value, process_with, process_keys, process_row, further_keys}
 use Rattle.model_text.specs.Toml.{has_key, has_key_of, has_only}
 use Rattle.model_text.specs.WorldText.{Reads, world_text, text_says_more, in_order, placed, process_rows, one_more, processes_of, row_has, some_row_has, rows_have}
 use Rattle.toml.specs.Data.{Data, array, table, Items, no_items, item, Members, get_member}
@@ -67,7 +67,7 @@ unfolding AllAbsent
 plain_cred row None plain = refl
 plain_cred row (Some ids) plain =
     let absent : AllAbsent further_keys row = all_absent further_keys row plain in
-    rw (absent.0, absent.1.0, absent.1.1.0, absent.1.1.1.0, absent.1.1.1.1.0, absent.1.1.1.1.1.0, absent.1.1.1.1.1.1.0, absent.1.1.1.1.1.1.1.0, absent.1.1.1.1.1.1.1.1.0) (default_included ids (ids.effective == 0))
+    rw (absent.1.0, absent.1.1.0, absent.1.1.1.0, absent.1.1.1.1.0, absent.1.1.1.1.1.0, absent.1.1.1.1.1.1.0, absent.1.1.1.1.1.1.1.0, absent.1.1.1.1.1.1.1.1.0, absent.1.1.1.1.1.1.1.1.1.0) (default_included ids (ids.effective == 0))
 
 -- ---- whose sets follow
 root_by_effective : (ids : FourIds) → has_root ids ≡ false → (ids.effective == 0) ≡ false
@@ -90,24 +90,26 @@ pub record IsDeclared (more : Bool) (p : Process) : Type 0 where
   pub space : p.space ≡ 0
   pub follows : more ≡ false → SetsFollowIds p.cred
 
-declared_with : (pid : Option ℕ) (cred : Option Credential) (more : Bool) (p : Process) → ((c : Credential) → cred ≡ Some c → more ≡ false → SetsFollowIds c) → process_with pid cred ≡ Some p → IsDeclared more p
-declared_with None cred more p follow is = absurd (cc)
-declared_with (Some pid) None more p follow is = absurd (cc)
-declared_with (Some pid) (Some c) more p follow is =
-    let made : Process = record { pid = pid; forebear = None; space = 0; cred = c } in
+declared_with : (pid : Option ℕ) (parent : Option (Option ℕ)) (cred : Option Credential) (more : Bool) (p : Process) → ((c : Credential) → cred ≡ Some c → more ≡ false → SetsFollowIds c)
+    → process_with pid parent cred ≡ Some p → IsDeclared more p
+declared_with None parent cred more p follow is = absurd (cc)
+declared_with (Some pid) None cred more p follow is = absurd (cc)
+declared_with (Some pid) (Some forebear) None more p follow is = absurd (cc)
+declared_with (Some pid) (Some forebear) (Some c) more p follow is =
+    let made : Process = record { pid = pid; forebear = forebear; space = 0; cred = c } in
     let same : made ≡ p = cc in
     subst (λ (x : Process). IsDeclared more x) same (record { space = refl; follows = λ plain. follow c refl plain })
 
-declared_if : (test : Bool) (pid : Option ℕ) (cred : Option Credential) (more : Bool) (p : Process) → ((c : Credential) → cred ≡ Some c → more ≡ false → SetsFollowIds c)
-    → cond test (process_with pid cred) None ≡ Some p → IsDeclared more p
-declared_if true pid cred more p follow is = declared_with pid cred more p follow is
-declared_if false pid cred more p follow is = absurd (cc)
+declared_if : (test : Bool) (pid : Option ℕ) (parent : Option (Option ℕ)) (cred : Option Credential) (more : Bool) (p : Process) → ((c : Credential) → cred ≡ Some c → more ≡ false → SetsFollowIds c)
+    → cond test (process_with pid parent cred) None ≡ Some p → IsDeclared more p
+declared_if true pid parent cred more p follow is = declared_with pid parent cred more p follow is
+declared_if false pid parent cred more p follow is = absurd (cc)
 
 -- so is the process of a row
 row_declared : (row : Data) (p : Process) → process_row row ≡ Some p → IsDeclared (row_has further_keys row) p
 row_declared (table row) p is =
     let uid : Option FourIds = ids_value (get_member (codes "uid") row) in
-    declared_if (has_only process_keys row) (pid_value (get_member (codes "pid") row)) (credential_declared row) (has_key_of further_keys row) p
+    declared_if (has_only process_keys row) (pid_value (get_member (codes "pid") row)) (parent_value (get_member (codes "parent") row)) (credential_declared row) (has_key_of further_keys row) p
     (λ c read plain. plain_follows uid c (sym (plain_cred row uid plain) ∙ read)) is
 row_declared _ p is = absurd (cc)
 
@@ -148,7 +150,7 @@ placed_all P p (q ∷ ps) all =
           All-cons P q (placed p ps) (All-head P q ps rest) (placed_all P p ps (All-cons P p ps (All-head P p (q ∷ ps) all) (All-tail P q ps rest)))
     ]
 
-in_order_all : (P : Process → Type 0) (ps : List Process) → All P ps → All P (in_order ps)
+pub in_order_all : (P : Process → Type 0) (ps : List Process) → All P ps → All P (in_order ps)
 in_order_all P [] all = all
 in_order_all P (p ∷ ps) all =
     placed_all P p (in_order ps) (All-cons P p (in_order ps) (All-head P p ps all) (in_order_all P ps (All-tail P p ps all)))

@@ -1,7 +1,10 @@
+pub mod Processes
 pub mod StepFacts
 pub mod Tellings
+pub mod Showing
 pub mod Starts
 pub mod Declared
+pub mod Parents
 pub mod Places
 pub mod Replays
 pub mod Verdicts
@@ -16,3 +19,8 @@ pub mod LineCases
 pub mod CapCases
 pub mod ProcessCases
 pub mod SetIdCases
+pub mod CapLineCases
+pub mod BirthLineCases
+pub mod ParentCases
+pub mod CapReportCases
+pub mod BirthReportCases

@@ -123,9 +123,8 @@ faults_of_groups = refl
 -- ---- the other calls
 -- each call that isn't built, whatever stands behind its name
 pub calls_that_are_not_built : AreUnbuilt
-    (codes "100 capset 0 0 0 = 0" ∷ codes "100 bset_drop 1 = 0" ∷ codes "100 amb_raise 1 = 0" ∷ codes "100 amb_lower 1 = 0" ∷ codes "100 amb_clear = 0" ∷ codes "100 securebits 16 = 0" ∷ codes "100 keepcaps 1 = 0" ∷ codes "100 no_new_privs 1 = 0"
-    ∷ codes "100 fork = 101" ∷ codes "100 clone_user = 101" ∷ codes "100 unshare = 0" ∷ codes "100 setns #1 = 0" ∷ codes "100 write_uid_map #1 0 0 1 = 0" ∷ codes "100 write_gid_map #1 0 0 1 = 0" ∷ codes "100 write_setgroups #1 deny = 0"
-    ∷ codes "100 execve - = 0" ∷ codes "100 exit = 0" ∷ codes "100 exit" ∷ codes "100 keepcaps x y z" ∷ codes "100 execve = =" ∷ [])
+    (codes "100 clone_user = 101" ∷ codes "100 unshare = 0" ∷ codes "100 setns #1 = 0" ∷ codes "100 write_uid_map #1 0 0 1 = 0" ∷ codes "100 write_gid_map #1 0 0 1 = 0" ∷ codes "100 write_setgroups #1 deny = 0" ∷ codes "100 execve - = 0"
+    ∷ codes "100 unshare" ∷ codes "100 setns x y z" ∷ codes "100 execve = =" ∷ [])
 calls_that_are_not_built = refl
 
 pub names_of_no_call : AreFaulty

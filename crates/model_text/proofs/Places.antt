@@ -8,7 +8,7 @@ use Rattle.model_cred.specs.Process.{State}
 use Rattle.model_cred.specs.World.{World}
 use Rattle.model_run.specs.Step.{Step, Run}
 use Rattle.model_text.proofs.Declared.{start_initial}
-use Rattle.model_text.proofs.StepFacts.{spaces_stay, all_stay}
+use Rattle.model_text.proofs.StepFacts.{spaces_stay, places_stay}
 use Rattle.model_text.proofs.Tellings.{tells_built}
 use Rattle.model_text.specs.Line.{Line, NoEvent, Tells, Faulty, Unbuilt, IsBuilt, script_line, told_event, events_of}
 use Rattle.model_text.specs.Places.{IsInitial}
@@ -33,7 +33,7 @@ lines_built (line ∷ lines) = built_before line (events_of lines) (lines_built 
 pub step_initial : (w : World) (s : State) (e : Event) (s' : State) → IsBuilt e.call → IsInitial s → Step w s e s' → IsInitial s'
 step_initial w s e s' built is goes = record {
   spaces = spaces_stay w s e s' built goes ∙ is.spaces;
-  processes = all_stay (λ p. p.space ≡ 0) (λ p c here. here) w s e s' built goes is.processes;
+  processes = places_stay (λ n. n ≡ 0) w s e s' built goes is.processes;
 }
 
 -- a run

@@ -122,7 +122,7 @@ pub fault_in_the_second_line : Says (world_report None false (world_of_100 1000)
 unfolding report_on_literals
 fault_in_the_second_line = record { status = refl; text = refl }
 
-pub call_that_is_not_built : Says (world_report None false (world_of_100 1000) (codes "100 fork = 101\n")) status.NotBuilt
+pub call_that_is_not_built : Says (world_report None false (world_of_100 1000) (codes "100 clone_user = 101\n")) status.NotBuilt
     (user_line ∷ codes "not built" ∷ [])
 unfolding report_on_literals
 call_that_is_not_built = record { status = refl; text = refl }

@@ -124,9 +124,9 @@ pub fault_of_setgroups : Replays [] (codes "100 setgroups = 0\n100 setgroups 5\n
 unfolding report_on_literals world_on_literals
 fault_of_setgroups = record { status = refl; text = refl }
 
-pub capset_is_not_built : Replays [] (codes "100 setgroups = 0\n7 capset x\n") status.NotBuilt (root_line ∷ codes "1: 100 setgroups = 0" ∷ root_line ∷ codes "not built" ∷ [])
+pub unshare_is_not_built : Replays [] (codes "100 setgroups = 0\n7 unshare x\n") status.NotBuilt (root_line ∷ codes "1: 100 setgroups = 0" ∷ root_line ∷ codes "not built" ∷ [])
 unfolding report_on_literals world_on_literals
-capset_is_not_built = record { status = refl; text = refl }
+unshare_is_not_built = record { status = refl; text = refl }
 
 pub world_with_a_bad_set : Replays (codes "permitted = \"CAP_FOO\"\n") (codes "100 capset = 0\n") status.BadWorld (codes "bad world" ∷ [])
 unfolding report_on_literals world_on_literals

@@ -9,7 +9,7 @@ use Rattle.model_cred.specs.World.{World}
 use Rattle.model_text.specs.Laws.{last_credentials}
 use Rattle.model_text.specs.Report.{Credentials}
 use Rattle.model_text.specs.Toml.{has_only, is_text}
-use Rattle.model_text.specs.WorldText.{WorldText, Reads, Bad, NotBuilt, world_text, document_text, table_text, built_table, distinct_world, world_with, in_order, placed, are_distinct, has_pid, asks_more, processes_of, rows_have, says_more, document_says_more, text_says_more}
+use Rattle.model_text.specs.WorldText.{WorldText, Reads, Bad, NotBuilt, world_text, document_text, table_text, built_table, distinct_world, world_with, in_order, placed, are_distinct, parents_stand, has_pid, asks_more, processes_of, rows_have, says_more, document_says_more, text_says_more}
 use Rattle.model_text.specs.ProcessText.{further_keys}
 use Rattle.toml.specs.Data.{Data, Members, get_member}
 use Rattle.toml.specs.Parse.{parse_document}
@@ -26,7 +26,7 @@ distinct_placed p [] free distinct = refl
 distinct_placed p (q ∷ ps) free distinct = grind (arith, free, distinct, distinct_placed p ps, has_pid_placed q.pid p ps)
 
 -- the order takes no pid away and adds none
-has_pid_in_order : (pid : ℕ) (ps : List Process) → has_pid pid (in_order ps) ≡ has_pid pid ps
+pub has_pid_in_order : (pid : ℕ) (ps : List Process) → has_pid pid (in_order ps) ≡ has_pid pid ps
 has_pid_in_order pid [] = refl
 has_pid_in_order pid (p ∷ ps) = has_pid_placed pid p (in_order ps) ∙ ap (λ (b : Bool). p.pid == pid || b) (has_pid_in_order pid ps)
 
@@ -85,21 +85,29 @@ where_true : (test : Bool) (t : WorldText) (w : World) → cond test t Bad ≡ R
 where_true true t w is = (refl, is)
 where_true false t w is = absurd (cc)
 
--- The world is made of processes with distinct pids, which come from the rows of a value; whether they say more of a
--- process than its user ids is told.
+-- The world is made of processes with distinct pids, each of whose parents comes before it, and which come from the rows of a
+-- value; whether they say more of a process than its user ids is told.
 pub record Made (w : World) (more : Bool) : Type 0 where
   pub processes : List Process
   pub distinct : are_distinct processes ≡ true
+  pub parents : parents_stand [] processes ≡ true
   pub world : world_with processes ≡ w
   pub value : Option Data
   pub rows : processes_of value ≡ Some processes
   pub says_more : rows_have further_keys value ≡ more
 
+-- both of two tests hold where their conjunction does
+pub both_true : (a b : Bool) → (a && b) ≡ true → (a ≡ true) × (b ≡ true)
+both_true true b is = (refl, is)
+both_true false b is = absurd (cc)
+
 read_processes : (value : Option Data) (read : Option (List Process)) (w : World) → processes_of value ≡ read → distinct_world read ≡ Reads w → Made w (rows_have further_keys value)
 read_processes value None w rows is = absurd (cc)
 read_processes value (Some ps) w rows is =
-    let parts : (are_distinct ps ≡ true) × (Reads (world_with ps) ≡ Reads w) = where_true (are_distinct ps) (Reads (world_with ps)) w is in
-    record { processes = ps; distinct = parts.0; world = let same : Reads (world_with ps) ≡ Reads w = parts.1 in cc; value = value; rows = rows; says_more = refl }
+    let parts : ((are_distinct ps && parents_stand [] ps) ≡ true) × (Reads (world_with ps) ≡ Reads w) = where_true (are_distinct ps && parents_stand [] ps) (Reads (world_with ps)) w is in
+    let same : Reads (world_with ps) ≡ Reads w = parts.1 in
+    let tests : (are_distinct ps ≡ true) × (parents_stand [] ps ≡ true) = both_true (are_distinct ps) (parents_stand [] ps) parts.0 in
+    record { processes = ps; distinct = tests.0; parents = tests.1; world = cc; value = value; rows = rows; says_more = refl }
 
 read_table : (top : Members) (w : World) → table_text top ≡ Reads w → Made w (says_more top)
 read_table top w is =

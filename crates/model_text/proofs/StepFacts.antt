@@ -1,17 +1,19 @@
--- What a step by an event of a built call does: it gives its caller another credential, or changes nothing; all else stays.
--- All that these laws need of the machine's definition of a step is here.
-use Rattle.std.proofs.Common.{◌≡◌, ◌≢◌, ℕ, ◌==◌, ◌⊎◌, inl, inr, Bool, true, false, cond, List, [], ◌∷◌, Option, Some, None, refl, sym, ◌∙◌, ap, subst, arith, All}
-use Rattle.std.proofs.lemmas.List.Elements.{All-cons, All-head, All-tail}
+-- What a step by an event of a built call does: it changes nothing, gives its caller another credential, brings a child of
+-- its caller or takes its caller away; all else stays. All that these laws need of the machine's definition of a step is
+-- here.
+use Rattle.std.proofs.Common.{◌≡◌, ◌≢◌, ℕ, ◌⊎◌, inl, inr, Bool, true, false, cond, Option, Some, None, refl, sym, ◌∙◌, ap, subst, arith, option_map, All}
+use Rattle.cm_base.specs.declared.errno.Errno.TheVariants.{EAGAIN}
 use Rattle.cm_base.specs.declared.res.Res.{Res}
-use Rattle.model_cred.specs.Call.{Call, Event, SetUid, SetReUid, SetResUid, SetFsUid, SetGid, SetReGid, SetResGid, SetFsGid, SetGroups}
+use Rattle.cm_base.specs.declared.res.Res.TheVariants.{Done, Id, Child, Err}
+use Rattle.model_cred.specs.Call.{Call, Event, SetUid, SetReUid, SetResUid, SetFsUid, SetGid, SetReGid, SetResGid, SetFsGid, SetGroups, CapSet, BsetDrop, AmbRaise, AmbLower, AmbClear, SecureBits, KeepCaps, NoNewPrivs, Fork, Exit}
 use Rattle.model_cred.specs.Credential.{Credential}
-use Rattle.model_cred.specs.Process.{Process, State, process_at, put_process}
+use Rattle.model_cred.specs.Process.{Process, State, process_at, is_pid, insert_process, after_exit}
 use Rattle.model_cred.specs.World.{World}
 use Rattle.model_run.specs.Outside.{comes_from_outside}
-use Rattle.model_rules.specs.Reply.{Reply}
-use Rattle.model_run.specs.Ruling.{reply_to}
+use Rattle.model_run.specs.Ruling.{Ruling, ruling, own, reply_to, fork_child, state_without}
 use Rattle.model_run.specs.Same.{same_res}
-use Rattle.model_run.specs.Step.{Outcome, Goes, PidInUse, Wrong, Step, outcome_for, is_living_child, with_cred}
+use Rattle.model_run.specs.Step.{Outcome, Goes, NoSpace, PidInUse, Wrong, Step, outcome_for, names_no_space, is_living_child, told_child, told_call, with_cred}
+use Rattle.model_text.proofs.Processes.{pid_of_found, all_found, put_other, all_put, insert_other, all_insert, IsLike, like_after_exit, without_other, all_without}
 use Rattle.model_text.specs.Line.{IsBuilt}
 
 -- ---- whether an event goes on
@@ -20,141 +22,158 @@ pub goes_or_not : (o : Outcome) → ((s' : State) × (o ≡ Goes s')) ⊎ ((s' :
 goes_or_not (Goes s') = inl (s', refl)
 goes_or_not _ = inr (λ s' is. cc)
 
--- ---- one process in the place of another
--- a process that is found by a pid has it
-pub pid_of_found : (ps : List Process) (pid : ℕ) (p : Process) → process_at ps pid ≡ Some p → p.pid ≡ pid
-pid_of_found [] pid p is = absurd (cc)
-pid_of_found (q ∷ ps) pid p is = grind (arith, is, pid_of_found ps pid p)
+-- ---- what the rules give for a built call
+-- the state with the child of a process
+abbrev with_child : State → Process → ℕ → State
+with_child s p pid = record s { processes = insert_process (fork_child p pid) s.processes }
 
--- the others are found as before
-put_other : (new : Process) (ps : List Process) (pid : ℕ) → pid ≢ new.pid → process_at (put_process new ps) pid ≡ process_at ps pid
-put_other new [] pid other = refl
-put_other new (q ∷ ps) pid other = grind (arith, other, put_other new ps pid other)
+-- What a call with a result leaves of a state: it stays, or the process has another credential, or the child that the result
+-- tells comes, or the process goes.
+Changes : State → Process → Res → State → Type 0
+Changes s p res s' = (s' ≡ s) ⊎ ((c : Credential) × (s' ≡ with_cred s p c)) ⊎ ((pid : ℕ) × (res ≡ Child pid) × (s' ≡ with_child s p pid)) ⊎ (s' ≡ state_without s p)
 
--- the new one is found where there was one of its pid
-put_found : (new : Process) (ps : List Process) (p : Process) → process_at ps new.pid ≡ Some p → process_at (put_process new ps) new.pid ≡ Some new
-put_found new [] p is = absurd (cc)
-put_found new (q ∷ ps) p is = grind (arith, is, put_found new ps p)
+-- The rules leave this by a call of the process, whatever pid a child has, and the call names no space that doesn't stand.
+record IsRuled (w : World) (s : State) (p : Process) (call : Call) : Type 0 where
+  place : names_no_space s.spaces call ≡ false
+  leaves : (pid : ℕ) → Changes s p (ruling w s p call pid).res (ruling w s p call pid).state
 
--- what holds of all holds with the new one too, where it holds of that
-all_put : (P : Process → Type 0) (new : Process) (ps : List Process) → P new → All P ps → All P (put_process new ps)
-all_put P new [] is all = all
-all_put P new (p ∷ ps) is all =
-    elim (p.pid == new.pid) as (λ (b : Bool). All P (cond b (new ∷ ps) (p ∷ put_process new ps))) [
-      | true ↦ All-cons P new ps is (All-tail P p ps all)
-      | false ↦ All-cons P p (put_process new ps) (All-head P p ps all) (all_put P new ps is (All-tail P p ps all))
+fork_leaves : (w : World) (s : State) (p : Process) (pid : ℕ) → Changes s p (ruling w s p Fork pid).res (ruling w s p Fork pid).state
+unfolding Changes
+fork_leaves w s p pid =
+    elim (is_pid pid) as (λ (b : Bool). let r : Ruling = cond b (record { res = Child pid; state = with_child s p pid }) (record { res = Err EAGAIN; state = s }) in Changes s p r.res r.state) [
+      | true ↦ inr (inr (inl (pid, refl, refl)))
+      | false ↦ inl refl
     ]
 
--- and of the one that is found
-all_found : (P : Process → Type 0) (ps : List Process) (pid : ℕ) (p : Process) → All P ps → process_at ps pid ≡ Some p → P p
-all_found P [] pid p all is = absurd (cc)
-all_found P (q ∷ ps) pid p all is =
-    elim (q.pid == pid) as (λ (b : Bool). cond b (Some q) (process_at ps pid) ≡ Some p → P p) [
-      | true ↦ λ found. let same : q ≡ p = cc in subst P same (All-head P q ps all)
-      | false ↦ λ found. all_found P ps pid p (All-tail P q ps all) found
-    ] is
-
--- ---- what becomes of an event of a built call
--- By its living caller: none where its result is a child that lives; the state stays by an error from outside; else it is
--- what the rules reply to the call, with another credential of the caller and nothing else changed, or it is wrong.
-pub outcome_of_built : (w : World) (s : State) (p : Process) (e : Event) → IsBuilt e.call
-    → outcome_for w s (Some p) e
-    ≡ cond (is_living_child s.processes e.res) PidInUse
-    (cond (comes_from_outside e.call e.res) (Goes s) (cond (same_res e.res (reply_to w s p e.call).res) (Goes (with_cred s p (reply_to w s p e.call).cred)) (Wrong (reply_to w s p e.call).res)))
-outcome_of_built w s p e built = by_call e.call built
-  where
-    by_call : (call : Call) → IsBuilt call
-        → outcome_for w s (Some p) (record e { call = call })
-        ≡ cond (is_living_child s.processes e.res) PidInUse
-        (cond (comes_from_outside call e.res) (Goes s) (cond (same_res e.res (reply_to w s p call).res) (Goes (with_cred s p (reply_to w s p call).cred)) (Wrong (reply_to w s p call).res)))
-    by_call (SetUid id) built = refl
-    by_call (SetReUid r u) built = refl
-    by_call (SetResUid r u v) built = refl
-    by_call (SetFsUid id) built = refl
-    by_call (SetGid id) built = refl
-    by_call (SetReGid r g) built = refl
-    by_call (SetResGid r g v) built = refl
-    by_call (SetFsGid id) built = refl
-    by_call (SetGroups ids) built = refl
-    by_call _ built = absurd (cc)
-
--- ---- the states that such an event leads to
--- the state stays, or the process has another credential
-Changes : State → Process → State → Type 0
-Changes s p s' = (s' ≡ s) ⊎ ((c : Credential) × (s' ≡ with_cred s p c))
-
-changes_by : (s : State) (p : Process) (c : Credential) (res : Res) (s' : State) (living outside same : Bool) → cond living PidInUse (cond outside (Goes s) (cond same (Goes (with_cred s p c)) (Wrong res))) ≡ Goes s' → Changes s p s'
+reply_leaves : (w : World) (s : State) (p : Process) (call : Call) → Changes s p (reply_to w s p call).res (with_cred s p (reply_to w s p call).cred)
 unfolding Changes
-changes_by s p c res s' true outside same is = absurd (cc)
-changes_by s p c res s' false true same is = let stays : s ≡ s' = cc in inl (sym stays)
-changes_by s p c res s' false false true is = let to : with_cred s p c ≡ s' = cc in inr (c, sym to)
-changes_by s p c res s' false false false is = absurd (cc)
+reply_leaves w s p call = inr (inl ((reply_to w s p call).cred, refl))
+
+built_is_ruled : (w : World) (s : State) (p : Process) (call : Call) → IsBuilt call → IsRuled w s p call
+unfolding Changes
+built_is_ruled w s p (SetUid id) built = record { place = refl; leaves = λ pid. reply_leaves w s p (SetUid id) }
+built_is_ruled w s p (SetReUid r e) built = record { place = refl; leaves = λ pid. reply_leaves w s p (SetReUid r e) }
+built_is_ruled w s p (SetResUid r e v) built = record { place = refl; leaves = λ pid. reply_leaves w s p (SetResUid r e v) }
+built_is_ruled w s p (SetFsUid id) built = record { place = refl; leaves = λ pid. reply_leaves w s p (SetFsUid id) }
+built_is_ruled w s p (SetGid id) built = record { place = refl; leaves = λ pid. reply_leaves w s p (SetGid id) }
+built_is_ruled w s p (SetReGid r e) built = record { place = refl; leaves = λ pid. reply_leaves w s p (SetReGid r e) }
+built_is_ruled w s p (SetResGid r e v) built = record { place = refl; leaves = λ pid. reply_leaves w s p (SetResGid r e v) }
+built_is_ruled w s p (SetFsGid id) built = record { place = refl; leaves = λ pid. reply_leaves w s p (SetFsGid id) }
+built_is_ruled w s p (SetGroups ids) built = record { place = refl; leaves = λ pid. reply_leaves w s p (SetGroups ids) }
+built_is_ruled w s p (CapSet e n i) built = record { place = refl; leaves = λ pid. reply_leaves w s p (CapSet e n i) }
+built_is_ruled w s p (BsetDrop cap) built = record { place = refl; leaves = λ pid. reply_leaves w s p (BsetDrop cap) }
+built_is_ruled w s p (AmbRaise cap) built = record { place = refl; leaves = λ pid. reply_leaves w s p (AmbRaise cap) }
+built_is_ruled w s p (AmbLower cap) built = record { place = refl; leaves = λ pid. reply_leaves w s p (AmbLower cap) }
+built_is_ruled w s p AmbClear built = record { place = refl; leaves = λ pid. reply_leaves w s p AmbClear }
+built_is_ruled w s p (SecureBits bits) built = record { place = refl; leaves = λ pid. reply_leaves w s p (SecureBits bits) }
+built_is_ruled w s p (KeepCaps argument) built = record { place = refl; leaves = λ pid. reply_leaves w s p (KeepCaps argument) }
+built_is_ruled w s p (NoNewPrivs argument) built = record { place = refl; leaves = λ pid. reply_leaves w s p (NoNewPrivs argument) }
+built_is_ruled w s p Fork built = record { place = refl; leaves = fork_leaves w s p }
+built_is_ruled w s p Exit built = record { place = refl; leaves = λ pid. inr (inr (inr refl)) }
+built_is_ruled w s p _ built = absurd (cc)
+
+-- ---- the states that an event of a built call leads to
+-- a result that is the rules' own tells the child that they tell
+child_told : (told given : Res) (pid : ℕ) → same_res told given ≡ true → given ≡ Child pid → told ≡ Child pid
+child_told (Child a) (Child b) pid same is = grind (arith, same, is)
+child_told Done (Child b) pid same is = absurd (cc)
+child_told (Id a) (Child b) pid same is = absurd (cc)
+child_told (Err a) (Child b) pid same is = absurd (cc)
+child_told told _ pid same is = absurd (cc)
+
+changes_told : (s : State) (p : Process) (told given : Res) (s' : State) → same_res told given ≡ true → Changes s p given s' → Changes s p told s'
+unfolding Changes
+changes_told s p told given s' same (inl stays) = inl stays
+changes_told s p told given s' same (inr (inl other)) = inr (inl other)
+changes_told s p told given s' same (inr (inr (inl (pid, is, comes)))) = inr (inr (inl (pid, child_told told given pid same is, comes)))
+changes_told s p told given s' same (inr (inr (inr goes))) = inr (inr (inr goes))
+
+goes_to : (s s' : State) → Goes s ≡ Goes s' → s ≡ s'
+goes_to s s' is = cc
+
+changes_by : (s : State) (p : Process) (told own : Res) (given : Ruling) (s' : State) (living outside same : Bool) → same_res told given.res ≡ same → Changes s p given.res given.state
+    → cond living PidInUse (cond outside (Goes s) (cond same (Goes given.state) (Wrong own))) ≡ Goes s' → Changes s p told s'
+unfolding Changes
+changes_by s p told own given s' true outside same is leaves goes = absurd (cc)
+changes_by s p told own given s' false true same is leaves goes = inl (sym (goes_to s s' goes))
+changes_by s p told own given s' false false true is leaves goes = changes_told s p told given.res s' is (subst (λ (x : State). Changes s p given.res x) (goes_to given.state s' goes) leaves)
+changes_by s p told own given s' false false false is leaves goes = absurd (cc)
 
 -- the caller is found, and its step changes the state so
 Made : State → Event → State → Type 0
-Made s e s' = (p : Process) × (process_at s.processes e.pid ≡ Some p) × Changes s p s'
+Made s e s' = (p : Process) × (process_at s.processes e.pid ≡ Some p) × Changes s p e.res s'
 
 made_by : (w : World) (s : State) (e : Event) (s' : State) (found : Option Process) → IsBuilt e.call → process_at s.processes e.pid ≡ found → outcome_for w s found e ≡ Goes s' → Made s e s'
 unfolding Made
 made_by w s e s' None built is goes = absurd (cc)
 made_by w s e s' (Some p) built is goes =
-    let r : Reply = reply_to w s p e.call in
-    (p, is, changes_by s p r.cred r.res s' (is_living_child s.processes e.res) (comes_from_outside e.call e.res) (same_res e.res r.res) (sym (outcome_of_built w s p e built) ∙ goes))
+    let ruled : IsRuled w s p e.call = built_is_ruled w s p e.call built in
+    let given : Ruling = ruling w s p e.call (told_child e.res) in
+    let living : Bool = is_living_child s.processes e.res in
+    let after : Bool → Outcome = λ outside. cond outside NoSpace (cond living PidInUse (told_call w s p e.call e.res)) in
+    (p, is, changes_by s p e.res (own w s p e.call).res given s' living (comes_from_outside e.call e.res) (same_res e.res given.res) refl (ruled.leaves (told_child e.res)) (sym (ap after ruled.place) ∙ goes))
 
 made : (w : World) (s : State) (e : Event) (s' : State) → IsBuilt e.call → Step w s e s' → Made s e s'
 made w s e s' built goes = made_by w s e s' (process_at s.processes e.pid) built refl goes
 
--- the caller is found before
-pub caller_before : (w : World) (s : State) (e : Event) (s' : State) → IsBuilt e.call → Step w s e s' → (p : Process) × (process_at s.processes e.pid ≡ Some p)
-unfolding Made
-caller_before w s e s' built goes = let m : Made s e s' = made w s e s' built goes in (m.0, m.1)
+-- ---- what such an event keeps
+-- the process was there before, but for its forebear
+pub record WasThere (s : State) (p : Process) : Type 0 where
+  pub process : Process
+  pub found : process_at s.processes p.pid ≡ Some process
+  pub like : IsLike process p
 
-after_found : (s : State) (e : Event) (s' : State) (p : Process) → process_at s.processes e.pid ≡ Some p → Changes s p s' → (q : Process) × (process_at s'.processes e.pid ≡ Some q)
+there_as_it_was : (s : State) (p : Process) → process_at s.processes p.pid ≡ Some p → WasThere s p
+there_as_it_was s p found = record { process = p; found = found; like = record { pid = refl; space = refl; cred = refl } }
+
+left_by_exit : (s : State) (gone p : Process) (found : Option Process) → process_at s.processes p.pid ≡ found → option_map (after_exit gone) found ≡ Some p → WasThere s p
+left_by_exit s gone p None is left = absurd (cc)
+left_by_exit s gone p (Some q) is left = let same : after_exit gone q ≡ p = cc in record { process = q; found = is; like = subst (λ (x : Process). IsLike q x) same (like_after_exit gone q) }
+
+was_found : (s : State) (caller : Process) (res : Res) (s' : State) → Changes s caller res s' → (p : Process) → process_at s'.processes p.pid ≡ Some p → p.pid ≢ caller.pid → ((pid : ℕ) → res ≡ Child pid → p.pid ≢ pid)
+    → WasThere s p
 unfolding Changes
-after_found s e s' p is (inl same) = (p, ap (λ (x : State). process_at x.processes e.pid) same ∙ is)
-after_found s e s' p is (inr (c, put)) =
-    let new : Process = record p { cred = c } in
-    let pid : p.pid ≡ e.pid = pid_of_found s.processes e.pid p is in
-    let there : process_at (put_process new s.processes) p.pid ≡ Some new = put_found new s.processes p (ap (λ (q : ℕ). process_at s.processes q) pid ∙ is) in
-    (new, ap (λ (x : State). process_at x.processes e.pid) put ∙ ap (λ (q : ℕ). process_at (put_process new s.processes) q) (sym pid) ∙ there)
+was_found s caller res s' (inl same) p found other untold = there_as_it_was s p (ap (λ (x : State). process_at x.processes p.pid) (sym same) ∙ found)
+was_found s caller res s' (inr (inl (c, put))) p found other untold =
+    there_as_it_was s p (sym (put_other (record caller { cred = c }) s.processes p.pid other) ∙ ap (λ (x : State). process_at x.processes p.pid) (sym put) ∙ found)
+was_found s caller res s' (inr (inr (inl (pid, told, comes)))) p found other untold =
+    there_as_it_was s p (sym (insert_other (fork_child caller pid) s.processes p.pid (untold pid told)) ∙ ap (λ (x : State). process_at x.processes p.pid) (sym comes) ∙ found)
+was_found s caller res s' (inr (inr (inr goes))) p found other untold =
+    left_by_exit s caller p (process_at s.processes p.pid) refl (sym (without_other caller s.processes p.pid other) ∙ ap (λ (x : State). process_at x.processes p.pid) (sym goes) ∙ found)
 
--- and after
-pub caller_after : (w : World) (s : State) (e : Event) (s' : State) → IsBuilt e.call → Step w s e s' → (p : Process) × (process_at s'.processes e.pid ≡ Some p)
+-- each process behind it but the caller and the child that it tells was there before
+pub others_were_there : (w : World) (s : State) (e : Event) (s' : State) → IsBuilt e.call → Step w s e s' → (p : Process) → process_at s'.processes p.pid ≡ Some p → p.pid ≢ e.pid
+    → ((pid : ℕ) → e.res ≡ Child pid → p.pid ≢ pid) → WasThere s p
 unfolding Made
-caller_after w s e s' built goes = let m : Made s e s' = made w s e s' built goes in after_found s e s' m.0 m.1 m.2
+others_were_there w s e s' built goes p found other untold =
+    let m : Made s e s' = made w s e s' built goes in
+    let own : m.0.pid ≡ e.pid = pid_of_found s.processes e.pid m.0 m.1 in
+    was_found s m.0 e.res s' m.2 p found (λ same. other (same ∙ own)) untold
 
-others_found : (s : State) (e : Event) (s' : State) (p : Process) → process_at s.processes e.pid ≡ Some p → Changes s p s' → (pid : ℕ) → pid ≢ e.pid → process_at s'.processes pid ≡ process_at s.processes pid
+spaces_left : (s : State) (p : Process) (res : Res) (s' : State) → Changes s p res s' → s'.spaces ≡ s.spaces
 unfolding Changes
-others_found s e s' p is (inl same) pid other = ap (λ (x : State). process_at x.processes pid) same
-others_found s e s' p is (inr (c, put)) pid other =
-    let own : p.pid ≡ e.pid = pid_of_found s.processes e.pid p is in
-    ap (λ (x : State). process_at x.processes pid) put ∙ put_other (record p { cred = c }) s.processes pid (λ same. other (same ∙ own))
-
--- each other process stays as it was
-pub others_stay : (w : World) (s : State) (e : Event) (s' : State) → IsBuilt e.call → Step w s e s' → (pid : ℕ) → pid ≢ e.pid → process_at s'.processes pid ≡ process_at s.processes pid
-unfolding Made
-others_stay w s e s' built goes pid other = let m : Made s e s' = made w s e s' built goes in others_found s e s' m.0 m.1 m.2 pid other
-
-spaces_found : (s : State) (p : Process) (s' : State) → Changes s p s' → s'.spaces ≡ s.spaces
-unfolding Changes
-spaces_found s p s' (inl same) = ap (λ (x : State). x.spaces) same
-spaces_found s p s' (inr (c, put)) = ap (λ (x : State). x.spaces) put
+spaces_left s p res s' (inl same) = ap (λ (x : State). x.spaces) same
+spaces_left s p res s' (inr (inl (c, put))) = ap (λ (x : State). x.spaces) put
+spaces_left s p res s' (inr (inr (inl (pid, told, comes)))) = ap (λ (x : State). x.spaces) comes
+spaces_left s p res s' (inr (inr (inr goes))) = ap (λ (x : State). x.spaces) goes
 
 -- the spaces stay
 pub spaces_stay : (w : World) (s : State) (e : Event) (s' : State) → IsBuilt e.call → Step w s e s' → s'.spaces ≡ s.spaces
 unfolding Made
-spaces_stay w s e s' built goes = let m : Made s e s' = made w s e s' built goes in spaces_found s m.0 s' m.2
+spaces_stay w s e s' built goes = let m : Made s e s' = made w s e s' built goes in spaces_left s m.0 e.res s' m.2
 
-all_changed : (P : Process → Type 0) → ((p : Process) (c : Credential) → P p → P (record p { cred = c })) → (s : State) (p : Process) (s' : State) → P p → Changes s p s' → All P s.processes → All P s'.processes
+places_left : (P : ℕ → Type 0) (s : State) (p : Process) (res : Res) (s' : State) → P p.space → Changes s p res s' → All (λ q. P q.space) s.processes → All (λ q. P q.space) s'.processes
 unfolding Changes
-all_changed P whatever s p s' is (inl same) all = subst (λ (x : State). All P x.processes) (sym same) all
-all_changed P whatever s p s' is (inr (c, put)) all =
-    subst (λ (x : State). All P x.processes) (sym put) (all_put P (record p { cred = c }) s.processes (whatever p c is) all)
+places_left P s p res s' is (inl same) all = subst (λ (x : State). All (λ q. P q.space) x.processes) (sym same) all
+places_left P s p res s' is (inr (inl (c, put))) all = subst (λ (x : State). All (λ q. P q.space) x.processes) (sym put) (all_put (λ q. P q.space) (record p { cred = c }) s.processes is all)
+places_left P s p res s' is (inr (inr (inl (pid, told, comes)))) all =
+    subst (λ (x : State). All (λ q. P q.space) x.processes) (sym comes) (all_insert (λ q. P q.space) (fork_child p pid) s.processes is all)
+places_left P s p res s' is (inr (inr (inr goes))) all =
+    subst (λ (x : State). All (λ q. P q.space) x.processes) (sym goes) (all_without (λ q. P q.space) p s.processes (λ q here. subst P (like_after_exit p q).space here) all)
 
--- what holds of each process whatever its credential is goes on to hold
-pub all_stay : (P : Process → Type 0) → ((p : Process) (c : Credential) → P p → P (record p { cred = c })) → (w : World) (s : State) (e : Event) (s' : State) → IsBuilt e.call → Step w s e s'
-    → All P s.processes → All P s'.processes
+-- what holds of the space of each process goes on to hold
+pub places_stay : (P : ℕ → Type 0) (w : World) (s : State) (e : Event) (s' : State) → IsBuilt e.call → Step w s e s' → All (λ q. P q.space) s.processes → All (λ q. P q.space) s'.processes
 unfolding Made
-all_stay P whatever w s e s' built goes all =
+places_stay P w s e s' built goes all =
     let m : Made s e s' = made w s e s' built goes in
-    all_changed P whatever s m.0 s' (all_found P s.processes e.pid m.0 all m.1) m.2 all
+    places_left P s m.0 e.res s' (all_found (λ q. P q.space) s.processes e.pid m.0 all m.1) m.2 all

@@ -2,13 +2,14 @@
 use Rattle.std.proofs.Common.{◌≡◌, ℕ, Bool, true, false, cond, List, [], ◌∷◌, Option, Some, None, refl, sym, ◌∙◌, ap}
 use Rattle.std.specs.Prelude.{option_map, option_and_then}
 use Rattle.cm_base.specs.declared.res.Res.{Res}
-use Rattle.model_cred.specs.Call.{Call, Event, kind_of, SetUid, SetReUid, SetResUid, SetFsUid, SetGid, SetReGid, SetResGid, SetFsGid, SetGroups}
+use Rattle.model_cred.specs.Call.{Call, Event, kind_of, SetUid, SetReUid, SetResUid, SetFsUid, SetGid, SetReGid, SetResGid, SetFsGid, SetGroups, CapSet, BsetDrop, AmbRaise, AmbLower, SecureBits, KeepCaps, NoNewPrivs}
 use Rattle.model_cred.specs.CallKind.{CallKind}
 use Rattle.model_cred.specs.CallKind as kind
 use Rattle.model_text.specs.Calls.{kind_named}
+use Rattle.model_text.specs.CapText.{set_of_text}
 use Rattle.model_text.specs.Cut.{tokens_of}
-use Rattle.model_text.specs.Line.{Line, NoEvent, Tells, Faulty, Unbuilt, Tokens, next_id, with_one, with_two, with_three, ids_before, with_all, call_of_kind, ending, event_told, is_built, IsBuilt, tells, kind_line, call_line, pid_line, tokens_line, script_line}
-use Rattle.model_text.specs.Token.{pid_token, is_comment}
+use Rattle.model_text.specs.Line.{Line, NoEvent, Tells, Faulty, Unbuilt, Tokens, next_read, next_id, with_one, with_two, with_three, ids_before, with_all, with_read, with_sets, call_of_kind, ending, event_told, is_built, IsBuilt, tells, kind_line, call_line, pid_line, tokens_line, script_line}
+use Rattle.model_text.specs.Token.{number_token, pid_token, cap_token, is_comment}
 
 -- ---- the call that arguments give
 -- a call of the kind is read, or none
@@ -43,6 +44,32 @@ unfolding IsOf
 all_of kind make of tokens =
     elim (ids_before tokens) as (λ (read : Option (List ℕ × Tokens)). IsOf kind (option_map (λ all. (make all.0, all.1)) read)) [ None ↦ tt | Some all ↦ of all.0 ]
 
+read_of : (kind : CallKind) (read : List ℕ → Option ℕ) (make : ℕ → Call) → ((a : ℕ) → kind_of (make a) ≡ kind) → (tokens : Tokens) → IsOf kind (with_read read make tokens)
+unfolding IsOf
+read_of kind read make of tokens =
+    elim (next_read read tokens) as (λ (first : Option (ℕ × Tokens)). IsOf kind (option_map (λ first. (make first.0, first.1)) first)) [ None ↦ tt | Some first ↦ of first.0 ]
+
+sets_of : (tokens : Tokens) → IsOf kind.CapSet (with_sets tokens)
+unfolding IsOf
+sets_of tokens = by_effective (next_read set_of_text tokens)
+  where
+    by_inheritable : (e p : ℕ) (read : Option (ℕ × Tokens)) → IsOf kind.CapSet (option_map (λ inheritable. (CapSet e p inheritable.0, inheritable.1)) read)
+    by_inheritable e p None = tt
+    by_inheritable e p (Some read) = refl
+
+    by_permitted : (e : ℕ) (read : Option (ℕ × Tokens))
+        → IsOf kind.CapSet (option_and_then (λ permitted. option_map (λ inheritable. (CapSet e permitted.0 inheritable.0, inheritable.1)) (next_read set_of_text permitted.1)) read)
+    by_permitted e None = tt
+    by_permitted e (Some read) = by_inheritable e read.0 (next_read set_of_text read.1)
+
+    by_effective : (read : Option (ℕ × Tokens))
+        → IsOf kind.CapSet
+        (option_and_then (λ effective.
+        option_and_then (λ permitted.
+        option_map (λ inheritable. (CapSet effective.0 permitted.0 inheritable.0, inheritable.1)) (next_read set_of_text permitted.1)) (next_read set_of_text effective.1)) read)
+    by_effective None = tt
+    by_effective (Some read) = by_permitted read.0 (next_read set_of_text read.1)
+
 -- the call of a kind is of that kind
 call_of : (kind : CallKind) (tokens : Tokens) → IsOf kind (call_of_kind kind tokens)
 unfolding IsOf
@@ -55,6 +82,16 @@ call_of kind.SetReGid tokens = two_of kind.SetReGid SetReGid (λ a b. refl) toke
 call_of kind.SetResGid tokens = three_of kind.SetResGid SetResGid (λ a b c. refl) tokens
 call_of kind.SetFsGid tokens = one_of kind.SetFsGid SetFsGid (λ a. refl) tokens
 call_of kind.SetGroups tokens = all_of kind.SetGroups SetGroups (λ ids. refl) tokens
+call_of kind.CapSet tokens = sets_of tokens
+call_of kind.BsetDrop tokens = read_of kind.BsetDrop cap_token BsetDrop (λ a. refl) tokens
+call_of kind.AmbRaise tokens = read_of kind.AmbRaise cap_token AmbRaise (λ a. refl) tokens
+call_of kind.AmbLower tokens = read_of kind.AmbLower cap_token AmbLower (λ a. refl) tokens
+call_of kind.AmbClear tokens = refl
+call_of kind.SecureBits tokens = read_of kind.SecureBits number_token SecureBits (λ a. refl) tokens
+call_of kind.KeepCaps tokens = read_of kind.KeepCaps number_token KeepCaps (λ a. refl) tokens
+call_of kind.NoNewPrivs tokens = read_of kind.NoNewPrivs number_token NoNewPrivs (λ a. refl) tokens
+call_of kind.Fork tokens = refl
+call_of kind.Exit tokens = refl
 call_of _ tokens = tt
 
 -- ---- the event of a line

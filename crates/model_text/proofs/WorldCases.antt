@@ -101,7 +101,7 @@ pub later_key_is_not_built : world_text (codes "log = \"script\"\n[[process]]\np
 unfolding world_on_literals
 later_key_is_not_built = refl
 
-pub what_is_not_built_comes_before_a_fault : world_text (codes "log = \"text\"\n[[process]]\npid = 0\nparent = 0\n") ≡ NotBuilt
+pub what_is_not_built_comes_before_a_fault : world_text (codes "log = \"text\"\n[[process]]\npid = 0\nspace = 0\n") ≡ NotBuilt
 unfolding world_on_literals
 what_is_not_built_comes_before_a_fault = refl
 

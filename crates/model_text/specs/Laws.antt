@@ -1,5 +1,5 @@
 -- What is proved of the report as a whole.
-use Rattle.std.specs.Prelude.{◌≡◌, ◌↔◌, ℕ, ◌==◌, List, [], ◌∷◌, ◌++◌, Option, Some, None, if◌then◌else◌}
+use Rattle.std.specs.Prelude.{◌≡◌, ◌↔◌, ℕ, ◌==◌, List, [], ◌∷◌, ◌++◌, Option, Some, None, IsSomeAnd, if◌then◌else◌}
 use Rattle.std.specs.Option.{option_or}
 use Rattle.cm_base.specs.declared.status.Status.{Status}
 use Rattle.cm_base.specs.declared.status.Status.TheVariants as status
@@ -22,9 +22,10 @@ last_credentials pid (Credentials p ∷ lines) = option_or (last_credentials pid
 last_credentials pid (Told number e ∷ lines) = last_credentials pid lines
 last_credentials pid (Plain text ∷ lines) = last_credentials pid lines
 
--- The last credential line of each live process in the state shows it as it is there, and no other pid has one.
+-- The last credential line of each live process in the state shows it as it is there but for its forebear, which the line
+-- doesn't tell and which an exit may change.
 abbrev pub Shows : List ReportLine → State → Type 0
-Shows lines s = (pid : ℕ) → last_credentials pid lines ≡ process_at s.processes pid
+Shows lines s = (p : Process) → process_at s.processes p.pid ≡ Some p → IsSomeAnd (last_credentials p.pid lines) (λ q. (q.pid ≡ p.pid) × (q.space ≡ p.space) × (q.cred ≡ p.cred))
 
 -- Where the status is 0, the events of the log are a run from the world's state, and the report shows the state
 -- that the run reaches.

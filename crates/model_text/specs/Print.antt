@@ -1,11 +1,11 @@
 -- The lines of a report: credentials and events, as text (choice).
-use Rattle.std.specs.Prelude.{ℕ, codes, decimal, ◌+◌, ◌/◌, ◌%◌, ◌==◌, nat_lt, List, [], ◌∷◌, ◌++◌, zero, suc, if◌then◌else◌, flat_map}
-use Rattle.cm_base.specs.Names.{errno_name}
+use Rattle.std.specs.Prelude.{ℕ, codes, decimal, ◌+◌, ◌/◌, ◌%◌, ◌==◌, nat_lt, List, [], ◌∷◌, ◌++◌, zero, suc, if◌then◌else◌, flat_map, unwrap_or}
+use Rattle.cm_base.specs.Names.{cap_name, errno_name}
 use Rattle.cm_base.specs.declared.res.Res.{Res}
 use Rattle.cm_base.specs.declared.res.Res.TheVariants.{Done, Id, Child, Err}
 use Rattle.model_cred.specs.Credential.{Credential, FourIds}
 use Rattle.model_cred.specs.Process.{Process}
-use Rattle.model_cred.specs.Call.{Call, Event, kind_of, SetUid, SetReUid, SetResUid, SetFsUid, SetGid, SetReGid, SetResGid, SetFsGid, SetGroups}
+use Rattle.model_cred.specs.Call.{Call, Event, kind_of, SetUid, SetReUid, SetResUid, SetFsUid, SetGid, SetReGid, SetResGid, SetFsGid, SetGroups, CapSet, BsetDrop, AmbRaise, AmbLower, SecureBits, KeepCaps, NoNewPrivs}
 use Rattle.model_text.specs.Calls.{call_name}
 
 -- a hexadecimal digit in lower case
@@ -79,22 +79,34 @@ res_text (Err e) = errno_name e
 abbrev pub arguments_text : List ℕ → List ℕ
 arguments_text ids = flat_map (λ id. codes " " ++ id_text id) ids
 
--- the ids that a call has as its arguments (built so far: the calls that set ids and groups)
+-- a capability by its name, or by its number where there is none
+abbrev pub cap_name_or_number : ℕ → List ℕ
+cap_name_or_number cap = unwrap_or (cap_name cap) (decimal cap)
+
+-- the arguments of a call, each behind a space (built so far: the calls that set ids and groups, those of capset and prctl,
+-- fork and exit)
 abbrev pub arguments_of : Call → List ℕ
-arguments_of (SetUid id) = id ∷ []
-arguments_of (SetReUid r e) = r ∷ e ∷ []
-arguments_of (SetResUid r e s) = r ∷ e ∷ s ∷ []
-arguments_of (SetFsUid id) = id ∷ []
-arguments_of (SetGid id) = id ∷ []
-arguments_of (SetReGid r e) = r ∷ e ∷ []
-arguments_of (SetResGid r e s) = r ∷ e ∷ s ∷ []
-arguments_of (SetFsGid id) = id ∷ []
-arguments_of (SetGroups ids) = ids
+arguments_of (SetUid id) = arguments_text (id ∷ [])
+arguments_of (SetReUid r e) = arguments_text (r ∷ e ∷ [])
+arguments_of (SetResUid r e s) = arguments_text (r ∷ e ∷ s ∷ [])
+arguments_of (SetFsUid id) = arguments_text (id ∷ [])
+arguments_of (SetGid id) = arguments_text (id ∷ [])
+arguments_of (SetReGid r e) = arguments_text (r ∷ e ∷ [])
+arguments_of (SetResGid r e s) = arguments_text (r ∷ e ∷ s ∷ [])
+arguments_of (SetFsGid id) = arguments_text (id ∷ [])
+arguments_of (SetGroups ids) = arguments_text ids
+arguments_of (CapSet e p i) = codes " " ++ hex_set e ++ codes " " ++ hex_set p ++ codes " " ++ hex_set i
+arguments_of (BsetDrop cap) = codes " " ++ cap_name_or_number cap
+arguments_of (AmbRaise cap) = codes " " ++ cap_name_or_number cap
+arguments_of (AmbLower cap) = codes " " ++ cap_name_or_number cap
+arguments_of (SecureBits bits) = codes " " ++ decimal bits
+arguments_of (KeepCaps argument) = codes " " ++ decimal argument
+arguments_of (NoNewPrivs argument) = codes " " ++ decimal argument
 arguments_of _ = []
 
 -- a call behind a space: its name and its arguments
 abbrev pub call_text : Call → List ℕ
-call_text call = codes " " ++ call_name (kind_of call) ++ arguments_text (arguments_of call)
+call_text call = codes " " ++ call_name (kind_of call) ++ arguments_of call
 
 -- an event as a script line
 unfoldable pub event_text : Event → List ℕ

@@ -1,4 +1,5 @@
--- The process that a row of a world declares (choice): its pid, its ids and groups, its sets of capabilities, its flags.
+-- The process that a row of a world declares (choice): its pid, its parent, its ids and groups, its sets of capabilities,
+-- its flags.
 use Rattle.std.specs.Prelude.{ℕ, codes, ◌==◌, ◌&&◌, Bool, false, List, [], ◌∷◌, Option, Some, None, option_map, option_and_then, if◌then◌else◌}
 use Rattle.cm_base.specs.CapSet.{full, none, is_within}
 use Rattle.model_cred.specs.Credential.{Credential, FourIds, all_four, id_set}
@@ -135,14 +136,19 @@ credential_with row uid =
 abbrev pub credential_declared : Members → Option Credential
 credential_declared row = credential_with row (ids_value (get_member (codes "uid") row))
 
--- a process of that pid with this credential, in the initial space
-abbrev pub process_with : Option ℕ → Option Credential → Option Process
-process_with (Some pid) (Some c) = Some (record { pid = pid; forebear = None; space = 0; cred = c })
-process_with _ _ = None
+-- the parent of a process, if it has one: a pid
+abbrev pub parent_value : Option Data → Option (Option ℕ)
+parent_value None = Some None
+parent_value (Some value) = option_map Some (pid_value (Some value))
+
+-- a process of that pid with that forebear and credential, in the initial space
+abbrev pub process_with : Option ℕ → Option (Option ℕ) → Option Credential → Option Process
+process_with (Some pid) (Some forebear) (Some c) = Some (record { pid = pid; forebear = forebear; space = 0; cred = c })
+process_with _ _ _ = None
 
 -- the keys of a process that are built, beside its pid and its user ids
 abbrev pub further_keys : List (List ℕ)
-further_keys = codes "gid" ∷ codes "groups" ∷ codes "permitted" ∷ codes "effective" ∷ codes "inheritable" ∷ codes "ambient" ∷ codes "bounding" ∷ codes "securebits" ∷ codes "no_new_privs" ∷ []
+further_keys = codes "parent" ∷ codes "gid" ∷ codes "groups" ∷ codes "permitted" ∷ codes "effective" ∷ codes "inheritable" ∷ codes "ambient" ∷ codes "bounding" ∷ codes "securebits" ∷ codes "no_new_privs" ∷ []
 
 -- the keys of a process
 abbrev pub process_keys : List (List ℕ)
@@ -150,5 +156,5 @@ process_keys = codes "pid" ∷ codes "uid" ∷ further_keys
 
 -- a row of the processes
 abbrev pub process_row : Data → Option Process
-process_row (table row) = if has_only process_keys row then process_with (pid_value (get_member (codes "pid") row)) (credential_declared row) else None
+process_row (table row) = if has_only process_keys row then process_with (pid_value (get_member (codes "pid") row)) (parent_value (get_member (codes "parent") row)) (credential_declared row) else None
 process_row _ = None

@@ -2,6 +2,8 @@
 use Rattle.std.specs.Prelude.{ℕ, codes, decimal, ◌+◌, ◌==◌, ◌&&◌, ◌||◌, Bool, not, nat_lt, length, List, [], ◌∷◌, ◌++◌, map, Option, Some, None, if◌then◌else◌, flat_map}
 use Rattle.cm_base.specs.declared.status.Status.{Status}
 use Rattle.cm_base.specs.declared.status.Status.TheVariants as status
+use Rattle.cm_base.specs.declared.res.Res.{Res}
+use Rattle.cm_base.specs.declared.res.Res.TheVariants.{Child}
 use Rattle.model_cred.specs.Call.{Event}
 use Rattle.model_cred.specs.Process.{Process, State, process_at}
 use Rattle.model_cred.specs.Right.{Right, Cap, Uid, Gid}
@@ -81,9 +83,15 @@ abbrev pub credentials_if : Option Process → List ReportLine
 credentials_if None = []
 credentials_if (Some p) = Credentials p ∷ []
 
--- the lines of an event that is a step to the state: the event, and its caller's credentials where it is alive
+-- the credential line of the child that a result tells
+abbrev pub child_lines : State → Res → List ReportLine
+child_lines s (Child pid) = credentials_if (process_at s.processes pid)
+child_lines s _ = []
+
+-- the lines of an event that is a step to the state: the event, its caller's credentials where it lives on, and those of
+-- the child at a birth
 abbrev pub step_lines : State → ℕ → Event → List ReportLine
-step_lines s number e = Told number e ∷ credentials_if (process_at s.processes e.pid)
+step_lines s number e = Told number e ∷ credentials_if (process_at s.processes e.pid) ++ child_lines s e.res
 
 -- the report from an event on, by what becomes of it; the rest goes on from a state with so many events before
 abbrev pub by_outcome : ℕ → ℕ → Event → (State → ℕ → Report) → Outcome → Report

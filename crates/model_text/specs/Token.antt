@@ -1,10 +1,11 @@
 -- Single tokens of a script line (choice).
 use Rattle.std.specs.Prelude.{ℕ, ◌&&◌, Bool, false, nat_le, codes, bytes_eq, List, [], ◌∷◌, ◌==◌, Option, Some, None, if◌then◌else◌, option_and_then, option_map}
+use Rattle.std.specs.Option.{option_or}
 use Rattle.std.specs.Result.{result_ok}
 use Rattle.cm_base.specs.Number.{read_decimal}
-use Rattle.cm_base.specs.Names.{errno_of}
+use Rattle.cm_base.specs.Names.{cap_of, errno_of}
 use Rattle.cm_base.specs.declared.res.Res.{Res}
-use Rattle.cm_base.specs.declared.res.Res.TheVariants.{Done, Err}
+use Rattle.cm_base.specs.declared.res.Res.TheVariants.{Done, Child, Err}
 
 -- a number: decimal digits, leading zeros allowed, of at most 4294967295
 abbrev pub number_token : List ℕ → Option ℕ
@@ -25,6 +26,18 @@ id_token text = if bytes_eq text (codes "-1") then Some 4294967295 else number_t
 -- the result of a call that is done or refused: 0, or the name of an error
 abbrev pub result_token : List ℕ → Option Res
 result_token text = if bytes_eq text (codes "0") then Some Done else option_map Err (errno_of text)
+
+-- the result of a call that is done and has no error
+abbrev pub done_token : List ℕ → Option Res
+done_token text = if bytes_eq text (codes "0") then Some Done else None
+
+-- the result of a birth: the pid of the child, leading zeros allowed, or the name of an error
+abbrev pub birth_token : List ℕ → Option Res
+birth_token text = option_or (option_map Child (pid_token text)) (option_map Err (errno_of text))
+
+-- a capability: its name, or a number, whether or not there is such a capability
+abbrev pub cap_token : List ℕ → Option ℕ
+cap_token text = option_or (cap_of text) (number_token text)
 
 -- the token begins a comment
 abbrev pub is_comment : List ℕ → Bool

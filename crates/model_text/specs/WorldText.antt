@@ -1,5 +1,6 @@
 -- The world that a TOML text declares (choice). Built so far: the log's form, and processes in the initial space.
 use Rattle.std.specs.Prelude.{ℕ, codes, ◌==◌, ◌&&◌, ◌||◌, Bool, true, false, not, nat_lt, List, [], ◌∷◌, Option, Some, None, if◌then◌else◌}
+use Rattle.std.specs.List.{list_any}
 use Rattle.std.specs.Str.{is_utf8}
 use Rattle.model_cred.specs.Process.{Process}
 use Rattle.model_cred.specs.Space.{first_spaces}
@@ -34,12 +35,12 @@ rows_have keys (Some (array rows)) = some_row_has keys rows
 rows_have keys _ = false
 
 -- ---- what isn't built
--- the tables that aren't built, and the keys of a process that aren't
+-- the tables that aren't built, and the key of a process that isn't
 abbrev pub later_tables : List (List ℕ)
 later_tables = codes "space" ∷ codes "mount" ∷ codes "file" ∷ codes "filter" ∷ []
 
 abbrev pub later_keys : List (List ℕ)
-later_keys = codes "parent" ∷ codes "space" ∷ []
+later_keys = codes "space" ∷ []
 
 -- the whole table asks for what isn't built
 abbrev pub asks_more : Members → Bool
@@ -96,9 +97,20 @@ world_with processes = record {
   form = Script;
 }
 
+-- the forebear, where there is one, is among these pids
+abbrev pub is_among : List ℕ → Option ℕ → Bool
+is_among pids None = true
+is_among pids (Some pid) = list_any (λ other. other == pid) pids
+
+-- the parent of each process is one of those before it, or of these pids
+abbrev pub parents_stand : List ℕ → List Process → Bool
+parents_stand pids [] = true
+parents_stand pids (p ∷ processes) = is_among pids p.forebear && parents_stand (p.pid ∷ pids) processes
+
+-- the world of processes, where no pid stands twice and each parent is an earlier row
 abbrev pub distinct_world : Option (List Process) → WorldText
 distinct_world None = Bad
-distinct_world (Some processes) = if are_distinct processes then Reads (world_with processes) else Bad
+distinct_world (Some processes) = if are_distinct processes && parents_stand [] processes then Reads (world_with processes) else Bad
 
 -- the whole table, where all that it asks for is built
 abbrev pub built_table : Members → WorldText

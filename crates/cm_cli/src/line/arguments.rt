@@ -1,13 +1,15 @@
 // The arguments of a call in a script line. Each reader gives what it read and the text behind it.
-ghost use Rattle.std.specs.Prelude.{◌≡◌, ◌≢◌, ℕ, IfOk, option_map};
+ghost use Rattle.std.specs.Prelude.{◌≡◌, ◌⊎◌, ℕ, IfOk, option_map};
 ghost use Rattle.cm_cli.specs.Lines.{kind_view};
 ghost use Rattle.cm_state.specs.Call.{call_of};
 ghost use Rattle.model_cred.specs.Call as model;
 ghost use Rattle.model_text.specs.Cut.{tokens_of};
-ghost use Rattle.model_text.specs.Line.{call_of_kind, ids_before, with_all, with_two, with_three};
+ghost use Rattle.model_text.specs.Line.{call_of_kind, ids_before, with_all, with_sets, with_two, with_three};
 
 use super::kind::CallKind;
-use super::tokens::{next_id, next_token, read_id, stands_for_equals};
+use super::tokens::{
+    next_cap, next_id, next_number, next_set, next_token, read_id, stands_for_equals,
+};
 use cm_base::NoMemory;
 use cm_state::{Call, Ids};
 use std::alloc::Global;
@@ -22,50 +24,103 @@ pub(super) fn read_call(
     ensures { IfOk result (λ read. option_map (λ p. (call_of p.0, tokens_of p.1.now)) read ≡ call_of_kind (kind_view kind) (tokens_of text.now)) }
 {
     match kind {
+        CallKind::SetUid | CallKind::SetFsUid | CallKind::SetGid | CallKind::SetFsGid => {
+            Ok(read_one(kind, text))
+        }
+        CallKind::SetReUid | CallKind::SetReGid => Ok(read_two(kind, text)),
+        CallKind::SetResUid | CallKind::SetResGid => Ok(read_three(kind, text)),
         CallKind::SetGroups => read_groups(alloc, text),
-        _ => Ok(read_ids(kind, text)),
+        CallKind::CapSet => Ok(read_sets(text)),
+        CallKind::BsetDrop | CallKind::AmbRaise | CallKind::AmbLower => Ok(read_cap_call(
+            kind, text,
+        )),
+        CallKind::SecureBits | CallKind::KeepCaps | CallKind::NoNewPrivs => {
+            Ok(read_number_call(kind, text))
+        }
+        CallKind::AmbClear => Ok(Some((Call::AmbClear, text))),
+        CallKind::Fork => Ok(Some((Call::Fork, text))),
+        CallKind::Exit => Ok(Some((Call::Exit, text))),
+        _ => Ok(None),
     }
 }
 
-// A call with one, two or three ids.
-fn read_ids(kind: CallKind, text: &[u8]) -> Option<(Call, &[u8])>
-    requires { kind ≢ CallKind.SetGroups }
+// capset with its effective, permitted and inheritable set.
+fn read_sets(text: &[u8]) -> Option<(Call, &[u8])>
+    ensures { option_map (λ p. (call_of p.0, tokens_of p.1.now)) result ≡ with_sets (tokens_of text.now) }
+{
+    let Some((eff, rest)) = next_set(text) else {
+        return None;
+    };
+    let Some((prm, rest)) = next_set(rest) else {
+        return None;
+    };
+    let Some((inh, rest)) = next_set(rest) else {
+        return None;
+    };
+    Some((Call::CapSet { eff, prm, inh }, rest))
+}
+
+// A call with a capability.
+fn read_cap_call(kind: CallKind, text: &[u8]) -> Option<(Call, &[u8])>
+    requires { (kind ≡ CallKind.BsetDrop) ⊎ (kind ≡ CallKind.AmbRaise) ⊎ (kind ≡ CallKind.AmbLower) }
     ensures { option_map (λ p. (call_of p.0, tokens_of p.1.now)) result ≡ call_of_kind (kind_view kind) (tokens_of text.now) }
 {
+    let (cap, rest) = next_cap(text)?;
     match kind {
-        CallKind::SetUid => {
-            let (id, rest) = next_id(text)?;
-            Some((Call::SetUid(id), rest))
-        }
-        CallKind::SetReUid => {
-            let (r, e, rest) = next_two(text)?;
-            Some((Call::SetReUid(r, e), rest))
-        }
-        CallKind::SetResUid => {
-            let (r, e, s, rest) = next_three(text)?;
-            Some((Call::SetResUid(r, e, s), rest))
-        }
-        CallKind::SetFsUid => {
-            let (id, rest) = next_id(text)?;
-            Some((Call::SetFsUid(id), rest))
-        }
-        CallKind::SetGid => {
-            let (id, rest) = next_id(text)?;
-            Some((Call::SetGid(id), rest))
-        }
-        CallKind::SetReGid => {
-            let (r, e, rest) = next_two(text)?;
-            Some((Call::SetReGid(r, e), rest))
-        }
-        CallKind::SetResGid => {
-            let (r, e, s, rest) = next_three(text)?;
-            Some((Call::SetResGid(r, e, s), rest))
-        }
-        CallKind::SetFsGid => {
-            let (id, rest) = next_id(text)?;
-            Some((Call::SetFsGid(id), rest))
-        }
-        _ => None,
+        CallKind::BsetDrop => Some((Call::BsetDrop(cap), rest)),
+        CallKind::AmbRaise => Some((Call::AmbRaise(cap), rest)),
+        _ => Some((Call::AmbLower(cap), rest)),
+    }
+}
+
+// A call with a number.
+fn read_number_call(kind: CallKind, text: &[u8]) -> Option<(Call, &[u8])>
+    requires { (kind ≡ CallKind.SecureBits) ⊎ (kind ≡ CallKind.KeepCaps) ⊎ (kind ≡ CallKind.NoNewPrivs) }
+    ensures { option_map (λ p. (call_of p.0, tokens_of p.1.now)) result ≡ call_of_kind (kind_view kind) (tokens_of text.now) }
+{
+    let (n, rest) = next_number(text)?;
+    match kind {
+        CallKind::SecureBits => Some((Call::SecureBits(n), rest)),
+        CallKind::KeepCaps => Some((Call::KeepCaps(n), rest)),
+        _ => Some((Call::NoNewPrivs(n), rest)),
+    }
+}
+
+// A call with one id.
+fn read_one(kind: CallKind, text: &[u8]) -> Option<(Call, &[u8])>
+    requires { (kind ≡ CallKind.SetUid) ⊎ (kind ≡ CallKind.SetFsUid) ⊎ (kind ≡ CallKind.SetGid) ⊎ (kind ≡ CallKind.SetFsGid) }
+    ensures { option_map (λ p. (call_of p.0, tokens_of p.1.now)) result ≡ call_of_kind (kind_view kind) (tokens_of text.now) }
+{
+    let (id, rest) = next_id(text)?;
+    match kind {
+        CallKind::SetUid => Some((Call::SetUid(id), rest)),
+        CallKind::SetFsUid => Some((Call::SetFsUid(id), rest)),
+        CallKind::SetGid => Some((Call::SetGid(id), rest)),
+        _ => Some((Call::SetFsGid(id), rest)),
+    }
+}
+
+// A call with two ids.
+fn read_two(kind: CallKind, text: &[u8]) -> Option<(Call, &[u8])>
+    requires { (kind ≡ CallKind.SetReUid) ⊎ (kind ≡ CallKind.SetReGid) }
+    ensures { option_map (λ p. (call_of p.0, tokens_of p.1.now)) result ≡ call_of_kind (kind_view kind) (tokens_of text.now) }
+{
+    let (r, e, rest) = next_two(text)?;
+    match kind {
+        CallKind::SetReUid => Some((Call::SetReUid(r, e), rest)),
+        _ => Some((Call::SetReGid(r, e), rest)),
+    }
+}
+
+// A call with three ids.
+fn read_three(kind: CallKind, text: &[u8]) -> Option<(Call, &[u8])>
+    requires { (kind ≡ CallKind.SetResUid) ⊎ (kind ≡ CallKind.SetResGid) }
+    ensures { option_map (λ p. (call_of p.0, tokens_of p.1.now)) result ≡ call_of_kind (kind_view kind) (tokens_of text.now) }
+{
+    let (r, e, s, rest) = next_three(text)?;
+    match kind {
+        CallKind::SetResUid => Some((Call::SetResUid(r, e, s), rest)),
+        _ => Some((Call::SetResGid(r, e, s), rest)),
     }
 }
 

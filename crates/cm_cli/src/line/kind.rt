@@ -133,6 +133,16 @@ impl CallKind {
             Call::SetResGid(_, _, _) => CallKind::SetResGid,
             Call::SetFsGid(_) => CallKind::SetFsGid,
             Call::SetGroups(_) => CallKind::SetGroups,
+            Call::CapSet { .. } => CallKind::CapSet,
+            Call::BsetDrop(_) => CallKind::BsetDrop,
+            Call::AmbRaise(_) => CallKind::AmbRaise,
+            Call::AmbLower(_) => CallKind::AmbLower,
+            Call::AmbClear => CallKind::AmbClear,
+            Call::SecureBits(_) => CallKind::SecureBits,
+            Call::KeepCaps(_) => CallKind::KeepCaps,
+            Call::NoNewPrivs(_) => CallKind::NoNewPrivs,
+            Call::Fork => CallKind::Fork,
+            Call::Exit => CallKind::Exit,
         }
     }
 }

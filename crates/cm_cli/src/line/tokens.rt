@@ -1,10 +1,12 @@
 // The tokens of a line, which blanks part, and what single tokens stand for.
 ghost use Rattle.std.specs.Prelude.{◌≡◌, ◌⊎◌, ◌<◌, ◌≤◌, ℕ, [], ◌∷◌, MatchOption, true, false, length, slice_index, option_map};
 ghost use Rattle.model_text.specs.Cut.{tokens_of, is_blank, goes_on};
-ghost use Rattle.model_text.specs.Line.{next_id};
-ghost use Rattle.model_text.specs.Token.{pid_token, id_token, is_comment, is_equals};
+ghost use Rattle.model_text.specs.CapText.{set_of_text};
+ghost use Rattle.model_text.specs.Line.{next_id, next_read};
+ghost use Rattle.model_text.specs.Token.{number_token, pid_token, id_token, cap_token, is_comment, is_equals};
 
-use cm_base::{Pid, read_u32};
+use cm_base::{Cap, CapWord, Pid, read_u32};
+use cm_world::read_cap_text;
 
 /// The first token of a text, and what follows it. None exactly where the text has no token.
 pub(super) fn next_token(text: &[u8]) -> Option<(&[u8], &[u8])>
@@ -85,6 +87,50 @@ pub(super) fn read_id(token: &[u8]) -> Option<u32>
         return Some(u32::MAX);
     }
     read_u32(token).ok()
+}
+
+/// The number that a token is: decimal digits, of at most 4294967295.
+pub(super) fn read_number(token: &[u8]) -> Option<u32>
+    ensures { result ≡ number_token token.now }
+{
+    read_u32(token).ok()
+}
+
+/// The capability that a token is: the number of its name, or a number, whether or not there is such a capability.
+pub(super) fn read_cap(token: &[u8]) -> Option<u32>
+    ensures { result ≡ cap_token token.now }
+{
+    match Cap::from_name(token) {
+        Some(cap) => Some(cap.number() as u32),
+        None => read_number(token),
+    }
+}
+
+/// The number that a text begins with, and what follows it.
+pub(super) fn next_number(text: &[u8]) -> Option<(u32, &[u8])>
+    ensures { option_map (λ p. (p.0, tokens_of p.1.now)) result ≡ next_read number_token (tokens_of text.now) }
+{
+    let (token, rest) = next_token(text)?;
+    let number = read_number(token)?;
+    Some((number, rest))
+}
+
+/// The capability that a text begins with, and what follows it.
+pub(super) fn next_cap(text: &[u8]) -> Option<(u32, &[u8])>
+    ensures { option_map (λ p. (p.0, tokens_of p.1.now)) result ≡ next_read cap_token (tokens_of text.now) }
+{
+    let (token, rest) = next_token(text)?;
+    let cap = read_cap(token)?;
+    Some((cap, rest))
+}
+
+/// The set of capabilities that a text begins with, and what follows it.
+pub(super) fn next_set(text: &[u8]) -> Option<(CapWord, &[u8])>
+    ensures { option_map (λ p. (p.0, tokens_of p.1.now)) result ≡ next_read set_of_text (tokens_of text.now) }
+{
+    let (token, rest) = next_token(text)?;
+    let set = read_cap_text(token)?;
+    Some((set, rest))
 }
 
 /// The id that a text begins with, and what follows it. None exactly where its first token is no id.

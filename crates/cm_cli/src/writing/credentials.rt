@@ -1,27 +1,31 @@
 // The credential line of a process.
 ghost use Rattle.std.specs.Prelude.{◌≡◌, ◌++◌, [], ◌∷◌, None, OnOk, codes, decimal, flat_map};
-ghost use Rattle.model_text.specs.Print.{ids_text, groups_text, all_ids_text, sets_text, bounds_text, flags_text};
+ghost use Rattle.model_text.specs.Print.{space_token, ids_text, groups_text, all_ids_text, sets_text, bounds_text, flags_text};
 ghost use Rattle.model_text.specs.Report.{text_of, Credentials};
 
 use super::numbers::{put, put_decimal, put_hex2, put_hex16};
-use crate::processes::Live;
-use cm_base::{Kgid, NoMemory, Pid};
-use cm_state::Cred;
+use cm_base::{Kgid, NoMemory, Pid, SpaceId};
+use cm_state::{Cred, Proc};
 
-/// The credential line of a live process.
+/// The credential line of a process.
 #[inline]
-pub(crate) fn put_process(text: &mut Vec<u8>, live: &Live) -> Result<(), NoMemory>
-    ensures { OnOk result (text.new.items ≡ text.old.items ++ text_of (Credentials live.now ∷ [])) }
+pub(crate) fn put_process(text: &mut Vec<u8>, p: &Proc) -> Result<(), NoMemory>
+    ensures { OnOk result (text.new.items ≡ text.old.items ++ text_of (Credentials p.now ∷ [])) }
 {
-    put_credentials(text, live.pid, &live.cred)
+    put_credentials(text, p.pid, p.space, &p.cred)
 }
 
-/// The credential line of a process of that pid in the initial user namespace.
-pub(crate) fn put_credentials(text: &mut Vec<u8>, pid: Pid, cred: &Cred) -> Result<(), NoMemory>
+// The credential line of a process of that pid in that space, whatever its forebear, which the line doesn't tell.
+fn put_credentials(
+    text: &mut Vec<u8>,
+    pid: Pid,
+    space: SpaceId,
+    cred: &Cred,
+) -> Result<(), NoMemory>
     ensures { OnOk result (text.new.items ≡ text.old.items
-        ++ text_of (Credentials (record { pid = pid; forebear = None; space = 0; cred = cred.now }) ∷ [])) }
+        ++ text_of (Credentials (record { pid = pid; forebear = None; space = space.0; cred = cred.now }) ∷ [])) }
 {
-    put_place(text, pid)?;
+    put_place(text, pid, space)?;
     put_all_ids(text, cred)?;
     put_sets(text, cred)?;
     put_bounds(text, cred)?;
@@ -29,13 +33,28 @@ pub(crate) fn put_credentials(text: &mut Vec<u8>, pid: Pid, cred: &Cred) -> Resu
     put(text, b"\n")
 }
 
+// The pid and the token of the space.
 #[inline]
-fn put_place(text: &mut Vec<u8>, pid: Pid) -> Result<(), NoMemory>
-    ensures { OnOk result (text.new.items ≡ text.old.items ++ (codes "> " ++ decimal pid ++ codes " init")) }
+fn put_place(text: &mut Vec<u8>, pid: Pid, space: SpaceId) -> Result<(), NoMemory>
+    ensures { OnOk result (text.new.items ≡ text.old.items ++ (codes "> " ++ decimal pid ++ codes " " ++ space_token space.0)) }
 {
     put(text, b"> ")?;
     put_decimal(text, pid.number() as u64)?;
-    put(text, b" init")
+    put(text, b" ")?;
+    put_space(text, space)
+}
+
+// The token of a space: `init` for the initial one, else `#` and its number.
+#[inline]
+fn put_space(text: &mut Vec<u8>, space: SpaceId) -> Result<(), NoMemory>
+    ensures { OnOk result (text.new.items ≡ text.old.items ++ space_token space.0) }
+{
+    if space.0 == 0 {
+        put(text, b"init")
+    } else {
+        put(text, b"#")?;
+        put_decimal(text, space.0 as u64)
+    }
 }
 
 #[inline]

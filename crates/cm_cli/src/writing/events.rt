@@ -1,12 +1,12 @@
 // The line of an event: the number of its line in the log, and the event as a script line.
-ghost use Rattle.std.specs.Prelude.{◌≡◌, ◌++◌, [], ◌∷◌, OnOk, codes};
+ghost use Rattle.std.specs.Prelude.{◌≡◌, ◌<◌, ◌++◌, [], ◌∷◌, OnOk, SomeIff, codes, decimal};
 ghost use Rattle.cm_state.specs.Call.{call_of};
-ghost use Rattle.model_text.specs.Print.{arguments_of, arguments_text, call_text, event_text, id_text, res_text};
+ghost use Rattle.model_text.specs.Print.{arguments_of, arguments_text, call_text, cap_name_or_number, event_text, hex_set, id_text, res_text};
 ghost use Rattle.model_text.specs.Report.{text_of, Told, Plain};
 
-use super::numbers::{put, put_decimal, put_id};
+use super::numbers::{put, put_decimal, put_hex16, put_id};
 use crate::line::CallKind;
-use cm_base::{NoMemory, Res};
+use cm_base::{Cap, CapWord, NoMemory, Res};
 use cm_state::{Call, Event};
 
 /// The line of the event that the log's line of that number tells.
@@ -45,10 +45,10 @@ fn put_call(text: &mut Vec<u8>, call: &Call) -> Result<(), NoMemory>
     put_arguments(text, call)
 }
 
-// The ids of a call.
+// The arguments of a call, each behind a space.
 #[inline]
 fn put_arguments(text: &mut Vec<u8>, call: &Call) -> Result<(), NoMemory>
-    ensures { OnOk result (text.new.items ≡ text.old.items ++ arguments_text (arguments_of (call_of call.now))) }
+    ensures { OnOk result (text.new.items ≡ text.old.items ++ arguments_of (call_of call.now)) }
 {
     match call {
         Call::SetUid(id) | Call::SetFsUid(id) | Call::SetGid(id) | Call::SetFsGid(id) => {
@@ -64,7 +64,49 @@ fn put_arguments(text: &mut Vec<u8>, call: &Call) -> Result<(), NoMemory>
             put_argument(text, *saved)
         }
         Call::SetGroups(ids) => put_all(text, ids.items()),
+        Call::CapSet { eff, prm, inh } => {
+            put_set(text, *eff)?;
+            put_set(text, *prm)?;
+            put_set(text, *inh)
+        }
+        Call::BsetDrop(cap) | Call::AmbRaise(cap) | Call::AmbLower(cap) => put_cap(text, *cap),
+        Call::SecureBits(n) | Call::KeepCaps(n) | Call::NoNewPrivs(n) => put_number(text, *n),
+        Call::AmbClear | Call::Fork | Call::Exit => Ok(()),
     }
+}
+
+fn put_set(text: &mut Vec<u8>, set: CapWord) -> Result<(), NoMemory>
+    ensures { OnOk result (text.new.items ≡ text.old.items ++ codes " " ++ hex_set set) }
+{
+    put(text, b" ")?;
+    put_hex16(text, set.bits())
+}
+
+// A capability by its name, or by its number where there is none.
+fn put_cap(text: &mut Vec<u8>, cap: u32) -> Result<(), NoMemory>
+    ensures { OnOk result (text.new.items ≡ text.old.items ++ codes " " ++ cap_name_or_number cap) }
+{
+    match named_cap(cap) {
+        Some(named) => {
+            put(text, b" ")?;
+            put(text, named.name().as_bytes())
+        }
+        None => put_number(text, cap),
+    }
+}
+
+// The capability of that number. None exactly above 40.
+fn named_cap(n: u32) -> Option<Cap>
+    ensures { SomeIff result (n < 41) n }
+{
+    if n < 41 { Cap::new(n as u8) } else { None }
+}
+
+fn put_number(text: &mut Vec<u8>, n: u32) -> Result<(), NoMemory>
+    ensures { OnOk result (text.new.items ≡ text.old.items ++ codes " " ++ decimal n) }
+{
+    put(text, b" ")?;
+    put_decimal(text, n as u64)
 }
 
 fn put_all(text: &mut Vec<u8>, ids: &[u32]) -> Result<(), NoMemory>

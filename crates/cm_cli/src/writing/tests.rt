@@ -1,7 +1,7 @@
-use super::credentials::{put_credentials, put_groups};
+use super::credentials::{put_groups, put_process};
 use super::events::put_event;
-use cm_base::{CapWord, Errno, Kgid, Kuid, Pid, Res, SecBits};
-use cm_state::{Call, Cred, Event, Groups, Ids};
+use cm_base::{CapWord, Errno, Kgid, Kuid, Pid, Res, SecBits, SpaceId};
+use cm_state::{Call, Cred, Event, Groups, Ids, Proc};
 use std::test::Fail;
 
 #[test]
@@ -28,11 +28,21 @@ fn credential_line(rt: HostRuntime) -> Result<(), Fail> {
         nnp: false,
     };
     let mut text = Vec::new(alloc);
-    put_credentials(&mut text, pid, &root)?;
+    let mut process = Proc {
+        pid,
+        forebear: None,
+        space: SpaceId(0),
+        cred: root,
+    };
+    put_process(&mut text, &process)?;
     assert_eq!(rt;
         text.as_slice(),
         b"> 100 init uid=0,0,0,0 gid=0,0,0,0 groups=- inh=0000000000000000 prm=000001ffffffffff eff=000001ffffffffff bnd=000001ffffffffff amb=0000000000000000 sec=00 nnp=0\n".as_slice()
     );
+    text.clear();
+    process.space = SpaceId(4294967295);
+    put_process(&mut text, &process)?;
+    assert!(rt; text.starts_with(b"> 100 #4294967295 uid=0,0,0,0 "));
     text.clear();
     let (first, last) = (
         Kgid::new(1).ok_or("gid")?,

@@ -1,6 +1,6 @@
 // The lines that end a report.
 ghost use Rattle.std.specs.Prelude.{◌≡◌, ◌++◌, [], ◌∷◌, OnOk, codes};
-ghost use Rattle.model_run.specs.Step.{Wrong, NoProcess, PidInUse};
+ghost use Rattle.model_run.specs.Step.{Wrong, NoProcess, NoSpace, PidInUse};
 ghost use Rattle.model_text.specs.Report.{text_of, at_line, reason, Plain, ended, impossible, bad_log, not_built, limit_hit, world_limit, log_limit, usage};
 
 use super::events::put_res;
@@ -29,6 +29,15 @@ pub(crate) fn put_no_process(text: &mut Vec<u8>, number: u64) -> Result<(), NoMe
 {
     put_impossible(text, number)?;
     put(text, b"no process")?;
+    put(text, b"\n")
+}
+
+/// The call of that line names a space that doesn't stand.
+pub(crate) fn put_no_space(text: &mut Vec<u8>, number: u64) -> Result<(), NoMemory>
+    ensures { OnOk result (text.new.items ≡ text.old.items ++ text_of (impossible number NoSpace).lines) }
+{
+    put_impossible(text, number)?;
+    put(text, b"no space")?;
     put(text, b"\n")
 }
 

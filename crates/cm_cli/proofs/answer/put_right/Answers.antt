@@ -1,6 +1,9 @@
-use Rattle.std.proofs.Common.{rules}
-use Rattle.cm_cli.proofs.Following.{all_at}
+use Rattle.std.proofs.Common.{◌∙◌, ap}
+use Rattle.cm_cli.proofs.Following.{one_follows}
 use Rattle.cm_cli.proofs.answer.put_right.Goals as goal
+use Rattle.model_cred.specs.Process.{State}
 
 pub put_uid-requires : goal.put_uid-requires
-put_uid-requires c = all_at c.args.processes.now c.args.at c.at.result.now (c.requires.follows (search rules)).processes c.at.ensures
+put_uid-requires c =
+    one_follows c.args.state.now c.items-in-Uid.result.now c.args.at c.index-items-at.result
+    (c.requires.follows c.if-not-more.true) (c.items-in-Uid.ensures ∙ ap (λ (s : State). s.processes) c.state.view_is) c.requires.here c.index-items-at.is

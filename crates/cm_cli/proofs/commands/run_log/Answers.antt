@@ -7,8 +7,8 @@ use Rattle.cm_cli.specs.declared.reading.Unready.TheVariants as unready
 
 pub returns-in-Ok-clause-answer : goal.returns-in-Ok-clause-answer
 returns-in-Ok-clause-answer g c =
-    answers_report _ (query_if c.args.query) c.args.world.now c.args.log.now _ _ _ _ _ _ _ (log_report (query_if c.args.query) c.in-Ok.start.more c.in-Ok.start.processes c.in-Ok.text.items) (if_told (g.H.Shelf.held c.args.shelf.now) c.in-Ok.ensures.ready (λ files ready. ready (query_if c.args.query))) (c.in-Ok.ensures.faults.others (λ is. cc))
-    (log_not_usage (query_if c.args.query) c.in-Ok.start.more c.in-Ok.start.processes c.in-Ok.text.items) (rw c.deref.ensures.value at c.tell_log.ensures)
+    answers_report _ (query_if c.args.query) c.args.world.now c.args.log.now _ _ _ _ _ _ _ (log_report (query_if c.args.query) c.in-Ok.w c.in-Ok.text.items) (if_told (g.H.Shelf.held c.args.shelf.now) c.in-Ok.ensures.ready (λ files ready. ready (query_if c.args.query))) (c.in-Ok.ensures.faults.others (λ is. cc))
+    (log_not_usage (query_if c.args.query) c.in-Ok.w c.in-Ok.text.items) (rw c.deref.ensures.value at c.tell_log.ensures)
 
 pub returns-in-Err-Refused-clause-answer : goal.returns-in-Err-Refused-clause-answer
 returns-in-Err-Refused-clause-answer g c =

@@ -4,9 +4,9 @@ use Rattle.cm_cli.specs.Sent.{IsSent}
 use Rattle.model_text.specs.Report.{text_of, Credentials}
 
 -- The lines of the processes that are left come behind what is written and what waits.
-abbrev pub invariant-loop-live : goal.invariant-loop-live
-invariant-loop-live g l = record {
-  sent : IsSent (g.K.Sink.written l.initial.out) (g.K.Sink.written l.out) (l.text.items ++ text_of (map Credentials (drop l.live-index l.live-items)))
-      (l.initial.text.items ++ text_of (map Credentials l.live-items));
+abbrev pub invariant-loop-p : goal.invariant-loop-p
+invariant-loop-p g l = record {
+  sent : IsSent (g.K.Sink.written l.initial.out) (g.K.Sink.written l.out) (l.text.items ++ text_of (map Credentials (drop l.p-index l.p-items)))
+      (l.initial.text.items ++ text_of (map Credentials l.p-items));
   faults : g.K.Sink.faults l.out ≡ g.K.Sink.faults l.initial.out;
 }

@@ -1,0 +1,8 @@
+-- Lemmas of this crate, by topic.
+pub mod Groups
+pub mod Handing
+pub mod Changing
+pub mod FreePids
+pub mod Stepping
+pub mod Leaving
+pub mod Families

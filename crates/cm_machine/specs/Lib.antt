@@ -1,0 +1,9 @@
+-- What the machine's calls come to.
+pub mod Answers
+pub mod Telling
+pub mod Outcomes
+pub mod Births
+pub mod Marks
+pub use Rattle.model_run.specs.Step
+pub use Rattle.model_run.specs.Ruling
+pub use Rattle.model_run.specs.Family

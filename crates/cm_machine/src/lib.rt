@@ -1,0 +1,24 @@
+//! The machine: a state, and its steps. An event is one completed call of one live process with the result that was told;
+//! the machine makes it where the rules give that result, and is unchanged where they don't.
+#![tactic(auto)]
+
+mod births;
+mod changes;
+mod error;
+mod exits;
+mod family;
+mod machine;
+mod outside;
+mod own;
+mod pids;
+mod rules;
+mod same;
+mod saving;
+mod step;
+mod telling;
+
+pub use error::StepError;
+pub use machine::Machine;
+
+#[cfg(test)]
+mod tests;

@@ -1,0 +1,80 @@
+// The machine and its public calls. The steps themselves are made on its state.
+ghost use Rattle.std.specs.Prelude.{◌≡◌, None, true, IfOk, IfErr};
+ghost use Rattle.cm_base.specs.Outcome.{OrNoMemory, UnchangedOnErr};
+ghost use Rattle.cm_machine.specs.Outcomes.{IsOwn, IsNoAnswer};
+ghost use Rattle.cm_state.specs.Call.{call_of};
+ghost use Rattle.cm_world.specs.World.{world_of};
+ghost use Rattle.model_run.specs.Family.{family};
+ghost use Rattle.model_run.specs.Step as outcome;
+ghost use Rattle.model_cred.specs.Process.{process_at, is_alive};
+ghost use Rattle.model_run.specs.Step.{outcome, names_no_space};
+
+use crate::error::StepError;
+use crate::family::family_of;
+use crate::own::take_own;
+use crate::step::take_step;
+use cm_base::{NoMemory, Pid, Res};
+use cm_state::{Call, Event, State};
+use cm_world::World;
+use std::alloc::Global;
+
+/// The machine: the state that it is in.
+#[derive(Debug, Drop)]
+pub struct Machine {
+    pub state: State,
+}
+
+impl Machine {
+    /// The machine in a copy of the state that the world begins with. Its only error is want of memory.
+    pub fn new(alloc: Global, w: &World) -> Result<Machine, NoMemory>
+        ensures { OrNoMemory result (λ m. m.state ≡ w.now.start) }
+    {
+        let state = w.start.copy(alloc)?;
+        Ok(Machine { state })
+    }
+
+    /// Makes the step of an event: one completed call of one process, with the result that is told. The errors come in
+    /// this order: NoProcess exactly where no process of the pid is alive; NoSpace exactly where the call names a user
+    /// namespace that doesn't stand; PidInUse exactly where the result is a child that is alive; Wrong exactly where the
+    /// result is neither an error from outside that the call may answer, which changes nothing, nor what the rules give
+    /// (with the process's own answer); NoMemory may come with any step. The machine is as it was after each.
+    pub fn step(&mut self, alloc: Global, w: &World, e: &Event) -> Result<(), StepError>
+        ensures goes { IfOk result (λ _. outcome (world_of w.now) self.old.state e.now ≡ outcome.Goes self.new.state) }
+        ensures no_process { result ≡ Err StepError.NoProcess → outcome (world_of w.now) self.old.state e.now ≡ outcome.NoProcess }
+        ensures no_space { result ≡ Err StepError.NoSpace → outcome (world_of w.now) self.old.state e.now ≡ outcome.NoSpace }
+        ensures pid_in_use { result ≡ Err StepError.PidInUse → outcome (world_of w.now) self.old.state e.now ≡ outcome.PidInUse }
+        ensures wrong { (given : Res) → result ≡ Err (StepError.Wrong given) → outcome (world_of w.now) self.old.state e.now ≡ outcome.Wrong given }
+        ensures unchanged { UnchangedOnErr result self.new self.old }
+    {
+        take_step(alloc, &mut self.state, e)
+    }
+
+    /// Makes the call of the process as the rules give it, and says what it answers, an error of the rules too. The child
+    /// of fork has the least pid that isn't alive, or the answer is EAGAIN where all are (choice). The errors are NoProcess
+    /// exactly where no process of the pid is alive, NoSpace exactly where the call names a user namespace that doesn't
+    /// stand, and NoMemory, which may come with any call. The machine is as it was after each.
+    pub fn answer(
+        &mut self,
+        alloc: Global,
+        w: &World,
+        pid: Pid,
+        call: &Call,
+    ) -> Result<Res, StepError>
+        ensures makes { IfOk result (λ res. IsOwn (world_of w.now) self.old.state pid (call_of call.now) res self.new.state) }
+        ensures no_process { result ≡ Err StepError.NoProcess → process_at self.old.state.processes pid ≡ None }
+        ensures no_space { result ≡ Err StepError.NoSpace → (is_alive self.old.state.processes pid ≡ true) × (names_no_space self.old.state.spaces (call_of call.now) ≡ true) }
+        ensures no_other { IfErr result IsNoAnswer }
+        ensures unchanged { UnchangedOnErr result self.new self.old }
+    {
+        take_own(alloc, &mut self.state, pid, call)
+    }
+
+    /// The pids of the process and of all whose chain of forebears reaches it, ascending; none where it isn't alive. Its
+    /// only error is want of memory. A forebear is the nearest living ancestor, so that an exit takes no one else out of
+    /// the family (choice).
+    pub fn family(&self, alloc: Global, root: Pid) -> Result<Vec<Pid>, NoMemory>
+        ensures { OrNoMemory result (λ pids. pids.items ≡ family self.now.state root) }
+    {
+        family_of(alloc, &self.state, root)
+    }
+}

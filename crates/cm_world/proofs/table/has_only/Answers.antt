@@ -1,0 +1,12 @@
+use Rattle.std.proofs.Common.{bytes_eq, map, string_bytes, rules, tests, sym, ◌∙◌}
+use Rattle.std.specs.List.{list_any}
+use Rattle.std.specs.Map.{keys_of}
+use Rattle.std.proofs.lemmas.Iterator.Consumers.{YieldsList-from_rest}
+use Rattle.std.proofs.lemmas.Iterator.Search.{all_from_yields_List}
+use Rattle.cm_world.proofs.Members.{has_only-members_view}
+use Rattle.cm_world.proofs.table.has_only.Goals as goal
+
+pub returns : goal.returns
+returns c =
+    all_from_yields_List (λ key. list_any (bytes_eq (string_bytes key)) (map (λ k. k.now) c.args.keys.now)) _ _ _ c.all.ensures.ran (YieldsList-from_rest (keys_of c.args.table.now.entries) c.keys.ensures.rest) (λ x b q k. search (rules, tests))
+    ∙ sym (has_only-members_view (map (λ k. k.now) c.args.keys.now) c.args.table.now.entries)

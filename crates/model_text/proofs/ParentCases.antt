@@ -1,0 +1,74 @@
+-- Worked cases, by computation, of worlds that declare parents.
+use Rattle.std.proofs.Common.{◌≡◌, ℕ, true, List, [], ◌∷◌, map, Option, None, Some, refl}
+use Rattle.std.specs.Prelude.{codes}
+use Rattle.model_cred.specs.Credential.{Credential}
+use Rattle.model_cred.specs.Process.{Process}
+use Rattle.model_text.proofs.ProcessCases.{of_row, AreBad, user, root}
+use Rattle.model_text.proofs.WorldCases.{world_on_literals}
+use Rattle.model_text.specs.WorldText.{Reads, NotBuilt, world_text, world_with, text_says_more}
+
+-- a process with that forebear and credential
+abbrev pub of_forebear : ℕ → Option ℕ → Credential → Process
+of_forebear pid forebear c = record { pid = pid; forebear = forebear; space = 0; cred = c }
+
+-- process 100 of root, whose row these texts go on from, and these processes beside it, by ascending pid
+abbrev pub ReadsWith : List ℕ → List Process → Type 0
+ReadsWith rest processes = world_text (of_row rest) ≡ Reads (world_with (of_forebear 100 None root ∷ processes))
+
+-- ---- parents of earlier rows
+pub a_child_is_declared : ReadsWith (codes "[[process]]\npid = 101\nparent = 100\n") (of_forebear 101 (Some 100) root ∷ [])
+unfolding world_on_literals
+a_child_is_declared = refl
+
+-- a parent gives its child nothing else
+pub a_child_has_its_own_credential : ReadsWith (codes "[[process]]\npid = 101\nuid = 1000\nparent = 100\n") (of_forebear 101 (Some 100) user ∷ [])
+unfolding world_on_literals
+a_child_has_its_own_credential = refl
+
+pub a_child_of_a_child : ReadsWith (codes "[[process]]\npid = 102\nparent = 100\n[[process]]\npid = 101\nparent = 102\n") (of_forebear 101 (Some 102) root ∷ of_forebear 102 (Some 100) root ∷ [])
+unfolding world_on_literals
+a_child_of_a_child = refl
+
+pub two_children : ReadsWith (codes "[[process]]\npid = 102\nparent = 100\n[[process]]\npid = 101\nparent = 100\n[[process]]\npid = 103\n")
+    (of_forebear 101 (Some 100) root ∷ of_forebear 102 (Some 100) root ∷ of_forebear 103 None root ∷ [])
+unfolding world_on_literals
+two_children = refl
+
+-- earlier is said of rows, and not of pids
+pub a_child_with_a_lower_pid : world_text (of_row (codes "[[process]]\npid = 1\nparent = 100\n")) ≡ Reads (world_with (of_forebear 1 (Some 100) root ∷ of_forebear 100 None root ∷ []))
+unfolding world_on_literals
+a_child_with_a_lower_pid = refl
+
+pub largest_pid_of_a_parent : world_text (codes "log = \"script\"\nprocess = [{pid = 4194304}, {pid = 100, parent = 4194304}]\n")
+    ≡ Reads (world_with (of_forebear 100 (Some 4194304) root ∷ of_forebear 4194304 None root ∷ []))
+unfolding world_on_literals
+largest_pid_of_a_parent = refl
+
+-- ---- faults
+-- no process, a later row, the row itself, each other's
+pub parents_of_no_earlier_row : AreBad
+    (codes "parent = 99\n" ∷ codes "parent = 101\n[[process]]\npid = 101\n" ∷ codes "parent = 100\n" ∷ codes "parent = 101\n[[process]]\npid = 101\nparent = 100\n" ∷ codes "[[process]]\npid = 101\nparent = 101\n"
+    ∷ codes "[[process]]\npid = 101\nparent = 102\n[[process]]\npid = 102\nparent = 100\n" ∷ codes "[[process]]\npid = 101\nparent = 1\n" ∷ [])
+unfolding world_on_literals
+parents_of_no_earlier_row = refl
+
+pub faults_of_parents : AreBad
+    (codes "[[process]]\npid = 101\nparent = 0\n" ∷ codes "[[process]]\npid = 101\nparent = -100\n" ∷ codes "[[process]]\npid = 101\nparent = 4194305\n" ∷ codes "[[process]]\npid = 101\nparent = \"100\"\n"
+    ∷ codes "[[process]]\npid = 101\nparent = \"init\"\n" ∷ codes "[[process]]\npid = 101\nparent = [100]\n" ∷ codes "[[process]]\npid = 101\nparent = 100.0\n" ∷ codes "[[process]]\npid = 101\nparent = true\n"
+    ∷ codes "[[process]]\npid = 101\nparent = {}\n" ∷ codes "[[process]]\npid = 101\nparent = 100\nparent = 100\n" ∷ codes "[[process]]\npid = 101\nppid = 100\n" ∷ codes "[[process]]\nparent = 100\n" ∷ [])
+unfolding world_on_literals
+faults_of_parents = refl
+
+-- a pid that stands twice is one whatever the parents are
+pub one_pid_twice : AreBad (codes "[[process]]\npid = 100\nparent = 100\n" ∷ codes "[[process]]\npid = 101\nparent = 100\n[[process]]\npid = 101\nparent = 100\n" ∷ [])
+unfolding world_on_literals
+one_pid_twice = refl
+
+-- ---- what isn't built, and what says more than user ids
+pub a_space_beside_a_parent : world_text (of_row (codes "parent = 0\nspace = \"init\"\n")) ≡ NotBuilt
+unfolding world_on_literals
+a_space_beside_a_parent = refl
+
+pub a_parent_says_more : map (λ rest. text_says_more (of_row rest)) (codes "[[process]]\npid = 101\nparent = 100\n" ∷ codes "parent = 100\n" ∷ []) ≡ true ∷ true ∷ []
+unfolding world_on_literals
+a_parent_says_more = refl
