@@ -17,6 +17,7 @@ KIND is what the logs of ratio, linear and memory have (left out: ratio is measu
 
   setresuid   one process of root, whose effective id goes to another and back
   setuid      three processes; half of the lines are done, half are refused (EPERM, EINVAL)
+  mixed       children of root that drop their user ids, are refused a way back, and exit
 
 The logs are made in FOLDER (a new one below /tmp where it is left out, removed at the end), 90 MB for a kind.
 """
@@ -35,7 +36,8 @@ SIZES = (1, 4, 16, 64)
 PARTS = ("ratio", "linear", "memory", "world")
 # Each kind of log: its events, more than fill 64 MiB, and the processes with their user ids.
 KINDS = {"setresuid": (2700000, {100: "0"}),
-         "setuid": (3400000, {100: "0", 101: "1000,1001,1002,1001", 102: "1000"})}
+         "setuid": (3400000, {100: "0", 101: "1000,1001,1002,1001", 102: "1000"}),
+         "mixed": (3100000, {100: "0"})}
 
 
 def timed(words):

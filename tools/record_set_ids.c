@@ -23,28 +23,11 @@
 // prm=, eff=, bnd=, amb= (hexadecimal) and nnp=, all of /proc/self/status, and sec= (hexadecimal, by prctl). The child
 // reads all ten before the call and after it; those of before must be those of the state.
 #define _GNU_SOURCE
-#include <errno.h>
-#include <fcntl.h>
-#include <linux/capability.h>
-#include <linux/securebits.h>
-#include <stdint.h>
-#include <stdio.h>
-#include <stdlib.h>
-#include <string.h>
-#include <sys/prctl.h>
-#include <sys/syscall.h>
-#include <sys/utsname.h>
+#include "credential.h"
 #include <sys/wait.h>
-#include <unistd.h>
 
-#ifndef __LP64__
-#error "the calls on 32-bit ids have other numbers here"
-#endif
-
-#define CAP(name) (1ull << CAP_##name)
 #define ALL (~0ull)         // all that the recorder has
 #define MINE (1ull << 63)   // CAP_SETUID in a state for the uid calls, CAP_SETGID in one for the gid calls
-#define NONE 0xffffffffu    // -1
 
 // ---- what is tried ----------------------------------------------------------------------------------------------------
 
@@ -111,84 +94,6 @@ static const struct kind kinds[] = {
 };
 #define KINDS (sizeof kinds / sizeof *kinds)
 
-// ---- what is seen -----------------------------------------------------------------------------------------------------
-
-static const char *const names[][2] = {
-    { "uid", "\nUid:" }, { "gid", "\nGid:" }, { "groups", "\nGroups:" }, { "inh", "\nCapInh:" }, { "prm", "\nCapPrm:" },
-    { "eff", "\nCapEff:" }, { "bnd", "\nCapBnd:" }, { "amb", "\nCapAmb:" }, { "sec", NULL }, { "nnp", "\nNoNewPrivs:" },
-};
-#define FIELDS (int)(sizeof names / sizeof *names)
-
-struct seen {
-    char field[FIELDS][64];
-};
-
-static void fail(const char *what)
-{
-    fprintf(stderr, "record_set_ids: %s: %s\n", what, strerror(errno));
-    _exit(1);
-}
-
-static void must(int done, const char *what)
-{
-    if (!done)
-        fail(what);
-}
-
-// The items of a status line, joined by commas; - where there is none.
-static void items(const char *line, char *out)
-{
-    size_t length = 0;
-
-    for (line += strspn(line, "\t "); *line && *line != '\n'; line += strspn(line, "\t ")) {
-        size_t item = strcspn(line, "\t \n");
-        must(length + item + 2 < sizeof ((struct seen *)0)->field[0], "a long line of /proc/self/status");
-        if (length)
-            out[length++] = ',';
-        memcpy(out + length, line, item);
-        length += item;
-        line += item;
-    }
-    if (!length)
-        out[length++] = '-';
-    out[length] = 0;
-}
-
-static void look(struct seen *seen)
-{
-    static char text[16384];
-    int file = open("/proc/self/status", O_RDONLY);
-    ssize_t length = file < 0 ? -1 : read(file, text, sizeof text - 1);
-    int sec = prctl(PR_GET_SECUREBITS);
-
-    must(length > 0 && length < (ssize_t)sizeof text - 1, "/proc/self/status");
-    must(sec >= 0, "PR_GET_SECUREBITS");
-    close(file);
-    text[length] = 0;
-    for (int i = 0; i < FIELDS; i++) {
-        const char *line = names[i][1] ? strstr(text, names[i][1]) : NULL;
-        if (names[i][1]) {
-            must(line != NULL, names[i][1] + 1);
-            items(line + strlen(names[i][1]), seen->field[i]);
-        } else {
-            snprintf(seen->field[i], sizeof seen->field[i], "%02x", sec);
-        }
-    }
-}
-
-// A line that begins with `text`: all fields, or those that differ from `from`.
-static void put(const char *text, const struct seen *seen, const struct seen *from)
-{
-    char line[1024];
-    int length = snprintf(line, sizeof line, "%s", text);
-
-    for (int i = 0; i < FIELDS; i++)
-        if (!from || strcmp(seen->field[i], from->field[i]))
-            length += snprintf(line + length, sizeof line - length, " %s=%s", names[i][0], seen->field[i]);
-    line[length++] = '\n';
-    must(write(1, line, length) == length, "standard output");
-}
-
 // ---- cases ------------------------------------------------------------------------------------------------------------
 
 static void wait_for(pid_t child)
@@ -222,7 +127,7 @@ static void one_case(const struct seen *state, const struct call *call, int leng
 
     if (child == 0) {
         struct seen before, after;
-        char text[128], number[32];
+        char text[1024], number[32];
         unsigned long a[3] = { 0, 0, 0 };
         int at = sprintf(text, "%s", call->name);
 
@@ -231,14 +136,13 @@ static void one_case(const struct seen *state, const struct call *call, int leng
             at += ids[i] == NONE ? sprintf(text + at, " -1") : sprintf(text + at, " %u", ids[i]);
         }
         look(&before);
-        for (int i = 0; i < FIELDS; i++)
-            must(!strcmp(before.field[i], state->field[i]), "a child isn't in the state");
+        must(same(&before, state), "a child isn't in the state");
         errno = 0;
         long got = call == &set_groups ? syscall(call->number, length, ids) : syscall(call->number, a[0], a[1], a[2]);
         int error = errno;
         look(&after);
-        sprintf(text + at, " = %s", result(call, got, error, number));
-        put(text, &after, &before);
+        at += sprintf(text + at, " = %s", result(call, got, error, number));
+        put_line(text, at + put_fields(text + at, &after, &before));
         _exit(0);
     }
     wait_for(child);
@@ -264,18 +168,6 @@ static void all_cases(const struct seen *state, enum side side, const unsigned *
 
 // ---- states -----------------------------------------------------------------------------------------------------------
 
-static uint64_t own;    // what the recorder started with, permitted and effective
-
-static void set_caps(uint64_t eff, uint64_t prm, uint64_t inh)
-{
-    struct __user_cap_header_struct head = { _LINUX_CAPABILITY_VERSION_3, 0 };
-    struct __user_cap_data_struct data[2] = {
-        { (uint32_t)eff, (uint32_t)prm, (uint32_t)inh }, { eff >> 32, prm >> 32, inh >> 32 },
-    };
-
-    must(syscall(SYS_capset, &head, data) == 0, "capset");
-}
-
 static uint64_t meant(uint64_t set, enum side side)
 {
     uint64_t mine = side == USERS ? CAP(SETUID) : CAP(SETGID);
@@ -283,33 +175,20 @@ static uint64_t meant(uint64_t set, enum side side)
     return (set & MINE ? set | mine : set & ~mine) & own;
 }
 
-static void set_ids(long set_res, long set_fs, const unsigned *ids)
-{
-    must(syscall(set_res, ids[0], ids[1], ids[2]) == 0, "the three ids of a state");
-    syscall(set_fs, ids[3]);
-    must(syscall(set_fs, NONE) == ids[3], "the fs id of a state");
-}
-
-// Goes into a state. NO_SETUID_FIXUP keeps the sets while the user ids change; the state's own securebits come behind.
+// The ids of the calls' side are those given, the other four the kind's.
 static void reach(enum side side, const struct kind *kind, const unsigned *ids, unsigned sec)
 {
-    uint64_t inh = meant(kind->inh, side), amb = meant(kind->amb, side), bnd = meant(kind->bnd, side);
+    struct wanted to = { .length = kind->groups.length, .sec = kind->sec | sec, .nnp = kind->nnp };
 
-    must(syscall(SYS_setgroups, kind->groups.length, kind->groups.ids) == 0, "setgroups");
-    set_ids(SYS_setresgid, SYS_setfsgid, side == GROUPS ? ids : kind->others);
-    set_caps(own, own, inh);
-    must(prctl(PR_SET_SECUREBITS, SECBIT_NO_SETUID_FIXUP) == 0, "PR_SET_SECUREBITS");
-    set_ids(SYS_setresuid, SYS_setfsuid, side == USERS ? ids : kind->others);
-    for (int cap = 0; cap < 64; cap++) {
-        if (amb >> cap & 1)
-            must(prctl(PR_CAP_AMBIENT, PR_CAP_AMBIENT_RAISE, cap, 0, 0) == 0, "PR_CAP_AMBIENT_RAISE");
-        if ((own & ~bnd) >> cap & 1)
-            must(prctl(PR_CAPBSET_DROP, cap) == 0, "PR_CAPBSET_DROP");
-    }
-    must(prctl(PR_SET_SECUREBITS, kind->sec | sec) == 0, "PR_SET_SECUREBITS");
-    set_caps(meant(kind->eff, side), meant(kind->prm, side), inh);
-    if (kind->nnp)
-        must(prctl(PR_SET_NO_NEW_PRIVS, 1, 0, 0, 0) == 0, "PR_SET_NO_NEW_PRIVS");
+    memcpy(side == USERS ? to.uids : to.gids, ids, sizeof to.uids);
+    memcpy(side == USERS ? to.gids : to.uids, kind->others, sizeof to.uids);
+    memcpy(to.groups, kind->groups.ids, sizeof kind->groups.ids);
+    to.inh = meant(kind->inh, side);
+    to.prm = meant(kind->prm, side);
+    to.eff = meant(kind->eff, side);
+    to.bnd = meant(kind->bnd, side);
+    to.amb = meant(kind->amb, side);
+    go_into(&to);
 }
 
 static void one_state(enum side side, const struct kind *kind, const unsigned *palette, int number, unsigned sec)
@@ -319,12 +198,13 @@ static void one_state(enum side side, const struct kind *kind, const unsigned *p
     if (child == 0) {
         unsigned ids[4];
         struct seen state;
+        char text[1024] = "state";
 
         for (int i = 0, left = number; i < 4; i++, left /= 3)
             ids[i] = palette[left % 3];
         reach(side, kind, ids, sec);
         look(&state);
-        put("state", &state, NULL);
+        put_line(text, 5 + put_fields(text + 5, &state, NULL));
         all_cases(&state, side, palette);
         _exit(0);
     }
@@ -342,8 +222,6 @@ static void all_states(enum side side, const unsigned *palette, size_t number_of
 
 int main(int argc, char **argv)
 {
-    struct utsname name;
-    struct seen start;
     const uint64_t needed = CAP(SETUID) | CAP(SETGID) | CAP(SETPCAP) | CAP(CHOWN) | CAP(DAC_OVERRIDE) |
         CAP(DAC_READ_SEARCH) | CAP(FOWNER) | CAP(FSETID) | CAP(KILL) | CAP(LINUX_IMMUTABLE) | CAP(MAC_OVERRIDE) |
         CAP(MKNOD) | CAP(NET_BIND_SERVICE) | CAP(SYS_CHROOT);
@@ -353,15 +231,8 @@ int main(int argc, char **argv)
         fprintf(stderr, "usage: record_set_ids > CASES\n");
         return 2;
     }
-    look(&start);
-    own = strtoull(start.field[4], NULL, 16);
-    if (strcmp(start.field[0], "0,0,0,0") || strcmp(start.field[5], start.field[4]) || needed & ~own
-        || strcmp(start.field[8], "00")) {
-        fprintf(stderr, "record_set_ids: to be run as root, with its capabilities effective and no securebits\n");
-        return 1;
-    }
-    must(uname(&name) == 0, "uname");
-    dprintf(1, "kernel %s %s %s\n", name.sysname, name.release, name.machine);
+    start_as_root(needed);
+    put_kernel();
     all_states(USERS, small_ids, KINDS, 1);
     all_states(GROUPS, small_ids, KINDS, 0);
     all_states(USERS, high_ids, 2, 0);
