@@ -28,6 +28,14 @@ impl Kuid {
         if n < u32::MAX { Some(Kuid(n)) } else { None }
     }
 
+    /// The user id of a number that isn't 4294967295.
+    pub fn of(n: u32) -> Kuid
+        requires { n < 4294967295 }
+        ensures { result ≡ n }
+    {
+        Kuid(n)
+    }
+
     /// Its number.
     pub fn number(self) -> u32
         ensures value { result ≡ self }
@@ -59,6 +67,14 @@ impl Kgid {
         ensures { SomeIff result (n < 4294967295) n }
     {
         if n < u32::MAX { Some(Kgid(n)) } else { None }
+    }
+
+    /// The group id of a number that isn't 4294967295.
+    pub fn of(n: u32) -> Kgid
+        requires { n < 4294967295 }
+        ensures { result ≡ n }
+    {
+        Kgid(n)
     }
 
     /// Its number.

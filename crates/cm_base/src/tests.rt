@@ -124,6 +124,8 @@ fn texts_spell_numbers(rt: HostRuntime) {
 fn ids_end_where_they_end(rt: HostRuntime) {
     assert!(rt; Kuid::new(4_294_967_294).is_some() && Kuid::new(4_294_967_295).is_none());
     assert!(rt; Kgid::new(4_294_967_294).is_some() && Kgid::new(4_294_967_295).is_none());
+    assert_eq!(rt; Some(Kuid::of(4_294_967_294)), Kuid::new(4_294_967_294));
+    assert_eq!(rt; Some(Kgid::of(0)), Kgid::new(0));
     assert!(rt; Pid::new(0).is_none() && Pid::new(1).is_some());
     assert!(rt; Pid::new(4_194_304).is_some() && Pid::new(4_194_305).is_none());
     assert!(rt; Cap::new(40).is_some() && Cap::new(41).is_none());

@@ -109,6 +109,18 @@ impl CapWord {
 pub struct SecBits(pub u8);
 
 impl SecBits {
+    /// SECBIT_NO_SETUID_FIXUP.
+    pub const NO_SETUID_FIXUP: u8 = 0x04;
+
+    /// SECBIT_KEEP_CAPS.
+    pub const KEEP_CAPS: u8 = 0x10;
+
+    /// SECBIT_KEEP_CAPS_LOCKED.
+    pub const KEEP_CAPS_LOCKED: u8 = 0x20;
+
+    /// SECBIT_NO_CAP_AMBIENT_RAISE.
+    pub const NO_CAP_AMBIENT_RAISE: u8 = 0x40;
+
     /// One of these bits is set; of several, it needn't be all.
     pub fn has(self, bit: u8) -> bool
         ensures { IsTrue result ↔ (bit_and self.0 bit ≢ 0) }

@@ -6,12 +6,12 @@ ghost use Rattle.cm_base.specs.declared.res.Res.TheVariants.{Err};
 ghost use Rattle.model_rules.specs.CapCalls as model;
 
 use crate::numbers::capability;
-use crate::securebits::NO_CAP_AMBIENT_RAISE;
-use cm_base::{Cap, CapWord, Errno, Res};
+use cm_base::{Cap, CapWord, Errno, Res, SecBits};
 use cm_state::Cred;
 
 /// PR_CAP_AMBIENT_RAISE of prctl(2) on the capability of that number: `Done`, or `EINVAL` past 40, then `EPERM` where it
-/// isn't permitted, isn't inheritable, or SECBIT_NO_CAP_AMBIENT_RAISE is set. A refusal leaves the credential as it was.
+/// isn't permitted, isn't inheritable, or SECBIT_NO_CAP_AMBIENT_RAISE is set (the order is a choice). Done, the capability
+/// is ambient, and nothing else changes. A refusal leaves the credential as it was.
 #[tactic(auto, using(crate::proofs::AmbientSets::with_within))]
 pub fn amb_raise(c: &mut Cred, n: u32) -> Res
     ensures res { result ≡ (model.amb_raise c.old n).res }
@@ -29,7 +29,7 @@ pub fn amb_raise(c: &mut Cred, n: u32) -> Res
 }
 
 /// PR_CAP_AMBIENT_LOWER of prctl(2) on the capability of that number: `Done`, also where it isn't ambient, or `EINVAL`
-/// past 40. A refusal leaves the credential as it was.
+/// past 40. Done, the capability isn't ambient, and nothing else changes. A refusal leaves the credential as it was.
 #[tactic(auto, using(crate::proofs::AmbientSets::without_within))]
 pub fn amb_lower(c: &mut Cred, n: u32) -> Res
     ensures res { result ≡ (model.amb_lower c.old n).res }
@@ -43,7 +43,7 @@ pub fn amb_lower(c: &mut Cred, n: u32) -> Res
     Res::Done
 }
 
-/// PR_CAP_AMBIENT_CLEAR_ALL of prctl(2): `Done`, and no capability is ambient.
+/// PR_CAP_AMBIENT_CLEAR_ALL of prctl(2): `Done`, and no capability is ambient; nothing else changes.
 pub fn amb_clear(c: &mut Cred) -> Res
     ensures res { result ≡ (model.amb_clear c.old).res }
     ensures cred { c.new ≡ (model.amb_clear c.old).cred }
@@ -56,5 +56,5 @@ pub fn amb_clear(c: &mut Cred) -> Res
 fn may_raise(c: &Cred, cap: Cap) -> bool
     ensures { result ≡ model.may_raise c.now cap }
 {
-    c.prm.holds(cap) && c.inh.holds(cap) && !c.sec.has(NO_CAP_AMBIENT_RAISE)
+    c.prm.holds(cap) && c.inh.holds(cap) && !c.sec.has(SecBits::NO_CAP_AMBIENT_RAISE)
 }

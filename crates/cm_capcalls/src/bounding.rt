@@ -11,7 +11,8 @@ use cm_base::{Errno, Res};
 use cm_state::Cred;
 
 /// PR_CAPBSET_DROP of prctl(2) on the capability of that number: `Done`, or `EPERM` without CAP_SETPCAP, then `EINVAL`
-/// past 40 (the order is a choice). A refusal leaves the credential as it was.
+/// past 40 (the order is a choice). Done, the bounding set has lost the capability, and nothing else changes. A refusal
+/// leaves the credential as it was.
 pub fn bset_drop(c: &mut Cred, n: u32) -> Res
     ensures res { result ≡ (model.bset_drop c.old n).res }
     ensures cred { c.new ≡ (model.bset_drop c.old n).cred }

@@ -11,8 +11,9 @@ use cm_state::Cred;
 
 /// capset(2) with these effective, permitted and inheritable sets: `Done`, or `EPERM` where without CAP_SETPCAP the
 /// inheritable set isn't within the old inheritable and permitted ones, where it isn't within the old inheritable and
-/// bounding ones, where the permitted set isn't within the old one, or the effective set not within the permitted one. A
-/// refusal leaves the credential as it was.
+/// bounding ones, where the permitted set isn't within the old one, or the effective set not within the permitted one.
+/// Done, the three sets are these, and the ambient set has lost what is no longer permitted or inheritable; nothing else
+/// changes. A refusal leaves the credential as it was.
 pub fn cap_set(c: &mut Cred, eff: CapWord, prm: CapWord, inh: CapWord) -> Res
     ensures res { result ≡ (capset c.old eff prm inh).res }
     ensures cred { c.new ≡ (capset c.old eff prm inh).cred }

@@ -1,4 +1,4 @@
-// The securebits, and the call that sets them all (prctl(2), PR_SET_SECUREBITS; capabilities(7), "The securebits flags").
+// The call that sets all securebits (prctl(2), PR_SET_SECUREBITS; capabilities(7), "The securebits flags").
 // Each of the four flags has a lock, the bit above it: a lock that is set stays set, and its flag stays as it is.
 ghost use Rattle.std.specs.Prelude.{◌≡◌, ◌==◌, bit_and, bit_xor};
 ghost use Rattle.cm_base.specs.CapSet.{is_within};
@@ -11,12 +11,6 @@ use crate::capset::has_setpcap;
 use cm_base::{Errno, Res, SecBits};
 use cm_state::Cred;
 
-pub(crate) const KEEP_CAPS: u8 = 0x10;
-
-pub(crate) const KEEP_CAPS_LOCKED: u8 = 0x20;
-
-pub(crate) const NO_CAP_AMBIENT_RAISE: u8 = 0x40;
-
 // SECBIT_NOROOT_LOCKED, SECBIT_NO_SETUID_FIXUP_LOCKED, SECBIT_KEEP_CAPS_LOCKED and SECBIT_NO_CAP_AMBIENT_RAISE_LOCKED.
 const LOCKS: u32 = 0xaa;
 
@@ -24,7 +18,8 @@ const LOCKS: u32 = 0xaa;
 const ALL: u32 = 0xff;
 
 /// PR_SET_SECUREBITS of prctl(2): `Done`, or `EPERM` without CAP_SETPCAP, where a locked flag would change, where a lock
-/// would be cleared, or for a bit above 0xff. A refusal leaves the credential as it was.
+/// would be cleared, or for a bit above 0xff (choice). Done, the securebits are these, and nothing else changes. A
+/// refusal leaves the credential as it was.
 pub fn secure_bits(c: &mut Cred, bits: u32) -> Res
     ensures res { result ≡ (model.secure_bits c.old bits).res }
     ensures cred { c.new ≡ (model.secure_bits c.old bits).cred }

@@ -25,7 +25,8 @@ pub struct Machine {
 }
 
 impl Machine {
-    /// The machine in a copy of the state that the world begins with. Its only error is want of memory.
+    /// The machine in a copy of the state that the world begins with (choice: a machine keeps its state beside the
+    /// world, which stays as it was declared). Its only error is want of memory.
     pub fn new(alloc: Global, w: &World) -> Result<Machine, NoMemory>
         ensures { OrNoMemory result (λ m. m.state ≡ w.now.start) }
     {
@@ -33,16 +34,18 @@ impl Machine {
         Ok(Machine { state })
     }
 
-    /// Makes the step of an event: one completed call of one process, with the result that is told. The errors come in
-    /// this order: NoProcess exactly where no process of the pid is alive; NoSpace exactly where the call names a user
-    /// namespace that doesn't stand; PidInUse exactly where the result is a child that is alive; Wrong exactly where the
-    /// result is neither an error from outside that the call may answer, which changes nothing, nor what the rules give
-    /// (with the process's own answer); NoMemory may come with any step. The machine is as it was after each.
+    /// Makes the step of an event: one completed call of one process, with the result that is told, by the rules of the
+    /// call's manual page (docs/RULES.md). The errors come in this order (choice): NoProcess exactly where no process of
+    /// the pid is alive; NoSpace exactly where the call names a user namespace that doesn't stand; PidInUse exactly where
+    /// the result is a child that is alive; Wrong exactly where the result is neither an error from outside that the call
+    /// may answer, which changes nothing (choice), nor what the rules give (with the process's own answer); NoMemory may
+    /// come with any event. The machine is as it was after each, and after a step whose result is an error.
     pub fn step(&mut self, alloc: Global, w: &World, e: &Event) -> Result<(), StepError>
         ensures goes { IfOk result (λ _. outcome (world_of w.now) self.old.state e.now ≡ outcome.Goes self.new.state) }
         ensures no_process { result ≡ Err StepError.NoProcess → outcome (world_of w.now) self.old.state e.now ≡ outcome.NoProcess }
         ensures no_space { result ≡ Err StepError.NoSpace → outcome (world_of w.now) self.old.state e.now ≡ outcome.NoSpace }
         ensures pid_in_use { result ≡ Err StepError.PidInUse → outcome (world_of w.now) self.old.state e.now ≡ outcome.PidInUse }
+        ensures told_error { (error : Errno) → e.now.res ≡ Res.Err error → self.new ≡ self.old }
         ensures wrong { (given : Res) → result ≡ Err (StepError.Wrong given) → outcome (world_of w.now) self.old.state e.now ≡ outcome.Wrong given }
         ensures unchanged { UnchangedOnErr result self.new self.old }
     {
@@ -52,7 +55,8 @@ impl Machine {
     /// Makes the call of the process as the rules give it, and says what it answers, an error of the rules too. The child
     /// of fork has the least pid that isn't alive, or the answer is EAGAIN where all are (choice). The errors are NoProcess
     /// exactly where no process of the pid is alive, NoSpace exactly where the call names a user namespace that doesn't
-    /// stand, and NoMemory, which may come with any call. The machine is as it was after each.
+    /// stand, and NoMemory, which may come with any call. The machine is as it was after each, and after an error that
+    /// the rules answer.
     pub fn answer(
         &mut self,
         alloc: Global,
@@ -61,6 +65,7 @@ impl Machine {
         call: &Call,
     ) -> Result<Res, StepError>
         ensures makes { IfOk result (λ res. IsOwn (world_of w.now) self.old.state pid (call_of call.now) res self.new.state) }
+        ensures refused { (error : Errno) → result ≡ Ok (Res.Err error) → self.new ≡ self.old }
         ensures no_process { result ≡ Err StepError.NoProcess → process_at self.old.state.processes pid ≡ None }
         ensures no_space { result ≡ Err StepError.NoSpace → (is_alive self.old.state.processes pid ≡ true) × (names_no_space self.old.state.spaces (call_of call.now) ≡ true) }
         ensures no_other { IfErr result IsNoAnswer }

@@ -1,21 +1,15 @@
 // A credential's fields but its groups, saved beside it and put back: they are copied without memory.
 ghost use Rattle.std.specs.Prelude.{◌≡◌, []};
 
-use cm_base::{CapWord, Kgid, Kuid, SecBits};
-use cm_state::Cred;
+use cm_base::{CapWord, SecBits};
+use cm_state::{Cred, FourIds};
 use std::marker::Model;
 
 /// The fields of a credential but its groups.
 #[derive(Debug, Drop)]
 pub(crate) struct Saved {
-    ruid: Kuid,
-    euid: Kuid,
-    suid: Kuid,
-    fsuid: Kuid,
-    rgid: Kgid,
-    egid: Kgid,
-    sgid: Kgid,
-    fsgid: Kgid,
+    uid: FourIds,
+    gid: FourIds,
     inh: CapWord,
     prm: CapWord,
     eff: CapWord,
@@ -33,8 +27,8 @@ impl Model for Saved {
     ghost Value = { Credential };
 
     ghost view = { λ c. record {
-      uid = record { real = c.ruid; effective = c.euid; saved = c.suid; fs = c.fsuid };
-      gid = record { real = c.rgid; effective = c.egid; saved = c.sgid; fs = c.fsgid };
+      uid = c.uid;
+      gid = c.gid;
       groups = [];
       inheritable = c.inh;
       permitted = c.prm;
@@ -54,14 +48,8 @@ pub(crate) fn save(c: &Cred) -> Saved
     ensures { result ≡ record c.now { groups = [] } }
 {
     Saved {
-        ruid: c.ruid,
-        euid: c.euid,
-        suid: c.suid,
-        fsuid: c.fsuid,
-        rgid: c.rgid,
-        egid: c.egid,
-        sgid: c.sgid,
-        fsgid: c.fsgid,
+        uid: c.user_ids(),
+        gid: c.group_ids(),
         inh: c.inh,
         prm: c.prm,
         eff: c.eff,
@@ -76,14 +64,8 @@ pub(crate) fn save(c: &Cred) -> Saved
 pub(crate) fn put_back(c: &mut Cred, old: &Saved)
     ensures { c.new ≡ record old.now { groups = c.old.groups } }
 {
-    c.ruid = old.ruid;
-    c.euid = old.euid;
-    c.suid = old.suid;
-    c.fsuid = old.fsuid;
-    c.rgid = old.rgid;
-    c.egid = old.egid;
-    c.sgid = old.sgid;
-    c.fsgid = old.fsgid;
+    c.put_user_ids(old.uid);
+    c.put_group_ids(old.gid);
     c.inh = old.inh;
     c.prm = old.prm;
     c.eff = old.eff;

@@ -7,15 +7,9 @@ ghost use Rattle.model_rules.specs.Caps.{fs_caps};
 ghost use Rattle.model_rules.specs.Fixups.{without_root, after_losing_root, following_effective, fixed_up, following_fs, fs_fixed_up};
 ghost use Rattle.model_rules.specs.Zero.{zero_of, is_zero, has_zero};
 
-use crate::four::FourIds;
 use crate::mapped::down_in;
-use crate::uids::user_ids;
-use cm_base::CapWord;
-use cm_state::{Cred, Space};
-
-const NO_SETUID_FIXUP: u8 = 4;
-
-const KEEP_CAPS: u8 = 16;
+use cm_base::{CapWord, SecBits};
+use cm_state::{Cred, FourIds, Space};
 
 // CAP_CHOWN, CAP_DAC_OVERRIDE, CAP_DAC_READ_SEARCH, CAP_FOWNER, CAP_FSETID, CAP_LINUX_IMMUTABLE, CAP_MKNOD and
 // CAP_MAC_OVERRIDE, which follow the fs user id.
@@ -25,7 +19,7 @@ const FS_CAPS: u64 = 0x1_0800_021f;
 pub(crate) fn fix_up(c: &mut Cred, s: &Space, old: FourIds)
     ensures { c.new ≡ fixed_up s.now old c.old }
 {
-    if c.sec.has(NO_SETUID_FIXUP) {
+    if c.sec.has(SecBits::NO_SETUID_FIXUP) {
         return;
     }
     let root = root_of(s);
@@ -64,7 +58,7 @@ fn has_root(root: Option<u32>, ids: FourIds) -> bool
 fn clear_without_root(c: &mut Cred, root: Option<u32>, old: FourIds)
     ensures { (s : model.Space) → root ≡ zero_of s → c.new ≡ after_losing_root s old c.old }
 {
-    let now = user_ids(c);
+    let now = c.user_ids();
     if has_root(root, old) && !has_root(root, now) {
         clear(c);
     }
@@ -74,7 +68,7 @@ fn clear_without_root(c: &mut Cred, root: Option<u32>, old: FourIds)
 fn clear(c: &mut Cred)
     ensures { c.new ≡ without_root c.old }
 {
-    if !c.sec.has(KEEP_CAPS) {
+    if !c.sec.has(SecBits::KEEP_CAPS) {
         c.prm = CapWord::empty();
         c.eff = CapWord::empty();
     }
@@ -99,7 +93,7 @@ fn follow_effective(c: &mut Cred, root: Option<u32>, old: FourIds)
 pub(crate) fn fix_up_fs(c: &mut Cred, s: &Space, old: u32)
     ensures { c.new ≡ fs_fixed_up s.now old c.old }
 {
-    if !c.sec.has(NO_SETUID_FIXUP) {
+    if !c.sec.has(SecBits::NO_SETUID_FIXUP) {
         follow_fs(c, root_of(s), old);
     }
 }

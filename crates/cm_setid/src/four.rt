@@ -1,45 +1,13 @@
-// The real, effective, saved and fs id, of user or of group, and the rules by which the calls change them (setresuid(2),
+// The rules by which the calls change the real, effective, saved and fs id, of user or of group (setresuid(2),
 // setreuid(2), setuid(2), setfsuid(2)). A rule knows the caller's map, and whether the caller has the capability.
-ghost use Rattle.std.specs.Prelude.{◌≡◌, ◌<◌};
-ghost use Rattle.model_cred.specs.Credential.{is_one_of_three, all_four};
+ghost use Rattle.std.specs.Prelude.{◌≡◌};
 ghost use Rattle.model_cred.specs.IdMap.{extents_of};
 ghost use Rattle.model_rules.specs.SetId.{set_res as model_set_res, set_re as model_set_re, set_one as model_set_one, set_fs as model_set_fs, saved_after};
 
 use crate::mapped::{MINUS_ONE, asked_for, down_in};
 use cm_base::Errno;
 use cm_idmap::IdMap;
-use std::marker::Model;
-
-/// The four ids of a process, as the initial user namespace sees them: 0 to 4294967294.
-#[derive(Clone, Copy, Debug)]
-pub(crate) struct FourIds {
-    pub real: u32,
-    pub effective: u32,
-    pub saved: u32,
-    pub fs: u32,
-}
-
-impl Model for FourIds {
-    ghost use Rattle.model_cred.specs.Credential.{FourIds, AreIds};
-
-    ghost Value = { FourIds };
-
-    ghost view = { λ ids. record { real = ids.real; effective = ids.effective; saved = ids.saved; fs = ids.fs } };
-
-    ghost invariant = { λ ids. AreIds (record { real = ids.real; effective = ids.effective; saved = ids.saved; fs = ids.fs }) };
-
-    ghost inverse = { λ ids. record { real = ids.real; effective = ids.effective; saved = ids.saved; fs = ids.fs } };
-}
-
-impl FourIds {
-    // The id is the real, the effective or the saved one.
-    #[inline]
-    fn has(self, id: u32) -> bool
-        ensures { result ≡ is_one_of_three self id }
-    {
-        id == self.real || id == self.effective || id == self.saved
-    }
-}
+use cm_state::FourIds;
 
 // setresuid(2) and setresgid(2): EINVAL for a given id without a mapping; else EPERM where without the capability one is
 // none of the old real, effective and saved id.
@@ -129,7 +97,7 @@ pub(crate) fn set_one(
         return Err(Errno::EINVAL);
     };
     if privileged {
-        return Ok(all_of(id));
+        return Ok(FourIds::all(id));
     }
     if id != old.real && id != old.saved {
         return Err(Errno::EPERM);
@@ -139,19 +107,6 @@ pub(crate) fn set_one(
         fs: id,
         ..old
     })
-}
-
-#[inline]
-fn all_of(id: u32) -> FourIds
-    requires { id < 4294967295 }
-    ensures { result ≡ all_four id }
-{
-    FourIds {
-        real: id,
-        effective: id,
-        saved: id,
-        fs: id,
-    }
 }
 
 // setfsuid(2) and setfsgid(2), which have no error: the ids with another fs id where that is mapped, and is one of the

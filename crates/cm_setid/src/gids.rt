@@ -1,14 +1,14 @@
 // The calls that set group ids: the rules of the four ids, with CAP_SETGID and the caller's map of group ids. The sets
 // stay as they are.
-ghost use Rattle.std.specs.Prelude.{◌≡◌, ◌<◌, Result};
+ghost use Rattle.std.specs.Prelude.{◌≡◌, Result};
 ghost use Rattle.cm_base.specs.declared.errno.Errno.{Errno};
 ghost use Rattle.cm_base.specs.declared.res.Res.TheVariants.{Err};
 ghost use Rattle.model_rules.specs.SetId.{has_setgid as model_has_setgid, with_gids, setresgid, setregid, setgid, setfsgid};
 
-use crate::four::{FourIds, set_fs, set_one, set_re, set_res};
+use crate::four::{set_fs, set_one, set_re, set_res};
 use crate::mapped::seen;
-use cm_base::{Cap, Errno, Kgid, Res};
-use cm_state::{Cred, Space};
+use cm_base::{Cap, Errno, Res};
+use cm_state::{Cred, FourIds, Space};
 
 /// setgid(2) in the caller's space: `Done`, or `EINVAL` for an id without a mapping, as -1, or `EPERM` where without
 /// CAP_SETGID the id is neither the real nor the saved one. A refusal leaves the credential as it was.
@@ -17,7 +17,7 @@ pub fn set_gid(c: &mut Cred, s: &Space, gid: u32) -> Res
     ensures cred { c.new ≡ (setgid s.now c.old gid).cred }
     ensures unchanged { (e : Errno) → result ≡ Err e → c.new ≡ c.old }
 {
-    let new = set_one(&s.gids, has_setgid(c), group_ids(c), gid);
+    let new = set_one(&s.gids, has_setgid(c), c.group_ids(), gid);
     leave(c, new)
 }
 
@@ -29,7 +29,7 @@ pub fn set_regid(c: &mut Cred, s: &Space, r: u32, e: u32) -> Res
     ensures cred { c.new ≡ (setregid s.now c.old r e).cred }
     ensures unchanged { (e : Errno) → result ≡ Err e → c.new ≡ c.old }
 {
-    let new = set_re(&s.gids, has_setgid(c), group_ids(c), r, e);
+    let new = set_re(&s.gids, has_setgid(c), c.group_ids(), r, e);
     leave(c, new)
 }
 
@@ -41,7 +41,7 @@ pub fn set_resgid(c: &mut Cred, s: &Space, r: u32, e: u32, v: u32) -> Res
     ensures cred { c.new ≡ (setresgid s.now c.old r e v).cred }
     ensures unchanged { (e : Errno) → result ≡ Err e → c.new ≡ c.old }
 {
-    let new = set_res(&s.gids, has_setgid(c), group_ids(c), r, e, v);
+    let new = set_res(&s.gids, has_setgid(c), c.group_ids(), r, e, v);
     leave(c, new)
 }
 
@@ -51,9 +51,9 @@ pub fn set_fsgid(c: &mut Cred, s: &Space, f: u32) -> Res
     ensures res { result ≡ (setfsgid s.now c.old f).res }
     ensures cred { c.new ≡ (setfsgid s.now c.old f).cred }
 {
-    let old = group_ids(c);
+    let old = c.group_ids();
     let new = set_fs(&s.gids, has_setgid(c), old, f);
-    put_group_ids(c, new);
+    c.put_group_ids(new);
     Res::Id(seen(&s.gids, old.fs))
 }
 
@@ -65,36 +65,6 @@ pub(crate) fn has_setgid(c: &Cred) -> bool
     c.eff.holds(Cap::SETGID)
 }
 
-#[inline]
-fn group_ids(c: &Cred) -> FourIds
-    ensures { result ≡ c.now.gid }
-{
-    FourIds {
-        real: c.rgid.number(),
-        effective: c.egid.number(),
-        saved: c.sgid.number(),
-        fs: c.fsgid.number(),
-    }
-}
-
-#[inline]
-fn put_group_ids(c: &mut Cred, ids: FourIds)
-    ensures { c.new ≡ record c.old { gid = ids } }
-{
-    c.rgid = kgid(ids.real);
-    c.egid = kgid(ids.effective);
-    c.sgid = kgid(ids.saved);
-    c.fsgid = kgid(ids.fs);
-}
-
-#[inline]
-pub(crate) fn kgid(id: u32) -> Kgid
-    requires { id < 4294967295 }
-    ensures { result ≡ id }
-{
-    Kgid::new(id).unwrap()
-}
-
 // What the call leaves: the new ids, or everything as it was.
 fn leave(c: &mut Cred, new: Result<FourIds, Errno>) -> Res
     ensures res { result ≡ (with_gids c.old new).res }
@@ -103,7 +73,7 @@ fn leave(c: &mut Cred, new: Result<FourIds, Errno>) -> Res
 {
     match new {
         Ok(ids) => {
-            put_group_ids(c, ids);
+            c.put_group_ids(ids);
             Res::Done
         }
         Err(e) => Res::Err(e),

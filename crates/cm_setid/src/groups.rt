@@ -6,7 +6,7 @@ ghost use Rattle.cm_base.specs.declared.res.Res.TheVariants.{Err};
 ghost use Rattle.model_cred.specs.IdMap.{extents_of};
 ghost use Rattle.model_rules.specs.SetGroups.{all_down as model_all_down, setgroups};
 
-use crate::gids::{has_setgid, kgid};
+use crate::gids::has_setgid;
 use crate::mapped::down_in;
 use cm_base::{Errno, Kgid, NoMemory, Res};
 use cm_idmap::IdMap;
@@ -45,7 +45,7 @@ fn all_down(alloc: Global, map: &Option<IdMap>, ids: &[u32]) -> Result<Option<Ve
     let mut all = Vec::with_capacity(alloc, ids.len())?;
     for id in ids {
         match down_in(map, *id) {
-            Some(id) => all.push(kgid(id))?,
+            Some(id) => all.push(Kgid::of(id))?,
             None => return Ok(None),
         }
     }

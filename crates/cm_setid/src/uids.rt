@@ -1,15 +1,15 @@
 // The calls that set user ids: the rules of the four ids, with CAP_SETUID and the caller's map of user ids, and then the
 // fixups of the sets.
-ghost use Rattle.std.specs.Prelude.{◌≡◌, ◌<◌, Result};
+ghost use Rattle.std.specs.Prelude.{◌≡◌, Result};
 ghost use Rattle.cm_base.specs.declared.errno.Errno.{Errno};
 ghost use Rattle.cm_base.specs.declared.res.Res.TheVariants.{Err};
 ghost use Rattle.model_rules.specs.SetId.{has_setuid as model_has_setuid, with_uids, setresuid, setreuid, setuid, setfsuid};
 
 use crate::fixups::{fix_up, fix_up_fs};
-use crate::four::{FourIds, set_fs, set_one, set_re, set_res};
+use crate::four::{set_fs, set_one, set_re, set_res};
 use crate::mapped::seen;
-use cm_base::{Cap, Errno, Kuid, Res};
-use cm_state::{Cred, Space};
+use cm_base::{Cap, Errno, Res};
+use cm_state::{Cred, FourIds, Space};
 
 /// setuid(2) in the caller's space: `Done`, or `EINVAL` for an id without a mapping, as -1, or `EPERM` where without
 /// CAP_SETUID the id is neither the real nor the saved one. A refusal leaves the credential as it was.
@@ -18,7 +18,7 @@ pub fn set_uid(c: &mut Cred, s: &Space, uid: u32) -> Res
     ensures cred { c.new ≡ (setuid s.now c.old uid).cred }
     ensures unchanged { (e : Errno) → result ≡ Err e → c.new ≡ c.old }
 {
-    let new = set_one(&s.uids, has_setuid(c), user_ids(c), uid);
+    let new = set_one(&s.uids, has_setuid(c), c.user_ids(), uid);
     leave(c, s, new)
 }
 
@@ -30,7 +30,7 @@ pub fn set_reuid(c: &mut Cred, s: &Space, r: u32, e: u32) -> Res
     ensures cred { c.new ≡ (setreuid s.now c.old r e).cred }
     ensures unchanged { (e : Errno) → result ≡ Err e → c.new ≡ c.old }
 {
-    let new = set_re(&s.uids, has_setuid(c), user_ids(c), r, e);
+    let new = set_re(&s.uids, has_setuid(c), c.user_ids(), r, e);
     leave(c, s, new)
 }
 
@@ -42,7 +42,7 @@ pub fn set_resuid(c: &mut Cred, s: &Space, r: u32, e: u32, v: u32) -> Res
     ensures cred { c.new ≡ (setresuid s.now c.old r e v).cred }
     ensures unchanged { (e : Errno) → result ≡ Err e → c.new ≡ c.old }
 {
-    let new = set_res(&s.uids, has_setuid(c), user_ids(c), r, e, v);
+    let new = set_res(&s.uids, has_setuid(c), c.user_ids(), r, e, v);
     leave(c, s, new)
 }
 
@@ -52,9 +52,9 @@ pub fn set_fsuid(c: &mut Cred, s: &Space, f: u32) -> Res
     ensures res { result ≡ (setfsuid s.now c.old f).res }
     ensures cred { c.new ≡ (setfsuid s.now c.old f).cred }
 {
-    let old = user_ids(c);
+    let old = c.user_ids();
     let new = set_fs(&s.uids, has_setuid(c), old, f);
-    put_user_ids(c, new);
+    c.put_user_ids(new);
     fix_up_fs(c, s, old.fs);
     Res::Id(seen(&s.uids, old.fs))
 }
@@ -67,36 +67,6 @@ fn has_setuid(c: &Cred) -> bool
     c.eff.holds(Cap::SETUID)
 }
 
-#[inline]
-pub(crate) fn user_ids(c: &Cred) -> FourIds
-    ensures { result ≡ c.now.uid }
-{
-    FourIds {
-        real: c.ruid.number(),
-        effective: c.euid.number(),
-        saved: c.suid.number(),
-        fs: c.fsuid.number(),
-    }
-}
-
-#[inline]
-fn put_user_ids(c: &mut Cred, ids: FourIds)
-    ensures { c.new ≡ record c.old { uid = ids } }
-{
-    c.ruid = kuid(ids.real);
-    c.euid = kuid(ids.effective);
-    c.suid = kuid(ids.saved);
-    c.fsuid = kuid(ids.fs);
-}
-
-#[inline]
-fn kuid(id: u32) -> Kuid
-    requires { id < 4294967295 }
-    ensures { result ≡ id }
-{
-    Kuid::new(id).unwrap()
-}
-
 // What the call leaves: the new ids and the fixups, or everything as it was.
 fn leave(c: &mut Cred, s: &Space, new: Result<FourIds, Errno>) -> Res
     ensures res { result ≡ (with_uids s.now c.old new).res }
@@ -105,8 +75,8 @@ fn leave(c: &mut Cred, s: &Space, new: Result<FourIds, Errno>) -> Res
 {
     match new {
         Ok(ids) => {
-            let old = user_ids(c);
-            put_user_ids(c, ids);
+            let old = c.user_ids();
+            c.put_user_ids(ids);
             fix_up(c, s, old);
             Res::Done
         }

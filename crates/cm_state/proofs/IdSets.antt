@@ -4,13 +4,14 @@ use Rattle.std.proofs.Common.{◌≡◌, ℕ, zero, suc, ◌+◌, ◌<◌, ◌�
 use Rattle.std.specs.List.{All, AllPairs, dedup, dedup_from, list_any}
 use Rattle.std.specs.List.Sorted.{IsPermutation, IsSorted}
 use Rattle.std.proofs.Math.Dec.{eqb}
-use Rattle.std.proofs.lemmas.Bool.{cases_eq, cases_order, cond_both, eqb-true, eqb-false, eq-eqb, ne_eqb, ltb-true, ltb-false, or_from, or_left, true≢false, false≢true}
+use Rattle.std.proofs.lemmas.Bool.{cases_eq, cases_order, cond_both, eqb-true, eq-eqb, ne_eqb, or_from, or_left, true≢false, false≢true}
 use Rattle.std.proofs.lemmas.List.Elements.{All-head, All-tail}
 use Rattle.std.proofs.lemmas.List.Filters.{All-dedup}
 use Rattle.std.proofs.lemmas.List.Kept.{AllPairs-from_increasing}
 use Rattle.std.proofs.lemmas.List.Sorted.{All-permutation, list_any-IsPermutation}
 use Rattle.std.proofs.lemmas.Map.Keys.{IsStrictlyIncreasing-dedup}
 use Rattle.model_cred.specs.Credential.{AscendFrom, IsId, insert_id, id_set}
+use Rattle.model_cred.proofs.IdSets.{insert_ascends}
 
 -- ---- tests in a row
 
@@ -63,18 +64,6 @@ has_deduped [] x = refl
 has_deduped (id ∷ ids) x = has_deduped_from id ids x
 
 -- ---- lists that ascend
-
-insert_ascends : (low id : ℕ) (ids : List ℕ) → low ≤ id → IsId id → AscendFrom low ids → AscendFrom low (insert_id id ids)
-insert_ascends low id [] above small rise = (above, small, tt)
-insert_ascends low id (other ∷ ids) above small rise =
-    cond_both (nat_lt id other) (id ∷ other ∷ ids) (if id == other then other ∷ ids else other ∷ insert_id id ids) (AscendFrom low)
-    (λ less. let below = ltb-true id other less in (above, small, (omega arith, rise.1, rise.2)))
-    (λ not_less. cond_both (id == other) (other ∷ ids) (other ∷ insert_id id ids) (AscendFrom low)
-    (λ _. rise)
-    (λ differs.
-    let high = ltb-false id other not_less in
-    let apart = eqb-false id other differs in
-    (rise.0, rise.1, insert_ascends (other + 1) id ids (omega arith) small rise.2)))
 
 -- the set of a list of ids ascends
 set_ascends : (ids : List ℕ) → All IsId ids → AscendFrom 0 (id_set ids)

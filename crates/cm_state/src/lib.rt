@@ -1,5 +1,5 @@
 //! What the machine keeps and what a log tells, as types. The machine keeps a `State`: its processes (`Procs`, each a
-//! `Proc` with its `Cred` and `Groups`) and its user namespaces (`Spaces`, each a `Space`). A log tells `Event`s, each a
+//! `Proc` with its `Cred`, `FourIds` and `Groups`) and its user namespaces (`Spaces`, each a `Space`). A log tells `Event`s, each a
 //! `Call` with what it was given (`Ids`, `Extents`) and its `Res`.
 //! Contracts see each as the record of the definitions in model_cred.
 #![tactic(auto)]
@@ -8,6 +8,7 @@ mod call;
 mod cred;
 mod event;
 mod extents;
+mod four_ids;
 mod groups;
 mod ids;
 mod proc;
@@ -21,6 +22,7 @@ pub use cm_base::Res;
 pub use cred::Cred;
 pub use event::Event;
 pub use extents::Extents;
+pub use four_ids::FourIds;
 pub use groups::Groups;
 pub use ids::Ids;
 pub use proc::Proc;

@@ -2,18 +2,10 @@
 ghost use Rattle.std.specs.Prelude.{◌≡◌, IfOk};
 ghost use Rattle.model_cred.specs.Process.{Ascends};
 
-use crate::{Cred, Groups, Proc, Procs, Space, Spaces, State};
+use crate::{Cred, FourIds, Groups, Proc, Procs, Space, Spaces, State};
 use cm_base::{CapWord, Kgid, Kuid, NoMemory, Pid, SecBits, SpaceId};
 use std::alloc::Global;
 use std::test::Fail;
-
-fn kuid(id: u32) -> Kuid {
-    Kuid::new(id).unwrap_or(Kuid::new(0).unwrap())
-}
-
-fn kgid(id: u32) -> Kgid {
-    Kgid::new(id).unwrap_or(Kgid::new(0).unwrap())
-}
 
 fn pid(n: u32) -> Pid {
     Pid::new(n).unwrap_or(Pid::new(1).unwrap())
@@ -21,16 +13,16 @@ fn pid(n: u32) -> Pid {
 
 // Credentials with eight ids and two groups.
 fn cred(alloc: Global) -> Result<Cred, NoMemory> {
-    let groups = Groups::make(alloc, &[kgid(27), kgid(4)])?;
+    let groups = Groups::make(alloc, &[Kgid::of(27), Kgid::of(4)])?;
     Ok(Cred {
-        ruid: kuid(1),
-        euid: kuid(2),
-        suid: kuid(3),
-        fsuid: kuid(4),
-        rgid: kgid(5),
-        egid: kgid(6),
-        sgid: kgid(7),
-        fsgid: kgid(8),
+        ruid: Kuid::of(1),
+        euid: Kuid::of(2),
+        suid: Kuid::of(3),
+        fsuid: Kuid::of(4),
+        rgid: Kgid::of(5),
+        egid: Kgid::of(6),
+        sgid: Kgid::of(7),
+        fsgid: Kgid::of(8),
         groups,
         inh: CapWord::empty(),
         prm: CapWord::full(),
@@ -99,12 +91,30 @@ fn are(procs: &Procs, pids: &[u32]) -> bool {
 fn a_copy_of_credentials_has_each_part(rt: HostRuntime) -> Result<(), Fail> {
     let c = cred(rt.alloc())?.copy(rt.alloc())?;
     let uids = [c.ruid, c.euid, c.suid, c.fsuid];
-    assert!(rt; uids == [kuid(1), kuid(2), kuid(3), kuid(4)]);
+    assert!(rt; uids == [Kuid::of(1), Kuid::of(2), Kuid::of(3), Kuid::of(4)]);
     let gids = [c.rgid, c.egid, c.sgid, c.fsgid];
-    assert!(rt; gids == [kgid(5), kgid(6), kgid(7), kgid(8)]);
-    assert!(rt; c.groups.items() == [kgid(4), kgid(27)].as_slice());
+    assert!(rt; gids == [Kgid::of(5), Kgid::of(6), Kgid::of(7), Kgid::of(8)]);
+    assert!(rt; c.groups.items() == [Kgid::of(4), Kgid::of(27)].as_slice());
     assert!(rt; c.prm.bits() == 0x1ff_ffff_ffff && c.eff.bits() == 0);
     assert!(rt; c.sec.bits() == 47 && c.nnp);
+    Ok(())
+}
+
+#[test]
+fn four_ids_are_taken_out_and_put_back(rt: HostRuntime) -> Result<(), Fail> {
+    let mut c = cred(rt.alloc())?;
+    let users = FourIds {
+        real: 1,
+        effective: 2,
+        saved: 3,
+        fs: 4,
+    };
+    assert_eq!(rt; c.user_ids(), users);
+    c.put_group_ids(users);
+    c.put_user_ids(FourIds::all(9));
+    assert_eq!(rt; c.group_ids(), users);
+    assert_eq!(rt; c.user_ids().fs, 9);
+    assert!(rt; users.has(3) && !users.has(4));
     Ok(())
 }
 

@@ -8,9 +8,9 @@ use std::alloc::{AllocError, AllocFailed};
 /// Why a text gives no world.
 #[derive(Clone, Copy, Debug, PartialEq, Eq)]
 pub enum WorldError {
-    /// It has a fault.
+    /// It isn't UTF-8 or isn't TOML, or has a fault and asks for nothing that isn't built.
     Bad,
-    /// It asks for what isn't built, whatever its faults are.
+    /// It is TOML and asks for what isn't built, whatever its faults are.
     NotBuilt,
     /// There was no memory to read it, which says nothing of the text.
     NoMemory,

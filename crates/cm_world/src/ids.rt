@@ -1,62 +1,26 @@
-// The ids that a row declares: one id, the four of a user or a group, and the supplementary groups. The four are plain
-// numbers here; whether they are of users or of groups shows where the credential is made.
+// The ids that a row declares: the four of a user or a group, and the supplementary groups. Whether the four are of users
+// or of groups shows where the credential is made.
 ghost use Rattle.std.specs.Prelude.{◌≡◌, ◌≢◌, ◌<◌, IfOk, IfSome, Some, None, option_map, codes};
 ghost use Rattle.toml.specs.Data.{get_member};
 ghost use Rattle.toml.specs.View.{view, items_view, table_view};
-ghost use Rattle.model_cred.specs.Credential.{all_four, id_set};
+ghost use Rattle.model_cred.specs.Credential.{id_set};
 ghost use Rattle.model_text.specs.ProcessText.{id_value, ids_in_array, ids_value, ids_listed, groups_value};
 
 use crate::WorldError;
 use crate::table::{number_below, value_at};
-use cm_base::{Kgid, Kuid};
-use cm_state::Groups;
+use cm_base::Kgid;
+use cm_state::{FourIds, Groups};
 use std::alloc::Global;
-use std::marker::Model;
 use toml::{Table, Value};
-
-/// The four user ids, or group ids, of a process; each is below 4294967295.
-#[derive(Drop)]
-pub(crate) struct FourIds {
-    pub real: u32,
-    pub effective: u32,
-    pub saved: u32,
-    pub fs: u32,
-}
-
-impl Model for FourIds {
-    ghost use Rattle.std.specs.Prelude.{◌<◌};
-    ghost use Rattle.model_cred.specs.Credential as model;
-
-    ghost Value = { model.FourIds };
-
-    ghost view = { λ i. record { real = i.real; effective = i.effective; saved = i.saved; fs = i.fs } };
-
-    ghost invariant = { λ i. (i.real < 4294967295) × (i.effective < 4294967295) × (i.saved < 4294967295) × (i.fs < 4294967295) };
-}
-
-impl FourIds {
-    /// Four times the one id.
-    fn all_four(id: u32) -> FourIds
-        requires { id < 4294967295 }
-        ensures { result ≡ all_four id }
-    {
-        FourIds {
-            real: id,
-            effective: id,
-            saved: id,
-            fs: id,
-        }
-    }
-}
 
 /// The ids that a row declares at the key: one id for all four, or an array of four; 0 where there is no such key.
 pub(crate) fn ids_value(row: &Table, key: &str) -> Option<FourIds>
     ensures { result ≡ ids_value (get_member key.now (table_view row.now)) }
 {
     match value_at(row, key) {
-        None => Some(FourIds::all_four(0)),
+        None => Some(FourIds::all(0)),
         Some(Value::Array(ids)) => ids_in_array(ids),
-        Some(value) => Some(FourIds::all_four(id_value(value)?)),
+        Some(value) => Some(FourIds::all(id_value(value)?)),
     }
 }
 
@@ -107,7 +71,7 @@ fn groups_listed(alloc: Global, ids: &[Value]) -> Result<Vec<Kgid>, WorldError>
     let mut list = Vec::new(alloc);
     for value in ids {
         let id = id_value(value).ok_or(WorldError::Bad)?;
-        list.push(group(id))?;
+        list.push(Kgid::of(id))?;
     }
     Ok(list)
 }
@@ -118,20 +82,4 @@ fn id_value(value: &Value) -> Option<u32>
     ensures range { IfSome result (λ id. id < 4294967295) }
 {
     number_below(value, u32::MAX)
-}
-
-/// The user of that id.
-pub(crate) fn user(id: u32) -> Kuid
-    requires { id < 4294967295 }
-    ensures { result ≡ id }
-{
-    Kuid::new(id).unwrap()
-}
-
-/// The group of that id.
-pub(crate) fn group(id: u32) -> Kgid
-    requires { id < 4294967295 }
-    ensures { result ≡ id }
-{
-    Kgid::new(id).unwrap()
 }

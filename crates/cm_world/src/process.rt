@@ -8,11 +8,11 @@ ghost use Rattle.model_text.specs.Toml.{has_only};
 
 use crate::WorldError;
 use crate::flags::{no_new_privs_value, securebits_value};
-use crate::ids::{FourIds, group, groups_value, ids_value, user};
+use crate::ids::{groups_value, ids_value};
 use crate::sets::{FiveSets, sets_declared};
 use crate::table::{has_only, number_below, value_at};
-use cm_base::{Pid, SecBits, SpaceId};
-use cm_state::{Cred, Groups, Proc};
+use cm_base::{Kgid, Kuid, Pid, SecBits, SpaceId};
+use cm_state::{Cred, FourIds, Groups, Proc};
 use std::alloc::Global;
 use toml::{Table, Value};
 
@@ -124,14 +124,14 @@ fn cred_of(
     ensures { Some result ≡ credential_of (Some uid) (Some gid) (Some groups) (Some sets) (Some sec.0) (Some nnp) }
 {
     Cred {
-        ruid: user(uid.real),
-        euid: user(uid.effective),
-        suid: user(uid.saved),
-        fsuid: user(uid.fs),
-        rgid: group(gid.real),
-        egid: group(gid.effective),
-        sgid: group(gid.saved),
-        fsgid: group(gid.fs),
+        ruid: Kuid::of(uid.real),
+        euid: Kuid::of(uid.effective),
+        suid: Kuid::of(uid.saved),
+        fsuid: Kuid::of(uid.fs),
+        rgid: Kgid::of(gid.real),
+        egid: Kgid::of(gid.effective),
+        sgid: Kgid::of(gid.saved),
+        fsgid: Kgid::of(gid.fs),
         groups,
         inh: sets.inheritable,
         prm: sets.permitted,

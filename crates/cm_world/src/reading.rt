@@ -16,9 +16,9 @@ use std::alloc::Global;
 use toml::{Table, Value};
 
 /// The world that a text declares (choice; docs/FORMATS.md): the declared processes by ascending pid, each with its
-/// declared parent as its forebear and in the initial space, which stands alone so far. Bad exactly where the text has
-/// a fault: it isn't UTF-8, it isn't TOML, or it says what no world says. NotBuilt exactly where it asks for what isn't
-/// built, whatever its other faults; a text that isn't TOML asks for nothing. NoMemory may come with any text.
+/// declared parent as its forebear and in the initial space, which stands alone so far. NotBuilt exactly where the text is
+/// TOML and asks for what isn't built, whatever its other faults. Bad exactly where it isn't UTF-8 or isn't TOML, or asks
+/// for nothing beyond what is built and says what no world says. NoMemory may come with any text.
 pub fn read_world(alloc: Global, text: &[u8]) -> Result<World, WorldError>
     ensures read { IfOk result (λ w. world_text text.now ≡ Reads (world_of w)) }
     ensures more { IfOk result (λ w. w.more ≡ text_says_more text.now) }

@@ -7,9 +7,9 @@ ghost use Rattle.model_text.specs.CapText.{set_of_text};
 ghost use Rattle.model_text.specs.ProcessText.{set_value, held_by_default, sets_declared, included};
 
 use crate::cap_text::read_cap_text;
-use crate::ids::FourIds;
 use crate::table::value_at;
 use cm_base::CapWord;
+use cm_state::FourIds;
 use std::marker::Model;
 use toml::{Table, Value};
 

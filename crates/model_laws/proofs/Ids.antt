@@ -2,12 +2,13 @@
 use Rattle.std.proofs.Common.{◌≡◌, ℕ, ◌+◌, ◌-◌, ◌<◌, ◌≤◌, ◌==◌, ◌&&◌, ◌||◌, not, Bool, true, false, List, [], ◌∷◌, Option, Some, None, if◌then◌else◌, refl, sym, ◌∙◌, inl, inr, subst, arith}
 use Rattle.std.specs.Prelude.{Result, Ok, option_and_then, option_map, nat_le, nat_lt}
 use Rattle.std.specs.declared.result.Result.TheVariants.{Err}
-use Rattle.std.proofs.lemmas.Bool.{cases_Bool, eqb-false, ltb-true, ltb-false, leb-true, cond-true, cond-false, and_parts}
+use Rattle.std.proofs.lemmas.Bool.{cases_Bool, ltb-true, leb-true, cond-true, cond-false, and_parts}
 use Rattle.std.proofs.lemmas.List.Elements.{All-head, All-tail}
 use Rattle.cm_base.specs.declared.errno.Errno.{Errno}
 use Rattle.cm_base.specs.declared.errno.Errno.TheVariants.{EPERM, EINVAL}
-use Rattle.model_cred.specs.Credential.{FourIds, AreIds, AscendFrom, IsId, insert_id, id_set, all_four, is_one_of_three}
+use Rattle.model_cred.specs.Credential.{FourIds, AreIds, AscendFrom, IsId, id_set, all_four, is_one_of_three}
 use Rattle.model_cred.specs.IdMap.{Extent, HasIds, down, lies_in}
+use Rattle.model_cred.proofs.IdSets.{insert_ascends}
 use Rattle.model_rules.specs.SetGroups.{all_down}
 use Rattle.model_rules.specs.SetId.{asked, minus_one, one_mapped, both_mapped, all_mapped, set_res, set_re, set_one, set_fs, with_fs, saved_after, is_given}
 
@@ -140,27 +141,7 @@ all_down_ids map [] out has is = let e : [] ≡ out = cc in subst AreAllIds e tt
 all_down_ids map (id ∷ ids) out has is =
     all_down_step (down map id) (all_down map ids) out (λ k e. down_id map id k has e) (λ rest e. all_down_ids map ids rest has e) is
 
-insert_ascends : (low id : ℕ) (ids : List ℕ) → low ≤ id → IsId id → AscendFrom low ids → AscendFrom low (insert_id id ids)
-insert_ascends low id [] above small ascends = (above, small, tt)
-insert_ascends low id (other ∷ ids) above small ascends =
-    elim (cases_Bool (nat_lt id other)) [
-      | inl less ↦
-          let below : id < other = ltb-true id other less in
-          let next : id + 1 ≤ other = omega arith in
-          subst (AscendFrom low) (sym (cond-true (nat_lt id other) (id ∷ other ∷ ids) (if id == other then other ∷ ids else other ∷ insert_id id ids) less))
-          (above, small, (next, ascends.1, ascends.2))
-      | inr not_less ↦
-          subst (AscendFrom low) (sym (cond-false (nat_lt id other) (id ∷ other ∷ ids) (if id == other then other ∷ ids else other ∷ insert_id id ids) not_less))
-          (elim (cases_Bool (id == other)) [
-            | inl same ↦ subst (AscendFrom low) (sym (cond-true (id == other) (other ∷ ids) (other ∷ insert_id id ids) same)) ascends
-            | inr differs ↦
-                let high : other ≤ id = ltb-false id other not_less in
-                let next : other + 1 ≤ id = let apart : id ≡ other → ⊥ = eqb-false id other differs in omega arith in
-                subst (AscendFrom low) (sym (cond-false (id == other) (other ∷ ids) (other ∷ insert_id id ids) differs))
-                (ascends.0, ascends.1, insert_ascends (other + 1) id ids next small ascends.2)
-          ])
-    ]
-
+-- the set of a list of ids ascends
 pub id_set_ascends : (ids : List ℕ) → AreAllIds ids → AscendFrom 0 (id_set ids)
 id_set_ascends [] small = tt
 id_set_ascends (id ∷ ids) small = insert_ascends 0 id (id_set ids) (omega arith) small.0 (id_set_ascends ids small.1)

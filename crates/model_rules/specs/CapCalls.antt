@@ -48,7 +48,7 @@ bset_drop c cap =
 abbrev pub may_raise : Credential → ℕ → Bool
 may_raise c cap = holds c.permitted cap && holds c.inheritable cap && not (has_flag c no_cap_ambient_raise)
 
--- prctl(2), PR_CAP_AMBIENT_RAISE: EINVAL for no capability, then EPERM where it may not be raised
+-- prctl(2), PR_CAP_AMBIENT_RAISE: EINVAL for no capability, then EPERM where it may not be raised (the order is a choice)
 abbrev pub amb_raise : Credential → ℕ → Answer
 amb_raise c cap =
     if nat_lt last_cap cap then refused EINVAL c
@@ -64,7 +64,7 @@ abbrev pub amb_clear : Credential → Answer
 amb_clear c = done (record c { ambient = none })
 
 -- The new securebits are allowed (prctl(2), PR_SET_SECUREBITS; capabilities(7), "The securebits flags"): the caller has
--- CAP_SETPCAP, no locked flag changes, no lock is cleared, and there is no bit above 0xff.
+-- CAP_SETPCAP, no locked flag changes, no lock is cleared, and there is no bit above 0xff (choice).
 abbrev pub may_secure : Credential → ℕ → Bool
 may_secure c bits =
     has_setpcap c

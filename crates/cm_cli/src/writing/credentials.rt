@@ -5,7 +5,7 @@ ghost use Rattle.model_text.specs.Report.{text_of, Credentials};
 
 use super::numbers::{put, put_decimal, put_hex2, put_hex16};
 use cm_base::{Kgid, NoMemory, Pid, SpaceId};
-use cm_state::{Cred, Proc};
+use cm_state::{Cred, FourIds, Proc};
 
 /// The credential line of a process.
 #[inline]
@@ -63,55 +63,22 @@ fn put_all_ids(text: &mut Vec<u8>, cred: &Cred) -> Result<(), NoMemory>
     ensures { OnOk result (text.new.items ≡ text.old.items ++ all_ids_text cred.now) }
 {
     put(text, b" uid=")?;
-    put_uids(text, cred)?;
+    put_ids(text, cred.user_ids())?;
     put(text, b" gid=")?;
-    put_gids(text, cred)?;
+    put_ids(text, cred.group_ids())?;
     put(text, b" groups=")?;
     put_groups(text, cred.groups.items())
 }
 
 #[inline]
-fn put_uids(text: &mut Vec<u8>, cred: &Cred) -> Result<(), NoMemory>
-    ensures { OnOk result (text.new.items ≡ text.old.items ++ ids_text cred.now.uid) }
-{
-    put_ids(
-        text,
-        cred.ruid.number(),
-        cred.euid.number(),
-        cred.suid.number(),
-        cred.fsuid.number(),
-    )
-}
-
-#[inline]
-fn put_gids(text: &mut Vec<u8>, cred: &Cred) -> Result<(), NoMemory>
-    ensures { OnOk result (text.new.items ≡ text.old.items ++ ids_text cred.now.gid) }
-{
-    put_ids(
-        text,
-        cred.rgid.number(),
-        cred.egid.number(),
-        cred.sgid.number(),
-        cred.fsgid.number(),
-    )
-}
-
-#[inline]
 #[tactic(auto, unfolding(model_text::specs::Print::ids_text))]
-fn put_ids(
-    text: &mut Vec<u8>,
-    real: u32,
-    effective: u32,
-    saved: u32,
-    fs: u32,
-) -> Result<(), NoMemory>
-    ensures { OnOk result (text.new.items ≡ text.old.items
-        ++ ids_text (record { real = real; effective = effective; saved = saved; fs = fs })) }
+fn put_ids(text: &mut Vec<u8>, ids: FourIds) -> Result<(), NoMemory>
+    ensures { OnOk result (text.new.items ≡ text.old.items ++ ids_text ids) }
 {
-    put_decimal(text, real as u64)?;
-    put_after_comma(text, effective)?;
-    put_after_comma(text, saved)?;
-    put_after_comma(text, fs)
+    put_decimal(text, ids.real as u64)?;
+    put_after_comma(text, ids.effective)?;
+    put_after_comma(text, ids.saved)?;
+    put_after_comma(text, ids.fs)
 }
 
 #[inline]

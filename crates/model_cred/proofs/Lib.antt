@@ -1,0 +1,2 @@
+-- Lemmas of these definitions, by topic.
+pub mod IdSets
