@@ -6,3 +6,4 @@ pub mod FreePids
 pub mod Stepping
 pub mod Leaving
 pub mod Families
+pub mod Errors
