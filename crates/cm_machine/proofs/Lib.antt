@@ -7,3 +7,4 @@ pub mod Stepping
 pub mod Leaving
 pub mod Families
 pub mod Errors
+pub mod Chains

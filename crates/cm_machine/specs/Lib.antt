@@ -1,9 +1,10 @@
--- What the machine's calls come to.
+-- What the machine's calls come to, and what holds of the state that it begins with.
 pub mod Answers
 pub mod Telling
 pub mod Outcomes
 pub mod Births
 pub mod Marks
+pub mod Laws
 pub use Rattle.model_run.specs.Step
 pub use Rattle.model_run.specs.Ruling
 pub use Rattle.model_run.specs.Family

@@ -7,6 +7,7 @@ mod changes;
 mod error;
 mod exits;
 mod family;
+mod laws;
 mod machine;
 mod outside;
 mod own;
@@ -18,6 +19,7 @@ mod step;
 mod telling;
 
 pub use error::StepError;
+pub use laws::read_chains_end;
 pub use machine::Machine;
 
 #[cfg(test)]

@@ -11,7 +11,7 @@ use Rattle.std.proofs.lemmas.List.Kept.{AllPairs-from_increasing}
 use Rattle.std.proofs.lemmas.List.Sorted.{All-permutation, list_any-IsPermutation}
 use Rattle.std.proofs.lemmas.Map.Keys.{IsStrictlyIncreasing-dedup}
 use Rattle.model_cred.specs.Credential.{AscendFrom, IsId, insert_id, id_set}
-use Rattle.model_cred.proofs.IdSets.{insert_ascends}
+use Rattle.model_cred.proofs.IdSets.{set_ascends}
 
 -- ---- tests in a row
 
@@ -64,12 +64,6 @@ has_deduped [] x = refl
 has_deduped (id ∷ ids) x = has_deduped_from id ids x
 
 -- ---- lists that ascend
-
--- the set of a list of ids ascends
-set_ascends : (ids : List ℕ) → All IsId ids → AscendFrom 0 (id_set ids)
-set_ascends [] small = tt
-set_ascends (id ∷ ids) small =
-    insert_ascends 0 id (id_set ids) (omega arith) (All-head IsId id ids small) (set_ascends ids (All-tail IsId id ids small))
 
 -- ids each of which is below all later ones ascend
 ascends_from_pairs : (low : ℕ) (ids : List ℕ) → AllPairs (λ a b. a < b) ids → All (λ a. low ≤ a) ids → All IsId ids → AscendFrom low ids

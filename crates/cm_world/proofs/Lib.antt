@@ -3,3 +3,4 @@ pub mod Members
 pub mod CapTexts
 pub mod Order
 pub mod Placing
+pub mod Keeping

@@ -9,6 +9,7 @@ mod error;
 mod flags;
 mod ids;
 mod later;
+mod laws;
 mod process;
 mod reading;
 mod rows;
@@ -18,6 +19,7 @@ mod world;
 
 pub use cap_text::read_cap_text;
 pub use error::WorldError;
+pub use laws::read_worlds_keep;
 pub use reading::read_world;
 pub use world::{LogForm, World};
 

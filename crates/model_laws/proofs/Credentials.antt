@@ -27,7 +27,8 @@ use Rattle.model_rules.specs.Securebits.{has_flag, keep_caps, no_setuid_fixup, l
 use Rattle.model_rules.specs.SetGroups.{all_down, with_groups, setgroups}
 use Rattle.model_rules.specs.SetId.{with_uids, with_gids, has_setuid, has_setgid, set_fs, setfsuid, setfsgid}
 use Rattle.model_rules.specs.Zero.{is_zero, has_zero}
-use Rattle.model_laws.proofs.Ids.{either, down_id, GivesIds, set_fs_ids, AreAllIds, all_down_ids, id_set_ascends}
+use Rattle.model_cred.proofs.IdSets.{set_ascends}
+use Rattle.model_laws.proofs.Ids.{either, down_id, GivesIds, set_fs_ids, all_down_ids}
 
 -- a set within a set of capabilities is one
 pub within_is_cap_set : (a b : ℕ) → IsTrue (is_within a b) → IsCapSet b → IsCapSet a
@@ -211,9 +212,9 @@ good_setfsgid s c id space keeps = record {
   cred = keeps_gids c (set_fs (extents_of s.gids) (has_setgid c) c.gid id) keeps (set_fs_ids (extents_of s.gids) (has_setgid c) c.gid id space.gids keeps.gid);
 }
 
-good_groups : (c : Credential) (o : Option (List ℕ)) → Keeps c → ((ids : List ℕ) → o ≡ Some ids → AreAllIds ids) → Good (with_groups c o)
+good_groups : (c : Credential) (o : Option (List ℕ)) → Keeps c → ((ids : List ℕ) → o ≡ Some ids → All IsId ids) → Good (with_groups c o)
 good_groups c None keeps small = good_refused EINVAL c keeps
-good_groups c (Some ids) keeps small = good_done (record c { groups = id_set ids }) (keeps_groups c (id_set ids) keeps (id_set_ascends ids (small ids refl)))
+good_groups c (Some ids) keeps small = good_done (record c { groups = id_set ids }) (keeps_groups c (id_set ids) keeps (set_ascends ids (small ids refl)))
 
 pub good_setgroups : (s : Space) (c : Credential) (ids : List ℕ) → KeepsSpace s → Keeps c → Good (setgroups s c ids)
 good_setgroups s c ids space keeps =

@@ -1,14 +1,13 @@
 -- The calls that set ids give ids.
-use Rattle.std.proofs.Common.{◌≡◌, ℕ, ◌+◌, ◌-◌, ◌<◌, ◌≤◌, ◌==◌, ◌&&◌, ◌||◌, not, Bool, true, false, List, [], ◌∷◌, Option, Some, None, if◌then◌else◌, refl, sym, ◌∙◌, inl, inr, subst, arith}
+use Rattle.std.proofs.Common.{◌≡◌, ℕ, ◌+◌, ◌-◌, ◌<◌, ◌≤◌, ◌==◌, ◌&&◌, ◌||◌, not, Bool, true, false, List, [], ◌∷◌, Option, Some, None, if◌then◌else◌, refl, sym, ◌∙◌, inl, inr, subst, arith, All}
 use Rattle.std.specs.Prelude.{Result, Ok, option_and_then, option_map, nat_le, nat_lt}
 use Rattle.std.specs.declared.result.Result.TheVariants.{Err}
 use Rattle.std.proofs.lemmas.Bool.{cases_Bool, ltb-true, leb-true, cond-true, cond-false, and_parts}
-use Rattle.std.proofs.lemmas.List.Elements.{All-head, All-tail}
+use Rattle.std.proofs.lemmas.List.Elements.{All-nil, All-cons, All-head, All-tail}
 use Rattle.cm_base.specs.declared.errno.Errno.{Errno}
 use Rattle.cm_base.specs.declared.errno.Errno.TheVariants.{EPERM, EINVAL}
-use Rattle.model_cred.specs.Credential.{FourIds, AreIds, AscendFrom, IsId, id_set, all_four, is_one_of_three}
+use Rattle.model_cred.specs.Credential.{FourIds, AreIds, IsId, all_four, is_one_of_three}
 use Rattle.model_cred.specs.IdMap.{Extent, HasIds, down, lies_in}
-use Rattle.model_cred.proofs.IdSets.{insert_ascends}
 use Rattle.model_rules.specs.SetGroups.{all_down}
 use Rattle.model_rules.specs.SetId.{asked, minus_one, one_mapped, both_mapped, all_mapped, set_res, set_re, set_one, set_fs, with_fs, saved_after, is_given}
 
@@ -122,26 +121,16 @@ pub set_fs_ids : (map : List Extent) (privileged : Bool) (old : FourIds) (argume
 set_fs_ids map privileged old argument ids are = with_fs_ids privileged old (down map argument) are (λ id is. down_id map argument id ids is)
 
 -- ---- groups
--- each of a list is an id
-abbrev pub AreAllIds : List ℕ → Type 0
-AreAllIds [] = Unit {0}
-AreAllIds (id ∷ ids) = IsId id × AreAllIds ids
-
 -- what a list of ids is mapped to are ids, by what the first and the rest are mapped to
 all_down_step : (first : Option ℕ) (rest : Option (List ℕ)) (out : List ℕ) → ((id : ℕ) → first ≡ Some id → IsId id)
-    → ((ids : List ℕ) → rest ≡ Some ids → AreAllIds ids)
-    → option_and_then (λ f. option_map (λ r. f ∷ r) rest) first ≡ Some out → AreAllIds out
+    → ((ids : List ℕ) → rest ≡ Some ids → All IsId ids)
+    → option_and_then (λ f. option_map (λ r. f ∷ r) rest) first ≡ Some out → All IsId out
 all_down_step None rest out small smalls is = absurd (cc)
 all_down_step (Some id) None out small smalls is = absurd (cc)
 all_down_step (Some id) (Some ids) out small smalls is =
-    let e : (id ∷ ids) ≡ out = cc in subst AreAllIds e (small id refl, smalls ids refl)
+    let e : (id ∷ ids) ≡ out = cc in subst (All IsId) e (All-cons IsId id ids (small id refl) (smalls ids refl))
 
-pub all_down_ids : (map : List Extent) (ids out : List ℕ) → HasIds map → all_down map ids ≡ Some out → AreAllIds out
-all_down_ids map [] out has is = let e : [] ≡ out = cc in subst AreAllIds e tt
+pub all_down_ids : (map : List Extent) (ids out : List ℕ) → HasIds map → all_down map ids ≡ Some out → All IsId out
+all_down_ids map [] out has is = let e : [] ≡ out = cc in subst (All IsId) e (All-nil IsId)
 all_down_ids map (id ∷ ids) out has is =
     all_down_step (down map id) (all_down map ids) out (λ k e. down_id map id k has e) (λ rest e. all_down_ids map ids rest has e) is
-
--- the set of a list of ids ascends
-pub id_set_ascends : (ids : List ℕ) → AreAllIds ids → AscendFrom 0 (id_set ids)
-id_set_ascends [] small = tt
-id_set_ascends (id ∷ ids) small = insert_ascends 0 id (id_set ids) (omega arith) small.0 (id_set_ascends ids small.1)

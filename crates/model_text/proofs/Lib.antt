@@ -5,6 +5,9 @@ pub mod Showing
 pub mod Starts
 pub mod Declared
 pub mod Parents
+pub mod CapTexts
+pub mod Credentials
+pub mod Keeping
 pub mod Places
 pub mod Replays
 pub mod Verdicts

@@ -1,56 +1,86 @@
--- The parents that a world's text declares: the forebear of each process lives.
-use Rattle.std.proofs.Common.{◌≡◌, ℕ, ◌==◌, ◌||◌, Bool, true, false, List, [], ◌∷◌, Option, None, Some, IfSome, refl, ◌∙◌, subst, arith, All}
-use Rattle.std.proofs.lemmas.List.Elements.{All-nil, All-cons, All-weaker}
+-- The parents that a world's text declares: each is the process of an earlier row. So what holds of each process where it
+-- holds of its forebear, if it has one, holds of all.
+use Rattle.std.proofs.Common.{◌≡◌, ◌≢◌, ℕ, ◌==◌, true, false, List, [], ◌∷◌, Option, None, Some, IfSome, is_some, refl, sym, ap, ◌∙◌, subst, inl, inr, arith, All}
+use Rattle.std.proofs.lemmas.Bool.{cond-true, cond-false, eq-eqb, eqb-true, ne_eqb, or_cases}
+use Rattle.std.proofs.lemmas.List.Elements.{All-nil, All-cons, All-head, All-tail, All-weaker}
 use Rattle.std.specs.List.{list_any}
-use Rattle.model_cred.specs.Process.{Process, is_alive}
+use Rattle.model_cred.specs.Process.{Process, process_at, is_alive}
 use Rattle.model_cred.specs.World.{World}
-use Rattle.model_text.proofs.Declared.{in_order_all}
-use Rattle.model_text.proofs.Starts.{Made, start_made, both_true, has_pid_in_order}
-use Rattle.model_text.specs.WorldText.{Reads, world_text, text_says_more, in_order, has_pid, is_among, parents_stand}
+use Rattle.model_text.proofs.Starts.{Made, start_made, both_true, has_pid_in_order, in_order_finds}
+use Rattle.model_text.specs.WorldText.{Reads, world_text, text_says_more, in_order, has_pid, are_distinct, is_among, parents_stand}
 
--- one of the processes has the pid of the forebear, where there is one
-abbrev HasForebear : List Process → Process → Type 0
-HasForebear all p = IfSome p.forebear (λ pid. has_pid pid all ≡ true)
-
--- these pids are among those of the processes
-abbrev AreThere : List ℕ → List Process → Type 0
-AreThere pids all = (pid : ℕ) → list_any (λ other. other == pid) pids ≡ true → has_pid pid all ≡ true
-
-forebear_there : (all : List Process) (pids : List ℕ) (forebear : Option ℕ) → AreThere pids all → is_among pids forebear ≡ true → IfSome forebear (λ pid. has_pid pid all ≡ true)
-forebear_there all pids None there is = tt
-forebear_there all pids (Some pid) there is = there pid is
-
--- a pid more is there, where it is that of one of the processes
-one_more_there : (all : List Process) (pids : List ℕ) (n : ℕ) → has_pid n all ≡ true → AreThere pids all → AreThere (n ∷ pids) all
-one_more_there all pids n is there pid among =
-    elim (n == pid) as (λ (b : Bool). (n == pid) ≡ b → (b || list_any (λ other. other == pid) pids) ≡ true → has_pid pid all ≡ true) [
-      | true ↦ λ same _. let this : n ≡ pid = grind (arith, same) in subst (λ (m : ℕ). has_pid m all ≡ true) this is
-      | false ↦ λ _ rest. there pid rest
-    ] refl among
-
--- the forebears of processes that are among others are there, where each stands among these pids or those before it
-forebears_there : (all : List Process) (pids : List ℕ) (ps : List Process) → AreThere pids all → ((pid : ℕ) → has_pid pid ps ≡ true → has_pid pid all ≡ true) → parents_stand pids ps ≡ true → All (HasForebear all) ps
-forebears_there all pids [] there among stand = All-nil (HasForebear all)
-forebears_there all pids (p ∷ ps) there among stand =
-    let parts : (is_among pids p.forebear ≡ true) × (parents_stand (p.pid ∷ pids) ps ≡ true) = both_true (is_among pids p.forebear) (parents_stand (p.pid ∷ pids) ps) stand in
-    let own : has_pid p.pid all ≡ true = among p.pid (grind (arith)) in
-    All-cons (HasForebear all) p ps (forebear_there all pids p.forebear there parts.0)
-    (forebears_there all (p.pid ∷ pids) ps (one_more_there all pids p.pid own there) (λ pid is. among pid (grind (arith, is))) parts.1)
-
+-- ---- each is found by its pid
 alive_by_pid : (pid : ℕ) (ps : List Process) → is_alive ps pid ≡ has_pid pid ps
 alive_by_pid pid [] = refl
 alive_by_pid pid (p ∷ ps) = grind (arith, alive_by_pid pid ps)
 
--- a forebear is as alive in the order of the pids
-lives_in_order : (ps : List Process) (forebear : Option ℕ) → IfSome forebear (λ pid. has_pid pid ps ≡ true) → IfSome forebear (λ pid. is_alive (in_order ps) pid ≡ true)
-lives_in_order ps None there = tt
-lives_in_order ps (Some pid) there = alive_by_pid pid (in_order ps) ∙ has_pid_in_order pid ps ∙ there
+-- the process is the one that is found by its pid
+abbrev IsFound : List Process → Process → Type 0
+IsFound all p = process_at all p.pid ≡ Some p
 
--- the forebear of each process in the world of a text lives
-pub start_forebears : (bytes : List ℕ) (w : World) → world_text bytes ≡ Reads w → All (λ p. IfSome p.forebear (λ pid. is_alive w.start.processes pid ≡ true)) w.start.processes
-start_forebears bytes w is =
-    let made : Made w (text_says_more bytes) = start_made bytes w is in
-    let all : List Process = made.processes in
-    let there : All (HasForebear all) all = forebears_there all [] all (λ pid none. absurd (cc)) (λ pid has. has) made.parents in
-    subst (λ (x : World). All (λ p. IfSome p.forebear (λ pid. is_alive x.start.processes pid ≡ true)) x.start.processes) made.world
-    (All-weaker (HasForebear all) (λ p. IfSome p.forebear (λ pid. is_alive (in_order all) pid ≡ true)) (λ p has. lives_in_order all p.forebear has) (in_order all) (in_order_all (HasForebear all) all there))
+-- also behind another, whose pid none of them has
+found_behind : (p : Process) (ps : List Process) (q : Process) → has_pid p.pid ps ≡ false → IsFound ps q → IsFound (p ∷ ps) q
+found_behind p ps q free is =
+    cond-false (p.pid == q.pid) (Some p) (process_at ps q.pid) (ne_eqb p.pid q.pid other) ∙ is
+  where
+    other : p.pid ≢ q.pid
+    other same =
+        let alive : true ≡ has_pid q.pid ps = sym (ap is_some is) ∙ alive_by_pid q.pid ps in
+        let wrong : true ≡ false = alive ∙ sym (ap (λ (n : ℕ). has_pid n ps) same) ∙ free in
+        cc
+
+-- so is each, where no pid stands twice
+each_found : (ps : List Process) → are_distinct ps ≡ true → All (IsFound ps) ps
+each_found [] distinct = All-nil (IsFound [])
+each_found (p ∷ ps) distinct =
+    let free : has_pid p.pid ps ≡ false = grind (arith, distinct) in
+    let others : All (IsFound ps) ps = each_found ps (grind (arith, distinct)) in
+    All-cons (IsFound (p ∷ ps)) p ps
+    (cond-true (p.pid == p.pid) (Some p) (process_at ps p.pid) (eq-eqb p.pid p.pid refl))
+    (All-weaker (IsFound ps) (IsFound (p ∷ ps)) (λ q is. found_behind p ps q free is) ps others)
+
+-- ---- from the forebear to the process
+-- It holds of a process where it holds of its forebear, if it has one.
+abbrev pub FollowsForebear : (ℕ → Type 0) → List Process → Type 0
+FollowsForebear P all = (p : Process) → process_at all p.pid ≡ Some p → IfSome p.forebear P → P p.pid
+
+-- It holds of each of these pids.
+abbrev HoldsAmong : (ℕ → Type 0) → List ℕ → Type 0
+HoldsAmong P pids = (pid : ℕ) → list_any (λ other. other == pid) pids ≡ true → P pid
+
+module _ (P : ℕ → Type 0) where
+  forebear_holds : (pids : List ℕ) (forebear : Option ℕ) → HoldsAmong P pids → is_among pids forebear ≡ true → IfSome forebear P
+  forebear_holds pids None holds among = tt
+  forebear_holds pids (Some pid) holds among = holds pid among
+
+  one_more_holds : (pids : List ℕ) (n : ℕ) → P n → HoldsAmong P pids → HoldsAmong P (n ∷ pids)
+  one_more_holds pids n first holds pid among =
+      elim (or_cases (n == pid) (list_any (λ other. other == pid) pids) among) [
+        | inl same ↦ subst P (eqb-true n pid same) first
+        | inr later ↦ holds pid later
+      ]
+
+  -- it holds of the processes of rows, whose parents are among these pids or of earlier rows
+  rows_hold : (all : List Process) (pids : List ℕ) (ps : List Process) → FollowsForebear P all → HoldsAmong P pids → All (IsFound all) ps
+      → parents_stand pids ps ≡ true → (pid : ℕ) → has_pid pid ps ≡ true → P pid
+  rows_hold all pids [] follows holds found stand pid has = absurd (cc)
+  rows_hold all pids (p ∷ ps) follows holds found stand pid has =
+      let (among, later) = both_true (is_among pids p.forebear) (parents_stand (p.pid ∷ pids) ps) stand in
+      let own : P p.pid = follows p (All-head (IsFound all) p ps found) (forebear_holds pids p.forebear holds among) in
+      elim (or_cases (p.pid == pid) (has_pid pid ps) has) [
+        | inl same ↦ subst P (eqb-true p.pid pid same) own
+        | inr behind ↦
+            rows_hold all (p.pid ∷ pids) ps follows (one_more_holds pids p.pid own holds) (All-tail (IsFound all) p ps found) later pid behind
+      ]
+
+  -- it holds of each process that lives at the begin of the world of a text
+  pub start_from_forebears : (bytes : List ℕ) (w : World) → world_text bytes ≡ Reads w → FollowsForebear P w.start.processes
+      → (pid : ℕ) → is_alive w.start.processes pid ≡ true → P pid
+  start_from_forebears bytes w is =
+      let made : Made w (text_says_more bytes) = start_made bytes w is in
+      let ps : List Process = made.processes in
+      subst (λ (x : World). FollowsForebear P x.start.processes → (pid : ℕ) → is_alive x.start.processes pid ≡ true → P pid) made.world
+      (λ follows pid alive.
+      rows_hold ps [] ps (λ p found. follows p (in_order_finds ps made.distinct p.pid ∙ found)) (λ n none. absurd (cc))
+      (each_found ps made.distinct) made.parents pid
+      (sym (alive_by_pid pid (in_order ps) ∙ has_pid_in_order pid ps) ∙ alive))
