@@ -1,12 +1,11 @@
 // Replays of the calls that set ids and groups, from worlds that declare whole credentials. The reports are written by
 // hand from the calls' manual pages.
 use crate::Status;
-use crate::tests::check;
+use crate::tests::{check_bad_lines, check_rows};
 use std::test::Fail;
 
 #[test]
 fn calls_are_replayed(rt: HostRuntime) -> Result<(), Fail> {
-    let alloc = rt.alloc();
     // What is declared of process 100, a log, and its report.
     let rows: [(&str, &str, Status, &[&str]); 17] = [
         // A real id that is given makes the saved id the new effective one, which is 0, so nothing is lost.
@@ -232,48 +231,34 @@ fn calls_are_replayed(rt: HostRuntime) -> Result<(), Fail> {
             ],
         ),
     ];
-    for (keys, log, status, pieces) in rows {
-        let world = format!(in alloc; "log = \"script\"\n[[process]]\npid = 100\n{keys}\n")?;
-        check(&rt, alloc, world.as_str(), log, status, pieces)?;
-    }
-    Ok(())
+    check_rows(&rt, rt.alloc(), &rows)
 }
 
 #[test]
 fn lines_of_calls_are_read(rt: HostRuntime) -> Result<(), Fail> {
-    let alloc = rt.alloc();
-    let root =
-        "> 100 init uid=0,0,0,0 gid=0,0,0,0 groups=- inh=0000000000000000 prm=000001ffffffffff eff=000001ffffffffff bnd=000001ffffffffff amb=0000000000000000 sec=00 nnp=0\n";
-    let world = "log = \"script\"\n[[process]]\npid = 100\n";
-    for log in [
-        "100 setuid = 0",
-        "100 setuid 0 0 = 0",
-        "100 setuid 0",
-        "100 setuid 0 = 00",
-        "100 setuid 0 = 0 0",
-        "100 setreuid 0 = 0",
-        "100 setreuid 0 0 0 = 0",
-        "100 setgid x = 0",
-        "100 setregid 0 = 0",
-        "100 setresgid 0 0 = 0",
-        "100 setresgid 0 0 0 = 1",
-        "100 setfsuid 0 = EPERM",
-        "100 setfsuid 0 = -1",
-        "100 setfsgid 0 = 4294967296",
-        "100 setgroups 1 2",
-        "100 setgroups 1 = = 0",
-        "100 setgroups 1 -2 = 0",
-        "100 setgroups 1,2 = 0",
-        "100 setgroups =",
-    ] {
-        check(
-            &rt,
-            alloc,
-            world,
-            log,
-            Status::BadLog,
-            &[root, "bad log line 1\n"],
-        )?;
-    }
-    Ok(())
+    check_bad_lines(
+        &rt,
+        rt.alloc(),
+        &[
+            "100 setuid = 0",
+            "100 setuid 0 0 = 0",
+            "100 setuid 0",
+            "100 setuid 0 = 00",
+            "100 setuid 0 = 0 0",
+            "100 setreuid 0 = 0",
+            "100 setreuid 0 0 0 = 0",
+            "100 setgid x = 0",
+            "100 setregid 0 = 0",
+            "100 setresgid 0 0 = 0",
+            "100 setresgid 0 0 0 = 1",
+            "100 setfsuid 0 = EPERM",
+            "100 setfsuid 0 = -1",
+            "100 setfsgid 0 = 4294967296",
+            "100 setgroups 1 2",
+            "100 setgroups 1 = = 0",
+            "100 setgroups 1 -2 = 0",
+            "100 setgroups 1,2 = 0",
+            "100 setgroups =",
+        ],
+    )
 }

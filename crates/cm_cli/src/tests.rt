@@ -91,6 +91,28 @@ pub(crate) fn check(
     Ok(())
 }
 
+// So it is for each row: what a world declares of process 100 beside its pid, a log, its status and its report.
+pub(crate) fn check_rows(
+    rt: &impl Abort,
+    alloc: Global,
+    rows: &[(&str, &str, Status, &[&str])],
+) -> Result<(), Fail> {
+    for (keys, log, status, pieces) in rows {
+        let world = format!(in alloc; "log = \"script\"\n[[process]]\npid = 100\n{keys}\n")?;
+        check(rt, alloc, world.as_str(), log, *status, pieces)?;
+    }
+    Ok(())
+}
+
+// Each of these lines is bad as the only one of a log.
+pub(crate) fn check_bad_lines(rt: &impl Abort, alloc: Global, lines: &[&str]) -> Result<(), Fail> {
+    let report = [ROOT, "bad log line 1\n"];
+    for line in lines {
+        check(rt, alloc, ROOT_WORLD, line, Status::BadLog, &report)?;
+    }
+    Ok(())
+}
+
 #[test]
 fn logs_are_replayed(rt: HostRuntime) -> Result<(), Fail> {
     let rows: [(&str, &str, Status, &[&str]); 12] = [
@@ -212,37 +234,37 @@ fn lines_are_read(rt: HostRuntime) -> Result<(), Fail> {
         let report = [ROOT, told, SEVEN, "end 1\n"];
         check(&rt, alloc, ROOT_WORLD, log, Status::Accepted, &report)?;
     }
-    for log in [
-        "100",
-        "0 setresuid 0 0 0 = 0",
-        "4194305 setresuid 0 0 0 = 0",
-        "-1 setresuid 0 0 0 = 0",
-        "setresuid 0 0 0 = 0",
-        "100\x0bsetresuid 0 0 0 = 0",
-        "100 setresuid32 0 0 0 = 0",
-        "100 SETUID 0 = 0",
-        "100 ; setuid",
-        "100 setresuid 0 0 0",
-        "100 setresuid 0 0 0 =",
-        "100 setresuid 0 0 0 =0",
-        "100 setresuid 0 0 0 = 00",
-        "100 setresuid 0 0 0 = -1",
-        "100 setresuid 0 0 0 = EFOO",
-        "100 setresuid 0 0 0 = eperm",
-        "100 setresuid 0 0 0 = 0 ;",
-        "100 setresuid 0 0 = 0",
-        "100 setresuid 0 0 0 0 = 0",
-        "100 setresuid 0 0 = = 0",
-        "100 setresuid 0 0 -2 = 0",
-        "100 setresuid 0 4294967296 0 = 0",
-        "100 setresuid 0x0 0 0 = 0",
-        "101 setresuid 0 0 0 =",
-        "\u{e9}",
-    ] {
-        let report = [ROOT, "bad log line 1\n"];
-        check(&rt, alloc, ROOT_WORLD, log, Status::BadLog, &report)?;
-    }
-    Ok(())
+    check_bad_lines(
+        &rt,
+        alloc,
+        &[
+            "100",
+            "0 setresuid 0 0 0 = 0",
+            "4194305 setresuid 0 0 0 = 0",
+            "-1 setresuid 0 0 0 = 0",
+            "setresuid 0 0 0 = 0",
+            "100\x0bsetresuid 0 0 0 = 0",
+            "100 setresuid32 0 0 0 = 0",
+            "100 SETUID 0 = 0",
+            "100 ; setuid",
+            "100 setresuid 0 0 0",
+            "100 setresuid 0 0 0 =",
+            "100 setresuid 0 0 0 =0",
+            "100 setresuid 0 0 0 = 00",
+            "100 setresuid 0 0 0 = -1",
+            "100 setresuid 0 0 0 = EFOO",
+            "100 setresuid 0 0 0 = eperm",
+            "100 setresuid 0 0 0 = 0 ;",
+            "100 setresuid 0 0 = 0",
+            "100 setresuid 0 0 0 0 = 0",
+            "100 setresuid 0 0 = = 0",
+            "100 setresuid 0 0 -2 = 0",
+            "100 setresuid 0 4294967296 0 = 0",
+            "100 setresuid 0x0 0 0 = 0",
+            "101 setresuid 0 0 0 =",
+            "\u{e9}",
+        ],
+    )
 }
 
 #[test]

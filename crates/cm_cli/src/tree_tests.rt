@@ -1,12 +1,11 @@
 // Replays of capset, of the calls of prctl, of births and exits. The reports are written by hand from the calls' manual
 // pages.
 use crate::Status;
-use crate::tests::check;
+use crate::tests::{check_bad_lines, check_rows};
 use std::test::Fail;
 
 #[test]
 fn trees_and_sets_are_replayed(rt: HostRuntime) -> Result<(), Fail> {
-    let alloc = rt.alloc();
     // What is declared of process 100, a log, and its report.
     let rows: [(&str, &str, Status, &[&str]); 7] = [
         // A child is printed behind its parent, an exit prints no credentials, and a pid that is alive is in use.
@@ -119,48 +118,34 @@ fn trees_and_sets_are_replayed(rt: HostRuntime) -> Result<(), Fail> {
             ],
         ),
     ];
-    for (keys, log, status, pieces) in rows {
-        let world = format!(in alloc; "log = \"script\"\n[[process]]\npid = 100\n{keys}\n")?;
-        check(&rt, alloc, world.as_str(), log, status, pieces)?;
-    }
-    Ok(())
+    check_rows(&rt, rt.alloc(), &rows)
 }
 
 #[test]
 fn lines_of_them_are_read(rt: HostRuntime) -> Result<(), Fail> {
-    let alloc = rt.alloc();
-    let root =
-        "> 100 init uid=0,0,0,0 gid=0,0,0,0 groups=- inh=0000000000000000 prm=000001ffffffffff eff=000001ffffffffff bnd=000001ffffffffff amb=0000000000000000 sec=00 nnp=0\n";
-    let world = "log = \"script\"\n[[process]]\npid = 100\n";
-    for log in [
-        "100 capset all all = 0",
-        "100 capset all all all all = 0",
-        "100 capset all CAP_NONE all = 0",
-        "100 capset 1ff all all = 0",
-        "100 bset_drop = 0",
-        "100 bset_drop -1 = 0",
-        "100 bset_drop cap_kill = 0",
-        "100 amb_raise 4294967296 = 0",
-        "100 amb_clear 0 = 0",
-        "100 securebits 0x10 = 0",
-        "100 keepcaps -1 = 0",
-        "100 no_new_privs = 0",
-        "100 fork = 0",
-        "100 fork = 4194305",
-        "100 fork = -1",
-        "100 fork 101 = 101",
-        "100 exit = 00",
-        "100 exit = EPERM",
-        "100 exit 0 = 0",
-    ] {
-        check(
-            &rt,
-            alloc,
-            world,
-            log,
-            Status::BadLog,
-            &[root, "bad log line 1\n"],
-        )?;
-    }
-    Ok(())
+    check_bad_lines(
+        &rt,
+        rt.alloc(),
+        &[
+            "100 capset all all = 0",
+            "100 capset all all all all = 0",
+            "100 capset all CAP_NONE all = 0",
+            "100 capset 1ff all all = 0",
+            "100 bset_drop = 0",
+            "100 bset_drop -1 = 0",
+            "100 bset_drop cap_kill = 0",
+            "100 amb_raise 4294967296 = 0",
+            "100 amb_clear 0 = 0",
+            "100 securebits 0x10 = 0",
+            "100 keepcaps -1 = 0",
+            "100 no_new_privs = 0",
+            "100 fork = 0",
+            "100 fork = 4194305",
+            "100 fork = -1",
+            "100 fork 101 = 101",
+            "100 exit = 00",
+            "100 exit = EPERM",
+            "100 exit 0 = 0",
+        ],
+    )
 }

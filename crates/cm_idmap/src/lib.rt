@@ -5,12 +5,10 @@
 mod extent;
 mod fault;
 mod map;
-mod memory;
 
 pub use extent::Extent;
 pub use fault::BadMap;
 pub use map::IdMap;
-pub use memory::NoMemory;
 
 #[cfg(test)]
 mod tests;

@@ -1,6 +1,7 @@
 // An id map: a list of extents that is one by user_namespaces(7), with what it takes an id to, both ways.
 ghost use Rattle.std.specs.Prelude.{◌≡◌, ℕ, ◌<◌, ◌↔◌, None, Some, IfOk, IfSome};
 ghost use Rattle.std.specs.declared.result.Result.TheVariants.{Err};
+ghost use Rattle.cm_base.specs.Outcome.{OrNoMemory};
 ghost use Rattle.model_cred.specs.IdMap.{down, up, initial_map, Maps};
 ghost use Rattle.model_cred.specs.MapFault.{map_fault};
 ghost use Rattle.cm_idmap.specs.Fault.{fault_of};
@@ -8,7 +9,8 @@ ghost use Rattle.cm_idmap.specs.declared.fault.BadMap.{BadMap};
 ghost use Rattle.cm_idmap.specs.declared.fault.BadMap.TheVariants as answer;
 
 use crate::fault::first_fault;
-use crate::{BadMap, Extent, NoMemory};
+use crate::{BadMap, Extent};
+use cm_base::NoMemory;
 use std::alloc::Global;
 use std::marker::Model;
 
@@ -48,9 +50,10 @@ impl IdMap {
         }
     }
 
-    /// The map of the initial user namespace, `0 0 4294967295`: each id stands for itself.
+    /// The map of the initial user namespace, `0 0 4294967295`: each id stands for itself (user_namespaces(7)). Its only
+    /// error is want of memory.
     pub fn initial(alloc: Global) -> Result<IdMap, NoMemory>
-        ensures { IfOk result (λ m. m ≡ initial_map) }
+        ensures { OrNoMemory result (λ m. m ≡ initial_map) }
     {
         let all = Extent {
             inside: 0,
@@ -98,9 +101,9 @@ impl IdMap {
         &self.list
     }
 
-    /// An equal map.
+    /// An equal map. Its only error is want of memory.
     pub fn copy(&self, alloc: Global) -> Result<IdMap, NoMemory>
-        ensures { IfOk result (λ m. m ≡ self.now) }
+        ensures { OrNoMemory result (λ m. m ≡ self.now) }
     {
         let list = Vec::from_slice(alloc, &self.list)?;
         Ok(IdMap { list })

@@ -46,11 +46,11 @@ impl Space {
     pub fn initial(alloc: Global) -> Result<Space, NoMemory>
         ensures { OrNoMemory result (λ s. s ≡ initial_space) }
     {
-        let uids = IdMap::initial(alloc).map_err(|_| NoMemory)?;
-        let gids = IdMap::initial(alloc).map_err(|_| NoMemory)?;
+        let uids = IdMap::initial(alloc)?;
+        let gids = IdMap::initial(alloc)?;
         Ok(Space {
             parent: None,
-            owner: Kuid::new(0).unwrap(),
+            owner: Kuid::of(0),
             uids: Some(uids),
             gids: Some(gids),
             deny: false,
@@ -81,7 +81,7 @@ fn copy_map(alloc: Global, map: &Option<IdMap>) -> Result<Option<IdMap>, NoMemor
     match map {
         None => Ok(None),
         Some(map) => {
-            let copy = map.copy(alloc).map_err(|_| NoMemory)?;
+            let copy = map.copy(alloc)?;
             Ok(Some(copy))
         }
     }
