@@ -2,9 +2,10 @@
 //
 //   drop_uids STATUS
 //
-// STATUS gets one line for the start and one for each call: the numbers of Uid (real, effective, saved, fs), CapPrm and
-// CapEff of /proc/self/status. To be run as root; see record.py.
+// STATUS gets one line for the start and one for each call: the lines of /proc/self/status that tell of credentials, and
+// the securebits, each behind its name, with "; " between them. To be run as root; see record.py.
 #define _GNU_SOURCE
+#include <ctype.h>
 #include <stdio.h>
 #include <stdlib.h>
 #include <string.h>
@@ -13,34 +14,40 @@
 
 static FILE *out;
 
+// The lines that tell of credentials, in the order in which proc(5) has them.
+static const char *const names[] = {"Uid:", "Gid:", "Groups:", "CapInh:", "CapPrm:", "CapEff:", "CapBnd:", "CapAmb:", "NoNewPrivs:"};
+
 static void fail(const char *what)
 {
     perror(what);
     exit(1);
 }
 
+static int tells_of_credentials(const char *line)
+{
+    for (size_t i = 0; i < sizeof names / sizeof *names; i++)
+        if (!strncmp(line, names[i], strlen(names[i])))
+            return 1;
+    return 0;
+}
+
 // One line of the status file.
 static void show(void)
 {
-    char line[256], prm[64] = "", eff[64] = "";
-    unsigned r = 0, e = 0, s = 0, f = 0;
-    int ids = 0;
+    char line[4096];
     FILE *in = fopen("/proc/self/status", "r");
 
     if (!in)
         fail("/proc/self/status");
     while (fgets(line, sizeof line, in)) {
-        if (!strncmp(line, "Uid:", 4))
-            ids = sscanf(line + 4, "%u %u %u %u", &r, &e, &s, &f);
-        sscanf(line, "CapPrm: %63s", prm);
-        sscanf(line, "CapEff: %63s", eff);
+        if (!tells_of_credentials(line))
+            continue;
+        for (char *c = line; *c && *c != '\n'; c++)
+            fputc(isspace((unsigned char)*c) ? ' ' : *c, out);
+        fputs("; ", out);
     }
     fclose(in);
-    if (ids != 4 || !*prm || !*eff) {
-        fprintf(stderr, "/proc/self/status hasn't the lines Uid, CapPrm and CapEff\n");
-        exit(1);
-    }
-    fprintf(out, "uid=%u,%u,%u,%u prm=%s eff=%s\n", r, e, s, f, prm, eff);
+    fprintf(out, "Securebits: %d\n", prctl(PR_GET_SECUREBITS));
 }
 
 // A call that must be done.
@@ -68,10 +75,6 @@ int main(int argc, char **argv)
     if (argc != 2) {
         fprintf(stderr, "usage: drop_uids STATUS\n");
         return 2;
-    }
-    if (prctl(PR_GET_SECUREBITS) != 0) {
-        fprintf(stderr, "the securebits are to be 0\n");
-        return 1;
     }
     out = fopen(argv[1], "w");
     if (!out)

@@ -7,8 +7,8 @@ To be run as root. Needs a C compiler (cc) and strace. It writes beside itself:
 
   drop_uids.strace   what strace wrote, as it is
   drop_uids.log      its setresuid lines as a script log, one line for each
-  world.toml         the process with its pid and the four user ids of its start
-  status.txt         what the process saw of itself in /proc/self/status, at the start and after each call
+  world.toml         the process with its pid and its whole credential at the start
+  status.txt         what the process saw of itself, at the start and after each call, one line each (drop_uids.c)
 """
 import os
 import re
@@ -16,10 +16,10 @@ import subprocess
 import sys
 import tempfile
 
-HERE = os.path.dirname(os.path.abspath(__file__))
+from compare import HERE, Seen
+
 CALL = re.compile(r"(\d+) +setresuid\((-?\d+), (-?\d+), (-?\d+)\) += (?:(0)|-1 ([A-Z0-9]+) \(.*\))$")
 EXIT = re.compile(r"\d+ +\+\+\+ exited with 0 \+\+\+$")
-START = re.compile(r"uid=(\d+),(\d+),(\d+),(\d+) ")
 
 
 def run(words):
@@ -57,8 +57,7 @@ def main():
         sys.exit("record.py: more than one process, or another number of calls than of status lines")
     put("drop_uids.strace", trace)
     put("drop_uids.log", "".join(line + "\n" for _, line in calls))
-    put("world.toml", 'log = "script"\n\n[[process]]\npid = %s\nuid = [%s]\n' % (
-        pids.pop(), ", ".join(START.match(status).groups())))
+    put("world.toml", 'log = "script"\n\n' + Seen(status.splitlines()[0]).row(pids.pop()))
     put("status.txt", status)
     print(f"{len(calls)} calls recorded")
 
