@@ -142,4 +142,13 @@ fn words_are_sets(rt: HostRuntime) {
     assert_eq!(rt; CapWord::empty().with(kill).bits(), 0x20);
     assert!(rt; word.within(CapWord::full()) && !CapWord::full().within(word));
     assert!(rt; SecBits(0x2f).has(0x20) && !SecBits(0x2f).has(0x10));
+    // The bits of linux/securebits.h.
+    assert_eq!(rt;
+        [SecBits::NO_SETUID_FIXUP, SecBits::KEEP_CAPS],
+        [1 << 2, 1 << 4]
+    );
+    assert_eq!(rt;
+        [SecBits::KEEP_CAPS_LOCKED, SecBits::NO_CAP_AMBIENT_RAISE],
+        [1 << 5, 1 << 6]
+    );
 }

@@ -109,16 +109,16 @@ impl CapWord {
 pub struct SecBits(pub u8);
 
 impl SecBits {
-    /// SECBIT_NO_SETUID_FIXUP.
+    /// SECBIT_NO_SETUID_FIXUP (capabilities(7), "The securebits flags").
     pub const NO_SETUID_FIXUP: u8 = 0x04;
 
-    /// SECBIT_KEEP_CAPS.
+    /// SECBIT_KEEP_CAPS (capabilities(7), "The securebits flags").
     pub const KEEP_CAPS: u8 = 0x10;
 
-    /// SECBIT_KEEP_CAPS_LOCKED.
+    /// SECBIT_KEEP_CAPS_LOCKED (capabilities(7), "The securebits flags").
     pub const KEEP_CAPS_LOCKED: u8 = 0x20;
 
-    /// SECBIT_NO_CAP_AMBIENT_RAISE.
+    /// SECBIT_NO_CAP_AMBIENT_RAISE (capabilities(7), "The securebits flags").
     pub const NO_CAP_AMBIENT_RAISE: u8 = 0x40;
 
     /// One of these bits is set; of several, it needn't be all.

@@ -30,8 +30,8 @@ pub fn keep_caps(c: &mut Cred, v: u32) -> Res
     Res::Done
 }
 
-/// PR_SET_NO_NEW_PRIVS of prctl(2): `Done`, and no_new_privs is set, or `EINVAL` for another argument than 1. No call
-/// clears it, and nothing else changes. A refusal leaves the credential as it was.
+/// PR_SET_NO_NEW_PRIVS of prctl(2): `Done`, and no_new_privs is set, or `EINVAL` for another argument than 1, so that this
+/// call never clears it. Nothing else changes. A refusal leaves the credential as it was.
 pub fn no_new_privs(c: &mut Cred, v: u32) -> Res
     ensures res { result ≡ (set_no_new_privs c.old v).res }
     ensures cred { c.new ≡ (set_no_new_privs c.old v).cred }

@@ -46,9 +46,9 @@ impl Machine {
         ensures no_process { result ≡ Err StepError.NoProcess → outcome (world_of w.now) self.old.state e.now ≡ outcome.NoProcess }
         ensures no_space { result ≡ Err StepError.NoSpace → outcome (world_of w.now) self.old.state e.now ≡ outcome.NoSpace }
         ensures pid_in_use { result ≡ Err StepError.PidInUse → outcome (world_of w.now) self.old.state e.now ≡ outcome.PidInUse }
-        ensures told_error { (error : Errno) → e.now.res ≡ Res.Err error → self.new ≡ self.old }
         ensures wrong { (given : Res) → result ≡ Err (StepError.Wrong given) → outcome (world_of w.now) self.old.state e.now ≡ outcome.Wrong given }
         ensures unchanged { UnchangedOnErr result self.new self.old }
+        ensures told_error { (error : Errno) → e.now.res ≡ Res.Err error → self.new ≡ self.old }
     {
         take_step(alloc, &mut self.state, e)
     }
@@ -66,11 +66,11 @@ impl Machine {
         call: &Call,
     ) -> Result<Res, StepError>
         ensures makes { IfOk result (λ res. IsOwn (world_of w.now) self.old.state pid (call_of call.now) res self.new.state) }
-        ensures refused { (error : Errno) → result ≡ Ok (Res.Err error) → self.new ≡ self.old }
         ensures no_process { result ≡ Err StepError.NoProcess → process_at self.old.state.processes pid ≡ None }
         ensures no_space { result ≡ Err StepError.NoSpace → (is_alive self.old.state.processes pid ≡ true) × (names_no_space self.old.state.spaces (call_of call.now) ≡ true) }
         ensures no_other { IfErr result IsNoAnswer }
         ensures unchanged { UnchangedOnErr result self.new self.old }
+        ensures refused { (error : Errno) → result ≡ Ok (Res.Err error) → self.new ≡ self.old }
     {
         take_own(alloc, &mut self.state, pid, call)
     }

@@ -1,6 +1,7 @@
 //! What the machine keeps and what a log tells, as types. The machine keeps a `State`: its processes (`Procs`, each a
-//! `Proc` with its `Cred`, `FourIds` and `Groups`) and its user namespaces (`Spaces`, each a `Space`). A log tells `Event`s, each a
-//! `Call` with what it was given (`Ids`, `Extents`) and its `Res`.
+//! `Proc` with its `Cred` and `Groups`) and its user namespaces (`Spaces`, each a `Space`); `FourIds` are the user ids, or
+//! the group ids, as they are taken out of a `Cred` and put back. A log tells `Event`s, each a `Call` with what it was
+//! given (`Ids`, `Extents`) and its `Res`.
 //! Contracts see each as the record of the definitions in model_cred.
 #![tactic(auto)]
 

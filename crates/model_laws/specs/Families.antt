@@ -15,7 +15,8 @@ pub data ChainEnds (s : State) : ℕ → Type 0 where
   next : (pid forebear : ℕ) (p : Process) → process_at s.processes pid ≡ Some p → p.forebear ≡ Some forebear → ChainEnds s forebear
       → ChainEnds s pid
 
--- The chain of forebears of each live process ends: forebears are alive, and none is its own.
+-- The chain of forebears of each live process ends: forebears are alive, and following them one comes to a process that has
+-- none.
 abbrev pub ChainsEnd : State → Type 0
 ChainsEnd s = (pid : ℕ) → IsTrue (is_alive s.processes pid) → ChainEnds s pid
 
