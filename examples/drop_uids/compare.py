@@ -5,7 +5,8 @@
   compare.py --report FILE    a report that was made before, - for standard input
 
 At the start and after each call the credential line must be, word for word, what /proc/self/status and PR_GET_SECUREBITS
-showed: four user and four group ids, the groups, five sets of capabilities, the securebits and no_new_privs.
+showed of the process, in the initial user namespace: four user and four group ids, the groups as a set, five sets of
+capabilities, the securebits and no_new_privs.
 
 One line for each call, and a verdict at the end. Status 0: all agree; 1: a difference, or a replay that isn't accepted;
 2: nothing could be compared.
@@ -30,17 +31,20 @@ class Seen:
     """What the process saw of itself once: a line of status.txt."""
 
     def __init__(self, line):
-        told = dict(part.split(":", 1) for part in line.split("; "))
-        self.uid, self.gid = ([int(number) for number in told[name].split()] for name in ("Uid", "Gid"))
-        self.groups = sorted({int(number) for number in told["Groups"].split()})
-        self.sets = {name: told[own].strip() for name, own, _ in SETS}
-        self.securebits, self.no_new_privs = int(told["Securebits"]), int(told["NoNewPrivs"])
+        try:
+            told = dict(part.split(":", 1) for part in line.split("; "))
+            self.uid, self.gid = ([int(number) for number in told[name].split()] for name in ("Uid", "Gid"))
+            self.groups = sorted({int(number) for number in told["Groups"].split()})
+            self.sets = {name: told[own].strip() for name, own, _ in SETS}
+            self.securebits, self.no_new_privs = int(told["Securebits"]), int(told["NoNewPrivs"])
+        except (KeyError, ValueError):
+            give_up("no line of a status: " + line)
 
-    def line(self):
-        """The same as the words of a credential line."""
+    def line(self, pid):
+        """The same as the credential line of the process of that pid."""
         ids = [f"{name}={','.join(map(str, numbers))}" for name, numbers in (("uid", self.uid), ("gid", self.gid))]
         sets = [f"{name}={self.sets[name]}" for name, _, _ in SETS]
-        return " ".join(ids + ["groups=" + (",".join(map(str, self.groups)) or "-")] + sets
+        return " ".join([f"> {pid} init"] + ids + ["groups=" + (",".join(map(str, self.groups)) or "-")] + sets
                         + [f"sec={self.securebits:02x}", f"nnp={self.no_new_privs}"])
 
     def row(self, pid):
@@ -78,14 +82,14 @@ def differences(replayed, seen):
 
 
 def main():
-    calls, status = read("drop_uids.log"), [Seen(line).line() for line in read("status.txt")]
-    if len(status) != len(calls) + 1:
+    calls, status = read("drop_uids.log"), [Seen(line) for line in read("status.txt")]
+    if not calls or len(status) != len(calls) + 1:
         give_up("status.txt hasn't a line for the start and one for each call")
+    status = [seen.line(calls[0].split()[0]) for seen in status]
     report, accepted = report_of(sys.argv[1:])
     wanted = ["the start"] + [f"{number}: {call}" for number, call in enumerate(calls, 1)]
     events = ["the start"] + [line for line in report if line[:1].isdigit()]
-    # A credential line without its first words, `> PID init`.
-    lines = [line.split(" ", 3)[3] for line in report if line.startswith(">")]
+    lines = [line for line in report if line.startswith(">")]
     if not accepted or report[-1:] != [f"end {len(calls)}"] or events != wanted or len(lines) != len(status):
         print("the replay is no accepted one of this log; its last line: " + "".join(report[-1:]))
         sys.exit(1)
@@ -93,7 +97,7 @@ def main():
     for what, replayed, seen in zip(wanted, lines, status):
         agrees = replayed == seen
         bad += not agrees
-        print(f"{what:45} {replayed.split()[0]:35} "
+        print(f"{what:45} {seen.split()[3]:35} "
               + ("agrees" if agrees else "but the process saw " + " ".join(differences(replayed, seen))))
     print(f"{len(calls)} calls: " + ("no difference" if not bad else f"{bad} lines differ"))
     sys.exit(1 if bad else 0)

@@ -34,18 +34,20 @@ static int tells_of_credentials(const char *line)
 // One line of the status file.
 static void show(void)
 {
-    char line[4096];
+    char *line = NULL;
+    size_t room = 0;
     FILE *in = fopen("/proc/self/status", "r");
 
     if (!in)
         fail("/proc/self/status");
-    while (fgets(line, sizeof line, in)) {
+    while (getline(&line, &room, in) > 0) {
         if (!tells_of_credentials(line))
             continue;
         for (char *c = line; *c && *c != '\n'; c++)
             fputc(isspace((unsigned char)*c) ? ' ' : *c, out);
         fputs("; ", out);
     }
+    free(line);
     fclose(in);
     fprintf(out, "Securebits: %d\n", prctl(PR_GET_SECUREBITS));
 }
