@@ -23,7 +23,7 @@
 //   run SEED NUMBER                         the lines below it are of this run
 //   start PID FIELD ..                      the process that the run begins with: all ten fields
 //   PID CALL ARGUMENT .. = RESULT FIELD ..  one event; a FIELD for each one of the caller's that is another one after it,
-//                                           and behind the word `child` for each of a child's that isn't the caller's
+//                                           and after the word `child` for each of a child's that isn't the caller's
 //
 // A pid is the one in the namespace. RESULT is 0, EPERM or EINVAL, for setfsuid and setfsgid an id, for fork the child's
 // pid. Of ids and groups -1 is 4294967295; other numbers are decimal, the three sets of capset (effective, permitted,

@@ -16,7 +16,7 @@ kernel showed before the call, and a line of the log with the result that the ke
     groups as a set, the five sets, securebits, no_new_privs.
 
 Where the program says `impossible line K`, the rules answer otherwise than the kernel: a difference too. That case is
-taken out, and those behind it are replayed again, so one run tells all. Where it is known why the rules leave another
+taken out, and those after it are replayed again, so one run tells all. Where it is known why the rules leave another
 credential than the kernel, the program must print that one, and the case counts as explained. Status 0: no other
 difference; 1: some; 2: nothing could be compared.
 """

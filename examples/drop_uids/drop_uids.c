@@ -3,7 +3,7 @@
 //   drop_uids STATUS
 //
 // STATUS gets one line for the start and one for each call: the lines of /proc/self/status that tell of credentials, and
-// the securebits, each behind its name, with "; " between them. To be run as root; see record.py.
+// the securebits, each after its name, with "; " between them. To be run as root; see record.py.
 #define _GNU_SOURCE
 #include <ctype.h>
 #include <stdio.h>

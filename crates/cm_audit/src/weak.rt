@@ -1,7 +1,8 @@
 // The weak audit: can one process alone come back to a user id by setresuid(2), and by which calls.
 // A call can only take one of the three ids that the process has, unless CAP_SETUID is effective; and where the sets follow
 // the ids, that is so at id 0 alone. So no more than two calls are ever needed, and no search is.
-ghost use Rattle.std.specs.Prelude.{◌≡◌, ◌↔◌, ◌==◌, ◌||◌, ◌&&◌, ℕ, Option, None, Some, IfOk, IfSome, IsNone, option_map};
+ghost use Rattle.std.specs.Prelude.{◌≡◌, ◌↔◌, ◌==◌, ◌||◌, ◌&&◌, ℕ, Option, None, Some, IfSome, IsNone, option_map};
+ghost use Rattle.cm_base.specs.Outcome.{OrNoMemory};
 ghost use Rattle.cm_base.specs.CapSet.{holds};
 ghost use Rattle.model_cred.specs.World.{World};
 ghost use Rattle.model_rules.specs.SetId.{cap_setuid, has_setuid};
@@ -21,19 +22,19 @@ pub fn audit_uid(alloc: Global, c: &Cred, pid: Pid, k: Kuid) -> Result<Option<Ve
     requires { SetsFollowIds c.now }
 
     // No list of calls, however long, brings the process back exactly where none is given.
-    ensures none { IfOk result (λ way. (w : World) (forebear : Option ℕ) → IsNone way ↔ ¬ CanComeBack w (alone pid forebear c.now) pid k) }
+    ensures none { OrNoMemory result (λ way. (w : World) (forebear : Option ℕ) → IsNone way ↔ ¬ CanComeBack w (alone pid forebear c.now) pid k) }
 
     // A list that is given brings it back.
-    ensures run { IfOk result (λ way. IfSome way (λ calls. (w : World) (forebear : Option ℕ) → BringsBack w (alone pid forebear c.now) pid k calls.items)) }
+    ensures run { OrNoMemory result (λ way. IfSome way (λ calls. (w : World) (forebear : Option ℕ) → BringsBack w (alone pid forebear c.now) pid k calls.items)) }
 
     // Which list it is: none, one or two calls.
-    ensures way { IfOk result (λ way. option_map (λ calls. calls.items) way ≡ way_back c.now pid k) }
+    ensures way { OrNoMemory result (λ way. option_map (λ calls. calls.items) way ≡ way_back c.now pid k) }
 {
     calls_to(alloc, c, pid, k.number())
 }
 
 fn calls_to(alloc: Global, c: &Cred, pid: Pid, k: u32) -> Result<Option<Vec<Event>>, NoMemory>
-    ensures { IfOk result (λ way. option_map (λ calls. calls.items) way ≡ way_back c.now pid k) }
+    ensures { OrNoMemory result (λ way. option_map (λ calls. calls.items) way ≡ way_back c.now pid k) }
 {
     if c.euid.number() == k {
         return Ok(Some(Vec::new(alloc)));

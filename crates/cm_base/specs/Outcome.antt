@@ -6,6 +6,6 @@ use Rattle.std.specs.Prelude.{◌≡◌, Result, IfOk, OnErr}
 abbrev pub OrNoMemory : {T E : Type 0} → Result T E → (T → Type 0) → Type 0
 OrNoMemory r P = IfOk r P
 
--- After a refusal the value is what it was.
+-- After a refusal the new value is the old one.
 abbrev pub UnchangedOnErr : {T E V : Type 0} → Result T E → V → V → Type 0
-UnchangedOnErr r old new = OnErr r (new ≡ old)
+UnchangedOnErr r new old = OnErr r (new ≡ old)

@@ -7,7 +7,7 @@ use Rattle.cm_cli.specs.Telling.{IsTold}
 use Rattle.cm_io.specs.Shelf.{Files, bytes_at, Rose}
 use Rattle.model_text.proofs.Endings.{yes_is_never, no_is_way}
 use Rattle.model_text.proofs.Statuses.{each_by_its_cause}
-use Rattle.model_text.specs.Causes.{Cause, Behind, IsAccepted, IsNo, IsBeyond}
+use Rattle.model_text.specs.Causes.{Cause, AfterLog, IsAccepted, IsNo, IsBeyond}
 use Rattle.model_text.specs.Command.{command_of, query_of}
 use Rattle.model_text.specs.Query.{Query}
 use Rattle.model_text.specs.Laws.{EachByItsCause, YesIsNever, NoIsWay}
@@ -29,11 +29,11 @@ unfolding T
 cause_of words files answer by (a, b, c) = (by (told answer a b c) answer).0 refl
 
 -- a replay that asks nothing has no answer to an audit
-asks_nothing : (words : List (List ℕ)) (bytes : List ℕ → List ℕ) (Answer : (words : List (List ℕ)) (bytes : List ℕ → List ℕ) → IsAccepted words bytes → Query → Type 0) → query_of (command_of words) ≡ None → ¬ Behind words bytes Answer
+asks_nothing : (words : List (List ℕ)) (bytes : List ℕ → List ℕ) (Answer : (words : List (List ℕ)) (bytes : List ℕ → List ℕ) → IsAccepted words bytes → Query → Type 0) → query_of (command_of words) ≡ None → ¬ AfterLog words bytes Answer
 asks_nothing words bytes Answer none (is, q, asked, h) = absurd (let never : None ≡ Some q = sym none ∙ asked in cc)
 
 -- not built, and yet valid, is what an audit asks for alone
-valid_unbuilt : (words : List (List ℕ)) (files : Files) → IsValid words files → Cause words (bytes_at files) answers.NotBuilt → Behind words (bytes_at files) IsBeyond
+valid_unbuilt : (words : List (List ℕ)) (files : Files) → IsValid words files → Cause words (bytes_at files) answers.NotBuilt → AfterLog words (bytes_at files) IsBeyond
 valid_unbuilt words files valid (inl unbuilt) = absurd (valid.not_built unbuilt)
 valid_unbuilt words files valid (inr beyond) = beyond
 

@@ -24,7 +24,7 @@ pub one_follows : (s : State) (ps : List Process) (i : ℕ) (p : Process) → St
 one_follows s ps i p all is within here =
     all_at ps i p (subst (λ (qs : List Process). AllFollow qs) (sym is) all.processes) (slice_get_read ps (length ps) i p refl (subst (λ (qs : List Process). i < length qs) (sym is) within) here)
 
--- a line that is passed begins a run with the events behind it
+-- a line that is passed begins a run with the events after it
 passed_by : (w : World) (line : Line) (tally : Tally) (from to : State) (es : List Event) (s : State) → IsPassed (turn.Goes tally) w from to line → Run w to es s → Run w from (cons_option (told_event line) es) s
 passed_by w NoEvent tally from to es s same run = subst (λ (x : State). Run w x es s) same run
 passed_by w (Tells e) tally from to es s step run = (to, step, run)
@@ -47,7 +47,7 @@ both_and : (a b c : Bool) → ((a && b) && c) ≡ (a && (b && c))
 both_and true b c = refl
 both_and false b c = refl
 
--- what was found of the events before a line and of its own goes on with those behind it
+-- what was found of the events before a line and of its own goes on with those after it
 pub told_on : (rest after line : List ℕ) (tally : Tally) (before : Bool) → lines_of rest ≡ line ∷ lines_of after → TellsSetResUids (turn.Goes tally) before (script_line line)
     → (tally.setresuids && are_setresuids (events_of (lines_of after))) ≡ (before && are_setresuids (events_of (lines_of rest)))
 told_on rest after line tally before cut told =

@@ -21,7 +21,7 @@ use Rattle.model_run.specs.Step.{Outcome, Goes, NoProcess, NoSpace, PidInUse, Wr
 use Rattle.model_text.specs.Cut.{lines_of}
 use Rattle.model_text.specs.Line.{Line, NoEvent, Tells as TellsEvent, Faulty, Unbuilt, script_line, events_of}
 use Rattle.model_text.specs.Query.{Query, asked_process, right_token}
-use Rattle.model_text.specs.Report.{Report, files_report, answered, go_on, verdict_behind, asked_verdict, right_verdict, way_verdict, not_built, state_after, replayed, by_line, by_outcome}
+use Rattle.model_text.specs.Report.{Report, files_report, answered, go_on, verdict_after, asked_verdict, right_verdict, way_verdict, not_built, state_after, replayed, by_line, by_outcome}
 
 -- a fact of what is told, from another
 pub if_told : {T : Type 0} {P Q : T → Type 0} (o : Option T) → IfSome o P → ((x : T) → P x → Q x) → IfSome o Q
@@ -84,7 +84,7 @@ go_on_not_usage _ r next first second = first
 answered_not_usage : (query : Option Query) (more : Bool) (w : World) (lines : List (List ℕ)) → (answered query more w lines).status ≢ answers.Usage
 answered_not_usage None more w lines = replayed_not_usage w lines w.start 1 0
 answered_not_usage (Some q) more w lines =
-    go_on_not_usage (replayed w lines w.start 1 0).status (replayed w lines w.start 1 0) (verdict_behind more w (events_of lines) q) (replayed_not_usage w lines w.start 1 0)
+    go_on_not_usage (replayed w lines w.start 1 0).status (replayed w lines w.start 1 0) (verdict_after more w (events_of lines) q) (replayed_not_usage w lines w.start 1 0)
     (asked_not_usage (more || not (are_setresuids (events_of lines))) (state_after w w.start (events_of lines)) (asked_process (state_after w w.start (events_of lines)) q.pid) (right_token q.right))
 
 -- nor has the report of a log

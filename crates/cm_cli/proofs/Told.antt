@@ -21,7 +21,7 @@ use Rattle.model_run.specs.Step.{Outcome, Goes, NoProcess, NoSpace, PidInUse, Wr
 use Rattle.model_text.specs.Line.{Line, NoEvent, Tells as TellsEvent, Faulty, Unbuilt, script_line, events_of}
 use Rattle.model_text.proofs.Statuses.{of_end, of_stop}
 use Rattle.model_text.specs.Query.{Query, asked_process, right_token}
-use Rattle.model_text.specs.Report.{Report, Credentials, text_of, answered, after, go_on, verdict, verdict_behind, asked_verdict, right_verdict, way_verdict, not_built, state_after, replayed, by_line, by_outcome}
+use Rattle.model_text.specs.Report.{Report, Credentials, text_of, answered, after, go_on, verdict, verdict_after, asked_verdict, right_verdict, way_verdict, not_built, state_after, replayed, by_line, by_outcome}
 
 -- a report that stopped at an error: a front of it is written
 pub stops : (r : Report) (why : Outside) (answer : Status) (w w' : Option (List ℕ)) (f f' : ℕ) → answer ≡ stopped_by why → IsFront w w' (text_of r.lines)
@@ -50,28 +50,28 @@ pub log_text : (query : Option Query) (w : code.World) (log : List ℕ)
     → text_of (log_report query w log).lines ≡ text_of (map Credentials w.start.processes) ++ text_of (answered query w.more (world_of w) (lines_of log)).lines
 log_text query w log = text_of_append (map Credentials w.start.processes) (answered query w.more (world_of w) (lines_of log)).lines
 
--- the rest of a report behind the replay
+-- the rest of a report after the replay
 stopped_rest : (query : Option Query) (more : Bool) (st : Status) (s : State) → st ≢ answers.Accepted → answer_to query more st s ≡ record { status = st; lines = [] }
 stopped_rest None more st s other = refl
 stopped_rest (Some q) more answers.Accepted s other = absurd (other refl)
 stopped_rest (Some q) more _ s other = refl
 
--- What is answered is the replay, and then what comes behind it in the state that an accepted log leads to.
+-- What is answered is the replay, and then what comes after it in the state that an accepted log leads to.
 pub record IsAnswered (query : Option Query) (more : Bool) (w : World) (lines : List (List ℕ)) (behind : Bool) (st : Status) (s : State) : Type 0 where
   pub status : (answered query more w lines).status ≡ (answer_to query behind st s).status
   pub text : text_of (answered query more w lines).lines ≡ text_of (replayed w lines w.start 1 0).lines ++ text_of (answer_to query behind st s).lines
 
--- there is more behind the log than the weak audit knows, by what the world says and by the events
-abbrev pub more_behind : Bool → List (List ℕ) → Bool
-more_behind more lines = more || not (are_setresuids (events_of lines))
+-- there is more after the log than the weak audit knows, by what the world says and by the events
+abbrev pub more_after : Bool → List (List ℕ) → Bool
+more_after more lines = more || not (are_setresuids (events_of lines))
 
 accepted_answer : (q : Query) (more : Bool) (w : World) (lines : List (List ℕ)) (s : State) → (replayed w lines w.start 1 0).status ≡ answers.Accepted → Run w w.start (events_of lines) s
-    → IsAnswered (Some q) more w lines (more_behind more lines) answers.Accepted s
+    → IsAnswered (Some q) more w lines (more_after more lines) answers.Accepted s
 accepted_answer q more w lines s is run =
-    let same : answered (Some q) more w lines ≡ after (replayed w lines w.start 1 0).lines (verdict (more_behind more lines) s q) = of_end q more w lines s is run in
+    let same : answered (Some q) more w lines ≡ after (replayed w lines w.start 1 0).lines (verdict (more_after more lines) s q) = of_end q more w lines s is run in
     record {
       status = ap (λ (r : Report). r.status) same;
-      text = ap (λ (r : Report). text_of r.lines) same ∙ text_of_append (replayed w lines w.start 1 0).lines (verdict (more_behind more lines) s q).lines;
+      text = ap (λ (r : Report). text_of r.lines) same ∙ text_of_append (replayed w lines w.start 1 0).lines (verdict (more_after more lines) s q).lines;
     }
 
 stopped_answer : (query : Option Query) (more : Bool) (w : World) (lines : List (List ℕ)) (behind : Bool) (st : Status) (s : State) → (replayed w lines w.start 1 0).status ≡ st → st ≢ answers.Accepted → IsAnswered query more w lines behind st s
@@ -90,13 +90,13 @@ accepted_or_not answers.Accepted = inl refl
 accepted_or_not _ = inr (λ e. cc)
 
 pub is_answered : (query : Option Query) (more : Bool) (w : World) (lines : List (List ℕ)) (behind : Bool) (st : Status) (s : State) → (replayed w lines w.start 1 0).status ≡ st
-    → (st ≡ answers.Accepted → Run w w.start (events_of lines) s) → (st ≡ answers.Accepted → behind ≡ more_behind more lines) → IsAnswered query more w lines behind st s
+    → (st ≡ answers.Accepted → Run w w.start (events_of lines) s) → (st ≡ answers.Accepted → behind ≡ more_after more lines) → IsAnswered query more w lines behind st s
 is_answered None more w lines behind st s is reached told = record { status = is; text = sym (append-nil (text_of (replayed w lines w.start 1 0).lines)) }
 is_answered (Some q) more w lines behind st s is reached told =
     elim (accepted_or_not st) [
       | inl accepted ↦
           subst (λ (b : Bool). IsAnswered (Some q) more w lines b st s) (sym (told accepted))
-          (subst (λ (x : Status). IsAnswered (Some q) more w lines (more_behind more lines) x s) (sym accepted) (accepted_answer q more w lines s (is ∙ accepted) (reached accepted)))
+          (subst (λ (x : Status). IsAnswered (Some q) more w lines (more_after more lines) x s) (sym accepted) (accepted_answer q more w lines s (is ∙ accepted) (reached accepted)))
       | inr other ↦ stopped_answer (Some q) more w lines behind st s is other
     ]
 
@@ -113,7 +113,7 @@ goes_longer _ r next = ([], sym (append-nil (text_of r.lines)))
 
 answered_longer : (query : Option Query) (more : Bool) (w : World) (lines : List (List ℕ)) → (longer : List ℕ) × (text_of (answered query more w lines).lines ≡ text_of (replayed w lines w.start 1 0).lines ++ longer)
 answered_longer None more w lines = ([], sym (append-nil (text_of (replayed w lines w.start 1 0).lines)))
-answered_longer (Some q) more w lines = goes_longer (replayed w lines w.start 1 0).status (replayed w lines w.start 1 0) (verdict_behind more w (events_of lines) q)
+answered_longer (Some q) more w lines = goes_longer (replayed w lines w.start 1 0).status (replayed w lines w.start 1 0) (verdict_after more w (events_of lines) q)
 
 -- it begins with the start lines and the replay
 pub log_longer : (query : Option Query) (w : code.World) (log : List ℕ) → (longer : List ℕ)
@@ -201,5 +201,5 @@ pub answered_told : (query : Option Query) (more : Bool) (w : World) (lines : Li
 answered_told None more w lines = replayed_told w lines w.start 1 0
 answered_told (Some q) more w lines =
     let s : State = state_after w w.start (events_of lines) in
-    told_on (replayed w lines w.start 1 0).status (replayed w lines w.start 1 0) (verdict_behind more w (events_of lines) q) (replayed_told w lines w.start 1 0)
-    (told_asked (more_behind more lines) s (asked_process s q.pid) (right_token q.right))
+    told_on (replayed w lines w.start 1 0).status (replayed w lines w.start 1 0) (verdict_after more w (events_of lines) q) (replayed_told w lines w.start 1 0)
+    (told_asked (more_after more lines) s (asked_process s q.pid) (right_token q.right))

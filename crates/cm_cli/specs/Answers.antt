@@ -50,7 +50,7 @@ pub record CountsStay (reads reads' : List ℕ → ℕ) (writes writes' : ℕ) :
   pub reads_same : (n : List ℕ) → reads' n ≡ reads n
   pub writes_same : writes' ≡ writes
 
--- the input is valid: none of the causes of a refusal stands (an audit may still ask, behind an accepted log, for what
+-- the input is valid: none of the causes of a refusal stands (an audit may still ask, after an accepted log, for what
 -- isn't built)
 pub record IsValid (words : List (List ℕ)) (files : Files) : Type 0 where
   pub usage : ¬ Cause words (bytes_at files) answers.Usage
@@ -61,7 +61,7 @@ pub record IsValid (words : List (List ℕ)) (files : Files) : Type 0 where
   pub impossible : ¬ Cause words (bytes_at files) answers.Impossible
   pub bad_query : ¬ Cause words (bytes_at files) answers.BadQuery
 
--- What the replay of a log in a world, with what is asked behind it, answers and leaves: the same clauses for one world
+-- What the replay of a log in a world, with what is asked after it, answers and leaves: the same clauses for one world
 -- and one log.
 pub record ReplayAnswer (held : Option Files) (query : Option Query) (world log : List ℕ) (answer : Status) (written written' : Option (List ℕ)) (reads reads' : List ℕ → ℕ) (writes writes' : ℕ) : Type 0 where
   pub status : IfSome held (λ files. IsTold answer → answer ≡ (files_report query (bytes_at files world) (bytes_at files log)).status)
@@ -84,7 +84,7 @@ abbrev pub IsCompleted : Option Query → Status → Type 0
 IsCompleted None answer = (answer ≡ answers.Accepted) ⊎ (answer ≡ answers.NoMemory)
 IsCompleted (Some q) answer = (answer ≡ answers.Accepted) ⊎ (answer ≡ answers.No) ⊎ (answer ≡ answers.NotBuilt) ⊎ (answer ≡ answers.NoMemory)
 
--- What yes says of an audit: one process lives behind the log, and no list of later setresuid calls of it, of any length,
+-- What yes says of an audit: one process lives after the log, and no list of later setresuid calls of it, of any length,
 -- ends where it holds the user id that the words ask for.
 abbrev pub SaysYes : List (List ℕ) → Files → Type 0
 SaysYes words files = (q : Query) → query_of (command_of words) ≡ Some q → (is : IsAccepted words (bytes_at files)) × IsYes words (bytes_at files) is q

@@ -47,7 +47,7 @@ IsLogRead (Err (unready.Refused short.Usage)) bytes = ⊥
 IsLogRead (Err unready.ReadFault) bytes = Unit {0}
 IsLogRead (Err unready.NoMemory) bytes = Unit {0}
 
--- the report that the files come to, with what is asked behind the log
+-- the report that the files come to, with what is asked after the log
 abbrev pub IsReady : Option Query → Result (code.World × Vec ℕ Global) Unready → Report → Type 0
 IsReady query (Ok (w, log)) r = r ≡ log_report query w log.items
 IsReady query (Err (unready.Refused why)) r = r ≡ short_report why

@@ -22,12 +22,12 @@ pub record Finishes (r : Report) (end : Status) (bytes : List ℕ) : Type 0 wher
   pub text : text_of r.lines ≡ bytes
 
 -- A line with its number and so many events before it turned the state before into the one after, and wrote the bytes:
--- the report goes on behind them, or ends with them.
+-- the report goes on after them, or ends with them.
 abbrev pub IsLineTurn : LineTurn → World → State → State → ℕ → ℕ → Line → List ℕ → Type 0
 IsLineTurn (turn.Goes tally) w before after number count line bytes = (rest : State → ℕ → Report) → Continues (by_line w before number count rest line) (rest after tally.events) bytes
 IsLineTurn (turn.Ends status) w before after number count line bytes = (rest : State → ℕ → Report) → Finishes (by_line w before number count rest line) status bytes
 
--- the number of events behind a line is at most this
+-- the number of events after a line is at most this
 abbrev pub CountsUpTo : LineTurn → ℕ → Type 0
 CountsUpTo (turn.Goes tally) most = tally.events ≤ most
 CountsUpTo (turn.Ends status) most = Unit {0}
@@ -45,7 +45,7 @@ abbrev pub tells_setresuid : Line → Bool
 tells_setresuid (Tells e) = is_setresuid e.call
 tells_setresuid _ = true
 
--- Behind the line each event is a call of setresuid exactly where each before it is, and its own.
+-- After the line each event is a call of setresuid exactly where each before it is, and its own.
 abbrev pub TellsSetResUids : LineTurn → Bool → Line → Type 0
 TellsSetResUids (turn.Goes tally) before line = tally.setresuids ≡ (before && tells_setresuid line)
 TellsSetResUids (turn.Ends status) before line = Unit {0}

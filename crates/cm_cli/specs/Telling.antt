@@ -40,11 +40,11 @@ short_report short.BadWorld = says answers.BadWorld (codes "bad world")
 short_report short.WorldLimit = limit_hit (codes "world") world_limit
 short_report short.LogLimit = limit_hit (codes "log") log_limit
 
--- the report of a log in the world, with what is asked behind it
+-- the report of a log in the world, with what is asked after it
 abbrev pub log_report : Option Query → World → List ℕ → Report
 log_report query w log = after (start_lines (world_of w)) (answered query w.more (world_of w) (lines_of log))
 
--- what comes behind the replay of a log that ends so, in the state that it leads to: the status, and more lines
+-- what comes after the replay of a log that ends so, in the state that it leads to: the status, and more lines
 abbrev pub answer_to : Option Query → Bool → Status → State → Report
 answer_to (Some q) more answers.Accepted s = verdict more s q
 answer_to _ more st s = record { status = st; lines = [] }

@@ -1,5 +1,6 @@
-// The answer to an audit, behind an accepted log: one process lives, and is asked for a user id (so far).
-ghost use Rattle.std.specs.Prelude.{◌≡◌, ◌++◌, false, Some, IfSome, IfNone, None, IfOk, OnOk, slice_get, length, ◌<◌};
+// The answer to an audit, after an accepted log: one process lives, and is asked for a user id (so far).
+ghost use Rattle.std.specs.Prelude.{◌≡◌, ◌++◌, false, Some, IfSome, IfNone, None, OnOk, slice_get, length, ◌<◌};
+ghost use Rattle.cm_base.specs.Outcome.{OrNoMemory};
 ghost use Rattle.cm_cli.specs.Query.{query_view, query_if, right_view};
 ghost use Rattle.cm_cli.specs.Telling.{answer_to};
 ghost use Rattle.model_run.specs.WayBack.{SetsFollowIds, StateFollows, way_back};
@@ -14,7 +15,7 @@ use cm_base::{Kuid, NoMemory, Status};
 use cm_state::{Proc, State};
 use std::alloc::Global;
 
-/// Answers what is asked behind a replay that ended with this status, and says the status of the whole. `more` says that
+/// Answers what is asked after a replay that ended with this status, and says the status of the whole. `more` says that
 /// there is more to the processes than the weak audit knows.
 pub(crate) fn put_answer(
     alloc: Global,
@@ -25,7 +26,7 @@ pub(crate) fn put_answer(
     text: &mut Vec<u8>,
 ) -> Result<Status, NoMemory>
     requires { replayed ≡ Status.Accepted → more ≡ false → StateFollows state.now }
-    ensures status { IfOk result (λ status. status ≡ (answer_to (query_if query.entry) more replayed state.now).status) }
+    ensures status { OrNoMemory result (λ status. status ≡ (answer_to (query_if query.entry) more replayed state.now).status) }
     ensures text { OnOk result (text.new.items ≡ text.old.items ++ text_of (answer_to (query_if query.entry) more replayed state.now).lines) }
 {
     match (query, replayed) {
@@ -42,7 +43,7 @@ fn put_verdict(
     text: &mut Vec<u8>,
 ) -> Result<Status, NoMemory>
     requires { more ≡ false → StateFollows state.now }
-    ensures status { IfOk result (λ status. status ≡ (verdict more state.now (query_view query.entry)).status) }
+    ensures status { OrNoMemory result (λ status. status ≡ (verdict more state.now (query_view query.entry)).status) }
     ensures text { OnOk result (text.new.items ≡ text.old.items ++ text_of (verdict more state.now (query_view query.entry)).lines) }
 {
     let Some(at) = place_asked(state, query.pid.as_bytes()) else {
@@ -75,7 +76,7 @@ fn put_right(
 ) -> Result<Status, NoMemory>
     requires here { at < length state.now.processes }
     requires follows { more ≡ false → StateFollows state.now }
-    ensures status { IfOk result (λ status. IfSome (slice_get state.now.processes at) (λ p. status ≡ (right_verdict more state.now p (right_view right)).status)) }
+    ensures status { OrNoMemory result (λ status. IfSome (slice_get state.now.processes at) (λ p. status ≡ (right_verdict more state.now p (right_view right)).status)) }
     ensures text { OnOk result (IfSome (slice_get state.now.processes at) (λ p. text.new.items ≡ text.old.items ++ text_of (right_verdict more state.now p (right_view right)).lines)) }
 {
     match right {
@@ -91,7 +92,7 @@ fn put_right(
 
 fn put_uid(alloc: Global, p: &Proc, k: Kuid, text: &mut Vec<u8>) -> Result<Status, NoMemory>
     requires { SetsFollowIds p.now.cred }
-    ensures status { IfOk result (λ status. status ≡ (way_verdict p.now.pid (way_back p.now.cred p.now.pid k)).status) }
+    ensures status { OrNoMemory result (λ status. status ≡ (way_verdict p.now.pid (way_back p.now.cred p.now.pid k)).status) }
     ensures text { OnOk result (text.new.items ≡ text.old.items ++ text_of (way_verdict p.now.pid (way_back p.now.cred p.now.pid k)).lines) }
 {
     match audit_uid(alloc, &p.cred, p.pid, k)? {

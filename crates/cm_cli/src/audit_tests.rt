@@ -257,7 +257,7 @@ bad query: pid
 }
 
 #[test]
-fn what_is_not_built_is_told_behind_the_log(rt: HostRuntime) -> Result<(), Fail> {
+fn what_is_not_built_is_told_after_the_log(rt: HostRuntime) -> Result<(), Fail> {
     let rows = [
         Row {
             world: ROOT,

@@ -50,7 +50,7 @@ pub fn run<H: Shelf, K: Sink>(
     ensures answers { IfSome (H.held shelf.old) (λ files. IsTold result → ComesByCause (bytes_of words.now.items) files result) }
 
     // What an audit says: with status 0, which writes yes, no list of later setresuid calls of the one process that lives
-    // behind the log ends where it has the user id that is asked for; with status 1 the lines that are written show one.
+    // after the log ends where it has the user id that is asked for; with status 1 the lines that are written show one.
     ensures yes { IfSome (H.held shelf.old) (λ files. result ≡ Status.Accepted → SaysYes (bytes_of words.now.items) files) }
     ensures no { IfSome (H.held shelf.old) (λ files. result ≡ Status.No → SaysNo (bytes_of words.now.items) files) }
 
@@ -126,7 +126,7 @@ fn carry_out<H: Shelf, K: Sink>(
     }
 }
 
-// The replay of a log in a world, and the answer to what is asked behind it.
+// The replay of a log in a world, and the answer to what is asked after it.
 fn run_log<H: Shelf, K: Sink>(
     alloc: Global,
     world: &str,

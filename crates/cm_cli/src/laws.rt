@@ -20,7 +20,7 @@ pub fn impossible_is_no_step()
     ensures { ImpossibleIsNoStep }
 {}
 
-/// Where an audit's status is 0, one process lives behind the log, and no list of later setresuid calls of it, of any
+/// Where an audit's status is 0, one process lives after the log, and no list of later setresuid calls of it, of any
 /// length, ends where its effective user id is the one that is asked for.
 #[tactic(auto, using(model_text::proofs::Endings::yes_is_never))]
 pub fn yes_is_never()

@@ -1,6 +1,7 @@
 // A line of a script log: PID CALL ARGUMENTS = RESULT, its tokens parted by blanks (choice). Built so far: the calls that
 // set user ids, group ids and groups, those of capset and prctl, fork and exit.
-ghost use Rattle.std.specs.Prelude.{◌≡◌, IfOk, Some, option_map};
+ghost use Rattle.std.specs.Prelude.{◌≡◌, Some, option_map};
+ghost use Rattle.cm_base.specs.Outcome.{OrNoMemory};
 ghost use Rattle.cm_base.specs.Names.{errno_of};
 ghost use Rattle.cm_cli.specs.Lines.{kind_view, line_of};
 ghost use Rattle.model_text.specs.Cut.{tokens_of};
@@ -30,7 +31,7 @@ pub(crate) enum Line {
 
 /// What a line of a script log stands for.
 pub(crate) fn read_line(alloc: Global, line: &[u8]) -> Result<Line, NoMemory>
-    ensures { IfOk result (λ read. line_of read ≡ script_line line.now) }
+    ensures { OrNoMemory result (λ read. line_of read ≡ script_line line.now) }
 {
     let Some((first, rest)) = next_token(line) else {
         return Ok(Line::NoEvent);
@@ -39,27 +40,27 @@ pub(crate) fn read_line(alloc: Global, line: &[u8]) -> Result<Line, NoMemory>
         return Ok(Line::NoEvent);
     }
     match read_pid(first) {
-        Some(pid) => read_behind_pid(alloc, pid, rest),
+        Some(pid) => read_after_pid(alloc, pid, rest),
         None => Ok(Line::Faulty),
     }
 }
 
-// What stands behind the pid: the name of a call, its arguments, and its result.
-fn read_behind_pid(alloc: Global, pid: Pid, text: &[u8]) -> Result<Line, NoMemory>
-    ensures { IfOk result (λ read. line_of read ≡ call_line pid (tokens_of text.now)) }
+// What stands after the pid: the name of a call, its arguments, and its result.
+fn read_after_pid(alloc: Global, pid: Pid, text: &[u8]) -> Result<Line, NoMemory>
+    ensures { OrNoMemory result (λ read. line_of read ≡ call_line pid (tokens_of text.now)) }
 {
     let Some((name, rest)) = next_token(text) else {
         return Ok(Line::Faulty);
     };
     match CallKind::from_name(name) {
-        Some(kind) => read_behind_name(alloc, pid, kind, rest),
+        Some(kind) => read_after_name(alloc, pid, kind, rest),
         None => Ok(Line::Faulty),
     }
 }
 
-// What stands behind the name of a call of that kind.
-fn read_behind_name(alloc: Global, pid: Pid, kind: CallKind, text: &[u8]) -> Result<Line, NoMemory>
-    ensures { IfOk result (λ read. line_of read ≡ kind_line pid (Some (kind_view kind)) (tokens_of text.now)) }
+// What stands after the name of a call of that kind.
+fn read_after_name(alloc: Global, pid: Pid, kind: CallKind, text: &[u8]) -> Result<Line, NoMemory>
+    ensures { OrNoMemory result (λ read. line_of read ≡ kind_line pid (Some (kind_view kind)) (tokens_of text.now)) }
 {
     if !built(kind) {
         return Ok(Line::Unbuilt);
@@ -105,7 +106,7 @@ fn read_event(
     kind: CallKind,
     text: &[u8],
 ) -> Result<Option<Event>, NoMemory>
-    ensures { IfOk result (λ read. read ≡ event_told pid (kind_view kind) (tokens_of text.now)) }
+    ensures { OrNoMemory result (λ read. read ≡ event_told pid (kind_view kind) (tokens_of text.now)) }
 {
     let Some((call, rest)) = read_call(alloc, kind, text)? else {
         return Ok(None);

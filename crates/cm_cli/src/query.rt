@@ -1,7 +1,7 @@
 // What an audit asks: the texts of a pid and of a right (choice).
 ghost use Rattle.std.specs.Prelude.{◌≡◌, ◌<◌, ◌==◌, length, position, option_map, IfSome, MatchOption, None, Some};
 ghost use Rattle.cm_cli.specs.Query.{right_view};
-ghost use Rattle.model_text.specs.Query.{behind, id_number, space_number, cap_text, right_token};
+ghost use Rattle.model_text.specs.Query.{rest_after, id_number, space_number, cap_text, right_token};
 
 use cm_base::{Cap, Kgid, Kuid, read_u32};
 
@@ -24,15 +24,15 @@ pub(crate) enum Right {
 pub(crate) fn read_right(text: &[u8]) -> Option<Right>
     ensures { option_map right_view result ≡ right_token text.now }
 {
-    if let Some(uid) = behind(b"uid:", text) {
+    if let Some(uid) = rest_after(b"uid:", text) {
         let id = read_uid(uid)?;
         return Some(Right::Uid(id));
     }
-    if let Some(gid) = behind(b"gid:", text) {
+    if let Some(gid) = rest_after(b"gid:", text) {
         let id = read_gid(gid)?;
         return Some(Right::Gid(id));
     }
-    let cap = behind(b"cap:", text)?;
+    let cap = rest_after(b"cap:", text)?;
     read_cap(cap)
 }
 
@@ -79,13 +79,13 @@ fn read_space(text: &[u8]) -> Option<u32>
     if text == b"init".as_slice() {
         return Some(0);
     }
-    let number = behind(b"#", text)?;
+    let number = rest_after(b"#", text)?;
     read_u32(number).ok()
 }
 
-// What stands behind these bytes, where the text begins with them.
-fn behind<'a>(front: &[u8], text: &'a [u8]) -> Option<&'a [u8]>
-    ensures { MatchOption result (behind front.now text.now ≡ None) (λ rest. behind front.now text.now ≡ Some rest.now) }
+// What stands after these bytes, where the text begins with them.
+fn rest_after<'a>(front: &[u8], text: &'a [u8]) -> Option<&'a [u8]>
+    ensures { MatchOption result (rest_after front.now text.now ≡ None) (λ rest. rest_after front.now text.now ≡ Some rest.now) }
 {
     text.strip_prefix(front)
 }

@@ -1,5 +1,6 @@
 // The replay of a log's lines: each is read, its event is made a step, and its lines of the report are written.
 ghost use Rattle.std.specs.Prelude.{◌≡◌, ◌≤◌, ◌<◌, ◌+◌, ◌^◌, ◌++◌, ◌&&◌, ℕ, List, [], ◌∷◌, length, IfOk, OnOk, OnErr, MatchOption, slice_index, ◌≢◌, vec_len};
+ghost use Rattle.cm_base.specs.Outcome.{OrNoMemory};
 ghost use Rattle.cm_world.specs.World.{world_of};
 ghost use Rattle.cm_cli.specs.Replay.{IsLineTurn, CountsUpTo, IsPassed, TellsSetResUids};
 ghost use Rattle.cm_cli.specs.Sent.{IsSent, IsFront};
@@ -31,7 +32,7 @@ pub(crate) struct Tally {
     pub setresuids: bool,
 }
 
-/// What a line comes to: the replay goes on with these events behind it, or it ends.
+/// What a line comes to: the replay goes on with these events after it, or it ends.
 #[derive(Debug, Drop)]
 pub(crate) enum LineTurn {
     Goes(Tally),
@@ -114,11 +115,11 @@ fn take_line(
     text: &mut Vec<u8>,
 ) -> Result<LineTurn, NoMemory>
     requires { tally.events + 1 < 2 ^ 64 }
-    ensures turn { IfOk result (λ turn. (bytes : List ℕ) × (text.new.items ≡ text.old.items ++ bytes)
+    ensures turn { OrNoMemory result (λ turn. (bytes : List ℕ) × (text.new.items ≡ text.old.items ++ bytes)
         × IsLineTurn turn (world_of w.now) machine.old.state machine.new.state number tally.events (script_line line.now) bytes) }
-    ensures count { IfOk result (λ turn. CountsUpTo turn (tally.events + 1)) }
-    ensures passed { IfOk result (λ turn. IsPassed turn (world_of w.now) machine.old.state machine.new.state (script_line line.now)) }
-    ensures setresuids { IfOk result (λ turn. TellsSetResUids turn tally.setresuids (script_line line.now)) }
+    ensures count { OrNoMemory result (λ turn. CountsUpTo turn (tally.events + 1)) }
+    ensures passed { OrNoMemory result (λ turn. IsPassed turn (world_of w.now) machine.old.state machine.new.state (script_line line.now)) }
+    ensures setresuids { OrNoMemory result (λ turn. TellsSetResUids turn tally.setresuids (script_line line.now)) }
 {
     match read_line(alloc, line)? {
         Line::NoEvent => Ok(LineTurn::Goes(tally)),
@@ -144,11 +145,11 @@ fn take_event(
     text: &mut Vec<u8>,
 ) -> Result<LineTurn, NoMemory>
     requires { tally.events + 1 < 2 ^ 64 }
-    ensures turn { IfOk result (λ turn. (bytes : List ℕ) × (text.new.items ≡ text.old.items ++ bytes)
+    ensures turn { OrNoMemory result (λ turn. (bytes : List ℕ) × (text.new.items ≡ text.old.items ++ bytes)
         × IsLineTurn turn (world_of w.now) machine.old.state machine.new.state number tally.events (Tells event.now) bytes) }
-    ensures count { IfOk result (λ turn. CountsUpTo turn (tally.events + 1)) }
-    ensures passed { IfOk result (λ turn. IsPassed turn (world_of w.now) machine.old.state machine.new.state (Tells event.now)) }
-    ensures setresuids { IfOk result (λ turn. TellsSetResUids turn tally.setresuids (Tells event.now)) }
+    ensures count { OrNoMemory result (λ turn. CountsUpTo turn (tally.events + 1)) }
+    ensures passed { OrNoMemory result (λ turn. IsPassed turn (world_of w.now) machine.old.state machine.new.state (Tells event.now)) }
+    ensures setresuids { OrNoMemory result (λ turn. TellsSetResUids turn tally.setresuids (Tells event.now)) }
 {
     match machine.step(alloc, w, event) {
         Ok(()) => {

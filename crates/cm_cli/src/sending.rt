@@ -8,7 +8,7 @@ use cm_io::{Outside, Sink, write_all};
 // A piece is sent once so many bytes wait.
 const PIECE: usize = 65_536;
 
-/// Sends what waits where it is a large piece, so that less than one waits behind it. After an error a front of it is
+/// Sends what waits where it is a large piece, so that less than one waits after it. After an error a front of it is
 /// written.
 #[tactic(auto, using(crate::proofs::Waiting::all_waits))]
 pub(crate) fn send_full<K: Sink>(text: &mut Vec<u8>, out: &mut K) -> Result<(), Outside>

@@ -69,7 +69,7 @@ fn status_of(short: Short) -> Status
     }
 }
 
-/// Tells the report of a log in a world, and behind an accepted log the answer to what is asked.
+/// Tells the report of a log in a world, and after an accepted log the answer to what is asked.
 pub(crate) fn tell_log<K: Sink>(
     alloc: Global,
     w: &World,
@@ -111,7 +111,7 @@ pub(crate) fn tell_log<K: Sink>(
     }
 }
 
-// There is more behind the log than the weak audit knows: the world declares more, or an event is another call than
+// There is more after the log than the weak audit knows: the world declares more, or an event is another call than
 // setresuid.
 fn has_more(more: bool, setresuids: bool) -> bool
     ensures { result ≡ (more || not setresuids) }

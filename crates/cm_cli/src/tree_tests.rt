@@ -8,7 +8,7 @@ use std::test::Fail;
 fn trees_and_sets_are_replayed(rt: HostRuntime) -> Result<(), Fail> {
     // What is declared of process 100, a log, and its report.
     let rows: [(&str, &str, Status, &[&str]); 7] = [
-        // A child is printed behind its parent, an exit prints no credentials, and a pid that is alive is in use.
+        // A child is printed after its parent, an exit prints no credentials, and a pid that is alive is in use.
         (
             "",
             "100 fork = 101\n101 fork = 102\n101 exit = 0\n100 fork = 102\n",

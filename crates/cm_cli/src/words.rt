@@ -7,7 +7,7 @@ ghost use Rattle.model_text.specs.Token.{number_token};
 use crate::query::Query;
 use cm_base::read_u32;
 
-/// What the words ask for: the replay of a log in a world, an audit behind it, one of the forms that aren't built, or
+/// What the words ask for: the replay of a log in a world, an audit after it, one of the forms that aren't built, or
 /// none of the forms.
 #[derive(Clone, Copy, Debug)]
 pub(crate) enum Command<'a> {

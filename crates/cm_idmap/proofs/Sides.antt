@@ -6,7 +6,7 @@ use Rattle.std.proofs.lemmas.Bool.{cases_Bool, and_parts, and_from, cond-true, c
 use Rattle.model_cred.specs.IdMap.{Extent, lies_in}
 use Rattle.model_cred.specs.MapFault.{ranges_meet}
 
--- The extent holds the id, and the other id lies as far behind its other side.
+-- The extent holds the id, and the other id lies as far after its other side.
 pub record Holds (from to : Extent → ℕ) (id out : ℕ) (e : Extent) : Type 0 where
   pub low : from e ≤ id
   pub high : id < from e + e.length

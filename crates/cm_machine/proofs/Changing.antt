@@ -56,10 +56,10 @@ tells_change r s call told at old new p up h is rest tells there =
 
 -- with one more process, or with the same for want of memory, they are in spaces that stand
 pub insert_keeps : {T E : Type 0} (r : Result T E) (ps after : List Process) (n : ℕ) (child : Process) → AllStand n ps → child.space < n
-    → IfOk r (λ _. after ≡ insert_process child ps) → OnErr r (ps ≡ after) → AllStand n after
+    → IfOk r (λ _. after ≡ insert_process child ps) → OnErr r (after ≡ ps) → AllStand n after
 insert_keeps (Ok _) ps after n child stand there made same =
     subst (AllStand n) (sym made) (insert_all (λ p. p.space < n) ps child there stand)
-insert_keeps (Err why) ps after n child stand there made same = subst (AllStand n) same stand
+insert_keeps (Err why) ps after n child stand there made same = subst (AllStand n) (sym same) stand
 
 -- some process stands at a place, and in a space that stands
 pub there_at : (ps : List Process) (at n : ℕ) → at < length ps → AllStand n ps → (p : Process) × (slice_get ps at ≡ Some p) × (p.space < n)

@@ -25,7 +25,7 @@ pub told_error_kept : {T : Type 0} (w : World) (s : State) (e : Event) (error : 
     → Shows r after (λ w. outcome w s e) → UnchangedOnErr r after s → e.res ≡ Err error → after ≡ s
 unfolding ErrorChangesNothing
 told_error_kept w s e error (Ok _) after shows unchanged is = error_changes_nothing w s e error after (shows w) is
-told_error_kept w s e error (result.Err why) after shows unchanged is = sym unchanged
+told_error_kept w s e error (result.Err why) after shows unchanged is = unchanged
 
 -- the process's own answer is an error
 own_error_kept : (w : World) (s : State) (pid : ℕ) (call : Call) (error : Errno) (after : State) → IsOwn w s pid call (Err error) after → after ≡ s

@@ -66,7 +66,7 @@ pid_is n low high = and_from (nat_le 1 n) (nat_le n 4194304) (le-leb 1 n low) (l
 pid_bounds : (n : ℕ) → is_pid n ≡ true → (1 ≤ n) × (n ≤ 4194304)
 pid_bounds n is = let parts = and_parts (nat_le 1 n) (nat_le n 4194304) is in (leb-true 1 n parts.0, leb-true n 4194304 parts.1)
 
--- a number behind living pids that isn't one is the least free one
+-- a number after living pids that isn't one is the least free one
 least_is : (s : State) (n : ℕ) → 1 ≤ n → ((pid : ℕ) → 1 ≤ pid → pid < n → is_alive s.processes pid ≡ true) → is_alive s.processes n ≡ false
     → is_pid (free_pid s) ≡ true → n ≡ free_pid s
 least_is s n low before free a_pid =

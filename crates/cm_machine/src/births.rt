@@ -1,5 +1,5 @@
 // Births by fork(2), or clone(2) without CLONE_NEWUSER.
-ghost use Rattle.std.specs.Prelude.{◌≡◌, ◌<◌, length, slice_get, Some, false, IfOk};
+ghost use Rattle.std.specs.Prelude.{◌≡◌, ◌<◌, length, slice_get, Some, false};
 ghost use Rattle.cm_base.specs.Outcome.{OrNoMemory, UnchangedOnErr};
 ghost use Rattle.cm_machine.specs.Outcomes.{Gives, Tells};
 ghost use Rattle.model_cred.specs.Call.{Fork};
@@ -58,7 +58,7 @@ pub(crate) fn own_fork(alloc: Global, state: &mut State, at: usize) -> Result<Re
 fn fork_as(alloc: Global, state: &mut State, at: usize, pid: Pid) -> Result<(), NoMemory>
     requires here { at < length state.old.processes }
     requires fresh { is_alive state.old.processes pid ≡ false }
-    ensures born { IfOk result (λ _. (p : Process) → slice_get state.old.processes at ≡ Some p → state.new ≡ record state.old { processes = insert_process (fork_child p pid) state.old.processes }) }
+    ensures born { OrNoMemory result (λ _. (p : Process) → slice_get state.old.processes at ≡ Some p → state.new ≡ record state.old { processes = insert_process (fork_child p pid) state.old.processes }) }
     ensures unchanged { UnchangedOnErr result state.new state.old }
 {
     let child = child_at(alloc, &state.procs, at, pid)?;

@@ -1,6 +1,6 @@
 // Calls that change the credential of their caller and nothing else.
-ghost use Rattle.std.specs.Prelude.{◌≡◌, ◌<◌, length, slice_get, Some, true, IfOk};
-ghost use Rattle.cm_base.specs.Outcome.{UnchangedOnErr};
+ghost use Rattle.std.specs.Prelude.{◌≡◌, ◌<◌, length, slice_get, Some, true};
+ghost use Rattle.cm_base.specs.Outcome.{OrNoMemory, UnchangedOnErr};
 ghost use Rattle.cm_machine.specs.Answers.{answer_in};
 ghost use Rattle.cm_machine.specs.Outcomes.{Gives, Tells, changed_by};
 ghost use Rattle.cm_machine.specs.Telling.{IsTold};
@@ -69,8 +69,8 @@ pub(crate) fn own_change(
 // The same for that process alone.
 fn own_one(alloc: Global, p: &mut Proc, spaces: &Spaces, call: &Call) -> Result<Res, NoMemory>
     requires stands { p.old.space < length spaces.now }
-    ensures res { IfOk result (λ res. res ≡ (answer_in (space_of spaces.now p.old.space) p.old.cred call.now).res) }
-    ensures cred { IfOk result (λ _. p.new.cred ≡ (answer_in (space_of spaces.now p.old.space) p.old.cred call.now).cred) }
+    ensures res { OrNoMemory result (λ res. res ≡ (answer_in (space_of spaces.now p.old.space) p.old.cred call.now).res) }
+    ensures cred { OrNoMemory result (λ _. p.new.cred ≡ (answer_in (space_of spaces.now p.old.space) p.old.cred call.now).cred) }
     ensures rest { p.new ≡ record p.old { cred = p.new.cred } }
     ensures unchanged { UnchangedOnErr result p.new p.old }
 {

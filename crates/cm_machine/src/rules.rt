@@ -1,6 +1,6 @@
 // What the rules answer a call that changes its caller alone, and what they make of the caller's credential.
-ghost use Rattle.std.specs.Prelude.{◌≡◌, IfOk};
-ghost use Rattle.cm_base.specs.Outcome.{UnchangedOnErr};
+ghost use Rattle.std.specs.Prelude.{◌≡◌};
+ghost use Rattle.cm_base.specs.Outcome.{OrNoMemory, UnchangedOnErr};
 ghost use Rattle.cm_machine.specs.Answers.{plain_in, answer_in};
 
 use cm_base::{NoMemory, Res};
@@ -23,8 +23,8 @@ pub(crate) fn answer_call(
     s: &Space,
     call: &Call,
 ) -> Result<Res, NoMemory>
-    ensures res { IfOk result (λ res. res ≡ (answer_in s.now c.old call.now).res) }
-    ensures cred { IfOk result (λ _. c.new ≡ (answer_in s.now c.old call.now).cred) }
+    ensures res { OrNoMemory result (λ res. res ≡ (answer_in s.now c.old call.now).res) }
+    ensures cred { OrNoMemory result (λ _. c.new ≡ (answer_in s.now c.old call.now).cred) }
     ensures unchanged { UnchangedOnErr result c.new c.old }
 {
     match call {

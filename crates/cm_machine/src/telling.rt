@@ -1,6 +1,7 @@
 // A call of a process against the result that is told: the rules' credential where they give that result, else the
 // credential as it was.
-ghost use Rattle.std.specs.Prelude.{◌≡◌, IfOk};
+ghost use Rattle.std.specs.Prelude.{◌≡◌};
+ghost use Rattle.cm_base.specs.Outcome.{OrNoMemory};
 ghost use Rattle.cm_machine.specs.Answers.{plain_in, answer_in};
 ghost use Rattle.cm_machine.specs.Telling.{IsTold, IsSameOrWrong};
 ghost use Rattle.model_rules.specs.SetGroups.{setgroups};
@@ -66,7 +67,7 @@ fn tell_groups(
 
 // What setgroups answers. The groups are taken out for it and put back.
 fn try_groups(alloc: Global, c: &mut Cred, s: &Space, ids: &[u32]) -> Result<Res, NoMemory>
-    ensures res { IfOk result (λ res. res ≡ (setgroups s.now c.old ids.now).res) }
+    ensures res { OrNoMemory result (λ res. res ≡ (setgroups s.now c.old ids.now).res) }
     ensures unchanged { c.new ≡ c.old }
 {
     let old = mem::replace(&mut c.groups, Groups::empty(alloc));

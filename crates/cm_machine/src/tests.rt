@@ -20,8 +20,8 @@ fn child(n: u32) -> Res {
     Res::Child(pid(n))
 }
 
-// Each process of the machine: its pid, behind `<` its forebear if it has one, its four user ids, its permitted,
-// effective, inheritable and ambient set and its securebits in base 16, and behind `+` each of its groups.
+// Each process of the machine: its pid, after `<` its forebear if it has one, its four user ids, its permitted,
+// effective, inheritable and ambient set and its securebits in base 16, and after `+` each of its groups.
 fn shown(alloc: Global, m: &Machine) -> Result<String, Fail> {
     let mut shown = String::new(alloc);
     for p in m.state.procs.items() {

@@ -1,6 +1,6 @@
 // The call that sets the supplementary groups (setgroups(2)).
-ghost use Rattle.std.specs.Prelude.{◌≡◌, IfOk, option_map, Vec};
-ghost use Rattle.cm_base.specs.Outcome.{UnchangedOnErr};
+ghost use Rattle.std.specs.Prelude.{◌≡◌, option_map, Vec};
+ghost use Rattle.cm_base.specs.Outcome.{OrNoMemory, UnchangedOnErr};
 ghost use Rattle.cm_base.specs.declared.errno.Errno.{Errno};
 ghost use Rattle.cm_base.specs.declared.res.Res.TheVariants.{Err};
 ghost use Rattle.model_cred.specs.IdMap.{extents_of};
@@ -20,10 +20,10 @@ const MOST_GROUPS: usize = 65_536;
 /// without CAP_SETGID, a written map of group ids and the word "allow"; or then `EINVAL` for more than 65,536 ids, or
 /// for one without a mapping (the order is a choice). A refusal and want of memory leave the credential as it was.
 pub fn set_groups(alloc: Global, c: &mut Cred, s: &Space, ids: &[u32]) -> Result<Res, NoMemory>
-    ensures res { IfOk result (λ r. r ≡ (setgroups s.now c.old ids.now).res) }
-    ensures cred { IfOk result (λ _. c.new ≡ (setgroups s.now c.old ids.now).cred) }
-    ensures refused { IfOk result (λ r. (e : Errno) → r ≡ Err e → c.new ≡ c.old) }
-    ensures unchanged { UnchangedOnErr result c.old c.new }
+    ensures res { OrNoMemory result (λ r. r ≡ (setgroups s.now c.old ids.now).res) }
+    ensures cred { OrNoMemory result (λ _. c.new ≡ (setgroups s.now c.old ids.now).cred) }
+    ensures refused { OrNoMemory result (λ r. (e : Errno) → r ≡ Err e → c.new ≡ c.old) }
+    ensures unchanged { UnchangedOnErr result c.new c.old }
 {
     if !has_setgid(c) || s.gids.is_none() || s.deny {
         return Ok(Res::Err(Errno::EPERM));
@@ -40,7 +40,7 @@ pub fn set_groups(alloc: Global, c: &mut Cred, s: &Space, ids: &[u32]) -> Result
 
 // What all the ids are mapped to, None where one has no mapping.
 fn all_down(alloc: Global, map: &Option<IdMap>, ids: &[u32]) -> Result<Option<Vec<Kgid>>, NoMemory>
-    ensures { IfOk result (λ all. option_map (λ (v : Vec Kgid Global). v.items) all ≡ model_all_down (extents_of map.now) ids.now) }
+    ensures { OrNoMemory result (λ all. option_map (λ (v : Vec Kgid Global). v.items) all ≡ model_all_down (extents_of map.now) ids.now) }
 {
     let mut all = Vec::with_capacity(alloc, ids.len())?;
     for id in ids {

@@ -1,5 +1,5 @@
 // The supplementary groups of a process (credentials(7)): ascending, each once.
-ghost use Rattle.std.specs.Prelude.{◌≡◌, [], All, IfOk};
+ghost use Rattle.std.specs.Prelude.{◌≡◌, [], All};
 ghost use Rattle.cm_base.specs.Outcome.{OrNoMemory};
 ghost use Rattle.model_cred.specs.Credential.{AscendFrom, IsId, id_set};
 
@@ -56,7 +56,7 @@ impl Groups {
     /// The set of just the ids of the list, in whatever order they stand there and however often. Its only error is
     /// want of memory.
     pub fn make(alloc: Global, list: &[Kgid]) -> Result<Groups, NoMemory>
-        ensures { IfOk result (λ g. g ≡ id_set list.now) }
+        ensures { OrNoMemory result (λ g. g ≡ id_set list.now) }
     {
         let mut items = Vec::from_slice(alloc, list)?;
         sort_once(&mut items);

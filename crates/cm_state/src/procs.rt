@@ -1,6 +1,6 @@
 // The live processes of the machine, as a list of its own. Its calls that look for a pid, or put a process in its place,
 // ask that the pids ascend; the state keeps that they do.
-ghost use Rattle.std.specs.Prelude.{◌≡◌, ◌<◌, ◌==◌, not, filter, Some, None, length, slice_get, IfSome, IfNone, IfOk, ◌≢◌, true, false};
+ghost use Rattle.std.specs.Prelude.{◌≡◌, ◌<◌, ◌==◌, not, filter, Some, None, length, slice_get, IfSome, IfNone, ◌≢◌, true, false};
 ghost use Rattle.std.specs.List.{remove};
 ghost use Rattle.cm_base.specs.Outcome.{OrNoMemory, UnchangedOnErr};
 ghost use Rattle.cm_state.specs.Places.{IsPlace, pid_at};
@@ -69,7 +69,7 @@ impl Procs {
     pub fn insert(&mut self, p: Proc) -> Result<(), NoMemory>
         requires ascends { Ascends self.old }
         requires fresh { is_alive self.old p.pid ≡ false }
-        ensures put { IfOk result (λ _. self.new ≡ insert_process p self.old) }
+        ensures put { OrNoMemory result (λ _. self.new ≡ insert_process p self.old) }
         ensures unchanged { UnchangedOnErr result self.new self.old }
         ensures still { Ascends self.new }
     {

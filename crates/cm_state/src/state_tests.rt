@@ -1,5 +1,6 @@
 // The parts of a state, its processes and its spaces, by hand: each call once, and copies.
-ghost use Rattle.std.specs.Prelude.{◌≡◌, IfOk};
+ghost use Rattle.std.specs.Prelude.{◌≡◌};
+ghost use Rattle.cm_base.specs.Outcome.{OrNoMemory};
 ghost use Rattle.model_cred.specs.Process.{Ascends};
 
 use crate::{Cred, FourIds, Groups, Proc, Procs, Space, Spaces, State};
@@ -36,7 +37,7 @@ fn cred(alloc: Global) -> Result<Cred, NoMemory> {
 
 // A process of that pid in the initial space.
 fn process(alloc: Global, n: u32) -> Result<Proc, NoMemory>
-    ensures { IfOk result (λ p. p.space ≡ 0) }
+    ensures { OrNoMemory result (λ p. p.space ≡ 0) }
 {
     let cred = cred(alloc)?;
     Ok(Proc {
@@ -60,7 +61,7 @@ fn put(procs: &mut Procs, p: Proc) -> Result<(), NoMemory>
 
 // Processes of the pids 100, 200 and 300, put in another order.
 fn three(alloc: Global) -> Result<Procs, NoMemory>
-    ensures { IfOk result (λ procs. Ascends procs) }
+    ensures { OrNoMemory result (λ procs. Ascends procs) }
 {
     let mut procs = Procs::from_vec(Vec::new(alloc));
     put(&mut procs, process(alloc, 200)?)?;

@@ -9,7 +9,7 @@ use Rattle.std.proofs.lemmas.List.Splits.{slice_split_none, slice_split_first}
 use Rattle.std.proofs.lemmas.List.Sums.{fails_before_first}
 use Rattle.std.specs.List.{position, position_or_len, slice_split}
 
--- so many digits behind a number that so many have spelled stay below 16 to their count, and within 64 bits
+-- so many digits after a number that so many have spelled stay below 16 to their count, and within 64 bits
 hex-below : (number digit i : ℕ) → number < 16 ^ i → digit < 16 → 16 * number + digit < 16 ^ (i + 1)
 hex-below number digit i below small = rw (pow_more 16 i) (omega arith)
 
@@ -31,11 +31,11 @@ no_place : (place count : ℕ) (b : Bool) → ltb place count ≡ b → cond b (
 no_place place count true e is = absurd cc
 no_place place count false e is = ltb-false place count e
 
--- what stands behind a place, as a slice of the text
+-- what stands after a place, as a slice of the text
 behind : (text : List ℕ) (place : ℕ) → take (length text - place) (drop place text) ≡ drop place text
 behind text place = take_all (length text - place) (drop place text) (rw (length-drop place text) (le_refl (length text - place)))
 
--- a text with a comma is what stands before the first one, and the parts of what stands behind it
+-- a text with a comma is what stands before the first one, and the parts of what stands after it
 pub cut_at_comma : (text : List ℕ) (comma : ℕ) → position is_comma text ≡ Some comma
     → slice_split is_comma text ≡ take comma text ∷ slice_split is_comma (take (length text - (comma + 1)) (drop (comma + 1) text))
 cut_at_comma text comma is =

@@ -99,7 +99,7 @@ onto_no_parent p so_far (Some more) none = rw (none, and_false (not (has_pid p.p
 
 -- ---- the rows so far
 -- The entries are the processes of the rows before this place, by ascending pid and in the initial space; those of the
--- others behind them make the world of all rows.
+-- others after them make the world of all rows.
 pub record AreRead (rows : List Value) (at : ℕ) (entries : List (ℕ × Process)) : Type 0 where
   pub processes : List Process
   pub by_pid : entries ≡ by_pid processes

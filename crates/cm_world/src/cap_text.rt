@@ -1,7 +1,7 @@
 // The texts of sets of capabilities, in worlds and in log lines (choice).
 ghost use Rattle.std.specs.Prelude.{◌≡◌, ◌<◌, ◌≤◌, ◌∷◌, [], ◌==◌, length, position, IfSome, IfNone};
 ghost use Rattle.std.specs.List.{slice_split};
-ghost use Rattle.model_text.specs.CapText.{hex_value, hex_behind, digits_set, names_set, set_of_text};
+ghost use Rattle.model_text.specs.CapText.{hex_value, hex_after, digits_set, names_set, set_of_text};
 
 use cm_base::{Cap, CapWord};
 
@@ -36,7 +36,7 @@ fn digits_set(text: &[u8]) -> Option<CapWord>
 /// The number that at most 16 hexadecimal digits spell.
 fn hex_number(text: &[u8]) -> Option<u64>
     requires { length text.now ≤ 16 }
-    ensures { result ≡ hex_behind 0 text.now }
+    ensures { result ≡ hex_after 0 text.now }
 {
     let mut number: u64 = 0;
     for byte in text {
@@ -74,7 +74,7 @@ fn names_set(text: &[u8]) -> Option<CapWord>
     Some(set.with(Cap::from_name(rest)?))
 }
 
-/// What stands before the first comma, and what behind it. None where there is no comma.
+/// What stands before the first comma, and what after it. None where there is no comma.
 fn first_name(text: &[u8]) -> Option<(&[u8], &[u8])>
     ensures cut { IfSome result (λ cut. slice_split (λ byte. byte == 44) text.now ≡ cut.0.now ∷ slice_split (λ byte. byte == 44) cut.1.now) }
     ensures shorter { IfSome result (λ cut. length cut.1.now < length text.now) }

@@ -4,7 +4,7 @@ use cm_state::Proc;
 use std::alloc::Global;
 use std::test::Fail;
 
-// Each process of the world: its pid, behind `<` its forebear if it has one, its four user ids, its permitted set.
+// Each process of the world: its pid, after `<` its forebear if it has one, its four user ids, its permitted set.
 fn shown(alloc: Global, text: &[u8]) -> Result<String, WorldError> {
     let world = read_world(alloc, text)?;
     let mut shown = String::new(alloc);

@@ -1,4 +1,4 @@
--- What is proved of bounds. A law that a contract cites can range over tests; the lemmas behind it range over all
+-- What is proved of bounds. A law that a contract cites can range over tests; the lemmas after it range over all
 -- bounds.
 use Rattle.std.specs.Prelude.{◌≡◌, ◌⊎◌, ℕ, ◌&&◌, Bool, false, IsTrue, List}
 use Rattle.model_cred.specs.Call.{Event}

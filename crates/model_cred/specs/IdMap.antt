@@ -44,7 +44,7 @@ abbrev pub is_the : Option ℕ → ℕ → Bool
 is_the None n = false
 is_the (Some m) n = n == m
 
--- The line holds the inside id, and the outside id lies as far behind its outside as the inside id behind its inside.
+-- The line holds the inside id, and the outside id lies as far after its outside as the inside id after its inside.
 pub record TakesTo (inside outside : ℕ) (e : Extent) : Type 0 where
   pub from_first : e.inside ≤ inside
   pub before_end : inside < e.inside + e.length

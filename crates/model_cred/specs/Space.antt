@@ -21,7 +21,7 @@ pub record KeepsSpace (s : Space) : Type 0 where
   pub uids : HasIds (extents_of s.uids)
   pub gids : HasIds (extents_of s.gids)
 
--- The spaces, the newest first: space n is the one with n spaces behind it, so that the last of the list is the initial
+-- The spaces, the newest first: space n is the one with n spaces after it, so that the last of the list is the initial
 -- one (the numbers are a choice).
 abbrev pub Spaces : Type 0
 Spaces = List Space

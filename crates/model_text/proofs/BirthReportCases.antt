@@ -113,7 +113,7 @@ pub audit_of_a_child : Says (report (audit_words (codes "101") (codes "uid:0")) 
 unfolding report_on_literals world_on_literals
 audit_of_a_child = record { status = refl; text = refl }
 
--- one that lives alone again has still another call behind it
+-- one that lives alone again has still another call after it
 pub audit_behind_an_exit : Audits (codes "uid = 1000\n") (codes "100 fork = 101\n101 exit = 0\n") (codes "uid:0") status.NotBuilt
     (user_line ∷ codes "1: 100 fork = 101" ∷ user_line ∷ user_at (codes "101") ∷ codes "2: 101 exit = 0" ∷ codes "end 2" ∷ codes "not built" ∷ [])
 unfolding report_on_literals world_on_literals
@@ -128,7 +128,7 @@ unfolding report_on_literals world_on_literals
 audit_beside_a_parent = record { status = refl; text = refl }
 
 -- ---- the forebears that a log leaves
--- the state behind the events of a log, from that of process 100 of root alone
+-- the state after the events of a log, from that of process 100 of root alone
 abbrev pub state_behind : List ℕ → State
 state_behind log = let w = world_with (of_forebear 100 None root ∷ []) in state_after w w.start (events_of (lines_of log))
 

@@ -8,7 +8,7 @@ use Rattle.std.specs.Option.{option_or}
 use Rattle.cm_base.proofs.CapSets.{with_is_cap_set}
 use Rattle.cm_base.specs.CapSet.{cap_count, full, none, meet, with, IsCapSet}
 use Rattle.cm_base.specs.Names.{cap_names, cap_of}
-use Rattle.model_text.specs.CapText.{hex_behind, digits_set, names_with, names_set, set_of_text}
+use Rattle.model_text.specs.CapText.{hex_after, digits_set, names_with, names_set, set_of_text}
 
 pub none_is : IsCapSet none
 none_is = lit< tt
@@ -44,8 +44,8 @@ meet_full_is bits = omega (arith, and_le_r bits full)
 
 digits_are : (text : List ℕ) → IfSome (digits_set text) IsCapSet
 digits_are text =
-    cond_both (length text == 16) (option_map (λ bits. meet bits full) (hex_behind 0 text)) None (λ o. IfSome o IsCapSet)
-    (λ _. met (hex_behind 0 text))
+    cond_both (length text == 16) (option_map (λ bits. meet bits full) (hex_after 0 text)) None (λ o. IfSome o IsCapSet)
+    (λ _. met (hex_after 0 text))
     (λ _. tt)
   where
     met : (bits : Option ℕ) → IfSome (option_map (λ bits. meet bits full) bits) IsCapSet

@@ -15,13 +15,13 @@ use Rattle.model_text.proofs.Showing.{last_append, same_shown, silent_shown}
 use Rattle.model_text.proofs.Starts.{start_distinct, start_shows}
 use Rattle.model_text.proofs.Statuses.{has_its_cause, of_begins, of_asked, no_step, over_all}
 use Rattle.model_text.proofs.Verdicts.{log_verdict, no_shows}
-use Rattle.model_text.specs.Causes.{Begins, Reaches, Cause, IsAccepted, IsImpossible, Behind, IsYes, IsNo}
+use Rattle.model_text.specs.Causes.{Begins, Reaches, Cause, IsAccepted, IsImpossible, AfterLog, IsYes, IsNo}
 use Rattle.model_text.specs.Command.{command_of, query_of}
 use Rattle.model_text.specs.Laws.{AcceptedIsRun, ImpossibleIsNoStep, YesIsNever, NoIsWay, ShowsWay, Shows, last_credentials}
 use Rattle.model_text.specs.Line.{Line, events_of}
 use Rattle.model_text.specs.Print.{event_text}
 use Rattle.model_text.specs.Query.{Query, asked_process, right_token}
-use Rattle.model_text.specs.Report.{Report, ReportLine, Plain, report, replayed, by_line, start_lines, at_line, not_built, answered, go_on, verdict_behind, asked_verdict, right_verdict, way_verdict, way_lines, state_after}
+use Rattle.model_text.specs.Report.{Report, ReportLine, Plain, report, replayed, by_line, start_lines, at_line, not_built, answered, go_on, verdict_after, asked_verdict, right_verdict, way_verdict, way_lines, state_after}
 use Rattle.model_text.specs.WorldText.{Reads, world_text, text_says_more}
 
 -- an answer has no credential lines
@@ -47,7 +47,7 @@ asked_silent pid more s None right = refl
 asked_silent pid more s (Some p) None = refl
 asked_silent pid more s (Some p) (Some right) = right_silent pid more s p right
 
-verdict_silent : (pid : ℕ) (more : Bool) (w : World) (es : List Event) (q : Query) → last_credentials pid (verdict_behind more w es q).lines ≡ None
+verdict_silent : (pid : ℕ) (more : Bool) (w : World) (es : List Event) (q : Query) → last_credentials pid (verdict_after more w es q).lines ≡ None
 verdict_silent pid more w es q =
     let s : State = state_after w w.start es in
     asked_silent pid (more || not (are_setresuids es)) s (asked_process s q.pid) (right_token q.right)
@@ -61,7 +61,7 @@ go_on_shows pid _ replay next silent = refl
 answered_shows : (pid : ℕ) (query : Option Query) (more : Bool) (w : World) (lines : List (List ℕ)) → last_credentials pid (answered query more w lines).lines ≡ last_credentials pid (replayed w lines w.start 1 0).lines
 answered_shows pid None more w lines = refl
 answered_shows pid (Some q) more w lines =
-    go_on_shows pid (replayed w lines w.start 1 0).status (replayed w lines w.start 1 0) (verdict_behind more w (events_of lines) q) (verdict_silent pid more w (events_of lines) q)
+    go_on_shows pid (replayed w lines w.start 1 0).status (replayed w lines w.start 1 0) (verdict_after more w (events_of lines) q) (verdict_silent pid more w (events_of lines) q)
 
 -- the last credential line of a process in the report is that of the lines at the start and of the replay
 report_last : (words : List (List ℕ)) (bytes : List ℕ → List ℕ) (w : World) (lines : List (List ℕ)) → Begins words bytes w lines → (pid : ℕ)
@@ -128,7 +128,7 @@ pub yes_is_never : YesIsNever
 unfolding YesIsNever
 yes_is_never words bytes q asked said = yes_by words bytes q asked (subst (λ (st : Status). Cause words bytes st) said (has_its_cause words bytes))
 
-no_by : (words : List (List ℕ)) (bytes : List ℕ → List ℕ) → Behind words bytes IsNo → ShowsWay words bytes (report words bytes).lines
+no_by : (words : List (List ℕ)) (bytes : List ℕ → List ℕ) → AfterLog words bytes IsNo → ShowsWay words bytes (report words bytes).lines
 no_by words bytes (is, q, asked, (p, k, asks, back)) =
     let shown : (way : List Event) × BringsBack is.world is.state p.pid k way × (log_verdict words bytes is q ≡ way_verdict p.pid (Some way)) = no_shows words bytes is q p k asks back in
     let replay : List ReportLine = (replayed is.world is.lines is.world.start 1 0).lines in

@@ -121,7 +121,7 @@ pub faults_of_groups : AreFaulty
 faults_of_groups = refl
 
 -- ---- the other calls
--- each call that isn't built, whatever stands behind its name
+-- each call that isn't built, whatever stands after its name
 pub calls_that_are_not_built : AreUnbuilt
     (codes "100 clone_user = 101" ∷ codes "100 unshare = 0" ∷ codes "100 setns #1 = 0" ∷ codes "100 write_uid_map #1 0 0 1 = 0" ∷ codes "100 write_gid_map #1 0 0 1 = 0" ∷ codes "100 write_setgroups #1 deny = 0" ∷ codes "100 execve - = 0"
     ∷ codes "100 unshare" ∷ codes "100 setns x y z" ∷ codes "100 execve = =" ∷ [])

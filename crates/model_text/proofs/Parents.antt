@@ -18,7 +18,7 @@ alive_by_pid pid (p ∷ ps) = grind (arith, alive_by_pid pid ps)
 abbrev IsFound : List Process → Process → Type 0
 IsFound all p = process_at all p.pid ≡ Some p
 
--- also behind another, whose pid none of them has
+-- also after another, whose pid none of them has
 found_behind : (p : Process) (ps : List Process) (q : Process) → has_pid p.pid ps ≡ false → IsFound ps q → IsFound (p ∷ ps) q
 found_behind p ps q free is =
     cond-false (p.pid == q.pid) (Some p) (process_at ps q.pid) (ne_eqb p.pid q.pid other) ∙ is

@@ -1,4 +1,4 @@
--- Where processes stand behind a log: the lines tell events of built calls alone, and a run of such events leaves each
+-- Where processes stand after a log: the lines tell events of built calls alone, and a run of such events leaves each
 -- process in the initial space, and that as the only one.
 use Rattle.std.proofs.Common.{◌≡◌, ℕ, List, [], ◌∷◌, sym, ◌∙◌, subst, refl, All}
 use Rattle.std.proofs.lemmas.List.Elements.{All-nil, All-cons, All-head, All-tail}

@@ -21,7 +21,7 @@ pub events_past_told : (line : List ℕ) (lines : List (List ℕ)) (e : Event) �
 events_past_told line lines e is = ap (λ (l : Line). cons_option (told_event l) (events_of lines)) is
 
 -- ---- the replay over whole lines
--- The one report, from a state on, ends as the other does from another; it is some lines and then the other, and behind lines
+-- The one report, from a state on, ends as the other does from another; it is some lines and then the other, and after lines
 -- that show the one state these show the other.
 pub record GoesOn (from : State) (one : Report) (to : State) (other : Report) : Type 0 where
   pub status : one.status ≡ other.status

@@ -17,7 +17,7 @@ of_row rest = codes "log = \"script\"\n[[process]]\npid = 100\n" ++ rest
 abbrev pub Replays : List ℕ → List ℕ → Status → List (List ℕ) → Type 0
 Replays row log st lines = Says (report replay_words (files (of_row row) log)) st lines
 
--- an audit of process 100 behind it for a right
+-- an audit of process 100 after it for a right
 abbrev pub Audits : List ℕ → List ℕ → List ℕ → Status → List (List ℕ) → Type 0
 Audits row log right st lines = Says (report (audit_words (codes "100") right) (files (of_row row) log)) st lines
 

@@ -1,4 +1,4 @@
--- What the lines of a report show: behind lines that show a state, the lines of a step show the state that it leads to.
+-- What the lines of a report show: after lines that show a state, the lines of a step show the state that it leads to.
 use Rattle.std.proofs.Common.{◌≡◌, ◌≢◌, ℕ, ◌==◌, ◌⊎◌, cond, inl, inr, List, [], ◌∷◌, ◌++◌, Option, Some, None, IsSomeAnd, refl, sym, ◌∙◌, ap, subst, arith}
 use Rattle.std.proofs.lemmas.Bool.{cases_eq}
 use Rattle.std.specs.Option.{option_or}
@@ -37,7 +37,7 @@ IsShown p q = (q.pid ≡ p.pid) × (q.space ≡ p.space) × (q.cred ≡ p.cred)
 pub same_shown : (one other : List ReportLine) (s : State) → ((pid : ℕ) → last_credentials pid one ≡ last_credentials pid other) → Shows other s → Shows one s
 same_shown one other s same shows p found = subst (λ (o : Option Process). IsSomeAnd o (IsShown p)) (sym (same p.pid)) (shows p found)
 
--- and so do lines behind which none is a credential line
+-- and so do lines after which none is a credential line
 pub silent_shown : (lines silent : List ReportLine) (s : State) → ((pid : ℕ) → last_credentials pid silent ≡ None) → Shows lines s → Shows (lines ++ silent) s
 silent_shown lines silent s none shows =
     same_shown (lines ++ silent) lines s (λ pid. last_append pid lines silent ∙ ap (λ (o : Option Process). option_or o (last_credentials pid lines)) (none pid)) shows
@@ -77,7 +77,7 @@ shown_before before s shows p was =
     shown_as_like (last_credentials p.pid before) was.process p was.like
     (subst (λ (n : ℕ). IsSomeAnd (last_credentials n before) (IsShown was.process)) was.like.pid (shows was.process found))
 
--- the lines of a step show the state that it leads to, behind lines that show the state before
+-- the lines of a step show the state that it leads to, after lines that show the state before
 pub step_shows : (w : World) (s : State) (e : Event) (s' : State) → IsBuilt e.call → Step w s e s' → (before : List ReportLine) → Shows before s → (number : ℕ) → Shows (before ++ step_lines s' number e) s'
 step_shows w s e s' built goes before shows number p found =
     let child : Option Process = last_credentials p.pid (child_lines s' e.res) in

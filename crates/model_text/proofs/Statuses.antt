@@ -16,13 +16,13 @@ use Rattle.model_text.specs.Command.{Command, Replay, Audit, Later, NoForm, comm
 use Rattle.model_text.specs.Cut.{lines_of}
 use Rattle.model_text.specs.Laws.{EachByItsCause}
 use Rattle.model_text.specs.Line.{Line, NoEvent, Tells, Faulty, Unbuilt, script_line}
-use Rattle.model_text.specs.Report.{Report, report, command_report, files_report, by_world, world_report, answered, go_on, verdict, verdict_behind, state_after, replayed, by_line, by_outcome, impossible, limit_hit, after, start_lines, world_limit, log_limit}
+use Rattle.model_text.specs.Report.{Report, report, command_report, files_report, by_world, world_report, answered, go_on, verdict, verdict_after, state_after, replayed, by_line, by_outcome, impossible, limit_hit, after, start_lines, world_limit, log_limit}
 use Rattle.model_text.specs.Query.{Query}
 use Rattle.model_text.specs.WorldText.{WorldText, Reads, Bad, world_text, text_says_more}
 use Rattle.model_text.specs.WorldText as texts
 
 -- ---- how the replay of lines ends
--- Among the lines there are whole ones whose events lead from the one state to the other, and behind them comes the line.
+-- Among the lines there are whole ones whose events lead from the one state to the other, and after them comes the line.
 pub record Comes (w : World) (from : State) (lines : List (List ℕ)) (s : State) (line : List ℕ) : Type 0 where
   pub before : List (List ℕ)
   pub later : List (List ℕ)
@@ -130,7 +130,7 @@ cause_of_end words bytes w lines _ begins h other = absurd h
 accepted_of_end : (words : List (List ℕ)) (bytes : List ℕ → List ℕ) (w : World) (lines : List (List ℕ)) → Begins words bytes w lines → Ends w w.start lines status.Accepted → IsAccepted words bytes
 accepted_of_end words bytes w lines begins h = record { world = w; lines = lines; state = h.0; begins = begins; whole = h.1; run = h.2 }
 
--- the cause of an answer behind an accepted log is that of the status
+-- the cause of an answer after an accepted log is that of the status
 cause_of_verdict : (words : List (List ℕ)) (bytes : List ℕ → List ℕ) (is : IsAccepted words bytes) (q : Query) (st : Status) → query_of (command_of words) ≡ Some q → VerdictCause words bytes is q st → Cause words bytes st
 cause_of_verdict words bytes is q status.Accepted asked h = inr (is, q, asked, h)
 cause_of_verdict words bytes is q status.No asked h = (is, q, asked, h)
@@ -138,7 +138,7 @@ cause_of_verdict words bytes is q status.BadQuery asked h = (is, q, asked, h)
 cause_of_verdict words bytes is q status.NotBuilt asked h = inr (is, q, asked, h)
 cause_of_verdict words bytes is q _ asked h = absurd h
 
--- the answer behind a replay
+-- the answer after a replay
 cause_behind : (words : List (List ℕ)) (bytes : List ℕ → List ℕ) (w : World) (lines : List (List ℕ)) (replay next : Report) (st : Status) → Begins words bytes w lines → replay.status ≡ st → Ends w w.start lines st
     → (Ends w w.start lines status.Accepted → Cause words bytes next.status) → Cause words bytes (go_on st replay next).status
 cause_behind words bytes w lines replay next status.Accepted begins is h answer = answer h
@@ -161,7 +161,7 @@ caused_by_answer words bytes w lines None asked begins = cause_of_replay words b
 caused_by_answer words bytes w lines (Some q) asked begins =
     let replay : Report = replayed w lines w.start 1 0 in
     let more : Bool = text_says_more (bytes begins.names.world) in
-    cause_behind words bytes w lines replay (verdict_behind more w (events_of lines) q) replay.status begins refl (replay_ends w lines w.start 1 0)
+    cause_behind words bytes w lines replay (verdict_after more w (events_of lines) q) replay.status begins refl (replay_ends w lines w.start 1 0)
     (λ h.
     let is : IsAccepted words bytes = accepted_of_end words bytes w lines begins h in
     let there : state_after w w.start (events_of lines) ≡ h.0 = run_after w (events_of lines) w.start h.0 h.2 in
@@ -248,11 +248,11 @@ pub of_stop : (query : Option Query) (more : Bool) (w : World) (lines : List (Li
 of_stop None more w lines st is other = refl
 of_stop (Some q) more w lines st is other = stops_there (replayed w lines w.start 1 0).status (replayed w lines w.start 1 0) _ (λ accepted. other (sym is ∙ accepted))
 
--- where it is accepted, the answer comes behind it, in the state that its events lead to
+-- where it is accepted, the answer comes after it, in the state that its events lead to
 pub of_end : (q : Query) (more : Bool) (w : World) (lines : List (List ℕ)) (s : State) → (replayed w lines w.start 1 0).status ≡ status.Accepted → Run w w.start (events_of lines) s
     → answered (Some q) more w lines ≡ after (replayed w lines w.start 1 0).lines (verdict (more || not (are_setresuids (events_of lines))) s q)
 of_end q more w lines s is run =
-    ap (λ (st : Status). go_on st (replayed w lines w.start 1 0) (verdict_behind more w (events_of lines) q)) is
+    ap (λ (st : Status). go_on st (replayed w lines w.start 1 0) (verdict_after more w (events_of lines) q)) is
     ∙ ap (λ (t : State). after (replayed w lines w.start 1 0).lines (verdict (more || not (are_setresuids (events_of lines))) t q)) (run_after w (events_of lines) w.start s run)
 
 -- the replay of whole lines whose events are a run goes over to its end
@@ -270,7 +270,7 @@ by_end words bytes asked is =
     ap (λ (r : Report). r.status) (of_begins words bytes is.world is.lines is.begins)
     ∙ ap (λ (query : Option Query). (answered query (text_says_more (bytes is.begins.names.world)) is.world is.lines).status) asked ∙ replay_accepted words bytes is
 
--- the report where an audit asks behind an accepted log
+-- the report where an audit asks after an accepted log
 pub of_asked : (words : List (List ℕ)) (bytes : List ℕ → List ℕ) (is : IsAccepted words bytes) (q : Query) → query_of (command_of words) ≡ Some q
     → report words bytes ≡ after (start_lines is.world) (after (replayed is.world is.lines is.world.start 1 0).lines (log_verdict words bytes is q))
 of_asked words bytes is q asked =

@@ -141,7 +141,7 @@ was_found s caller res s' (inr (inr (inl (pid, told, comes)))) p found other unt
 was_found s caller res s' (inr (inr (inr goes))) p found other untold =
     left_by_exit s caller p (process_at s.processes p.pid) refl (sym (without_other caller s.processes p.pid other) ∙ ap (λ (x : State). process_at x.processes p.pid) (sym goes) ∙ found)
 
--- each process behind it but the caller and the child that it tells was there before
+-- each process after it but the caller and the child that it tells was there before
 pub others_were_there : (w : World) (s : State) (e : Event) (s' : State) → IsBuilt e.call → Step w s e s' → (p : Process) → process_at s'.processes p.pid ≡ Some p → p.pid ≢ e.pid
     → ((pid : ℕ) → e.res ≡ Child pid → p.pid ≢ pid) → WasThere s p
 unfolding Made

@@ -110,7 +110,7 @@ unfolding IsOf TellsKind
 told_of pid kind None of e is = absurd (cc)
 told_of pid kind (Some read) of e is = told_by pid kind read.0 (ending kind read.1) of e is
 
--- the event that the tokens behind a call's name tell is of that call
+-- the event that the tokens after a call's name tell is of that call
 pub tells_kind : (pid : ℕ) (kind : CallKind) (tokens : Tokens) (e : Event) → tells (event_told pid kind tokens) ≡ Tells e → kind_of e.call ≡ kind
 unfolding TellsKind
 tells_kind pid kind tokens e is = told_of pid kind (call_of_kind kind tokens) (call_of kind tokens) e is

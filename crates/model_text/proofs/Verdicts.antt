@@ -14,7 +14,7 @@ use Rattle.model_run.specs.WayBack.{are_setresuids, BringsBack, CanComeBack, alo
 use Rattle.model_text.proofs.Declared.{start_follows}
 use Rattle.model_text.specs.Causes.{IsAccepted, Asks, AsksAlone, IsKnown, HasMore, IsYes, IsNo, IsBadQuery, IsBeyond}
 use Rattle.model_text.specs.Line.{events_of}
-use Rattle.model_text.specs.Query.{Query, asked_process, process_of, right_token, right_by, id_number, as_id, cap_parts, cap_right, behind}
+use Rattle.model_text.specs.Query.{Query, asked_process, process_of, right_token, right_by, id_number, as_id, cap_parts, cap_right, rest_after}
 use Rattle.model_text.specs.Report.{Report, verdict, asked_verdict, right_verdict, way_verdict, not_built, state_after, state_or}
 use Rattle.model_text.specs.Token.{number_token, pid_token}
 use Rattle.model_text.specs.WorldText.{Reads, world_text, text_says_more}
@@ -63,7 +63,7 @@ is_known words bytes is none =
 known_is : (words : List (List ℕ)) (bytes : List ℕ → List ℕ) (is : IsAccepted words bytes) → IsKnown words bytes is → has_more words bytes is ≡ false
 known_is words bytes is known = by_no_more (text_says_more (bytes is.begins.names.world)) (are_setresuids (events_of is.lines)) known.world known.events
 
--- behind a log of which it knows all, the sets of each process follow its user ids
+-- after a log of which it knows all, the sets of each process follow its user ids
 pub accepted_follows : (words : List (List ℕ)) (bytes : List ℕ → List ℕ) (is : IsAccepted words bytes) → IsKnown words bytes is → StateFollows is.state
 accepted_follows words bytes is known =
     reached_follows (bytes is.begins.names.world) is.world (events_of is.lines) is.state is.begins.names.reads known.world known.events is.run
@@ -97,7 +97,7 @@ right_is_id None None (Some cap) k is = absurd (parts_no_uid (position (λ byte.
 right_is_id None None None k is = absurd (cc)
 
 pub asked_id : (text : List ℕ) (k : ℕ) → right_token text ≡ Some (Uid k) → k < 4294967295
-asked_id text k is = right_is_id (behind (codes "uid:") text) (behind (codes "gid:") text) (behind (codes "cap:") text) k is
+asked_id text k is = right_is_id (rest_after (codes "uid:") text) (rest_after (codes "gid:") text) (rest_after (codes "cap:") text) k is
 
 -- ---- one process alone
 same_number : (a b : ℕ) → (a == b) ≡ true → a ≡ b
@@ -166,7 +166,7 @@ never : (more : Bool) → (not more && false) ≡ false
 never true = refl
 never false = refl
 
--- ---- the cause of the answer behind an accepted log
+-- ---- the cause of the answer after an accepted log
 -- the cause of each status of an answer
 abbrev pub VerdictCause : (words : List (List ℕ)) (bytes : List ℕ → List ℕ) → IsAccepted words bytes → Query → Status → Type 0
 VerdictCause words bytes is q status.Accepted = IsYes words bytes is q

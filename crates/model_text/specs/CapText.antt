@@ -14,14 +14,14 @@ hex_value byte =
     else if nat_le 65 byte && nat_le byte 70 then Some (byte - 55)
     else None
 
--- the number that hexadecimal digits spell behind those that spell the one before
-abbrev pub hex_behind : ℕ → List ℕ → Option ℕ
-hex_behind before [] = Some before
-hex_behind before (byte ∷ text) = option_and_then (λ digit. hex_behind (16 * before + digit) text) (hex_value byte)
+-- the number that hexadecimal digits spell after those that spell the one before
+abbrev pub hex_after : ℕ → List ℕ → Option ℕ
+hex_after before [] = Some before
+hex_after before (byte ∷ text) = option_and_then (λ digit. hex_after (16 * before + digit) text) (hex_value byte)
 
 -- 16 hexadecimal digits as a set
 abbrev pub digits_set : List ℕ → Option ℕ
-digits_set text = if length text == 16 then option_map (λ bits. meet bits full) (hex_behind 0 text) else None
+digits_set text = if length text == 16 then option_map (λ bits. meet bits full) (hex_after 0 text) else None
 
 -- the set and the capabilities of these names
 abbrev pub names_with : ℕ → List (List ℕ) → Option ℕ

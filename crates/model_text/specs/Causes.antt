@@ -82,13 +82,13 @@ IsLongWorld words bytes = (world : List ℕ) × (log : List ℕ) × (files_of (c
 abbrev pub IsLongLog : List (List ℕ) → (List ℕ → List ℕ) → Type 0
 IsLongLog words bytes = (w : World) × (log : List ℕ) × Names words bytes (Reads w) log × (log_limit < length (bytes log))
 
--- ---- the answer to an audit, in the state behind an accepted log
+-- ---- the answer to an audit, in the state after an accepted log
 -- the query's pid is that of a live process, and its right is a right
 pub record Asks (q : Query) (s : State) (p : Process) (right : Right) : Type 0 where
   pub process : asked_process s q.pid ≡ Some p
   pub asked : right_token q.right ≡ Some right
 
--- The weak audit knows what is behind the log: the world's text says no more of a process than its pid and its user ids,
+-- The weak audit knows what is after the log: the world's text says no more of a process than its pid and its user ids,
 -- and each event is a call of setresuid.
 pub record IsKnown (words : List (List ℕ)) (bytes : List ℕ → List ℕ) (is : IsAccepted words bytes) : Type 0 where
   pub world : text_says_more (bytes is.begins.names.world) ≡ false
@@ -98,7 +98,7 @@ pub record IsKnown (words : List (List ℕ)) (bytes : List ℕ → List ℕ) (is
 abbrev pub HasMore : (words : List (List ℕ)) (bytes : List ℕ → List ℕ) → IsAccepted words bytes → Type 0
 HasMore words bytes is = (text_says_more (bytes is.begins.names.world) ≡ true) ⊎ (are_setresuids (events_of is.lines) ≡ false)
 
--- one process lives, the query asks for a user id of it, and the weak audit knows what is behind the log
+-- one process lives, the query asks for a user id of it, and the weak audit knows what is after the log
 pub record AsksAlone (words : List (List ℕ)) (bytes : List ℕ → List ℕ) (is : IsAccepted words bytes) (q : Query) (p : Process) (k : ℕ) : Type 0 where
   pub asks : Asks q is.state p (Uid k)
   pub alone : length is.state.processes ≡ 1
@@ -122,24 +122,24 @@ IsBeyond words bytes is q =
     (p : Process) × (right : Right) × Asks q is.state p right
     × (((k : ℕ) → ¬ (right ≡ Uid k)) ⊎ (1 < length is.state.processes) ⊎ HasMore words bytes is)
 
--- The words ask a query, and behind the accepted log this holds of it.
-abbrev pub Behind : (words : List (List ℕ)) (bytes : List ℕ → List ℕ) → ((words : List (List ℕ)) (bytes : List ℕ → List ℕ) → IsAccepted words bytes → Query → Type 0) → Type 0
-Behind words bytes Answer = (is : IsAccepted words bytes) × (q : Query) × (query_of (command_of words) ≡ Some q) × Answer words bytes is q
+-- The words ask a query, and after the accepted log this holds of it.
+abbrev pub AfterLog : (words : List (List ℕ)) (bytes : List ℕ → List ℕ) → ((words : List (List ℕ)) (bytes : List ℕ → List ℕ) → IsAccepted words bytes → Query → Type 0) → Type 0
+AfterLog words bytes Answer = (is : IsAccepted words bytes) × (q : Query) × (query_of (command_of words) ≡ Some q) × Answer words bytes is q
 
 -- ---- the causes
--- Not built are the other commands, a world that asks for more, and the line of a call that isn't built, behind a run.
+-- Not built are the other commands, a world that asks for more, and the line of a call that isn't built, after a run.
 abbrev pub IsUnbuilt : List (List ℕ) → (List ℕ → List ℕ) → Type 0
 IsUnbuilt words bytes = (command_of words ≡ Later) ⊎ ((log : List ℕ) × Names words bytes NotBuilt log) ⊎ StopsAt words bytes Unbuilt
 
 -- The cause of each status that comes of the words and of the bytes of the files.
 abbrev pub Cause : List (List ℕ) → (List ℕ → List ℕ) → Status → Type 0
-Cause words bytes status.Accepted = ((query_of (command_of words) ≡ None) × IsAccepted words bytes) ⊎ Behind words bytes IsYes
-Cause words bytes status.No = Behind words bytes IsNo
+Cause words bytes status.Accepted = ((query_of (command_of words) ≡ None) × IsAccepted words bytes) ⊎ AfterLog words bytes IsYes
+Cause words bytes status.No = AfterLog words bytes IsNo
 Cause words bytes status.Impossible = IsImpossible words bytes
 Cause words bytes status.BadWorld = (log : List ℕ) × Names words bytes Bad log
 Cause words bytes status.BadLog = StopsAt words bytes Faulty
 Cause words bytes status.Usage = command_of words ≡ NoForm
 Cause words bytes status.Limit = IsLongWorld words bytes ⊎ IsLongLog words bytes
-Cause words bytes status.BadQuery = Behind words bytes IsBadQuery
-Cause words bytes status.NotBuilt = IsUnbuilt words bytes ⊎ Behind words bytes IsBeyond
+Cause words bytes status.BadQuery = AfterLog words bytes IsBadQuery
+Cause words bytes status.NotBuilt = IsUnbuilt words bytes ⊎ AfterLog words bytes IsBeyond
 Cause words bytes _ = ⊥

@@ -3,7 +3,7 @@ use Rattle.std.specs.Prelude.{ℕ, codes, bytes_eq, Bool, false, nat_le, length,
 use Rattle.model_text.specs.Query.{Query}
 use Rattle.model_text.specs.Token.{number_token}
 
--- Replay of a log in a world; an audit behind it, with the texts of a pid and of a right; one of the other forms; none of
+-- Replay of a log in a world; an audit after it, with the texts of a pid and of a right; one of the other forms; none of
 -- the forms.
 pub data Command : Type 0 where
   Replay : List ℕ → List ℕ → Command
@@ -19,7 +19,7 @@ abbrev pub audit_words : List (List ℕ) → Command
 audit_words (world ∷ log ∷ pid ∷ right ∷ []) = Audit world log pid right
 audit_words _ = NoForm
 
--- so many words behind the command
+-- so many words after the command
 abbrev pub later_words : ℕ → List (List ℕ) → Command
 later_words count words = if length words == count then Later else NoForm
 
@@ -50,7 +50,7 @@ files_of (Audit world log pid right) = Some (world, log)
 files_of Later = None
 files_of NoForm = None
 
--- what a command asks behind the log
+-- what a command asks after the log
 abbrev pub query_of : Command → Option Query
 query_of (Audit world log pid right) = Some (record { pid = pid; right = right })
 query_of (Replay world log) = None

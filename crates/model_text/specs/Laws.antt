@@ -38,14 +38,14 @@ unfoldable pub ImpossibleIsNoStep : Type 0
 ImpossibleIsNoStep = (words : List (List ℕ)) (bytes : List ℕ → List ℕ) → (report words bytes).status ≡ status.Impossible → (is : IsImpossible words bytes) × Shows (report words bytes).lines is.state
 
 -- ---- what an audit says
--- Where an audit's status is 0, it writes yes: one process lives behind the log, and no list of later setresuid calls of
+-- Where an audit's status is 0, it writes yes: one process lives after the log, and no list of later setresuid calls of
 -- it, of any length, ends where it holds the user id that is asked for.
 unfoldable pub YesIsNever : Type 0
 YesIsNever = (words : List (List ℕ)) (bytes : List ℕ → List ℕ) (q : Query) → query_of (command_of words) ≡ Some q → (report words bytes).status ≡ status.Accepted
     → (is : IsAccepted words bytes) × IsYes words bytes is q
 
 -- An answer no shows a list of later setresuid calls that does: its last lines are the way, which leads the one process
--- that lives behind the log to the user id that is asked for.
+-- that lives after the log to the user id that is asked for.
 pub record ShowsWay (words : List (List ℕ)) (bytes : List ℕ → List ℕ) (lines : List ReportLine) : Type 0 where
   pub accepted : IsAccepted words bytes
   pub query : Query

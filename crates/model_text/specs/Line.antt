@@ -1,6 +1,6 @@
 -- What a line of a script log stands for: PID CALL ARGUMENTS = RESULT (choice). Built so far: the calls that set user ids,
 -- group ids and groups, those of capset and prctl, fork and exit. Of each part is said what it is and which tokens stand
--- behind it.
+-- after it.
 use Rattle.std.specs.Prelude.{◌≡◌, ℕ, Bool, true, false, List, [], ◌∷◌, Option, Some, None, if◌then◌else◌, filter_map, option_map, option_and_then}
 use Rattle.cm_base.specs.declared.res.Res.{Res}
 use Rattle.cm_base.specs.declared.res.Res.TheVariants.{Id}
@@ -23,16 +23,16 @@ abbrev pub Tokens : Type 0
 Tokens = List (List ℕ)
 
 -- ---- the arguments
--- what the first token stands for, and the tokens behind it
+-- what the first token stands for, and the tokens after it
 abbrev pub next_read : (List ℕ → Option ℕ) → Tokens → Option (ℕ × Tokens)
 next_read read [] = None
 next_read read (token ∷ tokens) = option_map (λ n. (n, tokens)) (read token)
 
--- an id, and the tokens behind it
+-- an id, and the tokens after it
 abbrev pub next_id : Tokens → Option (ℕ × Tokens)
 next_id tokens = next_read id_token tokens
 
--- a call with one id, and the tokens behind it
+-- a call with one id, and the tokens after it
 abbrev pub with_one : (ℕ → Call) → Tokens → Option (Call × Tokens)
 with_one make tokens = option_map (λ first. (make first.0, first.1)) (next_id tokens)
 
@@ -70,7 +70,7 @@ with_sets tokens =
     option_map (λ inheritable. (CapSet effective.0 permitted.0 inheritable.0, inheritable.1)) (next_read set_of_text permitted.1)) (next_read set_of_text effective.1))
     (next_read set_of_text tokens)
 
--- a call of that kind with its arguments, and the tokens behind them; none for a kind that isn't built
+-- a call of that kind with its arguments, and the tokens after them; none for a kind that isn't built
 abbrev pub call_of_kind : CallKind → Tokens → Option (Call × Tokens)
 call_of_kind kind.SetUid tokens = with_one SetUid tokens
 call_of_kind kind.SetReUid tokens = with_two SetReUid tokens
@@ -109,7 +109,7 @@ ending kind (equals ∷ res ∷ []) = if is_equals equals then result_of_kind ki
 ending kind _ = None
 
 -- ---- the line
--- the event of a call of that kind by the process, as the tokens behind the call's name tell it
+-- the event of a call of that kind by the process, as the tokens after the call's name tell it
 abbrev pub event_told : ℕ → CallKind → Tokens → Option Event
 event_told pid kind tokens =
     option_and_then (λ read. option_map (λ res. record { pid = pid; call = read.0; res = res }) (ending kind read.1)) (call_of_kind kind tokens)
@@ -146,17 +146,17 @@ abbrev pub tells : Option Event → Line
 tells None = Faulty
 tells (Some e) = Tells e
 
--- the tokens behind the name of a call, which is none where it has no kind
+-- the tokens after the name of a call, which is none where it has no kind
 abbrev pub kind_line : ℕ → Option CallKind → Tokens → Line
 kind_line pid None tokens = Faulty
 kind_line pid (Some kind) tokens = if is_built kind then tells (event_told pid kind tokens) else Unbuilt
 
--- the tokens behind the pid
+-- the tokens after the pid
 abbrev pub call_line : ℕ → Tokens → Line
 call_line pid [] = Faulty
 call_line pid (name ∷ tokens) = kind_line pid (kind_named name) tokens
 
--- the tokens behind the first one, which should be a pid
+-- the tokens after the first one, which should be a pid
 abbrev pub pid_line : Option ℕ → Tokens → Line
 pid_line None tokens = Faulty
 pid_line (Some pid) tokens = call_line pid tokens

@@ -75,7 +75,7 @@ res_text (Id n) = decimal n
 res_text (Child p) = decimal p
 res_text (Err e) = errno_name e
 
--- ids of a call, each behind a space
+-- ids of a call, each after a space
 abbrev pub arguments_text : List ℕ → List ℕ
 arguments_text ids = flat_map (λ id. codes " " ++ id_text id) ids
 
@@ -83,7 +83,7 @@ arguments_text ids = flat_map (λ id. codes " " ++ id_text id) ids
 abbrev pub cap_name_or_number : ℕ → List ℕ
 cap_name_or_number cap = unwrap_or (cap_name cap) (decimal cap)
 
--- the arguments of a call, each behind a space (built so far: the calls that set ids and groups, those of capset and prctl,
+-- the arguments of a call, each after a space (built so far: the calls that set ids and groups, those of capset and prctl,
 -- fork and exit)
 abbrev pub arguments_of : Call → List ℕ
 arguments_of (SetUid id) = arguments_text (id ∷ [])
@@ -104,7 +104,7 @@ arguments_of (KeepCaps argument) = codes " " ++ decimal argument
 arguments_of (NoNewPrivs argument) = codes " " ++ decimal argument
 arguments_of _ = []
 
--- a call behind a space: its name and its arguments
+-- a call after a space: its name and its arguments
 abbrev pub call_text : Call → List ℕ
 call_text call = codes " " ++ call_name (kind_of call) ++ arguments_of call
 

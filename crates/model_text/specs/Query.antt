@@ -9,9 +9,9 @@ pub record Query : Type 0 where
   pub pid : List ℕ
   pub right : List ℕ
 
--- what stands behind these bytes, where the text begins with them
-abbrev pub behind : List ℕ → List ℕ → Option (List ℕ)
-behind front text = if bytes_eq (take (length front) text) front then Some (drop (length front) text) else None
+-- what stands after these bytes, where the text begins with them
+abbrev pub rest_after : List ℕ → List ℕ → Option (List ℕ)
+rest_after front text = if bytes_eq (take (length front) text) front then Some (drop (length front) text) else None
 
 -- the number, where it is an id
 abbrev pub as_id : ℕ → Option ℕ
@@ -23,7 +23,7 @@ id_number text = option_and_then as_id (number_token text)
 
 -- a space: `init`, which is space 0, or `#` and its number (a name that isn't declared is none; so far none is)
 abbrev pub space_number : List ℕ → Option ℕ
-space_number text = if bytes_eq text (codes "init") then Some 0 else option_and_then number_token (behind (codes "#") text)
+space_number text = if bytes_eq text (codes "init") then Some 0 else option_and_then number_token (rest_after (codes "#") text)
 
 -- a capability over a space, where both are there
 abbrev pub cap_right : Option ℕ → Option ℕ → Option Right
@@ -47,7 +47,7 @@ right_by None None None = None
 
 -- a right: `uid:K`, `gid:K` or `cap:NAME@SPACE`
 abbrev pub right_token : List ℕ → Option Right
-right_token text = right_by (behind (codes "uid:") text) (behind (codes "gid:") text) (behind (codes "cap:") text)
+right_token text = right_by (rest_after (codes "uid:") text) (rest_after (codes "gid:") text) (rest_after (codes "cap:") text)
 
 -- the process of an optional pid
 abbrev pub process_of : State → Option ℕ → Option Process

@@ -110,7 +110,7 @@ abbrev pub replayed : World → List (List ℕ) → State → ℕ → ℕ → Re
 replayed w [] s number count = ended count
 replayed w (line ∷ lines) s number count = by_line w s number count (λ s' count'. replayed w lines s' (number + 1) count') (script_line line)
 
--- The state that events lead to. (An event that is no step changes nothing; behind an accepted log there is none.)
+-- The state that events lead to. (An event that is no step changes nothing; after an accepted log there is none.)
 abbrev pub state_or : State → Outcome → State
 state_or s (Goes s') = s'
 state_or s _ = s
@@ -131,7 +131,7 @@ way_verdict pid None = says status.Accepted (codes "yes")
 way_verdict pid (Some way) = record { status = status.No; lines = way_lines pid way }
 
 -- the answer about a right of a process of a state. So far it is built for a user id where one process lives, whose sets
--- follow its user ids: not behind a world that says more of it than these, nor behind other calls than setresuid.
+-- follow its user ids: not after a world that says more of it than these, nor after other calls than setresuid.
 abbrev pub right_verdict : Bool → State → Process → Right → Report
 right_verdict more s p (Uid k) = if not more && length s.processes == 1 then way_verdict p.pid (way_back p.cred p.pid k) else not_built
 right_verdict more s p (Gid k) = not_built
@@ -150,21 +150,21 @@ asked_verdict more s (Some p) (Some right) = right_verdict more s p right
 abbrev pub verdict : Bool → State → Query → Report
 verdict more s q = asked_verdict more s (asked_process s q.pid) (right_token q.right)
 
--- the answer behind events that are a run: there is more to it where the world says more, or an event is another call
+-- the answer after events that are a run: there is more to it where the world says more, or an event is another call
 -- than setresuid
-abbrev pub verdict_behind : Bool → World → List Event → Query → Report
-verdict_behind more w es q = verdict (more || not (are_setresuids es)) (state_after w w.start es) q
+abbrev pub verdict_after : Bool → World → List Event → Query → Report
+verdict_after more w es q = verdict (more || not (are_setresuids es)) (state_after w w.start es) q
 
 -- ---- the report of a command
--- behind a replay that is accepted comes another report
+-- after a replay that is accepted comes another report
 abbrev pub go_on : Status → Report → Report → Report
 go_on status.Accepted replay next = after replay.lines next
 go_on _ replay next = replay
 
--- the replay of lines, and behind an accepted log the answer to what is asked
+-- the replay of lines, and after an accepted log the answer to what is asked
 abbrev pub answered : Option Query → Bool → World → List (List ℕ) → Report
 answered None more w lines = replayed w lines w.start 1 0
-answered (Some q) more w lines = let replay = replayed w lines w.start 1 0 in go_on replay.status replay (verdict_behind more w (events_of lines) q)
+answered (Some q) more w lines = let replay = replayed w lines w.start 1 0 in go_on replay.status replay (verdict_after more w (events_of lines) q)
 
 -- the credential lines at the start
 abbrev pub start_lines : World → List ReportLine
@@ -178,7 +178,7 @@ world_limit = 1048576
 abbrev pub log_limit : ℕ
 log_limit = 67108864
 
--- the report of a log in a world, with what is asked behind it
+-- the report of a log in a world, with what is asked after it
 abbrev pub world_report : Option Query → Bool → World → List ℕ → Report
 world_report query more w log = if nat_lt log_limit (length log) then limit_hit (codes "log") log_limit else after (start_lines w) (answered query more w (lines_of log))
 

@@ -1,5 +1,6 @@
-// The arguments of a call in a script line. Each reader gives what it read and the text behind it.
-ghost use Rattle.std.specs.Prelude.{◌≡◌, ◌⊎◌, ℕ, IfOk, option_map};
+// The arguments of a call in a script line. Each reader gives what it read and the text after it.
+ghost use Rattle.std.specs.Prelude.{◌≡◌, ◌⊎◌, ℕ, option_map};
+ghost use Rattle.cm_base.specs.Outcome.{OrNoMemory};
 ghost use Rattle.cm_cli.specs.Lines.{kind_view};
 ghost use Rattle.cm_state.specs.Call.{call_of};
 ghost use Rattle.model_cred.specs.Call as model;
@@ -21,7 +22,7 @@ pub(super) fn read_call(
     kind: CallKind,
     text: &[u8],
 ) -> Result<Option<(Call, &[u8])>, NoMemory>
-    ensures { IfOk result (λ read. option_map (λ p. (call_of p.0, tokens_of p.1.now)) read ≡ call_of_kind (kind_view kind) (tokens_of text.now)) }
+    ensures { OrNoMemory result (λ read. option_map (λ p. (call_of p.0, tokens_of p.1.now)) read ≡ call_of_kind (kind_view kind) (tokens_of text.now)) }
 {
     match kind {
         CallKind::SetUid | CallKind::SetFsUid | CallKind::SetGid | CallKind::SetFsGid => {
@@ -144,7 +145,7 @@ fn next_three(text: &[u8]) -> Option<(u32, u32, u32, &[u8])>
 
 // setgroups with the ids in front of the `=`.
 fn read_groups(alloc: Global, text: &[u8]) -> Result<Option<(Call, &[u8])>, NoMemory>
-    ensures { IfOk result (λ read. option_map (λ p. (call_of p.0, tokens_of p.1.now)) read ≡ with_all model.SetGroups (tokens_of text.now)) }
+    ensures { OrNoMemory result (λ read. option_map (λ p. (call_of p.0, tokens_of p.1.now)) read ≡ with_all model.SetGroups (tokens_of text.now)) }
 {
     let Some((ids, rest)) = ids_before_equals(alloc, text)? else {
         return Ok(None);
@@ -154,7 +155,7 @@ fn read_groups(alloc: Global, text: &[u8]) -> Result<Option<(Call, &[u8])>, NoMe
 
 // The ids in front of the first `=`, and the text from there on. None where a token among them is no id.
 fn ids_before_equals(alloc: Global, text: &[u8]) -> Result<Option<(Vec<u32>, &[u8])>, NoMemory>
-    ensures { IfOk result (λ read. option_map (λ p. (p.0.items, tokens_of p.1.now)) read ≡ ids_before (tokens_of text.now)) }
+    ensures { OrNoMemory result (λ read. option_map (λ p. (p.0.items, tokens_of p.1.now)) read ≡ ids_before (tokens_of text.now)) }
 {
     let mut ids = Vec::new(alloc);
     let mut rest = text;

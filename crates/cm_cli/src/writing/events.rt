@@ -35,7 +35,7 @@ pub(super) fn put_script(text: &mut Vec<u8>, event: &Event) -> Result<(), NoMemo
     put(text, b"\n")
 }
 
-// A call behind a space: its name and its arguments.
+// A call after a space: its name and its arguments.
 #[inline]
 fn put_call(text: &mut Vec<u8>, call: &Call) -> Result<(), NoMemory>
     ensures { OnOk result (text.new.items ≡ text.old.items ++ call_text (call_of call.now)) }
@@ -45,7 +45,7 @@ fn put_call(text: &mut Vec<u8>, call: &Call) -> Result<(), NoMemory>
     put_arguments(text, call)
 }
 
-// The arguments of a call, each behind a space.
+// The arguments of a call, each after a space.
 #[inline]
 fn put_arguments(text: &mut Vec<u8>, call: &Call) -> Result<(), NoMemory>
     ensures { OnOk result (text.new.items ≡ text.old.items ++ arguments_of (call_of call.now)) }

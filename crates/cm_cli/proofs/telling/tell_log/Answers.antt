@@ -33,7 +33,7 @@ returns-in-Err-replay_lines g c =
     (rw (sym c.in-Ok-send_start.ensures.cause.ok) c.in-Err-replay_lines.ensures.cause.later)
     (λ failed. rw (sym c.in-Ok-send_start.ensures.cause.ok) (c.in-Err-replay_lines.ensures.cause.failed (ap Err failed)))
 
--- behind an accepted log the sets of each process follow its user ids, where the weak audit knows all
+-- after an accepted log the sets of each process follow its user ids, where the weak audit knows all
 pub put_answer-requires : goal.put_answer-requires
 put_answer-requires g c = λ accepted known.
     let parts : (c.args.w.now.more ≡ false) × (c.in-Ok-replay_lines.replayed.setresuids ≡ true) = nothing_more c.args.w.now.more c.in-Ok-replay_lines.replayed.setresuids (sym c.has_more-more.ensures ∙ known) in
