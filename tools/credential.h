@@ -168,7 +168,7 @@ static void set_ids(long set_res, long set_fs, const unsigned *ids)
     must(syscall(set_fs, NONE) == ids[3], "the fs id of a state");
 }
 
-// NO_SETUID_FIXUP keeps the sets while the user ids change; the wanted securebits come after that. The sets lie within `own`.
+// NO_SETUID_FIXUP keeps the sets while the user ids change; then come the wanted securebits. The sets lie within `own`.
 static void go_into(const struct wanted *to)
 {
     must(syscall(SYS_setgroups, to->length, to->groups) == 0, "setgroups");
