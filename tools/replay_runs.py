@@ -8,19 +8,19 @@ data/runs.xz; those of FILE, which record_runs wrote; or with --record new ones:
 root, with the other options handed on to it. --keep then keeps them in the place of the kept ones.
 
 Each run is a world with one process, whose row declares all that the kernel showed of it at the start, and a log of the
-run's events with the results that the kernel gave. --write puts them into DIR for each run, as SEED-NUMBER.toml and .log,
-with the report that credaudit must give as .report. Compared are:
+run's events with the results that the kernel gave. --write puts them into DIR for each run, as SEED-NUMBER.toml and
+.log, with the report that credaudit must give as .report. Compared are:
 
   - the credential line before the first event, with what the row declares;
   - after each event its line, with that of the log, and the credential line of the caller, after a fork that of the
-    child too, after an exit none, with what the kernel showed then: all four user ids and group ids, the groups as a set,
-    the five sets, securebits, no_new_privs.
+    child too, after an exit none, with what the kernel showed then: all four user ids and group ids, the groups as a
+    set, the five sets, securebits, no_new_privs.
 
-Where the program prints something else, or says `impossible line K`, that event is a difference. The run goes on in a new
-world, which declares the processes that live then as the kernel showed them. Where KNOWN tells what the rules give instead
-of what the kernel did, the log has the rules' result and the program must print the rules' credential; the process then
-makes no other call but its exit, so the run goes on as it is. Status 0: no other difference; 1: some; 2: nothing could be
-compared.
+Where the program prints something else, or says `impossible line K`, that event is a difference. The run goes on in a
+new world, which declares the processes that live then as the kernel showed them. Where KNOWN tells what the rules give
+instead of what the kernel did, the log has the rules' result and the program must print the rules' credential; the
+process then makes no other call but its exit, so the run goes on as it is. Status 0: no other difference; 1: some; 2:
+nothing could be compared.
 """
 import os
 import tempfile

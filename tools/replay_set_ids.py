@@ -4,16 +4,16 @@
   replay_set_ids.py [--cases FILE | --record [--keep]] [PROGRAM]
 
 PROGRAM is credaudit; left out, the one that was built in this repository. The cases are those kept beside this script,
-data/set_ids.cases.xz; those of FILE, which record_set_ids wrote; or with --record new ones: record_set_ids.c is compiled
-and run, as root, which takes some minutes. --keep then keeps them in the place of the kept ones.
+data/set_ids.cases.xz; those of FILE, which record_set_ids wrote; or with --record new ones: record_set_ids.c is
+compiled and run, as root, which takes some minutes. --keep then keeps them in the place of the kept ones.
 
 The cases are cut into worlds as large as a world may be. Each is a process of its own, whose row declares all that the
 kernel showed before the call, and a line of the log with the result that the kernel gave. Compared are, for each case:
 
   - the credential line before the first event, with what the row declares;
   - the line of the event, with that of the log;
-  - the credential line after the event, with what the kernel showed after the call: all four user ids and group ids, the
-    groups as a set, the five sets, securebits, no_new_privs.
+  - the credential line after the event, with what the kernel showed after the call: all four user ids and group ids,
+    the groups as a set, the five sets, securebits, no_new_privs.
 
 Where the program says `impossible line K`, the rules answer otherwise than the kernel: a difference too. That case is
 taken out, and those after it are replayed again, so one run tells all. Where it is known why the rules leave another
