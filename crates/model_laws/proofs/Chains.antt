@@ -5,7 +5,7 @@ use Rattle.std.specs.List.{list_any}
 use Rattle.std.proofs.lemmas.Bool.{cases_eq, cases_lt, ne_eqb, eq-eqb, eqb-true, ltb-true, cond-true, cond-false, and_parts, and_from, or_cases, or_left, or_right, false_from_ne_true}
 use Rattle.cm_base.specs.CapSet.{holds}
 use Rattle.model_cred.specs.IdMap.{is_the}
-use Rattle.model_cred.specs.Space.{Space, Spaces, IsTree, space_at, chain, chain_from, is_ancestor}
+use Rattle.model_cred.specs.Space.{Space, Spaces, IsTree, space_at, chain, chain_from, is_at_or_above}
 use Rattle.model_rules.specs.Power.{Over, here, owned, above, over, has_over, gives_power, is_owned}
 use Rattle.model_laws.specs.Powers.{PowerIsComputed, NoPowerAbove, PowerOverOwnSpace}
 
@@ -209,7 +209,7 @@ power_goes_down spaces at effective euid cap n tree (above m p s is parent rest)
     omega arith
 
 -- a space above the parent
-up_from_parent : (spaces : Spaces) (n a : ℕ) → IsTree spaces → ((p : ℕ) → p < n → is_ancestor spaces a p ≡ true → a ≤ p)
+up_from_parent : (spaces : Spaces) (n a : ℕ) → IsTree spaces → ((p : ℕ) → p < n → is_at_or_above spaces a p ≡ true → a ≤ p)
     → (s : Space) → space_at spaces n ≡ Some s → (o : Option ℕ) → s.parent ≡ o
     → list_any (λ m. m == a) (chain_from spaces o) ≡ true → a ≤ n
 up_from_parent spaces n a tree before s at None parent rest =
@@ -220,11 +220,11 @@ up_from_parent spaces n a tree before s at (Some p) parent rest =
     omega arith
 
 -- each space of a chain is the first or an older one
-chain_goes_up : (fuel : ℕ) (spaces : Spaces) (n a : ℕ) → n < fuel → IsTree spaces → is_ancestor spaces a n ≡ true → a ≤ n
+chain_goes_up : (fuel : ℕ) (spaces : Spaces) (n a : ℕ) → n < fuel → IsTree spaces → is_at_or_above spaces a n ≡ true → a ≤ n
 chain_goes_up zero spaces n a low tree is = absurd (omega arith)
 chain_goes_up (suc fuel) spaces n a low tree is =
     elim (cases_lt n (length spaces)) [
-      | inr high ↦ absurd (let none : is_ancestor spaces a n ≡ false = ap (list_any (λ m. m == a)) (chain_empty spaces n high) in cc)
+      | inr high ↦ absurd (let none : is_at_or_above spaces a n ≡ false = ap (list_any (λ m. m == a)) (chain_empty spaces n high) in cc)
       | inl there ↦
           let it : (s : Space) × (space_at spaces n ≡ Some s) = space_there spaces n there in
           elim (or_cases (n == a) (list_any (λ m. m == a) (chain_from spaces it.0.parent)) (sym (ap (list_any (λ m. m == a)) (chain_step spaces n it.0 tree it.1)) ∙ is)) [

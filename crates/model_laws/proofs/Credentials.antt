@@ -22,13 +22,13 @@ use Rattle.model_rules.specs.Caps.{fs_caps, last_cap}
 use Rattle.model_rules.specs.Exec.{FileSets, execve, cred_after, uids_after, gids_after, with_effective, with_sets, permitted_after, ambient_after, sets_for, is_privileged, setuid_counts, setgid_counts, run_file, interpreter_of}
 use Rattle.model_rules.specs.FileView.{FileView, view, view_in, view_if, view_on, plain_view, id_on, mount_uids, mount_gids}
 use Rattle.model_rules.specs.Fixups.{fixed_up, fs_fixed_up, following_effective, following_fs, after_losing_root, without_root}
-use Rattle.model_rules.specs.Namespaces.{as_newcomer, create, join}
+use Rattle.model_rules.specs.Namespaces.{as_newcomer, unshare, join}
 use Rattle.model_rules.specs.Securebits.{has_flag, keep_caps, no_setuid_fixup, locks, locked_flags}
 use Rattle.model_rules.specs.SetGroups.{all_down, with_groups, setgroups}
-use Rattle.model_rules.specs.SetId.{with_uids, with_gids, has_setuid, has_setgid, set_fs, setfsuid, setfsgid}
+use Rattle.model_rules.specs.SetId.{with_uids, with_gids, has_setuid, has_setgid, setfsid, setfsuid, setfsgid}
 use Rattle.model_rules.specs.Zero.{is_zero, has_zero}
 use Rattle.model_cred.proofs.IdSets.{set_ascends}
-use Rattle.model_laws.proofs.Ids.{either, down_id, GivesIds, set_fs_ids, all_down_ids}
+use Rattle.model_laws.proofs.Ids.{either, down_id, GivesIds, setfsid_ids, all_down_ids}
 
 -- a set within a set of capabilities is one
 pub within_is_cap_set : (a b : ℕ) → IsTrue (is_within a b) → IsCapSet b → IsCapSet a
@@ -203,13 +203,13 @@ good_gids c (Err e) keeps gives = good_refused e c keeps
 
 pub good_setfsuid : (s : Space) (c : Credential) (id : ℕ) → KeepsSpace s → Keeps c → Good (setfsuid s c id)
 good_setfsuid s c id space keeps = record {
-  cred = keeps_fs_fixed s c.uid.fs (record c { uid = set_fs (extents_of s.uids) (has_setuid c) c.uid id })
-      (keeps_uids c (set_fs (extents_of s.uids) (has_setuid c) c.uid id) keeps (set_fs_ids (extents_of s.uids) (has_setuid c) c.uid id space.uids keeps.uid));
+  cred = keeps_fs_fixed s c.uid.fs (record c { uid = setfsid (extents_of s.uids) (has_setuid c) c.uid id })
+      (keeps_uids c (setfsid (extents_of s.uids) (has_setuid c) c.uid id) keeps (setfsid_ids (extents_of s.uids) (has_setuid c) c.uid id space.uids keeps.uid));
 }
 
 pub good_setfsgid : (s : Space) (c : Credential) (id : ℕ) → KeepsSpace s → Keeps c → Good (setfsgid s c id)
 good_setfsgid s c id space keeps = record {
-  cred = keeps_gids c (set_fs (extents_of s.gids) (has_setgid c) c.gid id) keeps (set_fs_ids (extents_of s.gids) (has_setgid c) c.gid id space.gids keeps.gid);
+  cred = keeps_gids c (setfsid (extents_of s.gids) (has_setgid c) c.gid id) keeps (setfsid_ids (extents_of s.gids) (has_setgid c) c.gid id space.gids keeps.gid);
 }
 
 good_groups : (c : Credential) (o : Option (List ℕ)) → Keeps c → ((ids : List ℕ) → o ≡ Some ids → All IsId ids) → Good (with_groups c o)
@@ -322,8 +322,8 @@ keeps_newcomer c keeps = record {
   securebits = lit< tt;
 }
 
-pub good_create : (spaces : Spaces) (at : ℕ) (c : Credential) → Keeps c → Good (create spaces at c)
-good_create spaces at c keeps =
+pub good_unshare : (spaces : Spaces) (at : ℕ) (c : Credential) → Keeps c → Good (unshare spaces at c)
+good_unshare spaces at c keeps =
     good_either _ _ _ (good_refused ENOSPC c keeps)
     (good_either _ _ _ (good_refused EPERM c keeps) (good_done (as_newcomer c) (keeps_newcomer c keeps)))
 

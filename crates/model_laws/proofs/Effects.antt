@@ -12,6 +12,7 @@ use Rattle.model_cred.specs.Space.{Spaces}
 use Rattle.model_cred.specs.World.{World}
 use Rattle.model_run.specs.Later.{members_after, members_with}
 use Rattle.model_run.specs.Outside.{comes_from_outside}
+use Rattle.model_rules.specs.Namespaces.{clone_user}
 use Rattle.model_run.specs.Ruling.{Ruling, ruling, birth, birth_unless, reply_to, state_left, spaces_left, fork_child, clone_child}
 use Rattle.model_run.specs.Step.{Step, told_child, is_living_child}
 use Rattle.model_laws.proofs.Keeping.{told_is_new}
@@ -169,7 +170,7 @@ owed : (w : World) (s : State) (pid : ℕ) (p : Process) (call : Call) (n : ℕ)
     → (is_pid n ≡ true → is_alive s.processes n ≡ false) → Owed s.processes p call res (ruling w s p call n)
 owed w s pid p Fork n res lives fresh = owed_birth s pid p (fork_child p n) s.spaces Fork res lives fork refl fresh
 owed w s pid p CloneUser n res lives fresh =
-    owed_unless (reply_to w s p CloneUser).res s pid p (clone_child s.spaces p n) (spaces_left s p CloneUser) CloneUser res lives clone refl fresh
+    owed_unless (clone_user s.spaces p.space p.cred) s pid p (clone_child s.spaces p n) (spaces_left s p CloneUser) CloneUser res lives clone refl fresh
 owed w s pid p Exit n res lives fresh = record {
   owes = λ is. inr (inr (record { exit = refl; result = is; processes = refl; members = λ members m. ap (members_after members m Exit) is }));
 }

@@ -10,6 +10,7 @@ use Rattle.model_cred.specs.Process.{Process, State, process_at, insert_process,
 use Rattle.model_cred.specs.Space.{Spaces}
 use Rattle.model_cred.specs.World.{World}
 use Rattle.model_run.specs.Outside.{comes_from_outside}
+use Rattle.model_rules.specs.Namespaces.{clone_user}
 use Rattle.model_run.specs.Ruling.{Ruling, ruling, own, free_pid, birth, birth_unless, reply_to, state_left, spaces_left, fork_child, clone_child}
 use Rattle.model_run.specs.Same.{same_res, errno_number}
 use Rattle.model_run.specs.Step.{Goes, NoSpace, PidInUse, Wrong, Step, outcome, outcome_for, told_call, told_rules, told_child, names_no_space, is_living_child}
@@ -17,7 +18,7 @@ use Rattle.model_laws.specs.Owns.{OwnIsStep, WrongHasOwnAnswer, AllPidsLive, Aga
 use Rattle.model_laws.proofs.Pids.{free_is_least}
 use Rattle.model_laws.proofs.Refusals.{safe_ruling}
 use Rattle.model_laws.proofs.Effects.{outside_error}
-use Rattle.model_laws.proofs.Results.{IsRuled, reply_plain}
+use Rattle.model_laws.proofs.Results.{IsRuled, clone_ruled, reply_plain}
 
 -- ---- births
 -- The ruling with the child that the result tells is the ruling, and a child that it tells isn't alive.
@@ -65,7 +66,7 @@ again_left w s p call n = record { same = refl; fresh = λ _. ruled_childless s.
 
 again : (w : World) (s : State) (p : Process) (call : Call) (n : ℕ) → Again s (ruling w s p call) n
 again w s p Fork n = again_birth s (fork_child p) s.spaces n (λ m. refl)
-again w s p CloneUser n = again_unless (reply_to w s p CloneUser).res s (clone_child s.spaces p) (spaces_left s p CloneUser) n (λ m. refl)
+again w s p CloneUser n = again_unless (clone_user s.spaces p.space p.cred) s (clone_child s.spaces p) (spaces_left s p CloneUser) n (λ m. refl)
 again w s p Exit n = record { same = refl; fresh = λ _. refl }
 again w s p call n = again_left w s p call n
 
@@ -174,8 +175,8 @@ own_again : (w : World) (s : State) (p : Process) (call : Call) → (own w s p c
 own_again w s p Fork is = (inl refl, (free_is_least s).none (birth_again s (fork_child p (free_pid s)) s.spaces is))
 own_again w s p CloneUser is = (
   inr refl,
-  (free_is_least s).none (unless_again (reply_to w s p CloneUser).res s (clone_child s.spaces p (free_pid s)) (spaces_left s p CloneUser)
-      (reply_plain w.files s.spaces p.space p.cred CloneUser).ruled is),
+  (free_is_least s).none (unless_again (clone_user s.spaces p.space p.cred) s (clone_child s.spaces p (free_pid s)) (spaces_left s p CloneUser)
+      (clone_ruled s.spaces p.space p.cred) is),
 )
 own_again w s p Exit is = absurd (let never : Done ≡ Err EAGAIN = is in cc)
 own_again w s p call is = left_again w s p call is

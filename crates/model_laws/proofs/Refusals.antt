@@ -11,6 +11,7 @@ use Rattle.model_cred.specs.Process.{Process, State, process_at, put_process, in
 use Rattle.model_cred.specs.Space.{Spaces}
 use Rattle.model_cred.specs.World.{World}
 use Rattle.model_rules.specs.Reply.{spaces_after}
+use Rattle.model_rules.specs.Namespaces.{clone_user}
 use Rattle.model_run.specs.Ruling.{Ruling, ruling, birth, birth_unless, reply_to, state_left, spaces_left, fork_child, clone_child}
 use Rattle.model_run.specs.Step.{told_child}
 use Rattle.model_laws.specs.Steps.{OneNextState, ErrorChangesNothing}
@@ -88,7 +89,7 @@ safe_left w s pid p lives call = record {
 
 pub safe_ruling : (w : World) (s : State) (pid : ℕ) (p : Process) → process_at s.processes pid ≡ Some p → (call : Call) (n : ℕ) → SafeRuling s (ruling w s p call n)
 safe_ruling w s pid p lives Fork n = safe_birth s (fork_child p n) s.spaces
-safe_ruling w s pid p lives CloneUser n = safe_birth_unless (reply_to w s p CloneUser).res s (clone_child s.spaces p n) (spaces_left s p CloneUser)
+safe_ruling w s pid p lives CloneUser n = safe_birth_unless (clone_user s.spaces p.space p.cred) s (clone_child s.spaces p n) (spaces_left s p CloneUser)
 safe_ruling w s pid p lives Exit n = record { keeps = λ e wrong. absurd (let no : Done ≡ Err e = wrong in cc) }
 safe_ruling w s pid p lives call n = safe_left w s pid p lives call
 

@@ -11,7 +11,7 @@ use Rattle.model_cred.specs.IdMap.{Extent, extents_of}
 use Rattle.model_cred.specs.Space.{Space}
 use Rattle.model_rules.specs.Fixups.{fixed_up, following_effective, after_losing_root, without_root}
 use Rattle.model_rules.specs.Securebits.{has_flag, keep_caps, no_setuid_fixup}
-use Rattle.model_rules.specs.SetId.{asked, minus_one, is_given, both_mapped, set_re, saved_after, with_uids, with_gids, has_setuid, has_setgid}
+use Rattle.model_rules.specs.SetId.{asked, minus_one, is_given, both_mapped, setreid, saved_after, with_uids, with_gids, has_setuid, has_setgid}
 use Rattle.model_rules.specs.Zero.{is_zero, has_zero}
 use Rattle.model_laws.specs.Sentences.{SetsSaved, SavedId, SavedAfterSetReUid, SavedAfterSetReGid}
 use Rattle.model_laws.proofs.Ids.{either}
@@ -78,8 +78,8 @@ saves_both old r e (Some a) (Some b) f saves = saves a b
 saves_ok : (old : FourIds) (r e : ℕ) (ids : FourIds) → SavedId old ids r e → Saves old r e (Ok ids)
 saves_ok old r e ids saved = record { ids = λ others is. let same : ids ≡ others = cc in subst (λ (new : FourIds). SavedId old new r e) same saved }
 
-set_re_saves : (map : List Extent) (privileged : Bool) (old : FourIds) (r e : ℕ) → Saves old r e (set_re map privileged old r e)
-set_re_saves map privileged old r e =
+setreid_saves : (map : List Extent) (privileged : Bool) (old : FourIds) (r e : ℕ) → Saves old r e (setreid map privileged old r e)
+setreid_saves map privileged old r e =
     saves_both old r e (asked map old.real r) (asked map old.effective e) _ (λ real effective.
     either (Saves old r e) (privileged || ((real == old.real || real == old.effective) && is_one_of_three old effective))
     (Ok (record { real = real; effective = effective; saved = saved_after old r e effective; fs = effective })) (Failed EPERM)
@@ -101,9 +101,9 @@ of_gids c r e (Failed k) saves wrong = absurd (cc)
 pub saved_after_setreuid : SavedAfterSetReUid
 unfolding SavedAfterSetReUid
 saved_after_setreuid s c r e is =
-    of_uids s c r e (set_re (extents_of s.uids) (has_setuid c) c.uid r e) (set_re_saves (extents_of s.uids) (has_setuid c) c.uid r e) is
+    of_uids s c r e (setreid (extents_of s.uids) (has_setuid c) c.uid r e) (setreid_saves (extents_of s.uids) (has_setuid c) c.uid r e) is
 
 pub saved_after_setregid : SavedAfterSetReGid
 unfolding SavedAfterSetReGid
 saved_after_setregid s c r e is =
-    of_gids c r e (set_re (extents_of s.gids) (has_setgid c) c.gid r e) (set_re_saves (extents_of s.gids) (has_setgid c) c.gid r e) is
+    of_gids c r e (setreid (extents_of s.gids) (has_setgid c) c.gid r e) (setreid_saves (extents_of s.gids) (has_setgid c) c.gid r e) is

@@ -8,7 +8,7 @@ use Rattle.cm_base.specs.declared.errno.Errno.TheVariants.{EPERM, EINVAL}
 use Rattle.model_cred.specs.Credential.{Credential, Keeps}
 use Rattle.model_cred.specs.IdMap.{Extent, HasIds, extents_of}
 use Rattle.model_cred.specs.Space.{Space, Spaces, KeepsSpace, IsTree, space_of, no_space, put_space}
-use Rattle.model_rules.specs.Maps.{MapFile, UidMap, GidMap, Written, write_done, write_refused, write_map, write_mapped, write_setgroups, map_of, with_map, parent_map, extent_down, list_down}
+use Rattle.model_rules.specs.Maps.{MapFile, UidMap, GidMap, Written, write_done, write_refused, write_map, write_stored, write_setgroups, map_of, with_map, parent_map, extent_down, list_down}
 use Rattle.model_rules.specs.Namespaces.{created_by}
 use Rattle.model_laws.proofs.Chains.{space_newest, space_older, tree_older}
 use Rattle.model_laws.proofs.Ids.{FitsIds}
@@ -175,7 +175,7 @@ good_done : (spaces : Spaces) (n : ℕ) (new : Space) → n < length spaces → 
 good_done spaces n new there same keeps kept = record { keeps = keeps_put n new spaces there same keeps kept; count = length_put n new spaces }
 
 good_mapped : (file : MapFile) (spaces : Spaces) (at : ℕ) (c : Credential) (n : ℕ) (list : List Extent) (o : Option (List Extent)) → n < length spaces
-    → ((mapped : List Extent) → o ≡ Some mapped → HasIds mapped) → KeepsTree spaces → GoodWrite spaces (write_mapped file spaces at c n list o)
+    → ((mapped : List Extent) → o ≡ Some mapped → HasIds mapped) → KeepsTree spaces → GoodWrite spaces (write_stored file spaces at c n list o)
 good_mapped file spaces at c n list None there ids kept = good_refused EPERM spaces kept
 good_mapped file spaces at c n list (Some mapped) there ids kept =
     write_either spaces _ _ _

@@ -10,7 +10,7 @@ use Rattle.model_cred.specs.IdMap.{Extent, down, lies_in, is_the}
 use Rattle.model_cred.specs.MapFault.{is_map}
 use Rattle.model_cred.specs.Space.{Space, Spaces, IsTree, space_at, space_of, no_space}
 use Rattle.model_rules.specs.Caps.{cap_setfcap}
-use Rattle.model_rules.specs.Maps.{MapFile, UidMap, GidMap, Written, map_of, with_map, parent_map, cap_for, effective_id, write_map, write_mapped, write_refused, write_done, may_write, may_map, maps_zero, setfcap_allows, has_over_parent, is_own_map, is_single, word_allows, extent_down, list_down}
+use Rattle.model_rules.specs.Maps.{MapFile, UidMap, GidMap, Written, map_of, with_map, parent_map, cap_for, effective_id, write_map, write_stored, write_refused, write_done, may_write, may_map, maps_zero, setfcap_allows, has_over_parent, is_own_map, is_single, word_allows, extent_down, list_down}
 use Rattle.model_rules.specs.Power.{Over, has_over}
 use Rattle.model_laws.specs.Writers.{LiesInOne, MapsZero, MayMapZero, IsOwnLine, MayWriteMap, WhoWritesMaps}
 use Rattle.model_laws.proofs.Chains.{is_the_same, the_is, not_the, over_is, parent_older, space_there}
@@ -350,7 +350,7 @@ done_passed file spaces at c target list is =
 
     by : (a b : Bool) (o : Option (List Extent)) → may_write file spaces at c target ≡ a → is_map list ≡ b
         → list_down (parent_map file spaces (space_of spaces target)) list ≡ o
-        → (let x : Written = if not a then write_refused EPERM spaces else if not b then write_refused EINVAL spaces else write_mapped file spaces at c target list o in x).res ≡ Done
+        → (let x : Written = if not a then write_refused EPERM spaces else if not b then write_refused EINVAL spaces else write_stored file spaces at c target list o in x).res ≡ Done
         → Passed file spaces at c target list
     by false b o x y z wrong = absurd (cc)
     by true false o x y z wrong = absurd (cc)
@@ -364,9 +364,9 @@ done_passed file spaces at c target list is =
 passed_done : (file : MapFile) (spaces : Spaces) (at : ℕ) (c : Credential) (target : ℕ) (list : List Extent) → Passed file spaces at c target list
     → (write_map file spaces at c target list).res ≡ Done
 passed_done file spaces at c target list passed =
-    ap (λ (a : Bool). (let x : Written = if not a then write_refused EPERM spaces else if not (is_map list) then write_refused EINVAL spaces else write_mapped file spaces at c target list (list_down (parent_map file spaces (space_of spaces target)) list) in x).res) passed.may
-    ∙ ap (λ (b : Bool). (let x : Written = if not b then write_refused EINVAL spaces else write_mapped file spaces at c target list (list_down (parent_map file spaces (space_of spaces target)) list) in x).res) passed.valid
-    ∙ ap (λ (o : Option (List Extent)). (write_mapped file spaces at c target list o).res) passed.mapped_is
+    ap (λ (a : Bool). (let x : Written = if not a then write_refused EPERM spaces else if not (is_map list) then write_refused EINVAL spaces else write_stored file spaces at c target list (list_down (parent_map file spaces (space_of spaces target)) list) in x).res) passed.may
+    ∙ ap (λ (b : Bool). (let x : Written = if not b then write_refused EINVAL spaces else write_stored file spaces at c target list (list_down (parent_map file spaces (space_of spaces target)) list) in x).res) passed.valid
+    ∙ ap (λ (o : Option (List Extent)). (write_stored file spaces at c target list o).res) passed.mapped_is
     ∙ ap (λ (b : Bool). (let x : Written = if b then write_done spaces target (with_map file (space_of spaces target) passed.mapped) else write_refused EPERM spaces in x).res)
     (and_from (setfcap_allows file spaces at c (space_of spaces target) list) (may_map file spaces at c (space_of spaces target) passed.mapped) passed.setfcap passed.maps)
 

@@ -8,7 +8,7 @@ use Rattle.model_cred.specs.Credential.{Credential}
 use Rattle.model_cred.specs.IdMap.{initial_map}
 use Rattle.model_cred.specs.Process.{State}
 use Rattle.model_cred.specs.Right.{Cap}
-use Rattle.model_cred.specs.Space.{Space, Spaces, first_spaces, level, is_ancestor, next_below}
+use Rattle.model_cred.specs.Space.{Space, Spaces, first_spaces, level, is_at_or_above, next_below}
 use Rattle.model_rules.specs.Power.{Over, owned, above, over}
 use Rattle.model_run.specs.Holds.{process_holds}
 use Rattle.model_run.specs.Ruling.{own}
@@ -106,13 +106,13 @@ family_of_spaces = other ∷ inner ∷ box ∷ first_spaces
 pub the_levels : level family_of_spaces 2 ≡ 2
 the_levels = refl
 
-pub the_initial_space_is_above_all : is_ancestor family_of_spaces 0 2 ≡ true
+pub the_initial_space_is_above_all : is_at_or_above family_of_spaces 0 2 ≡ true
 the_initial_space_is_above_all = refl
 
-pub a_space_is_above_itself : is_ancestor family_of_spaces 3 3 ≡ true
+pub a_space_is_above_itself : is_at_or_above family_of_spaces 3 3 ≡ true
 a_space_is_above_itself = refl
 
-pub a_space_is_not_above_its_sibling : is_ancestor family_of_spaces 1 3 ≡ false
+pub a_space_is_not_above_its_sibling : is_at_or_above family_of_spaces 1 3 ≡ false
 a_space_is_not_above_its_sibling = refl
 
 pub the_next_below_the_initial_space_is_the_box : next_below family_of_spaces 0 2 ≡ Some 1

@@ -8,7 +8,7 @@ use Rattle.model_cred.specs.Credential.{Credential, FourIds, all_four}
 use Rattle.model_cred.specs.Process.{Process, State}
 use Rattle.model_cred.specs.Space.{first_spaces}
 use Rattle.model_cred.specs.World.{World}
-use Rattle.model_run.specs.WayBack.{has_root, SetsFollowIds, AllFollow, StateFollows}
+use Rattle.model_run.specs.RunBack.{has_root, SetsFollowIds, AllFollow, StateFollows}
 use Rattle.model_text.proofs.Starts.{Made, start_made}
 use Rattle.model_text.specs.Places.{IsInitial}
 use Rattle.model_text.specs.ProcessText.{held_by_default, included, credential_of, credential_with, credential_declared, ids_value, pid_value, parent_value, process_with, process_keys, process_row, further_keys}
