@@ -4,8 +4,8 @@ ghost use Rattle.std.specs.Prelude.{◌≡◌};
 ghost use Rattle.model_cred.specs.IdMap.{extents_of};
 ghost use Rattle.model_rules.specs.SetId.{setresid, setreid, setid, setfsid, saved_after};
 
-use crate::mapped::{MINUS_ONE, asked_for, down_in};
-use cm_base::Errno;
+use crate::mapped::{asked_for, down_in};
+use cm_base::{Errno, MINUS_ONE};
 use cm_idmap::IdMap;
 use cm_state::FourIds;
 

@@ -21,7 +21,7 @@ pub fn set_gid(c: &mut Cred, s: &Space, gid: u32) -> Res
     leave(c, new)
 }
 
-/// setregid(2) in the caller's space, 4294967295 for -1, which leaves an id: `Done`, or `EINVAL` for a given id without a
+/// setregid(2) in the caller's space; -1 leaves an id: `Done`, or `EINVAL` for a given id without a
 /// mapping, or `EPERM` where without CAP_SETGID the real id is neither the real nor the effective one, or the effective
 /// id none of the real, effective and saved one. A refusal leaves the credential as it was.
 pub fn set_regid(c: &mut Cred, s: &Space, r: u32, e: u32) -> Res
@@ -33,7 +33,7 @@ pub fn set_regid(c: &mut Cred, s: &Space, r: u32, e: u32) -> Res
     leave(c, new)
 }
 
-/// setresgid(2) in the caller's space, 4294967295 for -1, which leaves an id: `Done`, or `EINVAL` for a given id without
+/// setresgid(2) in the caller's space; -1 leaves an id: `Done`, or `EINVAL` for a given id without
 /// a mapping, or `EPERM` where without CAP_SETGID one is none of the real, effective and saved id. A refusal leaves the
 /// credential as it was.
 pub fn set_resgid(c: &mut Cred, s: &Space, r: u32, e: u32, v: u32) -> Res

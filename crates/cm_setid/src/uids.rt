@@ -22,7 +22,7 @@ pub fn set_uid(c: &mut Cred, s: &Space, uid: u32) -> Res
     leave(c, s, new)
 }
 
-/// setreuid(2) in the caller's space, 4294967295 for -1, which leaves an id: `Done`, or `EINVAL` for a given id without a
+/// setreuid(2) in the caller's space; -1 leaves an id: `Done`, or `EINVAL` for a given id without a
 /// mapping, or `EPERM` where without CAP_SETUID the real id is neither the real nor the effective one, or the effective
 /// id none of the real, effective and saved one. A refusal leaves the credential as it was.
 pub fn set_reuid(c: &mut Cred, s: &Space, r: u32, e: u32) -> Res
@@ -34,7 +34,7 @@ pub fn set_reuid(c: &mut Cred, s: &Space, r: u32, e: u32) -> Res
     leave(c, s, new)
 }
 
-/// setresuid(2) in the caller's space, 4294967295 for -1, which leaves an id: `Done`, or `EINVAL` for a given id without
+/// setresuid(2) in the caller's space; -1 leaves an id: `Done`, or `EINVAL` for a given id without
 /// a mapping, or `EPERM` where without CAP_SETUID one is none of the real, effective and saved id. A refusal leaves the
 /// credential as it was.
 pub fn set_resuid(c: &mut Cred, s: &Space, r: u32, e: u32, v: u32) -> Res

@@ -1,9 +1,11 @@
 -- The calls that set ids give ids.
-use Rattle.std.proofs.Common.{◌≡◌, ℕ, ◌+◌, ◌-◌, ◌<◌, ◌≤◌, ◌==◌, ◌&&◌, ◌||◌, not, Bool, true, false, List, [], ◌∷◌, Option, Some, None, if◌then◌else◌, refl, sym, ◌∙◌, inl, inr, subst, arith, All}
+use Rattle.std.proofs.Common.{◌≡◌, ℕ, ◌+◌, ◌-◌, ◌<◌, ◌≤◌, ◌==◌, ◌&&◌, ◌||◌, not, Bool, true, false, List, [], ◌∷◌}
+use Rattle.std.proofs.Common.{Option, Some, None, if◌then◌else◌, refl, sym, ◌∙◌, inl, inr, subst, arith, All}
 use Rattle.std.specs.Prelude.{Result, Ok, option_and_then, option_map, nat_le, nat_lt}
 use Rattle.std.specs.declared.result.Result.TheVariants.{Err}
 use Rattle.std.proofs.lemmas.Bool.{cases_Bool, ltb-true, leb-true, cond-true, cond-false, and_parts}
 use Rattle.std.proofs.lemmas.List.Elements.{All-nil, All-cons, All-head, All-tail}
+use Rattle.cm_base.specs.Limits.{id_count}
 use Rattle.cm_base.specs.declared.errno.Errno.{Errno}
 use Rattle.cm_base.specs.declared.errno.Errno.TheVariants.{EPERM, EINVAL}
 use Rattle.model_cred.specs.Credential.{FourIds, AreIds, IsId, all_four, is_one_of_three}
@@ -18,7 +20,7 @@ either P false x y first second = second
 
 -- the outside ids of one line are ids
 abbrev pub FitsIds : Extent → Type 0
-FitsIds e = e.outside + e.length ≤ 4294967295
+FitsIds e = e.outside + e.length ≤ id_count
 
 -- a map whose outside ids are ids gives ids
 pub down_id : (map : List Extent) (id out : ℕ) → HasIds map → down map id ≡ Some out → IsId out
@@ -26,15 +28,20 @@ down_id [] id out ids is = absurd (cc)
 down_id (e ∷ map) id out ids is =
     elim (cases_Bool (lies_in e.inside e.length id)) [
       | inl within ↦
-          let it : Some (e.outside + (id - e.inside)) ≡ Some out = sym (cond-true (lies_in e.inside e.length id) (Some (e.outside + (id - e.inside))) (down map id) within) ∙ is in
+          let it : Some (e.outside + (id - e.inside)) ≡ Some out
+          = sym (cond-true (lies_in e.inside e.length id) (Some (e.outside + (id - e.inside))) (down map id) within)
+          ∙ is in
           let e_is : e.outside + (id - e.inside) ≡ out = cc in
           let parts : (nat_le e.inside id ≡ true) × (nat_lt id (e.inside + e.length) ≡ true) = and_parts _ _ within in
           let low : e.inside ≤ id = leb-true e.inside id parts.0 in
           let high : id < e.inside + e.length = ltb-true id (e.inside + e.length) parts.1 in
-          let fits : e.outside + e.length ≤ 4294967295 = All-head FitsIds e map ids in
+          let fits : e.outside + e.length ≤ id_count = All-head FitsIds e map ids in
           omega arith
       | inr outside ↦
-          down_id map id out (All-tail FitsIds e map ids) (sym (cond-false (lies_in e.inside e.length id) (Some (e.outside + (id - e.inside))) (down map id) outside) ∙ is)
+          down_id map id out (All-tail FitsIds e map ids)
+          (sym (cond-false (lies_in e.inside e.length id) (Some (e.outside + (id - e.inside)))
+          (down map id) outside)
+          ∙ is)
     ]
 
 -- what is asked for is an id
@@ -117,7 +124,8 @@ with_fs_ids privileged old (Some id) are small =
     either AreIds (privileged || is_one_of_three old id || id == old.fs) (record old { fs = id }) old
     (record { real = are.real; effective = are.effective; saved = are.saved; fs = small id refl }) are
 
-pub setfsid_ids : (map : List Extent) (privileged : Bool) (old : FourIds) (argument : ℕ) → HasIds map → AreIds old → AreIds (setfsid map privileged old argument)
+pub setfsid_ids : (map : List Extent) (privileged : Bool) (old : FourIds) (argument : ℕ) → HasIds map → AreIds old
+    → AreIds (setfsid map privileged old argument)
 setfsid_ids map privileged old argument ids are = with_fs_ids privileged old (down map argument) are (λ id is. down_id map argument id ids is)
 
 -- ---- groups

@@ -13,11 +13,8 @@ use Rattle.model_cred.specs.Space.{Space}
 use Rattle.model_rules.specs.Answer.{Answer, done, refused}
 use Rattle.model_rules.specs.Caps.{cap_setgid}
 use Rattle.model_rules.specs.Fixups.{fixed_up, fs_fixed_up}
+pub use Rattle.cm_base.specs.Limits.{minus_one}
 pub use Rattle.model_rules.specs.Caps.{cap_setuid}
-
--- The argument -1, which leaves an id as it is.
-abbrev pub minus_one : ℕ
-minus_one = 4294967295
 
 -- the argument isn't -1
 abbrev pub is_given : ℕ → Bool
@@ -85,9 +82,13 @@ with_fs privileged old (Some id) = if privileged || is_one_of_three old id || id
 abbrev pub setfsid : List Extent → Bool → FourIds → ℕ → FourIds
 setfsid map privileged old argument = with_fs privileged old (down map argument)
 
--- an id as the caller's space sees it, 65534 where it has no mapping (user_namespaces(7), "Unmapped user and group IDs")
+-- the id for one without a mapping (user_namespaces(7), "Unmapped user and group IDs")
+abbrev pub overflow_id : ℕ
+overflow_id = 65534
+
+-- an id as the caller's space sees it, the overflow id where it has no mapping
 abbrev pub seen_id : List Extent → ℕ → ℕ
-seen_id map id = unwrap_or (up map id) 65534
+seen_id map id = unwrap_or (up map id) overflow_id
 
 -- the caller may set user ids as it likes
 abbrev pub has_setuid : Credential → Bool

@@ -2,6 +2,7 @@
 -- the process back, and else such calls.
 use Rattle.std.proofs.Common.{◌≡◌, ℕ, ◌⊎◌, inl, inr, ◌==◌, ◌||◌, ◌&&◌, not, Bool, true, false, cond, List, [], ◌∷◌, Option, Some, None, Result, Ok, Err, refl, sym, ◌∙◌, ap, subst, arith, eq-eqb, ◌<◌, lit<}
 use Rattle.cm_base.specs.CapSet.{none, holds}
+use Rattle.cm_base.specs.Limits.{id_count}
 use Rattle.cm_base.specs.declared.errno.Errno.{Errno}
 use Rattle.cm_base.specs.declared.errno.Errno.TheVariants.{EPERM}
 use Rattle.cm_base.specs.declared.res.Res.{Res}
@@ -343,7 +344,7 @@ never_back w pid forebear c k h (es, back) =
     cc
 
 -- ---- where there is one
-asked_id : (old k : ℕ) → k < 4294967295 → asked initial_map old k ≡ Some k
+asked_id : (old k : ℕ) → k < id_count → asked initial_map old k ≡ Some k
 asked_id old k h = grind (arith, h)
 
 -- the new ids where the effective one becomes another
@@ -360,7 +361,7 @@ may_become : (old : FourIds) (privileged : Bool) (k : ℕ) → (privileged || is
 may_become old true k h = refl
 may_become old false k h = rw (own_real old, own_saved old, h) refl
 
-set_to : (old : FourIds) (privileged : Bool) (k : ℕ) → k < 4294967295 → (privileged || is_one_of_three old k) ≡ true → setresid initial_map privileged old minus_one k minus_one ≡ Ok (becoming old k)
+set_to : (old : FourIds) (privileged : Bool) (k : ℕ) → k < id_count → (privileged || is_one_of_three old k) ≡ true → setresid initial_map privileged old minus_one k minus_one ≡ Ok (becoming old k)
 set_to old privileged k id h =
     ap (λ (o : Option ℕ). all_mapped (Some old.real) o (Some old.saved) (λ real effective saved.
     cond (privileged || (is_one_of_three old real && is_one_of_three old effective && is_one_of_three old saved)) (Ok (record { real = real; effective = effective; saved = saved; fs = effective })) (Err EPERM))) (asked_id old.effective k id)
@@ -370,10 +371,10 @@ set_to old privileged k id h =
 abbrev after_becoming : Credential → ℕ → Credential
 after_becoming c k = fixed_up initial_space c.uid (record c { uid = becoming c.uid k })
 
-becomes_done : (c : Credential) (k : ℕ) → k < 4294967295 → (has_setuid c || is_one_of_three c.uid k) ≡ true → setresuid initial_space c minus_one k minus_one ≡ done (after_becoming c k)
+becomes_done : (c : Credential) (k : ℕ) → k < id_count → (has_setuid c || is_one_of_three c.uid k) ≡ true → setresuid initial_space c minus_one k minus_one ≡ done (after_becoming c k)
 becomes_done c k id h = ap (λ (to : Result FourIds Errno). with_uids initial_space c to) (set_to c.uid (has_setuid c) k id h)
 
-becomes_step : (w : World) (pid : ℕ) (forebear : Option ℕ) (c : Credential) (k : ℕ) → k < 4294967295 → (has_setuid c || is_one_of_three c.uid k) ≡ true
+becomes_step : (w : World) (pid : ℕ) (forebear : Option ℕ) (c : Credential) (k : ℕ) → k < id_count → (has_setuid c || is_one_of_three c.uid k) ≡ true
     → Step w (alone pid forebear c) (becomes pid k) (alone pid forebear (after_becoming c k))
 becomes_step w pid forebear c k id h =
     let p : Process = one pid forebear c in
@@ -397,7 +398,7 @@ no_call w pid forebear c k is = record { calls = tt; end = alone pid forebear c;
 call_of_becomes : (k : ℕ) → IsSetResUid (SetResUid minus_one k minus_one)
 call_of_becomes k = (minus_one, k, minus_one, refl)
 
-one_call : (w : World) (pid : ℕ) (forebear : Option ℕ) (c : Credential) (k : ℕ) → SetsFollowIds c → k < 4294967295 → (has_setuid c || is_one_of_three c.uid k) ≡ true
+one_call : (w : World) (pid : ℕ) (forebear : Option ℕ) (c : Credential) (k : ℕ) → SetsFollowIds c → k < id_count → (has_setuid c || is_one_of_three c.uid k) ≡ true
     → BringsBack w (alone pid forebear c) pid k (becomes pid k ∷ [])
 one_call w pid forebear c k follow id h = record {
   calls = (refl, call_of_becomes k, tt);
@@ -422,7 +423,7 @@ regained c h =
     never true = refl
     never false = refl
 
-two_calls : (w : World) (pid : ℕ) (forebear : Option ℕ) (c : Credential) (k : ℕ) → SetsFollowIds c → k < 4294967295 → is_one_of_three c.uid 0 ≡ true → holds c.permitted cap_setuid ≡ true
+two_calls : (w : World) (pid : ℕ) (forebear : Option ℕ) (c : Credential) (k : ℕ) → SetsFollowIds c → k < id_count → is_one_of_three c.uid 0 ≡ true → holds c.permitted cap_setuid ≡ true
     → BringsBack w (alone pid forebear c) pid k (becomes pid 0 ∷ becomes pid k ∷ [])
 two_calls w pid forebear c k follow id root permitted =
     let d : Credential = after_becoming c 0 in
@@ -491,7 +492,7 @@ locked_by c k follow here near far = record {
       (λ is. ap (λ (x : ℕ). holds x cap_setuid) (follow.effective ∙ ap (λ (b : Bool). cond b c.permitted none) is));
 }
 
-is_by : (w : World) (pid : ℕ) (forebear : Option ℕ) (c : Credential) (k : ℕ) → SetsFollowIds c → k < 4294967295 → (here near far : Bool)
+is_by : (w : World) (pid : ℕ) (forebear : Option ℕ) (c : Credential) (k : ℕ) → SetsFollowIds c → k < id_count → (here near far : Bool)
     → (c.uid.effective == k) ≡ here → (c.uid.real == k || c.uid.saved == k || has_setuid c) ≡ near → ((c.uid.real == 0 || c.uid.saved == 0) && holds c.permitted cap_setuid) ≡ far
     → IsRunBack w pid forebear c k (cond here (Some []) (cond near (Some (becomes pid k ∷ [])) (cond far (Some (becomes pid 0 ∷ becomes pid k ∷ [])) None)))
 is_by w pid forebear c k follow id true near far a b d = no_call w pid forebear c k a
@@ -503,7 +504,7 @@ is_by w pid forebear c k follow id false false false a b d = never_back w pid fo
 
 -- Where the sets follow the ids, `run_back` is exact: None where no list of calls, however long, brings the process
 -- back; else such a list.
-pub run_back_is : (w : World) (pid : ℕ) (forebear : Option ℕ) (c : Credential) (k : ℕ) → SetsFollowIds c → k < 4294967295 → IsRunBack w pid forebear c k (run_back c pid k)
+pub run_back_is : (w : World) (pid : ℕ) (forebear : Option ℕ) (c : Credential) (k : ℕ) → SetsFollowIds c → k < id_count → IsRunBack w pid forebear c k (run_back c pid k)
 run_back_is w pid forebear c k follow id = is_by w pid forebear c k follow id _ _ _ refl refl refl
 
 -- ---- the test of events
