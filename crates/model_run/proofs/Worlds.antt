@@ -6,7 +6,7 @@ use Rattle.cm_base.specs.declared.errno.Errno.{Errno}
 use Rattle.cm_base.specs.declared.res.Res.{Res}
 use Rattle.cm_base.specs.declared.res.Res.TheVariants.{Done, Err}
 use Rattle.model_cred.specs.Call.{Call, Event}
-use Rattle.model_cred.specs.CallKind.{no_filter}
+use Rattle.cm_filter.specs.Filters.{no_filter}
 use Rattle.model_cred.specs.Credential.{Credential, all_four}
 use Rattle.model_cred.specs.Files.{FileRow, Mount, plain_mount}
 use Rattle.model_cred.specs.IdMap.{Extent}
@@ -14,10 +14,6 @@ use Rattle.model_cred.specs.Process.{Process, State}
 use Rattle.model_cred.specs.Space.{Space, first_spaces}
 use Rattle.model_cred.specs.World.{World, Script}
 use Rattle.model_run.specs.Step.{Outcome, Goes, NoProcess, NoSpace, PidInUse, Wrong, outcome}
-
--- the argument -1
-abbrev pub unchanged : ℕ
-unchanged = 4294967295
 
 -- a credential with that id as all four user ids, group ids 0, and all capabilities permitted and effective for user 0
 -- alone

@@ -1,7 +1,6 @@
 -- The texts that the program reads and writes.
 pub mod Cut
 pub mod Token
-pub mod Calls
 pub mod Line
 pub mod Places
 pub mod Toml
