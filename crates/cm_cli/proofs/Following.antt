@@ -9,7 +9,7 @@ use Rattle.model_cred.specs.Call.{Event}
 use Rattle.model_cred.specs.Process.{Process, State}
 use Rattle.model_cred.specs.World.{World}
 use Rattle.model_run.specs.Step.{Run}
-use Rattle.model_run.specs.WayBack.{AllFollow, SetsFollowIds, StateFollows, are_setresuids}
+use Rattle.model_run.specs.RunBack.{AllFollow, SetsFollowIds, StateFollows, are_setresuids}
 use Rattle.model_text.specs.Cut.{lines_of}
 use Rattle.model_text.specs.Line.{Line, NoEvent, Tells, Faulty, Unbuilt, script_line, told_event, events_of}
 

@@ -16,7 +16,7 @@ use Rattle.model_cred.specs.Call.{Event}
 use Rattle.model_cred.specs.Process.{Process, State}
 use Rattle.model_cred.specs.Right.{Right, Cap, Uid, Gid}
 use Rattle.model_cred.specs.World.{World}
-use Rattle.model_run.specs.WayBack.{are_setresuids, way_back}
+use Rattle.model_run.specs.RunBack.{are_setresuids, run_back}
 use Rattle.model_run.specs.Step.{Outcome, Goes, NoProcess, NoSpace, PidInUse, Wrong, outcome}
 use Rattle.model_text.specs.Cut.{lines_of}
 use Rattle.model_text.specs.Line.{Line, NoEvent, Tells as TellsEvent, Faulty, Unbuilt, script_line, events_of}
@@ -67,8 +67,8 @@ right_not_usage : (more : Bool) (s : State) (p : Process) (right : Right) → (r
 right_not_usage more s p (Gid k) is = cc
 right_not_usage more s p (Cap cap n) is = cc
 right_not_usage more s p (Uid k) is =
-    elim (not more && length s.processes == 1) as (λ (b : Bool). (cond b (way_verdict p.pid (way_back p.cred p.pid k)) not_built).status ≡ answers.Usage → ⊥) [
-      | true ↦ way_not_usage p.pid (way_back p.cred p.pid k)
+    elim (not more && length s.processes == 1) as (λ (b : Bool). (cond b (way_verdict p.pid (run_back p.cred p.pid k)) not_built).status ≡ answers.Usage → ⊥) [
+      | true ↦ way_not_usage p.pid (run_back p.cred p.pid k)
       | false ↦ λ never. cc
     ] is
 

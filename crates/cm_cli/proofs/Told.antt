@@ -16,7 +16,7 @@ use Rattle.model_cred.specs.Call.{Event}
 use Rattle.model_cred.specs.Process.{Process, State}
 use Rattle.model_cred.specs.Right.{Right, Cap, Uid, Gid}
 use Rattle.model_cred.specs.World.{World}
-use Rattle.model_run.specs.WayBack.{are_setresuids, way_back}
+use Rattle.model_run.specs.RunBack.{are_setresuids, run_back}
 use Rattle.model_run.specs.Step.{Outcome, Goes, NoProcess, NoSpace, PidInUse, Wrong, Run, outcome}
 use Rattle.model_text.specs.Line.{Line, NoEvent, Tells as TellsEvent, Faulty, Unbuilt, script_line, events_of}
 use Rattle.model_text.proofs.Statuses.{of_end, of_stop}
@@ -183,8 +183,8 @@ told_right : (more : Bool) (s : State) (p : Process) (right : Right) → IsTold 
 told_right more s p (Gid k) = told_unbuilt
 told_right more s p (Cap cap n) = told_unbuilt
 told_right more s p (Uid k) =
-    elim (not more && length s.processes == 1) as (λ (b : Bool). IsTold (cond b (way_verdict p.pid (way_back p.cred p.pid k)) not_built).status) [
-      | true ↦ told_way p.pid (way_back p.cred p.pid k)
+    elim (not more && length s.processes == 1) as (λ (b : Bool). IsTold (cond b (way_verdict p.pid (run_back p.cred p.pid k)) not_built).status) [
+      | true ↦ told_way p.pid (run_back p.cred p.pid k)
       | false ↦ told_unbuilt
     ]
 

@@ -7,7 +7,7 @@ use Rattle.cm_cli.specs.declared.replay.LineTurn.TheVariants as turn
 use Rattle.model_cred.specs.Process.{State}
 use Rattle.model_cred.specs.World.{World}
 use Rattle.model_run.specs.Step.{Step}
-use Rattle.model_run.specs.WayBack.{is_setresuid}
+use Rattle.model_run.specs.RunBack.{is_setresuid}
 use Rattle.model_text.specs.Line.{Line, NoEvent, Tells, Faulty, Unbuilt}
 use Rattle.model_text.specs.Report.{Report, by_line, text_of}
 

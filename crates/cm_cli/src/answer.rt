@@ -3,7 +3,7 @@ ghost use Rattle.std.specs.Prelude.{◌≡◌, ◌++◌, false, Some, IfSome, If
 ghost use Rattle.cm_base.specs.Outcome.{OrNoMemory};
 ghost use Rattle.cm_cli.specs.Query.{query_view, query_if, right_view};
 ghost use Rattle.cm_cli.specs.Telling.{answer_to};
-ghost use Rattle.model_run.specs.WayBack.{SetsFollowIds, StateFollows, way_back};
+ghost use Rattle.model_run.specs.RunBack.{SetsFollowIds, StateFollows, run_back};
 ghost use Rattle.model_text.specs.Query.{asked_process};
 ghost use Rattle.model_text.specs.Report.{text_of, verdict, right_verdict, way_verdict};
 
@@ -92,8 +92,8 @@ fn put_right(
 
 fn put_uid(alloc: Global, p: &Proc, k: Kuid, text: &mut Vec<u8>) -> Result<Status, NoMemory>
     requires { SetsFollowIds p.now.cred }
-    ensures status { OrNoMemory result (λ status. status ≡ (way_verdict p.now.pid (way_back p.now.cred p.now.pid k)).status) }
-    ensures text { OnOk result (text.new.items ≡ text.old.items ++ text_of (way_verdict p.now.pid (way_back p.now.cred p.now.pid k)).lines) }
+    ensures status { OrNoMemory result (λ status. status ≡ (way_verdict p.now.pid (run_back p.now.cred p.now.pid k)).status) }
+    ensures text { OnOk result (text.new.items ≡ text.old.items ++ text_of (way_verdict p.now.pid (run_back p.now.cred p.now.pid k)).lines) }
 {
     match audit_uid(alloc, &p.cred, p.pid, k)? {
         None => {

@@ -7,7 +7,7 @@ ghost use Rattle.cm_cli.specs.Sent.{IsSent, IsFront};
 ghost use Rattle.cm_io.specs.Sink.{then_written, WriteFaults};
 ghost use Rattle.model_cred.specs.Process.{process_at};
 ghost use Rattle.model_run.specs.Step.{Run};
-ghost use Rattle.model_run.specs.WayBack.{are_setresuids, is_setresuid};
+ghost use Rattle.model_run.specs.RunBack.{are_setresuids, is_setresuid};
 ghost use Rattle.model_text.specs.Cut.{lines_of};
 ghost use Rattle.model_text.specs.Line.{script_line, Tells, events_of};
 ghost use Rattle.model_text.specs.Report.{text_of, replayed, Told, credentials_if, child_lines};

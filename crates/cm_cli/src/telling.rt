@@ -4,7 +4,7 @@ ghost use Rattle.cm_cli.specs.Query.{query_if};
 ghost use Rattle.cm_cli.specs.Sent.{IsSent, IsFront};
 ghost use Rattle.cm_cli.specs.Telling.{Tells, short_report, log_report, stopped_by};
 ghost use Rattle.cm_io.specs.Sink.{WriteFaults};
-ghost use Rattle.model_run.specs.WayBack.{StateFollows};
+ghost use Rattle.model_run.specs.RunBack.{StateFollows};
 ghost use Rattle.model_text.specs.Report.{text_of, Credentials};
 
 use crate::answer::put_answer;

@@ -1,18 +1,21 @@
 -- setgroups alone changes groups, and it doesn't look at the old ones.
-use Rattle.std.proofs.Common.{◌≡◌, ℕ, List, Option, Some, None, Result, Ok, Err, refl, ◌∙◌, ap, arith}
-use Rattle.std.specs.Prelude.{IfOk, OnErr}
-use Rattle.cm_base.specs.declared.memory.NoMemory.{NoMemory}
-use Rattle.cm_base.specs.declared.res.Res.{Res}
+use Rattle.std.proofs.Common.{◌≡◌, ℕ, ◌||◌, not, length, List, Bool, true, false, Option, Some, None, Result, Ok, if◌then◌else◌, refl, sym, ◌∙◌, ap, arith}
+use Rattle.std.specs.Prelude.{nat_lt, is_none}
+use Rattle.std.specs.declared.result.Result.TheVariants as result
 use Rattle.cm_base.specs.declared.errno.Errno.{Errno}
-use Rattle.cm_machine.specs.Answers.{plain_in}
-use Rattle.cm_state.specs.declared.call.Call.{Call}
-use Rattle.cm_state.specs.declared.call.Call.TheVariants.{SetUid, SetReUid, SetResUid, SetFsUid, SetGid, SetReGid, SetResGid, SetFsGid, SetGroups, CapSet, BsetDrop, AmbRaise, AmbLower, AmbClear, SecureBits, KeepCaps, NoNewPrivs, Fork, Exit}
+use Rattle.cm_base.specs.declared.errno.Errno.TheVariants.{EPERM, EINVAL}
+use Rattle.cm_base.specs.declared.res.Res.{Res}
+use Rattle.cm_base.specs.declared.res.Res.TheVariants.{Done, Id, Child, Err}
+use Rattle.cm_machine.specs.Asking.{change_by}
+use Rattle.cm_machine.specs.declared.change.Change.TheVariants.{Groups}
+use Rattle.model_cred.specs.Call.{SetGroups}
 use Rattle.model_cred.specs.Credential.{Credential, FourIds}
 use Rattle.model_cred.specs.IdMap.{extents_of}
 use Rattle.model_cred.specs.Space.{Space}
+use Rattle.model_rules.specs.Answer.{Answer, refused}
 use Rattle.model_rules.specs.Fixups.{fixed_up, following_effective, after_losing_root, fs_fixed_up}
-use Rattle.model_rules.specs.SetGroups.{setgroups, with_groups, all_down}
-use Rattle.model_rules.specs.SetId.{with_uids, with_gids}
+use Rattle.model_rules.specs.SetGroups.{setgroups, with_groups, all_down, most_groups}
+use Rattle.model_rules.specs.SetId.{has_setgid, with_uids, with_gids}
 
 losing : (s : Space) (old : FourIds) (c : Credential) → (after_losing_root s old c).groups ≡ c.groups
 losing s old c = grind arith
@@ -23,58 +26,86 @@ following s old c = grind arith
 fixed : (s : Space) (old : FourIds) (c : Credential) → (fixed_up s old c).groups ≡ c.groups
 fixed s old c = grind (arith, following s old (after_losing_root s old c), losing s old c)
 
-fs_fixed : (s : Space) (old : ℕ) (c : Credential) → (fs_fixed_up s old c).groups ≡ c.groups
+-- the groups stay where user ids, an fs user id or group ids are set
+pub fs_fixed : (s : Space) (old : ℕ) (c : Credential) → (fs_fixed_up s old c).groups ≡ c.groups
 fs_fixed s old c = grind arith
 
-uids_keep : (s : Space) (c : Credential) (r : Result FourIds Errno) → (with_uids s c r).cred.groups ≡ c.groups
+pub uids_keep : (s : Space) (c : Credential) (r : Result FourIds Errno) → (with_uids s c r).cred.groups ≡ c.groups
 uids_keep s c (Ok ids) = fixed s c.uid (record c { uid = ids })
-uids_keep s c (Err e) = refl
+uids_keep s c (result.Err e) = refl
 
-gids_keep : (c : Credential) (r : Result FourIds Errno) → (with_gids c r).cred.groups ≡ c.groups
+pub gids_keep : (c : Credential) (r : Result FourIds Errno) → (with_gids c r).cred.groups ≡ c.groups
 gids_keep c (Ok ids) = refl
-gids_keep c (Err e) = refl
+gids_keep c (result.Err e) = refl
 
--- a call that isn't setgroups keeps the groups
-pub plain_keeps : (s : Space) (c : Credential) (call : Call) → (plain_in s c call).cred.groups ≡ c.groups
-plain_keeps s c (SetUid id) = uids_keep s c _
-plain_keeps s c (SetReUid r e) = uids_keep s c _
-plain_keeps s c (SetResUid r e v) = uids_keep s c _
-plain_keeps s c (SetFsUid id) = fs_fixed s c.uid.fs _
-plain_keeps s c (SetGid id) = gids_keep c _
-plain_keeps s c (SetReGid r e) = gids_keep c _
-plain_keeps s c (SetResGid r e v) = gids_keep c _
-plain_keeps s c (SetFsGid id) = refl
-plain_keeps s c (SetGroups ids) = refl
-plain_keeps s c (CapSet effective permitted inheritable) = grind arith
-plain_keeps s c (BsetDrop cap) = grind arith
-plain_keeps s c (AmbRaise cap) = grind arith
-plain_keeps s c (AmbLower cap) = grind arith
-plain_keeps s c AmbClear = refl
-plain_keeps s c (SecureBits bits) = grind arith
-plain_keeps s c (KeepCaps argument) = grind arith
-plain_keeps s c (NoNewPrivs argument) = grind arith
-plain_keeps s c Fork = refl
-plain_keeps s c Exit = refl
+-- ---- setgroups
 
 -- the same credential with those groups
 abbrev pub regrouped : Credential → List ℕ → Credential
 regrouped c groups = record c { groups = groups }
 
-mapped_alike : (c : Credential) (groups : List ℕ) (o : Option (List ℕ))
-    → ((with_groups (regrouped c groups) o).res ≡ (with_groups c o).res) × (regrouped (with_groups (regrouped c groups) o).cred c.groups ≡ c)
-mapped_alike c groups None = (refl, refl)
-mapped_alike c groups (Some ids) = (refl, refl)
+-- the answer to a credential with other groups is the same, where it is done the same is left, and else nothing changes
+record Alike (c : Credential) (groups : List ℕ) (other answer : Answer) : Type 0 where
+  res : other.res ≡ answer.res
+  done : answer.res ≡ Done → other.cred ≡ answer.cred
+  same : (answer.res ≡ Done → ⊥) → (other.cred ≡ regrouped c groups) × (answer.cred ≡ c)
 
--- setgroups answers the same whatever the old groups are, and changes nothing else
-pub groups_alike : (s : Space) (c : Credential) (groups ids : List ℕ)
-    → ((setgroups s (regrouped c groups) ids).res ≡ (setgroups s c ids).res) × (regrouped (setgroups s (regrouped c groups) ids).cred c.groups ≡ c)
-groups_alike s c groups ids =
-    let mapped = mapped_alike c groups (all_down (extents_of s.gids) ids) in
-    (grind (arith, mapped.0), grind (arith, mapped.1))
+refused_alike : (c : Credential) (groups : List ℕ) (e : Errno) → Alike c groups (refused e (regrouped c groups)) (refused e c)
+refused_alike c groups e = record { res = refl; done = λ wrong. absurd (cc); same = λ _. (refl, refl) }
 
--- with the old groups put back it is as before setgroups, which had others
-pub put_back_groups : (s : Space) (c before new : Credential) (groups ids : List ℕ) (r : Result Res NoMemory) → before ≡ regrouped c groups
-    → IfOk r (λ _. new ≡ (setgroups s before ids).cred) → OnErr r (new ≡ before) → regrouped new c.groups ≡ c
-put_back_groups s c before new groups ids (Ok given) other is same =
-    ap (λ (k : Credential). regrouped k c.groups) (is ∙ ap (λ (k : Credential). (setgroups s k ids).cred) other) ∙ (groups_alike s c groups ids).1
-put_back_groups s c before new groups ids (Err why) other is same = ap (λ (k : Credential). regrouped k c.groups) (same ∙ other)
+mapped_alike : (c : Credential) (groups : List ℕ) (o : Option (List ℕ)) → Alike c groups (with_groups (regrouped c groups) o) (with_groups c o)
+mapped_alike c groups None = refused_alike c groups EINVAL
+mapped_alike c groups (Some ids) = record { res = refl; done = λ _. refl; same = λ other. absurd (other refl) }
+
+choose : (c : Credential) (groups : List ℕ) (b : Bool) (other answer other' answer' : Answer) → Alike c groups other answer → Alike c groups other' answer'
+    → Alike c groups (if b then other else other') (if b then answer else answer')
+choose c groups true other answer other' answer' first second = first
+choose c groups false other answer other' answer' first second = second
+
+alike : (s : Space) (c : Credential) (groups ids : List ℕ) → Alike c groups (setgroups s (regrouped c groups) ids) (setgroups s c ids)
+alike s c groups ids =
+    choose c groups (not (has_setgid c) || is_none s.gids || s.deny) (refused EPERM (regrouped c groups)) (refused EPERM c) _ _ (refused_alike c groups EPERM)
+    (choose c groups (nat_lt most_groups (length ids)) (refused EINVAL (regrouped c groups)) (refused EINVAL c) _ _ (refused_alike c groups EINVAL)
+    (mapped_alike c groups (all_down (extents_of s.gids) ids)))
+
+-- What setgroups does where the old groups are moved out before it, and back where it isn't done.
+pub record MovesGroups (s : Space) (c before new after : Credential) (groups ids : List ℕ) (res : Res) : Type 0 where
+  pub out : before ≡ regrouped c groups
+  pub answers : res ≡ (setgroups s before ids).res
+  pub leaves : new ≡ (setgroups s before ids).cred
+  pub done : res ≡ Done → after ≡ new
+  pub back : (res ≡ Done → ⊥) → after ≡ regrouped new c.groups
+
+-- it is setgroups
+pub moved_res : (s : Space) (c before new after : Credential) (groups ids : List ℕ) (res : Res) → MovesGroups s c before new after groups ids res
+    → res ≡ (setgroups s c ids).res
+moved_res s c before new after groups ids res moves =
+    moves.answers ∙ ap (λ (k : Credential). (setgroups s k ids).res) moves.out ∙ (alike s c groups ids).res
+
+pub moved_cred : (s : Space) (c before new after : Credential) (groups ids : List ℕ) (res : Res) → MovesGroups s c before new after groups ids res
+    → after ≡ (setgroups s c ids).cred
+moved_cred s c before new after groups ids res moves = by res refl
+  where
+    told : res ≡ (setgroups s c ids).res
+    told = moved_res s c before new after groups ids res moves
+
+    left : new ≡ (setgroups s (regrouped c groups) ids).cred
+    left = moves.leaves ∙ ap (λ (k : Credential). (setgroups s k ids).cred) moves.out
+
+    else_same : (res ≡ Done → ⊥) → after ≡ (setgroups s c ids).cred
+    else_same other =
+        let kept = (alike s c groups ids).same (λ done. other (told ∙ done)) in
+        moves.back other ∙ ap (λ (k : Credential). regrouped k c.groups) (left ∙ kept.0) ∙ sym kept.1
+
+    by : (r : Res) → res ≡ r → after ≡ (setgroups s c ids).cred
+    by Done is = moves.done is ∙ left ∙ (alike s c groups ids).done (sym told ∙ is)
+    by (Id n) is = else_same (λ wrong. let no : Id n ≡ Done = sym is ∙ wrong in absurd (cc))
+    by (Child n) is = else_same (λ wrong. let no : Child n ≡ Done = sym is ∙ wrong in absurd (cc))
+    by (Err e) is = else_same (λ wrong. let no : Err e ≡ Done = sym is ∙ wrong in absurd (cc))
+
+-- of its caller setgroups changes the groups alone
+pub same_change : (ids : List ℕ) (r : Res) (c d : Credential) → c.groups ≡ d.groups → change_by (SetGroups ids) r c ≡ change_by (SetGroups ids) r d
+same_change ids Done c d same = ap Groups same
+same_change ids (Id n) c d same = refl
+same_change ids (Child n) c d same = refl
+same_change ids (Err e) c d same = refl

@@ -3,7 +3,7 @@ pub mod Groups
 pub mod Handing
 pub mod Changing
 pub mod FreePids
-pub mod Stepping
+pub mod Asking
 pub mod Leaving
 pub mod Families
 pub mod Errors

@@ -1,6 +1,5 @@
 -- What the machine's calls come to, and what holds of the state that it begins with.
-pub mod Answers
-pub mod Telling
+pub mod Asking
 pub mod Outcomes
 pub mod Births
 pub mod Marks

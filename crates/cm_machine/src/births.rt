@@ -1,61 +1,80 @@
 // Births by fork(2), or clone(2) without CLONE_NEWUSER.
-ghost use Rattle.std.specs.Prelude.{◌≡◌, ◌<◌, length, slice_get, Some, false};
+ghost use Rattle.std.specs.Prelude.{◌≡◌, ◌<◌, length, List, slice_get, Some, false, IfSome};
 ghost use Rattle.cm_base.specs.Outcome.{OrNoMemory, UnchangedOnErr};
-ghost use Rattle.cm_machine.specs.Outcomes.{Gives, Tells};
+ghost use Rattle.cm_machine.specs.Asking.{Serves, change_by, pid_number};
+ghost use Rattle.cm_state.specs.Call.{call_of};
 ghost use Rattle.model_cred.specs.Call.{Fork};
-ghost use Rattle.model_cred.specs.Process.{Process, Ascends, is_alive, insert_process};
+ghost use Rattle.model_cred.specs.Credential.{Credential};
+ghost use Rattle.model_cred.specs.Process.{Process, State, Ascends, is_alive, insert_process};
+ghost use Rattle.model_cred.specs.Space.{Spaces};
+ghost use Rattle.model_cred.specs.World.{World};
 ghost use Rattle.model_run.specs.Outside.{comes_from_outside};
-ghost use Rattle.model_run.specs.Ruling.{birth, fork_child, free_pid};
-ghost use Rattle.model_run.specs.Step.{is_living_child, told_child};
+ghost use Rattle.model_run.specs.Ruling.{birth as model_birth, fork_child, own, ruling};
+ghost use Rattle.model_run.specs.Step.{is_living_child};
 
-use crate::error::StepError;
-use crate::pids::{least_free, own_birth, see_pid};
+use crate::change::Change;
+use crate::pids::{least_free, see_pid};
+use crate::ruling::Asked;
 use cm_base::{Errno, NoMemory, Pid, Res};
-use cm_state::{Proc, Procs, State};
+use cm_state::{Call, Proc, Procs, State};
 use std::alloc::Global;
 
-/// The birth that the process at this place is told to have given, where its result is a child.
-pub(crate) fn tell_fork(
-    alloc: Global,
-    state: &mut State,
-    at: usize,
-    told: &Res,
-) -> Result<(), StepError>
-    requires here { at < length state.old.processes }
-    requires fresh { is_living_child state.old.processes told.now ≡ false }
-    requires inside { comes_from_outside Fork told.now ≡ false }
-    ensures told { (p : Process) → slice_get state.old.processes at ≡ Some p → Tells result state.new told.now (birth state.old (fork_child p (told_child told.now)) state.old.spaces) (birth state.old (fork_child p (free_pid state.old)) state.old.spaces) }
-    ensures unchanged { UnchangedOnErr result state.new state.old }
+/// The pid of the child that a process has of its own by the call, if it is a birth: the least one that isn't alive. None
+/// where all are, and for any other call, which looks at no pid.
+pub(crate) fn own_pid(procs: &Procs, call: &Call) -> Option<Pid>
+    requires { Ascends procs.now }
+    ensures own { (w : World) (spaces : Spaces) (p : Process) → ruling w (record { processes = procs.now; spaces = spaces }) p (call_of call.now) (pid_number result) ≡ own w (record { processes = procs.now; spaces = spaces }) p (call_of call.now) }
+    ensures free { IfSome result (λ pid. is_alive procs.now pid ≡ false) }
+{
+    match call {
+        Call::Fork => least_free(procs),
+        _ => None,
+    }
+}
+
+/// The pid of the child that is told, or the own one where none is told. The rules with this pid are what a told result
+/// is held against: their answer is the told one, or the process's own.
+#[inline]
+pub(crate) fn told_pid(procs: &Procs, call: &Call, told: &Res) -> Option<Pid>
+    requires ascends { Ascends procs.now }
+    requires fresh { is_living_child procs.now told.now ≡ false }
+    requires inside { comes_from_outside (call_of call.now) told.now ≡ false }
+    ensures serves { (w : World) (spaces : Spaces) (p : Process) → Serves w (record { processes = procs.now; spaces = spaces }) p (call_of call.now) told.now (pid_number result) }
+    ensures free { IfSome result (λ pid. is_alive procs.now pid ≡ false) }
 {
     match told {
         Res::Child(pid) => {
             see_pid(*pid);
-            fork_as(alloc, state, at, *pid)?;
-            Ok(())
+            Some(*pid)
         }
-        _ => Err(StepError::Wrong {
-            rules_give: own_birth(&state.procs),
-        }),
+        _ => own_pid(procs, call),
     }
 }
 
-/// The birth that the process at this place gives of its own.
-pub(crate) fn own_fork(alloc: Global, state: &mut State, at: usize) -> Result<Res, NoMemory>
-    requires here { at < length state.old.processes }
-    ensures given { (p : Process) → slice_get state.old.processes at ≡ Some p → Gives result state.new (birth state.old (fork_child p (free_pid state.old)) state.old.spaces) }
-    ensures unchanged { UnchangedOnErr result state.new state.old }
+/// What the rules answer a birth with that pid for the child: EAGAIN where there is none (fork(2), "ERRORS"). The child is
+/// still to be born.
+#[inline]
+pub(crate) fn birth(child: Option<Pid>) -> Asked
+    ensures res { (processes : List Process) (spaces : Spaces) (p : Process) → result.res ≡ (model_birth (record { processes = processes; spaces = spaces }) (fork_child p (pid_number child)) spaces).res }
+    ensures change { (c : Credential) → result.change ≡ change_by Fork result.res c }
 {
-    match least_free(&state.procs) {
+    match child {
         Some(pid) => {
-            fork_as(alloc, state, at, pid)?;
-            Ok(Res::Child(pid))
+            see_pid(pid);
+            Asked {
+                res: Res::Child(pid),
+                change: Change::Birth(pid),
+            }
         }
-        None => Ok(Res::Err(Errno::EAGAIN)),
+        None => Asked {
+            res: Res::Err(Errno::EAGAIN),
+            change: Change::Nothing,
+        },
     }
 }
 
-// The process at this place has a child of that pid.
-fn fork_as(alloc: Global, state: &mut State, at: usize, pid: Pid) -> Result<(), NoMemory>
+/// The process at this place has a child of that pid.
+pub(crate) fn fork_as(alloc: Global, state: &mut State, at: usize, pid: Pid) -> Result<(), NoMemory>
     requires here { at < length state.old.processes }
     requires fresh { is_alive state.old.processes pid ≡ false }
     ensures born { OrNoMemory result (λ _. (p : Process) → slice_get state.old.processes at ≡ Some p → state.new ≡ record state.old { processes = insert_process (fork_child p pid) state.old.processes }) }

@@ -1,29 +1,9 @@
 // The exit of a process (_exit(2)): its children take over its forebear (choice).
 ghost use Rattle.std.specs.Prelude.{◌≡◌, ◌<◌, length, slice_get, Some, map};
-ghost use Rattle.cm_base.specs.Outcome.{UnchangedOnErr};
-ghost use Rattle.cm_machine.specs.Outcomes.{Tells, exited};
 ghost use Rattle.model_cred.specs.Process.{Process, after_exit};
 ghost use Rattle.model_run.specs.Ruling.{state_without};
 
-use crate::error::StepError;
-use crate::same::is_same;
-use cm_base::Res;
 use cm_state::{Proc, Procs, State};
-
-/// The exit of the process at this place, where it is told as done.
-pub(crate) fn tell_exit(state: &mut State, at: usize, told: &Res) -> Result<(), StepError>
-    requires here { at < length state.old.processes }
-    ensures told { (p : Process) → slice_get state.old.processes at ≡ Some p → Tells result state.new told.now (exited state.old p) (exited state.old p) }
-    ensures unchanged { UnchangedOnErr result state.new state.old }
-{
-    if !is_same(told, &Res::Done) {
-        return Err(StepError::Wrong {
-            rules_give: Res::Done,
-        });
-    }
-    exit(state, at);
-    Ok(())
-}
 
 /// The exit of the process at this place.
 pub(crate) fn exit(state: &mut State, at: usize)

@@ -3,7 +3,7 @@
 #![tactic(auto)]
 
 mod births;
-mod changes;
+mod change;
 mod error;
 mod exits;
 mod family;
@@ -12,11 +12,10 @@ mod machine;
 mod outside;
 mod own;
 mod pids;
-mod rules;
+mod ruling;
 mod same;
 mod saving;
 mod step;
-mod telling;
 
 pub use error::StepError;
 pub use laws::read_chains_end;

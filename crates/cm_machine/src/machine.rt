@@ -12,7 +12,7 @@ ghost use Rattle.model_run.specs.Step.{outcome, names_no_space};
 
 use crate::error::StepError;
 use crate::family::family_of;
-use crate::own::take_own;
+use crate::own::make_own;
 use crate::step::take_step;
 use cm_base::{NoMemory, Pid, Res};
 use cm_state::{Call, Event, State};
@@ -50,7 +50,7 @@ impl Machine {
         ensures unchanged { UnchangedOnErr result self.new self.old }
         ensures told_error { (error : Errno) → e.now.res ≡ Res.Err error → self.new ≡ self.old }
     {
-        take_step(alloc, &mut self.state, e)
+        take_step(alloc, w, &mut self.state, e)
     }
 
     /// Makes the call of the process as the rules give it, and says what it answers, an error of the rules too. The child
@@ -72,7 +72,11 @@ impl Machine {
         ensures unchanged { UnchangedOnErr result self.new self.old }
         ensures refused { (error : Errno) → result ≡ Ok (Res.Err error) → self.new ≡ self.old }
     {
-        take_own(alloc, &mut self.state, pid, call)
+        let Some(at) = self.state.procs.find(pid) else {
+            return Err(StepError::NoProcess);
+        };
+        let res = make_own(alloc, w, &mut self.state, at, call)?;
+        Ok(res)
     }
 
     /// The pids of the process and of all whose chain of forebears reaches it, ascending; none where it isn't alive. Its

@@ -1,8 +1,8 @@
 // Errors that a call answers for causes outside the machine, as want of memory or a signal. The step changes nothing
 // then (choice; the calls' manual pages, "ERRORS").
 ghost use Rattle.std.specs.Prelude.{◌≡◌};
-ghost use Rattle.cm_machine.specs.Telling.{is_common_res};
 ghost use Rattle.cm_state.specs.Call.{call_of};
+ghost use Rattle.model_cred.specs.Call.{Fork};
 ghost use Rattle.model_run.specs.Outside.{comes_from_outside};
 
 use cm_base::{Errno, Res};
@@ -21,7 +21,7 @@ pub(crate) fn from_outside(call: &Call, res: &Res) -> bool
 
 #[inline]
 fn is_common_error(res: &Res) -> bool
-    ensures { result ≡ is_common_res res.now }
+    ensures { result ≡ comes_from_outside Fork res.now }
 {
     matches!(
         res,

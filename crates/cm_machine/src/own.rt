@@ -1,47 +1,33 @@
 // The own step of a process: its call as the rules give it, whatever was told.
 ghost use Rattle.std.specs.Prelude.{◌≡◌, ◌<◌, length, slice_get, Some};
-ghost use Rattle.cm_base.specs.Outcome.{UnchangedOnErr};
-ghost use Rattle.cm_machine.specs.Outcomes.{Gives, Owns, given};
+ghost use Rattle.cm_base.specs.Outcome.{OrNoMemory, UnchangedOnErr};
+ghost use Rattle.cm_state.specs.Call.{call_of};
+ghost use Rattle.cm_world.specs.World.{world_of};
 ghost use Rattle.model_cred.specs.Process.{Process};
-ghost use Rattle.model_run.specs.Ruling.{free_pid};
+ghost use Rattle.model_run.specs.Ruling.{own};
 
-use crate::births::own_fork;
-use crate::changes::own_change;
-use crate::error::StepError;
-use crate::exits::exit;
-use cm_base::{NoMemory, Pid, Res};
+use crate::births::own_pid;
+use crate::change::keep;
+use crate::ruling::{Asked, ask};
+use cm_base::{NoMemory, Res};
 use cm_state::{Call, State};
+use cm_world::World;
 use std::alloc::Global;
 
-/// Makes the call of the process of that pid, or says why it can't.
-pub(crate) fn take_own(
+/// Makes the call of the process at this place, and says what the rules answer.
+pub(crate) fn make_own(
     alloc: Global,
+    w: &World,
     state: &mut State,
-    pid: Pid,
+    at: usize,
     call: &Call,
-) -> Result<Res, StepError>
-    ensures own { Owns result state.old state.new pid call.now }
-    ensures unchanged { UnchangedOnErr result state.new state.old }
-{
-    let Some(at) = state.procs.find(pid) else {
-        return Err(StepError::NoProcess);
-    };
-    let res = own_call(alloc, state, at, call)?;
-    Ok(res)
-}
-
-// Makes the call of the process at this place.
-fn own_call(alloc: Global, state: &mut State, at: usize, call: &Call) -> Result<Res, NoMemory>
+) -> Result<Res, NoMemory>
     requires here { at < length state.old.processes }
-    ensures given { (p : Process) → slice_get state.old.processes at ≡ Some p → Gives result state.new (given state.old p call.now (free_pid state.old)) }
+    ensures own { OrNoMemory result (λ res. (p : Process) → slice_get state.old.processes at ≡ Some p → record { res = res; state = state.new } ≡ own (world_of w.now) state.old p (call_of call.now)) }
     ensures unchanged { UnchangedOnErr result state.new state.old }
 {
-    match call {
-        Call::Fork => own_fork(alloc, state, at),
-        Call::Exit => {
-            exit(state, at);
-            Ok(Res::Done)
-        }
-        _ => own_change(alloc, state, at, call),
-    }
+    let child = own_pid(&state.procs, call);
+    let Asked { res, change } = ask(alloc, w, state, at, call, child)?;
+    keep(alloc, state, at, change)?;
+    Ok(res)
 }

@@ -1,23 +1,12 @@
 // The pid of a child that no one tells: the least one that isn't alive (choice).
 ghost use Rattle.std.specs.Prelude.{◌≡◌, ℕ, ◌<◌, ◌≤◌, true, false, IfSome};
-ghost use Rattle.cm_machine.specs.Births.{pid_option, birth_res};
+ghost use Rattle.cm_machine.specs.Births.{pid_option};
 ghost use Rattle.model_cred.specs.Process.{Ascends, is_alive, is_pid};
 ghost use Rattle.model_cred.specs.Space.{Spaces};
 ghost use Rattle.model_run.specs.Ruling.{free_pid};
 
-use cm_base::{Errno, Pid, Res};
+use cm_base::Pid;
 use cm_state::{Proc, Procs};
-
-/// What a birth answers of its own: the child's pid, or EAGAIN where all pids are alive (fork(2), "ERRORS").
-pub(crate) fn own_birth(procs: &Procs) -> Res
-    requires { Ascends procs.now }
-    ensures { (spaces : Spaces) → result ≡ birth_res (free_pid (record { processes = procs.now; spaces = spaces })) }
-{
-    match least_free(procs) {
-        Some(pid) => Res::Child(pid),
-        None => Res::Err(Errno::EAGAIN),
-    }
-}
 
 /// The least pid that isn't alive. None exactly where all are.
 pub(crate) fn least_free(procs: &Procs) -> Option<Pid>

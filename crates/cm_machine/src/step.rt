@@ -1,25 +1,32 @@
-// A step: the event of a process with the result that is told, in whichever world (no call here looks at its files).
+// A step: the event of a process with the result that is told.
 ghost use Rattle.std.specs.Prelude.{◌≡◌, ◌<◌, length, slice_get, Some, false};
 ghost use Rattle.cm_base.specs.Outcome.{UnchangedOnErr};
-ghost use Rattle.cm_machine.specs.Outcomes.{Shows, Tells, given};
-ghost use Rattle.cm_state.specs.Call.{call_of};
-ghost use Rattle.model_cred.specs.Process.{Process, Ascends, process_at};
+ghost use Rattle.cm_machine.specs.Outcomes.{Becomes};
+ghost use Rattle.cm_world.specs.World.{world_of};
+ghost use Rattle.model_cred.specs.Process.{Process, Ascends};
 ghost use Rattle.model_run.specs.Outside.{comes_from_outside};
-ghost use Rattle.model_run.specs.Ruling.{free_pid};
-ghost use Rattle.model_run.specs.Step.{outcome, is_living_child, told_child};
+ghost use Rattle.model_run.specs.Ruling.{own, ruling};
+ghost use Rattle.model_run.specs.Step.{outcome, is_living_child, told_child, told_rules};
 
-use crate::births::tell_fork;
-use crate::changes::tell_change;
+use crate::births::told_pid;
+use crate::change::{keep, undo};
 use crate::error::StepError;
-use crate::exits::tell_exit;
 use crate::outside::from_outside;
+use crate::ruling::{Asked, ask};
+use crate::same::is_same;
 use cm_base::Res;
-use cm_state::{Call, Event, Procs, State};
+use cm_state::{Event, Procs, State};
+use cm_world::World;
 use std::alloc::Global;
 
-/// Makes the step of an event, or says why it is none.
-pub(crate) fn take_step(alloc: Global, state: &mut State, e: &Event) -> Result<(), StepError>
-    ensures outcome { Shows result state.new (λ w. outcome w state.old e.now) }
+/// Makes the step of an event, or says why it is none. No call here names a space.
+pub(crate) fn take_step(
+    alloc: Global,
+    w: &World,
+    state: &mut State,
+    e: &Event,
+) -> Result<(), StepError>
+    ensures becomes { Becomes result state.new (outcome (world_of w.now) state.old e.now) }
     ensures unchanged { UnchangedOnErr result state.new state.old }
 {
     let Some(at) = state.procs.find(e.pid) else {
@@ -31,7 +38,7 @@ pub(crate) fn take_step(alloc: Global, state: &mut State, e: &Event) -> Result<(
     if from_outside(&e.call, &e.res) {
         return Ok(());
     }
-    tell_call(alloc, state, at, &e.call, &e.res)
+    make_told(alloc, w, state, at, e)
 }
 
 // The result is a child that is alive already.
@@ -46,24 +53,29 @@ fn has_child(procs: &Procs, res: &Res) -> bool
     }
 }
 
-// The call of the process at this place by the rules.
+// Asks the rules for the call of the process at this place, and holds the told result against their answer: the change is
+// kept, or undone where the answer is another.
 #[inline]
-fn tell_call(
+fn make_told(
     alloc: Global,
+    w: &World,
     state: &mut State,
     at: usize,
-    call: &Call,
-    told: &Res,
+    e: &Event,
 ) -> Result<(), StepError>
     requires here { at < length state.old.processes }
-    requires fresh { is_living_child state.old.processes told.now ≡ false }
-    requires inside { comes_from_outside (call_of call.now) told.now ≡ false }
-    ensures told { (p : Process) → slice_get state.old.processes at ≡ Some p → Tells result state.new told.now (given state.old p call.now (told_child told.now)) (given state.old p call.now (free_pid state.old)) }
+    requires fresh { is_living_child state.old.processes e.now.res ≡ false }
+    requires inside { comes_from_outside e.now.call e.now.res ≡ false }
+    ensures becomes { (p : Process) → slice_get state.old.processes at ≡ Some p → Becomes result state.new (told_rules e.now.res (ruling (world_of w.now) state.old p e.now.call (told_child e.now.res)) (own (world_of w.now) state.old p e.now.call)) }
     ensures unchanged { UnchangedOnErr result state.new state.old }
 {
-    match call {
-        Call::Fork => tell_fork(alloc, state, at, told),
-        Call::Exit => tell_exit(state, at, told),
-        _ => tell_change(alloc, state, at, call, told),
+    let child = told_pid(&state.procs, &e.call, &e.res);
+    let Asked { res, change } = ask(alloc, w, state, at, &e.call, child)?;
+    if is_same(&e.res, &res) {
+        keep(alloc, state, at, change)?;
+        Ok(())
+    } else {
+        undo(state, at, change);
+        Err(StepError::Wrong { rules_give: res })
     }
 }

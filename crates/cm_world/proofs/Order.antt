@@ -11,11 +11,11 @@ use Rattle.toml.specs.View.{view, items_view}
 use Rattle.toml.specs.declared.value.Value.{Value}
 use Rattle.cm_world.proofs.Placing.{apart, Ascends-placed, All-placed, placed_all, placed_all-none, placed_all-placed, are_apart, are_apart-none, are_apart-placed, pids_of, among-pids_of, parents_stand-placed}
 use Rattle.cm_world.specs.World.{world_in}
-use Rattle.model_cred.specs.Process.{Process, Ascends}
+use Rattle.model_cred.specs.Process.{Process, Ascends, insert_process}
 use Rattle.model_cred.specs.Space.{first_spaces}
 use Rattle.model_cred.specs.World.{World, Script}
 use Rattle.model_text.specs.ProcessText.{process_row}
-use Rattle.model_text.specs.WorldText.{WorldText, Reads, Bad, process_rows, one_more, distinct_world, are_distinct, has_pid, placed, is_among, parents_stand}
+use Rattle.model_text.specs.WorldText.{WorldText, Reads, Bad, process_rows, one_more, distinct_world, are_distinct, has_pid, is_among, parents_stand}
 
 -- ---- the map
 -- each process at its pid
@@ -52,7 +52,7 @@ lookup-by_pid : (pid : ℕ) (processes : List Process) → is_some (lookup (is_a
 lookup-by_pid pid processes = lookup-keys_of pid (by_pid processes) ∙ ap (list_any (λ other. other == pid)) (keys_of-by_pid processes) ∙ among-pids_of pid processes
 
 -- an insert of a new pid places its process
-insert_entry-by_pid : (p : Process) (processes : List Process) → has_pid p.pid processes ≡ false → insert_entry nat_cmp (by_pid processes) p.pid p ≡ by_pid (placed p processes)
+insert_entry-by_pid : (p : Process) (processes : List Process) → has_pid p.pid processes ≡ false → insert_entry nat_cmp (by_pid processes) p.pid p ≡ by_pid (insert_process p processes)
 insert_entry-by_pid p [] new = refl
 insert_entry-by_pid p (q ∷ processes) new =
     let (here, more) = or_parts (q.pid == p.pid) (has_pid p.pid processes) new in
@@ -80,7 +80,7 @@ and_false true = refl
 and_false false = refl
 
 -- a later row's process, whose pid is new and whose parent stands, is placed
-onto_one_more : (p : Process) (so_far : List Process) (rest : Option (List Process)) → has_pid p.pid so_far ≡ false → is_among (pids_of so_far) p.forebear ≡ true → world_onto so_far (one_more (Some p) rest) ≡ world_onto (placed p so_far) rest
+onto_one_more : (p : Process) (so_far : List Process) (rest : Option (List Process)) → has_pid p.pid so_far ≡ false → is_among (pids_of so_far) p.forebear ≡ true → world_onto so_far (one_more (Some p) rest) ≡ world_onto (insert_process p so_far) rest
 onto_one_more p so_far None new stands = refl
 onto_one_more p so_far (Some more) new stands =
     rw (new, stands, are_apart-placed p so_far more, parents_stand-placed p so_far more)
@@ -144,7 +144,7 @@ module _ (rows : List Value) (at : ℕ) (entries : List (ℕ × Process)) (read 
         AreRead-more none stands space =
             let new : has_pid p.pid read.processes ≡ false = rw (← lookup-by_pid p.pid read.processes, ← read.by_pid, ← same) none in
             record {
-              processes = placed p read.processes;
+              processes = insert_process p read.processes;
               by_pid = rw (same, read.by_pid) (insert_entry-by_pid p read.processes new);
               ordered = Ascends-placed p read.processes new read.ordered;
               initial = All-placed (λ q. q.space < length first_spaces) p read.processes (rw space (omega arith)) read.initial;

@@ -5,6 +5,7 @@ ghost use Rattle.toml.specs.Data.{get_member};
 ghost use Rattle.toml.specs.View.{view, table_view, items_view};
 ghost use Rattle.model_text.specs.WorldText.{asks_more, says_more, row_has, some_row_has, rows_have};
 
+use crate::keys::further_keys;
 use crate::table::{has_key_of, is_text_at, value_at};
 use toml::{Table, Value};
 
@@ -21,21 +22,7 @@ pub(crate) fn asks_more(table: &Table) -> bool
 pub(crate) fn says_more(table: &Table) -> bool
     ensures { result ≡ says_more (table_view table.now) }
 {
-    rows_have(
-        table,
-        &[
-            "parent",
-            "gid",
-            "groups",
-            "permitted",
-            "effective",
-            "inheritable",
-            "ambient",
-            "bounding",
-            "securebits",
-            "no_new_privs",
-        ],
-    )
+    rows_have(table, further_keys())
 }
 
 /// One of the rows of its processes has one of the keys.

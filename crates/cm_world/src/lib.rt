@@ -8,6 +8,7 @@ mod cap_text;
 mod error;
 mod flags;
 mod ids;
+mod keys;
 mod later;
 mod laws;
 mod process;

@@ -9,6 +9,7 @@ ghost use Rattle.model_text.specs.Toml.{has_only};
 use crate::WorldError;
 use crate::flags::{no_new_privs_value, securebits_value};
 use crate::ids::{groups_value, ids_value};
+use crate::keys::process_keys;
 use crate::sets::{FiveSets, sets_declared};
 use crate::table::{has_only, number_below, value_at};
 use cm_base::{Kgid, Kuid, Pid, SecBits, SpaceId};
@@ -54,23 +55,7 @@ fn process_of(alloc: Global, row: &Table) -> Result<Proc, WorldError>
 fn has_process_keys(row: &Table) -> bool
     ensures { result ≡ has_only process_keys (table_view row.now) }
 {
-    has_only(
-        row,
-        &[
-            "pid",
-            "uid",
-            "parent",
-            "gid",
-            "groups",
-            "permitted",
-            "effective",
-            "inheritable",
-            "ambient",
-            "bounding",
-            "securebits",
-            "no_new_privs",
-        ],
-    )
+    has_only(row, process_keys())
 }
 
 /// The pid that a row declares: a whole number from 1 to 4194304.

@@ -20,14 +20,14 @@ use Rattle.model_rules.specs.CapCalls.{has_setpcap, may_capset, with_capset, cap
 use Rattle.model_rules.specs.Fixups.{without_root, after_losing_root, following_effective, fixed_up, following_fs, fs_fixed_up}
 use Rattle.model_rules.specs.Securebits.{has_flag, keep_caps, no_setuid_fixup, no_cap_ambient_raise, lock_of, noroot, locks, locked_flags}
 use Rattle.model_rules.specs.SetGroups.{setgroups, with_groups, all_down, most_groups}
-use Rattle.model_rules.specs.SetId.{with_uids, with_gids, has_setuid, has_setgid, setuid, setreuid, setresuid, setfsuid, setgid, setregid, setresgid, setfsgid, set_res, set_re, set_one, set_fs}
+use Rattle.model_rules.specs.SetId.{with_uids, with_gids, has_setuid, has_setgid, setuid, setreuid, setresuid, setfsuid, setgid, setregid, setresgid, setfsgid, setresid, setreid, setid, setfsid}
 use Rattle.model_rules.specs.Zero.{is_zero, has_zero}
 use Rattle.model_box.specs.Row.{Part, Uids, EffectiveUids, FsUids, Gids, EffectiveGids, FsGids, Groups, MappedUids, MappedGids, PermittedCaps, InheritableCaps, BoundingCaps, RootCounts, LockClear, Row, space_under, HasMembers}
 use Rattle.model_box.specs.Rule.{SetUid, SetFsUid, SetGid, SetFsGid, SetGroups, CapSet, SecureBits}
 use Rattle.model_box.specs.Closed.{Closed}
 use Rattle.model_box.specs.Covers.{MapsIn}
 use Rattle.model_box.specs.Gains.{SettableUid, SettableGid}
-use Rattle.model_box.proofs.Ids.{IdsIn, OkIn, down_outside, set_res_in, set_re_in, set_one_in, set_fs_in}
+use Rattle.model_box.proofs.Ids.{IdsIn, OkIn, down_outside, setresid_in, setreid_in, setid_in, setfsid_in}
 use Rattle.model_box.proofs.Rows.{Fine, noroot_is, lock_is, locked_stays}
 use Rattle.model_box.proofs.Writing.{choose}
 
@@ -182,24 +182,24 @@ module _ (permitted : CallKind → Bool) (files : FileTable) (old : Spaces) (bou
 
     pub setresuid_fine : (r e v : ℕ) → Fine (bounds row) (setresuid s c r e v).cred
     setresuid_fine r e v =
-        with_uids_fine (bounds row) s c fine (set_res (extents_of s.uids) (has_setuid c) c.uid r e v)
-        (set_res_in (bounds row Uids) (bounds row EffectiveUids) (bounds row FsUids) (bounds row MappedUids) (bounds row PermittedCaps cap_setuid) (extents_of s.uids) maps.uids (has_setuid c) (cap_in cap_setuid) c.uid fine.held.uid uid_gain uid_old uid_fs r e v)
+        with_uids_fine (bounds row) s c fine (setresid (extents_of s.uids) (has_setuid c) c.uid r e v)
+        (setresid_in (bounds row Uids) (bounds row EffectiveUids) (bounds row FsUids) (bounds row MappedUids) (bounds row PermittedCaps cap_setuid) (extents_of s.uids) maps.uids (has_setuid c) (cap_in cap_setuid) c.uid fine.held.uid uid_gain uid_old uid_fs r e v)
 
     pub setreuid_fine : (r e : ℕ) → Fine (bounds row) (setreuid s c r e).cred
     setreuid_fine r e =
-        with_uids_fine (bounds row) s c fine (set_re (extents_of s.uids) (has_setuid c) c.uid r e)
-        (set_re_in (bounds row Uids) (bounds row EffectiveUids) (bounds row FsUids) (bounds row MappedUids) (bounds row PermittedCaps cap_setuid) (extents_of s.uids) maps.uids (has_setuid c) (cap_in cap_setuid) c.uid fine.held.uid uid_gain uid_old uid_fs r e)
+        with_uids_fine (bounds row) s c fine (setreid (extents_of s.uids) (has_setuid c) c.uid r e)
+        (setreid_in (bounds row Uids) (bounds row EffectiveUids) (bounds row FsUids) (bounds row MappedUids) (bounds row PermittedCaps cap_setuid) (extents_of s.uids) maps.uids (has_setuid c) (cap_in cap_setuid) c.uid fine.held.uid uid_gain uid_old uid_fs r e)
 
     pub setuid_fine : (id : ℕ) → Fine (bounds row) (setuid s c id).cred
     setuid_fine id =
-        with_uids_fine (bounds row) s c fine (set_one (extents_of s.uids) (has_setuid c) c.uid id)
-        (set_one_in (bounds row Uids) (bounds row EffectiveUids) (bounds row FsUids) (bounds row MappedUids) (bounds row PermittedCaps cap_setuid) (extents_of s.uids) maps.uids (has_setuid c) (cap_in cap_setuid) c.uid fine.held.uid uid_gain uid_old uid_fs id)
+        with_uids_fine (bounds row) s c fine (setid (extents_of s.uids) (has_setuid c) c.uid id)
+        (setid_in (bounds row Uids) (bounds row EffectiveUids) (bounds row FsUids) (bounds row MappedUids) (bounds row PermittedCaps cap_setuid) (extents_of s.uids) maps.uids (has_setuid c) (cap_in cap_setuid) c.uid fine.held.uid uid_gain uid_old uid_fs id)
 
   pub setfsuid_fine : IsTrue (permitted kind.SetFsUid) → (id : ℕ) → Fine (bounds row) (setfsuid s c id).cred
   setfsuid_fine allowed id =
-      fs_fixed_up_fine (bounds row) s c.uid.fs (record c { uid = set_fs (extents_of s.uids) (has_setuid c) c.uid id })
-      (with_uid_fine (bounds row) c fine (set_fs (extents_of s.uids) (has_setuid c) c.uid id)
-      (set_fs_in (bounds row Uids) (bounds row EffectiveUids) (bounds row FsUids) (bounds row MappedUids) (bounds row PermittedCaps cap_setuid) (extents_of s.uids) maps.uids (has_setuid c) (cap_in cap_setuid) c.uid fine.held.uid
+      fs_fixed_up_fine (bounds row) s c.uid.fs (record c { uid = setfsid (extents_of s.uids) (has_setuid c) c.uid id })
+      (with_uid_fine (bounds row) c fine (setfsid (extents_of s.uids) (has_setuid c) c.uid id)
+      (setfsid_in (bounds row Uids) (bounds row EffectiveUids) (bounds row FsUids) (bounds row MappedUids) (bounds row PermittedCaps cap_setuid) (extents_of s.uids) maps.uids (has_setuid c) (cap_in cap_setuid) c.uid fine.held.uid
       (λ x set. closed SetFsUid row standing FsUids x (allowed, members, set)) id))
 
   module _ (allowed : IsTrue (permitted kind.SetGid || permitted kind.SetReGid || permitted kind.SetResGid)) where
@@ -214,23 +214,23 @@ module _ (permitted : CallKind → Bool) (files : FileTable) (old : Spaces) (bou
 
     pub setresgid_fine : (r e v : ℕ) → Fine (bounds row) (setresgid s c r e v).cred
     setresgid_fine r e v =
-        with_gids_fine (bounds row) c fine (set_res (extents_of s.gids) (has_setgid c) c.gid r e v)
-        (set_res_in (bounds row Gids) (bounds row EffectiveGids) (bounds row FsGids) (bounds row MappedGids) (bounds row PermittedCaps cap_setgid) (extents_of s.gids) maps.gids (has_setgid c) (cap_in cap_setgid) c.gid fine.held.gid gid_gain gid_old gid_fs r e v)
+        with_gids_fine (bounds row) c fine (setresid (extents_of s.gids) (has_setgid c) c.gid r e v)
+        (setresid_in (bounds row Gids) (bounds row EffectiveGids) (bounds row FsGids) (bounds row MappedGids) (bounds row PermittedCaps cap_setgid) (extents_of s.gids) maps.gids (has_setgid c) (cap_in cap_setgid) c.gid fine.held.gid gid_gain gid_old gid_fs r e v)
 
     pub setregid_fine : (r e : ℕ) → Fine (bounds row) (setregid s c r e).cred
     setregid_fine r e =
-        with_gids_fine (bounds row) c fine (set_re (extents_of s.gids) (has_setgid c) c.gid r e)
-        (set_re_in (bounds row Gids) (bounds row EffectiveGids) (bounds row FsGids) (bounds row MappedGids) (bounds row PermittedCaps cap_setgid) (extents_of s.gids) maps.gids (has_setgid c) (cap_in cap_setgid) c.gid fine.held.gid gid_gain gid_old gid_fs r e)
+        with_gids_fine (bounds row) c fine (setreid (extents_of s.gids) (has_setgid c) c.gid r e)
+        (setreid_in (bounds row Gids) (bounds row EffectiveGids) (bounds row FsGids) (bounds row MappedGids) (bounds row PermittedCaps cap_setgid) (extents_of s.gids) maps.gids (has_setgid c) (cap_in cap_setgid) c.gid fine.held.gid gid_gain gid_old gid_fs r e)
 
     pub setgid_fine : (id : ℕ) → Fine (bounds row) (setgid s c id).cred
     setgid_fine id =
-        with_gids_fine (bounds row) c fine (set_one (extents_of s.gids) (has_setgid c) c.gid id)
-        (set_one_in (bounds row Gids) (bounds row EffectiveGids) (bounds row FsGids) (bounds row MappedGids) (bounds row PermittedCaps cap_setgid) (extents_of s.gids) maps.gids (has_setgid c) (cap_in cap_setgid) c.gid fine.held.gid gid_gain gid_old gid_fs id)
+        with_gids_fine (bounds row) c fine (setid (extents_of s.gids) (has_setgid c) c.gid id)
+        (setid_in (bounds row Gids) (bounds row EffectiveGids) (bounds row FsGids) (bounds row MappedGids) (bounds row PermittedCaps cap_setgid) (extents_of s.gids) maps.gids (has_setgid c) (cap_in cap_setgid) c.gid fine.held.gid gid_gain gid_old gid_fs id)
 
   pub setfsgid_fine : IsTrue (permitted kind.SetFsGid) → (id : ℕ) → Fine (bounds row) (setfsgid s c id).cred
   setfsgid_fine allowed id =
-      with_gid_fine (bounds row) c fine (set_fs (extents_of s.gids) (has_setgid c) c.gid id)
-      (set_fs_in (bounds row Gids) (bounds row EffectiveGids) (bounds row FsGids) (bounds row MappedGids) (bounds row PermittedCaps cap_setgid) (extents_of s.gids) maps.gids (has_setgid c) (cap_in cap_setgid) c.gid fine.held.gid
+      with_gid_fine (bounds row) c fine (setfsid (extents_of s.gids) (has_setgid c) c.gid id)
+      (setfsid_in (bounds row Gids) (bounds row EffectiveGids) (bounds row FsGids) (bounds row MappedGids) (bounds row PermittedCaps cap_setgid) (extents_of s.gids) maps.gids (has_setgid c) (cap_in cap_setgid) c.gid fine.held.gid
       (λ x set. closed SetFsGid row standing FsGids x (allowed, members, set)) id)
 
   -- setgroups(2): the word of the query holds as long as it is "deny"

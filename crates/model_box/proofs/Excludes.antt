@@ -10,7 +10,7 @@ use Rattle.cm_filter.specs.declared.kind.CallKind.{CallKind}
 use Rattle.model_cred.specs.Credential.{Keeps}
 use Rattle.model_cred.specs.Process.{Process, State, KeepsState, process_at}
 use Rattle.model_cred.specs.Right.{Right, Cap, Uid, Gid}
-use Rattle.model_cred.specs.Space.{Space, Spaces, IsTree, space_of, is_ancestor}
+use Rattle.model_cred.specs.Space.{Space, Spaces, IsTree, space_of, is_at_or_above}
 use Rattle.model_cred.specs.World.{World}
 use Rattle.model_run.specs.Holds.{process_holds, holds_for, holds_right}
 use Rattle.model_run.specs.Later.{is_member, Later}
@@ -20,8 +20,8 @@ use Rattle.model_box.specs.Closed.{Closed}
 use Rattle.model_box.specs.Covers.{RowOf, Covers}
 use Rattle.model_box.specs.Covers as rows
 use Rattle.model_box.specs.Meets.{Meets, MeetsCap, IsOverStanding}
-use Rattle.model_box.proofs.Trees.{Earlier, space_of_newest, space_of_older, ancestor_below, power_cases}
-use Rattle.model_box.proofs.Fits.{MemberFits, ancestor_stays, next_stays}
+use Rattle.model_box.proofs.Trees.{Earlier, space_of_newest, space_of_older, at_or_above_low, power_cases}
+use Rattle.model_box.proofs.Fits.{MemberFits, at_or_above_stays, next_stays}
 use Rattle.model_box.proofs.Steps.{row_for}
 use Rattle.model_box.proofs.Runs.{Kept, later_kept}
 
@@ -93,12 +93,12 @@ module _ (permitted : CallKind → Bool) (w : World) (s : State) (members : List
       low : n < length s.spaces
       low = ltb-true n (length s.spaces) standing
 
-      found : (m : ℕ) × IsTrue (is_ancestor later.spaces m n)
+      found : (m : ℕ) × IsTrue (is_at_or_above later.spaces m n)
           × (((m ≡ p.space) × IsTrue (holds p.cred.effective capability)) ⊎ (((space_of later.spaces m).parent ≡ Some p.space) × ((space_of later.spaces m).owner ≡ p.cred.uid.effective)))
       found = power_cases later.spaces p.space p.cred.effective p.cred.uid.effective capability n power
 
       m_low : found.0 ≤ n
-      m_low = ancestor_below later.spaces kept.spaces.earlier found.0 n found.1
+      m_low = at_or_above_low later.spaces kept.spaces.earlier found.0 n found.1
 
       by : (((found.0 ≡ p.space) × IsTrue (holds p.cred.effective capability)) ⊎ (((space_of later.spaces found.0).parent ≡ Some p.space) × ((space_of later.spaces found.0).owner ≡ p.cred.uid.effective)))
           → MeetsCap s.spaces bounds capability n
@@ -109,7 +109,7 @@ module _ (permitted : CallKind → Bool) (w : World) (s : State) (members : List
           let at : RowOf (length s.spaces) later.spaces p.space (Standing p.space) = rows.own p.space (omega arith) in
           inl (
             p.space,
-            ancestor_stays s.spaces later.spaces bounds kept.spaces p.space n low (rw here.0 at found.1),
+            at_or_above_stays s.spaces later.spaces bounds kept.spaces p.space n low (rw here.0 at found.1),
             (p.cred.uid.effective, fits.held (Standing p.space) at EffectiveUids p.cred.uid.effective refl),
             fits.held (Standing p.space) at PermittedCaps capability (member_of_wider p.cred.effective p.cred.permitted fits.included.effective capability here.1),
           )

@@ -14,7 +14,7 @@ use Rattle.model_cred.specs.Credential.{Credential}
 use Rattle.model_cred.specs.Files.{FileTable, FileCaps, Mount}
 use Rattle.model_cred.specs.Files as declared_files
 use Rattle.model_cred.specs.IdMap.{Extent, down, extents_of, is_outside, is_the}
-use Rattle.model_cred.specs.Space.{Space, Spaces, stands, space_of, chain, is_ancestor}
+use Rattle.model_cred.specs.Space.{Space, Spaces, stands, space_of, chain, is_at_or_above}
 use Rattle.model_rules.specs.Answer.{Answer, done, refused}
 use Rattle.model_rules.specs.Caps.{cap_dac_override}
 use Rattle.model_rules.specs.CapCalls.{without_keep_caps}
@@ -27,8 +27,8 @@ use Rattle.model_box.specs.Rule.{ExecUid, ExecGid, ExecCaps, ExecRoot}
 use Rattle.model_box.specs.Files.{IdIn, HasOther, CanRun, SetIdCan, MayBeZero, ZeroIn, ZeroAbove, RootCan, TakesCan, FileGives, FilesFit, is_program}
 use Rattle.model_box.specs.Closed.{Closed}
 use Rattle.model_box.specs.Covers.{RowOf, own, MapsIn}
-use Rattle.model_box.proofs.Trees.{any_item, ancestor_below, row_standing, row_stands, split_chain}
-use Rattle.model_box.proofs.Fits.{SpacesFit, ancestor_stays}
+use Rattle.model_box.proofs.Trees.{any_item, at_or_above_low, row_standing, row_stands, split_chain}
+use Rattle.model_box.proofs.Fits.{SpacesFit, at_or_above_stays}
 use Rattle.model_box.proofs.Ids.{IdsIn, from_each, down_outside, is_real}
 use Rattle.model_box.proofs.Rows.{Fine}
 use Rattle.model_box.proofs.Calls.{with_uid_fine, with_gid_fine, without_keep_caps_fine}
@@ -112,12 +112,12 @@ module _ (row : Part → ℕ → Type 0) (c : Credential) (fine : Fine row c) (s
 -- ---- the spaces as a file sees them
 module _ (old new : Spaces) (bounds : Row → Part → ℕ → Type 0) (fit : SpacesFit old new bounds) where
   -- a space that stands and is above a member's space is above the standing space of its row
-  above_row : (m at : ℕ) (row : Row) → m < length old → RowOf (length old) new at row → IsTrue (is_ancestor new m at) → IsTrue (is_ancestor old m (space_under row))
-  above_row m at (Standing n) low row above = let two = row_standing row in ancestor_stays old new bounds fit m n (rw two.0 at two.1) (rw two.0 at above)
+  above_row : (m at : ℕ) (row : Row) → m < length old → RowOf (length old) new at row → IsTrue (is_at_or_above new m at) → IsTrue (is_at_or_above old m (space_under row))
+  above_row m at (Standing n) low row above = let two = row_standing row in at_or_above_stays old new bounds fit m n (rw two.0 at two.1) (rw two.0 at above)
   above_row m at (Fresh a) low row above =
       elim (split_chain fit.earlier m row above) [
         | inl row_m ↦ absurd (let late : length old ≤ m = (row_stands row_m).1 in omega arith)
-        | inr up ↦ ancestor_stays old new bounds fit m a (row_stands row).0 up
+        | inr up ↦ at_or_above_stays old new bounds fit m a (row_stands row).0 up
       ]
 
   -- inside 0 of a standing space
@@ -139,12 +139,12 @@ module _ (old new : Spaces) (bounds : Row → Part → ℕ → Type 0) (fit : Sp
   same_id (Some a) None wrong = absurd (false≢true wrong)
   same_id None b wrong = absurd (false≢true wrong)
 
-  zero_above : (id : Option ℕ) (m z n : ℕ) → id ≡ Some z → zero_of (space_of new m) ≡ Some z → n < length old → IsTrue (is_ancestor new m n) → ZeroAbove old bounds n id
+  zero_above : (id : Option ℕ) (m z n : ℕ) → id ≡ Some z → zero_of (space_of new m) ≡ Some z → n < length old → IsTrue (is_at_or_above new m n) → ZeroAbove old bounds n id
   zero_above id m z n is zero low up =
-      let m_low : m ≤ n = ancestor_below new fit.earlier m n up in
-      (m, ancestor_stays old new bounds fit m n low up, id_from id z (ZeroIn old bounds (Standing m)) is (zero_standing m z (omega arith) zero))
+      let m_low : m ≤ n = at_or_above_low new fit.earlier m n up in
+      (m, at_or_above_stays old new bounds fit m n low up, id_from id z (ZeroIn old bounds (Standing m)) is (zero_standing m z (omega arith) zero))
 
-  root_by : (id : Option ℕ) (m z at : ℕ) → id ≡ Some z → zero_of (space_of new m) ≡ Some z → IsTrue (is_ancestor new m at) → (row : Row)
+  root_by : (id : Option ℕ) (m z at : ℕ) → id ≡ Some z → zero_of (space_of new m) ≡ Some z → IsTrue (is_at_or_above new m at) → (row : Row)
       → RowOf (length old) new at row → RootCan old bounds row id
   root_by id m z at is zero up (Standing n) row_n = let two = row_standing row_n in zero_above id m z n is zero (rw two.0 at two.1) (rw two.0 at up)
   root_by id m z at is zero up (Fresh a) row_a =
@@ -225,13 +225,13 @@ module _ (permitted : CallKind → Bool) (files : FileTable) (old new : Spaces) 
 
   module _ (f : FileView) (inside : FileIn old bounds row f) (runs : CanRun (bounds row) f) where
     raises : IsTrue (is_some f.owner) ⊎ IsTrue (is_some f.caps) → IsTrue (may_raise_in new at f) → IsTrue (may_raise_in old (space_under row) f)
-    raises there may = by inside.stands (and_parts (not f.nosuid) (is_ancestor new f.space at) may) where
-      by : (f ≡ plain_view) ⊎ (f.space < length old) → IsTrue (not f.nosuid) × IsTrue (is_ancestor new f.space at) → IsTrue (may_raise_in old (space_under row) f)
+    raises there may = by inside.stands (and_parts (not f.nosuid) (is_at_or_above new f.space at) may) where
+      by : (f ≡ plain_view) ⊎ (f.space < length old) → IsTrue (not f.nosuid) × IsTrue (is_at_or_above new f.space at) → IsTrue (may_raise_in old (space_under row) f)
       by (inl plain) both = absurd (no there) where
         no : IsTrue (is_some f.owner) ⊎ IsTrue (is_some f.caps) → ⊥
         no (inl owner) = false≢true (rw plain at owner)
         no (inr caps) = false≢true (rw plain at caps)
-      by (inr low) both = and_from (not f.nosuid) (is_ancestor old f.space (space_under row)) both.0 (above_row old new bounds fit f.space at row low row_at both.1)
+      by (inr low) both = and_from (not f.nosuid) (is_at_or_above old f.space (space_under row)) both.0 (above_row old new bounds fit f.space at row low row_at both.1)
 
     -- the set-id bits count in the row
     owner_there : (o : Option ℕ) → IdIn o (bounds row MappedUids) → IsTrue (is_some o)

@@ -13,7 +13,7 @@ use Rattle.model_cred.specs.Space.{Spaces, put_space, space_of}
 use Rattle.model_cred.specs.World.{World}
 use Rattle.model_rules.specs.Caps.{cap_sys_admin}
 use Rattle.model_rules.specs.Maps.{Written, UidMap, GidMap, with_map, may_say, write_done, write_refused}
-use Rattle.model_rules.specs.Namespaces.{create}
+use Rattle.model_rules.specs.Namespaces.{unshare, clone_user}
 use Rattle.model_rules.specs.Power.{has_over}
 use Rattle.model_rules.specs.Reply.{spaces_with, spaces_after}
 use Rattle.model_run.specs.Outside.{comes_from_outside}
@@ -34,8 +34,8 @@ same_grows : (spaces after : Spaces) → length after ≡ length spaces → leng
 same_grows spaces after same = omega arith
 
 after_grows : (spaces : Spaces) (at : ℕ) (c : Credential) (call : Call) → length spaces ≤ length (spaces_after spaces at c call)
-after_grows spaces at c CloneUser = with_grows (create spaces at c).res spaces at c
-after_grows spaces at c Unshare = with_grows (create spaces at c).res spaces at c
+after_grows spaces at c CloneUser = with_grows (clone_user spaces at c) spaces at c
+after_grows spaces at c Unshare = with_grows (unshare spaces at c).res spaces at c
 after_grows spaces at c (WriteUidMap t list) =
     write_by (λ (after : Spaces). length spaces ≤ length after) UidMap spaces at c t list (omega arith)
     (λ may mapped down maps. same_grows spaces (put_space t (with_map UidMap (space_of spaces t) mapped) spaces) (length_put t (with_map UidMap (space_of spaces t) mapped) spaces))
@@ -64,7 +64,7 @@ unless_grows (Err e) s baby after more = omega arith
 ruled_grows : (w : World) (s : State) (p : Process) (call : Call) (pid : ℕ) → length s.spaces ≤ length (ruling w s p call pid).state.spaces
 ruled_grows w s p Fork pid = birth_grows s (fork_child p pid) s.spaces (omega arith)
 ruled_grows w s p CloneUser pid =
-    unless_grows (create s.spaces p.space p.cred).res s (clone_child s.spaces p pid) (spaces_after s.spaces p.space p.cred CloneUser) (after_grows s.spaces p.space p.cred CloneUser)
+    unless_grows (clone_user s.spaces p.space p.cred) s (clone_child s.spaces p pid) (spaces_after s.spaces p.space p.cred CloneUser) (after_grows s.spaces p.space p.cred CloneUser)
 ruled_grows w s p Exit pid = omega arith
 ruled_grows w s p call pid = after_grows s.spaces p.space p.cred call
 

@@ -7,7 +7,7 @@ use Rattle.cm_base.specs.declared.errno.Errno.{Errno}
 use Rattle.cm_base.specs.declared.errno.Errno.TheVariants.{EPERM}
 use Rattle.model_cred.specs.Credential.{FourIds, is_one_of_three, all_four}
 use Rattle.model_cred.specs.IdMap.{Extent, down, is_outside, lies_in}
-use Rattle.model_rules.specs.SetId.{minus_one, is_given, asked, set_res, set_re, set_one, set_fs, with_fs, saved_after, one_mapped, both_mapped, all_mapped}
+use Rattle.model_rules.specs.SetId.{minus_one, is_given, asked, setresid, setreid, setid, setfsid, with_fs, saved_after, one_mapped, both_mapped, all_mapped}
 use Rattle.model_box.specs.Gains.{Settable}
 use Rattle.model_box.proofs.Writing.{choose}
 
@@ -104,8 +104,8 @@ module _ (Old Effective Fs Mapped : ℕ → Type 0) (Privileged : Type 0) (map :
         from_each Old Effective Fs (record { real = real; effective = effective; saved = saved; fs = effective }) r s (to_old effective e) e (to_fs effective e)
 
     -- setresuid and setresgid
-    pub set_res_in : (r e s : ℕ) → OkIn (IdsIn Old Effective Fs) (set_res map privileged old r e s)
-    set_res_in r e s = go (asked map old.real r) (asked map old.effective e) (asked map old.saved s) refl refl refl where
+    pub setresid_in : (r e s : ℕ) → OkIn (IdsIn Old Effective Fs) (setresid map privileged old r e s)
+    setresid_in r e s = go (asked map old.real r) (asked map old.effective e) (asked map old.saved s) refl refl refl where
       ids : (real effective saved : ℕ) → asked map old.real r ≡ Some real → asked map old.effective e ≡ Some effective → asked map old.saved s ≡ Some saved
           → IsTrue (privileged || (is_one_of_three old real && is_one_of_three old effective && is_one_of_three old saved))
           → IdsIn Old Effective Fs (record { real = real; effective = effective; saved = saved; fs = effective })
@@ -140,8 +140,8 @@ module _ (Old Effective Fs Mapped : ℕ → Type 0) (Privileged : Type 0) (map :
           (λ may. ids real effective saved a b c may) (λ _. tt)
 
     -- setreuid and setregid
-    pub set_re_in : (r e : ℕ) → OkIn (IdsIn Old Effective Fs) (set_re map privileged old r e)
-    set_re_in r e = go (asked map old.real r) (asked map old.effective e) refl refl where
+    pub setreid_in : (r e : ℕ) → OkIn (IdsIn Old Effective Fs) (setreid map privileged old r e)
+    setreid_in r e = go (asked map old.real r) (asked map old.effective e) refl refl where
       real_may : (real : ℕ) → IsTrue (real == old.real || real == old.effective) → Old real
       real_may real one =
           elim (or_cases (eqb real old.real) (eqb real old.effective) one) [
@@ -179,8 +179,8 @@ module _ (Old Effective Fs Mapped : ℕ → Type 0) (Privileged : Type 0) (map :
           (λ may. ids real effective a b (both real effective (or_cases privileged ((real == old.real || real == old.effective) && is_one_of_three old effective) may))) (λ _. tt)
 
     -- setuid and setgid
-    pub set_one_in : (argument : ℕ) → OkIn (IdsIn Old Effective Fs) (set_one map privileged old argument)
-    set_one_in argument = go (down map argument) refl where
+    pub setid_in : (argument : ℕ) → OkIn (IdsIn Old Effective Fs) (setid map privileged old argument)
+    setid_in argument = go (down map argument) refl where
       one_of : (id : ℕ) → IsTrue (id == old.real || id == old.saved) → Old id
       one_of id one =
           elim (or_cases (eqb id old.real) (eqb id old.saved) one) [
@@ -212,8 +212,8 @@ module _ (Old Effective Fs Mapped : ℕ → Type 0) (Privileged : Type 0) (map :
           (λ one. two_ids id (down_outside map argument id same) (one_of id one)) (λ _. tt))
 
   -- setfsuid and setfsgid
-  pub set_fs_in : ((x : ℕ) → Settable Old Mapped Privileged x → Fs x) → (argument : ℕ) → IdsIn Old Effective Fs (set_fs map privileged old argument)
-  set_fs_in gain argument = go (down map argument) refl where
+  pub setfsid_in : ((x : ℕ) → Settable Old Mapped Privileged x → Fs x) → (argument : ℕ) → IdsIn Old Effective Fs (setfsid map privileged old argument)
+  setfsid_in gain argument = go (down map argument) refl where
     fs_is : (id : ℕ) → Fs id → IdsIn Old Effective Fs (record old { fs = id })
     fs_is id now = record { three = held.three; effective = held.effective; fs = λ x same. rw same now }
 

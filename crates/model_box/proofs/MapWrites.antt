@@ -11,15 +11,15 @@ use Rattle.model_cred.specs.Credential.{Credential}
 use Rattle.model_cred.specs.Files.{FileTable}
 use Rattle.model_cred.specs.IdMap.{Extent, extents_of, is_outside, is_the, lies_in}
 use Rattle.model_cred.specs.MapFault.{is_map}
-use Rattle.model_cred.specs.Space.{Space, Spaces, space_of, put_space, is_ancestor}
+use Rattle.model_cred.specs.Space.{Space, Spaces, space_of, put_space, is_at_or_above}
 use Rattle.model_rules.specs.Caps.{cap_setuid, cap_setgid, cap_sys_admin}
-use Rattle.model_rules.specs.Maps.{Written, MapFile, UidMap, GidMap, map_of, with_map, cap_for, effective_id, parent_map, extent_down, list_down, has_over_parent, may_write, setfcap_allows, is_single, word_allows, is_own_map, may_map, write_mapped, write_map, write_refused, write_done, write_setgroups, may_say}
+use Rattle.model_rules.specs.Maps.{Written, MapFile, UidMap, GidMap, map_of, with_map, cap_for, effective_id, parent_map, extent_down, list_down, has_over_parent, may_write, setfcap_allows, is_single, word_allows, is_own_map, may_map, write_stored, write_map, write_refused, write_done, write_setgroups, may_say}
 use Rattle.model_rules.specs.Power.{has_over}
 use Rattle.model_box.specs.Row.{Part, EffectiveUids, EffectiveGids, MappedUids, MappedGids, PermittedCaps, Row, Standing, Fresh, HasMembers}
 use Rattle.model_box.specs.Rule.{Maps}
 use Rattle.model_box.specs.Closed.{Closed}
 use Rattle.model_box.specs.Covers.{RowOf, own, child, deeper, Stays, MapsIn}
-use Rattle.model_box.proofs.Trees.{Earlier, has_parent_stands, ancestor_below, power_cases, row_standing}
+use Rattle.model_box.proofs.Trees.{Earlier, has_parent_stands, at_or_above_low, power_cases, row_standing}
 use Rattle.model_box.proofs.Fits.{SpacesFit, MemberFits, InRow, it_stands}
 use Rattle.model_box.proofs.Writing.{choose, put_fits, put_members}
 
@@ -116,12 +116,12 @@ by_why cause_ power in_target in_parent =
 over_parent : (new : Spaces) → Earlier new → (at : ℕ) (c : Credential) (cap t q : ℕ) → (space_of new t).parent ≡ Some q
     → ((at ≡ t) ⊎ (at ≡ q)) → IsTrue (has_over new at c cap q) → (at ≡ q) × IsTrue (holds c.effective cap)
 over_parent new earlier at c cap t q parent sits power = by sits found.2 where
-  found : (m : ℕ) × IsTrue (is_ancestor new m q)
+  found : (m : ℕ) × IsTrue (is_at_or_above new m q)
       × (((m ≡ at) × IsTrue (holds c.effective cap)) ⊎ (((space_of new m).parent ≡ Some at) × ((space_of new m).owner ≡ c.uid.effective)))
   found = power_cases new at c.effective c.uid.effective cap q power
 
   m_low : found.0 ≤ q
-  m_low = ancestor_below new earlier found.0 q found.1
+  m_low = at_or_above_low new earlier found.0 q found.1
 
   q_low : q < t
   q_low = earlier t q parent
@@ -137,12 +137,12 @@ over_parent new earlier at c cap t q parent sits power = by sits found.2 where
 -- Power over one's own space is in the effective set.
 over_own : (new : Spaces) → Earlier new → (at : ℕ) (c : Credential) (cap : ℕ) → IsTrue (has_over new at c cap at) → IsTrue (holds c.effective cap)
 over_own new earlier at c cap power = by found.2 where
-  found : (m : ℕ) × IsTrue (is_ancestor new m at)
+  found : (m : ℕ) × IsTrue (is_at_or_above new m at)
       × (((m ≡ at) × IsTrue (holds c.effective cap)) ⊎ (((space_of new m).parent ≡ Some at) × ((space_of new m).owner ≡ c.uid.effective)))
   found = power_cases new at c.effective c.uid.effective cap at power
 
   m_low : found.0 ≤ at
-  m_low = ancestor_below new earlier found.0 at found.1
+  m_low = at_or_above_low new earlier found.0 at found.1
 
   by : (((found.0 ≡ at) × IsTrue (holds c.effective cap)) ⊎ (((space_of new found.0).parent ≡ Some at) × ((space_of new found.0).owner ≡ c.uid.effective)))
       → IsTrue (holds c.effective cap)
@@ -360,14 +360,14 @@ pub write_by : (P : Spaces → Type 0) (file : MapFile) (new : Spaces) (at : ℕ
     → P (write_map file new at c t list).spaces
 write_by P file new at c t list stays written =
     choose (λ (w : Written). P w.spaces) (not (may_write file new at c t)) (write_refused EPERM new)
-    (if not (is_map list) then write_refused EINVAL new else write_mapped file new at c t list (list_down (parent_map file new (space_of new t)) list))
+    (if not (is_map list) then write_refused EINVAL new else write_stored file new at c t list (list_down (parent_map file new (space_of new t)) list))
     (λ _. stays)
     (λ may. choose (λ (w : Written). P w.spaces) (not (is_map list)) (write_refused EINVAL new)
-    (write_mapped file new at c t list (list_down (parent_map file new (space_of new t)) list))
+    (write_stored file new at c t list (list_down (parent_map file new (space_of new t)) list))
     (λ _. stays)
     (λ _. mapped_by (not-false (may_write file new at c t) may) (list_down (parent_map file new (space_of new t)) list) refl)) where
       mapped_by : IsTrue (may_write file new at c t) → (o : Option (List Extent)) → list_down (parent_map file new (space_of new t)) list ≡ o
-          → P (write_mapped file new at c t list o).spaces
+          → P (write_stored file new at c t list o).spaces
       mapped_by may None down = stays
       mapped_by may (Some mapped) down =
           choose (λ (w : Written). P w.spaces) (setfcap_allows file new at c (space_of new t) list && may_map file new at c (space_of new t) mapped)

@@ -11,7 +11,7 @@ use Rattle.model_cred.specs.Files.{FileTable}
 use Rattle.model_cred.specs.Space.{Spaces, space_of, stands, level}
 use Rattle.model_rules.specs.Answer.{Answer, done, refused}
 use Rattle.model_rules.specs.Caps.{cap_sys_admin}
-use Rattle.model_rules.specs.Namespaces.{create, created_by, join, as_newcomer, is_mapped_in, deepest}
+use Rattle.model_rules.specs.Namespaces.{unshare, clone_user, created_by, join, as_newcomer, is_mapped_in, deepest}
 use Rattle.model_rules.specs.Power.{has_over}
 use Rattle.model_rules.specs.Reply.{reply, place_after, spaces_with, spaces_after}
 use Rattle.model_run.specs.Step.{names_no_space}
@@ -105,7 +105,7 @@ module _ (permitted : CallKind → Bool) (files : FileTable) (old new : Spaces) 
 
   -- unshare(2)
   unshare_call : IsTrue (permitted kind.Unshare || permitted kind.CloneUser)
-      → AfterCall old new (spaces_with (create new at c).res new at c) bounds (place_after (create new at c).res at (length new)) (create new at c).cred
+      → AfterCall old new (spaces_with (unshare new at c).res new at c) bounds (place_after (unshare new at c).res at (length new)) (unshare new at c).cred
   unshare_call allowed =
       choose (λ (a : Answer). AfterCall old new (spaces_with a.res new at c) bounds (place_after a.res at (length new)) a.cred)
       (not (nat_lt (level new at) deepest)) (refused ENOSPC c) (if not (is_mapped_in (space_of new at) c) then refused EPERM c else done (as_newcomer c))
@@ -125,7 +125,7 @@ module _ (permitted : CallKind → Bool) (files : FileTable) (old new : Spaces) 
         }
 
   -- clone(2) with CLONE_NEWUSER, as far as the spaces go
-  clone_call : IsTrue (permitted kind.Unshare || permitted kind.CloneUser) → AfterCall old new (spaces_with (create new at c).res new at c) bounds at c
+  clone_call : IsTrue (permitted kind.Unshare || permitted kind.CloneUser) → AfterCall old new (spaces_with (clone_user new at c) new at c) bounds at c
   clone_call allowed = let after = unshare_call allowed in record { still = after.still; caller = after.still.members at c member }
 
   -- setns(2)

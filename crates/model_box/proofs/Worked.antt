@@ -3,6 +3,7 @@ use Rattle.std.proofs.Common.{◌≡◌, ℕ, zero, suc, ◌+◌, ◌<◌, ◌�
 use Rattle.std.specs.Prelude.{◌⊎◌, IsTrue, All, is_none, if◌then◌else◌}
 use Rattle.std.proofs.lemmas.Bool.{false≢true, or_cases, and_parts, eqb-true, ltb-true, cases_eq}
 use Rattle.cm_base.proofs.CapSets.{holds_none}
+use Rattle.cm_base.specs.Limits.{id_count}
 use Rattle.model_cred.specs.Credential.{Keeps, all_four, is_one_of_three}
 use Rattle.model_cred.specs.Files.{FileTable}
 use Rattle.model_cred.specs.IdMap.{Extent, extents_of, is_outside, lies_in}
@@ -161,10 +162,10 @@ member_in n RootCounts x has = has.0
 member_in n LockClear x has = has.0
 
 -- the outside ids of the initial space's maps are the ids
-id_below : (x : ℕ) → IsTrue (is_outside (extents_of (Some (record { inside = 0; outside = 0; length = 4294967295 } ∷ []))) x) → x < 4294967295
-id_below x out = go (lies_in 0 4294967295 x) refl out where
-  go : (b : Bool) → lies_in 0 4294967295 x ≡ b → IsTrue (if b then true else false) → x < 4294967295
-  go true inside _ = ltb-true x 4294967295 (and_parts (leb 0 x) (ltb x 4294967295) inside).1
+id_below : (x : ℕ) → IsTrue (is_outside (extents_of (Some (record { inside = 0; outside = 0; length = id_count } ∷ []))) x) → x < id_count
+id_below x out = go (lies_in 0 id_count x) refl out where
+  go : (b : Bool) → lies_in 0 id_count x ≡ b → IsTrue (if b then true else false) → x < id_count
+  go true inside _ = ltb-true x id_count (and_parts (leb 0 x) (ltb x id_count) inside).1
   go false outside wrong = absurd (false≢true wrong)
 
 maps_of : (n : ℕ) (part : Part) (x : ℕ) → SpaceMaps (space_of first_spaces n) part x → plain_bounds (Standing n) part x
@@ -199,7 +200,7 @@ one_space : (P : Space → Type 0) → P initial_space → All P first_spaces
 one_space P held zero d low = held
 one_space P held (suc k) d low = absurd (omega arith)
 
-one_extent : (P : Extent → Type 0) → P (record { inside = 0; outside = 0; length = 4294967295 }) → All P (record { inside = 0; outside = 0; length = 4294967295 } ∷ [])
+one_extent : (P : Extent → Type 0) → P (record { inside = 0; outside = 0; length = id_count }) → All P (record { inside = 0; outside = 0; length = id_count } ∷ [])
 one_extent P held zero d low = held
 one_extent P held (suc k) d low = absurd (omega arith)
 
@@ -218,7 +219,7 @@ plain_keeps = record {
     securebits = lit< tt;
   });
   tree = refl;
-  spaces = one_space KeepsSpace (record { owner = lit< tt; uids = one_extent (λ e. e.outside + e.length ≤ 4294967295) (lit≤ tt); gids = one_extent (λ e. e.outside + e.length ≤ 4294967295) (lit≤ tt) });
+  spaces = one_space KeepsSpace (record { owner = lit< tt; uids = one_extent (λ e. e.outside + e.length ≤ id_count) (lit≤ tt); gids = one_extent (λ e. e.outside + e.length ≤ id_count) (lit≤ tt) });
 }
 
 -- ---- the case

@@ -87,8 +87,8 @@ abbrev pub level : Spaces → ℕ → ℕ
 level spaces n = length (chain spaces n) - 1
 
 -- the first space is the second or above it
-abbrev pub is_ancestor : Spaces → ℕ → ℕ → Bool
-is_ancestor spaces a n = list_any (λ m. m == a) (chain spaces n)
+abbrev pub is_at_or_above : Spaces → ℕ → ℕ → Bool
+is_at_or_above spaces a n = list_any (λ m. m == a) (chain spaces n)
 
 -- the parent of the space is that one
 abbrev pub is_child : Option Space → ℕ → Bool

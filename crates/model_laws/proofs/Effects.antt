@@ -12,6 +12,7 @@ use Rattle.model_cred.specs.Space.{Spaces}
 use Rattle.model_cred.specs.World.{World}
 use Rattle.model_run.specs.Later.{members_after, members_with}
 use Rattle.model_run.specs.Outside.{comes_from_outside}
+use Rattle.model_rules.specs.Namespaces.{clone_user}
 use Rattle.model_run.specs.Ruling.{Ruling, ruling, birth, birth_unless, reply_to, state_left, spaces_left, fork_child, clone_child}
 use Rattle.model_run.specs.Step.{Step, told_child, is_living_child}
 use Rattle.model_laws.proofs.Keeping.{told_is_new}
@@ -155,7 +156,9 @@ owed_left : (w : World) (s : State) (pid : ℕ) (p : Process) (call : Call) (res
     → Owed s.processes p call res (record { res = (reply_to w s p call).res; state = state_left s p call (reply_to w s p call) })
 owed_left w s pid p call res brings = record {
   owes = λ is.
-      let plain : IsChildless res = subst IsChildless (sym is) (ruled_childless (reply_to w s p call).res (reply_plain w.files s.spaces p.space p.cred call).ruled) in
+      let plain : IsChildless res
+      = subst IsChildless (sym is)
+      (ruled_childless (reply_to w s p call).res (reply_plain w.files s.spaces p.space p.cred call).ruled) in
       inl (record {
         space = (reply_to w s p call).space;
         cred = (reply_to w s p call).cred;
@@ -169,7 +172,7 @@ owed : (w : World) (s : State) (pid : ℕ) (p : Process) (call : Call) (n : ℕ)
     → (is_pid n ≡ true → is_alive s.processes n ≡ false) → Owed s.processes p call res (ruling w s p call n)
 owed w s pid p Fork n res lives fresh = owed_birth s pid p (fork_child p n) s.spaces Fork res lives fork refl fresh
 owed w s pid p CloneUser n res lives fresh =
-    owed_unless (reply_to w s p CloneUser).res s pid p (clone_child s.spaces p n) (spaces_left s p CloneUser) CloneUser res lives clone refl fresh
+    owed_unless (clone_user s.spaces p.space p.cred) s pid p (clone_child s.spaces p n) (spaces_left s p CloneUser) CloneUser res lives clone refl fresh
 owed w s pid p Exit n res lives fresh = record {
   owes = λ is. inr (inr (record { exit = refl; result = is; processes = refl; members = λ members m. ap (members_after members m Exit) is }));
 }
@@ -179,7 +182,8 @@ effect_of : (w : World) (s : State) (e : Event) (s' : State) (p : Process) → p
     → Answers w s p e.call e.res s' → Effect s.processes p e.call e.res s'.processes
 effect_of w s e s' p lives fresh (inl outside) =
     let error : (k : Errno) × (e.res ≡ Err k) = outside_error e.call e.res outside.outside in
-    subst (λ (t : State). Effect s.processes p e.call e.res t.processes) (sym outside.state) (inl (error_calls s.processes e.pid p e.call e.res error.0 lives error.1))
+    subst (λ (t : State). Effect s.processes p e.call e.res t.processes) (sym outside.state)
+    (inl (error_calls s.processes e.pid p e.call e.res error.0 lives error.1))
 effect_of w s e s' p lives fresh (inr rules) =
     subst (λ (t : State). Effect s.processes p e.call e.res t.processes) (sym rules.state)
     ((owed w s e.pid p e.call (told_child e.res) e.res lives (told_is_new s.processes e.res fresh)).owes rules.result)

@@ -19,7 +19,8 @@ put_tail : (new q : Process) (processes : List Process) → q.pid ≢ new.pid �
 put_tail new q processes other = cond-false (q.pid == new.pid) (new ∷ processes) (q ∷ put_process new processes) (ne_eqb q.pid new.pid other)
 
 -- the process that is put is found
-pub at_put_same : (new p : Process) (processes : List Process) → process_at processes new.pid ≡ Some p → process_at (put_process new processes) new.pid ≡ Some new
+pub at_put_same : (new p : Process) (processes : List Process) → process_at processes new.pid ≡ Some p
+    → process_at (put_process new processes) new.pid ≡ Some new
 at_put_same new p [] is = absurd (cc)
 at_put_same new p (q ∷ processes) is =
     elim (cases_eq q.pid new.pid) [
@@ -42,12 +43,15 @@ at_put_other new (q ∷ processes) pid apart =
           ap (λ ps. process_at ps pid) (put_tail new q processes other)
           ∙ (elim (cases_eq q.pid pid) [
             | inl it ↦ at_head q (put_process new processes) pid it ∙ sym (at_head q processes pid it)
-            | inr else_where ↦ at_tail q (put_process new processes) pid else_where ∙ at_put_other new processes pid apart ∙ sym (at_tail q processes pid else_where)
+            | inr else_where ↦
+                at_tail q (put_process new processes) pid else_where ∙ at_put_other new processes pid apart
+                ∙ sym (at_tail q processes pid else_where)
           ])
     ]
 
 -- the process that is born is found
-pub at_insert_same : (new : Process) (processes : List Process) → is_alive processes new.pid ≡ false → process_at (insert_process new processes) new.pid ≡ Some new
+pub at_insert_same : (new : Process) (processes : List Process) → is_alive processes new.pid ≡ false
+    → process_at (insert_process new processes) new.pid ≡ Some new
 at_insert_same new [] dead = at_head new [] new.pid refl
 at_insert_same new (q ∷ processes) dead =
     let others : (q.pid ≢ new.pid) × (is_alive processes new.pid ≡ false) = other_pid q processes new.pid dead in
@@ -62,7 +66,8 @@ at_insert_same new (q ∷ processes) dead =
     ]
 
 -- the others are found as before
-pub at_insert_other : (new : Process) (processes : List Process) (pid : ℕ) → pid ≢ new.pid → process_at (insert_process new processes) pid ≡ process_at processes pid
+pub at_insert_other : (new : Process) (processes : List Process) (pid : ℕ) → pid ≢ new.pid
+    → process_at (insert_process new processes) pid ≡ process_at processes pid
 at_insert_other new [] pid apart = at_tail new [] pid (λ e. apart (sym e))
 at_insert_other new (q ∷ processes) pid apart =
     elim (cases_Bool (nat_lt new.pid q.pid)) [
@@ -73,7 +78,9 @@ at_insert_other new (q ∷ processes) pid apart =
           ap (λ ps. process_at ps pid) (cond-false (nat_lt new.pid q.pid) (new ∷ q ∷ processes) (q ∷ insert_process new processes) not_less)
           ∙ (elim (cases_eq q.pid pid) [
             | inl it ↦ at_head q (insert_process new processes) pid it ∙ sym (at_head q processes pid it)
-            | inr else_where ↦ at_tail q (insert_process new processes) pid else_where ∙ at_insert_other new processes pid apart ∙ sym (at_tail q processes pid else_where)
+            | inr else_where ↦
+                at_tail q (insert_process new processes) pid else_where ∙ at_insert_other new processes pid apart
+                ∙ sym (at_tail q processes pid else_where)
           ])
     ]
 
@@ -84,7 +91,8 @@ without_head gone q processes same =
     (cond-false (not (q.pid == gone.pid)) (q ∷ filter (λ p. not (p.pid == gone.pid)) processes) (filter (λ p. not (p.pid == gone.pid)) processes)
     (not_from_true (q.pid == gone.pid) (eq-eqb q.pid gone.pid same)))
 
-without_tail : (gone q : Process) (processes : List Process) → q.pid ≢ gone.pid → without_process gone (q ∷ processes) ≡ after_exit gone q ∷ without_process gone processes
+without_tail : (gone q : Process) (processes : List Process) → q.pid ≢ gone.pid
+    → without_process gone (q ∷ processes) ≡ after_exit gone q ∷ without_process gone processes
 without_tail gone q processes other =
     ap (map (after_exit gone))
     (cond-true (not (q.pid == gone.pid)) (q ∷ filter (λ p. not (p.pid == gone.pid)) processes) (filter (λ p. not (p.pid == gone.pid)) processes)

@@ -1,5 +1,6 @@
 -- Each call keeps the order of pids and what holds of each process.
-use Rattle.std.proofs.Common.{◌≡◌, ◌≢◌, ℕ, suc, ◌<◌, ◌≤◌, ◌==◌, not, Bool, true, false, List, [], ◌∷◌, map, filter, Option, Some, if◌then◌else◌, sym, ap, ◌∙◌, inl, inr, subst, arith}
+use Rattle.std.proofs.Common.{◌≡◌, ◌≢◌, ℕ, suc, ◌<◌, ◌≤◌, ◌==◌, not, Bool, true, false, List, [], ◌∷◌, map, filter}
+use Rattle.std.proofs.Common.{Option, Some, if◌then◌else◌, sym, ap, ◌∙◌, inl, inr, subst, arith}
 use Rattle.std.specs.Prelude.{nat_lt, All, is_some}
 use Rattle.std.proofs.lemmas.Bool.{cases_Bool, eqb-true, eqb-false, ltb-true, ltb-false, cond-true, cond-false}
 use Rattle.std.proofs.lemmas.List.Elements.{All-head, All-tail, All-cons, All-filter, All-map, All-weaker}
@@ -64,7 +65,10 @@ all_put P new (p ∷ processes) holds all =
 pub other_pid : (p : Process) (processes : List Process) (pid : ℕ) → is_alive (p ∷ processes) pid ≡ false → (p.pid ≢ pid) × (is_alive processes pid ≡ false)
 other_pid p processes pid dead =
     elim (cases_Bool (p.pid == pid)) [
-      | inl same ↦ absurd (let alive : is_alive (p ∷ processes) pid ≡ true = ap is_some (cond-true (p.pid == pid) (Some p) (process_at processes pid) same) in cc)
+      | inl same ↦
+          absurd (let alive : is_alive (p ∷ processes) pid
+          ≡ true = ap is_some (cond-true (p.pid == pid) (Some p) (process_at processes pid) same) in
+          cc)
       | inr other ↦ (eqb-false p.pid pid other, sym (ap is_some (cond-false (p.pid == pid) (Some p) (process_at processes pid) other)) ∙ dead)
     ]
 

@@ -9,7 +9,7 @@ use Rattle.model_cred.specs.Process.{Process, State}
 use Rattle.model_cred.specs.Right.{Right, Cap, Uid, Gid}
 use Rattle.model_cred.specs.World.{World}
 use Rattle.model_run.specs.Step.{outcome}
-use Rattle.model_run.specs.WayBack.{are_setresuids, BringsBack, way_back}
+use Rattle.model_run.specs.RunBack.{are_setresuids, BringsBack, run_back}
 use Rattle.model_text.proofs.Replays.{GoesOn, Passes, run_passes}
 use Rattle.model_text.proofs.Showing.{last_append, same_shown, silent_shown}
 use Rattle.model_text.proofs.Starts.{start_distinct, start_shows}
@@ -37,8 +37,8 @@ right_silent : (pid : ℕ) (more : Bool) (s : State) (p : Process) (right : Righ
 right_silent pid more s p (Gid k) = refl
 right_silent pid more s p (Cap cap n) = refl
 right_silent pid more s p (Uid k) =
-    elim (not more && length s.processes == 1) as (λ (b : Bool). last_credentials pid (cond b (way_verdict p.pid (way_back p.cred p.pid k)) not_built).lines ≡ None) [
-      | true ↦ way_verdict_silent pid p.pid (way_back p.cred p.pid k)
+    elim (not more && length s.processes == 1) as (λ (b : Bool). last_credentials pid (cond b (way_verdict p.pid (run_back p.cred p.pid k)) not_built).lines ≡ None) [
+      | true ↦ way_verdict_silent pid p.pid (run_back p.cred p.pid k)
       | false ↦ refl
     ]
 

@@ -7,7 +7,7 @@ use Rattle.model_cred.specs.Call.{Event}
 use Rattle.model_cred.specs.Process.{State}
 use Rattle.model_cred.specs.World.{World}
 use Rattle.model_run.specs.Step.{Outcome, Goes, Step, Run, outcome}
-use Rattle.model_run.specs.WayBack.{are_setresuids}
+use Rattle.model_run.specs.RunBack.{are_setresuids}
 use Rattle.model_text.proofs.Replays.{GoesOn, Passes, run_passes, events_past_none, events_past_told}
 use Rattle.model_text.proofs.StepFacts.{goes_or_not}
 use Rattle.model_text.proofs.Verdicts.{run_after, log_verdict, VerdictCause, verdict_cause, verdict_by}

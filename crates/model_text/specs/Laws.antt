@@ -5,7 +5,7 @@ use Rattle.cm_base.specs.declared.status.Status.{Status}
 use Rattle.cm_base.specs.declared.status.Status.TheVariants as status
 use Rattle.model_cred.specs.Call.{Event}
 use Rattle.model_cred.specs.Process.{Process, State, process_at}
-use Rattle.model_run.specs.WayBack.{BringsBack}
+use Rattle.model_run.specs.RunBack.{BringsBack}
 use Rattle.model_text.specs.Causes.{Cause, IsAccepted, IsImpossible, AsksAlone, IsYes}
 use Rattle.model_text.specs.Command.{command_of, query_of}
 use Rattle.model_text.specs.Query.{Query}

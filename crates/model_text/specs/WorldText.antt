@@ -2,7 +2,7 @@
 use Rattle.std.specs.Prelude.{ℕ, codes, ◌==◌, ◌&&◌, ◌||◌, Bool, true, false, not, nat_lt, List, [], ◌∷◌, Option, Some, None, if◌then◌else◌}
 use Rattle.std.specs.List.{list_any}
 use Rattle.std.specs.Str.{is_utf8}
-use Rattle.model_cred.specs.Process.{Process}
+use Rattle.model_cred.specs.Process.{Process, insert_process}
 use Rattle.model_cred.specs.Space.{first_spaces}
 use Rattle.model_cred.specs.Files.{FileTable, plain_mount}
 use Rattle.cm_filter.specs.Filters.{no_filter}
@@ -73,15 +73,10 @@ abbrev pub are_distinct : List Process → Bool
 are_distinct [] = true
 are_distinct (p ∷ processes) = not (has_pid p.pid processes) && are_distinct processes
 
--- the process at its place among others whose pids ascend
-abbrev pub placed : Process → List Process → List Process
-placed p [] = p ∷ []
-placed p (q ∷ processes) = if nat_lt p.pid q.pid then p ∷ q ∷ processes else q ∷ placed p processes
-
 -- the processes by ascending pid
 abbrev pub in_order : List Process → List Process
 in_order [] = []
-in_order (p ∷ processes) = placed p (in_order processes)
+in_order (p ∷ processes) = insert_process p (in_order processes)
 
 -- the mount `root`, which always stands, and no declared files
 abbrev pub root_alone : FileTable

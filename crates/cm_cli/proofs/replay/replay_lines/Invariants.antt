@@ -4,7 +4,7 @@ use Rattle.cm_world.specs.World.{world_of}
 use Rattle.cm_cli.specs.Sent.{IsSent}
 use Rattle.model_cred.specs.Process.{State}
 use Rattle.model_run.specs.Step.{Run}
-use Rattle.model_run.specs.WayBack.{are_setresuids}
+use Rattle.model_run.specs.RunBack.{are_setresuids}
 use Rattle.model_text.specs.Cut.{lines_of}
 use Rattle.model_text.specs.Line.{events_of}
 use Rattle.model_text.specs.Report.{text_of, replayed}

@@ -7,7 +7,7 @@ use Rattle.cm_cli.specs.Query.{query_if}
 use Rattle.cm_cli.specs.Telling.{log_report, answer_to}
 use Rattle.cm_io.specs.declared.outside.Outside.TheVariants as outside
 use Rattle.model_cred.specs.Process.{State}
-use Rattle.model_run.proofs.WaysBack.{setresuids_follow}
+use Rattle.model_run.proofs.RunsBack.{setresuids_follow}
 use Rattle.model_text.specs.Cut.{lines_of}
 use Rattle.model_text.specs.Line.{events_of}
 use Rattle.model_text.specs.Report.{text_of}

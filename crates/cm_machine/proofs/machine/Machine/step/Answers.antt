@@ -9,4 +9,4 @@ returns-clause-told_error c = λ error is.
     let before : State = c.args.self.now.state in
     let after : State = c.take_step.new.state in
     ap (λ (s : State). record { state = s })
-    (told_error_kept (world_of c.args.w.now) before c.args.e.now error c.take_step.result after c.take_step.ensures.outcome c.take_step.ensures.unchanged is)
+    (told_error_kept (world_of c.args.w.now) before c.args.e.now error c.take_step.result after c.take_step.ensures.becomes c.take_step.ensures.unchanged is)

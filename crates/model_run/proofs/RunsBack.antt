@@ -1,7 +1,8 @@
--- Where the sets follow the user ids, setresuid keeps them so, and `way_back` is exact: it is None where no calls bring
+-- Where the sets follow the user ids, setresuid keeps them so, and `run_back` is exact: it is None where no calls bring
 -- the process back, and else such calls.
 use Rattle.std.proofs.Common.{◌≡◌, ℕ, ◌⊎◌, inl, inr, ◌==◌, ◌||◌, ◌&&◌, not, Bool, true, false, cond, List, [], ◌∷◌, Option, Some, None, Result, Ok, Err, refl, sym, ◌∙◌, ap, subst, arith, eq-eqb, ◌<◌, lit<}
 use Rattle.cm_base.specs.CapSet.{none, holds}
+use Rattle.cm_base.specs.Limits.{id_count}
 use Rattle.cm_base.specs.declared.errno.Errno.{Errno}
 use Rattle.cm_base.specs.declared.errno.Errno.TheVariants.{EPERM}
 use Rattle.cm_base.specs.declared.res.Res.{Res}
@@ -15,14 +16,14 @@ use Rattle.model_cred.specs.Space.{Spaces, initial_space, first_spaces, space_of
 use Rattle.model_cred.specs.World.{World}
 use Rattle.model_rules.specs.Answer.{Answer, done}
 use Rattle.model_rules.specs.Fixups.{fixed_up, following_effective}
-use Rattle.model_rules.specs.SetId.{cap_setuid, has_setuid, minus_one, asked, all_mapped, set_res, with_uids, setresuid}
+use Rattle.model_rules.specs.SetId.{cap_setuid, has_setuid, minus_one, asked, all_mapped, setresid, with_uids, setresuid}
 use Rattle.model_run.specs.Holds.{process_holds, holds_for}
 use Rattle.model_run.specs.Outside.{comes_from_outside}
 use Rattle.model_run.specs.Ruling.{ruling, own}
 use Rattle.model_run.specs.Same.{same_res}
 use Rattle.model_run.specs.Step.{Goes, PidInUse, Wrong, Step, Run, outcome_for, told_call, told_rules, told_child, is_living_child, with_cred}
-use Rattle.model_run.specs.WayBack.{SetsFollowIds, has_root, alone, IsSetResUid, AreSetResUids, BringsBack, CanComeBack, becomes, way_back, is_setresuid, are_setresuids}
-pub use Rattle.model_run.specs.WayBack.{AllFollow, StateFollows}
+use Rattle.model_run.specs.RunBack.{SetsFollowIds, has_root, alone, IsSetResUid, AreSetResUids, BringsBack, CanComeBack, becomes, run_back, is_setresuid, are_setresuids}
+pub use Rattle.model_run.specs.RunBack.{AllFollow, StateFollows}
 
 -- ---- the fixups, by what was and what is root
 -- the three sets are cleared
@@ -118,7 +119,7 @@ uids_follow c (Err e) h = h
 
 -- and so does every call of setresuid
 pub setresuid_follows : (c : Credential) (r e v : ℕ) → SetsFollowIds c → SetsFollowIds (setresuid initial_space c r e v).cred
-setresuid_follows c r e v h = uids_follow c (set_res initial_map (has_setuid c) c.uid r e v) h
+setresuid_follows c r e v h = uids_follow c (setresid initial_map (has_setuid c) c.uid r e v) h
 
 -- ---- what the processes of a state keep
 all_put : (new : Process) (ps : List Process) → new.space ≡ 0 → SetsFollowIds new.cred → AllFollow ps → AllFollow (put_process new ps)
@@ -225,7 +226,7 @@ step_alone w pid forebear c e s' call goes =
 holds_alone : (pid : ℕ) (forebear : Option ℕ) (c : Credential) (k : ℕ) → process_holds (alone pid forebear c) pid (Uid k) ≡ (c.uid.effective == k)
 holds_alone pid forebear c k = ap (λ (b : Bool). holds_for first_spaces (cond b (Some (one pid forebear c)) None) (Uid k)) (eq-eqb pid pid refl)
 
--- ---- where there is no way back
+-- ---- where no run brings back
 -- what setresuid gives without the capability: an error, or three of the old three ids
 Among : FourIds → Result FourIds Errno → Type 0
 Among old (Ok ids) = (is_one_of_three old ids.real ≡ true) × (is_one_of_three old ids.effective ≡ true) × (is_one_of_three old ids.saved ≡ true)
@@ -247,7 +248,7 @@ among_asked old (Some r) (Some e) None = tt
 among_asked old (Some r) None v = tt
 among_asked old None e v = tt
 
-among : (map : List Extent) (old : FourIds) (r e v : ℕ) → Among old (set_res map false old r e v)
+among : (map : List Extent) (old : FourIds) (r e v : ℕ) → Among old (setresid map false old r e v)
 among map old r e v = among_asked old (asked map old.real r) (asked map old.effective e) (asked map old.saved v)
 
 -- The id is none of the three, and CAP_SETUID can't be had: no id is 0, or the permitted set lacks it.
@@ -308,8 +309,8 @@ uids_locked c (Err e) k h among = h
 
 setresuid_locked : (c : Credential) (r e v k : ℕ) → Locked c k → Locked (setresuid initial_space c r e v).cred k
 setresuid_locked c r e v k h =
-    let among_old : Among c.uid (set_res initial_map (has_setuid c) c.uid r e v) = subst (λ (b : Bool). Among c.uid (set_res initial_map b c.uid r e v)) (sym (locked_lacks c k h)) (among initial_map c.uid r e v) in
-    uids_locked c (set_res initial_map (has_setuid c) c.uid r e v) k h among_old
+    let among_old : Among c.uid (setresid initial_map (has_setuid c) c.uid r e v) = subst (λ (b : Bool). Among c.uid (setresid initial_map b c.uid r e v)) (sym (locked_lacks c k h)) (among initial_map c.uid r e v) in
+    uids_locked c (setresid initial_map (has_setuid c) c.uid r e v) k h among_old
 
 -- the process alone, with such a credential
 LockedAlone : ℕ → Option ℕ → ℕ → State → Type 0
@@ -343,7 +344,7 @@ never_back w pid forebear c k h (es, back) =
     cc
 
 -- ---- where there is one
-asked_id : (old k : ℕ) → k < 4294967295 → asked initial_map old k ≡ Some k
+asked_id : (old k : ℕ) → k < id_count → asked initial_map old k ≡ Some k
 asked_id old k h = grind (arith, h)
 
 -- the new ids where the effective one becomes another
@@ -360,7 +361,7 @@ may_become : (old : FourIds) (privileged : Bool) (k : ℕ) → (privileged || is
 may_become old true k h = refl
 may_become old false k h = rw (own_real old, own_saved old, h) refl
 
-set_to : (old : FourIds) (privileged : Bool) (k : ℕ) → k < 4294967295 → (privileged || is_one_of_three old k) ≡ true → set_res initial_map privileged old minus_one k minus_one ≡ Ok (becoming old k)
+set_to : (old : FourIds) (privileged : Bool) (k : ℕ) → k < id_count → (privileged || is_one_of_three old k) ≡ true → setresid initial_map privileged old minus_one k minus_one ≡ Ok (becoming old k)
 set_to old privileged k id h =
     ap (λ (o : Option ℕ). all_mapped (Some old.real) o (Some old.saved) (λ real effective saved.
     cond (privileged || (is_one_of_three old real && is_one_of_three old effective && is_one_of_three old saved)) (Ok (record { real = real; effective = effective; saved = saved; fs = effective })) (Err EPERM))) (asked_id old.effective k id)
@@ -370,10 +371,10 @@ set_to old privileged k id h =
 abbrev after_becoming : Credential → ℕ → Credential
 after_becoming c k = fixed_up initial_space c.uid (record c { uid = becoming c.uid k })
 
-becomes_done : (c : Credential) (k : ℕ) → k < 4294967295 → (has_setuid c || is_one_of_three c.uid k) ≡ true → setresuid initial_space c minus_one k minus_one ≡ done (after_becoming c k)
+becomes_done : (c : Credential) (k : ℕ) → k < id_count → (has_setuid c || is_one_of_three c.uid k) ≡ true → setresuid initial_space c minus_one k minus_one ≡ done (after_becoming c k)
 becomes_done c k id h = ap (λ (to : Result FourIds Errno). with_uids initial_space c to) (set_to c.uid (has_setuid c) k id h)
 
-becomes_step : (w : World) (pid : ℕ) (forebear : Option ℕ) (c : Credential) (k : ℕ) → k < 4294967295 → (has_setuid c || is_one_of_three c.uid k) ≡ true
+becomes_step : (w : World) (pid : ℕ) (forebear : Option ℕ) (c : Credential) (k : ℕ) → k < id_count → (has_setuid c || is_one_of_three c.uid k) ≡ true
     → Step w (alone pid forebear c) (becomes pid k) (alone pid forebear (after_becoming c k))
 becomes_step w pid forebear c k id h =
     let p : Process = one pid forebear c in
@@ -397,7 +398,7 @@ no_call w pid forebear c k is = record { calls = tt; end = alone pid forebear c;
 call_of_becomes : (k : ℕ) → IsSetResUid (SetResUid minus_one k minus_one)
 call_of_becomes k = (minus_one, k, minus_one, refl)
 
-one_call : (w : World) (pid : ℕ) (forebear : Option ℕ) (c : Credential) (k : ℕ) → SetsFollowIds c → k < 4294967295 → (has_setuid c || is_one_of_three c.uid k) ≡ true
+one_call : (w : World) (pid : ℕ) (forebear : Option ℕ) (c : Credential) (k : ℕ) → SetsFollowIds c → k < id_count → (has_setuid c || is_one_of_three c.uid k) ≡ true
     → BringsBack w (alone pid forebear c) pid k (becomes pid k ∷ [])
 one_call w pid forebear c k follow id h = record {
   calls = (refl, call_of_becomes k, tt);
@@ -422,7 +423,7 @@ regained c h =
     never true = refl
     never false = refl
 
-two_calls : (w : World) (pid : ℕ) (forebear : Option ℕ) (c : Credential) (k : ℕ) → SetsFollowIds c → k < 4294967295 → is_one_of_three c.uid 0 ≡ true → holds c.permitted cap_setuid ≡ true
+two_calls : (w : World) (pid : ℕ) (forebear : Option ℕ) (c : Credential) (k : ℕ) → SetsFollowIds c → k < id_count → is_one_of_three c.uid 0 ≡ true → holds c.permitted cap_setuid ≡ true
     → BringsBack w (alone pid forebear c) pid k (becomes pid 0 ∷ becomes pid k ∷ [])
 two_calls w pid forebear c k follow id root permitted =
     let d : Credential = after_becoming c 0 in
@@ -445,10 +446,10 @@ two_calls w pid forebear c k follow id root permitted =
     or_true false = refl
 
 -- ---- the law
--- what the way is, by what is tested for it
-abbrev pub IsWayBack : World → ℕ → Option ℕ → Credential → ℕ → Option (List Event) → Type 0
-IsWayBack w pid forebear c k None = ¬ CanComeBack w (alone pid forebear c) pid k
-IsWayBack w pid forebear c k (Some run) = BringsBack w (alone pid forebear c) pid k run
+-- what the answer says of runs, by what is tested for it
+abbrev pub IsRunBack : World → ℕ → Option ℕ → Credential → ℕ → Option (List Event) → Type 0
+IsRunBack w pid forebear c k None = ¬ CanComeBack w (alone pid forebear c) pid k
+IsRunBack w pid forebear c k (Some run) = BringsBack w (alone pid forebear c) pid k run
 
 may : (ids : FourIds) (setuid : Bool) (k : ℕ) → (ids.real == k || ids.saved == k || setuid) ≡ true → (setuid || is_one_of_three ids k) ≡ true
 may ids true k h = refl
@@ -491,9 +492,9 @@ locked_by c k follow here near far = record {
       (λ is. ap (λ (x : ℕ). holds x cap_setuid) (follow.effective ∙ ap (λ (b : Bool). cond b c.permitted none) is));
 }
 
-is_by : (w : World) (pid : ℕ) (forebear : Option ℕ) (c : Credential) (k : ℕ) → SetsFollowIds c → k < 4294967295 → (here near far : Bool)
+is_by : (w : World) (pid : ℕ) (forebear : Option ℕ) (c : Credential) (k : ℕ) → SetsFollowIds c → k < id_count → (here near far : Bool)
     → (c.uid.effective == k) ≡ here → (c.uid.real == k || c.uid.saved == k || has_setuid c) ≡ near → ((c.uid.real == 0 || c.uid.saved == 0) && holds c.permitted cap_setuid) ≡ far
-    → IsWayBack w pid forebear c k (cond here (Some []) (cond near (Some (becomes pid k ∷ [])) (cond far (Some (becomes pid 0 ∷ becomes pid k ∷ [])) None)))
+    → IsRunBack w pid forebear c k (cond here (Some []) (cond near (Some (becomes pid k ∷ [])) (cond far (Some (becomes pid 0 ∷ becomes pid k ∷ [])) None)))
 is_by w pid forebear c k follow id true near far a b d = no_call w pid forebear c k a
 is_by w pid forebear c k follow id false true far a b d = one_call w pid forebear c k follow id (may c.uid (has_setuid c) k b)
 is_by w pid forebear c k follow id false false true a b d =
@@ -501,10 +502,10 @@ is_by w pid forebear c k follow id false false true a b d =
     two_calls w pid forebear c k follow id (zero_is_own c.uid both.0) both.1
 is_by w pid forebear c k follow id false false false a b d = never_back w pid forebear c k (locked_by c k follow a b d)
 
--- Where the sets follow the ids, the way back is exact: None where no list of calls, however long, brings the process
+-- Where the sets follow the ids, `run_back` is exact: None where no list of calls, however long, brings the process
 -- back; else such a list.
-pub way_back_is : (w : World) (pid : ℕ) (forebear : Option ℕ) (c : Credential) (k : ℕ) → SetsFollowIds c → k < 4294967295 → IsWayBack w pid forebear c k (way_back c pid k)
-way_back_is w pid forebear c k follow id = is_by w pid forebear c k follow id _ _ _ refl refl refl
+pub run_back_is : (w : World) (pid : ℕ) (forebear : Option ℕ) (c : Credential) (k : ℕ) → SetsFollowIds c → k < id_count → IsRunBack w pid forebear c k (run_back c pid k)
+run_back_is w pid forebear c k follow id = is_by w pid forebear c k follow id _ _ _ refl refl refl
 
 -- ---- the test of events
 is_call : (call : Call) → is_setresuid call ≡ true → IsSetResUid call
