@@ -8,6 +8,7 @@ pub mod FirstLine
 pub mod ReportText
 pub mod HexDigits
 pub mod GroupText
+pub mod Ready
 pub mod Starting
 pub mod Following
 pub mod Told

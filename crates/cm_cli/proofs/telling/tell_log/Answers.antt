@@ -1,5 +1,5 @@
-use Rattle.std.proofs.Common.{◌≡◌, ◌∙◌, ◌||◌, not, Bool, true, false, refl, sym, ap, le_of_eq, Err}
-use Rattle.cm_cli.proofs.Told.{stops, tells_whole, log_text, log_whole, log_longer, is_answered, answered_told}
+use Rattle.std.proofs.Common.{◌≡◌, ◌∙◌, ◌||◌, not, Bool, true, false, refl, sym, ap}
+use Rattle.cm_cli.proofs.Told.{stops, wants_memory, tells_whole, log_text, log_whole, log_longer, is_answered, answered_told}
 use Rattle.cm_cli.proofs.Waiting.{all_waits, sent_on, front_on, more_waits, front_of_longer, waits_as}
 use Rattle.cm_cli.proofs.telling.tell_log.Goals as goal
 use Rattle.cm_world.specs.World.{world_of}
@@ -14,24 +14,24 @@ use Rattle.model_text.specs.Report.{text_of}
 
 -- without memory for the machine nothing is written
 pub returns-in-Err : goal.returns-in-Err
-returns-in-Err g c = stops (log_report (query_if c.args.query) c.args.w.now c.args.log.now) outside.NoMemory _ _ _ _ _ refl (_, all_waits _ _) (le_of_eq refl) (λ failed. cc)
+returns-in-Err g c = stops (log_report (query_if c.args.query) c.args.w.now c.args.log.now) outside.NoMemory _ _ _ _ _ refl (_, all_waits _ _) (wants_memory refl)
 
 pub returns-in-Err-send_start : goal.returns-in-Err-send_start
 returns-in-Err-send_start g c =
     let front = rw c.new-text.ensures.items at c.in-Err-send_start.ensures.stopped in
     stops (log_report (query_if c.args.query) c.args.w.now c.args.log.now) c.in-Err-send_start.why c.stopped.result _ _ _ _ c.stopped.ensures
     (front_of_longer _ _ _ (log_text (query_if c.args.query) c.args.w.now c.args.log.now) front)
-    c.in-Err-send_start.ensures.cause.later (λ failed. c.in-Err-send_start.ensures.cause.failed (ap Err failed))
+    c.in-Err-send_start.ensures.cause
 
 pub returns-in-Err-replay_lines : goal.returns-in-Err-replay_lines
 returns-in-Err-replay_lines g c =
     let started = rw c.new-text.ensures.items at c.in-Ok-send_start.ensures.sent in
     let front = front_on (more_waits started _) (rw c.in-Ok.ensures at c.in-Err-replay_lines.ensures.stopped) in
     let longer = log_longer (query_if c.args.query) c.args.w.now c.args.log.now in
+    let cause = rw c.in-Ok-send_start.ensures.cause.ok at c.in-Err-replay_lines.ensures.cause in
     stops (log_report (query_if c.args.query) c.args.w.now c.args.log.now) c.in-Err-replay_lines.why c.stopped-in-Err-replay_lines.result _ _ _ _ c.stopped-in-Err-replay_lines.ensures
     (front_of_longer _ _ _ longer.1 front)
-    (rw (sym c.in-Ok-send_start.ensures.cause.ok) c.in-Err-replay_lines.ensures.cause.later)
-    (λ failed. rw (sym c.in-Ok-send_start.ensures.cause.ok) (c.in-Err-replay_lines.ensures.cause.failed (ap Err failed)))
+    cause
 
 -- after an accepted log the sets of each process follow its user ids, where the weak audit knows all
 pub put_answer-requires : goal.put_answer-requires
@@ -52,7 +52,7 @@ returns-in-Err-put_answer g c =
     let longer = log_longer (query_if c.args.query) c.args.w.now c.args.log.now in
     stops (log_report (query_if c.args.query) c.args.w.now c.args.log.now) outside.NoMemory _ _ _ _ _ refl
     (front_of_longer _ _ _ longer.1 (_, replayed_on))
-    (le_of_eq (sym (c.in-Ok-replay_lines.ensures.cause.ok ∙ c.in-Ok-send_start.ensures.cause.ok))) (λ failed. cc)
+    (wants_memory (c.in-Ok-replay_lines.ensures.cause.ok ∙ c.in-Ok-send_start.ensures.cause.ok))
 
 pub returns-in-Ok-send : goal.returns-in-Ok-send
 returns-in-Ok-send g c =
@@ -82,7 +82,7 @@ returns g c =
     (λ accepted. c.has_more-more.ensures ∙ ap (λ (b : Bool). c.args.w.now.more || not b) (c.in-Ok-replay_lines.ensures.setresuids accepted)) in
     let answered_on = waits_as _ _ (sym c.in-Ok-put_answer.ensures.text) (more_waits replayed_on (text_of (answer_to (query_if c.args.query) behind c.in-Ok-replay_lines.replayed.status after).lines)) in
     let front = front_on answered_on c.in-Err-send.ensures.front in
+    let cause = rw (c.in-Ok-replay_lines.ensures.cause.ok ∙ c.in-Ok-send_start.ensures.cause.ok) at c.in-Err-send.ensures.cause in
     stops (log_report (query_if c.args.query) c.args.w.now c.args.log.now) c.in-Err-send.why c.stopped-in-Err-send.result _ _ _ _ c.stopped-in-Err-send.ensures
     (rw (log_whole (query_if c.args.query) c.args.w.now c.args.log.now behind c.in-Ok-replay_lines.replayed.status after answer) front)
-    (rw (sym (c.in-Ok-replay_lines.ensures.cause.ok ∙ c.in-Ok-send_start.ensures.cause.ok)) c.in-Err-send.ensures.cause.later)
-    (λ failed. rw (sym (c.in-Ok-replay_lines.ensures.cause.ok ∙ c.in-Ok-send_start.ensures.cause.ok)) (c.in-Err-send.ensures.cause.failed (ap Err failed)))
+    cause
