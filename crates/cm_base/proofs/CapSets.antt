@@ -91,7 +91,7 @@ pub within_transitive : (a b c : ℕ) → IsTrue (is_within a b) → IsTrue (is_
 within_transitive a b c first second = within_from_members a c (λ k held. member_of_wider b c second k (member_of_wider a b first k held))
 
 -- two tests that imply each other are one
-same_tests : (p q : Bool) → (IsTrue p → IsTrue q) → (IsTrue q → IsTrue p) → p ≡ q
+pub same_tests : (p q : Bool) → (IsTrue p → IsTrue q) → (IsTrue q → IsTrue p) → p ≡ q
 same_tests true q forth back = sym (forth refl)
 same_tests false true forth back = back refl
 same_tests false false forth back = refl

@@ -85,11 +85,6 @@ pid_of_put [] i new h = absurd (omega arith)
 pid_of_put (p ∷ ps) zero new h = refl
 pid_of_put (p ∷ ps) (suc i) new h = pid_of_put ps i new (omega arith)
 
--- a process that is found by a pid has it
-pub pid_of_found : (ps : List Process) (pid : ℕ) (p : Process) → process_at ps pid ≡ Some p → p.pid ≡ pid
-pid_of_found [] pid p is = absurd (cc)
-pid_of_found (q ∷ ps) pid p is = grind (arith, is, pid_of_found ps pid p)
-
 -- the pids up to a place where the pid is below another are all below it
 pub below_up_to : (ps : List Process) → Ascends ps → (m pid : ℕ) → m < length ps → pid_at ps m < pid → (k : ℕ) → k < m + 1 → pid_at ps k < pid
 below_up_to ps up m pid h lower k lt = grind (arith, ascending ps up k m, lower)
@@ -164,35 +159,6 @@ remove_at (p ∷ ps) (suc at) gone is up =
     (not_from_false (p.pid == gone.pid) (ne_eqb p.pid gone.pid apart)))
 
 -- ---- what stays when the list changes
-
-insert_after : (p : Process) (ps : List Process) (new : Process) → p.pid < new.pid → is_alive ps new.pid ≡ false → Ascends (p ∷ ps) → Ascends (p ∷ insert_process new ps)
-insert_after p [] new less dead up = (less, tt)
-insert_after p (q ∷ qs) new less dead up =
-    cond_both (nat_lt new.pid q.pid) (new ∷ q ∷ qs) (q ∷ insert_process new qs) (λ l. Ascends (p ∷ l))
-    (λ first. (less, (ltb-true new.pid q.pid first, up.1)))
-    (λ later.
-    let apart : q.pid ≢ new.pid = not_alive_at (q ∷ qs) new.pid dead 0 (omega arith) in
-    let order : q.pid ≤ new.pid = ltb-false new.pid q.pid later in
-    (up.0, insert_after q qs new (omega (arith, apart)) (grind (arith, dead, apart)) up.1))
-
--- one more process in its place keeps the order
-pub insert_ascends : (ps : List Process) (new : Process) → is_alive ps new.pid ≡ false → Ascends ps → Ascends (insert_process new ps)
-insert_ascends [] new dead up = tt
-insert_ascends (p ∷ ps) new dead up =
-    cond_both (nat_lt new.pid p.pid) (new ∷ p ∷ ps) (p ∷ insert_process new ps) Ascends
-    (λ first. (ltb-true new.pid p.pid first, up))
-    (λ later.
-    let apart : p.pid ≢ new.pid = not_alive_at (p ∷ ps) new.pid dead 0 (omega arith) in
-    let order : p.pid ≤ new.pid = ltb-false new.pid p.pid later in
-    insert_after p ps new (omega (arith, apart)) (grind (arith, dead, apart)) up)
-
--- what holds of each process and of one more holds of each with it
-pub insert_all : (P : Process → Type 0) (ps : List Process) (new : Process) → P new → All P ps → All P (insert_process new ps)
-insert_all P [] new holds all = All-cons P new [] holds all
-insert_all P (p ∷ ps) new holds all =
-    cond_both (nat_lt new.pid p.pid) (new ∷ p ∷ ps) (p ∷ insert_process new ps) (All P)
-    (λ first. All-cons P new (p ∷ ps) holds all)
-    (λ later. All-cons P p (insert_process new ps) (All-head P p ps all) (insert_all P ps new holds (All-tail P p ps all)))
 
 remove_after : (p : Process) (ps : List Process) (at : ℕ) → Ascends (p ∷ ps) → Ascends (p ∷ remove ps at)
 remove_after p [] zero up = tt

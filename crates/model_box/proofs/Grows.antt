@@ -5,6 +5,7 @@ use Rattle.std.proofs.lemmas.Bool.{ltb-true, lt-ltb}
 use Rattle.cm_base.specs.declared.errno.Errno.TheVariants.{EPERM, EAGAIN}
 use Rattle.cm_base.specs.declared.res.Res.{Res}
 use Rattle.cm_base.specs.declared.res.Res.TheVariants.{Done, Id, Child, Err}
+use Rattle.model_cred.proofs.Spaces.{length_put}
 use Rattle.model_cred.specs.Call.{Call, Fork, CloneUser, Unshare, WriteUidMap, WriteGidMap, WriteSetgroups, Exit, Event}
 use Rattle.model_cred.specs.Credential.{Credential}
 use Rattle.model_cred.specs.Files.{FileTable}
@@ -21,7 +22,7 @@ use Rattle.model_run.specs.Ruling.{Ruling, ruling, own, birth, birth_unless, for
 use Rattle.model_run.specs.Same.{same_res}
 use Rattle.model_run.specs.Step.{Step, Run, Goes, NoSpace, PidInUse, Wrong, outcome_for, names_no_space, is_living_child, told_call, told_rules, told_child}
 use Rattle.model_box.specs.Files.{FilesFit}
-use Rattle.model_box.proofs.Writing.{choose, length_put}
+use Rattle.model_box.proofs.Writing.{choose}
 use Rattle.model_box.proofs.MapWrites.{write_by}
 
 with_grows : (res : Res) (spaces : Spaces) (at : ℕ) (c : Credential) → length spaces ≤ length (spaces_with res spaces at c)

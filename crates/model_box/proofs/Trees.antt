@@ -4,6 +4,7 @@ use Rattle.std.specs.Prelude.{◌⊎◌, IsTrue, unwrap_or}
 use Rattle.std.specs.List.{list_any}
 use Rattle.std.proofs.lemmas.Bool.{false≢true, cases_lt, cases_eq, eqb-true, eq-eqb, ne_eqb, and_parts, or_cases, or_left, or_right}
 use Rattle.cm_base.specs.CapSet.{holds}
+use Rattle.model_cred.proofs.Spaces.{chain_none, chain_empty}
 use Rattle.model_cred.specs.IdMap.{is_the}
 use Rattle.model_cred.specs.Space.{Space, Spaces, space_at, space_of, no_space, chain, chain_from, is_at_or_above}
 use Rattle.model_rules.specs.Power.{over, gives_power, is_owned}
@@ -40,14 +41,6 @@ has_parent_stands (t ∷ older) n p parent =
     ]
 
 -- ---- chains
-chain_none : (spaces : Spaces) → chain_from spaces None ≡ []
-chain_none [] = refl
-chain_none (t ∷ older) = chain_none older
-
-chain_past : (spaces : Spaces) (n : ℕ) → length spaces ≤ n → chain spaces n ≡ []
-chain_past [] n past = refl
-chain_past (t ∷ older) n past = rw (ne_eqb (length older) n (λ same. omega arith)) (chain_past older n (omega arith))
-
 chain_older : (t : Space) (older : Spaces) (n : ℕ) → (n ≡ length older → ⊥) → chain (t ∷ older) n ≡ chain older n
 chain_older t older n other = rw (ne_eqb (length older) n (λ same. other (sym same)))
 
@@ -109,7 +102,7 @@ at_or_above_cases spaces earlier m n above = at_parent (space_of spaces n).paren
   next p parent (inr there) = inr (p, parent, there)
 
   past : length spaces ≤ n → ⊥
-  past high = false≢true (sym (ap (list_any (λ k. eqb k m)) (chain_past spaces n high)) ∙ above)
+  past high = false≢true (sym (ap (list_any (λ k. eqb k m)) (chain_empty spaces n high)) ∙ above)
 
   at_parent : (o : Option ℕ) → (space_of spaces n).parent ≡ o → (m ≡ n) ⊎ ((p : ℕ) × ((space_of spaces n).parent ≡ Some p) × IsTrue (is_at_or_above spaces m p))
   at_parent None parent =
