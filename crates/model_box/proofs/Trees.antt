@@ -1,5 +1,6 @@
 -- Chains of spaces: what is above a space, and which row it has.
-use Rattle.std.proofs.Common.{◌≡◌, ℕ, zero, suc, ◌<◌, ◌≤◌, Bool, false, ◌&&◌, eqb, Option, None, Some, List, [], ◌∷◌, length, refl, sym, ap, ◌∙◌, inl, inr, arith}
+use Rattle.std.proofs.Common.{◌≡◌, ℕ, zero, suc, ◌<◌, ◌≤◌, Bool, false, ◌&&◌, eqb, Option, None, Some, List, [], ◌∷◌}
+use Rattle.std.proofs.Common.{length, refl, sym, ap, ◌∙◌, inl, inr, arith}
 use Rattle.std.specs.Prelude.{◌⊎◌, IsTrue, unwrap_or}
 use Rattle.std.specs.List.{list_any}
 use Rattle.std.proofs.lemmas.Bool.{false≢true, cases_lt, cases_eq, eqb-true, eq-eqb, ne_eqb, and_parts, or_cases, or_left, or_right}
@@ -37,7 +38,9 @@ has_parent_stands [] n p parent = absurd (cc)
 has_parent_stands (t ∷ older) n p parent =
     elim (cases_eq n (length older)) [
       | inl same ↦ omega arith
-      | inr other ↦ let low : n < length older = has_parent_stands older n p (sym (ap (λ (s : Space). s.parent) (space_of_older t older n other)) ∙ parent) in omega arith
+      | inr other ↦ let low : n < length older =
+          has_parent_stands older n p (sym (ap (λ (s : Space). s.parent) (space_of_older t older n other)) ∙ parent) in
+          omega arith
     ]
 
 -- ---- chains
@@ -176,14 +179,15 @@ pub same_chain : (old new : Spaces) → Earlier old → Earlier new → length o
     → ((n : ℕ) → n < length old → (space_of new n).parent ≡ (space_of old n).parent)
     → (fuel n : ℕ) → n < fuel → n < length old → chain new n ≡ chain old n
 same_chain old new before after grown same zero n low stands = absurd (omega arith)
-same_chain old new before after grown same (suc fuel) n low stands = at_parent (space_of old n).parent refl (same_chain old new before after grown same fuel) where
-  at_parent : (o : Option ℕ) → (space_of old n).parent ≡ o
-      → ((k : ℕ) → k < fuel → k < length old → chain new k ≡ chain old k) → chain new n ≡ chain old n
-  at_parent None parent rest = chain_top new n (same n stands ∙ parent) (omega arith) ∙ sym (chain_top old n parent stands)
-  at_parent (Some p) parent rest =
-      let earlier : p < n = before n p parent in
-      chain_next new n p (same n stands ∙ parent) earlier ∙ ap (λ (c : List ℕ). n ∷ c) (rest p (omega arith) (omega arith))
-      ∙ sym (chain_next old n p parent earlier)
+same_chain old new before after grown same (suc fuel) n low stands =
+    at_parent (space_of old n).parent refl (same_chain old new before after grown same fuel) where
+      at_parent : (o : Option ℕ) → (space_of old n).parent ≡ o
+          → ((k : ℕ) → k < fuel → k < length old → chain new k ≡ chain old k) → chain new n ≡ chain old n
+      at_parent None parent rest = chain_top new n (same n stands ∙ parent) (omega arith) ∙ sym (chain_top old n parent stands)
+      at_parent (Some p) parent rest =
+          let earlier : p < n = before n p parent in
+          chain_next new n p (same n stands ∙ parent) earlier ∙ ap (λ (c : List ℕ). n ∷ c) (rest p (omega arith) (omega arith))
+          ∙ sym (chain_next old n p parent earlier)
 
 -- ---- rows
 pub row_standing : {k : ℕ} {spaces : Spaces} {n a : ℕ} → RowOf k spaces n (Standing a) → (n ≡ a) × (n < k)

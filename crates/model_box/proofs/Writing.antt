@@ -37,12 +37,15 @@ put_cases t new (s ∷ older) n =
       below put_other other (inr kept) = inr (space_of_older s (put_space t new older) n put_other ∙ kept ∙ sym (space_of_older s older n other))
 
       there : ((n ≡ t) × (space_of (put_space t new older) n ≡ new)) ⊎ (space_of (put_space t new older) n ≡ space_of older n)
-          → eqb t (length older) ≡ false → ((n ≡ t) × (space_of (s ∷ put_space t new older) n ≡ new)) ⊎ (space_of (s ∷ put_space t new older) n ≡ space_of (s ∷ older) n)
+          → eqb t (length older) ≡ false
+          → ((n ≡ t) × (space_of (s ∷ put_space t new older) n ≡ new))
+          ⊎ (space_of (s ∷ put_space t new older) n ≡ space_of (s ∷ older) n)
       there rest past =
           elim (cases_eq n (length older)) [
             | inl same ↦
                 let put_same : n ≡ length (put_space t new older) = same ∙ sym (length_put t new older) in
-                inr ((ap (space_of (s ∷ put_space t new older)) put_same ∙ space_of_newest s (put_space t new older)) ∙ sym (ap (space_of (s ∷ older)) same ∙ space_of_newest s older))
+                inr ((ap (space_of (s ∷ put_space t new older)) put_same ∙ space_of_newest s (put_space t new older))
+                ∙ sym (ap (space_of (s ∷ older)) same ∙ space_of_newest s older))
             | inr other ↦ below (λ e. other (e ∙ length_put t new older)) other rest
           ]
 

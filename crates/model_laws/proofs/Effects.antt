@@ -157,7 +157,9 @@ owed_left : (w : World) (s : State) (pid : ℕ) (p : Process) (call : Call) (res
     → Owed s.processes p call res (record { res = (reply_to w s p call).res; state = state_left s p call (reply_to w s p call) })
 owed_left w s pid p call res brings = record {
   owes = λ is.
-      let plain : IsChildless res = subst IsChildless (sym is) (ruled_childless (reply_to w s p call).res (reply_plain w.files s.spaces p.space p.cred call).ruled) in
+      let plain : IsChildless res
+      = subst IsChildless (sym is)
+      (ruled_childless (reply_to w s p call).res (reply_plain w.files s.spaces p.space p.cred call).ruled) in
       inl (record {
         space = (reply_to w s p call).space;
         cred = (reply_to w s p call).cred;
@@ -181,7 +183,8 @@ effect_of : (w : World) (s : State) (e : Event) (s' : State) (p : Process) → p
     → Answers w s p e.call e.res s' → Effect s.processes p e.call e.res s'.processes
 effect_of w s e s' p lives fresh (inl outside) =
     let error : (k : Errno) × (e.res ≡ Err k) = outside_error e.call e.res outside.outside in
-    subst (λ (t : State). Effect s.processes p e.call e.res t.processes) (sym outside.state) (inl (error_calls s.processes e.pid p e.call e.res error.0 lives error.1))
+    subst (λ (t : State). Effect s.processes p e.call e.res t.processes) (sym outside.state)
+    (inl (error_calls s.processes e.pid p e.call e.res error.0 lives error.1))
 effect_of w s e s' p lives fresh (inr rules) =
     subst (λ (t : State). Effect s.processes p e.call e.res t.processes) (sym rules.state)
     ((owed w s e.pid p e.call (told_child e.res) e.res lives (told_is_new s.processes e.res fresh)).owes rules.result)

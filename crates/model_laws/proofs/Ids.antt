@@ -1,5 +1,6 @@
 -- The calls that set ids give ids.
-use Rattle.std.proofs.Common.{◌≡◌, ℕ, ◌+◌, ◌-◌, ◌<◌, ◌≤◌, ◌==◌, ◌&&◌, ◌||◌, not, Bool, true, false, List, [], ◌∷◌, Option, Some, None, if◌then◌else◌, refl, sym, ◌∙◌, inl, inr, subst, arith, All}
+use Rattle.std.proofs.Common.{◌≡◌, ℕ, ◌+◌, ◌-◌, ◌<◌, ◌≤◌, ◌==◌, ◌&&◌, ◌||◌, not, Bool, true, false, List, [], ◌∷◌}
+use Rattle.std.proofs.Common.{Option, Some, None, if◌then◌else◌, refl, sym, ◌∙◌, inl, inr, subst, arith, All}
 use Rattle.std.specs.Prelude.{Result, Ok, option_and_then, option_map, nat_le, nat_lt}
 use Rattle.std.specs.declared.result.Result.TheVariants.{Err}
 use Rattle.std.proofs.lemmas.Bool.{cases_Bool, ltb-true, leb-true, cond-true, cond-false, and_parts}
@@ -27,7 +28,9 @@ down_id [] id out ids is = absurd (cc)
 down_id (e ∷ map) id out ids is =
     elim (cases_Bool (lies_in e.inside e.length id)) [
       | inl within ↦
-          let it : Some (e.outside + (id - e.inside)) ≡ Some out = sym (cond-true (lies_in e.inside e.length id) (Some (e.outside + (id - e.inside))) (down map id) within) ∙ is in
+          let it : Some (e.outside + (id - e.inside)) ≡ Some out
+          = sym (cond-true (lies_in e.inside e.length id) (Some (e.outside + (id - e.inside))) (down map id) within)
+          ∙ is in
           let e_is : e.outside + (id - e.inside) ≡ out = cc in
           let parts : (nat_le e.inside id ≡ true) × (nat_lt id (e.inside + e.length) ≡ true) = and_parts _ _ within in
           let low : e.inside ≤ id = leb-true e.inside id parts.0 in
@@ -35,7 +38,10 @@ down_id (e ∷ map) id out ids is =
           let fits : e.outside + e.length ≤ id_count = All-head FitsIds e map ids in
           omega arith
       | inr outside ↦
-          down_id map id out (All-tail FitsIds e map ids) (sym (cond-false (lies_in e.inside e.length id) (Some (e.outside + (id - e.inside))) (down map id) outside) ∙ is)
+          down_id map id out (All-tail FitsIds e map ids)
+          (sym (cond-false (lies_in e.inside e.length id) (Some (e.outside + (id - e.inside)))
+          (down map id) outside)
+          ∙ is)
     ]
 
 -- what is asked for is an id
@@ -118,7 +124,8 @@ with_fs_ids privileged old (Some id) are small =
     either AreIds (privileged || is_one_of_three old id || id == old.fs) (record old { fs = id }) old
     (record { real = are.real; effective = are.effective; saved = are.saved; fs = small id refl }) are
 
-pub setfsid_ids : (map : List Extent) (privileged : Bool) (old : FourIds) (argument : ℕ) → HasIds map → AreIds old → AreIds (setfsid map privileged old argument)
+pub setfsid_ids : (map : List Extent) (privileged : Bool) (old : FourIds) (argument : ℕ) → HasIds map → AreIds old
+    → AreIds (setfsid map privileged old argument)
 setfsid_ids map privileged old argument ids are = with_fs_ids privileged old (down map argument) are (λ id is. down_id map argument id ids is)
 
 -- ---- groups

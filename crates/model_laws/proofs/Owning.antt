@@ -30,8 +30,16 @@ again_birth : (s : State) (child : ℕ → Process) (after : Spaces) (n : ℕ) �
 again_birth s child after n named =
     elim (cases_Bool (is_pid (child n).pid)) [
       | inl is ↦
-          let e : birth s (child n) after ≡ record { res = Child (child n).pid; state = record s { processes = insert_process (child n) s.processes; spaces = after } }
-          = cond-true (is_pid (child n).pid) (record { res = Child (child n).pid; state = record s { processes = insert_process (child n) s.processes; spaces = after } }) (record { res = Err EAGAIN; state = s }) is in
+          let e : birth s (child n) after ≡ record {
+            res = Child (child n).pid;
+            state = record s { processes = insert_process (child n) s.processes; spaces = after };
+          }
+          = cond-true (is_pid (child n).pid)
+          (record {
+            res = Child (child n).pid;
+            state = record s { processes = insert_process (child n) s.processes; spaces = after };
+          })
+          (record { res = Err EAGAIN; state = s }) is in
           record {
             same = ap (λ (r : Ruling). birth s (child (told_child r.res)) after) e ∙ ap (λ (m : ℕ). birth s (child m) after) (named n);
             fresh = λ new. ap (λ (r : Ruling). is_living_child s.processes r.res) e
@@ -39,16 +47,27 @@ again_birth s child after n named =
           }
       | inr not_pid ↦
           let e : birth s (child n) after ≡ record { res = Err EAGAIN; state = s }
-          = cond-false (is_pid (child n).pid) (record { res = Child (child n).pid; state = record s { processes = insert_process (child n) s.processes; spaces = after } }) (record { res = Err EAGAIN; state = s }) not_pid in
+          = cond-false (is_pid (child n).pid)
+          (record {
+            res = Child (child n).pid;
+            state = record s { processes = insert_process (child n) s.processes; spaces = after };
+          })
+          (record { res = Err EAGAIN; state = s }) not_pid in
           let zero_is : birth s (child 0) after ≡ record { res = Err EAGAIN; state = s }
-          = cond-false (is_pid (child 0).pid) (record { res = Child (child 0).pid; state = record s { processes = insert_process (child 0) s.processes; spaces = after } }) (record { res = Err EAGAIN; state = s }) (ap is_pid (named 0)) in
+          = cond-false (is_pid (child 0).pid)
+          (record {
+            res = Child (child 0).pid;
+            state = record s { processes = insert_process (child 0) s.processes; spaces = after };
+          })
+          (record { res = Err EAGAIN; state = s }) (ap is_pid (named 0)) in
           record {
             same = ap (λ (r : Ruling). birth s (child (told_child r.res)) after) e ∙ zero_is ∙ sym e;
             fresh = λ _. ap (λ (r : Ruling). is_living_child s.processes r.res) e;
           }
     ]
 
-again_unless : (r : Res) (s : State) (child : ℕ → Process) (after : Spaces) (n : ℕ) → ((m : ℕ) → (child m).pid ≡ m) → Again s (λ m. birth_unless r s (child m) after) n
+again_unless : (r : Res) (s : State) (child : ℕ → Process) (after : Spaces) (n : ℕ) → ((m : ℕ) → (child m).pid ≡ m)
+    → Again s (λ m. birth_unless r s (child m) after) n
 again_unless Done s child after n named = again_birth s child after n named
 again_unless (Id k) s child after n named = again_birth s child after n named
 again_unless (Child k) s child after n named = again_birth s child after n named
@@ -62,7 +81,11 @@ ruled_childless processes (Err e) is = refl
 
 again_left : (w : World) (s : State) (p : Process) (call : Call) (n : ℕ)
     → Again s (λ m. record { res = (reply_to w s p call).res; state = state_left s p call (reply_to w s p call) }) n
-again_left w s p call n = record { same = refl; fresh = λ _. ruled_childless s.processes (reply_to w s p call).res (reply_plain w.files s.spaces p.space p.cred call).ruled }
+again_left w s p call n = record {
+  same = refl;
+  fresh =
+      λ _. ruled_childless s.processes (reply_to w s p call).res (reply_plain w.files s.spaces p.space p.cred call).ruled;
+}
 
 again : (w : World) (s : State) (p : Process) (call : Call) (n : ℕ) → Again s (ruling w s p call) n
 again w s p Fork n = again_birth s (fork_child p) s.spaces n (λ m. refl)
@@ -123,7 +146,9 @@ wrong_rules w s e answer p lives named false false t is =
     record { caller = p; lives = lives; named = named; own_answer = let it : (own w s p e.call).res ≡ answer = cc in sym it }
 
 wrong_call : (w : World) (s : State) (e : Event) (answer : Res) (p : Process) → process_at s.processes e.pid ≡ Some p → (a b : Bool)
-    → names_no_space s.spaces e.call ≡ a → (if a then NoSpace else if b then PidInUse else told_call w s p e.call e.res) ≡ Wrong answer → WrongAnswer w s e answer
+    → names_no_space s.spaces e.call ≡ a
+    → (if a then NoSpace else if b then PidInUse else told_call w s p e.call e.res) ≡ Wrong answer
+    → WrongAnswer w s e answer
 wrong_call w s e answer p lives true b named is = absurd (cc)
 wrong_call w s e answer p lives false true named is = absurd (cc)
 wrong_call w s e answer p lives false false named is =
@@ -158,7 +183,18 @@ never_again r ruled is = subst IsRuled is ruled
 birth_again : (s : State) (child : Process) (after : Spaces) → (birth s child after).res ≡ Err EAGAIN → is_pid child.pid ≡ false
 birth_again s child after is = by (is_pid child.pid) is
   where
-    by : (b : Bool) → (let r : Ruling = if b then record { res = Child child.pid; state = record s { processes = insert_process child s.processes; spaces = after } } else record { res = Err EAGAIN; state = s } in r).res ≡ Err EAGAIN → b ≡ false
+    by : (b : Bool)
+        → (let r : Ruling
+        = if b then record {
+          res = Child child.pid;
+          state = record s { processes = insert_process child s.processes; spaces = after };
+        } else record {
+          res = Err EAGAIN;
+          state = s;
+        } in
+        r).res
+        ≡ Err EAGAIN
+        → b ≡ false
     by true wrong = absurd (let never : Child child.pid ≡ Err EAGAIN = wrong in cc)
     by false it = refl
 

@@ -31,7 +31,9 @@ put_same (q ∷ processes) pid p named is =
           ∙ ap (λ (x : Process). x ∷ processes) e
       | inr other ↦
           cond-false (q.pid == p.pid) (p ∷ processes) (q ∷ put_process p processes) (ap (λ (n : ℕ). q.pid == n) named ∙ other)
-          ∙ ap (λ (rest : List Process). q ∷ rest) (put_same processes pid p named (sym (cond-false (q.pid == pid) (Some q) (process_at processes pid) other) ∙ is))
+          ∙ ap (λ (rest : List Process). q ∷ rest)
+          (put_same processes pid p named
+          (sym (cond-false (q.pid == pid) (Some q) (process_at processes pid) other) ∙ is))
     ]
 
 -- ---- what the rules give
@@ -72,11 +74,14 @@ safe_left : (w : World) (s : State) (pid : ℕ) (p : Process) → process_at s.p
     → SafeRuling s (record { res = (reply_to w s p call).res; state = state_left s p call (reply_to w s p call) })
 safe_left w s pid p lives call = record {
   keeps = λ e is.
-      let kept : Kept s.spaces p.space p.cred (reply_to w s p call) (spaces_after s.spaces p.space p.cred call) = (reply_plain w.files s.spaces p.space p.cred call).kept e is in
-      same_state s pid p (reply_to w s p call).space (reply_to w s p call).cred (spaces_after s.spaces p.space p.cred call) lives kept.space kept.cred kept.spaces;
+      let kept : Kept s.spaces p.space p.cred (reply_to w s p call) (spaces_after s.spaces p.space p.cred call)
+      = (reply_plain w.files s.spaces p.space p.cred call).kept e is in
+      same_state s pid p (reply_to w s p call).space (reply_to w s p call).cred
+      (spaces_after s.spaces p.space p.cred call) lives kept.space kept.cred kept.spaces;
 }
 
-pub safe_ruling : (w : World) (s : State) (pid : ℕ) (p : Process) → process_at s.processes pid ≡ Some p → (call : Call) (n : ℕ) → SafeRuling s (ruling w s p call n)
+pub safe_ruling : (w : World) (s : State) (pid : ℕ) (p : Process) → process_at s.processes pid ≡ Some p
+    → (call : Call) (n : ℕ) → SafeRuling s (ruling w s p call n)
 safe_ruling w s pid p lives Fork n = safe_birth s (fork_child p n) s.spaces
 safe_ruling w s pid p lives CloneUser n = safe_birth_unless (clone_user s.spaces p.space p.cred) s (clone_child s.spaces p n) (spaces_left s p CloneUser)
 safe_ruling w s pid p lives Exit n = record { keeps = λ e wrong. absurd (let no : Done ≡ Err e = wrong in cc) }

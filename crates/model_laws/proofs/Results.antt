@@ -6,7 +6,10 @@ use Rattle.cm_base.specs.declared.errno.Errno.{Errno}
 use Rattle.cm_base.specs.declared.errno.Errno.TheVariants.{EPERM, EINVAL, ENOSPC, EACCES}
 use Rattle.cm_base.specs.declared.res.Res.{Res}
 use Rattle.cm_base.specs.declared.res.Res.TheVariants.{Done, Id, Child, Err}
-use Rattle.model_cred.specs.Call.{Call, SetUid, SetReUid, SetResUid, SetFsUid, SetGid, SetReGid, SetResGid, SetFsGid, SetGroups, CapSet, BsetDrop, AmbRaise, AmbLower, AmbClear, SecureBits, KeepCaps, NoNewPrivs, Fork, CloneUser, Unshare, SetNs, WriteUidMap, WriteGidMap, WriteSetgroups, Exec, Exit}
+use Rattle.model_cred.specs.Call.{Call, SetUid, SetReUid, SetResUid, SetFsUid, SetGid, SetReGid, SetResGid, SetFsGid}
+use Rattle.model_cred.specs.Call.{SetGroups, CapSet, BsetDrop, AmbRaise, AmbLower, AmbClear, SecureBits, KeepCaps}
+use Rattle.model_cred.specs.Call.{NoNewPrivs, Fork, CloneUser, Unshare, SetNs, WriteUidMap, WriteGidMap, WriteSetgroups}
+use Rattle.model_cred.specs.Call.{Exec, Exit}
 use Rattle.model_cred.specs.Credential.{Credential, FourIds, is_one_of_three, all_four}
 use Rattle.model_cred.specs.Files.{FileTable}
 use Rattle.model_cred.specs.IdMap.{Extent, down, extents_of}
@@ -16,7 +19,8 @@ use Rattle.model_rules.specs.Maps.{MapFile, UidMap, GidMap, Written, write_map, 
 use Rattle.model_rules.specs.Namespaces.{unshare, clone_user, join}
 use Rattle.model_rules.specs.Reply.{Reply, reply, spaces_after, stays, place_after, spaces_with, writes}
 use Rattle.model_rules.specs.SetGroups.{with_groups}
-use Rattle.model_rules.specs.SetId.{asked, one_mapped, both_mapped, all_mapped, setresid, setreid, setid, saved_after, with_uids, with_gids, has_setuid, has_setgid}
+use Rattle.model_rules.specs.SetId.{asked, one_mapped, both_mapped, all_mapped, setresid, setreid, setid, saved_after}
+use Rattle.model_rules.specs.SetId.{with_uids, with_gids, has_setuid, has_setgid}
 use Rattle.model_laws.proofs.Ids.{either}
 
 -- the errors of the rules
@@ -176,7 +180,9 @@ reply_plain files spaces at c (SetReUid r e) =
 reply_plain files spaces at c (SetResUid r e v) =
     stays_plain spaces at c _ (plain_uids (space_of spaces at) c _ (setresid_plain (extents_of (space_of spaces at).uids) (has_setuid c) c.uid r e v))
 reply_plain files spaces at c (SetFsUid id) = record { ruled = tt; kept = λ e wrong. absurd (cc) }
-reply_plain files spaces at c (SetGid id) = stays_plain spaces at c _ (plain_gids c _ (setid_plain (extents_of (space_of spaces at).gids) (has_setgid c) c.gid id))
+reply_plain files spaces at c (SetGid id) =
+    stays_plain spaces at c _
+    (plain_gids c _ (setid_plain (extents_of (space_of spaces at).gids) (has_setgid c) c.gid id))
 reply_plain files spaces at c (SetReGid r e) =
     stays_plain spaces at c _ (plain_gids c _ (setreid_plain (extents_of (space_of spaces at).gids) (has_setgid c) c.gid r e))
 reply_plain files spaces at c (SetResGid r e v) =
