@@ -1,5 +1,6 @@
 -- Processes whose pids ascend, by their places.
-use Rattle.std.proofs.Common.{◌==◌, not, filter, ◌∙◌, ◌≡◌, ◌≢◌, false, ℕ, zero, suc, ◌<◌, ◌≤◌, ◌+◌, length, List, [], ◌∷◌, Some, None, refl, sym, ap, inl, inr, arith, get_or, slice_get, slice_set}
+use Rattle.std.proofs.Common.{◌==◌, not, filter, ◌∙◌, ◌≡◌, ◌≢◌, false, ℕ, zero, suc, ◌<◌, ◌≤◌, ◌+◌, length, List, []}
+use Rattle.std.proofs.Common.{◌∷◌, Some, None, refl, sym, ap, inl, inr, arith, get_or, slice_get, slice_set}
 use Rattle.std.specs.List.{insert, remove}
 use Rattle.std.specs.Prelude.{nat_lt, All}
 use Rattle.std.proofs.lemmas.List.Elements.{All-cons, All-head, All-tail}
@@ -138,15 +139,19 @@ keeps_others : (ps : List Process) (pid : ℕ) → ((k : ℕ) → k < length ps 
 keeps_others [] pid apart = refl
 keeps_others (p ∷ ps) pid apart =
     let here : p.pid ≢ pid = apart 0 (omega arith) in
-    cond-true (not (p.pid == pid)) (p ∷ filter (λ p. not (p.pid == pid)) ps) (filter (λ p. not (p.pid == pid)) ps) (not_from_false (p.pid == pid) (ne_eqb p.pid pid here))
+    cond-true (not (p.pid == pid)) (p ∷ filter (λ p. not (p.pid == pid)) ps) (filter (λ p. not (p.pid == pid)) ps)
+    (not_from_false (p.pid == pid) (ne_eqb p.pid pid here))
     ∙ ap (λ (l : List Process). p ∷ l) (keeps_others ps pid (λ k lt. apart (suc k) (omega arith)))
 
 -- without the process at a place the list is that of the processes with other pids
-pub remove_at : (ps : List Process) (at : ℕ) (gone : Process) → slice_get ps at ≡ Some gone → Ascends ps → remove ps at ≡ filter (λ p. not (p.pid == gone.pid)) ps
+pub remove_at : (ps : List Process) (at : ℕ) (gone : Process) → slice_get ps at ≡ Some gone → Ascends ps
+    → remove ps at ≡ filter (λ p. not (p.pid == gone.pid)) ps
 remove_at [] at gone is up = absurd (cc)
 remove_at (p ∷ ps) zero gone is up =
     let it : p ≡ gone = cc in
-    let later : (k : ℕ) → k < length ps → pid_at ps k ≢ gone.pid = λ k lt same. let less : p.pid < pid_at ps k = head_below p ps up k lt in absurd (omega (arith, ap (λ (q : Process). q.pid) it)) in
+    let later : (k : ℕ) → k < length ps → pid_at ps k ≢ gone.pid
+    = λ k lt same. let less : p.pid < pid_at ps k = head_below p ps up k lt in
+    absurd (omega (arith, ap (λ (q : Process). q.pid) it)) in
     sym (cond-false (not (p.pid == gone.pid)) (p ∷ filter (λ p. not (p.pid == gone.pid)) ps) (filter (λ p. not (p.pid == gone.pid)) ps)
     (not_from_true (p.pid == gone.pid) (eq-eqb p.pid gone.pid (ap (λ (q : Process). q.pid) it)))
     ∙ keeps_others ps gone.pid later)
