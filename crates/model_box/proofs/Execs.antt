@@ -2,7 +2,7 @@
 use Rattle.std.proofs.Common.{◌≡◌, ℕ, ◌<◌, ◌≤◌, Bool, true, false, ◌&&◌, ◌||◌, not, Some, None, Option, List, length, refl, sym, ap, ◌∙◌, inl, inr, arith}
 use Rattle.std.specs.Prelude.{◌⊎◌, IsTrue, is_some, is_none, slice_get, unwrap_or, if◌then◌else◌}
 use Rattle.std.specs.List.{list_any}
-use Rattle.std.proofs.lemmas.Bool.{false≢true, and_parts, and_from, or_cases, eqb-true, eq-eqb, not-true, not-false, ltb-true}
+use Rattle.std.proofs.lemmas.Bool.{false≢true, and_parts, and_from, or_cases, or_parts, eqb-true, eq-eqb, not-true, not-false, ltb-true}
 use Rattle.cm_base.specs.CapSet.{holds, is_within, union, meet, none, full}
 use Rattle.cm_base.specs.declared.errno.Errno.TheVariants.{EPERM, EACCES}
 use Rattle.cm_base.specs.declared.res.FileRef.{FileRef}
@@ -58,10 +58,6 @@ id_there : (o : Option ℕ) (Set : ℕ → Type 0) → IdIn o Set → (x : ℕ) 
 id_there None Set wrong = absurd wrong
 id_there (Some x) Set held = (x, refl)
 
-or_false : (p q : Bool) → (p || q) ≡ false → (p ≡ false) × (q ≡ false)
-or_false true q e = absurd (false≢true (sym e))
-or_false false q e = (refl, e)
-
 -- ---- who may run a file
 module _ (row : Part → ℕ → Type 0) (c : Credential) (fine : Fine row c) (s : Space) (maps : MapsIn s row) (f : FileView) where
   cap_here : (cap : ℕ) → IsTrue (holds c.effective cap) → row PermittedCaps cap
@@ -83,7 +79,7 @@ module _ (row : Part → ℕ → Type 0) (c : Credential) (fine : Fine row c) (s
     other_user e = (c.uid.fs, fine.held.uid.fs c.uid.fs refl, ap not e)
 
     other_group : is_in_group c f.group ≡ false → HasOther (row FsGids) f.group
-    other_group e = (c.gid.fs, fine.held.gid.fs c.gid.fs refl, ap not (or_false (is_the f.group c.gid.fs) (list_any (is_the f.group) c.groups) e).0)
+    other_group e = (c.gid.fs, fine.held.gid.fs c.gid.fs refl, ap not (or_parts (is_the f.group c.gid.fs) (list_any (is_the f.group) c.groups) e).0)
 
     go : (owner group : Bool) → is_the f.owner c.uid.fs ≡ owner → is_in_group c f.group ≡ group
         → IsTrue (has_bit f (if owner then 0o100 else if group then 0o010 else 0o001))
@@ -389,7 +385,7 @@ module _ (permitted : CallKind → Bool) (files : FileTable) (old new : Spaces) 
         choose SetsIn (has_flag c noroot || is_excepted (space_of new at) (uids_after new at c f) (attribute_counts new at c f)) (own_sets new at c f)
         (raised_sets (space_of new at) (uids_after new at c f) (own_sets new at c f))
         (λ _. own_in) (λ no.
-        raised_in may (or_false (has_flag c noroot)
+        raised_in may (or_parts (has_flag c noroot)
         (is_excepted (space_of new at) (uids_after new at c f) (attribute_counts new at c f)) no).0)
 
     -- the ambient set after it is no larger

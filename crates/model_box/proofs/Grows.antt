@@ -77,21 +77,22 @@ ruled_grows w s p CloneUser pid =
 ruled_grows w s p Exit pid = omega arith
 ruled_grows w s p call pid = after_grows s.spaces p.space p.cred call
 
+-- an outcome goes to one state
+pub goes_to : (a b : State) → Goes a ≡ Goes b → a ≡ b
+goes_to a b same = cc
+
 -- Spaces never go.
 pub step_grows : (w : World) (s : State) (e : Event) (s' : State) → Step w s e s' → length s.spaces ≤ length s'.spaces
 step_grows w s e s' step = named (process_at s.processes e.pid) step where
-  goes : (a b : State) → Goes a ≡ Goes b → a ≡ b
-  goes a b same = cc
-
   rules : (p : Process) (b : Bool)
       → (if b then Goes (ruling w s p e.call (told_child e.res)).state else Wrong (own w s p e.call).res) ≡ Goes s' → length s.spaces ≤ length s'.spaces
-  rules p true same = rw (goes (ruling w s p e.call (told_child e.res)).state s' same) at (ruled_grows w s p e.call (told_child e.res))
+  rules p true same = rw (goes_to (ruling w s p e.call (told_child e.res)).state s' same) at (ruled_grows w s p e.call (told_child e.res))
   rules p false same = absurd (cc)
 
   outside : (p : Process) (b : Bool)
       → (if b then Goes s else told_rules e.res (ruling w s p e.call (told_child e.res)) (own w s p e.call)) ≡ Goes s'
       → length s.spaces ≤ length s'.spaces
-  outside p true same = let is : s ≡ s' = goes s s' same in rw is (omega arith)
+  outside p true same = let is : s ≡ s' = goes_to s s' same in rw is (omega arith)
   outside p false same = rules p (same_res e.res (ruling w s p e.call (told_child e.res)).res) same
 
   living : (p : Process) (b : Bool) → (if b then PidInUse else told_call w s p e.call e.res) ≡ Goes s' → length s.spaces ≤ length s'.spaces

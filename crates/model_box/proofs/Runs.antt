@@ -24,6 +24,7 @@ use Rattle.model_box.specs.Row.{Part, Row}
 use Rattle.model_box.specs.Files.{FilesFit}
 use Rattle.model_box.specs.Closed.{Closed}
 use Rattle.model_box.proofs.Fits.{SpacesFit, MemberFits}
+use Rattle.model_box.proofs.Grows.{goes_to}
 use Rattle.model_box.proofs.Writing.{choose}
 use Rattle.model_box.proofs.MapWrites.{StillFits, nothing_changes}
 use Rattle.model_box.proofs.Making.{made_fits, maker_fits, others_fit}
@@ -155,19 +156,16 @@ module _ (permitted : CallKind → Bool) (w : World) (old : Spaces) (bounds : Ro
       → names_no_space s.spaces call ≡ false → is_living_child s.processes res ≡ false
       → told_call w s p call res ≡ Goes s' → Kept old s' (members_after members pid call res) bounds
   told_kept call res s' allowed named free step = outside (comes_from_outside call res) step where
-    goes : (a b : State) → Goes a ≡ Goes b → a ≡ b
-    goes a b same = cc
-
     rules : (b : Bool)
         → (if b then Goes (ruling w s p call (told_child res)).state else Wrong (own w s p call).res) ≡ Goes s'
         → Kept old s' (members_after members pid call res) bounds
-    rules true same = rw (goes (ruling w s p call (told_child res)).state s' same) at (ruled_kept call res free allowed named (told_child res))
+    rules true same = rw (goes_to (ruling w s p call (told_child res)).state s' same) at (ruled_kept call res free allowed named (told_child res))
     rules false same = absurd (cc)
 
     outside : (b : Bool)
         → (if b then Goes s else told_rules res (ruling w s p call (told_child res)) (own w s p call)) ≡ Goes s'
         → Kept old s' (members_after members pid call res) bounds
-    outside true same = rw (goes s s' same) at (stays_kept call res free)
+    outside true same = rw (goes_to s s' same) at (stays_kept call res free)
     outside false same = rules (same_res res (ruling w s p call (told_child res)).res) same
 
 module _ (permitted : CallKind → Bool) (w : World) (old : Spaces) (bounds : Row → Part → ℕ → Type 0)

@@ -2,6 +2,7 @@
 -- the process back, and else such calls.
 use Rattle.std.proofs.Common.{◌≡◌, ℕ, ◌⊎◌, inl, inr, ◌==◌, ◌||◌, ◌&&◌, not, Bool, true, false, cond, List, [], ◌∷◌}
 use Rattle.std.proofs.Common.{Option, Some, None, Result, Ok, Err, refl, sym, ◌∙◌, ap, subst, arith, eq-eqb, ◌<◌, lit<}
+use Rattle.std.proofs.lemmas.Bool.{and_parts}
 use Rattle.cm_base.specs.CapSet.{none, holds}
 use Rattle.cm_base.specs.Limits.{id_count}
 use Rattle.cm_base.specs.declared.errno.Errno.{Errno}
@@ -440,18 +441,18 @@ one_call w pid forebear c k follow id h = record {
 root_of_becoming : (old : FourIds) → has_root (becoming old 0) ≡ true
 root_of_becoming old = elim (old.real == 0) as (λ (b : Bool). (b || true || old.saved == 0) ≡ true) [ true ↦ refl | false ↦ refl ]
 
+and_false : (b : Bool) → (b && false) ≡ false
+and_false true = refl
+and_false false = refl
+
 -- with id 0 the permitted set is effective, and none of it was lost
 regained : (c : Credential) → SetsFollowIds c → (after_becoming c 0).effective ≡ c.permitted
 regained c h =
     let lost : Bool = has_root c.uid && not (has_root (becoming c.uid 0)) in
-    let keeps : lost ≡ false = ap (λ (b : Bool). has_root c.uid && not b) (root_of_becoming c.uid) ∙ never (has_root c.uid) in
+    let keeps : lost ≡ false = ap (λ (b : Bool). has_root c.uid && not b) (root_of_becoming c.uid) ∙ and_false (has_root c.uid) in
     ap (λ (d : Credential). d.effective) (fixups c (becoming c.uid 0) h.securebits)
     ∙ effective_left lost (c.uid.effective == 0) true (record c { uid = becoming c.uid 0 }) h.effective
     ∙ ap (λ (b : Bool). cond b none c.permitted) keeps
-  where
-    never : (b : Bool) → (b && false) ≡ false
-    never true = refl
-    never false = refl
 
 two_calls : (w : World) (pid : ℕ) (forebear : Option ℕ) (c : Credential) (k : ℕ) → SetsFollowIds c → k < id_count
     → is_one_of_three c.uid 0 ≡ true → holds c.permitted cap_setuid ≡ true
@@ -491,10 +492,6 @@ may ids false k h = grind (arith, h)
 zero_is_own : (ids : FourIds) → (ids.real == 0 || ids.saved == 0) ≡ true → is_one_of_three ids 0 ≡ true
 zero_is_own ids h = grind (arith, h)
 
-both_true : (a b : Bool) → (a && b) ≡ true → (a ≡ true) × (b ≡ true)
-both_true true b h = (refl, h)
-both_true false b h = absurd (cc)
-
 none_of_three : (ids : FourIds) (setuid : Bool) (k : ℕ) → (ids.effective == k) ≡ false
     → (ids.real == k || ids.saved == k || setuid) ≡ false → is_one_of_three ids k ≡ false
 none_of_three ids setuid k a b = grind (arith, a, b)
@@ -506,11 +503,7 @@ last_false false false d h = h
 
 powerless_by : (r e v permitted effective : Bool) → ((r || v) && permitted) ≡ false → effective ≡ false
     → (e ≡ true → effective ≡ permitted) → ((r || e || v) && permitted) ≡ false
-powerless_by r e v false effective far lacks same = never (r || e || v)
-  where
-    never : (b : Bool) → (b && false) ≡ false
-    never true = refl
-    never false = refl
+powerless_by r e v false effective far lacks same = and_false (r || e || v)
 powerless_by true e v true effective far lacks same = absurd (cc)
 powerless_by false e true true effective far lacks same = absurd (cc)
 powerless_by false true false true effective far lacks same = sym (same refl) ∙ lacks
@@ -535,7 +528,7 @@ is_by w pid forebear c k follow id true near far a b d = no_call w pid forebear 
 is_by w pid forebear c k follow id false true far a b d = one_call w pid forebear c k follow id (may c.uid (has_setuid c) k b)
 is_by w pid forebear c k follow id false false true a b d =
     let both : ((c.uid.real == 0 || c.uid.saved == 0) ≡ true) × (holds c.permitted cap_setuid ≡ true) =
-    both_true (c.uid.real == 0 || c.uid.saved == 0) (holds c.permitted cap_setuid) d in
+    and_parts (c.uid.real == 0 || c.uid.saved == 0) (holds c.permitted cap_setuid) d in
     two_calls w pid forebear c k follow id (zero_is_own c.uid both.0) both.1
 is_by w pid forebear c k follow id false false false a b d = never_back w pid forebear c k (locked_by c k follow a b d)
 
@@ -554,7 +547,7 @@ is_call _ is = absurd (cc)
 pub all_setresuid : (es : List Event) → are_setresuids es ≡ true → AllSetResUid es
 all_setresuid [] is = tt
 all_setresuid (e ∷ es) is =
-    let both : (is_setresuid e.call ≡ true) × (are_setresuids es ≡ true) = both_true (is_setresuid e.call) (are_setresuids es) is in
+    let both : (is_setresuid e.call ≡ true) × (are_setresuids es ≡ true) = and_parts (is_setresuid e.call) (are_setresuids es) is in
     (is_call e.call both.0, all_setresuid es both.1)
 
 -- so a run of such events keeps the sets following the user ids
