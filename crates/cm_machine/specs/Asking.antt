@@ -8,7 +8,9 @@ use Rattle.cm_machine.specs.declared.ruling.Asked.{Asked}
 use Rattle.model_cred.specs.Call.{Call, SetGroups, Fork, Exit}
 use Rattle.model_cred.specs.Credential.{Credential}
 use Rattle.model_cred.specs.Process.{Process, State, is_alive, insert_process}
+use Rattle.model_cred.specs.Space.{Spaces}
 use Rattle.model_cred.specs.World.{World}
+use Rattle.model_rules.specs.Reply.{reply}
 use Rattle.model_run.specs.Ruling.{Ruling, ruling, own, with_cred, fork_child, state_without}
 use Rattle.model_run.specs.Step.{told_child, told_rules}
 
@@ -31,6 +33,12 @@ change_by Fork (Child pid) c = change.Birth pid
 change_by Fork res c = change.Nothing
 change_by Exit res c = change.Exit
 change_by call res c = change.Fields (record c { groups = [] })
+
+-- the credential in which a call leaves its caller: a birth and an exit leave the one that it has
+abbrev pub cred_after : World → Spaces → Process → Call → Credential
+cred_after w spaces p Fork = p.cred
+cred_after w spaces p Exit = p.cred
+cred_after w spaces p call = (reply w.files spaces p.space p.cred call).cred
 
 -- the credential where the change is undone
 abbrev pub undone_cred : Change → Credential → Credential

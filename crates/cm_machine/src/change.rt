@@ -8,18 +8,18 @@ ghost use Rattle.model_cred.specs.Process.{Process};
 
 use crate::births::fork_as;
 use crate::exits::exit;
-use crate::saving::{Saved, put_back};
 use cm_base::{NoMemory, Pid};
 use cm_state::{Cred, Groups, State};
 use std::alloc::Global;
+use std::mem;
 
 /// What may have to be undone of a call.
 #[derive(Debug, Drop)]
 pub(crate) enum Change {
     /// It changed nothing.
     Nothing,
-    /// The caller had these fields; its groups stayed.
-    Fields(Saved),
+    /// The caller had these credentials, which are told without groups: its groups stayed.
+    Fields(Cred),
     /// The caller had these groups; all else stayed.
     Groups(Groups),
     /// A child of this pid is to be born. Nothing changed so far.
@@ -67,7 +67,10 @@ fn undo_cred(c: &mut Cred, change: Change)
     ensures { c.new ≡ undone_cred change c.old }
 {
     match change {
-        Change::Fields(old) => put_back(c, &old),
+        Change::Fields(mut old) => {
+            mem::swap(&mut old.groups, &mut c.groups);
+            *c = old;
+        }
         Change::Groups(old) => c.groups = old,
         Change::Nothing | Change::Birth(_) | Change::Exit => {}
     }

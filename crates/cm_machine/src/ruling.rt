@@ -2,7 +2,7 @@
 // `ruling` of the definitions, but that a birth and an exit are still to be made, and any change can be undone.
 ghost use Rattle.std.specs.Prelude.{◌≡◌, ◌<◌, ℕ, length, List, slice_get, Some, false, IfSome};
 ghost use Rattle.cm_base.specs.Outcome.{OrNoMemory, UnchangedOnErr};
-ghost use Rattle.cm_machine.specs.Asking.{IsAsked, IsFresh, change_by, pid_number};
+ghost use Rattle.cm_machine.specs.Asking.{IsAsked, IsFresh, change_by, cred_after, pid_number};
 ghost use Rattle.cm_base.specs.declared.res.Res.TheVariants.{Done};
 ghost use Rattle.cm_machine.specs.declared.change.Change.TheVariants.{Fields};
 ghost use Rattle.cm_state.specs.Call.{call_of};
@@ -10,13 +10,11 @@ ghost use Rattle.cm_world.specs.World.{world_of};
 ghost use Rattle.model_cred.specs.Call.{SetGroups};
 ghost use Rattle.model_cred.specs.Process.{Process, is_alive};
 ghost use Rattle.model_cred.specs.Space.{space_of};
-ghost use Rattle.model_rules.specs.Reply.{reply};
 ghost use Rattle.model_rules.specs.SetGroups.{setgroups};
 ghost use Rattle.model_run.specs.Ruling.{ruling};
 
 use crate::births::birth;
 use crate::change::Change;
-use crate::saving::{Saved, save};
 use cm_base::{NoMemory, Pid, Res, SpaceId};
 use cm_capcalls::{
     amb_clear, amb_lower, amb_raise, bset_drop, cap_set, keep_caps, no_new_privs, secure_bits,
@@ -72,14 +70,14 @@ fn ask_caller(
 ) -> Result<Asked, NoMemory>
     requires stands { p.old.space < length spaces.now }
     ensures res { (processes : List Process) → OrNoMemory result (λ asked. asked.res ≡ (ruling (world_of w.now) (record { processes = processes; spaces = spaces.now }) p.old (call_of call.now) (pid_number child)).res) }
-    ensures cred { OrNoMemory result (λ _. p.new.cred ≡ (reply (world_of w.now).files spaces.now p.old.space p.old.cred (call_of call.now)).cred) }
+    ensures cred { OrNoMemory result (λ _. p.new.cred ≡ cred_after (world_of w.now) spaces.now p.old (call_of call.now)) }
     ensures change { OrNoMemory result (λ asked. asked.change ≡ change_by (call_of call.now) asked.res p.old.cred) }
     ensures rest { p.new ≡ record p.old { cred = p.new.cred } }
     ensures unchanged { UnchangedOnErr result p.new p.old }
 {
     let s = standing(spaces, p.space);
     let c = &mut p.cred;
-    let old = save(c);
+    let old = c.without_groups(alloc);
     match call {
         Call::SetUid(id) => changed(old, set_uid(c, s, *id)),
         Call::SetReUid(r, e) => changed(old, set_reuid(c, s, *r, *e)),
@@ -106,9 +104,9 @@ fn ask_caller(
     }
 }
 
-// The answer of a call that changes fields of its caller, which had these.
+// The answer of a call that changes fields of its caller, which had these; the groups stay.
 #[inline]
-fn changed(old: Saved, res: Res) -> Result<Asked, NoMemory>
+fn changed(old: Cred, res: Res) -> Result<Asked, NoMemory>
     ensures { result ≡ Ok (record { res = res; change = Fields old }) }
 {
     Ok(Asked {
