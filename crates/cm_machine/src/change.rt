@@ -1,9 +1,9 @@
 // What a call has changed of its caller, as it was before, and what is still to be made of it: where the told result is
 // the rules' own, the change is kept, and else it is undone. A birth and an exit are made as they are kept, since their
 // answers are known before: an exit can't be undone, as nothing shows which children had the one that is gone.
-ghost use Rattle.std.specs.Prelude.{◌≡◌, ◌<◌, length, slice_get, Some, OnErr};
+ghost use Rattle.std.specs.Prelude.{◌≡◌, ◌<◌, length, OnErr};
 ghost use Rattle.cm_base.specs.Outcome.{OrNoMemory, UnchangedOnErr};
-ghost use Rattle.cm_machine.specs.Asking.{kept, undone, undone_cred, IsFresh};
+ghost use Rattle.cm_machine.specs.Asking.{IsFresh, OfCaller, kept, undone, undone_cred};
 ghost use Rattle.model_cred.specs.Process.{Process};
 
 use crate::births::fork_as;
@@ -39,7 +39,7 @@ pub(crate) fn keep(
 ) -> Result<(), NoMemory>
     requires here { at < length state.old.processes }
     requires fresh { IsFresh change state.old.processes }
-    ensures kept { OrNoMemory result (λ _. (p : Process) → slice_get state.old.processes at ≡ Some p → state.new ≡ kept change p state.old) }
+    ensures kept { OrNoMemory result (λ _. OfCaller state.old at (λ p. state.new ≡ kept change p state.old)) }
     ensures unchanged { UnchangedOnErr result state.new state.old }
     ensures nothing { OnErr result ((p : Process) → undone change p state.old ≡ state.old) }
 {
@@ -56,7 +56,7 @@ pub(crate) fn keep(
 /// Undoes what the process at this place has changed.
 pub(crate) fn undo(state: &mut State, at: usize, change: Change)
     requires { at < length state.old.processes }
-    ensures { (p : Process) → slice_get state.old.processes at ≡ Some p → state.new ≡ undone change p state.old }
+    ensures { OfCaller state.old at (λ p. state.new ≡ undone change p state.old) }
 {
     let procs = &mut state.procs;
     let p = &mut procs.list[at];

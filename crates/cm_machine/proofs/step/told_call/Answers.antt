@@ -1,6 +1,6 @@
 use Rattle.cm_machine.proofs.Asking.{nothing_before, on_err, undone_before}
 use Rattle.cm_machine.proofs.Changing.{some_at}
-use Rattle.cm_machine.proofs.step.make_told.Goals as goal
+use Rattle.cm_machine.proofs.step.told_call.Goals as goal
 
 pub returns-in_err-keep-clause-unchanged : goal.returns-in_err-keep-clause-unchanged
 returns-in_err-keep-clause-unchanged c =
