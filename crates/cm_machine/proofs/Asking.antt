@@ -1,5 +1,6 @@
 -- What is asked of the rules: kept, what a call changes is what they give, and undone, nothing has changed.
-use Rattle.std.proofs.Common.{◌≡◌, ℕ, ◌<◌, ◌||◌, not, length, List, Bool, true, false, Option, Some, None, if◌then◌else◌, refl, sym, ◌∙◌, ap, subst, arith, get_or, slice_get, slice_set}
+use Rattle.std.proofs.Common.{◌≡◌, ℕ, ◌<◌, ◌||◌, not, length, List, Bool, true, false, Option, Some, None}
+use Rattle.std.proofs.Common.{if◌then◌else◌, refl, sym, ◌∙◌, ap, subst, arith, get_or, slice_get, slice_set}
 use Rattle.std.proofs.lemmas.List.{length-set, get_or-set_same}
 use Rattle.std.specs.Prelude.{nat_lt, is_none, Result, Ok, IfSome, OnErr}
 use Rattle.std.specs.declared.result.Result.TheVariants.{Err}
@@ -46,7 +47,8 @@ born c n s after false = refl
 
 groups_back : (s : Space) (c : Credential) (ids : List ℕ) → undone_cred (change_by (model.SetGroups ids) (setgroups s c ids).res c) (setgroups s c ids).cred ≡ c
 groups_back s c ids =
-    cond_both (not (has_setgid c) || is_none s.gids || s.deny) (refused EPERM c) (if nat_lt most_groups (length ids) then refused EINVAL c else with_groups c o) P
+    cond_both (not (has_setgid c) || is_none s.gids || s.deny) (refused EPERM c)
+    (if nat_lt most_groups (length ids) then refused EINVAL c else with_groups c o) P
     (λ _. refl)
     (λ _. cond_both (nat_lt most_groups (length ids)) (refused EINVAL c) (with_groups c o) P (λ _. refl) (λ _. mapped o))
   where
@@ -195,7 +197,8 @@ module _ (w : World) (s : State) (call : Call) (child : Option ℕ) (at : ℕ) (
   }
 
   -- it was asked of the rules
-  pub asked_is : (r : Result Asked NoMemory) → OrNoMemory r (λ asked. asked.res ≡ given.res) → OrNoMemory r (λ asked. asked.change ≡ change_by k asked.res old.cred)
+  pub asked_is : (r : Result Asked NoMemory) → OrNoMemory r (λ asked. asked.res ≡ given.res)
+      → OrNoMemory r (λ asked. asked.change ≡ change_by k asked.res old.cred)
       → OrNoMemory r (λ _. new.cred ≡ leaves)
       → OrNoMemory r (λ asked. (p : Process) → slice_get s.processes at ≡ Some p → IsAsked asked at after s (ruling w s p k (pid_number child)))
   asked_is (Ok asked) answers change cred = λ p there.

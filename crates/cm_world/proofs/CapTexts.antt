@@ -1,5 +1,6 @@
 -- The texts of sets of capabilities: digits one by one, and names cut at commas.
-use Rattle.std.proofs.Common.{◌≡◌, ℕ, ◌+◌, ◌-◌, ◌*◌, ◌^◌, ◌<◌, ◌≤◌, ◌==◌, List, [], ◌∷◌, length, take, drop, Bool, true, false, cond, Some, None, refl, le_refl, arith}
+use Rattle.std.proofs.Common.{◌≡◌, ℕ, ◌+◌, ◌-◌, ◌*◌, ◌^◌, ◌<◌, ◌≤◌, ◌==◌, List, [], ◌∷◌, length, take, drop, Bool}
+use Rattle.std.proofs.Common.{true, false, cond, Some, None, refl, le_refl, arith}
 use Rattle.std.proofs.lemmas.List.{take_all, length-drop}
 use Rattle.std.proofs.lemmas.Grind.{pow_more}
 use Rattle.std.proofs.Math.Nat.{pow-le-pow_right}
@@ -45,5 +46,7 @@ cut_at_comma text comma is =
 -- a text without a comma is one part
 pub cut_nowhere : (text : List ℕ) → position is_comma text ≡ None → slice_split is_comma text ≡ text ∷ []
 cut_nowhere text is =
-    let end : length text ≤ position_or_len is_comma text = no_place (position_or_len is_comma text) (length text) (ltb (position_or_len is_comma text) (length text)) refl is in
+    let end : length text ≤ position_or_len is_comma text
+    = no_place (position_or_len is_comma text) (length text)
+    (ltb (position_or_len is_comma text) (length text)) refl is in
     slice_split_none is_comma text (λ k d within. fails_before_first is_comma text k d (omega (arith, within, end)))

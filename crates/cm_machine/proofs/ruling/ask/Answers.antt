@@ -20,7 +20,9 @@ returns-clause-asked c =
     let items : c.procs.inside.list.items ≡ c.args.state.now.processes = c.procs.view_is ∙ ap (λ (s : State). s.processes) c.state.view_is in
     let before : State = record { processes = c.procs.inside.list.items; spaces = c.state.inside.spaces } in
     let after : State = record { processes = slice_set c.procs.inside.list.items c.args.at c.ask_caller.new.p; spaces = c.state.inside.spaces } in
-    let same : before ≡ c.args.state.now = ap (λ (ps : List Process). record { processes = ps; spaces = c.state.inside.spaces }) c.procs.view_is ∙ c.state.view_is in
+    let same : before ≡ c.args.state.now
+    = ap (λ (ps : List Process). record { processes = ps; spaces = c.state.inside.spaces }) c.procs.view_is
+    ∙ c.state.view_is in
     subst (λ (s : State). OrNoMemory c.ask_caller.result (λ asked. (p : Process) → slice_get s.processes c.args.at ≡ Some p
     → IsAsked asked c.args.at after s (ruling (world_of c.args.w.now) s p (call_of c.args.call.now) (pid_number c.args.child)))) same
     (asked_is (world_of c.args.w.now) before c.args.call.now c.args.child c.args.at c.index_mut-p.result.now c.ask_caller.new.p (rw c.procs.view_is c.state.invariant.0)
