@@ -25,7 +25,7 @@ impl Model for CapWord {
     ghost inverse = { λ n. record { 0 = n } };
 }
 
-#[tactic(auto, using(crate::proofs::CapSets::union_is_cap_set, crate::proofs::CapSets::minus_is_cap_set, crate::proofs::CapSets::shifted_is_cap_set, std::proofs::lemmas::Nat::one_shl,))]
+#[tactic(auto, using(crate::proofs::CapSets::kept_sets))]
 impl CapWord {
     /// The set of the bits 0 to 40; the other bits are dropped.
     pub fn from_bits(bits: u64) -> CapWord

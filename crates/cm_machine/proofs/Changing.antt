@@ -8,7 +8,8 @@ use Rattle.std.proofs.lemmas.Option.{slice_get-get_or}
 use Rattle.cm_machine.specs.Asking.{undone, undone_cred}
 use Rattle.cm_machine.specs.declared.change.Change.{Change}
 use Rattle.cm_machine.specs.declared.change.Change.TheVariants as change
-use Rattle.cm_state.proofs.Places.{pid_of_at, get_of_at, put_ascends, put_at, insert_all}
+use Rattle.cm_state.proofs.Places.{pid_of_at, get_of_at, put_ascends, put_at}
+use Rattle.model_cred.proofs.Orders.{all_insert}
 use Rattle.model_cred.specs.Credential.{Credential}
 use Rattle.model_cred.specs.Process.{Process, State, Ascends, insert_process}
 use Rattle.model_run.specs.Ruling.{with_cred}
@@ -69,7 +70,7 @@ put_back (q ∷ ps) (suc at) new p is = ap (λ (l : List Process). q ∷ l) (put
 pub insert_keeps : {T E : Type 0} (r : Result T E) (ps after : List Process) (n : ℕ) (child : Process) → AllStand n ps → child.space < n
     → IfOk r (λ _. after ≡ insert_process child ps) → OnErr r (after ≡ ps) → AllStand n after
 insert_keeps (Ok _) ps after n child stand there made same =
-    subst (AllStand n) (sym made) (insert_all (λ p. p.space < n) ps child there stand)
+    subst (AllStand n) (sym made) (all_insert (λ p. p.space < n) child ps there stand)
 insert_keeps (Err why) ps after n child stand there made same = subst (AllStand n) (sym same) stand
 
 -- some process stands at a place, and in a space that stands

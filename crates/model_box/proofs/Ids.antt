@@ -1,5 +1,6 @@
 -- The calls that set user ids and group ids keep four ids within a row: said once, of any sets of ids.
-use Rattle.std.proofs.Common.{◌≡◌, ℕ, ◌+◌, ◌-◌, ◌<◌, ◌≤◌, Bool, true, false, ◌&&◌, ◌||◌, not, Some, None, Option, List, [], ◌∷◌, refl, sym, ◌∙◌, inl, inr, arith, ltb, leb, eqb, Result, Ok}
+use Rattle.std.proofs.Common.{◌≡◌, ℕ, ◌+◌, ◌-◌, ◌<◌, ◌≤◌, Bool, true, false, ◌&&◌, ◌||◌, not, Some, None, Option, List}
+use Rattle.std.proofs.Common.{[], ◌∷◌, refl, sym, ◌∙◌, inl, inr, arith, ltb, leb, eqb, Result, Ok}
 use Rattle.std.specs.Prelude.{◌⊎◌, ◌==◌, IsTrue, if◌then◌else◌}
 use Rattle.std.specs.declared.result.Result.TheVariants.{Err}
 use Rattle.std.proofs.lemmas.Bool.{false≢true, and_parts, and_from, or_cases, or_left, or_right, eqb-true, eq-eqb, ltb-true, leb-true, lt-ltb, le-leb}
@@ -23,7 +24,10 @@ down_outside (e ∷ map) i k same = go (lies_in e.inside e.length i) refl same (
       let low : e.inside ≤ i = leb-true e.inside i ends.0 in
       let high : i < e.inside + e.length = ltb-true i (e.inside + e.length) ends.1 in
       choose (λ (b : Bool). IsTrue b) (lies_in e.outside e.length k) true (is_outside map k) (λ _. refl)
-      (λ wrong. absurd (false≢true (sym wrong ∙ and_from (leb e.outside k) (ltb k (e.outside + e.length)) (le-leb e.outside k (omega arith)) (lt-ltb k (e.outside + e.length) (omega arith)))))
+      (λ wrong.
+      absurd (false≢true (sym wrong
+      ∙ and_from (leb e.outside k) (ltb k (e.outside + e.length)) (le-leb e.outside k (omega arith))
+      (lt-ltb k (e.outside + e.length) (omega arith)))))
   go false outside found rest = choose (λ (b : Bool). IsTrue b) (lies_in e.outside e.length k) true (is_outside map k) (λ _. refl) (λ _. rest found)
 
 -- four ids are within three sets: the real, effective and saved one, the effective one, the fs one
@@ -74,7 +78,8 @@ module _ (Old Effective Fs Mapped : ℕ → Type 0) (Privileged : Type 0) (map :
     go true same' = inl (cc)
     go false same' = inr (down_outside map given k same')
 
-  module _ (gain : (x : ℕ) → Settable Old Mapped Privileged x → Effective x) (to_old : (x : ℕ) → Effective x → Old x) (to_fs : (x : ℕ) → Effective x → Fs x) where
+  module _ (gain : (x : ℕ) → Settable Old Mapped Privileged x → Effective x) (to_old : (x : ℕ) → Effective x → Old x)
+      (to_fs : (x : ℕ) → Effective x → Fs x) where
     -- a mapped id that the call may set
     set_in : (k : ℕ) → IsTrue (is_outside map k) → IsTrue privileged ⊎ Old k → Effective k
     set_in k out (inl may) = gain k (inr (cap may, maps k out))
@@ -160,7 +165,9 @@ module _ (Old Effective Fs Mapped : ℕ → Type 0) (Privileged : Type 0) (map :
           → (IsTrue privileged ⊎ Old real) × (IsTrue privileged ⊎ Old effective)
           → IdsIn Old Effective Fs (record { real = real; effective = effective; saved = saved_after old r e effective; fs = effective })
       ids real effective a b may =
-          let now : Effective effective = effective_in old.effective effective (held.effective old.effective refl) (asked_cases old.effective e effective b) may.1 in
+          let now : Effective effective
+          = effective_in old.effective effective (held.effective old.effective refl)
+          (asked_cases old.effective e effective b) may.1 in
           new_ids real effective (saved_after old r e effective)
           (old_in old.real real old_real (asked_cases old.real r real a) may.0) now
           (choose Old (is_given r || (is_given e && not (effective == old.real))) effective old.saved (λ _. to_old effective now) (λ _. old_saved))
@@ -176,7 +183,10 @@ module _ (Old Effective Fs Mapped : ℕ → Type 0) (Privileged : Type 0) (map :
           choose (OkIn (IdsIn Old Effective Fs))
           (privileged || ((real == old.real || real == old.effective) && is_one_of_three old effective))
           (Ok (record { real = real; effective = effective; saved = saved_after old r e effective; fs = effective })) (Err EPERM)
-          (λ may. ids real effective a b (both real effective (or_cases privileged ((real == old.real || real == old.effective) && is_one_of_three old effective) may))) (λ _. tt)
+          (λ may.
+          ids real effective a b (both real effective
+          (or_cases privileged ((real == old.real || real == old.effective) && is_one_of_three old effective) may)))
+          (λ _. tt)
 
     -- setuid and setgid
     pub setid_in : (argument : ℕ) → OkIn (IdsIn Old Effective Fs) (setid map privileged old argument)

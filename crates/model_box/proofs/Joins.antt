@@ -12,7 +12,9 @@ use Rattle.model_cred.specs.Space.{Spaces, space_of, is_at_or_above}
 use Rattle.model_rules.specs.Caps.{cap_sys_admin}
 use Rattle.model_rules.specs.Namespaces.{as_newcomer}
 use Rattle.model_rules.specs.Power.{has_over}
-use Rattle.model_box.specs.Row.{Part, Uids, EffectiveUids, FsUids, Gids, EffectiveGids, FsGids, Groups, MappedUids, MappedGids, PermittedCaps, InheritableCaps, BoundingCaps, NewPrivs, RootCounts, LockClear, Row, Standing, Fresh, CredHas}
+use Rattle.model_box.specs.Row.{Part, Uids, EffectiveUids, FsUids, Gids, EffectiveGids, FsGids, Groups, MappedUids}
+use Rattle.model_box.specs.Row.{MappedGids, PermittedCaps, InheritableCaps, BoundingCaps, NewPrivs, RootCounts}
+use Rattle.model_box.specs.Row.{LockClear, Row, Standing, Fresh, CredHas}
 use Rattle.model_box.specs.Rule.{Join}
 use Rattle.model_box.specs.Spread.{Brings, CanJoin, IsNext}
 use Rattle.model_box.specs.Closed.{Closed}
@@ -102,7 +104,9 @@ module _ (permitted : CallKind → Bool) (files : FileTable) (old new : Spaces) 
       (m, next, (c.uid.effective, held EffectiveUids c.uid.effective refl), by cause) where
         by : (IsTrue (holds c.effective cap_sys_admin) ⊎ ((space_of new m).owner ≡ c.uid.effective))
             → (bounds (Standing at) PermittedCaps cap_sys_admin ⊎ bounds (Standing at) EffectiveUids (space_of old m).owner)
-        by (inl cap) = inl (member.held (Standing at) (own at stands) PermittedCaps cap_sys_admin (member_of_wider c.effective c.permitted member.included.effective cap_sys_admin cap))
+        by (inl cap) =
+            inl (member.held (Standing at) (own at stands) PermittedCaps cap_sys_admin
+            (member_of_wider c.effective c.permitted member.included.effective cap_sys_admin cap))
         by (inr owner) = inr (member.held (Standing at) (own at stands) EffectiveUids (space_of old m).owner (sym (fit.stay m m_low).owner ∙ owner))
 
   -- so what it then has is in that space's row
@@ -163,7 +167,8 @@ module _ (permitted : CallKind → Bool) (files : FileTable) (old new : Spaces) 
     parent (inl row_at) = inside row_at
     parent (inr same) = anchor same
 
-    by : (((found.0 ≡ at) × IsTrue (holds c.effective cap_sys_admin)) ⊎ (((space_of new found.0).parent ≡ Some at) × ((space_of new found.0).owner ≡ c.uid.effective)))
+    by : (((found.0 ≡ at) × IsTrue (holds c.effective cap_sys_admin))
+        ⊎ (((space_of new found.0).parent ≡ Some at) × ((space_of new found.0).owner ≡ c.uid.effective)))
         → RowOf (length old) new found.0 (Fresh a) ⊎ IsTrue (is_at_or_above new found.0 a) → bounds (Fresh a) part x
     by (inl here) (inl row_at) = inside (rw here.0 at row_at)
     by (inl here) (inr up) =

@@ -1,9 +1,11 @@
 -- Chains of spaces: what is above a space, and which row it has.
-use Rattle.std.proofs.Common.{◌≡◌, ℕ, zero, suc, ◌<◌, ◌≤◌, Bool, false, ◌&&◌, eqb, Option, None, Some, List, [], ◌∷◌, length, refl, sym, ap, ◌∙◌, inl, inr, arith}
+use Rattle.std.proofs.Common.{◌≡◌, ℕ, zero, suc, ◌<◌, ◌≤◌, Bool, false, ◌&&◌, eqb, Option, None, Some, List, [], ◌∷◌}
+use Rattle.std.proofs.Common.{length, refl, sym, ap, ◌∙◌, inl, inr, arith}
 use Rattle.std.specs.Prelude.{◌⊎◌, IsTrue, unwrap_or}
 use Rattle.std.specs.List.{list_any}
 use Rattle.std.proofs.lemmas.Bool.{false≢true, cases_lt, cases_eq, eqb-true, eq-eqb, ne_eqb, and_parts, or_cases, or_left, or_right}
 use Rattle.cm_base.specs.CapSet.{holds}
+use Rattle.model_cred.proofs.Spaces.{chain_none, chain_empty}
 use Rattle.model_cred.specs.IdMap.{is_the}
 use Rattle.model_cred.specs.Space.{Space, Spaces, space_at, space_of, no_space, chain, chain_from, is_at_or_above}
 use Rattle.model_rules.specs.Power.{over, gives_power, is_owned}
@@ -36,18 +38,12 @@ has_parent_stands [] n p parent = absurd (cc)
 has_parent_stands (t ∷ older) n p parent =
     elim (cases_eq n (length older)) [
       | inl same ↦ omega arith
-      | inr other ↦ let low : n < length older = has_parent_stands older n p (sym (ap (λ (s : Space). s.parent) (space_of_older t older n other)) ∙ parent) in omega arith
+      | inr other ↦ let low : n < length older =
+          has_parent_stands older n p (sym (ap (λ (s : Space). s.parent) (space_of_older t older n other)) ∙ parent) in
+          omega arith
     ]
 
 -- ---- chains
-chain_none : (spaces : Spaces) → chain_from spaces None ≡ []
-chain_none [] = refl
-chain_none (t ∷ older) = chain_none older
-
-chain_past : (spaces : Spaces) (n : ℕ) → length spaces ≤ n → chain spaces n ≡ []
-chain_past [] n past = refl
-chain_past (t ∷ older) n past = rw (ne_eqb (length older) n (λ same. omega arith)) (chain_past older n (omega arith))
-
 chain_older : (t : Space) (older : Spaces) (n : ℕ) → (n ≡ length older → ⊥) → chain (t ∷ older) n ≡ chain older n
 chain_older t older n other = rw (ne_eqb (length older) n (λ same. other (sym same)))
 
@@ -109,7 +105,7 @@ at_or_above_cases spaces earlier m n above = at_parent (space_of spaces n).paren
   next p parent (inr there) = inr (p, parent, there)
 
   past : length spaces ≤ n → ⊥
-  past high = false≢true (sym (ap (list_any (λ k. eqb k m)) (chain_past spaces n high)) ∙ above)
+  past high = false≢true (sym (ap (list_any (λ k. eqb k m)) (chain_empty spaces n high)) ∙ above)
 
   at_parent : (o : Option ℕ) → (space_of spaces n).parent ≡ o → (m ≡ n) ⊎ ((p : ℕ) × ((space_of spaces n).parent ≡ Some p) × IsTrue (is_at_or_above spaces m p))
   at_parent None parent =
@@ -183,14 +179,15 @@ pub same_chain : (old new : Spaces) → Earlier old → Earlier new → length o
     → ((n : ℕ) → n < length old → (space_of new n).parent ≡ (space_of old n).parent)
     → (fuel n : ℕ) → n < fuel → n < length old → chain new n ≡ chain old n
 same_chain old new before after grown same zero n low stands = absurd (omega arith)
-same_chain old new before after grown same (suc fuel) n low stands = at_parent (space_of old n).parent refl (same_chain old new before after grown same fuel) where
-  at_parent : (o : Option ℕ) → (space_of old n).parent ≡ o
-      → ((k : ℕ) → k < fuel → k < length old → chain new k ≡ chain old k) → chain new n ≡ chain old n
-  at_parent None parent rest = chain_top new n (same n stands ∙ parent) (omega arith) ∙ sym (chain_top old n parent stands)
-  at_parent (Some p) parent rest =
-      let earlier : p < n = before n p parent in
-      chain_next new n p (same n stands ∙ parent) earlier ∙ ap (λ (c : List ℕ). n ∷ c) (rest p (omega arith) (omega arith))
-      ∙ sym (chain_next old n p parent earlier)
+same_chain old new before after grown same (suc fuel) n low stands =
+    at_parent (space_of old n).parent refl (same_chain old new before after grown same fuel) where
+      at_parent : (o : Option ℕ) → (space_of old n).parent ≡ o
+          → ((k : ℕ) → k < fuel → k < length old → chain new k ≡ chain old k) → chain new n ≡ chain old n
+      at_parent None parent rest = chain_top new n (same n stands ∙ parent) (omega arith) ∙ sym (chain_top old n parent stands)
+      at_parent (Some p) parent rest =
+          let earlier : p < n = before n p parent in
+          chain_next new n p (same n stands ∙ parent) earlier ∙ ap (λ (c : List ℕ). n ∷ c) (rest p (omega arith) (omega arith))
+          ∙ sym (chain_next old n p parent earlier)
 
 -- ---- rows
 pub row_standing : {k : ℕ} {spaces : Spaces} {n a : ℕ} → RowOf k spaces n (Standing a) → (n ≡ a) × (n < k)

@@ -12,7 +12,8 @@ use Rattle.model_cred.specs.World.{World}
 use Rattle.model_run.specs.Holds.{process_holds}
 use Rattle.model_run.specs.Later.{Later, is_member}
 use Rattle.model_box.specs.Files.{FilesFit}
-use Rattle.model_box.specs.Row.{Part, Groups, MappedUids, MappedGids, PermittedCaps, InheritableCaps, BoundingCaps, NewPrivs, RootCounts, LockClear, Row, Standing, Fresh}
+use Rattle.model_box.specs.Row.{Part, Groups, MappedUids, MappedGids, PermittedCaps, InheritableCaps, BoundingCaps}
+use Rattle.model_box.specs.Row.{NewPrivs, RootCounts, LockClear, Row, Standing, Fresh}
 
 -- ids 1000, no groups, five empty sets, no securebits, no_new_privs
 abbrev pub plain_cred : Credential

@@ -7,7 +7,8 @@ use Rattle.model_cred.specs.Space.{Spaces, is_at_or_above, stands, space_of}
 use Rattle.model_rules.specs.Caps.{cap_dac_override}
 use Rattle.model_rules.specs.Exec.{attribute_sets, interpreter_of}
 use Rattle.model_rules.specs.FileView.{FileView, has_bit, may_raise_in}
-use Rattle.model_box.specs.Row.{Part, FsUids, FsGids, Groups, MappedUids, MappedGids, PermittedCaps, InheritableCaps, BoundingCaps, NewPrivs, Row, Standing, Fresh, space_under}
+use Rattle.model_box.specs.Row.{Part, FsUids, FsGids, Groups, MappedUids, MappedGids, PermittedCaps, InheritableCaps}
+use Rattle.model_box.specs.Row.{BoundingCaps, NewPrivs, Row, Standing, Fresh, space_under}
 
 -- the optional id is there, and is in the set
 abbrev pub IdIn : Option ℕ → (ℕ → Type 0) → Type 0

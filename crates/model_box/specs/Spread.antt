@@ -3,7 +3,8 @@ use Rattle.std.specs.Prelude.{◌≡◌, ◌⊎◌, ℕ, IsTrue, Some}
 use Rattle.cm_base.specs.CapSet.{holds, full}
 use Rattle.model_cred.specs.Space.{Spaces, is_at_or_above, space_of}
 use Rattle.model_rules.specs.Caps.{cap_setuid, cap_setgid, cap_sys_admin}
-use Rattle.model_box.specs.Row.{Part, EffectiveUids, EffectiveGids, MappedUids, MappedGids, PermittedCaps, InheritableCaps, BoundingCaps, RootCounts, LockClear, Row, Standing, Fresh, HasMembers}
+use Rattle.model_box.specs.Row.{Part, EffectiveUids, EffectiveGids, MappedUids, MappedGids, PermittedCaps}
+use Rattle.model_box.specs.Row.{InheritableCaps, BoundingCaps, RootCounts, LockClear, Row, Standing, Fresh, HasMembers}
 
 -- What the members of a row bring with them as newcomers to a space: their ids and groups, and whether they may lack
 -- no_new_privs; full permitted and bounding sets; no securebits.

@@ -1,5 +1,6 @@
 -- Id maps of user namespaces (user_namespaces(7), "User and group ID mappings: uid_map and gid_map").
-use Rattle.std.specs.Prelude.{◌≡◌, ℕ, ◌+◌, ◌-◌, ◌<◌, ◌≤◌, ◌==◌, ◌&&◌, Bool, true, false, nat_le, nat_lt, List, [], ◌∷◌, Option, Some, None, if◌then◌else◌, All, Any}
+use Rattle.std.specs.Prelude.{◌≡◌, ℕ, ◌+◌, ◌-◌, ◌<◌, ◌≤◌, ◌==◌, ◌&&◌, Bool, true, false, nat_le, nat_lt, List, [], ◌∷◌}
+use Rattle.std.specs.Prelude.{Option, Some, None, if◌then◌else◌, All, Any}
 use Rattle.cm_base.specs.Limits.{id_count}
 
 -- One line of a map: the ids from inside on, length many, stand for those from outside on.

@@ -1,5 +1,6 @@
 -- Processes and the state of the machine.
-use Rattle.std.specs.Prelude.{ℕ, ◌==◌, ◌<◌, ◌&&◌, Bool, not, nat_lt, nat_le, is_some, length, List, [], ◌∷◌, map, filter, Option, Some, None, if◌then◌else◌, All}
+use Rattle.std.specs.Prelude.{ℕ, ◌==◌, ◌<◌, ◌&&◌, Bool, not, nat_lt, nat_le, is_some, length, List, [], ◌∷◌, map}
+use Rattle.std.specs.Prelude.{filter, Option, Some, None, if◌then◌else◌, All}
 use Rattle.cm_base.specs.Limits.{last_pid}
 use Rattle.model_cred.specs.Credential.{Credential, Keeps}
 use Rattle.model_cred.specs.IdMap.{is_the}

@@ -1,5 +1,6 @@
 -- User namespaces (user_namespaces(7)), called spaces here.
-use Rattle.std.specs.Prelude.{◌≡◌, ℕ, ◌-◌, ◌==◌, ◌<◌, Bool, false, nat_lt, length, List, [], ◌∷◌, ◌++◌, Option, Some, None, find, unwrap_or, if◌then◌else◌, IsSomeAnd}
+use Rattle.std.specs.Prelude.{◌≡◌, ℕ, ◌-◌, ◌==◌, ◌<◌, Bool, false, nat_lt, length, List, [], ◌∷◌, ◌++◌, Option, Some}
+use Rattle.std.specs.Prelude.{None, find, unwrap_or, if◌then◌else◌, IsSomeAnd}
 use Rattle.std.specs.List.{list_any}
 use Rattle.model_cred.specs.Credential.{IsId}
 use Rattle.model_cred.specs.IdMap.{Extent, HasIds, extents_of, initial_map, is_the}

@@ -5,6 +5,7 @@ use Rattle.cm_base.specs.declared.errno.Errno.{Errno}
 use Rattle.cm_base.specs.declared.errno.Errno.TheVariants.{EAGAIN}
 use Rattle.cm_base.specs.declared.res.Res.{Res}
 use Rattle.cm_base.specs.declared.res.Res.TheVariants.{Done, Id, Child, Err}
+use Rattle.model_cred.proofs.Lookups.{pid_of_found}
 use Rattle.model_cred.specs.Call.{Call, Fork, CloneUser, Exit, Event}
 use Rattle.model_cred.specs.Credential.{Credential}
 use Rattle.model_cred.specs.Process.{Process, State, process_at, put_process, insert_process, without_process, is_alive, is_pid}
@@ -16,7 +17,7 @@ use Rattle.model_rules.specs.Namespaces.{clone_user}
 use Rattle.model_run.specs.Ruling.{Ruling, ruling, birth, birth_unless, reply_to, state_left, spaces_left, fork_child, clone_child}
 use Rattle.model_run.specs.Step.{Step, told_child, is_living_child}
 use Rattle.model_laws.proofs.Keeping.{told_is_new}
-use Rattle.model_laws.proofs.Refusals.{found_pid, put_same}
+use Rattle.model_laws.proofs.Refusals.{put_same}
 use Rattle.model_laws.proofs.Results.{IsRuled, reply_plain}
 use Rattle.model_laws.proofs.StepParts.{Stepped, Answers, stepped}
 
@@ -95,7 +96,7 @@ error_calls : (processes : List Process) (pid : ℕ) (p : Process) (call : Call)
 error_calls processes pid p call res e lives is = record {
   space = p.space;
   cred = p.cred;
-  processes = sym (put_same processes pid p (found_pid processes pid p lives) lives);
+  processes = sym (put_same processes pid p (pid_of_found processes pid p lives) lives);
   members = λ members n. ap (members_after members n call) is ∙ error_members call e members n;
   childless = subst IsChildless (sym is) tt;
 }
@@ -195,6 +196,6 @@ does w s e s' step =
     record {
       caller = parts.caller;
       lives = parts.lives;
-      named = found_pid s.processes e.pid parts.caller parts.lives;
+      named = pid_of_found s.processes e.pid parts.caller parts.lives;
       effect = effect_of w s e s' parts.caller parts.lives parts.child parts.answers;
     }

@@ -31,7 +31,7 @@ use Rattle.model_laws.proofs.Credentials.{good_capset, good_bset_drop, good_amb_
 use Rattle.model_laws.proofs.Credentials.{good_secure_bits, good_keep_caps, good_no_new_privs, good_unshare, good_join}
 use Rattle.model_laws.proofs.Credentials.{good_execve, keeps_newcomer}
 use Rattle.model_laws.proofs.Ids.{setresid_ids, setreid_ids, setid_ids}
-use Rattle.model_laws.proofs.Orders.{ascends_forth, ascends_back, ascends_put, ascends_insert, ascends_without, all_put, all_insert, all_without, all_found}
+use Rattle.model_cred.proofs.Orders.{ascends_forth, ascends_back, ascends_put, ascends_insert, ascends_without, all_put, all_insert, all_without, all_found}
 use Rattle.model_laws.proofs.StepParts.{Stepped, Answers, stepped}
 use Rattle.model_laws.proofs.Trees.{KeepsTree, keeps_space_of, keeps_created, GoodWrite, good_map, good_word}
 
@@ -186,12 +186,14 @@ keeps_without s p keeps = record {
 -- a birth, by the test for a pid
 keeps_birth : (s : State) (child : Process) (after : Spaces) (b : Bool) → KeepsState s
     → (b ≡ true → KeepsState (record { processes = insert_process child s.processes; spaces = after }))
-    → KeepsState (let r : Ruling = if b
-    then record {
+    → KeepsState (let r : Ruling
+    = if b then record {
       res = Child child.pid;
       state = record { processes = insert_process child s.processes; spaces = after };
-    }
-    else record { res = Err EAGAIN; state = s } in
+    } else record {
+      res = Err EAGAIN;
+      state = s;
+    } in
     r.state)
 keeps_birth s child after true keeps born = born refl
 keeps_birth s child after false keeps born = keeps

@@ -8,7 +8,7 @@ use Rattle.model_cred.specs.Process.{Process, State, process_at, put_process, in
 use Rattle.model_run.specs.Family.{Family, itself, child}
 use Rattle.model_laws.specs.Families.{ChainEnds, first, next, ChainsEnd}
 use Rattle.model_laws.proofs.Chains.{is_the_same, not_the, the_is}
-use Rattle.model_laws.proofs.Lookups.{at_put_same, at_put_other, at_insert_same, at_insert_other, at_without_gone, at_without_other}
+use Rattle.model_cred.proofs.Lookups.{at_put_same, at_put_other, at_insert_same, at_insert_other, at_without_gone, at_without_other}
 
 -- a test for something there
 pub there : (o : Option Process) → is_some o ≡ true → (p : Process) × (o ≡ Some p)
@@ -161,8 +161,9 @@ module _ (s s' : State) (gone : Process) (lives : process_at s.processes gone.pi
   was_there pid q at =
       elim (cases_eq pid gone.pid) [
         | inl same ↦
-            absurd (let none : process_at s'.processes pid ≡ None = ap (process_at s'.processes) same
-            ∙ ap (λ ps. process_at ps gone.pid) is ∙ at_without_gone gone s.processes in
+            absurd (let none : process_at s'.processes pid ≡ None
+            = ap (process_at s'.processes) same ∙ ap (λ ps. process_at ps gone.pid) is
+            ∙ at_without_gone gone s.processes in
             cc)
         | inr other ↦
             by (process_at s.processes pid) refl other

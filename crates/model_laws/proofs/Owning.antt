@@ -184,12 +184,14 @@ birth_again : (s : State) (child : Process) (after : Spaces) → (birth s child 
 birth_again s child after is = by (is_pid child.pid) is
   where
     by : (b : Bool)
-        → (let r : Ruling = if b
-        then record {
+        → (let r : Ruling
+        = if b then record {
           res = Child child.pid;
           state = record s { processes = insert_process child s.processes; spaces = after };
-        }
-        else record { res = Err EAGAIN; state = s } in
+        } else record {
+          res = Err EAGAIN;
+          state = s;
+        } in
         r).res
         ≡ Err EAGAIN
         → b ≡ false

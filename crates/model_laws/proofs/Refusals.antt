@@ -5,6 +5,7 @@ use Rattle.cm_base.specs.declared.errno.Errno.{Errno}
 use Rattle.cm_base.specs.declared.errno.Errno.TheVariants.{EAGAIN}
 use Rattle.cm_base.specs.declared.res.Res.{Res}
 use Rattle.cm_base.specs.declared.res.Res.TheVariants.{Done, Id, Child, Err}
+use Rattle.model_cred.proofs.Lookups.{pid_of_found}
 use Rattle.model_cred.specs.Call.{Call, Fork, CloneUser, Exit}
 use Rattle.model_cred.specs.Credential.{Credential}
 use Rattle.model_cred.specs.Process.{Process, State, process_at, put_process, insert_process, is_pid}
@@ -17,18 +18,6 @@ use Rattle.model_run.specs.Step.{told_child}
 use Rattle.model_laws.specs.Steps.{OneNextState, ErrorChangesNothing}
 use Rattle.model_laws.proofs.Results.{Kept, reply_plain}
 use Rattle.model_laws.proofs.StepParts.{Stepped, Answers, stepped}
-
--- the process that is found has the pid
-pub found_pid : (processes : List Process) (pid : ℕ) (p : Process) → process_at processes pid ≡ Some p → p.pid ≡ pid
-found_pid [] pid p is = absurd (cc)
-found_pid (q ∷ processes) pid p is =
-    elim (cases_Bool (q.pid == pid)) [
-      | inl same ↦
-          let it : Some q ≡ Some p = sym (cond-true (q.pid == pid) (Some q) (process_at processes pid) same) ∙ is in
-          let e : q ≡ p = cc in
-          ap (λ (x : Process). x.pid) (sym e) ∙ eqb-true q.pid pid same
-      | inr other ↦ found_pid processes pid p (sym (cond-false (q.pid == pid) (Some q) (process_at processes pid) other) ∙ is)
-    ]
 
 -- a process put in its own place changes nothing
 pub put_same : (processes : List Process) (pid : ℕ) (p : Process) → p.pid ≡ pid → process_at processes pid ≡ Some p → put_process p processes ≡ processes
@@ -52,7 +41,7 @@ same_state : (s : State) (pid : ℕ) (p : Process) (n : ℕ) (c : Credential) (s
     → n ≡ p.space → c ≡ p.cred → spaces ≡ s.spaces
     → record s { processes = put_process (record p { space = n; cred = c }) s.processes; spaces = spaces } ≡ s
 same_state s pid p n c spaces lives place cred same =
-    rw (place, cred, same) (ap (λ (ps : List Process). record s { processes = ps }) (put_same s.processes pid p (found_pid s.processes pid p lives) lives))
+    rw (place, cred, same) (ap (λ (ps : List Process). record s { processes = ps }) (put_same s.processes pid p (pid_of_found s.processes pid p lives) lives))
 
 pub record SafeRuling (s : State) (r : Ruling) : Type 0 where
   pub keeps : (e : Errno) → r.res ≡ Err e → r.state ≡ s

@@ -8,6 +8,7 @@ use Rattle.std.proofs.lemmas.List.Elements.{All-head, All-tail, All-nil, All-con
 use Rattle.cm_base.specs.Limits.{id_count}
 use Rattle.cm_base.specs.declared.errno.Errno.{Errno}
 use Rattle.cm_base.specs.declared.errno.Errno.TheVariants.{EPERM, EINVAL}
+use Rattle.model_cred.proofs.Spaces.{length_put}
 use Rattle.model_cred.specs.Credential.{Credential, Keeps}
 use Rattle.model_cred.specs.IdMap.{Extent, HasIds, extents_of}
 use Rattle.model_cred.specs.Space.{Space, Spaces, KeepsSpace, IsTree, space_of, no_space, put_space}
@@ -48,14 +49,6 @@ put_newest new t older n same = cond-true (n == length older) (new ∷ older) (t
 
 put_older : (new t : Space) (older : Spaces) (n : ℕ) → n ≢ length older → put_space n new (t ∷ older) ≡ t ∷ put_space n new older
 put_older new t older n other = cond-false (n == length older) (new ∷ older) (t ∷ put_space n new older) (ne_eqb n (length older) other)
-
-pub length_put : (n : ℕ) (new : Space) (spaces : Spaces) → length (put_space n new spaces) ≡ length spaces
-length_put n new [] = refl
-length_put n new (t ∷ older) =
-    elim (cases_eq n (length older)) [
-      | inl same ↦ ap length (put_newest new t older n same)
-      | inr other ↦ ap length (put_older new t older n other) ∙ ap suc (length_put n new older)
-    ]
 
 all_put : (n : ℕ) (new : Space) (spaces : Spaces) → KeepsSpace new → All KeepsSpace spaces → All KeepsSpace (put_space n new spaces)
 all_put n new [] keeps each = each

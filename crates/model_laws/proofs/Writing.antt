@@ -372,7 +372,8 @@ done_passed file spaces at c target list is =
   where
     last : (mapped : List Extent) (b : Bool)
         → (setfcap_allows file spaces at c (space_of spaces target) list && may_map file spaces at c (space_of spaces target) mapped) ≡ b
-        → (let x : Written = if b then write_done spaces target (with_map file (space_of spaces target) mapped)
+        → (let x : Written
+        = if b then write_done spaces target (with_map file (space_of spaces target) mapped)
         else write_refused EPERM spaces in
         x).res
         ≡ Done
@@ -382,7 +383,8 @@ done_passed file spaces at c target list is =
 
     by : (a b : Bool) (o : Option (List Extent)) → may_write file spaces at c target ≡ a → is_map list ≡ b
         → list_down (parent_map file spaces (space_of spaces target)) list ≡ o
-        → (let x : Written = if not a then write_refused EPERM spaces else if not b then write_refused EINVAL spaces
+        → (let x : Written
+        = if not a then write_refused EPERM spaces else if not b then write_refused EINVAL spaces
         else write_stored file spaces at c target list o in
         x).res
         ≡ Done
@@ -400,18 +402,20 @@ passed_done : (file : MapFile) (spaces : Spaces) (at : ℕ) (c : Credential) (ta
     → (write_map file spaces at c target list).res ≡ Done
 passed_done file spaces at c target list passed =
     ap (λ (a : Bool).
-    (let x : Written = if not a then write_refused EPERM spaces else if not (is_map list)
-    then write_refused EINVAL spaces
+    (let x : Written
+    = if not a then write_refused EPERM spaces else if not (is_map list) then write_refused EINVAL spaces
     else write_stored file spaces at c target list
     (list_down (parent_map file spaces (space_of spaces target)) list) in
     x).res) passed.may
     ∙ ap (λ (b : Bool).
-    (let x : Written = if not b then write_refused EINVAL spaces
+    (let x : Written
+    = if not b then write_refused EINVAL spaces
     else write_stored file spaces at c target list (list_down (parent_map file spaces (space_of spaces target)) list) in
     x).res) passed.valid
     ∙ ap (λ (o : Option (List Extent)). (write_stored file spaces at c target list o).res) passed.mapped_is
     ∙ ap (λ (b : Bool).
-    (let x : Written = if b then write_done spaces target (with_map file (space_of spaces target) passed.mapped)
+    (let x : Written
+    = if b then write_done spaces target (with_map file (space_of spaces target) passed.mapped)
     else write_refused EPERM spaces in
     x).res)
     (and_from (setfcap_allows file spaces at c (space_of spaces target) list)

@@ -2,7 +2,8 @@
 -- writing to uid_map and gid_map" and "The /proc/pid/setgroups file"). What is alike for the two maps is said once.
 -- `given` is the list that is written, its outside ids as the target's parent sees them; `stored` is that list as the
 -- target keeps it, its outside ids as the initial space sees them.
-use Rattle.std.specs.Prelude.{ℕ, ◌+◌, ◌-◌, ◌==◌, ◌&&◌, ◌||◌, Bool, true, false, not, is_none, nat_le, List, [], ◌∷◌, Option, None, Some, option_map, option_and_then, if◌then◌else◌}
+use Rattle.std.specs.Prelude.{ℕ, ◌+◌, ◌-◌, ◌==◌, ◌&&◌, ◌||◌, Bool, true, false, not, is_none, nat_le, List, [], ◌∷◌}
+use Rattle.std.specs.Prelude.{Option, None, Some, option_map, option_and_then, if◌then◌else◌}
 use Rattle.std.specs.List.{list_any}
 use Rattle.cm_base.specs.declared.errno.Errno.{Errno}
 use Rattle.cm_base.specs.declared.errno.Errno.TheVariants.{EPERM, EINVAL}

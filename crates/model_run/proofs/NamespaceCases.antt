@@ -76,12 +76,18 @@ at_level_31_one_is_made = refl
 -- clone_user: the child is in the new space, its parent stays where it was
 pub a_child_is_born_into_a_new_space : Leads world (one (user 1000))
     (gives 100 CloneUser (Child 101) ∷ [])
-    (record { processes = process 100 (user 1000) ∷ record (in_space 1 101 (newcomer 1000)) { forebear = Some 100 } ∷ []; spaces = new_space 0 1000 ∷ first_spaces })
+    (record {
+      processes = process 100 (user 1000) ∷ record (in_space 1 101 (newcomer 1000)) { forebear = Some 100 } ∷ [];
+      spaces = new_space 0 1000 ∷ first_spaces;
+    })
 a_child_is_born_into_a_new_space = refl
 
 -- without capabilities of its own, the parent has power over the space as its owner
 pub the_owner_has_power_over_it : process_holds
-    (record { processes = process 100 (user 1000) ∷ record (in_space 1 101 (newcomer 1000)) { forebear = Some 100 } ∷ []; spaces = new_space 0 1000 ∷ first_spaces })
+    (record {
+      processes = process 100 (user 1000) ∷ record (in_space 1 101 (newcomer 1000)) { forebear = Some 100 } ∷ [];
+      spaces = new_space 0 1000 ∷ first_spaces;
+    })
     100 (Cap 21 1) ≡ true
 the_owner_has_power_over_it = refl
 

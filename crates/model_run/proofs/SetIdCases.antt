@@ -6,7 +6,8 @@ use Rattle.cm_base.specs.Limits.{minus_one}
 use Rattle.cm_base.specs.declared.errno.Errno.TheVariants.{EPERM, EINVAL}
 use Rattle.cm_base.specs.declared.res.FileRef.TheVariants.{Plain}
 use Rattle.cm_base.specs.declared.res.Res.TheVariants.{Id, Child, Err}
-use Rattle.model_cred.specs.Call.{SetUid, SetReUid, SetResUid, SetFsUid, SetGid, SetReGid, SetResGid, SetFsGid, SetGroups, CapSet, KeepCaps, NoNewPrivs, Fork, Exec}
+use Rattle.model_cred.specs.Call.{SetUid, SetReUid, SetResUid, SetFsUid, SetGid, SetReGid, SetResGid, SetFsGid}
+use Rattle.model_cred.specs.Call.{SetGroups, CapSet, KeepCaps, NoNewPrivs, Fork, Exec}
 use Rattle.model_cred.specs.Credential.{Credential, FourIds, all_four}
 use Rattle.model_cred.specs.Process.{State}
 use Rattle.model_cred.specs.Right.{Cap}
@@ -100,7 +101,8 @@ in_unmapped c = record { processes = in_space 1 100 c ∷ []; spaces = unmapped 
 pub an_unmapped_fs_id_is_answered_as_65534 : Leads world (in_unmapped (user 1000)) (gives 100 (SetFsUid 1000) (Id 65534) ∷ []) (in_unmapped (user 1000))
 an_unmapped_fs_id_is_answered_as_65534 = refl
 
-pub in_an_unwritten_map_no_id_can_be_given : IsRefused world (in_unmapped (record (user 1000) { effective = full; permitted = full })) 100 (SetResUid 1000 1000 1000) EINVAL
+pub in_an_unwritten_map_no_id_can_be_given : IsRefused world
+    (in_unmapped (record (user 1000) { effective = full; permitted = full })) 100 (SetResUid 1000 1000 1000) EINVAL
 in_an_unwritten_map_no_id_can_be_given = record { refused = refl; done = refl }
 
 pub in_an_unwritten_map_leaving_all_ids_is_done : Leads world (in_unmapped (user 1000))
@@ -202,7 +204,8 @@ pub an_unmapped_group_is_invalid : IsRefused world (in_small (record (user 10000
 an_unmapped_group_is_invalid = record { refused = refl; done = refl }
 
 -- where the map of groups isn't written, want of privilege comes first
-pub without_a_group_map_groups_are_refused : IsRefused world (in_unmapped (record (user 1000) { permitted = full; effective = full })) 100 (SetGroups (1 ∷ [])) EPERM
+pub without_a_group_map_groups_are_refused : IsRefused world
+    (in_unmapped (record (user 1000) { permitted = full; effective = full })) 100 (SetGroups (1 ∷ [])) EPERM
 without_a_group_map_groups_are_refused = record { refused = refl; done = refl }
 
 -- A daemon that is started by root, forks, and gives up all but one capability in its child; the worker that it runs in

@@ -4,6 +4,7 @@ use Rattle.std.proofs.Common.{◌≡◌, ℕ, ◌==◌, ◌||◌, Bool, true, fa
 use Rattle.std.proofs.lemmas.List.Elements.{All-nil, All-cons, All-head, All-tail, All-weaker}
 use Rattle.std.specs.Prelude.{codes, is_some, option_map}
 use Rattle.cm_base.specs.CapSet.{full, none}
+use Rattle.model_cred.proofs.Orders.{all_insert}
 use Rattle.model_cred.specs.Credential.{Credential, FourIds, all_four}
 use Rattle.model_cred.specs.Process.{Process, State, insert_process}
 use Rattle.model_cred.specs.Space.{first_spaces}
@@ -140,20 +141,10 @@ value_declared (Some (array rows)) ps is = rows_declared rows ps is
 value_declared (Some _) ps is = absurd (cc)
 
 -- the order of the processes changes nothing of it
-placed_all : (P : Process → Type 0) (p : Process) (ps : List Process) → All P (p ∷ ps) → All P (insert_process p ps)
-placed_all P p [] all = all
-placed_all P p (q ∷ ps) all =
-    elim (nat_lt p.pid q.pid) as (λ (b : Bool). All P (cond b (p ∷ q ∷ ps) (q ∷ insert_process p ps))) [
-      | true ↦ all
-      | false ↦
-          let rest : All P (q ∷ ps) = All-tail P p (q ∷ ps) all in
-          All-cons P q (insert_process p ps) (All-head P q ps rest) (placed_all P p ps (All-cons P p ps (All-head P p (q ∷ ps) all) (All-tail P q ps rest)))
-    ]
-
 pub in_order_all : (P : Process → Type 0) (ps : List Process) → All P ps → All P (in_order ps)
 in_order_all P [] all = all
 in_order_all P (p ∷ ps) all =
-    placed_all P p (in_order ps) (All-cons P p (in_order ps) (All-head P p ps all) (in_order_all P ps (All-tail P p ps all)))
+    all_insert P p (in_order ps) (All-head P p ps all) (in_order_all P ps (All-tail P p ps all))
 
 -- ---- the state that a world begins with
 -- The state has the initial space alone, and its processes are declared.

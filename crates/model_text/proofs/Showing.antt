@@ -4,11 +4,11 @@ use Rattle.std.proofs.lemmas.Bool.{cases_eq}
 use Rattle.std.specs.Option.{option_or}
 use Rattle.cm_base.specs.declared.res.Res.{Res}
 use Rattle.cm_base.specs.declared.res.Res.TheVariants.{Child}
+use Rattle.model_cred.proofs.Lookups.{pid_of_found, IsLike}
 use Rattle.model_cred.specs.Call.{Event}
 use Rattle.model_cred.specs.Process.{Process, State, process_at}
 use Rattle.model_cred.specs.World.{World}
 use Rattle.model_run.specs.Step.{Step}
-use Rattle.model_text.proofs.Processes.{pid_of_found, IsLike}
 use Rattle.model_text.proofs.StepFacts.{WasThere, others_were_there}
 use Rattle.model_text.specs.Laws.{Shows, last_credentials}
 use Rattle.model_text.specs.Line.{IsBuilt}
