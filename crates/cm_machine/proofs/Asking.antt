@@ -63,7 +63,7 @@ groups_back s c ids =
     mapped (Some ks) = refl
 
 -- the caller's credential is as before
-pub restored : (w : World) (s : State) (p : Process) (call : Call) (n : ℕ)
+restored : (w : World) (s : State) (p : Process) (call : Call) (n : ℕ)
     → undone_cred (change_by (call_of call) (ruling w s p (call_of call) n).res p.cred) (cred_after w s.spaces p (call_of call)) ≡ p.cred
 restored w s p (SetUid id) n = regrouped p.cred _ (uids_keep (space_of s.spaces p.space) p.cred _)
 restored w s p (SetReUid r e) n = regrouped p.cred _ (uids_keep (space_of s.spaces p.space) p.cred _)

@@ -1,5 +1,5 @@
 -- What is asked of the rules for a call of a process, and what becomes of what the call has changed.
-use Rattle.std.specs.Prelude.{◌≡◌, ℕ, false, List, [], Option, Some, slice_get, unwrap_or}
+use Rattle.std.specs.Prelude.{◌≡◌, ℕ, false, List, [], Option, Some, None, slice_get, unwrap_or, if◌then◌else◌}
 use Rattle.cm_base.specs.declared.res.Res.{Res}
 use Rattle.cm_base.specs.declared.res.Res.TheVariants.{Done, Child}
 use Rattle.cm_machine.specs.declared.change.Change.{Change}
@@ -7,7 +7,7 @@ use Rattle.cm_machine.specs.declared.change.Change.TheVariants as change
 use Rattle.cm_machine.specs.declared.ruling.Asked.{Asked}
 use Rattle.model_cred.specs.Call.{Call, SetGroups, Fork, Exit}
 use Rattle.model_cred.specs.Credential.{Credential}
-use Rattle.model_cred.specs.Process.{Process, State, is_alive, insert_process}
+use Rattle.model_cred.specs.Process.{Process, State, is_alive, is_pid, insert_process}
 use Rattle.model_cred.specs.Space.{Spaces}
 use Rattle.model_cred.specs.World.{World}
 use Rattle.model_rules.specs.Reply.{reply}
@@ -17,6 +17,10 @@ use Rattle.model_run.specs.Step.{told_child, told_rules}
 -- the number of a child's pid, 0 (which is no pid) where there is none
 abbrev pub pid_number : Option ℕ → ℕ
 pid_number child = unwrap_or child 0
+
+-- the pid of that number, if it is one
+abbrev pub pid_option : ℕ → Option ℕ
+pid_option n = if is_pid n then Some n else None
 
 -- the state of these processes and spaces
 abbrev pub state_of : List Process → Spaces → State
