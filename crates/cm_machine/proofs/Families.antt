@@ -154,7 +154,7 @@ pids_apart ps up i j h k apart same =
     elim (cases_order i j) [
       | inl equal ↦ apart equal
       | inr (inl before) ↦ let less : pid_at ps i < pid_at ps j = ascending ps up i j before k in absurd (omega arith)
-      | inr (inr behind) ↦ let less : pid_at ps j < pid_at ps i = ascending ps up j i behind h in absurd (omega arith)
+      | inr (inr later) ↦ let less : pid_at ps j < pid_at ps i = ascending ps up j i later h in absurd (omega arith)
     ]
 
 -- ---- marks

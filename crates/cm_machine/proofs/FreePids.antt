@@ -51,8 +51,8 @@ next_free ps n next is up first other = ap is_some (not_found ps next apart)
         elim (cases_order k n) [
           | inl same ↦ (other (omega arith)).1 (ap (pid_at ps) (sym same) ∙ here)
           | inr (inl before) ↦ let is_k : pid_at ps k ≡ k + 1 = first k before in absurd (omega arith)
-          | inr (inr behind) ↦
-              let rises : pid_at ps n < pid_at ps k = ascending ps up n k behind lt in
+          | inr (inr later) ↦
+              let rises : pid_at ps n < pid_at ps k = ascending ps up n k later lt in
               let least : n + 1 ≤ pid_at ps n = low (omega arith) in
               absurd (omega arith)
         ]
