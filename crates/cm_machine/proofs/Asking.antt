@@ -1,5 +1,6 @@
 -- What is asked of the rules: kept, what a call changes is what they give, and undone, nothing has changed.
-use Rattle.std.proofs.Common.{◌≡◌, ℕ, ◌<◌, ◌||◌, not, length, List, Bool, true, false, Option, Some, None, if◌then◌else◌, refl, sym, ◌∙◌, ap, subst, arith, get_or, slice_get, slice_set}
+use Rattle.std.proofs.Common.{◌≡◌, ℕ, ◌<◌, ◌||◌, not, length, List, Bool, true, false, Option, Some, None}
+use Rattle.std.proofs.Common.{if◌then◌else◌, refl, sym, ◌∙◌, ap, subst, arith, get_or, slice_get, slice_set}
 use Rattle.std.proofs.lemmas.List.{length-set, get_or-set_same}
 use Rattle.std.specs.Prelude.{nat_lt, is_none, Result, Ok, IfSome, OnErr}
 use Rattle.std.specs.declared.result.Result.TheVariants.{Err}
@@ -11,7 +12,7 @@ use Rattle.cm_base.specs.declared.res.Res.{Res}
 use Rattle.cm_base.specs.declared.res.Res.TheVariants as res
 use Rattle.cm_machine.proofs.Changing.{get_put, put_back, same_put, same_there, undone_is}
 use Rattle.cm_machine.proofs.Groups.{fs_fixed, gids_keep, uids_keep}
-use Rattle.cm_machine.specs.Asking.{IsAsked, IsFresh, pid_number, change_by, kept, undone, undone_cred}
+use Rattle.cm_machine.specs.Asking.{IsAsked, IsFresh, pid_number, change_by, cred_after, kept, undone, undone_cred}
 use Rattle.cm_machine.specs.declared.change.Change.{Change}
 use Rattle.cm_machine.specs.declared.ruling.Asked.{Asked}
 use Rattle.cm_state.proofs.Places.{get_of_at, pid_of_at, pid_of_put, put_ascends, put_at}
@@ -28,7 +29,7 @@ use Rattle.model_cred.specs.World.{World}
 use Rattle.model_rules.specs.Answer.{Answer, refused}
 use Rattle.model_rules.specs.SetGroups.{all_down, most_groups, setgroups, with_groups}
 use Rattle.model_rules.specs.SetId.{has_setgid}
-use Rattle.model_run.specs.Ruling.{Ruling, ruling, reply_to, fork_child, state_without, with_cred}
+use Rattle.model_run.specs.Ruling.{Ruling, ruling, fork_child, state_without, with_cred}
 
 -- a birth that is possible or not
 abbrev birth_if : Bool → ℕ → State → State → Ruling
@@ -46,7 +47,8 @@ born c n s after false = refl
 
 groups_back : (s : Space) (c : Credential) (ids : List ℕ) → undone_cred (change_by (model.SetGroups ids) (setgroups s c ids).res c) (setgroups s c ids).cred ≡ c
 groups_back s c ids =
-    cond_both (not (has_setgid c) || is_none s.gids || s.deny) (refused EPERM c) (if nat_lt most_groups (length ids) then refused EINVAL c else with_groups c o) P
+    cond_both (not (has_setgid c) || is_none s.gids || s.deny) (refused EPERM c)
+    (if nat_lt most_groups (length ids) then refused EINVAL c else with_groups c o) P
     (λ _. refl)
     (λ _. cond_both (nat_lt most_groups (length ids)) (refused EINVAL c) (with_groups c o) P (λ _. refl) (λ _. mapped o))
   where
@@ -61,8 +63,8 @@ groups_back s c ids =
     mapped (Some ks) = refl
 
 -- the caller's credential is as before
-pub restored : (w : World) (s : State) (p : Process) (call : Call) (n : ℕ)
-    → undone_cred (change_by (call_of call) (ruling w s p (call_of call) n).res p.cred) (reply_to w s p (call_of call)).cred ≡ p.cred
+restored : (w : World) (s : State) (p : Process) (call : Call) (n : ℕ)
+    → undone_cred (change_by (call_of call) (ruling w s p (call_of call) n).res p.cred) (cred_after w s.spaces p (call_of call)) ≡ p.cred
 restored w s p (SetUid id) n = regrouped p.cred _ (uids_keep (space_of s.spaces p.space) p.cred _)
 restored w s p (SetReUid r e) n = regrouped p.cred _ (uids_keep (space_of s.spaces p.space) p.cred _)
 restored w s p (SetResUid r e v) n = regrouped p.cred _ (uids_keep (space_of s.spaces p.space) p.cred _)
@@ -90,8 +92,8 @@ grouped_kept ids c (res.Err e) q t = refl
 
 -- the state is the one that the rules give
 kept_is : (w : World) (s : State) (p : Process) (call : Call) (n : ℕ) → with_cred s p p.cred ≡ s
-    → kept (change_by (call_of call) (ruling w s p (call_of call) n).res p.cred) (record p { cred = (reply_to w s p (call_of call)).cred })
-    (with_cred s p (reply_to w s p (call_of call)).cred)
+    → kept (change_by (call_of call) (ruling w s p (call_of call) n).res p.cred) (record p { cred = cred_after w s.spaces p (call_of call) })
+    (with_cred s p (cred_after w s.spaces p (call_of call)))
     ≡ (ruling w s p (call_of call) n).state
 kept_is w s p (SetGroups ids) n same = grouped_kept ids p.cred (setgroups (space_of s.spaces p.space) p.cred ids).res _ _
 kept_is w s p Fork n same =
@@ -129,7 +131,7 @@ grouped_fresh ids c (res.Err e) processes = tt
 
 -- it has a pid that isn't alive
 fresh_is : (w : World) (s : State) (p : Process) (call : Call) (n : ℕ) → with_cred s p p.cred ≡ s → (is_pid n ≡ true → is_alive s.processes n ≡ false)
-    → IsFresh (change_by (call_of call) (ruling w s p (call_of call) n).res p.cred) (with_cred s p (reply_to w s p (call_of call)).cred).processes
+    → IsFresh (change_by (call_of call) (ruling w s p (call_of call) n).res p.cred) (with_cred s p (cred_after w s.spaces p (call_of call))).processes
 fresh_is w s p (SetGroups ids) n same free = grouped_fresh ids p.cred (setgroups (space_of s.spaces p.space) p.cred ids).res _
 fresh_is w s p Fork n same free =
     born_fresh (with_cred s p p.cred).processes n s (record s { processes = insert_process (fork_child p n) s.processes }) p.cred (is_pid n)
@@ -152,7 +154,7 @@ module _ (w : World) (s : State) (call : Call) (child : Option ℕ) (at : ℕ) (
   given = ruling w s old k (pid_number child)
 
   abbrev leaves : Credential
-  leaves = (reply_to w s old k).cred
+  leaves = cred_after w s.spaces old k
 
   abbrev after : State
   after = record s { processes = slice_set s.processes at new }
@@ -195,7 +197,8 @@ module _ (w : World) (s : State) (call : Call) (child : Option ℕ) (at : ℕ) (
   }
 
   -- it was asked of the rules
-  pub asked_is : (r : Result Asked NoMemory) → OrNoMemory r (λ asked. asked.res ≡ given.res) → OrNoMemory r (λ asked. asked.change ≡ change_by k asked.res old.cred)
+  pub asked_is : (r : Result Asked NoMemory) → OrNoMemory r (λ asked. asked.res ≡ given.res)
+      → OrNoMemory r (λ asked. asked.change ≡ change_by k asked.res old.cred)
       → OrNoMemory r (λ _. new.cred ≡ leaves)
       → OrNoMemory r (λ asked. (p : Process) → slice_get s.processes at ≡ Some p → IsAsked asked at after s (ruling w s p k (pid_number child)))
   asked_is (Ok asked) answers change cred = λ p there.

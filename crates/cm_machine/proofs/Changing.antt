@@ -1,5 +1,6 @@
 -- A process that is changed at its place, and one that comes to the others.
-use Rattle.std.proofs.Common.{Result, Ok, Err, ◌≡◌, ℕ, zero, suc, ◌<◌, length, List, [], ◌∷◌, Some, refl, sym, ◌∙◌, ap, arith, subst, get_or, slice_get, slice_set}
+use Rattle.std.proofs.Common.{Result, Ok, Err, ◌≡◌, ℕ, zero, suc, ◌<◌, length, List, [], ◌∷◌, Some, refl, sym, ◌∙◌}
+use Rattle.std.proofs.Common.{ap, arith, subst, get_or, slice_get, slice_set}
 use Rattle.std.specs.Prelude.{All, IfOk, OnErr}
 use Rattle.std.proofs.lemmas.List.{set-get_or}
 use Rattle.std.proofs.lemmas.List.Elements.{All-set, All-get_or}
@@ -34,7 +35,8 @@ same_there ps at old p h is there = let here : Some old ≡ Some p = sym (get_of
 pub cred_put : (s : State) (at : ℕ) (old : Process) (c : Credential) → Ascends s.processes → at < length s.processes → old ≡ get_or s.processes at old
     → record s { processes = slice_set s.processes at (record old { cred = c }) } ≡ with_cred s old c
 cred_put s at old c up h is =
-    ap (λ (ps : List Process). record s { processes = ps }) (sym (put_at s.processes at (record old { cred = c }) up h (sym (pid_of_at s.processes at old h is))))
+    ap (λ (ps : List Process). record s { processes = ps })
+    (sym (put_at s.processes at (record old { cred = c }) up h (sym (pid_of_at s.processes at old h is))))
 
 -- with the credential that it has the state is as it was
 pub same_put : (s : State) (at : ℕ) (old : Process) → Ascends s.processes → at < length s.processes → old ≡ get_or s.processes at old

@@ -1,5 +1,7 @@
 -- Chains of forebears, walked by places, and the marks of what they reach.
-use Rattle.std.proofs.Common.{Result, Ok, Err, ◌≡◌, ◌≢◌, ℕ, zero, suc, ◌<◌, ◌+◌, ◌==◌, ◌||◌, Bool, true, false, length, List, [], ◌∷◌, ◌++◌, map, filter, take, Option, Some, None, refl, sym, ◌∙◌, ap, subst, inl, inr, arith, get_or, slice_get, slice_set, get_or-set_same, get_or-set_other}
+use Rattle.std.proofs.Common.{Result, Ok, Err, ◌≡◌, ◌≢◌, ℕ, zero, suc, ◌<◌, ◌+◌, ◌==◌, ◌||◌, Bool, true, false}
+use Rattle.std.proofs.Common.{length, List, [], ◌∷◌, ◌++◌, map, filter, take, Option, Some, None, refl, sym, ◌∙◌, ap}
+use Rattle.std.proofs.Common.{subst, inl, inr, arith, get_or, slice_get, slice_set, get_or-set_same, get_or-set_other}
 use Rattle.std.proofs.Math.Seq.{take-suc}
 use Rattle.std.proofs.lemmas.Bool.{cases_Bool, cases_eq, cases_order, eq-eqb, ne_eqb, false_from_ne_true, or_left, cond-true, cond-false}
 use Rattle.std.proofs.lemmas.List.{length-set, append-nil}
@@ -18,13 +20,15 @@ use Rattle.model_run.specs.Family.{family, forebear_in, forebear_of, reaches, re
 -- ---- chains
 
 -- more steps than there are processes reach no more
-saturated : (k : ℕ) (s : State) (root pid : ℕ) → is_alive s.processes root ≡ true → reaches_within (k + length s.processes) s root (Some pid) ≡ reaches s root pid
+saturated : (k : ℕ) (s : State) (root pid : ℕ) → is_alive s.processes root ≡ true
+    → reaches_within (k + length s.processes) s root (Some pid) ≡ reaches s root pid
 saturated k s root pid alive =
     elim (cases_Bool (reaches s root pid)) [
       | inl is ↦ reaches_plus k (length s.processes) s root pid is ∙ sym is
       | inr isnt ↦
           false_from_ne_true (reaches_within (k + length s.processes) s root (Some pid))
-          (λ is. let soon : reaches s root pid ≡ true = reaches_soon (k + length s.processes) s root pid alive is in let wrong : true ≡ false = sym soon ∙ isnt in cc)
+          (λ is. let soon : reaches s root pid ≡ true = reaches_soon
+          (k + length s.processes) s root pid alive is in let wrong : true ≡ false = sym soon ∙ isnt in cc)
           ∙ sym isnt
     ]
 
@@ -43,7 +47,8 @@ Leads s root start here k = (n : ℕ) → reaches_within (k + n) s root (Some st
 pub leads_first : (s : State) (root start : ℕ) → Leads s root start start 0
 leads_first s root start n = let e : 0 + n ≡ n = omega arith in ap (λ (m : ℕ). reaches_within m s root (Some start)) e
 
-pub leads_next : (s : State) (root start here next k : ℕ) → Leads s root start here k → here ≢ root → forebear_of s here ≡ Some next → Leads s root start next (k + 1)
+pub leads_next : (s : State) (root start here next k : ℕ) → Leads s root start here k → here ≢ root
+    → forebear_of s here ≡ Some next → Leads s root start next (k + 1)
 leads_next s root start here next k leads apart up n =
     let e : k + 1 + n ≡ k + suc n = omega arith in
     ap (λ (m : ℕ). reaches_within m s root (Some start)) e ∙ leads (suc n) ∙ apart_step n s root here apart ∙ ap (reaches_within n s root) up
@@ -61,9 +66,11 @@ leads_far s root start here k leads apart =
 -- one step of the chain
 pub forebear_same : (s : State) (root pid forebear : ℕ) → is_alive s.processes root ≡ true → pid ≢ root → forebear_of s pid ≡ Some forebear
     → reaches s root pid ≡ reaches s root forebear
-forebear_same s root pid forebear alive apart up = leads_same s root pid forebear (0 + 1) alive (leads_next s root pid pid forebear 0 (leads_first s root pid) apart up)
+forebear_same s root pid forebear alive apart up = leads_same s root pid forebear (0 + 1) alive
+    (leads_next s root pid pid forebear 0 (leads_first s root pid) apart up)
 
-dead_reaches : (n : ℕ) (s : State) (root pid : ℕ) → is_alive s.processes root ≡ true → is_alive s.processes pid ≡ false → reaches_within n s root (Some pid) ≡ false
+dead_reaches : (n : ℕ) (s : State) (root pid : ℕ) → is_alive s.processes root ≡ true
+    → is_alive s.processes pid ≡ false → reaches_within n s root (Some pid) ≡ false
 dead_reaches n s root pid alive dead = by n
   where
     apart : pid ≢ root
@@ -119,14 +126,16 @@ place_pid (p ∷ ps) at pid h is =
         pid_there (r' ∷ rs) (suc j) r here = pid_there rs j r here
 
 -- the place of the forebear, where one is found
-pub up_found : (s : State) (at f : ℕ) (p : Process) (r : Option ℕ) → Ascends s.processes → at < length s.processes → p ≡ get_or s.processes at p → p.forebear ≡ Some f
+pub up_found : (s : State) (at f : ℕ) (p : Process) (r : Option ℕ) → Ascends s.processes → at < length s.processes
+    → p ≡ get_or s.processes at p → p.forebear ≡ Some f
     → IfSome r (λ up. (up < length s.processes) × (slice_get s.processes up ≡ process_at s.processes f))
     → IfSome r (λ up. (up < length s.processes) × (forebear_of s (pid_at s.processes at) ≡ Some (pid_at s.processes up)))
 up_found s at f p None up h is has found = tt
 up_found s at f p (Some next) up h is has found =
     (found.0, forebear_at s at p up h is ∙ has ∙ ap Some (sym (place_pid s.processes next f found.0 found.1)))
 
-pub up_none : (s : State) (at f : ℕ) (p : Process) (r : Option ℕ) → Ascends s.processes → at < length s.processes → p ≡ get_or s.processes at p → p.forebear ≡ Some f
+pub up_none : (s : State) (at f : ℕ) (p : Process) (r : Option ℕ) → Ascends s.processes → at < length s.processes
+    → p ≡ get_or s.processes at p → p.forebear ≡ Some f
     → IfNone r (process_at s.processes f ≡ None)
     → IfNone r ((g : ℕ) → forebear_of s (pid_at s.processes at) ≡ Some g → is_alive s.processes g ≡ false)
 up_none s at f p None up h is has none = λ g is_g.
@@ -145,7 +154,7 @@ pids_apart ps up i j h k apart same =
     elim (cases_order i j) [
       | inl equal ↦ apart equal
       | inr (inl before) ↦ let less : pid_at ps i < pid_at ps j = ascending ps up i j before k in absurd (omega arith)
-      | inr (inr behind) ↦ let less : pid_at ps j < pid_at ps i = ascending ps up j i behind h in absurd (omega arith)
+      | inr (inr later) ↦ let less : pid_at ps j < pid_at ps i = ascending ps up j i later h in absurd (omega arith)
     ]
 
 -- ---- marks
@@ -164,7 +173,8 @@ marks_with s root marks at mark are h holds = record {
   each = λ k lt. elim (cases_eq k at) [
     | inl same ↦
         let within : at < length marks = omega (arith, are.count) in
-        let here : get_or (slice_set marks at mark) k None ≡ mark = ap (λ (j : ℕ). get_or (slice_set marks at mark) j None) same ∙ get_or-set_same marks at mark None within in
+        let here : get_or (slice_set marks at mark) k None ≡ mark
+        = ap (λ (j : ℕ). get_or (slice_set marks at mark) j None) same ∙ get_or-set_same marks at mark None within in
         subst (HoldsMark s root (pid_at s.processes k)) (sym here) (subst (λ (j : ℕ). HoldsMark s root (pid_at s.processes j) mark) (sym same) holds)
     | inr other ↦ subst (HoldsMark s root (pid_at s.processes k)) (sym (get_or-set_other marks at k mark None other)) (are.each k lt)
   ];

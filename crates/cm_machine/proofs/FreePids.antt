@@ -1,17 +1,15 @@
 -- The least pid that isn't alive, found by going through the pids as they ascend.
-use Rattle.std.proofs.Common.{◌≡◌, ◌≢◌, ℕ, zero, suc, ◌<◌, ◌≤◌, ◌+◌, ◌-◌, ◌==◌, true, false, length, List, [], ◌∷◌, Option, Some, None, refl, sym, ◌∙◌, ap, inl, inr, arith}
+use Rattle.std.proofs.Common.{◌≡◌, ◌≢◌, ℕ, zero, suc, ◌<◌, ◌≤◌, ◌+◌, ◌-◌, ◌==◌, true, false, length, List, [], ◌∷◌}
+use Rattle.std.proofs.Common.{Option, Some, None, refl, sym, ◌∙◌, ap, inl, inr, arith}
 use Rattle.std.specs.Prelude.{nat_le, is_some, SomeIff}
 use Rattle.std.proofs.lemmas.Bool.{cases_Bool, cases_order, cases_lt, cond-true, cond-false, eq-eqb, le-leb, leb-true, and_parts, and_from}
-use Rattle.cm_base.specs.declared.errno.Errno.TheVariants.{EAGAIN}
-use Rattle.cm_base.specs.declared.res.Res.TheVariants.{Child, Err}
-use Rattle.cm_machine.specs.Births.{pid_option}
+use Rattle.cm_machine.specs.Asking.{pid_option}
 use Rattle.cm_state.proofs.Places.{ascending, not_found}
 use Rattle.cm_state.specs.Places.{pid_at}
 use Rattle.model_cred.specs.Process.{Process, State, Ascends, process_at, is_alive, is_pid, insert_process}
 use Rattle.model_laws.proofs.Pids.{free_is_least}
 use Rattle.model_laws.specs.Owns.{IsLeastFree}
-use Rattle.model_run.specs.Ruling.{Ruling, birth, fork_child, free_pid}
-use Rattle.model_run.specs.Same.{same_res}
+use Rattle.model_run.specs.Ruling.{free_pid}
 
 -- who stands at a place is alive
 pub alive_at : (ps : List Process) (i pid : ℕ) → i < length ps → pid_at ps i ≡ pid → is_alive ps pid ≡ true
@@ -53,8 +51,8 @@ next_free ps n next is up first other = ap is_some (not_found ps next apart)
         elim (cases_order k n) [
           | inl same ↦ (other (omega arith)).1 (ap (pid_at ps) (sym same) ∙ here)
           | inr (inl before) ↦ let is_k : pid_at ps k ≡ k + 1 = first k before in absurd (omega arith)
-          | inr (inr behind) ↦
-              let rises : pid_at ps n < pid_at ps k = ascending ps up n k behind lt in
+          | inr (inr later) ↦
+              let rises : pid_at ps n < pid_at ps k = ascending ps up n k later lt in
               let least : n + 1 ≤ pid_at ps n = low (omega arith) in
               absurd (omega arith)
         ]
@@ -111,13 +109,3 @@ free_option s n o low before free is =
     none : (q : Option ℕ) → SomeIff q ((1 ≤ n) × (n ≤ 4194304)) n → 4194304 < n → q ≡ None
     none None nothing past = refl
     none (Some m) found past = let within : n ≤ 4194304 = found.0.1 in absurd (omega arith)
-
--- the birth of a child whose pid is one
-pub born : (s after : State) (p : Process) (pid : ℕ) → is_pid pid ≡ true → after ≡ record s { processes = insert_process (fork_child p pid) s.processes }
-    → (same_res (Child pid) (birth s (fork_child p pid) s.spaces).res ≡ true) × (after ≡ (birth s (fork_child p pid) s.spaces).state)
-born s after p pid a_pid is =
-    let child : Ruling = record { res = Child pid; state = record s { processes = insert_process (fork_child p pid) s.processes } } in
-    let all : birth s (fork_child p pid) s.spaces ≡ child = cond-true (is_pid pid) child (record { res = Err EAGAIN; state = s }) a_pid in (
-      ap (λ (r : Ruling). same_res (Child pid) r.res) all ∙ eq-eqb pid pid refl,
-      is ∙ sym (ap (λ (r : Ruling). r.state) all),
-    )

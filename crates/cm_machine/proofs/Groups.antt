@@ -77,7 +77,7 @@ pub record MovesGroups (s : Space) (c before new after : Credential) (groups ids
   pub back : (res ≡ Done → ⊥) → after ≡ regrouped new c.groups
 
 -- it is setgroups
-pub moved_res : (s : Space) (c before new after : Credential) (groups ids : List ℕ) (res : Res) → MovesGroups s c before new after groups ids res
+moved_res : (s : Space) (c before new after : Credential) (groups ids : List ℕ) (res : Res) → MovesGroups s c before new after groups ids res
     → res ≡ (setgroups s c ids).res
 moved_res s c before new after groups ids res moves =
     moves.answers ∙ ap (λ (k : Credential). (setgroups s k ids).res) moves.out ∙ (alike s c groups ids).res

@@ -1,15 +1,14 @@
 // Births by fork(2), or clone(2) without CLONE_NEWUSER.
 ghost use Rattle.std.specs.Prelude.{◌≡◌, ◌<◌, length, List, slice_get, Some, false, IfSome};
 ghost use Rattle.cm_base.specs.Outcome.{OrNoMemory, UnchangedOnErr};
-ghost use Rattle.cm_machine.specs.Asking.{Serves, change_by, pid_number};
+ghost use Rattle.cm_machine.specs.Asking.{GivesOwn, GivesTold, OfCaller, born, change_by, pid_number, state_of};
 ghost use Rattle.cm_state.specs.Call.{call_of};
 ghost use Rattle.model_cred.specs.Call.{Fork};
 ghost use Rattle.model_cred.specs.Credential.{Credential};
-ghost use Rattle.model_cred.specs.Process.{Process, State, Ascends, is_alive, insert_process};
+ghost use Rattle.model_cred.specs.Process.{Process, Ascends, is_alive};
 ghost use Rattle.model_cred.specs.Space.{Spaces};
-ghost use Rattle.model_cred.specs.World.{World};
 ghost use Rattle.model_run.specs.Outside.{comes_from_outside};
-ghost use Rattle.model_run.specs.Ruling.{birth as model_birth, fork_child, own, ruling};
+ghost use Rattle.model_run.specs.Ruling.{birth as model_birth, fork_child};
 ghost use Rattle.model_run.specs.Step.{is_living_child};
 
 use crate::change::Change;
@@ -23,7 +22,7 @@ use std::alloc::Global;
 /// where all are, and for any other call, which looks at no pid.
 pub(crate) fn own_pid(procs: &Procs, call: &Call) -> Option<Pid>
     requires { Ascends procs.now }
-    ensures own { (w : World) (spaces : Spaces) (p : Process) → ruling w (record { processes = procs.now; spaces = spaces }) p (call_of call.now) (pid_number result) ≡ own w (record { processes = procs.now; spaces = spaces }) p (call_of call.now) }
+    ensures own { GivesOwn procs.now (call_of call.now) (pid_number result) }
     ensures free { IfSome result (λ pid. is_alive procs.now pid ≡ false) }
 {
     match call {
@@ -39,7 +38,7 @@ pub(crate) fn told_pid(procs: &Procs, call: &Call, told: &Res) -> Option<Pid>
     requires ascends { Ascends procs.now }
     requires fresh { is_living_child procs.now told.now ≡ false }
     requires inside { comes_from_outside (call_of call.now) told.now ≡ false }
-    ensures serves { (w : World) (spaces : Spaces) (p : Process) → Serves w (record { processes = procs.now; spaces = spaces }) p (call_of call.now) told.now (pid_number result) }
+    ensures told { GivesTold procs.now (call_of call.now) told.now (pid_number result) }
     ensures free { IfSome result (λ pid. is_alive procs.now pid ≡ false) }
 {
     match told {
@@ -55,7 +54,8 @@ pub(crate) fn told_pid(procs: &Procs, call: &Call, told: &Res) -> Option<Pid>
 /// still to be born.
 #[inline]
 pub(crate) fn birth(child: Option<Pid>) -> Asked
-    ensures res { (processes : List Process) (spaces : Spaces) (p : Process) → result.res ≡ (model_birth (record { processes = processes; spaces = spaces }) (fork_child p (pid_number child)) spaces).res }
+    ensures res { (processes : List Process) (spaces : Spaces) (p : Process) →
+        result.res ≡ (model_birth (state_of processes spaces) (fork_child p (pid_number child)) spaces).res }
     ensures change { (c : Credential) → result.change ≡ change_by Fork result.res c }
 {
     match child {
@@ -77,7 +77,7 @@ pub(crate) fn birth(child: Option<Pid>) -> Asked
 pub(crate) fn fork_as(alloc: Global, state: &mut State, at: usize, pid: Pid) -> Result<(), NoMemory>
     requires here { at < length state.old.processes }
     requires fresh { is_alive state.old.processes pid ≡ false }
-    ensures born { OrNoMemory result (λ _. (p : Process) → slice_get state.old.processes at ≡ Some p → state.new ≡ record state.old { processes = insert_process (fork_child p pid) state.old.processes }) }
+    ensures born { OrNoMemory result (λ _. OfCaller state.old at (λ p. state.new ≡ born state.old p pid)) }
     ensures unchanged { UnchangedOnErr result state.new state.old }
 {
     let child = child_at(alloc, &state.procs, at, pid)?;

@@ -1,6 +1,7 @@
 // The exit of a process (_exit(2)): its children take over its forebear (choice).
-ghost use Rattle.std.specs.Prelude.{◌≡◌, ◌<◌, length, slice_get, Some, map};
-ghost use Rattle.model_cred.specs.Process.{Process, after_exit};
+ghost use Rattle.std.specs.Prelude.{◌≡◌, ◌<◌, length, map};
+ghost use Rattle.cm_machine.specs.Asking.{OfCaller};
+ghost use Rattle.model_cred.specs.Process.{after_exit};
 ghost use Rattle.model_run.specs.Ruling.{state_without};
 
 use cm_state::{Proc, Procs, State};
@@ -8,7 +9,7 @@ use cm_state::{Proc, Procs, State};
 /// The exit of the process at this place.
 pub(crate) fn exit(state: &mut State, at: usize)
     requires { at < length state.old.processes }
-    ensures { (p : Process) → slice_get state.old.processes at ≡ Some p → state.new ≡ state_without state.old p }
+    ensures { OfCaller state.old at (λ p. state.new ≡ state_without state.old p) }
 {
     let gone = state.procs.remove(at);
     hand_over(&mut state.procs, &gone);

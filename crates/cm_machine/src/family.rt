@@ -2,7 +2,7 @@
 // that is known to be of the family or not, and what was found is marked along it.
 ghost use Rattle.std.specs.Prelude.{◌≡◌, ◌<◌, ℕ, Bool, Option, None, Some, filter, map, length, IfSome, IfNone, IfOk, false};
 ghost use Rattle.cm_base.specs.Outcome.{OrNoMemory};
-ghost use Rattle.cm_machine.specs.Marks.{AreMarks};
+ghost use Rattle.cm_machine.specs.Marks.{AreMarks, HasNoForebearAt, IsForebearAt, reaching, reaches_at};
 ghost use Rattle.cm_state.specs.Places.{pid_at};
 ghost use Rattle.model_cred.specs.Process.{is_alive};
 ghost use Rattle.model_run.specs.Family.{family, reaches, forebear_of};
@@ -24,7 +24,7 @@ pub(crate) fn family_of(alloc: Global, state: &State, root: Pid) -> Result<Vec<P
 // The processes whose chain of forebears reaches the one at this place.
 fn members(alloc: Global, state: &State, root: usize) -> Result<Vec<Pid>, NoMemory>
     requires { root < length state.now.processes }
-    ensures { OrNoMemory result (λ pids. pids.items ≡ filter (reaches state.now (pid_at state.now.processes root)) (map (λ p. p.pid) state.now.processes)) }
+    ensures { OrNoMemory result (λ pids. pids.items ≡ reaching state.now (pid_at state.now.processes root)) }
 {
     let mut marks = first_marks(alloc, state, root)?;
     collect(alloc, state, &mut marks)
@@ -33,7 +33,8 @@ fn members(alloc: Global, state: &State, root: usize) -> Result<Vec<Pid>, NoMemo
 // The processes that reach the root of the marks.
 fn collect(alloc: Global, state: &State, marks: &mut [Option<bool>]) -> Result<Vec<Pid>, NoMemory>
     requires { length marks.old ≡ length state.now.processes }
-    ensures { OrNoMemory result (λ pids. (root : ℕ) → AreMarks state.now root marks.old → pids.items ≡ filter (reaches state.now root) (map (λ p. p.pid) state.now.processes)) }
+    ensures { OrNoMemory result (λ pids.
+        (root : ℕ) → AreMarks state.now root marks.old → pids.items ≡ reaching state.now root) }
 {
     let mut pids = Vec::new(alloc);
     for at in 0..marks.len() {
@@ -65,7 +66,7 @@ fn unmarked(alloc: Global, list: &[Proc]) -> Result<Vec<Option<bool>>, NoMemory>
 fn mark(state: &State, marks: &mut [Option<bool>], at: usize) -> bool
     requires here { at < length state.now.processes }
     requires count { length marks.old ≡ length state.now.processes }
-    ensures reached { (root : ℕ) → AreMarks state.now root marks.old → result ≡ reaches state.now root (pid_at state.now.processes at) }
+    ensures reached { (root : ℕ) → AreMarks state.now root marks.old → result ≡ reaches_at state.now root at }
     ensures marks { (root : ℕ) → AreMarks state.now root marks.old → AreMarks state.now root marks.new }
 {
     let reached = look(state, marks, at);
@@ -77,7 +78,7 @@ fn mark(state: &State, marks: &mut [Option<bool>], at: usize) -> bool
 fn look(state: &State, marks: &[Option<bool>], at: usize) -> bool
     requires here { at < length state.now.processes }
     requires count { length marks.now ≡ length state.now.processes }
-    ensures { (root : ℕ) → AreMarks state.now root marks.now → result ≡ reaches state.now root (pid_at state.now.processes at) }
+    ensures { (root : ℕ) → AreMarks state.now root marks.now → result ≡ reaches_at state.now root at }
 {
     let mut here = at;
     for _step in 0..marks.len() + 1 {
@@ -96,7 +97,7 @@ fn look(state: &State, marks: &[Option<bool>], at: usize) -> bool
 fn spread(state: &State, marks: &mut [Option<bool>], at: usize, reached: bool)
     requires here { at < length state.now.processes }
     requires count { length marks.old ≡ length state.now.processes }
-    ensures { (root : ℕ) → AreMarks state.now root marks.old → reached ≡ reaches state.now root (pid_at state.now.processes at) → AreMarks state.now root marks.new }
+    ensures { (root : ℕ) → AreMarks state.now root marks.old → reached ≡ reaches_at state.now root at → AreMarks state.now root marks.new }
 {
     let mut here = at;
     for _step in 0..marks.len() {
@@ -114,8 +115,8 @@ fn spread(state: &State, marks: &mut [Option<bool>], at: usize, reached: bool)
 // The place of the forebear of the process at this place. None where it has none, or none that is alive.
 fn forebear_place(state: &State, at: usize) -> Option<usize>
     requires { at < length state.now.processes }
-    ensures found { IfSome result (λ up. (up < length state.now.processes) × (forebear_of state.now (pid_at state.now.processes at) ≡ Some (pid_at state.now.processes up))) }
-    ensures none { IfNone result ((forebear : ℕ) → forebear_of state.now (pid_at state.now.processes at) ≡ Some forebear → is_alive state.now.processes forebear ≡ false) }
+    ensures found { IfSome result (λ up. (up < length state.now.processes) × IsForebearAt state.now at up) }
+    ensures none { IfNone result (HasNoForebearAt state.now at) }
 {
     let procs = &state.procs;
     let p = &procs.list[at];

@@ -14,7 +14,6 @@ mod own;
 mod pids;
 mod ruling;
 mod same;
-mod saving;
 mod step;
 
 pub use error::StepError;

@@ -67,7 +67,8 @@ impl Machine {
     ) -> Result<Res, StepError>
         ensures makes { IfOk result (λ res. IsOwn (world_of w.now) self.old.state pid (call_of call.now) res self.new.state) }
         ensures no_process { result ≡ Err StepError.NoProcess → process_at self.old.state.processes pid ≡ None }
-        ensures no_space { result ≡ Err StepError.NoSpace → (is_alive self.old.state.processes pid ≡ true) × (names_no_space self.old.state.spaces (call_of call.now) ≡ true) }
+        ensures no_space { result ≡ Err StepError.NoSpace → (is_alive self.old.state.processes pid ≡ true)
+            × (names_no_space self.old.state.spaces (call_of call.now) ≡ true) }
         ensures no_other { IfErr result IsNoAnswer }
         ensures unchanged { UnchangedOnErr result self.new self.old }
         ensures refused { (error : Errno) → result ≡ Ok (Res.Err error) → self.new ≡ self.old }

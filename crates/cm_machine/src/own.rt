@@ -1,9 +1,9 @@
 // The own step of a process: its call as the rules give it, whatever was told.
-ghost use Rattle.std.specs.Prelude.{◌≡◌, ◌<◌, length, slice_get, Some};
+ghost use Rattle.std.specs.Prelude.{◌≡◌, ◌<◌, length};
 ghost use Rattle.cm_base.specs.Outcome.{OrNoMemory, UnchangedOnErr};
+ghost use Rattle.cm_machine.specs.Asking.{OfCaller};
 ghost use Rattle.cm_state.specs.Call.{call_of};
 ghost use Rattle.cm_world.specs.World.{world_of};
-ghost use Rattle.model_cred.specs.Process.{Process};
 ghost use Rattle.model_run.specs.Ruling.{own};
 
 use crate::births::own_pid;
@@ -23,7 +23,8 @@ pub(crate) fn make_own(
     call: &Call,
 ) -> Result<Res, NoMemory>
     requires here { at < length state.old.processes }
-    ensures own { OrNoMemory result (λ res. (p : Process) → slice_get state.old.processes at ≡ Some p → record { res = res; state = state.new } ≡ own (world_of w.now) state.old p (call_of call.now)) }
+    ensures own { OrNoMemory result (λ res. OfCaller state.old at (λ p.
+        record { res = res; state = state.new } ≡ own (world_of w.now) state.old p (call_of call.now))) }
     ensures unchanged { UnchangedOnErr result state.new state.old }
 {
     let child = own_pid(&state.procs, call);

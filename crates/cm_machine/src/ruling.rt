@@ -1,8 +1,8 @@
 // The rules are asked here, and here alone: what they answer a call of a process, and what the call changes. `ask` is
 // `ruling` of the definitions, but that a birth and an exit are still to be made, and any change can be undone.
-ghost use Rattle.std.specs.Prelude.{◌≡◌, ◌<◌, ℕ, length, List, slice_get, Some, false, IfSome};
+ghost use Rattle.std.specs.Prelude.{◌≡◌, ◌<◌, ℕ, length, List, false, IfSome};
 ghost use Rattle.cm_base.specs.Outcome.{OrNoMemory, UnchangedOnErr};
-ghost use Rattle.cm_machine.specs.Asking.{IsAsked, IsFresh, change_by, pid_number};
+ghost use Rattle.cm_machine.specs.Asking.{AsksRules, IsFresh, change_by, cred_after, pid_number, state_of};
 ghost use Rattle.cm_base.specs.declared.res.Res.TheVariants.{Done};
 ghost use Rattle.cm_machine.specs.declared.change.Change.TheVariants.{Fields};
 ghost use Rattle.cm_state.specs.Call.{call_of};
@@ -10,13 +10,11 @@ ghost use Rattle.cm_world.specs.World.{world_of};
 ghost use Rattle.model_cred.specs.Call.{SetGroups};
 ghost use Rattle.model_cred.specs.Process.{Process, is_alive};
 ghost use Rattle.model_cred.specs.Space.{space_of};
-ghost use Rattle.model_rules.specs.Reply.{reply};
 ghost use Rattle.model_rules.specs.SetGroups.{setgroups};
 ghost use Rattle.model_run.specs.Ruling.{ruling};
 
 use crate::births::birth;
 use crate::change::Change;
-use crate::saving::{Saved, save};
 use cm_base::{NoMemory, Pid, Res, SpaceId};
 use cm_capcalls::{
     amb_clear, amb_lower, amb_raise, bset_drop, cap_set, keep_caps, no_new_privs, secure_bits,
@@ -50,7 +48,8 @@ pub(crate) fn ask(
 ) -> Result<Asked, NoMemory>
     requires here { at < length state.old.processes }
     requires fresh { IfSome child (λ pid. is_alive state.old.processes pid ≡ false) }
-    ensures asked { OrNoMemory result (λ asked. (p : Process) → slice_get state.old.processes at ≡ Some p → IsAsked asked at state.new state.old (ruling (world_of w.now) state.old p (call_of call.now) (pid_number child))) }
+    ensures asked { OrNoMemory result (λ asked. AsksRules asked at state.new state.old
+        (λ p. ruling (world_of w.now) state.old p (call_of call.now) (pid_number child))) }
     ensures fresh { OrNoMemory result (λ asked. IsFresh asked.change state.new.processes) }
     ensures still { at < length state.new.processes }
     ensures unchanged { UnchangedOnErr result state.new state.old }
@@ -71,15 +70,16 @@ fn ask_caller(
     child: Option<Pid>,
 ) -> Result<Asked, NoMemory>
     requires stands { p.old.space < length spaces.now }
-    ensures res { (processes : List Process) → OrNoMemory result (λ asked. asked.res ≡ (ruling (world_of w.now) (record { processes = processes; spaces = spaces.now }) p.old (call_of call.now) (pid_number child)).res) }
-    ensures cred { OrNoMemory result (λ _. p.new.cred ≡ (reply (world_of w.now).files spaces.now p.old.space p.old.cred (call_of call.now)).cred) }
+    ensures res { (processes : List Process) → OrNoMemory result (λ asked.
+        asked.res ≡ (ruling (world_of w.now) (state_of processes spaces.now) p.old (call_of call.now) (pid_number child)).res) }
+    ensures cred { OrNoMemory result (λ _. p.new.cred ≡ cred_after (world_of w.now) spaces.now p.old (call_of call.now)) }
     ensures change { OrNoMemory result (λ asked. asked.change ≡ change_by (call_of call.now) asked.res p.old.cred) }
     ensures rest { p.new ≡ record p.old { cred = p.new.cred } }
     ensures unchanged { UnchangedOnErr result p.new p.old }
 {
     let s = standing(spaces, p.space);
     let c = &mut p.cred;
-    let old = save(c);
+    let old = c.without_groups(alloc);
     match call {
         Call::SetUid(id) => changed(old, set_uid(c, s, *id)),
         Call::SetReUid(r, e) => changed(old, set_reuid(c, s, *r, *e)),
@@ -106,9 +106,9 @@ fn ask_caller(
     }
 }
 
-// The answer of a call that changes fields of its caller, which had these.
+// The answer of a call that changes fields of its caller, which had these; the groups stay.
 #[inline]
-fn changed(old: Saved, res: Res) -> Result<Asked, NoMemory>
+fn changed(old: Cred, res: Res) -> Result<Asked, NoMemory>
     ensures { result ≡ Ok (record { res = res; change = Fields old }) }
 {
     Ok(Asked {

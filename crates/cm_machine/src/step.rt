@@ -1,12 +1,11 @@
 // A step: the event of a process with the result that is told.
-ghost use Rattle.std.specs.Prelude.{◌≡◌, ◌<◌, length, slice_get, Some, false};
+ghost use Rattle.std.specs.Prelude.{◌≡◌, ◌<◌, length, false};
 ghost use Rattle.cm_base.specs.Outcome.{UnchangedOnErr};
+ghost use Rattle.cm_machine.specs.Asking.{OfCaller};
 ghost use Rattle.cm_machine.specs.Outcomes.{Becomes};
 ghost use Rattle.cm_world.specs.World.{world_of};
-ghost use Rattle.model_cred.specs.Process.{Process, Ascends};
-ghost use Rattle.model_run.specs.Outside.{comes_from_outside};
-ghost use Rattle.model_run.specs.Ruling.{own, ruling};
-ghost use Rattle.model_run.specs.Step.{outcome, is_living_child, told_child, told_rules};
+ghost use Rattle.model_cred.specs.Process.{Ascends};
+ghost use Rattle.model_run.specs.Step.{outcome, is_living_child, told_call};
 
 use crate::births::told_pid;
 use crate::change::{keep, undo};
@@ -35,10 +34,7 @@ pub(crate) fn take_step(
     if has_child(&state.procs, &e.res) {
         return Err(StepError::PidInUse);
     }
-    if from_outside(&e.call, &e.res) {
-        return Ok(());
-    }
-    make_told(alloc, w, state, at, e)
+    told_call(alloc, w, state, at, e)
 }
 
 // The result is a child that is alive already.
@@ -53,10 +49,10 @@ fn has_child(procs: &Procs, res: &Res) -> bool
     }
 }
 
-// Asks the rules for the call of the process at this place, and holds the told result against their answer: the change is
-// kept, or undone where the answer is another.
+// The call of the process at this place with the result that is told: an error from outside changes nothing. Else the
+// rules are asked, and the told result is held against their answer: what the call has changed is kept, or undone.
 #[inline]
-fn make_told(
+fn told_call(
     alloc: Global,
     w: &World,
     state: &mut State,
@@ -65,10 +61,13 @@ fn make_told(
 ) -> Result<(), StepError>
     requires here { at < length state.old.processes }
     requires fresh { is_living_child state.old.processes e.now.res ≡ false }
-    requires inside { comes_from_outside e.now.call e.now.res ≡ false }
-    ensures becomes { (p : Process) → slice_get state.old.processes at ≡ Some p → Becomes result state.new (told_rules e.now.res (ruling (world_of w.now) state.old p e.now.call (told_child e.now.res)) (own (world_of w.now) state.old p e.now.call)) }
+    ensures becomes { OfCaller state.old at (λ p.
+        Becomes result state.new (told_call (world_of w.now) state.old p e.now.call e.now.res)) }
     ensures unchanged { UnchangedOnErr result state.new state.old }
 {
+    if from_outside(&e.call, &e.res) {
+        return Ok(());
+    }
     let child = told_pid(&state.procs, &e.call, &e.res);
     let Asked { res, change } = ask(alloc, w, state, at, &e.call, child)?;
     if is_same(&e.res, &res) {

@@ -51,7 +51,7 @@ impl Model for Cred {
 }
 
 impl Cred {
-    ghost use Rattle.std.specs.Prelude.{◌≡◌};
+    ghost use Rattle.std.specs.Prelude.{◌≡◌, []};
     ghost use Rattle.cm_base.specs.Outcome.{OrNoMemory};
 
     /// The same credentials. Its only error is want of memory.
@@ -59,7 +59,17 @@ impl Cred {
         ensures { OrNoMemory result (λ c. c ≡ self.now) }
     {
         let groups = self.groups.copy(alloc)?;
-        Ok(Cred {
+        let mut c = self.without_groups(alloc);
+        c.groups = groups;
+        Ok(c)
+    }
+
+    /// The same credentials but with no supplementary group. It takes no memory.
+    #[inline]
+    pub fn without_groups(&self, alloc: Global) -> Cred
+        ensures { result ≡ record self.now { groups = [] } }
+    {
+        Cred {
             ruid: self.ruid,
             euid: self.euid,
             suid: self.suid,
@@ -68,7 +78,7 @@ impl Cred {
             egid: self.egid,
             sgid: self.sgid,
             fsgid: self.fsgid,
-            groups,
+            groups: Groups::empty(alloc),
             inh: self.inh,
             prm: self.prm,
             eff: self.eff,
@@ -76,6 +86,6 @@ impl Cred {
             amb: self.amb,
             sec: self.sec,
             nnp: self.nnp,
-        })
+        }
     }
 }

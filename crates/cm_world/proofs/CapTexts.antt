@@ -1,5 +1,6 @@
 -- The texts of sets of capabilities: digits one by one, and names cut at commas.
-use Rattle.std.proofs.Common.{◌≡◌, ℕ, ◌+◌, ◌-◌, ◌*◌, ◌^◌, ◌<◌, ◌≤◌, ◌==◌, List, [], ◌∷◌, length, take, drop, Bool, true, false, cond, Some, None, refl, le_refl, arith}
+use Rattle.std.proofs.Common.{◌≡◌, ℕ, ◌+◌, ◌-◌, ◌*◌, ◌^◌, ◌<◌, ◌≤◌, ◌==◌, List, [], ◌∷◌, length, take, drop, Bool}
+use Rattle.std.proofs.Common.{true, false, cond, Some, None, refl, le_refl, arith}
 use Rattle.std.proofs.lemmas.List.{take_all, length-drop}
 use Rattle.std.proofs.lemmas.Grind.{pow_more}
 use Rattle.std.proofs.Math.Nat.{pow-le-pow_right}
@@ -32,18 +33,20 @@ no_place place count true e is = absurd cc
 no_place place count false e is = ltb-false place count e
 
 -- what stands after a place, as a slice of the text
-behind : (text : List ℕ) (place : ℕ) → take (length text - place) (drop place text) ≡ drop place text
-behind text place = take_all (length text - place) (drop place text) (rw (length-drop place text) (le_refl (length text - place)))
+rest_of : (text : List ℕ) (place : ℕ) → take (length text - place) (drop place text) ≡ drop place text
+rest_of text place = take_all (length text - place) (drop place text) (rw (length-drop place text) (le_refl (length text - place)))
 
 -- a text with a comma is what stands before the first one, and the parts of what stands after it
 pub cut_at_comma : (text : List ℕ) (comma : ℕ) → position is_comma text ≡ Some comma
     → slice_split is_comma text ≡ take comma text ∷ slice_split is_comma (take (length text - (comma + 1)) (drop (comma + 1) text))
 cut_at_comma text comma is =
     let (within, same) = place_found (position_or_len is_comma text) (length text) comma (ltb (position_or_len is_comma text) (length text)) refl is in
-    rw (behind text (comma + 1), ← same) (slice_split_first is_comma text 0 within)
+    rw (rest_of text (comma + 1), ← same) (slice_split_first is_comma text 0 within)
 
 -- a text without a comma is one part
 pub cut_nowhere : (text : List ℕ) → position is_comma text ≡ None → slice_split is_comma text ≡ text ∷ []
 cut_nowhere text is =
-    let end : length text ≤ position_or_len is_comma text = no_place (position_or_len is_comma text) (length text) (ltb (position_or_len is_comma text) (length text)) refl is in
+    let end : length text ≤ position_or_len is_comma text
+    = no_place (position_or_len is_comma text) (length text)
+    (ltb (position_or_len is_comma text) (length text)) refl is in
     slice_split_none is_comma text (λ k d within. fails_before_first is_comma text k d (omega (arith, within, end)))

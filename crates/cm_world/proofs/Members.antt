@@ -1,5 +1,6 @@
 -- A table and an array of a TOML text, as the definitions see them and as the code goes through them.
-use Rattle.std.proofs.Common.{◌≡◌, ◌≢◌, ℕ, Bool, ◌||◌, ◌&&◌, List, [], ◌∷◌, ◌++◌, length, map, Option, None, option_map, String, Global, string_bytes, bytes_eq, inl, inr, refl, ap}
+use Rattle.std.proofs.Common.{◌≡◌, ◌≢◌, ℕ, Bool, ◌||◌, ◌&&◌, List, [], ◌∷◌, ◌++◌, length, map, Option, None}
+use Rattle.std.proofs.Common.{option_map, String, Global, string_bytes, bytes_eq, inl, inr, refl, ap}
 use Rattle.std.specs.List.{list_any, list_all}
 use Rattle.std.specs.Map.{keys_of}
 use Rattle.std.specs.Str.{IsUtf8, is_utf8}
@@ -17,7 +18,8 @@ list_any-map p h [] = refl
 list_any-map p h (y ∷ ys) = ap (λ b. p (h y) || b) (list_any-map p h ys)
 
 -- the keys of a table, one by one
-pub has_only-members_view : (keys : List (List ℕ)) (es : List (String Global × Value)) → has_only keys (members_view es) ≡ list_all (λ k. list_any (bytes_eq (string_bytes k)) keys) (keys_of es)
+pub has_only-members_view : (keys : List (List ℕ)) (es : List (String Global × Value))
+    → has_only keys (members_view es) ≡ list_all (λ k. list_any (bytes_eq (string_bytes k)) keys) (keys_of es)
 has_only-members_view keys [] = refl
 has_only-members_view keys (e ∷ es) = ap (λ b. list_any (bytes_eq (string_bytes e.0)) keys && b) (has_only-members_view keys es)
 

@@ -1,6 +1,7 @@
 -- Processes placed among others by ascending pid, and what a placed one changes: which pids are there, which others are
 -- apart from them, whose parents stand.
-use Rattle.std.proofs.Common.{◌≡◌, ℕ, ◌<◌, ◌==◌, ◌&&◌, ◌||◌, not, nat_lt, Bool, true, false, cond, ◌⊎◌, List, [], ◌∷◌, Option, Some, None, refl, ap, sym, ◌∙◌, inl, inr, arith, All}
+use Rattle.std.proofs.Common.{◌≡◌, ℕ, ◌<◌, ◌==◌, ◌&&◌, ◌||◌, not, nat_lt, Bool, true, false, cond, ◌⊎◌, List, [], ◌∷◌}
+use Rattle.std.proofs.Common.{Option, Some, None, refl, ap, sym, ◌∙◌, inl, inr, arith, All}
 use Rattle.std.proofs.lemmas.Bool.{cases_Bool, or_parts}
 use Rattle.std.proofs.lemmas.Bool.Decides.{nat_tests}
 use Rattle.std.proofs.lemmas.List.Elements.{All-cons, All-head, All-tail}
@@ -21,7 +22,8 @@ or_swap false false c = refl
 
 -- ---- one more process
 -- two processes may be placed in either order
-placed_swap : (p q : Process) (processes : List Process) → (p.pid == q.pid) ≡ false → insert_process p (insert_process q processes) ≡ insert_process q (insert_process p processes)
+placed_swap : (p q : Process) (processes : List Process) → (p.pid == q.pid) ≡ false
+    → insert_process p (insert_process q processes) ≡ insert_process q (insert_process p processes)
 placed_swap p q [] ne = grind (arith, nat_tests, ne)
 placed_swap p q (r ∷ processes) ne = grind (arith, nat_tests, ne, placed_swap p q processes ne)
 
@@ -36,7 +38,8 @@ placed_all-none [] = refl
 placed_all-none (p ∷ more) = ap (insert_process p) (placed_all-none more)
 
 -- the first of them may be placed first
-pub placed_all-placed : (p : Process) (so_far more : List Process) → is_alive more p.pid ≡ false → placed_all (insert_process p so_far) more ≡ insert_process p (placed_all so_far more)
+pub placed_all-placed : (p : Process) (so_far more : List Process) → is_alive more p.pid ≡ false
+    → placed_all (insert_process p so_far) more ≡ insert_process p (placed_all so_far more)
 placed_all-placed p so_far [] new = refl
 placed_all-placed p so_far (q ∷ more) new =
     let (here, later) = or_parts (q.pid == p.pid) (is_alive more p.pid) (sym (alive_cons q more p.pid) ∙ new) in
@@ -62,7 +65,8 @@ not_either false false true d = refl
 not_either false false false d = refl
 
 -- they are apart from one more, where it isn't one of them
-pub are_apart-placed : (p : Process) (so_far more : List Process) → are_apart (insert_process p so_far) more ≡ (not (is_alive more p.pid) && are_apart so_far more)
+pub are_apart-placed : (p : Process) (so_far more : List Process)
+    → are_apart (insert_process p so_far) more ≡ (not (is_alive more p.pid) && are_apart so_far more)
 are_apart-placed p so_far [] = refl
 are_apart-placed p so_far (q ∷ more) =
     rw (alive_inserted p so_far q.pid, are_apart-placed p so_far more, alive_cons q more p.pid, same_swapped p.pid q.pid)
@@ -95,7 +99,8 @@ parents_stand-same some others (p ∷ processes) same =
     rw (is_among-same some others p.forebear same, parents_stand-same (p.pid ∷ some) (p.pid ∷ others) processes (λ pid. ap (λ b. p.pid == pid || b) (same pid)))
 
 -- a placed process may be a parent
-pub parents_stand-placed : (p : Process) (so_far more : List Process) → parents_stand (pids_of (insert_process p so_far)) more ≡ parents_stand (p.pid ∷ pids_of so_far) more
+pub parents_stand-placed : (p : Process) (so_far more : List Process)
+    → parents_stand (pids_of (insert_process p so_far)) more ≡ parents_stand (p.pid ∷ pids_of so_far) more
 unfolding AreSame
 parents_stand-placed p so_far more =
     parents_stand-same (pids_of (insert_process p so_far)) (p.pid ∷ pids_of so_far) more

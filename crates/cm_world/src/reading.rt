@@ -4,7 +4,8 @@ ghost use Rattle.std.specs.Prelude.{◌≡◌, ◌≢◌, IfOk};
 ghost use Rattle.toml.specs.Parse.{parse_document};
 ghost use Rattle.toml.specs.View.{table_view};
 ghost use Rattle.model_cred.specs.World.{Script};
-ghost use Rattle.model_text.specs.WorldText.{Reads, Bad, NotBuilt, built_table, table_text, document_text, world_text, says_more, document_says_more, text_says_more};
+ghost use Rattle.model_text.specs.WorldText.{Reads, Bad, NotBuilt, built_table, table_text, document_text, world_text};
+ghost use Rattle.model_text.specs.WorldText.{says_more, document_says_more, text_says_more};
 ghost use Rattle.cm_world.specs.World.{world_in, world_of};
 
 use crate::later::{asks_more, says_more};

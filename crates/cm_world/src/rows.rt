@@ -30,7 +30,8 @@ pub(crate) fn first_state(alloc: Global, rows: &[Value]) -> Result<State, WorldE
 
 /// The processes of the rows, by ascending pid. Bad as above.
 fn distinct_processes(alloc: Global, rows: &[Value]) -> Result<Procs, WorldError>
-    ensures read { IfOk result (λ procs. distinct_world (process_rows (items_view rows.now)) ≡ Reads (world_in (record { processes = procs; spaces = first_spaces }) Script)) }
+    ensures read { IfOk result (λ procs. distinct_world (process_rows (items_view rows.now))
+        ≡ Reads (world_in (record { processes = procs; spaces = first_spaces }) Script)) }
     ensures ordered { IfOk result (λ procs. Ascends procs) }
     ensures initial { IfOk result (λ procs. All (λ p. p.space < length first_spaces) procs) }
     ensures bad { result ≡ Err WorldError.Bad → distinct_world (process_rows (items_view rows.now)) ≡ Bad }

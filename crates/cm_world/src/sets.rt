@@ -31,9 +31,16 @@ impl Model for FiveSets {
 
     ghost Value = { model.FiveSets };
 
-    ghost view = { λ s. record { permitted = s.permitted; effective = s.effective; inheritable = s.inheritable; ambient = s.ambient; bounding = s.bounding } };
+    ghost view = { λ s. record {
+      permitted = s.permitted;
+      effective = s.effective;
+      inheritable = s.inheritable;
+      ambient = s.ambient;
+      bounding = s.bounding;
+    } };
 
-    ghost invariant = { λ s. (is_within s.effective s.permitted ≡ true) × (is_within s.ambient s.permitted ≡ true) × (is_within s.ambient s.inheritable ≡ true) };
+    ghost invariant = { λ s. (is_within s.effective s.permitted ≡ true) × (is_within s.ambient s.permitted ≡ true)
+        × (is_within s.ambient s.inheritable ≡ true) };
 }
 
 /// The sets that a row declares of a process with these user ids. None where one isn't within another as it should be.

@@ -5,6 +5,8 @@ use Rattle.model_cred.specs.Process.{State, process_at}
 
 pub returns-in-Some : goal.returns-in-Some
 returns-in-Some c =
-    let there : (c.in-Some.at < length c.args.state.now.processes) × (slice_get c.args.state.now.processes c.in-Some.at ≡ process_at c.args.state.now.processes c.args.root)
-    = subst (λ (s : State). (c.in-Some.at < length s.processes) × (slice_get s.processes c.in-Some.at ≡ process_at s.processes c.args.root)) c.state.view_is c.in-Some.ensures.found in
-    if_ok_then c.members.result (λ pids is. is ∙ family_there c.args.state.now c.in-Some.at c.args.root there.0 there.1) c.members.ensures
+    let found : State → Type 0
+    = λ s. (c.in-Some.at < length s.processes) × (slice_get s.processes c.in-Some.at ≡ process_at s.processes c.args.root) in
+    let there : found c.args.state.now = subst found c.state.view_is c.in-Some.ensures.found in
+    if_ok_then c.members.result (λ pids is. is ∙ family_there c.args.state.now c.in-Some.at c.args.root there.0 there.1)
+    c.members.ensures

@@ -7,7 +7,8 @@ use Rattle.model_run.specs.Family.{reaches_within}
 pub returns-in-Some : goal.returns-in-Some
 returns-in-Some c root are =
     let held = mark_at c.args.state.now root c.args.marks.now c.loop-step.here (Some c.in-Some.reached) are c.loop-step.invariant.within (sym c.in-Some.is) in
-    sym held ∙ sym (leads_same c.args.state.now root (pid_at c.args.state.now.processes c.args.at) (pid_at c.args.state.now.processes c.loop-step.here) c.loop-step._step
+    sym held ∙ sym (leads_same c.args.state.now root (pid_at c.args.state.now.processes c.args.at)
+    (pid_at c.args.state.now.processes c.loop-step.here) c.loop-step._step
     are.alive (c.loop-step.invariant.leads root are))
 
 pub returns-in_default-forebear_place : goal.returns-in_default-forebear_place
@@ -22,7 +23,8 @@ loop-step-preserved c = record {
   within = c.in-Some-forebear_place.ensures.found.0;
   leads = λ root are. leads_next c.args.state.now root (pid_at c.args.state.now.processes c.args.at) (pid_at c.args.state.now.processes c.loop-step.here)
       (pid_at c.args.state.now.processes c.in-Some-forebear_place.next) c.loop-step._step (c.loop-step.invariant.leads root are)
-      (mark_at c.args.state.now root c.args.marks.now c.loop-step.here None are c.loop-step.invariant.within (unmarked _ c.in_default.not-Some)) c.in-Some-forebear_place.ensures.found.1;
+      (mark_at c.args.state.now root c.args.marks.now c.loop-step.here None are c.loop-step.invariant.within
+      (unmarked _ c.in_default.not-Some)) c.in-Some-forebear_place.ensures.found.1;
   far = λ root are n is.
       let same : c.loop-step._step ≡ n = omega arith in
       subst (λ (k : ℕ). reaches_within k c.args.state.now root (Some (pid_at c.args.state.now.processes c.args.at)) ≡ false) same

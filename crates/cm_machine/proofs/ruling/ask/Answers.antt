@@ -1,13 +1,13 @@
-use Rattle.std.proofs.Common.{◌≡◌, List, Some, slice_get, slice_set, ◌∙◌, ap, subst}
+use Rattle.std.proofs.Common.{◌≡◌, List, slice_set, ◌∙◌, ap, subst}
 use Rattle.cm_base.specs.Outcome.{OrNoMemory}
 use Rattle.cm_machine.proofs.Asking.{asked_is, asked_fresh}
 use Rattle.cm_machine.proofs.Changing.{put_keeps}
 use Rattle.cm_machine.proofs.ruling.ask.Goals as goal
-use Rattle.cm_machine.specs.Asking.{IsAsked, pid_number}
+use Rattle.cm_machine.specs.Asking.{AsksRules, pid_number}
 use Rattle.cm_state.specs.Call.{call_of}
 use Rattle.cm_world.specs.World.{world_of}
 use Rattle.model_cred.specs.Process.{Process, State}
-use Rattle.model_run.specs.Ruling.{ruling}
+use Rattle.model_run.specs.Ruling.{Ruling, ruling}
 
 pub invariant_of-state : goal.invariant_of-state
 invariant_of-state c =
@@ -19,18 +19,21 @@ pub returns-clause-asked : goal.returns-clause-asked
 returns-clause-asked c =
     let items : c.procs.inside.list.items ≡ c.args.state.now.processes = c.procs.view_is ∙ ap (λ (s : State). s.processes) c.state.view_is in
     let before : State = record { processes = c.procs.inside.list.items; spaces = c.state.inside.spaces } in
-    let after : State = record { processes = slice_set c.procs.inside.list.items c.args.at c.ask_caller.new.p; spaces = c.state.inside.spaces } in
-    let same : before ≡ c.args.state.now = ap (λ (ps : List Process). record { processes = ps; spaces = c.state.inside.spaces }) c.procs.view_is ∙ c.state.view_is in
-    subst (λ (s : State). OrNoMemory c.ask_caller.result (λ asked. (p : Process) → slice_get s.processes c.args.at ≡ Some p
-    → IsAsked asked c.args.at after s (ruling (world_of c.args.w.now) s p (call_of c.args.call.now) (pid_number c.args.child)))) same
-    (asked_is (world_of c.args.w.now) before c.args.call.now c.args.child c.args.at c.index_mut-p.result.now c.ask_caller.new.p (rw c.procs.view_is c.state.invariant.0)
-    (rw items c.requires.here) c.index_mut-p.ensures.value c.ask_caller.ensures.rest c.ask_caller.result
-    (c.ask_caller.ensures.res c.procs.inside.list.items) c.ask_caller.ensures.change c.ask_caller.ensures.cred)
+    let after : State = record before { processes = slice_set c.procs.inside.list.items c.args.at c.ask_caller.new.p } in
+    let same : before ≡ c.args.state.now
+    = ap (λ (ps : List Process). record { processes = ps; spaces = c.state.inside.spaces }) c.procs.view_is ∙ c.state.view_is in
+    let w = world_of c.args.w.now in
+    let rules : State → Process → Ruling = λ s p. ruling w s p (call_of c.args.call.now) (pid_number c.args.child) in
+    subst (λ (s : State). OrNoMemory c.ask_caller.result (λ asked. AsksRules asked c.args.at after s (rules s))) same
+    (asked_is w before c.args.call.now c.args.child c.args.at c.index_mut-p.result.now c.ask_caller.new.p
+    (rw c.procs.view_is c.state.invariant.0) (rw items c.requires.here) c.index_mut-p.ensures.value c.ask_caller.ensures.rest
+    c.ask_caller.result (c.ask_caller.ensures.res c.procs.inside.list.items) c.ask_caller.ensures.change c.ask_caller.ensures.cred)
 
 pub returns-clause-fresh : goal.returns-clause-fresh
 returns-clause-fresh c =
     let items : c.procs.inside.list.items ≡ c.args.state.now.processes = c.procs.view_is ∙ ap (λ (s : State). s.processes) c.state.view_is in
     let before : State = record { processes = c.procs.inside.list.items; spaces = c.state.inside.spaces } in
-    asked_fresh (world_of c.args.w.now) before c.args.call.now c.args.child c.args.at c.index_mut-p.result.now c.ask_caller.new.p (rw c.procs.view_is c.state.invariant.0)
-    (rw items c.requires.here) c.index_mut-p.ensures.value c.ask_caller.ensures.rest c.ask_caller.result (rw items c.requires.fresh)
-    (c.ask_caller.ensures.res c.procs.inside.list.items) c.ask_caller.ensures.change c.ask_caller.ensures.cred
+    asked_fresh (world_of c.args.w.now) before c.args.call.now c.args.child c.args.at c.index_mut-p.result.now c.ask_caller.new.p
+    (rw c.procs.view_is c.state.invariant.0) (rw items c.requires.here) c.index_mut-p.ensures.value c.ask_caller.ensures.rest
+    c.ask_caller.result (rw items c.requires.fresh) (c.ask_caller.ensures.res c.procs.inside.list.items)
+    c.ask_caller.ensures.change c.ask_caller.ensures.cred

@@ -6,4 +6,10 @@ pub overflow_mul-number : goal.overflow_mul-number
 overflow_mul-number c = omega (arith, hex-fits c.loop-byte.number 0 c.loop-byte.byte-index c.loop-byte.invariant.0 (omega arith) (omega arith))
 
 pub overflow_add-number : goal.overflow_add-number
-overflow_add-number c = omega (arith, c.from.ensures, hex-fits c.loop-byte.number c.in_ok-hex_value.field-0 c.loop-byte.byte-index c.loop-byte.invariant.0 c.in_ok-hex_value.ensures.range (omega arith))
+overflow_add-number c =
+    omega (
+      arith,
+      c.from.ensures,
+      hex-fits c.loop-byte.number c.in_ok-hex_value.field-0 c.loop-byte.byte-index c.loop-byte.invariant.0
+          c.in_ok-hex_value.ensures.range (omega arith),
+    )

@@ -8,5 +8,6 @@ use Rattle.cm_world.proofs.later.some_row_has.Goals as goal
 
 pub returns : goal.returns
 returns c =
-    any_from_yields_List (λ row. row_has (map (λ key. key.now) c.args.keys.now) (view row)) _ _ _ c.any.ensures.ran (YieldsList-from_slice c.args.rows.now cc) (λ x b q k. search (rules, tests))
+    any_from_yields_List (λ row. row_has (map (λ key. key.now) c.args.keys.now) (view row)) _ _ _ c.any.ensures.ran
+    (YieldsList-from_slice c.args.rows.now cc) (λ x b q k. search (rules, tests))
     ∙ sym (some_row_has-items_view (map (λ key. key.now) c.args.keys.now) c.args.rows.now)

@@ -8,5 +8,7 @@ use Rattle.cm_world.proofs.table.has_only.Goals as goal
 
 pub returns : goal.returns
 returns c =
-    all_from_yields_List (λ key. list_any (bytes_eq (string_bytes key)) (map (λ k. k.now) c.args.keys.now)) _ _ _ c.all.ensures.ran (YieldsList-from_rest (keys_of c.args.table.now.entries) c.keys.ensures.rest) (λ x b q k. search (rules, tests))
+    all_from_yields_List (λ key. list_any (bytes_eq (string_bytes key))
+    (map (λ k. k.now) c.args.keys.now)) _ _ _ c.all.ensures.ran
+    (YieldsList-from_rest (keys_of c.args.table.now.entries) c.keys.ensures.rest) (λ x b q k. search (rules, tests))
     ∙ sym (has_only-members_view (map (λ k. k.now) c.args.keys.now) c.args.table.now.entries)

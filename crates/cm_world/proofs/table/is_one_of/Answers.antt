@@ -6,5 +6,6 @@ use Rattle.cm_world.proofs.table.is_one_of.Goals as goal
 
 pub returns : goal.returns
 returns c =
-    any_from_yields_List (λ k. bytes_eq c.args.key.now k.now) _ _ _ c.any.ensures.ran (YieldsList-from_slice c.args.keys.now cc) (λ x b q k. search (rules, tests))
+    any_from_yields_List (λ k. bytes_eq c.args.key.now k.now) _ _ _ c.any.ensures.ran
+    (YieldsList-from_slice c.args.keys.now cc) (λ x b q k. search (rules, tests))
     ∙ sym (list_any-map (bytes_eq c.args.key.now) (λ k. k.now) c.args.keys.now)

@@ -18,4 +18,5 @@ returns-clause-refused c = λ error is.
     let told : c.in_ok-res.res ≡ Err error = cc in
     ap (λ (t : State). record { state = t })
     (ap (λ (r : Ruling). r.state) made
-    ∙ (safe_ruling (world_of c.args.w.now) s c.args.pid p.0 lives (call_of c.args.call.now) (free_pid s)).keeps error (sym (ap (λ (r : Ruling). r.res) made) ∙ told))
+    ∙ (safe_ruling (world_of c.args.w.now) s c.args.pid p.0 lives (call_of c.args.call.now) (free_pid s)).keeps error
+    (sym (ap (λ (r : Ruling). r.res) made) ∙ told))
