@@ -13,7 +13,8 @@ use Rattle.model_text.specs.Query.{Query}
 use Rattle.model_text.specs.Laws.{EachByItsCause, YesIsNever, NoIsWay}
 
 -- the answer's cause, from its being the report's status
-pub by_cause : (words : List (List ℕ)) (files : Files) (answer : Status) → answer ≡ (report_over words files).status → ComesByCause words files answer
+pub by_cause : (words : List (List ℕ)) (files : Files) (answer : Status) → answer ≡ (report_over words files).status
+    → ComesByCause words files answer
 unfolding EachByItsCause
 by_cause words files answer is st = rw is (each_by_its_cause words (bytes_at files) st)
 
@@ -77,7 +78,8 @@ wants_memory _ = inr (λ e. cc)
 
 -- and no fault was counted
 pub completed : (words : List (List ℕ)) (files : Files) (answer : Status) (reads reads' : List ℕ → ℕ) (writes writes' : ℕ)
-    → (IsTold answer → answer ≡ (report_over words files).status) → (answer ≡ answers.ReadFault → NamesFault (command_of words) reads reads')
+    → (IsTold answer → answer ≡ (report_over words files).status)
+    → (answer ≡ answers.ReadFault → NamesFault (command_of words) reads reads')
     → (answer ≡ answers.WriteFault → Rose writes writes') → IsValid words files → NoneRose reads reads' writes writes'
     → IsCompleted (query_of (command_of words)) answer
 completed words files answer reads reads' writes writes' is read write valid none =
