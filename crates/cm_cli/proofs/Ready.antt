@@ -10,7 +10,9 @@ use Rattle.model_text.specs.Query.{Query}
 use Rattle.model_text.specs.Report.{files_report, world_limit, log_limit}
 use Rattle.model_text.specs.WorldText.{Reads, world_text}
 
-pub files_ready : (query : Option Query) (w : code.World) (text : Vec ℕ Global) (world log : List ℕ) → IsWorldRead (Ok w) world → IsLogRead (Ok text) log
+-- the report of both is that of the world and the log that were read
+pub files_ready : (query : Option Query) (w : code.World) (text : Vec ℕ Global) (world log : List ℕ)
+    → IsWorldRead (Ok w) world → IsLogRead (Ok text) log
     → files_report query world log ≡ log_report query w text.items
 files_ready query w text world log (read, more) (size, same) =
     let world_fits : nat_lt world_limit (length world) ≡ false = le-ltb world_limit (length world) read.size in

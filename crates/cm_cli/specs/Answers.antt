@@ -33,7 +33,8 @@ IsUsageAnswer answer = (answer ≡ answers.Usage) ⊎ (answer ≡ answers.WriteF
 
 -- What a command answers and writes. Where it is told what the shelf holds, it is the report's status, and its text is
 -- written; after a read fault nothing is. Words of no form give the usage, and no other words do.
-pub record AnswersReport (held : Option Files) (command : Command) (answer : Status) (written written' : Option (List ℕ)) : Type 0 where
+pub record AnswersReport (held : Option Files) (command : Command) (answer : Status) (written written' : Option (List ℕ))
+    : Type 0 where
   pub status : IfSome held (λ files. IsTold answer → answer ≡ (command_report command (bytes_at files)).status)
   pub text : IfSome held (λ files. WritesReport (command_report command (bytes_at files)) answer written written')
   pub silent : answer ≡ answers.ReadFault → written' ≡ written
@@ -85,12 +86,14 @@ ComesByCause words files answer = (st : Status) → (answer ≡ st) ↔ Cause wo
 -- A replay is accepted; an audit answers yes, no, or not built; or there was no memory.
 abbrev pub IsCompleted : Option Query → Status → Type 0
 IsCompleted None answer = (answer ≡ answers.Accepted) ⊎ (answer ≡ answers.NoMemory)
-IsCompleted (Some q) answer = (answer ≡ answers.Accepted) ⊎ (answer ≡ answers.No) ⊎ (answer ≡ answers.NotBuilt) ⊎ (answer ≡ answers.NoMemory)
+IsCompleted (Some q) answer =
+    (answer ≡ answers.Accepted) ⊎ (answer ≡ answers.No) ⊎ (answer ≡ answers.NotBuilt) ⊎ (answer ≡ answers.NoMemory)
 
 -- What yes says of an audit: one process lives after the log, and no list of later setresuid calls of it, of any length,
 -- ends where it holds the user id that the words ask for.
 abbrev pub SaysYes : List (List ℕ) → Files → Type 0
-SaysYes words files = (q : Query) → query_of (command_of words) ≡ Some q → (is : IsAccepted words (bytes_at files)) × IsYes words (bytes_at files) is q
+SaysYes words files =
+    (q : Query) → query_of (command_of words) ≡ Some q → (is : IsAccepted words (bytes_at files)) × IsYes words (bytes_at files) is q
 
 -- What no says: the last lines of the report show such a list, which does.
 abbrev pub SaysNo : List (List ℕ) → Files → Type 0

@@ -1,5 +1,6 @@
--- What the files of a replay come to, where the shelf tells what it holds, and the counts of its faults.
-use Rattle.std.specs.Prelude.{◌≡◌, ◌≢◌, ◌⊎◌, ◌≤◌, ◌<◌, ◌+◌, ℕ, bytes_eq, if◌then◌else◌, length, List, Option, None, Some, Result, Ok, Err, Vec}
+-- What the files of a replay come to, where the shelf tells what it holds, the counts of its faults, and what is taken.
+use Rattle.std.specs.Prelude.{◌≡◌, ◌≢◌, ◌⊎◌, ◌≤◌, ◌<◌, ◌+◌, ℕ, bytes_eq, if◌then◌else◌}
+use Rattle.std.specs.Prelude.{length, List, Option, None, Some, Result, Ok, Err, Vec}
 use Rattle.std.specs.declared.alloc.Global.{Global}
 use Rattle.cm_world.specs.World.{world_of}
 use Rattle.cm_world.specs.declared.world.World as code

@@ -9,6 +9,10 @@ use Rattle.model_text.specs.Command as model
 abbrev pub bytes_of : List (String Global) → List (List ℕ)
 bytes_of words = map (λ word. string_bytes word) words
 
+-- the command that the words name
+abbrev pub command_in : List (String Global) → model.Command
+command_in words = model.command_of (bytes_of words)
+
 -- the command of the definitions
 abbrev pub command_view : Command → model.Command
 command_view (code.Replay world log) = model.Replay world.now log.now

@@ -1,11 +1,12 @@
 // The top call.
 ghost use Rattle.std.specs.Prelude.{◌≡◌, ◌≢◌, IfSome, Some};
-ghost use Rattle.cm_cli.specs.Answers.{report_over, asking, AnswersReport, CountsReads, NoneRose, IsValid, ComesByCause, IsCompleted, SaysYes, SaysNo};
+ghost use Rattle.cm_cli.specs.Answers.{asking, AnswersReport, CountsReads, NoneRose};
+ghost use Rattle.cm_cli.specs.Answers.{IsValid, ComesByCause, IsCompleted, SaysYes, SaysNo};
 ghost use Rattle.cm_cli.specs.Query.{query_if};
 ghost use Rattle.cm_cli.specs.Reading.{TakesFor, ReadsFor};
 ghost use Rattle.cm_cli.specs.Telling.{IsTold, CountsWrites};
-ghost use Rattle.cm_cli.specs.Words.{bytes_of, command_view};
-ghost use Rattle.model_text.specs.Command.{command_of, files_of, query_of};
+ghost use Rattle.cm_cli.specs.Words.{bytes_of, command_in, command_view};
+ghost use Rattle.model_text.specs.Command.{files_of, query_of};
 
 use crate::query::Query;
 use crate::reading::{Unready, read_files};
@@ -18,8 +19,8 @@ use std::alloc::Global;
 /// Carries out the command that the words name: reads the files from the shelf, and writes the report to the sink.
 ///
 /// The answer is the report's status. `ReadFault` comes only where a read of a file that the words name failed, and
-/// then nothing is written; `WriteFault` only where a write failed, and `NoMemory` where neither did: then a front of
-/// the report is written.
+/// then nothing is written; `WriteFault` only where a write failed, and `NoMemory` only where neither did: then a front
+/// of the report is written. No other file is read, and of each no more than its limit and one byte.
 pub fn run<H: Shelf, K: Sink>(
     alloc: Global,
     words: &Vec<String>,
@@ -28,33 +29,36 @@ pub fn run<H: Shelf, K: Sink>(
 ) -> Status
     // Where the shelf tells what it holds, the answer is the report's status, and its text is written; after a read
     // fault nothing is. Words of no form give the usage, and no other words do.
-    ensures report { AnswersReport (H.held shelf.old) (command_of (bytes_of words.now.items)) result
+    ensures report { AnswersReport (H.held shelf.old) (command_in words.now.items) result
         (K.written out.old) (K.written out.new) }
 
-    // A count of faults changes with its own fault alone: one of a file that the words name, with the answer
-    // `ReadFault`, and the sink's, with `WriteFault`. With `NoMemory` none does.
-    ensures read_faults { CountsReads (H.held shelf.old) (command_of (bytes_of words.now.items)) result
+    // A count of faults changes with its own fault alone: that of a file that the words name with the answer
+    // `ReadFault`, the sink's with `WriteFault`. So with `NoMemory` none does.
+    ensures read_faults { CountsReads (H.held shelf.old) (command_in words.now.items) result
         (H.faults shelf.old) (H.faults shelf.new) }
     ensures write_faults { CountsWrites result (K.faults out.old) (K.faults out.new) }
 
     // Of each file that the words name at most its limit and one byte are taken, and no other name is read.
-    ensures takes { TakesFor (files_of (command_of (bytes_of words.now.items))) (H.taken shelf.old) (H.taken shelf.new) }
-    ensures reads { ReadsFor (files_of (command_of (bytes_of words.now.items))) (H.reads shelf.old) (H.reads shelf.new) }
+    ensures takes { TakesFor (files_of (command_in words.now.items)) (H.taken shelf.old) (H.taken shelf.new) }
+    ensures reads { ReadsFor (files_of (command_in words.now.items)) (H.reads shelf.old) (H.reads shelf.new) }
     ensures held { H.held shelf.new ≡ H.held shelf.old }
 
     // Each answer of a report has its cause in the words and the files, and each cause its answer.
-    ensures answers { IfSome (H.held shelf.old) (λ files. IsTold result → ComesByCause (bytes_of words.now.items) files result) }
+    ensures answers { IfSome (H.held shelf.old) (λ files.
+        IsTold result → ComesByCause (bytes_of words.now.items) files result) }
 
-    // What an audit says: with status 0, which writes yes, no list of later setresuid calls of the one process that lives
-    // after the log ends where it has the user id that is asked for; with status 1 the lines that are written show one.
-    ensures yes { IfSome (H.held shelf.old) (λ files. result ≡ Status.Accepted → SaysYes (bytes_of words.now.items) files) }
+    // What an audit says: with status 0, which writes yes, no list of later setresuid calls of the one process that
+    // lives after the log ends where it has the user id that is asked for; with status 1 the lines that are written
+    // show one.
+    ensures yes { IfSome (H.held shelf.old) (λ files.
+        result ≡ Status.Accepted → SaysYes (bytes_of words.now.items) files) }
     ensures no { IfSome (H.held shelf.old) (λ files. result ≡ Status.No → SaysNo (bytes_of words.now.items) files) }
 
-    // Where nothing in the input is refused and no fault was counted, a replay is accepted, and an audit answers yes, no or
-    // not built; or there was no memory.
+    // Where nothing in the input is refused and no fault was counted, a replay is accepted, and an audit answers yes,
+    // no or not built; or there was no memory.
     ensures complete { IfSome (H.held shelf.old) (λ files. IsValid (bytes_of words.now.items) files →
         NoneRose (H.faults shelf.old) (H.faults shelf.new) (K.faults out.old) (K.faults out.new) →
-        IsCompleted (query_of (command_of (bytes_of words.now.items))) result) }
+        IsCompleted (query_of (command_in words.now.items)) result) }
 {
     carry_out(alloc, read_words(words), shelf, out)
 }
@@ -70,14 +74,14 @@ pub fn run_surely(
     ensures no_read_fault { result ≢ Status.ReadFault }
     ensures no_write_fault { result ≢ Status.WriteFault }
     ensures complete { IfSome (⟦<SureShelf as Shelf>⟧.held shelf.old) (λ files.
-        IsValid (bytes_of words.now.items) files → IsCompleted (query_of (command_of (bytes_of words.now.items))) result) }
+        IsValid (bytes_of words.now.items) files → IsCompleted (query_of (command_in words.now.items)) result) }
 
     // The rest is as for every shelf and sink.
-    ensures report { AnswersReport (⟦<SureShelf as Shelf>⟧.held shelf.old) (command_of (bytes_of words.now.items)) result
+    ensures report { AnswersReport (⟦<SureShelf as Shelf>⟧.held shelf.old) (command_in words.now.items) result
         (⟦<SureSink as Sink>⟧.written out.old) (⟦<SureSink as Sink>⟧.written out.new) }
-    ensures takes { TakesFor (files_of (command_of (bytes_of words.now.items)))
+    ensures takes { TakesFor (files_of (command_in words.now.items))
         (⟦<SureShelf as Shelf>⟧.taken shelf.old) (⟦<SureShelf as Shelf>⟧.taken shelf.new) }
-    ensures reads { ReadsFor (files_of (command_of (bytes_of words.now.items)))
+    ensures reads { ReadsFor (files_of (command_in words.now.items))
         (⟦<SureShelf as Shelf>⟧.reads shelf.old) (⟦<SureShelf as Shelf>⟧.reads shelf.new) }
     ensures held { ⟦<SureShelf as Shelf>⟧.held shelf.new ≡ ⟦<SureShelf as Shelf>⟧.held shelf.old }
     ensures answers { IfSome (⟦<SureShelf as Shelf>⟧.held shelf.old) (λ files.
@@ -90,14 +94,17 @@ pub fn run_surely(
     run(alloc, words, shelf, out)
 }
 
+// `run`, of a command.
 fn carry_out<H: Shelf, K: Sink>(
     alloc: Global,
     command: Command<'_>,
     shelf: &mut H,
     out: &mut K,
 ) -> Status
-    ensures report { AnswersReport (H.held shelf.old) (command_view command.entry) result (K.written out.old) (K.written out.new) }
-    ensures read_faults { CountsReads (H.held shelf.old) (command_view command.entry) result (H.faults shelf.old) (H.faults shelf.new) }
+    ensures report { AnswersReport (H.held shelf.old) (command_view command.entry) result
+        (K.written out.old) (K.written out.new) }
+    ensures read_faults { CountsReads (H.held shelf.old) (command_view command.entry) result
+        (H.faults shelf.old) (H.faults shelf.new) }
     ensures write_faults { CountsWrites result (K.faults out.old) (K.faults out.new) }
     ensures takes { TakesFor (files_of (command_view command.entry)) (H.taken shelf.old) (H.taken shelf.new) }
     ensures reads { ReadsFor (files_of (command_view command.entry)) (H.reads shelf.old) (H.reads shelf.new) }

@@ -1,6 +1,6 @@
 // The words of the command line, and which command they name (choice).
 ghost use Rattle.std.specs.Prelude.{◌≡◌, ◌∷◌};
-ghost use Rattle.cm_cli.specs.Words.{command_view, bytes_of};
+ghost use Rattle.cm_cli.specs.Words.{command_view, command_in, bytes_of};
 ghost use Rattle.model_text.specs.Command.{command_of, replay_words, audit_words, later_words, drill_words, is_drill_number};
 ghost use Rattle.model_text.specs.Token.{number_token};
 
@@ -19,7 +19,7 @@ pub(crate) enum Command<'a> {
 
 /// The command that the words name.
 pub(crate) fn read_words(words: &[String]) -> Command<'_>
-    ensures { command_view result ≡ command_of (bytes_of words.now) }
+    ensures { command_view result ≡ command_in words.now }
 {
     match words {
         [] => Command::NoForm,

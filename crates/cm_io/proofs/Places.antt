@@ -1,5 +1,6 @@
 -- Names by their places, and the names that are among them.
-use Rattle.std.proofs.Common.{◌≡◌, ◌≢◌, ◌+◌, ◌<◌, ◌≤◌, ℕ, List, [], ◌∷◌, length, map, ◌||◌, not, true, false, cond, refl, sym, ◌∙◌, arith, IsTrue, String, string_bytes}
+use Rattle.std.proofs.Common.{◌≡◌, ◌≢◌, ◌+◌, ◌<◌, ◌≤◌, ℕ, List, [], ◌∷◌, length, map, ◌||◌, not, true, false, cond}
+use Rattle.std.proofs.Common.{refl, sym, ◌∙◌, arith, IsTrue, String, string_bytes}
 use Rattle.std.specs.Str.{bytes_eq}
 use Rattle.std.specs.declared.alloc.Global.{Global}
 use Rattle.std.proofs.lemmas.Slice.Eq.{bytes_eq-Decides}
@@ -7,7 +8,8 @@ use Rattle.cm_io.specs.Names.{place_of, is_among}
 use Rattle.cm_io.proofs.Files.{among_past}
 
 -- two names with one place among the names are equal
-pub same_place : (names : List (String Global)) (a b : List ℕ) → place_of names a < length names → place_of names b ≡ place_of names a → b ≡ a
+pub same_place : (names : List (String Global)) (a b : List ℕ) → place_of names a < length names
+    → place_of names b ≡ place_of names a → b ≡ a
 same_place [] a b below same = absurd (omega arith)
 same_place (first ∷ names) a b below same =
     let at_a = (bytes_eq-Decides (string_bytes first) a).0 in
@@ -28,7 +30,8 @@ same_place (first ∷ names) a b below same =
     ] at_a below same
 
 -- another name has another place
-pub other_place : (names : List (String Global)) (a b : List ℕ) → place_of names a < length names → b ≢ a → place_of names b ≢ place_of names a
+pub other_place : (names : List (String Global)) (a b : List ℕ) → place_of names a < length names → b ≢ a
+    → place_of names b ≢ place_of names a
 other_place names a b below other same = other (same_place names a b below same)
 
 -- a name that is among the names has a place
@@ -43,11 +46,14 @@ pub not_among_is_past : (names : List (String Global)) (name : List ℕ) → IsT
     → length names ≤ place_of names name
 not_among_is_past [] name isnt = omega arith
 not_among_is_past (first ∷ names) name isnt = elim (bytes_eq (string_bytes first) name) as
-    (λ b. IsTrue (not (b || is_among names name)) → length (first ∷ names) ≤ cond b 0 (place_of names name + 1))
-    [ true ↦ λ h. absurd (let never : false ≡ true = h in cc) | false ↦ λ h. let rest = not_among_is_past names name h in omega (arith, rest) ] isnt
+    (λ b. IsTrue (not (b || is_among names name)) → length (first ∷ names) ≤ cond b 0 (place_of names name + 1)) [
+      | true ↦ λ h. absurd (let never : false ≡ true = h in cc)
+      | false ↦ λ h. let rest = not_among_is_past names name h in omega (arith, rest)
+    ] isnt
 
 -- copies have the names that their originals have
-pub among_copies : (copies names : List (String Global)) (name : List ℕ) → map string_bytes copies ≡ map string_bytes names → is_among copies name ≡ is_among names name
+pub among_copies : (copies names : List (String Global)) (name : List ℕ) → map string_bytes copies ≡ map string_bytes names
+    → is_among copies name ≡ is_among names name
 among_copies [] [] name same = refl
 among_copies [] (first ∷ names) name same = cc
 among_copies (copy ∷ copies) [] name same = cc

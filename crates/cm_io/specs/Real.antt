@@ -2,6 +2,6 @@
 use Rattle.cm_io.specs.declared.counts.Counts.{Counts}
 use Rattle.cm_io.specs.declared.real.RealShelf.{RealShelf}
 
--- how often each name failed
+-- what is counted for each name
 abbrev pub real_counts : {R File Dir : Type 0} → RealShelf R File Dir → Counts
 real_counts shelf = shelf.counts

@@ -1,4 +1,4 @@
--- What the reads of a shelf of files give, and how its counts of faults tell why a read failed.
+-- What the reads of a shelf of files give, and what its counts tell of them: faults, reads, bytes taken.
 use Rattle.std.specs.Prelude.{◌≡◌, ◌≢◌, ◌⊎◌, ◌<◌, ◌≤◌, ◌+◌, ◌-◌, ◌^◌, ℕ, Bool, IsTrue, not, min, if◌then◌else◌}
 use Rattle.std.specs.Prelude.{List, [], ◌∷◌, length, take, drop, Option, IfSome, Result, Ok, Err, IfOk, OnOk}
 use Rattle.std.specs.Str.{bytes_eq}
@@ -27,7 +27,8 @@ pub record ReadsText (text : List ℕ) (place : ℕ) (buffer : List ℕ) (n : �
 abbrev pub ReadsHeld : Option Files → List ℕ → ℕ → List ℕ → Result ℕ Outside → Type 0
 ReadsHeld held name place buffer r = IfSome held (λ files. IfOk r (ReadsText (bytes_at files name) place buffer))
 
--- the counts of faults before and after a read of a name: only a read that failed raises one, and it raises that of its name
+-- the counts of faults before and after a read of a name: only a read that failed raises one, and it raises that of its
+-- name
 pub record ReadFaults {T : Type 0} (before now : List ℕ → ℕ) (name : List ℕ) (r : Result T Outside) : Type 0 where
   pub later : (n : List ℕ) → before n ≤ now n
   pub ok : OnOk r ((n : List ℕ) → now n ≡ before n)
@@ -39,8 +40,8 @@ abbrev pub bytes_given : Result ℕ Outside → ℕ
 bytes_given (Ok n) = n
 bytes_given (Err e) = 0
 
--- The counts of names before and after one of them is counted on by so many: a name that is counted rises by as many, or
--- to the last value that a count can have; one that isn't counted stays at 0; no other name's count changes.
+-- The counts of names before and after so many more are counted under one of them. That of a name that is counted rises by
+-- as many, or to the last value that a count can have; that of one that isn't stays at 0; no other name's changes.
 pub record CountsOn (counted : List ℕ → Bool) (before now : List ℕ → ℕ) (name : List ℕ) (more : ℕ) : Type 0 where
   pub most : now name ≤ before name + more
   pub all : IsTrue (counted name) → min (before name + more) (2 ^ 64 - 1) ≤ now name

@@ -44,6 +44,7 @@ impl<R: Files + Drop> RealShelf<R> {
 
     /// A shelf over these files, with counts for each of the names. All counts are 0, and no file is opened
     /// yet. `NoMemory` is want of memory for the names and counts.
+    #[tactic(auto, using(crate::proofs::Places::among_copies))]
     pub fn new(files: R, alloc: Global, names: &Vec<String>) -> Result<RealShelf<R>, NoMemory>
         ensures held { IfOk result (λ s. ⟦<RealShelf<R> as Shelf>⟧.held s ≡ None) }
         ensures names { IfOk result (λ s.

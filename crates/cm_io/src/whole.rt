@@ -1,5 +1,6 @@
 // Whole files and whole pieces: reads and writes until nothing is left.
-ghost use Rattle.std.specs.Prelude.{◌≡◌, ◌≢◌, ◌++◌, ◌+◌, ◌-◌, ◌^◌, ◌<◌, ◌≤◌, ℕ, [], length, take, vec_len, IfOk, IfSome, OnOk, OnErr};
+ghost use Rattle.std.specs.Prelude.{◌≡◌, ◌≢◌, ◌++◌, ◌+◌, ◌-◌, ◌^◌, ◌<◌, ◌≤◌, ℕ, [], length, take, vec_len};
+ghost use Rattle.std.specs.Prelude.{IfOk, IfSome, OnOk, OnErr};
 ghost use Rattle.cm_io.specs.Shelf.{bytes_at, ReadsText, TakesAtMost, ReadsOnly};
 ghost use Rattle.cm_io.specs.Sink.{then_written, WriteFaults};
 ghost use Rattle.cm_io.specs.Whole.{WholeFaults};

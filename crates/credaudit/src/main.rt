@@ -1,6 +1,10 @@
 //! The program `credaudit`: its words, the files that they name, and standard output.
 #![tactic(auto)]
 
+ghost use Rattle.std.specs.Prelude.{◌≡◌};
+ghost use Rattle.std.specs.Process.{exit_status};
+ghost use Rattle.cm_base.specs.Statuses.{status_number};
+
 use cm_base::{NoMemory, Status};
 use cm_cli::run;
 use cm_io::{RealShelf, RealSink};
@@ -9,17 +13,26 @@ use std::process::ExitCode;
 use std::rt::Env;
 use std::{env, io};
 
+#[cfg(test)]
+mod tests;
+
 fn main(rt: HostRuntime) -> ExitCode {
     let words = match words_of(&rt) {
         Ok(words) => words,
-        Err(NoMemory) => return ExitCode::from(Status::NoMemory.number()),
+        Err(NoMemory) => return exit_code(Status::NoMemory),
     };
     let mut shelf = match RealShelf::new(&rt, rt.alloc(), &words) {
         Ok(shelf) => shelf,
-        Err(_) => return ExitCode::from(Status::NoMemory.number()),
+        Err(_) => return exit_code(Status::NoMemory),
     };
     let mut sink = RealSink::new(io::writer(&rt));
-    let status = run(rt.alloc(), &words, &mut shelf, &mut sink);
+    exit_code(run(rt.alloc(), &words, &mut shelf, &mut sink))
+}
+
+// The program ends with the number of its answer.
+fn exit_code(status: Status) -> ExitCode
+    ensures { exit_status result ≡ status_number status }
+{
     ExitCode::from(status.number())
 }
 

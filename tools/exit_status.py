@@ -1,0 +1,90 @@
+#!/usr/bin/env python3
+"""Runs the built program once for each status but 0, and compares status and bytes with what docs/FORMATS.md tells.
+
+  exit_status.py [PROGRAM]
+
+PROGRAM is credaudit; left out, the one that was built in this repository. The world, the log and the front of the reports
+are those of the stored run (crates/credaudit). So it shows what no contract says of `main`: it carries out the words once,
+writes nothing else, to standard output or standard error, and ends with the number of the answer. Status 10 (no memory)
+isn't among them: tools/refusals.py has it. Status 0: nothing differs; 1: something does; 2: there is no program.
+"""
+import argparse
+import os
+import subprocess
+import sys
+import tempfile
+
+from recordings import program_of
+
+CRATE = os.path.join(os.path.dirname(os.path.abspath(__file__)), "..", "crates", "credaudit")
+FORMS = ("replay WORLD LOG", "audit WORLD LOG PID RIGHT", "check WORLD LOG PID RIGHT CERT", "confirm WORLD LOG PID RIGHT RUN",
+         "drill N")
+USAGE = "".join(f"usage: credaudit {form}\n" for form in FORMS)
+
+
+def of_crate(name):
+    with open(os.path.join(CRATE, name)) as file:
+        return file.read()
+
+
+def files(world, log):
+    """The files of the runs: the stored world and log, and others."""
+    return {
+        "world": world,
+        "log": log,
+        # A process whose four user ids are 1000, without capabilities, may not become root: setresuid(2).
+        "impossible": log + "100 setresuid 0 0 0 = 0\n",
+        "faulty": log + "100 setresuid 0 0\n",
+        "bad": world + "no = \"key\"\n",
+        "long": "#" * 1048577,
+    }
+
+
+def rows(report):
+    """Words, status and text of each run; the stored run's report ends with a line `end 1`."""
+    front = report[:report.index("end 1\n")]
+    return [
+        (("audit", "world", "log", "100", "uid:1000"), 1, report + "no 0\nholder 100\n"),
+        (("replay", "world", "impossible"), 3, front + "impossible line 2: the rules give EPERM\n"),
+        (("replay", "bad", "log"), 4, "bad world\n"),
+        (("replay", "world", "faulty"), 5, front + "bad log line 2\n"),
+        ((), 6, USAGE),
+        (("replay", "world"), 6, USAGE),
+        (("replay", "missing", "log"), 7, ""),
+        (("replay", "world", "missing"), 7, ""),
+        (("replay", "long", "log"), 9, "limit world 1048576\n"),
+        (("audit", "world", "log", "7", "uid:0"), 12, report + "bad query: pid\n"),
+        (("drill", "1"), 13, "not built\n"),
+    ]
+
+
+def run(program, words, work, out):
+    return subprocess.run([program, *words], cwd=work, stdin=subprocess.DEVNULL, stdout=out, stderr=subprocess.PIPE)
+
+
+def differs(words, wanted, got):
+    if wanted != got:
+        print(f"credaudit {' '.join(words)}: wanted {wanted}, got {got}")
+    return wanted != got
+
+
+def main():
+    ask = argparse.ArgumentParser(usage="exit_status.py [PROGRAM]")
+    ask.add_argument("program", nargs="?", default=os.path.join(CRATE, "out", "credaudit"))
+    program, table, wrong = program_of(ask.parse_args()), rows(of_crate("stdout")), 0
+    with tempfile.TemporaryDirectory() as work, open("/dev/full", "wb") as full:
+        for name, text in files(of_crate("data/world.toml"), of_crate("data/setresuid.log")).items():
+            with open(os.path.join(work, name), "w") as file:
+                file.write(text)
+        for words, status, text in table:
+            got = run(program, words, work, subprocess.PIPE)
+            wrong += differs(words, (status, text.encode(), b""), (got.returncode, got.stdout, got.stderr))
+        # Nothing can be written to a full device.
+        words = ("replay", "world", "log")
+        got = run(program, words, work, full)
+        wrong += differs(words, (8, b""), (got.returncode, got.stderr))
+    print(f"{len(table) + 1} runs, {wrong} differ")
+    sys.exit(1 if wrong else 0)
+
+
+main()
