@@ -2,9 +2,7 @@
 use Rattle.std.proofs.Common.{◌==◌, not, filter, ◌∙◌, ◌≡◌, ◌≢◌, false, ℕ, zero, suc, ◌<◌, ◌≤◌, ◌+◌, length, List, []}
 use Rattle.std.proofs.Common.{◌∷◌, Some, None, refl, sym, ap, inl, inr, arith, get_or, slice_get, slice_set}
 use Rattle.std.specs.List.{insert, remove}
-use Rattle.std.specs.Prelude.{nat_lt, All}
-use Rattle.std.proofs.lemmas.List.Elements.{All-cons, All-head, All-tail}
-use Rattle.std.proofs.lemmas.Bool.{cases_order, cond_both, ltb-true, ltb-false, cond-true, cond-false, eq-eqb, ne_eqb, not_from_true, not_from_false}
+use Rattle.std.proofs.lemmas.Bool.{cases_order, cond-true, cond-false, eq-eqb, ne_eqb, not_from_true, not_from_false}
 use Rattle.cm_state.specs.Places.{pid_at, IsPlace}
 use Rattle.model_cred.specs.Process.{Process, Ascends, process_at, put_process, is_alive, insert_process}
 

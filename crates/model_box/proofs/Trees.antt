@@ -7,7 +7,7 @@ use Rattle.std.proofs.lemmas.Bool.{false≢true, cases_lt, cases_eq, eqb-true, e
 use Rattle.cm_base.specs.CapSet.{holds}
 use Rattle.model_cred.proofs.Spaces.{chain_none, chain_empty}
 use Rattle.model_cred.specs.IdMap.{is_the}
-use Rattle.model_cred.specs.Space.{Space, Spaces, space_at, space_of, no_space, chain, chain_from, is_at_or_above}
+use Rattle.model_cred.specs.Space.{Space, Spaces, space_at, space_of, no_space, chain, is_at_or_above}
 use Rattle.model_rules.specs.Power.{over, gives_power, is_owned}
 use Rattle.model_box.specs.Row.{Row, Standing, Fresh}
 use Rattle.model_box.specs.Covers.{RowOf, own, child, deeper}

@@ -1,6 +1,6 @@
 -- Which process a pid finds, and which pids are alive, with one process in the place of another, with one more, and with
 -- one less.
-use Rattle.std.proofs.Common.{◌≡◌, ◌≢◌, ℕ, ◌==◌, ◌||◌, Bool, true, false, cond, List, [], ◌∷◌, Some, None, refl, ap, ◌∙◌}
+use Rattle.std.proofs.Common.{◌≡◌, ◌≢◌, ℕ, ◌==◌, ◌||◌, Bool, true, false, cond, List, [], ◌∷◌, Some, None, refl}
 use Rattle.std.proofs.Common.{arith, option_map}
 use Rattle.model_cred.specs.IdMap.{is_the}
 use Rattle.model_cred.specs.Process.{Process, process_at, put_process, insert_process, is_alive, after_exit, without_process}

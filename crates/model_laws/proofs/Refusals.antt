@@ -1,6 +1,6 @@
 -- A refusal changes nothing.
 use Rattle.std.proofs.Common.{◌≡◌, ℕ, ◌==◌, Bool, true, false, List, [], ◌∷◌, Some, if◌then◌else◌, refl, sym, ap, ◌∙◌, inl, inr}
-use Rattle.std.proofs.lemmas.Bool.{cases_Bool, eqb-true, cond-true, cond-false}
+use Rattle.std.proofs.lemmas.Bool.{cases_Bool, cond-true, cond-false}
 use Rattle.cm_base.specs.declared.errno.Errno.{Errno}
 use Rattle.cm_base.specs.declared.errno.Errno.TheVariants.{EAGAIN}
 use Rattle.cm_base.specs.declared.res.Res.{Res}

@@ -1,12 +1,12 @@
 -- The processes that a world's text declares: each is in the initial space; and where the text says no more of one than
 -- its pid and its user ids, its credential is the default one, whose sets follow its user ids.
-use Rattle.std.proofs.Common.{◌≡◌, ℕ, ◌==◌, ◌||◌, Bool, true, false, cond, List, [], ◌∷◌, Option, Some, None, refl, sym, ◌∙◌, ap, subst, arith, nat_lt, All}
+use Rattle.std.proofs.Common.{◌≡◌, ℕ, ◌==◌, ◌||◌, Bool, true, false, cond, List, [], ◌∷◌, Option, Some, None, refl, sym, ◌∙◌, ap, subst, arith, All}
 use Rattle.std.proofs.lemmas.List.Elements.{All-nil, All-cons, All-head, All-tail, All-weaker}
 use Rattle.std.specs.Prelude.{codes, is_some, option_map}
 use Rattle.cm_base.specs.CapSet.{full, none}
 use Rattle.model_cred.proofs.Orders.{all_insert}
 use Rattle.model_cred.specs.Credential.{Credential, FourIds, all_four}
-use Rattle.model_cred.specs.Process.{Process, State, insert_process}
+use Rattle.model_cred.specs.Process.{Process, State}
 use Rattle.model_cred.specs.Space.{first_spaces}
 use Rattle.model_cred.specs.World.{World}
 use Rattle.model_run.specs.RunBack.{has_root, SetsFollowIds, AllFollow, StateFollows}

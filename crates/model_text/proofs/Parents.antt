@@ -8,7 +8,7 @@ use Rattle.model_cred.proofs.Lookups.{alive_cons}
 use Rattle.model_cred.specs.Process.{Process, process_at, is_alive}
 use Rattle.model_cred.specs.World.{World}
 use Rattle.model_text.proofs.Starts.{Made, start_made, both_true, alive_in_order, in_order_finds}
-use Rattle.model_text.specs.WorldText.{Reads, world_text, text_says_more, in_order, are_distinct, is_among, parents_stand}
+use Rattle.model_text.specs.WorldText.{Reads, world_text, text_says_more, are_distinct, is_among, parents_stand}
 
 -- ---- each is found by its pid
 -- the process is the one that is found by its pid
