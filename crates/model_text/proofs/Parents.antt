@@ -15,7 +15,7 @@ alive_by_pid pid [] = refl
 alive_by_pid pid (p ∷ ps) = grind (arith, alive_by_pid pid ps)
 
 -- the process is the one that is found by its pid
-abbrev IsFound : List Process → Process → Type 0
+abbrev pub IsFound : List Process → Process → Type 0
 IsFound all p = process_at all p.pid ≡ Some p
 
 -- also after another, whose pid none of them has
@@ -30,7 +30,7 @@ found_behind p ps q free is =
         cc
 
 -- so is each, where no pid stands twice
-each_found : (ps : List Process) → are_distinct ps ≡ true → All (IsFound ps) ps
+pub each_found : (ps : List Process) → are_distinct ps ≡ true → All (IsFound ps) ps
 each_found [] distinct = All-nil (IsFound [])
 each_found (p ∷ ps) distinct =
     let free : has_pid p.pid ps ≡ false = grind (arith, distinct) in

@@ -1,13 +1,10 @@
--- The processes at a world's start: no pid stands twice, so the credential lines at the start show each of them.
-use Rattle.std.proofs.Common.{◌≡◌, ℕ, ◌==◌, Bool, true, false, cond, ◌&&◌, ◌||◌, List, [], ◌∷◌, map, Option, Some, None, refl, sym, ◌∙◌, ap, subst, arith, ◌≢◌, ◌<◌, inl, inr}
+-- The processes at a world's start: no pid stands twice, and the pids ascend.
+use Rattle.std.proofs.Common.{◌≡◌, ℕ, ◌==◌, Bool, true, false, cond, ◌&&◌, ◌||◌, List, [], ◌∷◌, Option, Some, None, refl, sym, ◌∙◌, ap, subst, arith, ◌≢◌, ◌<◌, inl, inr}
 use Rattle.std.proofs.lemmas.Bool.{cases_lt, lt-ltb, le-ltb}
 use Rattle.std.specs.Prelude.{codes}
 use Rattle.std.specs.Str.{is_utf8}
-use Rattle.std.specs.Option.{option_or}
 use Rattle.model_cred.specs.Process.{Process, process_at, Ascends}
 use Rattle.model_cred.specs.World.{World}
-use Rattle.model_text.specs.Laws.{last_credentials}
-use Rattle.model_text.specs.Report.{Credentials}
 use Rattle.model_text.specs.Toml.{has_only, is_text}
 use Rattle.model_text.specs.WorldText.{WorldText, Reads, Bad, NotBuilt, world_text, document_text, table_text, built_table, distinct_world, world_with, in_order, placed, are_distinct, parents_stand, has_pid, asks_more, processes_of, rows_have, says_more, document_says_more, text_says_more}
 use Rattle.model_text.specs.ProcessText.{further_keys}
@@ -135,17 +132,3 @@ pub start_ascends : (bytes : List ℕ) (w : World) → world_text bytes ≡ Read
 start_ascends bytes w is =
     let made : Made w (text_says_more bytes) = start_made bytes w is in
     subst (λ (x : World). Ascends x.start.processes) made.world (in_order_ascends made.processes made.distinct)
-
--- ---- the credential lines at the start
-not_found : (pid : ℕ) (ps : List Process) → has_pid pid ps ≡ false → process_at ps pid ≡ None
-not_found pid [] free = refl
-not_found pid (p ∷ ps) free = grind (arith, free, not_found pid ps)
-
-or_none : (o : Option Process) → option_or o None ≡ o
-or_none None = refl
-or_none (Some p) = refl
-
--- the last credential line of a process that has its pid alone shows it
-pub start_shows : (ps : List Process) → are_distinct ps ≡ true → (pid : ℕ) → last_credentials pid (map Credentials ps) ≡ process_at ps pid
-start_shows [] distinct pid = refl
-start_shows (p ∷ ps) distinct pid = grind (arith, distinct, start_shows ps, not_found pid ps, or_none (process_at ps pid))

@@ -1,18 +1,22 @@
 -- What the lines of a report show: after lines that show a state, the lines of a step show the state that it leads to.
-use Rattle.std.proofs.Common.{◌≡◌, ◌≢◌, ℕ, ◌==◌, ◌⊎◌, cond, inl, inr, List, [], ◌∷◌, ◌++◌, Option, Some, None, IsSomeAnd, refl, sym, ◌∙◌, ap, subst, arith}
+use Rattle.std.proofs.Common.{◌≡◌, ◌≢◌, ℕ, ◌==◌, ◌⊎◌, cond, inl, inr, List, [], ◌∷◌, ◌++◌, Option, Some, None, IsSomeAnd, refl, sym, ◌∙◌, ap, subst, arith, append_assoc, append-nil, map, false, true}
+use Rattle.std.proofs.lemmas.List.Elements.{All-head, All-tail}
 use Rattle.std.proofs.lemmas.Bool.{cases_eq}
 use Rattle.std.specs.Option.{option_or}
 use Rattle.cm_base.specs.declared.res.Res.{Res}
 use Rattle.cm_base.specs.declared.res.Res.TheVariants.{Child}
-use Rattle.model_cred.specs.Call.{Event}
 use Rattle.model_cred.specs.Process.{Process, State, process_at}
 use Rattle.model_cred.specs.World.{World}
-use Rattle.model_run.specs.Step.{Step}
-use Rattle.model_text.proofs.Processes.{pid_of_found, IsLike}
-use Rattle.model_text.proofs.StepFacts.{WasThere, others_were_there}
-use Rattle.model_text.specs.Laws.{Shows, last_credentials}
+use Rattle.model_run.specs.Step.{Step, Run}
+use Rattle.model_report.proofs.Replays.{passed_lines, passed_step}
+use Rattle.model_report.proofs.Processes.{pid_of_found, IsLike}
+use Rattle.model_report.proofs.StepFacts.{WasThere, others_were_there}
+use Rattle.model_report.specs.Laws.{Shows, last_credentials}
 use Rattle.model_text.specs.Line.{IsBuilt}
-use Rattle.model_text.specs.Report.{ReportLine, Credentials, Told, Plain, credentials_if, child_lines, step_lines}
+use Rattle.model_report.specs.Replay.{ReportLine, Credentials, Told, Plain, credentials_if, child_lines, step_lines}
+use Rattle.model_text.proofs.Built.{AreBuilt}
+use Rattle.model_text.specs.Reading.{Placed, events_of}
+use Rattle.model_text.specs.WorldText.{are_distinct, has_pid}
 
 -- ---- the last credential lines
 or_assoc : (a b c : Option Process) → option_or (option_or a b) c ≡ option_or a (option_or b c)
@@ -25,7 +29,7 @@ last_append pid [] second = elim (last_credentials pid second) as (λ o. o ≡ o
 last_append pid (Credentials p ∷ first) second =
     ap (λ (o : Option Process). option_or o (cond (p.pid == pid) (Some p) None)) (last_append pid first second)
     ∙ or_assoc (last_credentials pid second) (last_credentials pid first) (cond (p.pid == pid) (Some p) None)
-last_append pid (Told number e ∷ first) second = last_append pid first second
+last_append pid (Told e ∷ first) second = last_append pid first second
 last_append pid (Plain text ∷ first) second = last_append pid first second
 
 -- ---- what is shown
@@ -78,23 +82,51 @@ shown_before before s shows p was =
     (subst (λ (n : ℕ). IsSomeAnd (last_credentials n before) (IsShown was.process)) was.like.pid (shows was.process found))
 
 -- the lines of a step show the state that it leads to, after lines that show the state before
-pub step_shows : (w : World) (s : State) (e : Event) (s' : State) → IsBuilt e.call → Step w s e s' → (before : List ReportLine) → Shows before s → (number : ℕ) → Shows (before ++ step_lines s' number e) s'
-step_shows w s e s' built goes before shows number p found =
-    let child : Option Process = last_credentials p.pid (child_lines s' e.res) in
-    let caller : Option Process = last_credentials p.pid (credentials_if (process_at s'.processes e.pid)) in
+pub step_shows : (w : World) (s : State) (e : Placed) (s' : State) → IsBuilt e.event.call → Step w s e.event s' → (before : List ReportLine) → Shows before s → Shows (before ++ step_lines s' e) s'
+step_shows w s e s' built goes before shows p found =
+    let child : Option Process = last_credentials p.pid (child_lines s' e.event.res) in
+    let caller : Option Process = last_credentials p.pid (credentials_if (process_at s'.processes e.event.pid)) in
     let earlier : Option Process = last_credentials p.pid before in
-    let last : last_credentials p.pid (before ++ step_lines s' number e) ≡ option_or (option_or child caller) earlier
-    = last_append p.pid before (step_lines s' number e)
-    ∙ ap (λ (o : Option Process). option_or o earlier) (last_append p.pid (credentials_if (process_at s'.processes e.pid)) (child_lines s' e.res)) in
-    let by_child : (o : Option Process) → child ≡ o → IsSomeAnd (option_or (option_or o caller) earlier) (IsShown p) → IsSomeAnd (last_credentials p.pid (before ++ step_lines s' number e)) (IsShown p)
+    let last : last_credentials p.pid (before ++ step_lines s' e) ≡ option_or (option_or child caller) earlier
+    = last_append p.pid before (step_lines s' e)
+    ∙ ap (λ (o : Option Process). option_or o earlier) (last_append p.pid (credentials_if (process_at s'.processes e.event.pid)) (child_lines s' e.event.res)) in
+    let by_child : (o : Option Process) → child ≡ o → IsSomeAnd (option_or (option_or o caller) earlier) (IsShown p) → IsSomeAnd (last_credentials p.pid (before ++ step_lines s' e)) (IsShown p)
     = λ o is shown. subst (λ (x : Option Process). IsSomeAnd x (IsShown p)) (sym (last ∙ ap (λ (x : Option Process). option_or (option_or x caller) earlier) is)) shown in
     let by_caller : (o : Option Process) → caller ≡ o → IsSomeAnd (option_or o earlier) (IsShown p) → IsSomeAnd (option_or caller earlier) (IsShown p)
     = λ o is shown. subst (λ (x : Option Process). IsSomeAnd (option_or x earlier) (IsShown p)) (sym is) shown in
-    elim (child_line s' e.res p found) [
+    elim (child_line s' e.event.res p found) [
       | inl is ↦ by_child (Some p) is (refl, refl, refl)
       | inr none ↦
-          by_child None none.0 (elim (cases_eq p.pid e.pid) [
-            | inl same ↦ by_caller (Some p) (own_line s'.processes e.pid p found same) (refl, refl, refl)
-            | inr other ↦ by_caller None (other_line s'.processes e.pid p other) (shown_before before s shows p (others_were_there w s e s' built goes p found other none.1))
+          by_child None none.0 (elim (cases_eq p.pid e.event.pid) [
+            | inl same ↦ by_caller (Some p) (own_line s'.processes e.event.pid p found same) (refl, refl, refl)
+            | inr other ↦ by_caller None (other_line s'.processes e.event.pid p other) (shown_before before s shows p (others_were_there w s e.event s' built goes p found other none.1))
           ])
     ]
+
+-- and so do the lines of a run of events of built calls
+pub run_shows : (w : World) (events : List Placed) (from to : State) → AreBuilt events → Run w from (events_of events) to → (before : List ReportLine) → Shows before from
+    → Shows (before ++ passed_lines w from events) to
+run_shows w [] from to built run before shows =
+    subst (λ (ls : List ReportLine). Shows ls to) (sym (append-nil before)) (subst (λ (s : State). Shows before s) (sym run) shows)
+run_shows w (e ∷ events) from to built run before shows =
+    let step : List ReportLine = step_lines run.0 e in
+    let rest : List ReportLine = passed_lines w run.0 events in
+    let own : IsBuilt e.event.call = All-head (λ (e : Placed). IsBuilt e.event.call) e events built in
+    let others : AreBuilt events = All-tail (λ (e : Placed). IsBuilt e.event.call) e events built in
+    let shown : Shows ((before ++ step) ++ rest) to = run_shows w events run.0 to others run.2 (before ++ step) (step_shows w from e run.0 own run.1 before shows) in
+    subst (λ (ls : List ReportLine). Shows ls to)
+    (append_assoc before step rest ∙ ap (λ (ls : List ReportLine). before ++ ls) (sym (passed_step w from run.0 e events run.1))) shown
+
+-- ---- the credential lines at the start
+not_found : (pid : ℕ) (ps : List Process) → has_pid pid ps ≡ false → process_at ps pid ≡ None
+not_found pid [] free = refl
+not_found pid (p ∷ ps) free = grind (arith, free, not_found pid ps)
+
+or_none : (o : Option Process) → option_or o None ≡ o
+or_none None = refl
+or_none (Some p) = refl
+
+-- the last credential line of a process that has its pid alone shows it
+pub start_shows : (ps : List Process) → are_distinct ps ≡ true → (pid : ℕ) → last_credentials pid (map Credentials ps) ≡ process_at ps pid
+start_shows [] distinct pid = refl
+start_shows (p ∷ ps) distinct pid = grind (arith, distinct, start_shows ps, not_found pid ps, or_none (process_at ps pid))

@@ -9,20 +9,16 @@ use Rattle.model_cred.specs.Right.{Right, Cap, Uid, Gid}
 use Rattle.model_cred.specs.Space.{first_spaces}
 use Rattle.model_cred.specs.World.{World}
 use Rattle.model_run.proofs.WaysBack.{AllFollow, StateFollows, setresuids_follow, IsWayBack, way_back_is}
-use Rattle.model_run.specs.Step.{Outcome, Run}
+use Rattle.model_run.specs.Step.{Run}
 use Rattle.model_run.specs.WayBack.{are_setresuids, BringsBack, CanComeBack, alone, way_back}
 use Rattle.model_text.proofs.Declared.{start_follows}
-use Rattle.model_text.specs.Causes.{IsAccepted, Asks, AsksAlone, IsKnown, HasMore, IsYes, IsNo, IsBadQuery, IsBeyond}
-use Rattle.model_text.specs.Line.{events_of}
-use Rattle.model_text.specs.Query.{Query, asked_process, process_of, right_token, right_by, id_number, as_id, cap_parts, cap_right, rest_after}
-use Rattle.model_text.specs.Report.{Report, verdict, asked_verdict, right_verdict, way_verdict, not_built, state_after, state_or}
+use Rattle.model_report.specs.Causes.{IsAccepted, Asks, AsksAlone, IsKnown, HasMore, IsYes, IsNo, IsBadQuery, IsBeyond}
+use Rattle.model_text.specs.Reading.{events_of}
+use Rattle.model_report.specs.Query.{Query, asked_process, process_of, right_token, right_by, id_number, as_id, cap_parts, cap_right, rest_after}
+use Rattle.model_report.specs.Replay.{Report, not_built}
+use Rattle.model_report.specs.Report.{verdict, asked_verdict, right_verdict, run_verdict}
 use Rattle.model_text.specs.Token.{number_token, pid_token}
 use Rattle.model_text.specs.WorldText.{Reads, world_text, text_says_more}
-
--- ---- the state that a run leads to
-pub run_after : (w : World) (es : List Event) (s s' : State) → Run w s es s' → state_after w s es ≡ s'
-run_after w [] s s' run = sym run
-run_after w (e ∷ es) s s' run = ap (λ (o : Outcome). state_after w (state_or s o) es) run.1 ∙ run_after w es run.0 s' run.2
 
 -- Where a world's text says no more of a process than its pid and its user ids, and each event is a call of setresuid,
 -- the sets of each process follow its user ids in the state that a run leads to.
@@ -33,7 +29,7 @@ reached_follows bytes w es s reads plain calls run = setresuids_follow w es w.st
 -- ---- what the weak audit knows
 -- there is more to an accepted log than it knows
 abbrev pub has_more : (words : List (List ℕ)) (bytes : List ℕ → List ℕ) → IsAccepted words bytes → Bool
-has_more words bytes is = text_says_more (bytes is.begins.names.world) || not (are_setresuids (events_of is.lines))
+has_more words bytes is = text_says_more (bytes is.comes.begins.names.world) || not (are_setresuids (events_of is.comes.events))
 
 no_more : (more all : Bool) → (more || not all) ≡ false → (more ≡ false) × (all ≡ true)
 no_more true all is = absurd (cc)
@@ -56,17 +52,17 @@ by_more false false is = refl
 
 is_known : (words : List (List ℕ)) (bytes : List ℕ → List ℕ) (is : IsAccepted words bytes) → has_more words bytes is ≡ false → IsKnown words bytes is
 is_known words bytes is none =
-    let both : (text_says_more (bytes is.begins.names.world) ≡ false) × (are_setresuids (events_of is.lines) ≡ true) =
-    no_more (text_says_more (bytes is.begins.names.world)) (are_setresuids (events_of is.lines)) none in
+    let both : (text_says_more (bytes is.comes.begins.names.world) ≡ false) × (are_setresuids (events_of is.comes.events) ≡ true) =
+    no_more (text_says_more (bytes is.comes.begins.names.world)) (are_setresuids (events_of is.comes.events)) none in
     record { world = both.0; events = both.1 }
 
 known_is : (words : List (List ℕ)) (bytes : List ℕ → List ℕ) (is : IsAccepted words bytes) → IsKnown words bytes is → has_more words bytes is ≡ false
-known_is words bytes is known = by_no_more (text_says_more (bytes is.begins.names.world)) (are_setresuids (events_of is.lines)) known.world known.events
+known_is words bytes is known = by_no_more (text_says_more (bytes is.comes.begins.names.world)) (are_setresuids (events_of is.comes.events)) known.world known.events
 
 -- after a log of which it knows all, the sets of each process follow its user ids
 pub accepted_follows : (words : List (List ℕ)) (bytes : List ℕ → List ℕ) (is : IsAccepted words bytes) → IsKnown words bytes is → StateFollows is.state
 accepted_follows words bytes is known =
-    reached_follows (bytes is.begins.names.world) is.world (events_of is.lines) is.state is.begins.names.reads known.world known.events is.run
+    reached_follows (bytes is.comes.begins.names.world) is.world (events_of is.comes.events) is.state is.comes.begins.names.reads known.world known.events is.comes.run
 
 -- ---- the ids of rights
 id_is_id : (n : Option ℕ) (k : ℕ) → option_map Uid (option_and_then as_id n) ≡ Some (Uid k) → k < 4294967295
@@ -123,22 +119,22 @@ alone_is s p spaces only at =
     ∙ ap (λ (ps : List Process). record { processes = ps; spaces = first_spaces }) (sym only)
     ∙ ap (λ (spaces' : _). record { processes = s.processes; spaces = spaces' }) (sym spaces)
 
--- what the way back of the one process says
-WayIs : World → State → Process → ℕ → Option (List Event) → Type 0
-WayIs w s p k None = (run : List Event) → ¬ BringsBack w s p.pid k run
-WayIs w s p k (Some run) = BringsBack w s p.pid k run
+-- what the run back of the one process says
+RunIs : World → State → Process → ℕ → Option (List Event) → Type 0
+RunIs w s p k None = (run : List Event) → ¬ BringsBack w s p.pid k run
+RunIs w s p k (Some run) = BringsBack w s p.pid k run
 
-way_is_by : (w : World) (s : State) (p : Process) (k : ℕ) (way : Option (List Event)) → alone p.pid p.forebear p.cred ≡ s → IsWayBack w p.pid p.forebear p.cred k way → WayIs w s p k way
-unfolding WayIs
-way_is_by w s p k None same never = λ run back. never (run, subst (λ (x : State). BringsBack w x p.pid k run) (sym same) back)
-way_is_by w s p k (Some run) same back = subst (λ (x : State). BringsBack w x p.pid k run) same back
+run_is_by : (w : World) (s : State) (p : Process) (k : ℕ) (found : Option (List Event)) → alone p.pid p.forebear p.cred ≡ s → IsWayBack w p.pid p.forebear p.cred k found → RunIs w s p k found
+unfolding RunIs
+run_is_by w s p k None same never = λ run back. never (run, subst (λ (x : State). BringsBack w x p.pid k run) (sym same) back)
+run_is_by w s p k (Some run) same back = subst (λ (x : State). BringsBack w x p.pid k run) same back
 
-way_is : (w : World) (s : State) (q : Query) (p : Process) (k : ℕ) → StateFollows s → Asks q s p (Uid k) → length s.processes ≡ 1 → WayIs w s p k (way_back p.cred p.pid k)
-way_is w s q p k follow asks one =
+run_is : (w : World) (s : State) (q : Query) (p : Process) (k : ℕ) → StateFollows s → Asks q s p (Uid k) → length s.processes ≡ 1 → RunIs w s p k (way_back p.cred p.pid k)
+run_is w s q p k follow asks one =
     let found : (n : ℕ) × (process_at s.processes n ≡ Some p) = found_pid s (pid_token q.pid) p asks.process in
     let only : (s.processes ≡ p ∷ []) × (p.pid ≡ found.0) = one_of_one s.processes found.0 p one found.1 in
     let all : AllFollow (p ∷ []) = subst (λ (ps : List Process). AllFollow ps) only.0 follow.processes in
-    way_is_by w s p k (way_back p.cred p.pid k) (alone_is s p follow.spaces only.0 all.0) (way_back_is w p.pid p.forebear p.cred k all.1 (asked_id q.right k asks.asked))
+    run_is_by w s p k (way_back p.cred p.pid k) (alone_is s p follow.spaces only.0 all.0) (way_back_is w p.pid p.forebear p.cred k all.1 (asked_id q.right k asks.asked))
 
 -- ---- the answer by what is asked
 of_asks : (more : Bool) (s : State) (q : Query) (p : Process) (right : Right) → Asks q s p right → verdict more s q ≡ right_verdict more s p right
@@ -158,7 +154,7 @@ beyond_uid more s p (Gid k) other = refl
 beyond_uid more s p (Cap cap n) other = refl
 
 beyond_one : (more one : Bool) (s : State) (p : Process) (right : Right) → (length s.processes == 1) ≡ one → (not more && one) ≡ false → (right_verdict more s p right).status ≡ status.NotBuilt
-beyond_one more one s p (Uid k) is beyond = ap (λ (b : Bool). (cond b (way_verdict p.pid (way_back p.cred p.pid k)) not_built).status) (ap (λ (b : Bool). not more && b) is ∙ beyond)
+beyond_one more one s p (Uid k) is beyond = ap (λ (b : Bool). (cond b (run_verdict p.pid (way_back p.cred p.pid k)) not_built).status) (ap (λ (b : Bool). not more && b) is ∙ beyond)
 beyond_one more one s p (Gid k) is beyond = refl
 beyond_one more one s p (Cap cap n) is beyond = refl
 
@@ -180,20 +176,20 @@ module _ (words : List (List ℕ)) (bytes : List ℕ → List ℕ) (is : IsAccep
   abbrev pub log_verdict : Report
   log_verdict = verdict (has_more words bytes is) is.state q
 
-  way_cause : (p : Process) (k : ℕ) → AsksAlone words bytes is q p k → (way : Option (List Event)) → WayIs is.world is.state p k way → VerdictCause words bytes is q (way_verdict p.pid way).status
-  unfolding WayIs
-  way_cause p k asks None never = (p, k, asks, never)
-  way_cause p k asks (Some run) back = (p, k, asks, (run, back))
+  run_cause : (p : Process) (k : ℕ) → AsksAlone words bytes is q p k → (found : Option (List Event)) → RunIs is.world is.state p k found → VerdictCause words bytes is q (run_verdict p.pid found).status
+  unfolding RunIs
+  run_cause p k asks None never = (p, k, asks, never)
+  run_cause p k asks (Some run) back = (p, k, asks, (run, back))
 
-  way_of_alone : (p : Process) (k : ℕ) → AsksAlone words bytes is q p k → WayIs is.world is.state p k (way_back p.cred p.pid k)
-  way_of_alone p k asks = way_is is.world is.state q p k (accepted_follows words bytes is asks.known) asks.asks asks.alone
+  run_of_alone : (p : Process) (k : ℕ) → AsksAlone words bytes is q p k → RunIs is.world is.state p k (way_back p.cred p.pid k)
+  run_of_alone p k asks = run_is is.world is.state q p k (accepted_follows words bytes is asks.known) asks.asks asks.alone
 
   uid_cause : (p : Process) (k : ℕ) → Asks q is.state p (Uid k) → (more one : Bool) → has_more words bytes is ≡ more → (length is.state.processes == 1) ≡ one
-      → VerdictCause words bytes is q (cond (not more && one) (way_verdict p.pid (way_back p.cred p.pid k)) not_built).status
-  uid_cause p k asks true one is_more is_one = (p, Uid k, asks, inr (inr (some_more (text_says_more (bytes is.begins.names.world)) (are_setresuids (events_of is.lines)) is_more)))
+      → VerdictCause words bytes is q (cond (not more && one) (run_verdict p.pid (way_back p.cred p.pid k)) not_built).status
+  uid_cause p k asks true one is_more is_one = (p, Uid k, asks, inr (inr (some_more (text_says_more (bytes is.comes.begins.names.world)) (are_setresuids (events_of is.comes.events)) is_more)))
   uid_cause p k asks false true is_more is_one =
       let only : AsksAlone words bytes is q p k = record { asks = asks; alone = same_number (length is.state.processes) 1 is_one; known = is_known words bytes is is_more } in
-      way_cause p k only (way_back p.cred p.pid k) (way_of_alone p k only)
+      run_cause p k only (way_back p.cred p.pid k) (run_of_alone p k only)
   uid_cause p k asks false false is_more is_one =
       let found : (n : ℕ) × (process_at is.state.processes n ≡ Some p) = found_pid is.state (pid_token q.pid) p asks.process in
       (p, Uid k, asks, inr (inl (several is.state.processes found.0 p found.1 is_one)))
@@ -214,33 +210,33 @@ module _ (words : List (List ℕ)) (bytes : List ℕ → List ℕ) (is : IsAccep
 
   -- ---- and a cause makes its answer
   -- the answer where one process is asked for a user id
-  pub of_alone : (p : Process) (k : ℕ) → AsksAlone words bytes is q p k → log_verdict ≡ way_verdict p.pid (way_back p.cred p.pid k)
+  pub of_alone : (p : Process) (k : ℕ) → AsksAlone words bytes is q p k → log_verdict ≡ run_verdict p.pid (way_back p.cred p.pid k)
   of_alone p k asks =
       of_asks (has_more words bytes is) is.state q p (Uid k) asks.asks
-      ∙ ap (λ (more : Bool). cond (not more && length is.state.processes == 1) (way_verdict p.pid (way_back p.cred p.pid k)) not_built) (known_is words bytes is asks.known)
-      ∙ ap (λ (one : Bool). cond one (way_verdict p.pid (way_back p.cred p.pid k)) not_built) (eq-eqb (length is.state.processes) 1 asks.alone)
+      ∙ ap (λ (more : Bool). cond (not more && length is.state.processes == 1) (run_verdict p.pid (way_back p.cred p.pid k)) not_built) (known_is words bytes is asks.known)
+      ∙ ap (λ (one : Bool). cond one (run_verdict p.pid (way_back p.cred p.pid k)) not_built) (eq-eqb (length is.state.processes) 1 asks.alone)
 
-  yes_status : (p : Process) (k : ℕ) (way : Option (List Event)) → WayIs is.world is.state p k way → ((run : List Event) → ¬ BringsBack is.world is.state p.pid k run) → (way_verdict p.pid way).status ≡ status.Accepted
-  unfolding WayIs
-  yes_status p k None way never = refl
+  yes_status : (p : Process) (k : ℕ) (found : Option (List Event)) → RunIs is.world is.state p k found → ((run : List Event) → ¬ BringsBack is.world is.state p.pid k run) → (run_verdict p.pid found).status ≡ status.Accepted
+  unfolding RunIs
+  yes_status p k None found never = refl
   yes_status p k (Some run) back never = absurd (never run back)
 
-  no_status : (p : Process) (k : ℕ) (way : Option (List Event)) → WayIs is.world is.state p k way → CanComeBack is.world is.state p.pid k → (way_verdict p.pid way).status ≡ status.No
-  unfolding WayIs
+  no_status : (p : Process) (k : ℕ) (found : Option (List Event)) → RunIs is.world is.state p k found → CanComeBack is.world is.state p.pid k → (run_verdict p.pid found).status ≡ status.No
+  unfolding RunIs
   no_status p k None never (run, back) = absurd (never run back)
-  no_status p k (Some run) way back = refl
+  no_status p k (Some run) found back = refl
 
   beyond_known : (p : Process) (right : Right) → HasMore words bytes is → (right_verdict (has_more words bytes is) is.state p right).status ≡ status.NotBuilt
   beyond_known p right more =
       beyond_one (has_more words bytes is) (length is.state.processes == 1) is.state p right refl
-      (ap (λ (b : Bool). not b && length is.state.processes == 1) (by_more (text_says_more (bytes is.begins.names.world)) (are_setresuids (events_of is.lines)) more))
+      (ap (λ (b : Bool). not b && length is.state.processes == 1) (by_more (text_says_more (bytes is.comes.begins.names.world)) (are_setresuids (events_of is.comes.events)) more))
 
   beyond_several : (p : Process) (right : Right) → 1 < length is.state.processes → (right_verdict (has_more words bytes is) is.state p right).status ≡ status.NotBuilt
   beyond_several p right more = beyond_one (has_more words bytes is) false is.state p right (not_one (length is.state.processes) more) (never (has_more words bytes is))
 
   pub verdict_by : (st : Status) → VerdictCause words bytes is q st → log_verdict.status ≡ st
-  verdict_by status.Accepted (p, k, asks, never) = ap (λ (r : Report). r.status) (of_alone p k asks) ∙ yes_status p k (way_back p.cred p.pid k) (way_of_alone p k asks) never
-  verdict_by status.No (p, k, asks, back) = ap (λ (r : Report). r.status) (of_alone p k asks) ∙ no_status p k (way_back p.cred p.pid k) (way_of_alone p k asks) back
+  verdict_by status.Accepted (p, k, asks, never) = ap (λ (r : Report). r.status) (of_alone p k asks) ∙ yes_status p k (way_back p.cred p.pid k) (run_of_alone p k asks) never
+  verdict_by status.No (p, k, asks, back) = ap (λ (r : Report). r.status) (of_alone p k asks) ∙ no_status p k (way_back p.cred p.pid k) (run_of_alone p k asks) back
   verdict_by status.BadQuery (inl none) = ap (λ (o : Option Process). (asked_verdict (has_more words bytes is) is.state o (right_token q.right)).status) none
   verdict_by status.BadQuery (inr (p, found, none)) =
       ap (λ (o : Option Process). (asked_verdict (has_more words bytes is) is.state o (right_token q.right)).status) found
@@ -250,13 +246,13 @@ module _ (words : List (List ℕ)) (bytes : List ℕ → List ℕ) (is : IsAccep
   verdict_by status.NotBuilt (p, right, asks, inr (inr more)) = ap (λ (r : Report). r.status) (of_asks (has_more words bytes is) is.state q p right asks) ∙ beyond_known p right more
   verdict_by _ h = absurd h
 
-  -- an answer no shows a way, which leads the process there
+  -- an answer no shows a run, which leads the process there
   pub no_shows : (p : Process) (k : ℕ) → AsksAlone words bytes is q p k → CanComeBack is.world is.state p.pid k
-      → (way : List Event) × BringsBack is.world is.state p.pid k way × (log_verdict ≡ way_verdict p.pid (Some way))
-  unfolding WayIs
-  no_shows p k asks back = shown (way_back p.cred p.pid k) (way_of_alone p k asks) (of_alone p k asks)
+      → (run : List Event) × BringsBack is.world is.state p.pid k run × (log_verdict ≡ run_verdict p.pid (Some run))
+  unfolding RunIs
+  no_shows p k asks back = shown (way_back p.cred p.pid k) (run_of_alone p k asks) (of_alone p k asks)
     where
-      shown : (found : Option (List Event)) → WayIs is.world is.state p k found → log_verdict ≡ way_verdict p.pid found
-          → (way : List Event) × BringsBack is.world is.state p.pid k way × (log_verdict ≡ way_verdict p.pid (Some way))
+      shown : (found : Option (List Event)) → RunIs is.world is.state p k found → log_verdict ≡ run_verdict p.pid found
+          → (run : List Event) × BringsBack is.world is.state p.pid k run × (log_verdict ≡ run_verdict p.pid (Some run))
       shown None never same = absurd (never back.0 back.1)
-      shown (Some way) back' same = (way, back', same)
+      shown (Some run) back' same = (run, back', same)

@@ -1,6 +1,6 @@
 -- The words of the command line (choice).
 use Rattle.std.specs.Prelude.{ℕ, codes, bytes_eq, Bool, false, nat_le, length, ◌==◌, List, [], ◌∷◌, Option, Some, None, if◌then◌else◌}
-use Rattle.model_text.specs.Query.{Query}
+use Rattle.model_report.specs.Query.{Query}
 use Rattle.model_text.specs.Token.{number_token}
 
 -- Replay of a log in a world; an audit after it, with the texts of a pid and of a right; one of the other forms; none of

@@ -1,5 +1,5 @@
 -- Why a command answers what it does, in the words of worlds, events and runs: each status and its cause.
-use Rattle.std.specs.Prelude.{◌≡◌, ◌≤◌, ◌<◌, ◌⊎◌, ℕ, true, false, length, List, [], ◌∷◌, ◌++◌, Some, None}
+use Rattle.std.specs.Prelude.{◌≡◌, ◌≤◌, ◌<◌, ◌⊎◌, ℕ, true, false, length, List, ◌∷◌, ◌++◌, Some, None}
 use Rattle.cm_base.specs.declared.status.Status.{Status}
 use Rattle.cm_base.specs.declared.status.Status.TheVariants as status
 use Rattle.model_cred.specs.Call.{Event}
@@ -8,22 +8,12 @@ use Rattle.model_cred.specs.Right.{Right, Uid}
 use Rattle.model_cred.specs.World.{World}
 use Rattle.model_run.specs.Step.{Step, Run}
 use Rattle.model_run.specs.WayBack.{are_setresuids, BringsBack, CanComeBack}
-use Rattle.model_text.specs.Command.{Later, NoForm, command_of, files_of, query_of}
-use Rattle.model_text.specs.Cut.{lines_of}
-use Rattle.model_text.specs.Line.{Line, NoEvent, Tells, Faulty, Unbuilt, script_line}
-pub use Rattle.model_text.specs.Line.{told_event, events_of}
-use Rattle.model_text.specs.Query.{Query, asked_process, right_token}
-use Rattle.model_text.specs.Report.{world_limit, log_limit}
-use Rattle.model_text.specs.WorldText.{WorldText, Reads, Bad, NotBuilt, world_text, text_says_more}
-
--- the line is whole: it tells an event or none
-abbrev pub IsWhole : List ℕ → Type 0
-IsWhole line = (script_line line ≡ NoEvent) ⊎ ((e : Event) × (script_line line ≡ Tells e))
-
--- each line is whole
-abbrev pub AreWhole : List (List ℕ) → Type 0
-AreWhole [] = Unit {0}
-AreWhole (line ∷ lines) = IsWhole line × AreWhole lines
+use Rattle.model_report.specs.Command.{Later, NoForm, command_of, files_of, query_of}
+use Rattle.model_report.specs.Query.{Query, asked_process, right_token}
+use Rattle.model_report.specs.Report.{world_limit, log_limit}
+use Rattle.model_text.specs.Reading.{Placed, Stop, Fault, Limit, NotBuilt, End, AtEnd, Stops, Reading, events_of, script_reading}
+use Rattle.model_text.specs.WorldText.{WorldText, Reads, Bad, world_text, text_says_more}
+use Rattle.model_text.specs.WorldText as texts
 
 -- The words, of a replay or of an audit, name a world, whose text is within its limit and reads so, and this log.
 pub record Names (words : List (List ℕ)) (bytes : List ℕ → List ℕ) (text : WorldText) (log : List ℕ) : Type 0 where
@@ -32,47 +22,42 @@ pub record Names (words : List (List ℕ)) (bytes : List ℕ → List ℕ) (text
   pub size : length (bytes world) ≤ world_limit
   pub reads : world_text (bytes world) ≡ text
 
--- The replay begins: the words name the world w and a log, which is within its limit and has these lines.
-pub record Begins (words : List (List ℕ)) (bytes : List ℕ → List ℕ) (w : World) (lines : List (List ℕ)) : Type 0 where
+-- The replay begins: the words name the world w and a log, which is within its limit and reads so.
+pub record Begins (words : List (List ℕ)) (bytes : List ℕ → List ℕ) (w : World) (reading : Reading) : Type 0 where
   pub log : List ℕ
   pub names : Names words bytes (Reads w) log
   pub size : length (bytes log) ≤ log_limit
-  pub cut : lines_of (bytes log) ≡ lines
+  pub reads : script_reading (bytes log) ≡ reading
 
--- The replay reaches a line: the lines before are whole, and their events lead from the world's state to s.
-pub record Reaches (words : List (List ℕ)) (bytes : List ℕ → List ℕ) (w : World) (s : State) (line : List ℕ) : Type 0 where
-  pub before : List (List ℕ)
-  pub later : List (List ℕ)
-  pub begins : Begins words bytes w (before ++ line ∷ later)
-  pub whole : AreWhole before
-  pub run : Run w w.start (events_of before) s
+-- The replay comes to an end: the log reads as these events, which are a run from the world's state to s, and ends so.
+pub record ComesTo (words : List (List ℕ)) (bytes : List ℕ → List ℕ) (w : World) (s : State) (ending : End) : Type 0 where
+  pub events : List Placed
+  pub begins : Begins words bytes w (record { events = events; ending = ending })
+  pub run : Run w w.start (events_of events) s
 
--- The log is accepted: all lines are whole, and their events are a run, which leads to the state.
+-- The log is accepted: it reads as events that are a run, which leads to the state, and the reading ends at the log's end.
 pub record IsAccepted (words : List (List ℕ)) (bytes : List ℕ → List ℕ) : Type 0 where
   pub world : World
-  pub lines : List (List ℕ)
   pub state : State
-  pub begins : Begins words bytes world lines
-  pub whole : AreWhole lines
-  pub run : Run world world.start (events_of lines) state
+  pub comes : ComesTo words bytes world state AtEnd
 
--- Impossible: the events before a line are a run, which leads to the state, and from there the line's event is no step.
+-- The events that the log reads as are a run, and the reading stops so.
+pub record IsStopped (words : List (List ℕ)) (bytes : List ℕ → List ℕ) (stop : Stop) : Type 0 where
+  pub world : World
+  pub state : State
+  pub comes : ComesTo words bytes world state (Stops stop)
+
+-- Impossible: the events before one are a run, which leads to the state, and from there the event is no step.
 pub record IsImpossible (words : List (List ℕ)) (bytes : List ℕ → List ℕ) : Type 0 where
   pub world : World
   pub state : State
-  pub line : List ℕ
-  pub event : Event
-  pub reaches : Reaches words bytes world state line
-  pub tells : script_line line ≡ Tells event
-  pub no_step : (after : State) → ¬ Step world state event after
-
--- The events before a line are a run, and the line stands for this.
-pub record StopsAt (words : List (List ℕ)) (bytes : List ℕ → List ℕ) (stop : Line) : Type 0 where
-  pub world : World
-  pub state : State
-  pub line : List ℕ
-  pub reaches : Reaches words bytes world state line
-  pub stands_for : script_line line ≡ stop
+  pub before : List Placed
+  pub event : Placed
+  pub later : List Placed
+  pub ending : End
+  pub begins : Begins words bytes world (record { events = before ++ event ∷ later; ending = ending })
+  pub run : Run world world.start (events_of before) state
+  pub no_step : (after : State) → ¬ Step world state event.event after
 
 -- the world that the words name is too long
 abbrev pub IsLongWorld : List (List ℕ) → (List ℕ → List ℕ) → Type 0
@@ -81,6 +66,10 @@ IsLongWorld words bytes = (world : List ℕ) × (log : List ℕ) × (files_of (c
 -- the words name a world, and the log is too long
 abbrev pub IsLongLog : List (List ℕ) → (List ℕ → List ℕ) → Type 0
 IsLongLog words bytes = (w : World) × (log : List ℕ) × Names words bytes (Reads w) log × (log_limit < length (bytes log))
+
+-- after a run, the reading of the log stops at a limit
+abbrev pub IsLimited : List (List ℕ) → (List ℕ → List ℕ) → Type 0
+IsLimited words bytes = (name : List ℕ) × (most : ℕ) × IsStopped words bytes (Limit name most)
 
 -- ---- the answer to an audit, in the state after an accepted log
 -- the query's pid is that of a live process, and its right is a right
@@ -91,12 +80,12 @@ pub record Asks (q : Query) (s : State) (p : Process) (right : Right) : Type 0 w
 -- The weak audit knows what is after the log: the world's text says no more of a process than its pid and its user ids,
 -- and each event is a call of setresuid.
 pub record IsKnown (words : List (List ℕ)) (bytes : List ℕ → List ℕ) (is : IsAccepted words bytes) : Type 0 where
-  pub world : text_says_more (bytes is.begins.names.world) ≡ false
-  pub events : are_setresuids (events_of is.lines) ≡ true
+  pub world : text_says_more (bytes is.comes.begins.names.world) ≡ false
+  pub events : are_setresuids (events_of is.comes.events) ≡ true
 
 -- it doesn't: the world's text says more, or an event is another call
 abbrev pub HasMore : (words : List (List ℕ)) (bytes : List ℕ → List ℕ) → IsAccepted words bytes → Type 0
-HasMore words bytes is = (text_says_more (bytes is.begins.names.world) ≡ true) ⊎ (are_setresuids (events_of is.lines) ≡ false)
+HasMore words bytes is = (text_says_more (bytes is.comes.begins.names.world) ≡ true) ⊎ (are_setresuids (events_of is.comes.events) ≡ false)
 
 -- one process lives, the query asks for a user id of it, and the weak audit knows what is after the log
 pub record AsksAlone (words : List (List ℕ)) (bytes : List ℕ → List ℕ) (is : IsAccepted words bytes) (q : Query) (p : Process) (k : ℕ) : Type 0 where
@@ -127,9 +116,10 @@ abbrev pub AfterLog : (words : List (List ℕ)) (bytes : List ℕ → List ℕ) 
 AfterLog words bytes Answer = (is : IsAccepted words bytes) × (q : Query) × (query_of (command_of words) ≡ Some q) × Answer words bytes is q
 
 -- ---- the causes
--- Not built are the other commands, a world that asks for more, and the line of a call that isn't built, after a run.
+-- Not built are the other commands, a world that asks for more, and a log whose reading stops at a call that isn't built,
+-- after a run.
 abbrev pub IsUnbuilt : List (List ℕ) → (List ℕ → List ℕ) → Type 0
-IsUnbuilt words bytes = (command_of words ≡ Later) ⊎ ((log : List ℕ) × Names words bytes NotBuilt log) ⊎ StopsAt words bytes Unbuilt
+IsUnbuilt words bytes = (command_of words ≡ Later) ⊎ ((log : List ℕ) × Names words bytes texts.NotBuilt log) ⊎ IsStopped words bytes NotBuilt
 
 -- The cause of each status that comes of the words and of the bytes of the files.
 abbrev pub Cause : List (List ℕ) → (List ℕ → List ℕ) → Status → Type 0
@@ -137,9 +127,9 @@ Cause words bytes status.Accepted = ((query_of (command_of words) ≡ None) × I
 Cause words bytes status.No = AfterLog words bytes IsNo
 Cause words bytes status.Impossible = IsImpossible words bytes
 Cause words bytes status.BadWorld = (log : List ℕ) × Names words bytes Bad log
-Cause words bytes status.BadLog = StopsAt words bytes Faulty
+Cause words bytes status.BadLog = (number : ℕ) × IsStopped words bytes (Fault number)
 Cause words bytes status.Usage = command_of words ≡ NoForm
-Cause words bytes status.Limit = IsLongWorld words bytes ⊎ IsLongLog words bytes
+Cause words bytes status.Limit = IsLongWorld words bytes ⊎ IsLongLog words bytes ⊎ IsLimited words bytes
 Cause words bytes status.BadQuery = AfterLog words bytes IsBadQuery
 Cause words bytes status.NotBuilt = IsUnbuilt words bytes ⊎ AfterLog words bytes IsBeyond
 Cause words bytes _ = ⊥

@@ -3,8 +3,9 @@
 use Rattle.std.proofs.Common.{[], ◌∷◌, refl}
 use Rattle.std.specs.Prelude.{codes}
 use Rattle.cm_base.specs.declared.status.Status.TheVariants as status
-use Rattle.model_text.proofs.ReportCases.{report_on_literals, root_line, user_line}
-use Rattle.model_text.proofs.SetIdCases.{Replays, Audits}
+use Rattle.model_text.proofs.PrintCases.{print_on_literals}
+use Rattle.model_report.proofs.ReportCases.{root_line, user_line}
+use Rattle.model_report.proofs.SetIdCases.{Replays, Audits}
 use Rattle.model_text.proofs.WorldCases.{world_on_literals}
 
 -- ---- keeping capabilities while the ids go
@@ -16,7 +17,7 @@ pub keepcaps_and_then_the_ids : Replays (codes "uid = 0\ninheritable = \"CAP_NET
     ∷ codes "2: 100 setresuid 1000 1000 1000 = 0"
     ∷ codes "> 100 init uid=1000,1000,1000,1000 gid=0,0,0,0 groups=- inh=0000000000000400 prm=000001ffffffffff eff=0000000000000000 bnd=000001ffffffffff amb=0000000000000000 sec=10 nnp=0"
     ∷ codes "end 2" ∷ [])
-unfolding report_on_literals world_on_literals
+unfolding print_on_literals world_on_literals
 keepcaps_and_then_the_ids = record { status = refl; text = refl }
 
 -- the server that keeps one capability, and lets nothing come back
@@ -30,7 +31,7 @@ pub server_keeps_one_capability : Replays [] (codes "100 keepcaps 1 = 0\n100 set
     ∷ codes "4: 100 no_new_privs 1 = 0"
     ∷ codes "> 100 init uid=33,33,33,33 gid=0,0,0,0 groups=- inh=0000000000000000 prm=0000000000000400 eff=0000000000000400 bnd=000001ffffffffff amb=0000000000000000 sec=10 nnp=1"
     ∷ codes "end 4" ∷ [])
-unfolding report_on_literals world_on_literals
+unfolding print_on_literals world_on_literals
 server_keeps_one_capability = record { status = refl; text = refl }
 
 -- ---- capset
@@ -41,13 +42,13 @@ pub saved_root_brings_capabilities_back : Replays (codes "uid = 0\n") (codes "10
     ∷ codes "2: 100 capset 000001ffffffffff 000001ffffffffff 0000000000000000 = 0"
     ∷ codes "> 100 init uid=0,1000,0,1000 gid=0,0,0,0 groups=- inh=0000000000000000 prm=000001ffffffffff eff=000001ffffffffff bnd=000001ffffffffff amb=0000000000000000 sec=00 nnp=0"
     ∷ codes "end 2" ∷ [])
-unfolding report_on_literals world_on_literals
+unfolding print_on_literals world_on_literals
 saved_root_brings_capabilities_back = record { status = refl; text = refl }
 
 pub nothing_new_is_permitted : Replays (codes "uid = 1000\n") (codes "100 capset none CAP_KILL none = EPERM\n100 capset none none none = 0\n100 capset none none CAP_KILL = 0\n") status.Impossible
     (user_line ∷ codes "1: 100 capset 0000000000000000 0000000000000020 0000000000000000 = EPERM" ∷ user_line ∷ codes "2: 100 capset 0000000000000000 0000000000000000 0000000000000000 = 0" ∷ user_line
     ∷ codes "impossible line 3: the rules give EPERM" ∷ [])
-unfolding report_on_literals world_on_literals
+unfolding print_on_literals world_on_literals
 nothing_new_is_permitted = record { status = refl; text = refl }
 
 -- ---- the bounding set
@@ -60,13 +61,13 @@ pub bounding_set_loses_one : Replays [] (codes "100 bset_drop CAP_NET_RAW = 0\n1
     ∷ codes "3: 100 bset_drop 41 = EINVAL"
     ∷ codes "> 100 init uid=0,0,0,0 gid=0,0,0,0 groups=- inh=0000000000000000 prm=000001ffffffffff eff=000001ffffffffff bnd=000001ffffffdfff amb=0000000000000000 sec=00 nnp=0"
     ∷ codes "end 3" ∷ [])
-unfolding report_on_literals world_on_literals
+unfolding print_on_literals world_on_literals
 bounding_set_loses_one = record { status = refl; text = refl }
 
 -- without CAP_SETPCAP it is refused, before the number is looked at
 pub user_drops_nothing_from_it : Replays (codes "uid = 1000\n") (codes "100 bset_drop 41 = EPERM\n100 bset_drop 0 = EPERM\n") status.Accepted
     (user_line ∷ codes "1: 100 bset_drop 41 = EPERM" ∷ user_line ∷ codes "2: 100 bset_drop CAP_CHOWN = EPERM" ∷ user_line ∷ codes "end 2" ∷ [])
-unfolding report_on_literals world_on_literals
+unfolding print_on_literals world_on_literals
 user_drops_nothing_from_it = record { status = refl; text = refl }
 
 -- ---- the ambient set
@@ -86,7 +87,7 @@ pub ambient_set_comes_and_goes : Replays (codes "uid = 1000\npermitted = \"CAP_K
     ∷ codes "6: 100 amb_clear = 0"
     ∷ codes "> 100 init uid=1000,1000,1000,1000 gid=0,0,0,0 groups=- inh=0000000000000420 prm=0000000000000420 eff=0000000000000000 bnd=000001ffffffffff amb=0000000000000000 sec=00 nnp=0"
     ∷ codes "end 6" ∷ [])
-unfolding report_on_literals world_on_literals
+unfolding print_on_literals world_on_literals
 ambient_set_comes_and_goes = record { status = refl; text = refl }
 
 -- ---- securebits and flags
@@ -103,28 +104,28 @@ pub locks_are_never_cleared : Replays [] (codes "100 securebits 47 = 0\n100 secu
     ∷ codes "5: 100 keepcaps 2 = EINVAL"
     ∷ codes "> 100 init uid=0,0,0,0 gid=0,0,0,0 groups=- inh=0000000000000000 prm=000001ffffffffff eff=000001ffffffffff bnd=000001ffffffffff amb=0000000000000000 sec=2f nnp=0"
     ∷ codes "end 5" ∷ [])
-unfolding report_on_literals world_on_literals
+unfolding print_on_literals world_on_literals
 locks_are_never_cleared = record { status = refl; text = refl }
 
 pub no_new_privs_stays : Replays (codes "uid = 1000\n") (codes "100 no_new_privs 1 = 0\n100 no_new_privs 0 = 0\n") status.Impossible
     (user_line ∷ codes "1: 100 no_new_privs 1 = 0"
     ∷ codes "> 100 init uid=1000,1000,1000,1000 gid=0,0,0,0 groups=- inh=0000000000000000 prm=0000000000000000 eff=0000000000000000 bnd=000001ffffffffff amb=0000000000000000 sec=00 nnp=1"
     ∷ codes "impossible line 2: the rules give EINVAL" ∷ [])
-unfolding report_on_literals world_on_literals
+unfolding print_on_literals world_on_literals
 no_new_privs_stays = record { status = refl; text = refl }
 
 -- ---- the ends of a log, and audits
 pub interrupted_calls_change_nothing : Replays [] (codes "100 capset none none none = EINTR\n100 amb_clear = EFAULT\n100 securebits 1 = ENOSPC\n") status.Impossible
     (root_line ∷ codes "1: 100 capset 0000000000000000 0000000000000000 0000000000000000 = EINTR" ∷ root_line ∷ codes "2: 100 amb_clear = EFAULT" ∷ root_line ∷ codes "impossible line 3: the rules give 0" ∷ [])
-unfolding report_on_literals world_on_literals
+unfolding print_on_literals world_on_literals
 interrupted_calls_change_nothing = record { status = refl; text = refl }
 
 pub fault_of_capset : Replays [] (codes "100 amb_clear = 0\n100 capset all all = 0\n") status.BadLog (root_line ∷ codes "1: 100 amb_clear = 0" ∷ root_line ∷ codes "bad log line 2" ∷ [])
-unfolding report_on_literals world_on_literals
+unfolding print_on_literals world_on_literals
 fault_of_capset = record { status = refl; text = refl }
 
 -- the weak audit knows no other call than setresuid, whatever it does
 pub audit_behind_a_capset : Audits (codes "uid = 1000\n") (codes "100 capset none none none = 0\n") (codes "uid:0") status.NotBuilt
     (user_line ∷ codes "1: 100 capset 0000000000000000 0000000000000000 0000000000000000 = 0" ∷ user_line ∷ codes "end 1" ∷ codes "not built" ∷ [])
-unfolding report_on_literals world_on_literals
+unfolding print_on_literals world_on_literals
 audit_behind_a_capset = record { status = refl; text = refl }

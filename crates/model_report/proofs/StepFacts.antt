@@ -1,7 +1,7 @@
 -- What a step by an event of a built call does: it changes nothing, gives its caller another credential, brings a child of
 -- its caller or takes its caller away; all else stays. All that these laws need of the machine's definition of a step is
 -- here.
-use Rattle.std.proofs.Common.{◌≡◌, ◌≢◌, ℕ, ◌⊎◌, inl, inr, Bool, true, false, cond, Option, Some, None, refl, sym, ◌∙◌, ap, subst, arith, option_map, All}
+use Rattle.std.proofs.Common.{◌≡◌, ◌≢◌, ℕ, ◌⊎◌, inl, inr, Bool, true, false, cond, Option, Some, None, refl, sym, ◌∙◌, ap, subst, arith, option_map}
 use Rattle.cm_base.specs.declared.errno.Errno.TheVariants.{EAGAIN}
 use Rattle.cm_base.specs.declared.res.Res.{Res}
 use Rattle.cm_base.specs.declared.res.Res.TheVariants.{Done, Id, Child, Err}
@@ -13,7 +13,7 @@ use Rattle.model_run.specs.Outside.{comes_from_outside}
 use Rattle.model_run.specs.Ruling.{Ruling, ruling, own, reply_to, fork_child, state_without}
 use Rattle.model_run.specs.Same.{same_res}
 use Rattle.model_run.specs.Step.{Outcome, Goes, NoSpace, PidInUse, Wrong, Step, outcome_for, names_no_space, is_living_child, told_child, told_call, with_cred}
-use Rattle.model_text.proofs.Processes.{pid_of_found, all_found, put_other, all_put, insert_other, all_insert, IsLike, like_after_exit, without_other, all_without}
+use Rattle.model_report.proofs.Processes.{pid_of_found, put_other, insert_other, IsLike, like_after_exit, without_other}
 use Rattle.model_text.specs.Line.{IsBuilt}
 
 -- ---- whether an event goes on
@@ -149,31 +149,3 @@ others_were_there w s e s' built goes p found other untold =
     let m : Made s e s' = made w s e s' built goes in
     let own : m.0.pid ≡ e.pid = pid_of_found s.processes e.pid m.0 m.1 in
     was_found s m.0 e.res s' m.2 p found (λ same. other (same ∙ own)) untold
-
-spaces_left : (s : State) (p : Process) (res : Res) (s' : State) → Changes s p res s' → s'.spaces ≡ s.spaces
-unfolding Changes
-spaces_left s p res s' (inl same) = ap (λ (x : State). x.spaces) same
-spaces_left s p res s' (inr (inl (c, put))) = ap (λ (x : State). x.spaces) put
-spaces_left s p res s' (inr (inr (inl (pid, told, comes)))) = ap (λ (x : State). x.spaces) comes
-spaces_left s p res s' (inr (inr (inr goes))) = ap (λ (x : State). x.spaces) goes
-
--- the spaces stay
-pub spaces_stay : (w : World) (s : State) (e : Event) (s' : State) → IsBuilt e.call → Step w s e s' → s'.spaces ≡ s.spaces
-unfolding Made
-spaces_stay w s e s' built goes = let m : Made s e s' = made w s e s' built goes in spaces_left s m.0 e.res s' m.2
-
-places_left : (P : ℕ → Type 0) (s : State) (p : Process) (res : Res) (s' : State) → P p.space → Changes s p res s' → All (λ q. P q.space) s.processes → All (λ q. P q.space) s'.processes
-unfolding Changes
-places_left P s p res s' is (inl same) all = subst (λ (x : State). All (λ q. P q.space) x.processes) (sym same) all
-places_left P s p res s' is (inr (inl (c, put))) all = subst (λ (x : State). All (λ q. P q.space) x.processes) (sym put) (all_put (λ q. P q.space) (record p { cred = c }) s.processes is all)
-places_left P s p res s' is (inr (inr (inl (pid, told, comes)))) all =
-    subst (λ (x : State). All (λ q. P q.space) x.processes) (sym comes) (all_insert (λ q. P q.space) (fork_child p pid) s.processes is all)
-places_left P s p res s' is (inr (inr (inr goes))) all =
-    subst (λ (x : State). All (λ q. P q.space) x.processes) (sym goes) (all_without (λ q. P q.space) p s.processes (λ q here. subst P (like_after_exit p q).space here) all)
-
--- what holds of the space of each process goes on to hold
-pub places_stay : (P : ℕ → Type 0) (w : World) (s : State) (e : Event) (s' : State) → IsBuilt e.call → Step w s e s' → All (λ q. P q.space) s.processes → All (λ q. P q.space) s'.processes
-unfolding Made
-places_stay P w s e s' built goes all =
-    let m : Made s e s' = made w s e s' built goes in
-    places_left P s m.0 e.res s' (all_found (λ q. P q.space) s.processes e.pid m.0 all m.1) m.2 all
