@@ -1,6 +1,6 @@
 -- Lemmas of this crate, by topic.
 pub mod Tokens
-pub mod CallNames
+pub mod CapNumbers
 pub mod Arguments
 pub mod LogTurns
 pub mod Waiting

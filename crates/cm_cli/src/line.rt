@@ -3,19 +3,18 @@
 ghost use Rattle.std.specs.Prelude.{◌≡◌, Some, option_map};
 ghost use Rattle.cm_base.specs.Outcome.{OrNoMemory};
 ghost use Rattle.cm_base.specs.Names.{errno_of};
-ghost use Rattle.cm_cli.specs.Lines.{kind_view, line_of};
+ghost use Rattle.cm_cli.specs.Lines.{line_of};
 ghost use Rattle.model_text.specs.Cut.{tokens_of};
 ghost use Rattle.model_text.specs.Line.{script_line, call_line, kind_line, event_told, ending, is_built, result_of_kind};
 ghost use Rattle.model_text.specs.Token.{birth_token, done_token, number_token, result_token};
 
 mod arguments;
-mod kind;
 mod tokens;
 
 use arguments::read_call;
 use cm_base::{Errno, NoMemory, Pid, Res, read_u32};
+use cm_filter::CallKind;
 use cm_state::Event;
-pub(crate) use kind::CallKind;
 use std::alloc::Global;
 pub(crate) use tokens::read_pid;
 use tokens::{begins_comment, next_token, stands_for_equals};
@@ -60,7 +59,7 @@ fn read_after_pid(alloc: Global, pid: Pid, text: &[u8]) -> Result<Line, NoMemory
 
 // What stands after the name of a call of that kind.
 fn read_after_name(alloc: Global, pid: Pid, kind: CallKind, text: &[u8]) -> Result<Line, NoMemory>
-    ensures { OrNoMemory result (λ read. line_of read ≡ kind_line pid (Some (kind_view kind)) (tokens_of text.now)) }
+    ensures { OrNoMemory result (λ read. line_of read ≡ kind_line pid (Some kind) (tokens_of text.now)) }
 {
     if !built(kind) {
         return Ok(Line::Unbuilt);
@@ -73,7 +72,7 @@ fn read_after_name(alloc: Global, pid: Pid, kind: CallKind, text: &[u8]) -> Resu
 
 // Calls of this kind are built.
 fn built(kind: CallKind) -> bool
-    ensures { result ≡ is_built (kind_view kind) }
+    ensures { result ≡ is_built kind }
 {
     matches!(
         kind,
@@ -106,7 +105,7 @@ fn read_event(
     kind: CallKind,
     text: &[u8],
 ) -> Result<Option<Event>, NoMemory>
-    ensures { OrNoMemory result (λ read. read ≡ event_told pid (kind_view kind) (tokens_of text.now)) }
+    ensures { OrNoMemory result (λ read. read ≡ event_told pid kind (tokens_of text.now)) }
 {
     let Some((call, rest)) = read_call(alloc, kind, text)? else {
         return Ok(None);
@@ -119,7 +118,7 @@ fn read_event(
 
 // The last two tokens: `=` and the result.
 fn read_ending(kind: CallKind, text: &[u8]) -> Option<Res>
-    ensures { result ≡ ending (kind_view kind) (tokens_of text.now) }
+    ensures { result ≡ ending kind (tokens_of text.now) }
 {
     let (equals, text) = next_token(text)?;
     let (res, text) = next_token(text)?;
@@ -135,7 +134,7 @@ fn read_ending(kind: CallKind, text: &[u8]) -> Option<Res>
 // The result of a call of that kind: setfsuid and setfsgid tell the id from before, and have no error; fork tells its
 // child's pid; exit has no error either.
 fn read_result(kind: CallKind, token: &[u8]) -> Option<Res>
-    ensures { result ≡ result_of_kind (kind_view kind) token.now }
+    ensures { result ≡ result_of_kind kind token.now }
 {
     match kind {
         CallKind::SetFsUid | CallKind::SetFsGid => read_old_id(token),

@@ -1,6 +1,11 @@
 // The calls, with the arguments that the caller gave.
+ghost use Rattle.std.specs.Prelude.{◌≡◌};
+ghost use Rattle.cm_state.specs.Call.{call_of};
+ghost use Rattle.model_cred.specs.Call.{kind_of};
+
 use crate::Ids;
 use cm_base::CapWord;
+use cm_filter::CallKind;
 
 /// A call with its arguments: ids as the caller's user namespace sees them, 4294967295 for -1.
 #[derive(Debug, Drop)]
@@ -47,4 +52,33 @@ pub enum Call {
     Fork,
     /// _exit(2): the caller lives no longer.
     Exit,
+}
+
+impl Call {
+    /// Its kind, which has its name.
+    pub fn kind(&self) -> CallKind
+        ensures { result ≡ kind_of (call_of self.now) }
+    {
+        match self {
+            Call::SetUid(_) => CallKind::SetUid,
+            Call::SetReUid(_, _) => CallKind::SetReUid,
+            Call::SetResUid(_, _, _) => CallKind::SetResUid,
+            Call::SetFsUid(_) => CallKind::SetFsUid,
+            Call::SetGid(_) => CallKind::SetGid,
+            Call::SetReGid(_, _) => CallKind::SetReGid,
+            Call::SetResGid(_, _, _) => CallKind::SetResGid,
+            Call::SetFsGid(_) => CallKind::SetFsGid,
+            Call::SetGroups(_) => CallKind::SetGroups,
+            Call::CapSet { .. } => CallKind::CapSet,
+            Call::BsetDrop(_) => CallKind::BsetDrop,
+            Call::AmbRaise(_) => CallKind::AmbRaise,
+            Call::AmbLower(_) => CallKind::AmbLower,
+            Call::AmbClear => CallKind::AmbClear,
+            Call::SecureBits(_) => CallKind::SecureBits,
+            Call::KeepCaps(_) => CallKind::KeepCaps,
+            Call::NoNewPrivs(_) => CallKind::NoNewPrivs,
+            Call::Fork => CallKind::Fork,
+            Call::Exit => CallKind::Exit,
+        }
+    }
 }

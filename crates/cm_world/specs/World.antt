@@ -3,7 +3,7 @@ use Rattle.std.specs.Prelude.{[]}
 use Rattle.cm_world.specs.declared.world.LogForm.{LogForm}
 use Rattle.cm_world.specs.declared.world.LogForm.TheVariants as code
 use Rattle.cm_world.specs.declared.world.World.{World}
-use Rattle.model_cred.specs.CallKind.{no_filter}
+use Rattle.cm_filter.specs.Filters.{no_filter}
 use Rattle.model_cred.specs.Process.{State}
 use Rattle.model_cred.specs.World as model
 use Rattle.model_text.specs.WorldText.{root_alone}

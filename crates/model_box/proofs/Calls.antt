@@ -8,8 +8,8 @@ use Rattle.cm_base.specs.CapSet.{holds, is_within, union, meet, minus, none, wit
 use Rattle.cm_base.specs.declared.errno.Errno.{Errno}
 use Rattle.cm_base.specs.declared.errno.Errno.TheVariants.{EPERM, EINVAL}
 use Rattle.cm_base.proofs.CapSets.{holds_none, holds_union, holds_meet, holds_minus, holds_single, member_of_wider, within_from_members, within_reflexive, within_transitive, none_within, meet_within_first, meet_within_second, union_within, minus_within}
-use Rattle.model_cred.specs.CallKind.{CallKind}
-use Rattle.model_cred.specs.CallKind as kind
+use Rattle.cm_filter.specs.declared.kind.CallKind.{CallKind}
+use Rattle.cm_filter.specs.declared.kind.CallKind.TheVariants as kind
 use Rattle.model_cred.specs.Credential.{Credential, FourIds, id_set, insert_id}
 use Rattle.model_cred.specs.Files.{FileTable}
 use Rattle.model_cred.specs.IdMap.{Extent, down, extents_of, is_outside}

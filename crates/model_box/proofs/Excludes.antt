@@ -6,7 +6,7 @@ use Rattle.std.specs.List.{list_any}
 use Rattle.cm_base.specs.CapSet.{holds}
 use Rattle.cm_base.proofs.CapSets.{member_of_wider}
 use Rattle.model_cred.specs.Call.{Event}
-use Rattle.model_cred.specs.CallKind.{CallKind}
+use Rattle.cm_filter.specs.declared.kind.CallKind.{CallKind}
 use Rattle.model_cred.specs.Credential.{Keeps}
 use Rattle.model_cred.specs.Process.{Process, State, KeepsState, process_at}
 use Rattle.model_cred.specs.Right.{Right, Cap, Uid, Gid}

@@ -8,8 +8,8 @@ use Rattle.cm_base.specs.declared.errno.Errno.TheVariants.{EPERM, EACCES}
 use Rattle.cm_base.specs.declared.res.FileRef.{FileRef}
 use Rattle.cm_base.specs.declared.res.FileRef.TheVariants.{Row as FileRow, Plain}
 use Rattle.cm_base.proofs.CapSets.{holds_none, holds_union, holds_meet, member_of_wider, within_reflexive, none_within, within_meet, second_within_union}
-use Rattle.model_cred.specs.CallKind.{CallKind}
-use Rattle.model_cred.specs.CallKind as kind
+use Rattle.cm_filter.specs.declared.kind.CallKind.{CallKind}
+use Rattle.cm_filter.specs.declared.kind.CallKind.TheVariants as kind
 use Rattle.model_cred.specs.Credential.{Credential}
 use Rattle.model_cred.specs.Files.{FileTable, FileCaps, Mount}
 use Rattle.model_cred.specs.Files as declared_files

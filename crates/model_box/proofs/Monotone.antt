@@ -1,7 +1,7 @@
 -- To larger bounds each rule adds at least as much.
 use Rattle.std.proofs.Common.{ℕ, Bool, Option, None, Some, inl, inr, arith}
 use Rattle.std.specs.Prelude.{List}
-use Rattle.model_cred.specs.CallKind.{CallKind}
+use Rattle.cm_filter.specs.declared.kind.CallKind.{CallKind}
 use Rattle.model_cred.specs.Files.{FileTable}
 use Rattle.model_cred.specs.IdMap.{Extent}
 use Rattle.model_cred.specs.Space.{Spaces, space_of}

@@ -6,8 +6,8 @@ use Rattle.cm_base.specs.declared.errno.Errno.TheVariants.{EPERM, ENOSPC, EAGAIN
 use Rattle.cm_base.specs.declared.res.Res.{Res}
 use Rattle.cm_base.specs.declared.res.Res.TheVariants.{Child, Err}
 use Rattle.model_cred.specs.Call.{Call, Fork, CloneUser, Exit, Event, kind_of}
-use Rattle.model_cred.specs.CallKind.{CallKind}
-use Rattle.model_cred.specs.CallKind as kind
+use Rattle.cm_filter.specs.declared.kind.CallKind.{CallKind}
+use Rattle.cm_filter.specs.declared.kind.CallKind.TheVariants as kind
 use Rattle.model_cred.specs.Credential.{Credential}
 use Rattle.model_cred.specs.Process.{Process, State, process_at, put_process, insert_process, is_alive, is_pid}
 use Rattle.model_cred.specs.Space.{Spaces, space_of, level}

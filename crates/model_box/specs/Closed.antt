@@ -1,7 +1,7 @@
 -- What each closure rule adds to a row of bounds, and closed bounds.
 use Rattle.std.specs.Prelude.{◌≡◌, ◌⊎◌, ℕ, ◌||◌, Bool, not, nat_lt, IsTrue, is_none, Some}
-use Rattle.model_cred.specs.CallKind.{CallKind}
-use Rattle.model_cred.specs.CallKind as kind
+use Rattle.cm_filter.specs.declared.kind.CallKind.{CallKind}
+use Rattle.cm_filter.specs.declared.kind.CallKind.TheVariants as kind
 use Rattle.model_cred.specs.Files.{FileTable}
 use Rattle.model_cred.specs.Space.{Spaces, level, stands, space_of}
 use Rattle.model_rules.specs.FileView.{view, has_bit}

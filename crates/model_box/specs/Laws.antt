@@ -2,8 +2,8 @@
 -- bounds.
 use Rattle.std.specs.Prelude.{◌≡◌, ◌⊎◌, ℕ, ◌&&◌, Bool, false, IsTrue, List}
 use Rattle.model_cred.specs.Call.{Event}
-use Rattle.model_cred.specs.CallKind.{CallKind}
-use Rattle.model_cred.specs.CallKind as kind
+use Rattle.cm_filter.specs.declared.kind.CallKind.{CallKind}
+use Rattle.cm_filter.specs.declared.kind.CallKind.TheVariants as kind
 use Rattle.model_cred.specs.Files.{FileTable}
 use Rattle.model_cred.specs.Process.{State, KeepsState}
 use Rattle.model_cred.specs.Right.{Right}

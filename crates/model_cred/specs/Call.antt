@@ -2,8 +2,8 @@
 use Rattle.std.specs.Prelude.{ℕ, Bool, List}
 use Rattle.cm_base.specs.declared.res.Res.{Res}
 use Rattle.cm_base.specs.declared.res.FileRef.{FileRef}
-use Rattle.model_cred.specs.CallKind.{CallKind}
-use Rattle.model_cred.specs.CallKind as kind
+use Rattle.cm_filter.specs.declared.kind.CallKind.{CallKind}
+use Rattle.cm_filter.specs.declared.kind.CallKind.TheVariants as kind
 use Rattle.model_cred.specs.IdMap.{Extent}
 
 -- The 26 calls with their arguments, ids as the caller's space sees them, 4294967295 for -1. capset has effective,

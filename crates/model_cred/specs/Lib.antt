@@ -5,7 +5,6 @@ pub mod Credential
 pub mod Space
 pub mod Process
 pub mod Files
-pub mod CallKind
 pub mod Call
 pub mod Right
 pub mod World

@@ -1,6 +1,6 @@
 -- The world: what is declared before a log begins.
 use Rattle.std.specs.Prelude.{ℕ, ◌<◌, length, List, All}
-use Rattle.model_cred.specs.CallKind.{Filter}
+use Rattle.cm_filter.specs.Filters.{Filter}
 use Rattle.model_cred.specs.Files.{FileTable, KeepsFiles}
 use Rattle.model_cred.specs.Process.{State, KeepsState}
 

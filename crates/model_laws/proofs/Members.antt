@@ -5,7 +5,7 @@ use Rattle.std.proofs.lemmas.Bool.{cases_eq, eqb-true, eqb-false, eq-eqb, ne_eqb
 use Rattle.std.proofs.lemmas.Map.Views.{any-filter_same}
 use Rattle.cm_base.specs.declared.res.Res.TheVariants.{Done, Child}
 use Rattle.model_cred.specs.Call.{Event, Exit}
-use Rattle.model_cred.specs.CallKind.{CallKind}
+use Rattle.cm_filter.specs.declared.kind.CallKind.{CallKind}
 use Rattle.model_cred.specs.IdMap.{is_the}
 use Rattle.model_cred.specs.Process.{Process, State, process_at, is_alive, after_exit}
 use Rattle.model_cred.specs.World.{World}

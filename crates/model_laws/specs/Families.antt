@@ -2,7 +2,7 @@
 use Rattle.std.specs.Prelude.{◌≡◌, ◌≢◌, ◌↔◌, ℕ, Bool, false, IsTrue, List, [], ◌∷◌, ◌++◌, Some, None}
 use Rattle.cm_base.specs.declared.res.Res.TheVariants.{Child}
 use Rattle.model_cred.specs.Call.{Event, Exit}
-use Rattle.model_cred.specs.CallKind.{CallKind}
+use Rattle.cm_filter.specs.declared.kind.CallKind.{CallKind}
 use Rattle.model_cred.specs.Process.{Process, State, process_at, is_alive}
 use Rattle.model_cred.specs.World.{World}
 use Rattle.model_run.specs.Family.{Family, family}

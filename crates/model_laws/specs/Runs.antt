@@ -1,7 +1,7 @@
 -- What every step and every run keeps.
 use Rattle.std.specs.Prelude.{Bool, List, ℕ}
 use Rattle.model_cred.specs.Call.{Event}
-use Rattle.model_cred.specs.CallKind.{CallKind}
+use Rattle.cm_filter.specs.declared.kind.CallKind.{CallKind}
 use Rattle.model_cred.specs.Files.{KeepsFiles}
 use Rattle.model_cred.specs.Process.{State, KeepsState}
 use Rattle.model_cred.specs.World.{World, KeepsWorld}

@@ -3,8 +3,8 @@ use Rattle.std.proofs.Common.{◌≡◌, ℕ, true, false, Some, [], ◌∷◌, 
 use Rattle.cm_base.specs.declared.errno.Errno.TheVariants.{EPERM}
 use Rattle.cm_base.specs.declared.res.Res.TheVariants.{Done, Child, Err}
 use Rattle.model_cred.specs.Call.{Fork, CloneUser, Exit}
-use Rattle.model_cred.specs.CallKind as kind
-use Rattle.model_cred.specs.CallKind.{permits}
+use Rattle.cm_filter.specs.declared.kind.CallKind.TheVariants as kind
+use Rattle.cm_filter.specs.Filters.{permits}
 use Rattle.model_cred.specs.Credential.{Credential}
 use Rattle.model_cred.specs.Process.{Process, State}
 use Rattle.model_cred.specs.Right.{Uid, Gid}

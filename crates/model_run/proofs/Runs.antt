@@ -2,7 +2,7 @@
 use Rattle.std.proofs.Common.{◌≡◌, List, [], ◌∷◌, refl, sym, ◌∙◌, ap}
 use Rattle.cm_base.specs.CapSet.{none, full}
 use Rattle.model_cred.specs.Call.{Event, CapSet}
-use Rattle.model_cred.specs.CallKind.{no_filter, permits}
+use Rattle.cm_filter.specs.Filters.{no_filter, permits}
 use Rattle.model_cred.specs.Credential.{Credential}
 use Rattle.model_cred.specs.Process.{State}
 use Rattle.model_cred.specs.World.{World}

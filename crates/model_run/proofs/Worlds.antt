@@ -6,7 +6,7 @@ use Rattle.cm_base.specs.declared.errno.Errno.{Errno}
 use Rattle.cm_base.specs.declared.res.Res.{Res}
 use Rattle.cm_base.specs.declared.res.Res.TheVariants.{Done, Err}
 use Rattle.model_cred.specs.Call.{Call, Event}
-use Rattle.model_cred.specs.CallKind.{no_filter}
+use Rattle.cm_filter.specs.Filters.{no_filter}
 use Rattle.model_cred.specs.Credential.{Credential, all_four}
 use Rattle.model_cred.specs.Files.{FileRow, Mount, plain_mount}
 use Rattle.model_cred.specs.IdMap.{Extent}

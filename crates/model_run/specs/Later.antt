@@ -4,7 +4,7 @@ use Rattle.std.specs.List.{list_any}
 use Rattle.cm_base.specs.declared.res.Res.{Res}
 use Rattle.cm_base.specs.declared.res.Res.TheVariants.{Done, Child}
 use Rattle.model_cred.specs.Call.{Call, Exit, Event, kind_of}
-use Rattle.model_cred.specs.CallKind.{CallKind}
+use Rattle.cm_filter.specs.declared.kind.CallKind.{CallKind}
 use Rattle.model_cred.specs.Process.{State}
 use Rattle.model_cred.specs.World.{World}
 use Rattle.model_run.specs.Step.{Step}

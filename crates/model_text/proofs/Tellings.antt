@@ -3,9 +3,9 @@ use Rattle.std.proofs.Common.{◌≡◌, ℕ, Bool, true, false, cond, List, [],
 use Rattle.std.specs.Prelude.{option_map, option_and_then}
 use Rattle.cm_base.specs.declared.res.Res.{Res}
 use Rattle.model_cred.specs.Call.{Call, Event, kind_of, SetUid, SetReUid, SetResUid, SetFsUid, SetGid, SetReGid, SetResGid, SetFsGid, SetGroups, CapSet, BsetDrop, AmbRaise, AmbLower, SecureBits, KeepCaps, NoNewPrivs}
-use Rattle.model_cred.specs.CallKind.{CallKind}
-use Rattle.model_cred.specs.CallKind as kind
-use Rattle.model_text.specs.Calls.{kind_named}
+use Rattle.cm_filter.specs.declared.kind.CallKind.{CallKind}
+use Rattle.cm_filter.specs.declared.kind.CallKind.TheVariants as kind
+use Rattle.cm_filter.specs.Kinds.{kind_named}
 use Rattle.model_text.specs.CapText.{set_of_text}
 use Rattle.model_text.specs.Cut.{tokens_of}
 use Rattle.model_text.specs.Line.{Line, NoEvent, Tells, Faulty, Unbuilt, Tokens, next_read, next_id, with_one, with_two, with_three, ids_before, with_all, with_read, with_sets, call_of_kind, ending, event_told, is_built, IsBuilt, tells, kind_line, call_line, pid_line, tokens_line, script_line}

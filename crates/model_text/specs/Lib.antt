@@ -1,7 +1,6 @@
 -- The texts that the program reads and writes: worlds, lines of logs and what a log reads as, lines of reports.
 pub mod Cut
 pub mod Token
-pub mod Calls
 pub mod CapText
 pub mod Line
 pub mod Reading

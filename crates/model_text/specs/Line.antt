@@ -5,9 +5,9 @@ use Rattle.std.specs.Prelude.{◌≡◌, ℕ, Bool, true, false, List, [], ◌�
 use Rattle.cm_base.specs.declared.res.Res.{Res}
 use Rattle.cm_base.specs.declared.res.Res.TheVariants.{Id}
 use Rattle.model_cred.specs.Call.{Call, Event, kind_of, SetUid, SetReUid, SetResUid, SetFsUid, SetGid, SetReGid, SetResGid, SetFsGid, SetGroups, CapSet, BsetDrop, AmbRaise, AmbLower, AmbClear, SecureBits, KeepCaps, NoNewPrivs, Fork, Exit}
-use Rattle.model_cred.specs.CallKind.{CallKind}
-use Rattle.model_cred.specs.CallKind as kind
-use Rattle.model_text.specs.Calls.{kind_named}
+use Rattle.cm_filter.specs.declared.kind.CallKind.{CallKind}
+use Rattle.cm_filter.specs.declared.kind.CallKind.TheVariants as kind
+use Rattle.cm_filter.specs.Kinds.{kind_named}
 use Rattle.model_text.specs.CapText.{set_of_text}
 use Rattle.model_text.specs.Cut.{tokens_of}
 use Rattle.model_text.specs.Token.{number_token, pid_token, id_token, result_token, birth_token, cap_token, done_token, is_comment, is_equals}

@@ -5,7 +5,7 @@ use Rattle.std.specs.Str.{is_utf8}
 use Rattle.model_cred.specs.Process.{Process}
 use Rattle.model_cred.specs.Space.{first_spaces}
 use Rattle.model_cred.specs.Files.{FileTable, plain_mount}
-use Rattle.model_cred.specs.CallKind.{no_filter}
+use Rattle.cm_filter.specs.Filters.{no_filter}
 use Rattle.model_cred.specs.World.{World, Script}
 use Rattle.model_text.specs.ProcessText.{process_row, further_keys}
 use Rattle.model_text.specs.Toml.{has_key_of, has_only, is_text}

@@ -1,17 +1,16 @@
 // The arguments of a call in a script line. Each reader gives what it read and the text after it.
 ghost use Rattle.std.specs.Prelude.{◌≡◌, ◌⊎◌, ℕ, option_map};
 ghost use Rattle.cm_base.specs.Outcome.{OrNoMemory};
-ghost use Rattle.cm_cli.specs.Lines.{kind_view};
 ghost use Rattle.cm_state.specs.Call.{call_of};
 ghost use Rattle.model_cred.specs.Call as model;
 ghost use Rattle.model_text.specs.Cut.{tokens_of};
 ghost use Rattle.model_text.specs.Line.{call_of_kind, ids_before, with_all, with_sets, with_two, with_three};
 
-use super::kind::CallKind;
 use super::tokens::{
     next_cap, next_id, next_number, next_set, next_token, read_id, stands_for_equals,
 };
 use cm_base::NoMemory;
+use cm_filter::CallKind;
 use cm_state::{Call, Ids};
 use std::alloc::Global;
 
@@ -22,7 +21,7 @@ pub(super) fn read_call(
     kind: CallKind,
     text: &[u8],
 ) -> Result<Option<(Call, &[u8])>, NoMemory>
-    ensures { OrNoMemory result (λ read. option_map (λ p. (call_of p.0, tokens_of p.1.now)) read ≡ call_of_kind (kind_view kind) (tokens_of text.now)) }
+    ensures { OrNoMemory result (λ read. option_map (λ p. (call_of p.0, tokens_of p.1.now)) read ≡ call_of_kind kind (tokens_of text.now)) }
 {
     match kind {
         CallKind::SetUid | CallKind::SetFsUid | CallKind::SetGid | CallKind::SetFsGid => {
@@ -64,7 +63,7 @@ fn read_sets(text: &[u8]) -> Option<(Call, &[u8])>
 // A call with a capability.
 fn read_cap_call(kind: CallKind, text: &[u8]) -> Option<(Call, &[u8])>
     requires { (kind ≡ CallKind.BsetDrop) ⊎ (kind ≡ CallKind.AmbRaise) ⊎ (kind ≡ CallKind.AmbLower) }
-    ensures { option_map (λ p. (call_of p.0, tokens_of p.1.now)) result ≡ call_of_kind (kind_view kind) (tokens_of text.now) }
+    ensures { option_map (λ p. (call_of p.0, tokens_of p.1.now)) result ≡ call_of_kind kind (tokens_of text.now) }
 {
     let (cap, rest) = next_cap(text)?;
     match kind {
@@ -77,7 +76,7 @@ fn read_cap_call(kind: CallKind, text: &[u8]) -> Option<(Call, &[u8])>
 // A call with a number.
 fn read_number_call(kind: CallKind, text: &[u8]) -> Option<(Call, &[u8])>
     requires { (kind ≡ CallKind.SecureBits) ⊎ (kind ≡ CallKind.KeepCaps) ⊎ (kind ≡ CallKind.NoNewPrivs) }
-    ensures { option_map (λ p. (call_of p.0, tokens_of p.1.now)) result ≡ call_of_kind (kind_view kind) (tokens_of text.now) }
+    ensures { option_map (λ p. (call_of p.0, tokens_of p.1.now)) result ≡ call_of_kind kind (tokens_of text.now) }
 {
     let (n, rest) = next_number(text)?;
     match kind {
@@ -90,7 +89,7 @@ fn read_number_call(kind: CallKind, text: &[u8]) -> Option<(Call, &[u8])>
 // A call with one id.
 fn read_one(kind: CallKind, text: &[u8]) -> Option<(Call, &[u8])>
     requires { (kind ≡ CallKind.SetUid) ⊎ (kind ≡ CallKind.SetFsUid) ⊎ (kind ≡ CallKind.SetGid) ⊎ (kind ≡ CallKind.SetFsGid) }
-    ensures { option_map (λ p. (call_of p.0, tokens_of p.1.now)) result ≡ call_of_kind (kind_view kind) (tokens_of text.now) }
+    ensures { option_map (λ p. (call_of p.0, tokens_of p.1.now)) result ≡ call_of_kind kind (tokens_of text.now) }
 {
     let (id, rest) = next_id(text)?;
     match kind {
@@ -104,7 +103,7 @@ fn read_one(kind: CallKind, text: &[u8]) -> Option<(Call, &[u8])>
 // A call with two ids.
 fn read_two(kind: CallKind, text: &[u8]) -> Option<(Call, &[u8])>
     requires { (kind ≡ CallKind.SetReUid) ⊎ (kind ≡ CallKind.SetReGid) }
-    ensures { option_map (λ p. (call_of p.0, tokens_of p.1.now)) result ≡ call_of_kind (kind_view kind) (tokens_of text.now) }
+    ensures { option_map (λ p. (call_of p.0, tokens_of p.1.now)) result ≡ call_of_kind kind (tokens_of text.now) }
 {
     let (r, e, rest) = next_two(text)?;
     match kind {
@@ -116,7 +115,7 @@ fn read_two(kind: CallKind, text: &[u8]) -> Option<(Call, &[u8])>
 // A call with three ids.
 fn read_three(kind: CallKind, text: &[u8]) -> Option<(Call, &[u8])>
     requires { (kind ≡ CallKind.SetResUid) ⊎ (kind ≡ CallKind.SetResGid) }
-    ensures { option_map (λ p. (call_of p.0, tokens_of p.1.now)) result ≡ call_of_kind (kind_view kind) (tokens_of text.now) }
+    ensures { option_map (λ p. (call_of p.0, tokens_of p.1.now)) result ≡ call_of_kind kind (tokens_of text.now) }
 {
     let (r, e, s, rest) = next_three(text)?;
     match kind {

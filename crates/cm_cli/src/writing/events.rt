@@ -5,7 +5,6 @@ ghost use Rattle.model_text.specs.Print.{arguments_of, arguments_text, call_text
 ghost use Rattle.model_text.specs.Report.{text_of, Told, Plain};
 
 use super::numbers::{put, put_decimal, put_hex16, put_id};
-use crate::line::CallKind;
 use cm_base::{Cap, CapWord, NoMemory, Res};
 use cm_state::{Call, Event};
 
@@ -41,7 +40,7 @@ fn put_call(text: &mut Vec<u8>, call: &Call) -> Result<(), NoMemory>
     ensures { OnOk result (text.new.items ≡ text.old.items ++ call_text (call_of call.now)) }
 {
     put(text, b" ")?;
-    put(text, CallKind::of(call).name().as_bytes())?;
+    put(text, call.kind().name().as_bytes())?;
     put_arguments(text, call)
 }
 

@@ -1,4 +1,4 @@
-use Rattle.cm_cli.proofs.CallNames.{unnamed}
+use Rattle.cm_cli.proofs.CapNumbers.{unnamed}
 use Rattle.cm_cli.proofs.writing.events.put_cap.Goals as goal
 
 pub returns-in-None : goal.returns-in-None

@@ -1,15 +1,10 @@
 // The kinds of calls and their names in script lines, one table.
-ghost use Rattle.std.specs.Prelude.{◌≡◌, bytes_eq, find, option_map};
-ghost use Rattle.cm_cli.specs.Lines.{all_kinds, kind_view};
-ghost use Rattle.cm_state.specs.Call.{call_of};
-ghost use Rattle.model_cred.specs.Call.{kind_of};
-ghost use Rattle.model_text.specs.Calls.{call_name, kind_named};
+ghost use Rattle.std.specs.Prelude.{◌≡◌};
+ghost use Rattle.cm_filter.specs.Kinds.{call_name, kind_named};
 
-use cm_state::Call;
-
-/// A kind of call, by the name that it has in script lines.
+/// A kind of call: the call without its arguments. Their order is that of the table.
 #[derive(Clone, Copy, Debug, PartialEq, Eq)]
-pub(crate) enum CallKind {
+pub enum CallKind {
     SetUid,
     SetReUid,
     SetResUid,
@@ -70,7 +65,7 @@ impl CallKind {
 
     /// Its name, as `setresuid`.
     pub fn name(self) -> &'static str
-        ensures { result.now ≡ call_name (kind_view self) }
+        ensures { result.now ≡ call_name self }
     {
         match self {
             CallKind::SetUid => "setuid",
@@ -104,45 +99,11 @@ impl CallKind {
 
     /// The kind of that name. None exactly where it is none of the 26 names.
     pub fn from_name(name: &[u8]) -> Option<CallKind>
-        ensures { option_map kind_view result ≡ kind_named name.now }
-    {
-        CallKind::named(name)
-    }
-
-    // The first of them that has the name.
-    fn named(name: &[u8]) -> Option<CallKind>
-        ensures { result ≡ find (λ kind. bytes_eq (call_name (kind_view kind)) name.now) all_kinds }
+        ensures { result ≡ kind_named name.now }
     {
         CallKind::ALL
             .iter()
             .copied()
             .find(|kind| kind.name().as_bytes() == name)
-    }
-
-    /// The kind of a call.
-    pub fn of(call: &Call) -> CallKind
-        ensures { kind_view result ≡ kind_of (call_of call.now) }
-    {
-        match call {
-            Call::SetUid(_) => CallKind::SetUid,
-            Call::SetReUid(_, _) => CallKind::SetReUid,
-            Call::SetResUid(_, _, _) => CallKind::SetResUid,
-            Call::SetFsUid(_) => CallKind::SetFsUid,
-            Call::SetGid(_) => CallKind::SetGid,
-            Call::SetReGid(_, _) => CallKind::SetReGid,
-            Call::SetResGid(_, _, _) => CallKind::SetResGid,
-            Call::SetFsGid(_) => CallKind::SetFsGid,
-            Call::SetGroups(_) => CallKind::SetGroups,
-            Call::CapSet { .. } => CallKind::CapSet,
-            Call::BsetDrop(_) => CallKind::BsetDrop,
-            Call::AmbRaise(_) => CallKind::AmbRaise,
-            Call::AmbLower(_) => CallKind::AmbLower,
-            Call::AmbClear => CallKind::AmbClear,
-            Call::SecureBits(_) => CallKind::SecureBits,
-            Call::KeepCaps(_) => CallKind::KeepCaps,
-            Call::NoNewPrivs(_) => CallKind::NoNewPrivs,
-            Call::Fork => CallKind::Fork,
-            Call::Exit => CallKind::Exit,
-        }
     }
 }
