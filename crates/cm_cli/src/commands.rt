@@ -5,7 +5,7 @@ ghost use Rattle.cm_cli.specs.Query.{query_if};
 ghost use Rattle.cm_cli.specs.Telling.{IsTold};
 ghost use Rattle.cm_cli.specs.Words.{bytes_of};
 ghost use Rattle.cm_io.specs.Shelf.{Rose};
-ghost use Rattle.model_text.specs.Command.{command_of, query_of, NoForm};
+ghost use Rattle.model_report.specs.Command.{command_of, query_of, NoForm};
 
 use crate::query::Query;
 use crate::reading::{Unready, read_files};

@@ -8,7 +8,8 @@ mod audit_tests;
 mod call_tests;
 mod commands;
 mod laws;
-mod line;
+mod lines;
+mod log;
 mod query;
 mod reading;
 mod replay;
@@ -24,5 +25,5 @@ mod writing;
 pub use cm_base::Status;
 pub use commands::{run, run_surely};
 pub use laws::{
-    accepted_is_run, each_by_its_cause, impossible_is_no_step, no_is_way, yes_is_never,
+    accepted_is_run, each_by_its_cause, impossible_is_no_step, no_is_run, yes_is_never,
 };

@@ -1,42 +1,50 @@
-// The credential line of a process.
-ghost use Rattle.std.specs.Prelude.{◌≡◌, ◌++◌, [], ◌∷◌, None, OnOk, codes, decimal, flat_map};
-ghost use Rattle.model_text.specs.Print.{space_token, ids_text, groups_text, all_ids_text, sets_text, bounds_text, flags_text};
-ghost use Rattle.model_text.specs.Report.{text_of, Credentials};
+// The credential line of a process, as text.
+ghost use Rattle.std.specs.Prelude.{◌≡◌, ◌++◌, ◌∷◌, None, codes, decimal, flat_map};
+ghost use Rattle.cm_base.specs.Outcome.{OrNoMemory};
+ghost use Rattle.model_text.specs.Print.{credential_line, space_token, ids_text, groups_text, all_ids_text, sets_text, bounds_text, flags_text};
 
-use super::numbers::{put, put_decimal, put_hex2, put_hex16};
 use cm_base::{Kgid, NoMemory, Pid, SpaceId};
-use cm_state::{Cred, FourIds, Proc};
+use cm_script::numbers::{put, put_decimal, put_hex2, put_hex16};
+use cm_state::{Cred, FourIds};
+use std::alloc::Global;
 
-/// The credential line of a process.
-#[inline]
-pub(crate) fn put_process(text: &mut Vec<u8>, p: &Proc) -> Result<(), NoMemory>
-    ensures { OnOk result (text.new.items ≡ text.old.items ++ text_of (Credentials p.now ∷ [])) }
-{
-    put_credentials(text, p.pid, p.space, &p.cred)
-}
-
-// The credential line of a process of that pid in that space, whatever its forebear, which the line doesn't tell.
-fn put_credentials(
-    text: &mut Vec<u8>,
+/// The credential line of a process of that pid in that space, without LF, whatever its forebear, which the line doesn't
+/// tell. Its only error is want of memory.
+pub fn credentials(
+    alloc: Global,
+    cred: &Cred,
     pid: Pid,
     space: SpaceId,
+) -> Result<Vec<u8>, NoMemory>
+    ensures { OrNoMemory result (λ text. text.items ≡ credential_line (record { pid = pid; forebear = None; space = space.0; cred = cred.now })) }
+{
+    let mut text = Vec::new(alloc);
+    put_credentials(&mut text, cred, pid, space)?;
+    Ok(text)
+}
+
+/// The same at the end of a text. Where there is no memory, what the text holds isn't said.
+#[inline]
+pub fn put_credentials(
+    text: &mut Vec<u8>,
     cred: &Cred,
+    pid: Pid,
+    space: SpaceId,
 ) -> Result<(), NoMemory>
-    ensures { OnOk result (text.new.items ≡ text.old.items
-        ++ text_of (Credentials (record { pid = pid; forebear = None; space = space.0; cred = cred.now }) ∷ [])) }
+    ensures { OrNoMemory result (λ _. text.new.items ≡ text.old.items
+        ++ credential_line (record { pid = pid; forebear = None; space = space.0; cred = cred.now })) }
 {
     put_place(text, pid, space)?;
     put_all_ids(text, cred)?;
     put_sets(text, cred)?;
     put_bounds(text, cred)?;
-    put_flags(text, cred)?;
-    put(text, b"\n")
+    put_flags(text, cred)
 }
 
 // The pid and the token of the space.
 #[inline]
 fn put_place(text: &mut Vec<u8>, pid: Pid, space: SpaceId) -> Result<(), NoMemory>
-    ensures { OnOk result (text.new.items ≡ text.old.items ++ (codes "> " ++ decimal pid ++ codes " " ++ space_token space.0)) }
+    ensures { OrNoMemory result (λ _. text.new.items ≡ text.old.items ++ (codes "> " ++ decimal pid ++ codes " " ++ space_token space.0)) }
 {
     put(text, b"> ")?;
     put_decimal(text, pid.number() as u64)?;
@@ -47,7 +55,7 @@ fn put_place(text: &mut Vec<u8>, pid: Pid, space: SpaceId) -> Result<(), NoMemor
 // The token of a space: `init` for the initial one, else `#` and its number.
 #[inline]
 fn put_space(text: &mut Vec<u8>, space: SpaceId) -> Result<(), NoMemory>
-    ensures { OnOk result (text.new.items ≡ text.old.items ++ space_token space.0) }
+    ensures { OrNoMemory result (λ _. text.new.items ≡ text.old.items ++ space_token space.0) }
 {
     if space.0 == 0 {
         put(text, b"init")
@@ -60,7 +68,7 @@ fn put_space(text: &mut Vec<u8>, space: SpaceId) -> Result<(), NoMemory>
 #[inline]
 #[tactic(auto, unfolding(model_text::specs::Print::all_ids_text))]
 fn put_all_ids(text: &mut Vec<u8>, cred: &Cred) -> Result<(), NoMemory>
-    ensures { OnOk result (text.new.items ≡ text.old.items ++ all_ids_text cred.now) }
+    ensures { OrNoMemory result (λ _. text.new.items ≡ text.old.items ++ all_ids_text cred.now) }
 {
     put(text, b" uid=")?;
     put_ids(text, cred.user_ids())?;
@@ -73,7 +81,7 @@ fn put_all_ids(text: &mut Vec<u8>, cred: &Cred) -> Result<(), NoMemory>
 #[inline]
 #[tactic(auto, unfolding(model_text::specs::Print::ids_text))]
 fn put_ids(text: &mut Vec<u8>, ids: FourIds) -> Result<(), NoMemory>
-    ensures { OnOk result (text.new.items ≡ text.old.items ++ ids_text ids) }
+    ensures { OrNoMemory result (λ _. text.new.items ≡ text.old.items ++ ids_text ids) }
 {
     put_decimal(text, ids.real as u64)?;
     put_after_comma(text, ids.effective)?;
@@ -83,16 +91,16 @@ fn put_ids(text: &mut Vec<u8>, ids: FourIds) -> Result<(), NoMemory>
 
 #[inline]
 fn put_after_comma(text: &mut Vec<u8>, id: u32) -> Result<(), NoMemory>
-    ensures { OnOk result (text.new.items ≡ text.old.items ++ 44 ∷ decimal id) }
+    ensures { OrNoMemory result (λ _. text.new.items ≡ text.old.items ++ 44 ∷ decimal id) }
 {
     put(text, b",")?;
     put_decimal(text, id as u64)
 }
 
-/// The groups joined by commas, `-` where there is none.
+// The groups joined by commas, `-` where there is none.
 #[inline]
-pub(super) fn put_groups(text: &mut Vec<u8>, groups: &[Kgid]) -> Result<(), NoMemory>
-    ensures { OnOk result (text.new.items ≡ text.old.items ++ groups_text groups.now) }
+fn put_groups(text: &mut Vec<u8>, groups: &[Kgid]) -> Result<(), NoMemory>
+    ensures { OrNoMemory result (λ _. text.new.items ≡ text.old.items ++ groups_text groups.now) }
 {
     match groups {
         [] => put(text, b"-"),
@@ -104,7 +112,7 @@ pub(super) fn put_groups(text: &mut Vec<u8>, groups: &[Kgid]) -> Result<(), NoMe
 }
 
 fn put_rest(text: &mut Vec<u8>, groups: &[Kgid]) -> Result<(), NoMemory>
-    ensures { OnOk result (text.new.items ≡ text.old.items ++ flat_map (λ g. 44 ∷ decimal g) groups.now) }
+    ensures { OrNoMemory result (λ _. text.new.items ≡ text.old.items ++ flat_map (λ g. 44 ∷ decimal g) groups.now) }
 {
     for group in groups {
         put_after_comma(text, group.number())?;
@@ -115,7 +123,7 @@ fn put_rest(text: &mut Vec<u8>, groups: &[Kgid]) -> Result<(), NoMemory>
 #[inline]
 #[tactic(auto, unfolding(model_text::specs::Print::sets_text))]
 fn put_sets(text: &mut Vec<u8>, cred: &Cred) -> Result<(), NoMemory>
-    ensures { OnOk result (text.new.items ≡ text.old.items ++ sets_text cred.now) }
+    ensures { OrNoMemory result (λ _. text.new.items ≡ text.old.items ++ sets_text cred.now) }
 {
     put(text, b" inh=")?;
     put_hex16(text, cred.inh.bits())?;
@@ -128,7 +136,7 @@ fn put_sets(text: &mut Vec<u8>, cred: &Cred) -> Result<(), NoMemory>
 #[inline]
 #[tactic(auto, unfolding(model_text::specs::Print::bounds_text))]
 fn put_bounds(text: &mut Vec<u8>, cred: &Cred) -> Result<(), NoMemory>
-    ensures { OnOk result (text.new.items ≡ text.old.items ++ bounds_text cred.now) }
+    ensures { OrNoMemory result (λ _. text.new.items ≡ text.old.items ++ bounds_text cred.now) }
 {
     put(text, b" bnd=")?;
     put_hex16(text, cred.bnd.bits())?;
@@ -139,7 +147,7 @@ fn put_bounds(text: &mut Vec<u8>, cred: &Cred) -> Result<(), NoMemory>
 #[inline]
 #[tactic(auto, unfolding(model_text::specs::Print::flags_text))]
 fn put_flags(text: &mut Vec<u8>, cred: &Cred) -> Result<(), NoMemory>
-    ensures { OnOk result (text.new.items ≡ text.old.items ++ flags_text cred.now) }
+    ensures { OrNoMemory result (λ _. text.new.items ≡ text.old.items ++ flags_text cred.now) }
 {
     put(text, b" sec=")?;
     put_hex2(text, cred.sec.bits())?;
