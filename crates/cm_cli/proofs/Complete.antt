@@ -71,7 +71,7 @@ wants_memory _ = inr (λ e. cc)
 
 -- and no fault was counted
 pub completed : (words : List (List ℕ)) (files : Files) (answer : Status) (reads reads' : List ℕ → ℕ) (writes writes' : ℕ) → (IsTold answer → answer ≡ (report_over words files).status)
-    → (answer ≡ answers.ReadFault → NamesFault words reads reads') → (answer ≡ answers.WriteFault → Rose writes writes') → IsValid words files → NoneRose reads reads' writes writes' → IsCompleted (query_of (command_of words)) answer
+    → (answer ≡ answers.ReadFault → NamesFault (command_of words) reads reads') → (answer ≡ answers.WriteFault → Rose writes writes') → IsValid words files → NoneRose reads reads' writes writes' → IsCompleted (query_of (command_of words)) answer
 completed words files answer reads reads' writes writes' is read write valid none =
     valid_completed words files answer (λ is_told. by_cause words files answer (is is_told))
     (λ fault. let named = read fault in elim named.rose [ inl world ↦ none.reads_same named.world world | inr log ↦ none.reads_same named.log log ])

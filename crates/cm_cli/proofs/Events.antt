@@ -1,21 +1,40 @@
 -- What an event adds to the report, to the run and to what is counted.
-use Rattle.std.proofs.Common.{◌≡◌, ℕ, ◌+◌, ◌&&◌, Bool, true, false, List, [], ◌∷◌, ◌++◌, refl, sym, ap, ◌∙◌, subst, append_assoc}
+use Rattle.std.proofs.Common.{◌≡◌, ◌≢◌, ℕ, ◌+◌, ◌&&◌, Bool, true, false, List, [], ◌∷◌, ◌++◌, refl, sym, ap, ◌∙◌, subst, append_assoc}
 use Rattle.cm_base.specs.declared.status.Status.{Status}
 use Rattle.cm_base.specs.declared.status.Status.TheVariants as status
 use Rattle.cm_cli.proofs.ReportText.{text_of_append}
-use Rattle.cm_cli.specs.Replay.{report_from, event_lines, IsStep}
+use Rattle.cm_cli.specs.Replay.{report_from, event_lines, reason_of}
 use Rattle.cm_cli.specs.declared.replay.Replay.{Replay}
+use Rattle.cm_base.specs.declared.res.Res.{Res}
+use Rattle.cm_machine.specs.declared.error.StepError.{StepError}
+use Rattle.cm_machine.specs.declared.error.StepError.TheVariants as error
 use Rattle.model_cred.specs.Process.{State}
 use Rattle.model_cred.specs.World.{World}
-use Rattle.model_run.specs.Step.{Outcome, Goes, Run, outcome}
+use Rattle.model_run.specs.Step.{Outcome, Goes, NoProcess, NoSpace, PidInUse, Wrong, Run, outcome}
 use Rattle.model_run.specs.WayBack.{are_setresuids, is_setresuid}
-use Rattle.model_report.specs.Replay.{Report, text_of, by_outcome, after, step_lines, replayed}
+use Rattle.model_report.specs.Replay.{Report, Plain, text_of, by_outcome, after, impossible_text, step_lines, replayed}
 use Rattle.model_text.specs.Reading.{Placed, Reading, events_of, reads_on}
 
 -- the report of an event that is no step
 stops : (e : Placed) (rest : State → Report) (become : Outcome) → ((s : State) → ¬ (become ≡ Goes s)) → by_outcome e rest become ≡ record { status = status.Impossible; lines = event_lines e become }
 stops e rest (Goes s) none = absurd (none s refl)
 stops e rest _ none = refl
+
+-- What the machine says of an event that it refuses: it is no step, and its line tells the machine's reason.
+pub record IsRefused (e : Placed) (why : StepError) (become : Outcome) : Type 0 where
+  pub none : (s : State) → ¬ (become ≡ Goes s)
+  pub lines : Plain (impossible_text e.line (reason_of why)) ∷ [] ≡ event_lines e become
+
+refused_as : (e : Placed) (why : StepError) (become one : Outcome) → become ≡ one → IsRefused e why one → IsRefused e why become
+refused_as e why become one is refused = subst (λ (o : Outcome). IsRefused e why o) (sym is) refused
+
+pub refused : (e : Placed) (why : StepError) (become : Outcome) → why ≢ error.NoMemory → (why ≡ error.NoProcess → become ≡ NoProcess) → (why ≡ error.NoSpace → become ≡ NoSpace)
+    → (why ≡ error.PidInUse → become ≡ PidInUse) → ((res : Res) → why ≡ error.Wrong res → become ≡ Wrong res) → IsRefused e why become
+refused e error.NoMemory become other a b c d = absurd (other refl)
+refused e error.NoProcess become other a b c d = refused_as e error.NoProcess become NoProcess (a refl) (record { none = λ s is. cc; lines = refl })
+refused e error.NoSpace become other a b c d = refused_as e error.NoSpace become NoSpace (b refl) (record { none = λ s is. cc; lines = refl })
+refused e error.PidInUse become other a b c d = refused_as e error.PidInUse become PidInUse (c refl) (record { none = λ s is. cc; lines = refl })
+refused e (error.Wrong res) become other a b c d = refused_as e (error.Wrong res) become (Wrong res) (d res refl) (record { none = λ s is. cc; lines = refl })
 
 both_and : (a b c : Bool) → ((a && b) && c) ≡ (a && (b && c))
 both_and true b c = refl

@@ -1,5 +1,5 @@
 -- What a state keeps of each of its processes, where the sets of all follow their user ids.
-use Rattle.std.proofs.Common.{length, get_or, ◌<◌, ◌≡◌, ℕ, zero, suc, List, [], ◌∷◌, Some, subst, sym, slice_get}
+use Rattle.std.proofs.Common.{length, get_or, ◌<◌, ◌≡◌, ℕ, zero, suc, List, [], ◌∷◌, Some, refl, subst, sym, slice_get}
 use Rattle.std.proofs.lemmas.Option.{slice_get_read}
 use Rattle.model_cred.specs.Process.{Process, State}
 use Rattle.model_run.specs.WayBack.{AllFollow, SetsFollowIds, StateFollows}

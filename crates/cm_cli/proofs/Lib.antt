@@ -3,6 +3,7 @@ pub mod FirstLine
 pub mod ReportText
 pub mod Events
 pub mod Waiting
+pub mod Ready
 pub mod Starting
 pub mod Following
 pub mod Told

@@ -1,14 +1,13 @@
 -- What the replay of a log in a world answers, by how its files were read.
-use Rattle.std.proofs.Common.{◌≡◌, ◌≢◌, ◌≤◌, ◌⊎◌, ◌+◌, ◌==◌, ◌&&◌, ◌||◌, not, Bool, true, false, cond, length, ℕ, List, [], ◌∷◌, Option, None, Some, refl, sym, ap, ◌∙◌, le_of_eq}
+use Rattle.std.proofs.Common.{◌≡◌, ◌≢◌, ◌≤◌, ◌⊎◌, ◌+◌, ◌==◌, ◌&&◌, ◌||◌, not, Bool, true, false, cond, length, ℕ, List, [], ◌∷◌, Option, None, Some, subst, refl, sym, ap, ◌∙◌}
 use Rattle.std.specs.Prelude.{IfSome}
 use Rattle.cm_base.specs.declared.status.Status.{Status}
 use Rattle.cm_base.specs.declared.status.Status.TheVariants as answers
-use Rattle.cm_cli.proofs.Waiting.{all_waits}
-use Rattle.cm_cli.specs.Answers.{ReplayAnswer}
+use Rattle.cm_cli.specs.Answers.{asking, AnswersReport, CountsReads}
 use Rattle.cm_world.specs.World.{world_of}
 use Rattle.cm_world.specs.declared.world.World as code
 use Rattle.cm_cli.specs.Reading.{WorldStands}
-use Rattle.cm_cli.specs.Telling.{TellsReport, short_report, log_report}
+use Rattle.cm_cli.specs.Telling.{IsTold, TellsReport, short_report, log_report}
 use Rattle.cm_cli.specs.declared.telling.Short.{Short}
 use Rattle.cm_cli.specs.declared.telling.Short.TheVariants as short
 use Rattle.cm_io.specs.Shelf.{Files, bytes_at, Rose}
@@ -18,10 +17,10 @@ use Rattle.model_cred.specs.Right.{Right, Cap, Uid, Gid}
 use Rattle.model_cred.specs.World.{World}
 use Rattle.model_run.specs.WayBack.{are_setresuids, way_back}
 use Rattle.model_run.specs.Step.{Outcome, Goes, NoProcess, NoSpace, PidInUse, Wrong, outcome}
-use Rattle.model_text.specs.Reading.{Placed, Stop, Fault, Limit, NotBuilt, End, AtEnd, Stops, Reading, events_of, script_reading}
+use Rattle.model_report.specs.Command.{NoForm, files_of}
 use Rattle.model_report.specs.Query.{Query, asked_process, right_token}
-use Rattle.model_report.specs.Replay.{Report, not_built, state_after, replayed, by_end, stopped, by_outcome}
-use Rattle.model_report.specs.Report.{files_report, answered, replay_of, go_on, verdict_after, asked_verdict, right_verdict, run_verdict}
+use Rattle.model_report.specs.Replay.{Report}
+use Rattle.model_report.specs.Report.{command_report, files_report}
 
 -- a fact of what is told, from another
 pub if_told : {T : Type 0} {P Q : T → Type 0} (o : Option T) → IfSome o P → ((x : T) → P x → Q x) → IfSome o Q
@@ -41,51 +40,45 @@ short_not_usage short.BadWorld not is = cc
 short_not_usage short.WorldLimit not is = cc
 short_not_usage short.LogLimit not is = cc
 
-module _ (held : Option Files) (query : Option Query) (world log : List ℕ) (answer : Status) (w w' : Option (List ℕ)) (reads reads' : List ℕ → ℕ) (writes writes' : ℕ) where
-  -- the files were read, and a report was told
-  pub answers_report : (r : Report) → IfSome held (λ files. files_report query (bytes_at files world) (bytes_at files log) ≡ r) → ((n : List ℕ) → reads' n ≡ reads n) → r.status ≢ answers.Usage
-      → TellsReport r answer w w' writes writes' → ReplayAnswer held query world log answer w w' reads reads' writes writes'
-  answers_report r ready same not_usage told = record {
-    status = if_told held ready (λ files is is_told. told.status is_told ∙ ap (λ (q : Report). q.status) (sym is));
-    text = if_told held ready (λ files is. rw is (record { whole = told.text; front = told.front }));
-    read_fault = λ fault. absurd (told.never_read_fault fault);
-    read_order = if_any held (λ files fault. absurd (told.never_read_fault fault));
-    read_silent = λ fault. absurd (told.never_read_fault fault);
-    write_fault = told.write_fault;
-    no_fault = λ is_told. record { reads_same = same; writes_same = told.no_fault is_told };
-    read_later = λ n. le_of_eq (sym (same n));
-    write_later = told.later;
-    not_usage = λ is. not_usage (sym (told.status (record { not_read_fault = λ e. absurd (let no : answers.Usage ≡ answers.ReadFault = sym is ∙ e in cc); not_write_fault = λ e. absurd (let no : answers.Usage ≡ answers.WriteFault = sym is ∙ e in cc); not_memory = λ e. absurd (let no : answers.Usage ≡ answers.NoMemory = sym is ∙ e in cc) })) ∙ is);
-  }
+-- ---- the command that asks after a log
+asking_has_form : (query : Option Query) (world log : List ℕ) → asking query world log ≢ NoForm
+asking_has_form None world log is = cc
+asking_has_form (Some q) world log is = cc
 
--- a read failed
-pub answers_read_fault : (held : Option Files) (query : Option Query) (world log : List ℕ) (w : Option (List ℕ)) (reads reads' : List ℕ → ℕ) (writes : ℕ) → Rose (reads world) (reads' world) ⊎ Rose (reads log) (reads' log)
-    → IfSome held (λ files. Rose (reads world) (reads' world) ⊎ WorldStands (bytes_at files world)) → ((n : List ℕ) → reads n ≤ reads' n) → ReplayAnswer held query world log answers.ReadFault w w reads reads' writes writes
-answers_read_fault held query world log w reads reads' writes rose order later = record {
-  status = if_any held (λ files told. absurd (told.not_read_fault refl));
-  text = if_any held (λ files. record { whole = λ told. absurd (told.not_read_fault refl); front = (_, all_waits w _) });
-  read_fault = λ _. rose;
-  read_order = if_told held order (λ files h _. h);
-  read_silent = λ _. refl;
-  write_fault = λ is. cc;
-  no_fault = λ told. absurd (told.not_read_fault refl);
-  read_later = later;
-  write_later = le_of_eq refl;
-  not_usage = λ is. cc;
+asking_report : (query : Option Query) (world log : List ℕ) (bytes : List ℕ → List ℕ)
+    → command_report (asking query world log) bytes ≡ files_report query (bytes world) (bytes log)
+asking_report None world log bytes = refl
+asking_report (Some q) world log bytes = refl
+
+asking_names : (query : Option Query) (world log : List ℕ) → files_of (asking query world log) ≡ Some (world, log)
+asking_names None world log = refl
+asking_names (Some q) world log = refl
+
+told_usage : IsTold answers.Usage
+told_usage = record { not_read_fault = λ e. cc; not_write_fault = λ e. cc; not_memory = λ e. cc }
+
+-- the files were read, and a report was told
+pub log_answers : (held : Option Files) (query : Option Query) (world log : List ℕ) (r : Report) (answer : Status) (w w' : Option (List ℕ)) (f f' : ℕ)
+    → IfSome held (λ files. files_report query (bytes_at files world) (bytes_at files log) ≡ r) → r.status ≢ answers.Usage
+    → TellsReport r answer w w' f f' → AnswersReport held (asking query world log) answer w w'
+log_answers held query world log r answer w w' f f' ready not_usage told = record {
+  status = if_told held ready (λ files is is_told.
+      told.status is_told ∙ ap (λ (q : Report). q.status) (sym (asking_report query world log (bytes_at files) ∙ is)));
+  text = if_told held ready (λ files is.
+      rw (asking_report query world log (bytes_at files) ∙ is) (record { whole = told.text; front = told.front }));
+  silent = λ fault. absurd (told.never_read_fault fault);
+  usage = λ is. absurd (not_usage (sym (told.status (subst IsTold (sym is) told_usage)) ∙ is));
+  no_form = λ is. absurd (asking_has_form query world log is);
 }
 
--- there was no memory for the files
-pub answers_no_memory : (held : Option Files) (query : Option Query) (world log : List ℕ) (w : Option (List ℕ)) (reads reads' : List ℕ → ℕ) (writes : ℕ) → ((n : List ℕ) → reads' n ≡ reads n)
-    → ReplayAnswer held query world log answers.NoMemory w w reads reads' writes writes
-answers_no_memory held query world log w reads reads' writes same = record {
-  status = if_any held (λ files told. absurd (told.not_memory refl));
-  text = if_any held (λ files. record { whole = λ told. absurd (told.not_memory refl); front = (_, all_waits w _) });
-  read_fault = λ is. cc;
-  read_order = if_any held (λ files is. cc);
-  read_silent = λ is. cc;
-  write_fault = λ is. cc;
-  no_fault = λ told. absurd (told.not_memory refl);
-  read_later = λ n. le_of_eq (sym (same n));
-  write_later = le_of_eq refl;
-  not_usage = λ is. cc;
+-- the counts of faults after a read that failed
+pub log_read_fault : (held : Option Files) (query : Option Query) (world log : List ℕ) (before now : List ℕ → ℕ)
+    → Rose (before world) (now world) ⊎ Rose (before log) (now log)
+    → IfSome held (λ files. Rose (before world) (now world) ⊎ WorldStands (bytes_at files world)) → ((n : List ℕ) → before n ≤ now n)
+    → CountsReads held (asking query world log) answers.ReadFault before now
+log_read_fault held query world log before now rose order later = record {
+  fault = λ _. record { world = world; log = log; names = asking_names query world log; rose = rose };
+  order = if_told held order (λ files h _. record { world = world; log = log; names = asking_names query world log; rose = h });
+  later = later;
+  stay = λ other. absurd (other refl);
 }

@@ -40,6 +40,11 @@ joined old one two a b c first second = rw (second, first) (simp append_assoc)
 pub joined_once : (old one a b : List ℕ) → one ≡ old ++ a → one ++ b ≡ old ++ (a ++ b)
 joined_once old one a b first = rw first (append_assoc old a b)
 
+-- four pieces and a last one
+pub joined_four : (old one two three four a b c d e : List ℕ) → one ≡ old ++ a → two ≡ one ++ b → three ≡ two ++ c → four ≡ three ++ d
+    → four ++ e ≡ old ++ (((a ++ b) ++ c) ++ d ++ e)
+joined_four old one two three four a b c d e first second third fourth = rw (fourth, third, second, first) (simp append_assoc)
+
 -- the end of a line
 pub closed : {T E : Type 0} (r : Result T E) (old now new : List ℕ) (l : ReportLine)
     → OnOk r (new ≡ now) → now ≡ old ++ (line_text l ++ 10 ∷ []) → OnOk r (new ≡ old ++ text_of (l ∷ []))

@@ -1,14 +1,15 @@
 -- A report that is told, or that stops.
-use Rattle.std.proofs.Common.{◌≡◌, ◌≢◌, ◌≤◌, ◌+◌, ℕ, List, [], ◌∷◌, ◌++◌, map, append-nil, append_assoc, le_of_eq, Option, None, Some, ◌⊎◌, inl, inr, ◌==◌, ◌&&◌, ◌||◌, not, Bool, true, false, cond, length, subst, refl, sym, ap, ◌∙◌}
+use Rattle.std.proofs.Common.{◌≡◌, ◌≢◌, ◌+◌, ℕ, List, [], ◌∷◌, ◌++◌, map, append-nil, append_assoc, le_of_eq, Option, None, Some, Err, ◌⊎◌, inl, inr, ◌==◌, ◌&&◌, ◌||◌, not, Bool, true, false, cond, length, subst, refl, sym, ap, ◌∙◌}
 use Rattle.cm_base.specs.declared.status.Status.{Status}
 use Rattle.cm_base.specs.declared.status.Status.TheVariants as answers
 use Rattle.cm_cli.proofs.ReportText.{text_of_append}
 use Rattle.cm_cli.specs.Sent.{IsSent, IsFront}
+use Rattle.cm_cli.specs.Replay.{report_from}
+use Rattle.cm_cli.specs.declared.replay.Replay.{Replay}
 use Rattle.cm_cli.specs.Telling.{IsTold, TellsReport, stopped_by, log_report, answer_to}
-use Rattle.cm_io.specs.Sink.{then_written}
+use Rattle.cm_io.specs.Sink.{then_written, WriteFaults}
 use Rattle.cm_io.specs.declared.outside.Outside.{Outside}
 use Rattle.cm_io.specs.declared.outside.Outside.TheVariants as outside
-use Rattle.cm_io.specs.Shelf.{Rose}
 use Rattle.cm_world.specs.World.{world_of}
 use Rattle.cm_world.specs.declared.world.World as code
 use Rattle.model_cred.specs.Call.{Event}
@@ -24,26 +25,30 @@ use Rattle.model_report.specs.Replay.{Report, Credentials, text_of, after, not_b
 use Rattle.model_report.specs.Report.{answered, replay_of, go_on, verdict, verdict_after, asked_verdict, right_verdict, run_verdict}
 
 -- a report that stopped at an error: a front of it is written
-pub stops : (r : Report) (why : Outside) (answer : Status) (w w' : Option (List ℕ)) (f f' : ℕ) → answer ≡ stopped_by why → IsFront w w' (text_of r.lines)
-    → f ≤ f' → (why ≡ outside.Failed → Rose f f') → TellsReport r answer w w' f f'
-stops r outside.Failed answer w w' f f' is front later rose = record {
+pub stops : {T : Type 0} (r : Report) (why : Outside) (answer : Status) (w w' : Option (List ℕ)) (f f' : ℕ) → answer ≡ stopped_by why
+    → IsFront w w' (text_of r.lines) → WriteFaults {T = T} f f' (Err why) → TellsReport r answer w w' f f'
+stops r outside.Failed answer w w' f f' is front cause = record {
   status = λ told. absurd (told.not_write_fault is);
   text = λ told. absurd (told.not_write_fault is);
   front = front;
   never_read_fault = λ read. let no : answers.WriteFault ≡ answers.ReadFault = sym is ∙ read in cc;
-  write_fault = λ _. rose refl;
-  no_fault = λ told. absurd (told.not_write_fault is);
-  later = later;
+  counts = record { fault = λ _. cause.failed refl; later = cause.later; stay = λ other. absurd (other is) };
 }
-stops r outside.NoMemory answer w w' f f' is front later rose = record {
+stops r outside.NoMemory answer w w' f f' is front cause = record {
   status = λ told. absurd (told.not_memory is);
   text = λ told. absurd (told.not_memory is);
   front = front;
   never_read_fault = λ read. let no : answers.NoMemory ≡ answers.ReadFault = sym is ∙ read in cc;
-  write_fault = λ fault. let no : answers.NoMemory ≡ answers.WriteFault = sym is ∙ fault in cc;
-  no_fault = λ told. absurd (told.not_memory is);
-  later = later;
+  counts = record {
+    fault = λ fault. let no : answers.NoMemory ≡ answers.WriteFault = sym is ∙ fault in cc;
+    later = cause.later;
+    stay = λ _. cause.no_memory refl;
+  };
 }
+
+-- want of memory where the sink's count stood still
+pub wants_memory : {f f' : ℕ} → f' ≡ f → WriteFaults {T = Unit {0}} f f' (Err outside.NoMemory)
+wants_memory same = record { later = le_of_eq (sym same); ok = tt; failed = λ is. cc; no_memory = λ _. same }
 
 -- the text of the log's report: the start lines, and what is answered
 pub log_text : (query : Option Query) (w : code.World) (log : List ℕ)
@@ -136,10 +141,16 @@ tells_whole r answer w w' f f' is told sent same = record {
   text = λ _. all_written w w' (text_of r.lines) sent;
   front = ([], sent);
   never_read_fault = λ read. told.not_read_fault (is ∙ read);
-  write_fault = λ fault. absurd (told.not_write_fault (is ∙ fault));
-  no_fault = λ _. same;
-  later = le_of_eq (sym same);
+  counts = record { fault = λ fault. absurd (told.not_write_fault (is ∙ fault)); later = le_of_eq (sym same); stay = λ _. same };
 }
+
+-- the report from the beginning of a replay
+pub from_start : (w : World) (replay : Replay) (left reading : Reading) → replay.machine.state ≡ w.start → replay.events ≡ 0 → left ≡ reading
+    → report_from w replay left ≡ replay_of w reading
+from_start w replay left reading state none same =
+    ap (λ (r : Reading). report_from w replay r) same
+    ∙ ap (λ (s : State). replayed w s replay.events reading.events reading.ending) state
+    ∙ ap (λ (n : ℕ). replayed w w.start n reading.events reading.ending) none
 
 -- ---- the statuses of reports of logs
 -- What holds of each status that such a report may have.

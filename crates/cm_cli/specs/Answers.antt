@@ -8,48 +8,65 @@ use Rattle.cm_cli.specs.Telling.{IsTold}
 use Rattle.cm_io.specs.Shelf.{Files, bytes_at, Rose}
 use Rattle.cm_io.specs.Sink.{then_written}
 use Rattle.model_report.specs.Causes.{Cause, IsAccepted, IsUnbuilt, IsYes}
-use Rattle.model_report.specs.Command.{command_of, files_of, query_of}
+use Rattle.model_report.specs.Command.{Command, Replay, Audit, NoForm, command_of, files_of, query_of}
 use Rattle.model_report.specs.Laws.{ShowsRun}
 use Rattle.model_report.specs.Query.{Query}
 use Rattle.model_report.specs.Replay.{Report, text_of}
-use Rattle.model_report.specs.Report.{report, files_report}
+use Rattle.model_report.specs.Report.{report, command_report}
 
 -- the report of the words over files
 abbrev pub report_over : List (List ℕ) → Files → Report
 report_over words files = report words (bytes_at files)
+
+-- the command that asks this after the replay of a log in a world
+abbrev pub asking : Option Query → List ℕ → List ℕ → Command
+asking None world log = Replay world log
+asking (Some q) world log = Audit world log q.pid q.right
 
 -- With the status of a report all of its text is written, with any other a front of it.
 pub record WritesReport (r : Report) (answer : Status) (written written' : Option (List ℕ)) : Type 0 where
   pub whole : IsTold answer → written' ≡ then_written written (text_of r.lines)
   pub front : IsFront written written' (text_of r.lines)
 
--- the words name a world and a log, and the count of one of them rose
-pub record NamesFault (words : List (List ℕ)) (before now : List ℕ → ℕ) : Type 0 where
-  pub world : List ℕ
-  pub log : List ℕ
-  pub command : files_of (command_of words) ≡ Some (world, log)
-  pub rose : Rose (before world) (now world) ⊎ Rose (before log) (now log)
-
--- the words name a world and a log, and either the count of the world rose, or nothing in the world is refused
-pub record FaultsInOrder (words : List (List ℕ)) (files : Files) (before now : List ℕ → ℕ) : Type 0 where
-  pub world : List ℕ
-  pub log : List ℕ
-  pub command : files_of (command_of words) ≡ Some (world, log)
-  pub rose : Rose (before world) (now world) ⊎ WorldStands (bytes_at files world)
-
 -- the answers that words of no form may have
 abbrev pub IsUsageAnswer : Status → Type 0
 IsUsageAnswer answer = (answer ≡ answers.Usage) ⊎ (answer ≡ answers.WriteFault) ⊎ (answer ≡ answers.NoMemory)
+
+-- What a command answers and writes. Where it is told what the shelf holds, it is the report's status, and its text is
+-- written; after a read fault nothing is. Words of no form give the usage, and no other words do.
+pub record AnswersReport (held : Option Files) (command : Command) (answer : Status) (written written' : Option (List ℕ)) : Type 0 where
+  pub status : IfSome held (λ files. IsTold answer → answer ≡ (command_report command (bytes_at files)).status)
+  pub text : IfSome held (λ files. WritesReport (command_report command (bytes_at files)) answer written written')
+  pub silent : answer ≡ answers.ReadFault → written' ≡ written
+  pub usage : answer ≡ answers.Usage → command ≡ NoForm
+  pub no_form : command ≡ NoForm → IsUsageAnswer answer
+
+-- the command names a world and a log, and the count of one of them rose
+pub record NamesFault (command : Command) (before now : List ℕ → ℕ) : Type 0 where
+  pub world : List ℕ
+  pub log : List ℕ
+  pub names : files_of command ≡ Some (world, log)
+  pub rose : Rose (before world) (now world) ⊎ Rose (before log) (now log)
+
+-- the command names a world and a log, and either the count of the world rose, or nothing in the world is refused
+pub record FaultsInOrder (command : Command) (files : Files) (before now : List ℕ → ℕ) : Type 0 where
+  pub world : List ℕ
+  pub log : List ℕ
+  pub names : files_of command ≡ Some (world, log)
+  pub rose : Rose (before world) (now world) ⊎ WorldStands (bytes_at files world)
+
+-- The shelf's counts of faults before and after a command: with `ReadFault` that of a file rose which the command names,
+-- the log's only after a world that stands; with any other answer no count changed.
+pub record CountsReads (held : Option Files) (command : Command) (answer : Status) (before now : List ℕ → ℕ) : Type 0 where
+  pub fault : answer ≡ answers.ReadFault → NamesFault command before now
+  pub order : IfSome held (λ files. answer ≡ answers.ReadFault → FaultsInOrder command files before now)
+  pub later : (n : List ℕ) → before n ≤ now n
+  pub stay : answer ≢ answers.ReadFault → (n : List ℕ) → now n ≡ before n
 
 -- no count of faults rose, neither the shelf's for any name nor the sink's
 pub record NoneRose (reads reads' : List ℕ → ℕ) (writes writes' : ℕ) : Type 0 where
   pub reads_same : (n : List ℕ) → ¬ Rose (reads n) (reads' n)
   pub writes_same : ¬ Rose writes writes'
-
--- the counts of faults stand still
-pub record CountsStay (reads reads' : List ℕ → ℕ) (writes writes' : ℕ) : Type 0 where
-  pub reads_same : (n : List ℕ) → reads' n ≡ reads n
-  pub writes_same : writes' ≡ writes
 
 -- the input is valid: none of the causes of a refusal stands (an audit may still ask, after an accepted log, for what
 -- isn't built)
@@ -61,20 +78,6 @@ pub record IsValid (words : List (List ℕ)) (files : Files) : Type 0 where
   pub bad_log : ¬ Cause words (bytes_at files) answers.BadLog
   pub impossible : ¬ Cause words (bytes_at files) answers.Impossible
   pub bad_query : ¬ Cause words (bytes_at files) answers.BadQuery
-
--- What the replay of a log in a world, with what is asked after it, answers and leaves: the same clauses for one world
--- and one log.
-pub record ReplayAnswer (held : Option Files) (query : Option Query) (world log : List ℕ) (answer : Status) (written written' : Option (List ℕ)) (reads reads' : List ℕ → ℕ) (writes writes' : ℕ) : Type 0 where
-  pub status : IfSome held (λ files. IsTold answer → answer ≡ (files_report query (bytes_at files world) (bytes_at files log)).status)
-  pub text : IfSome held (λ files. WritesReport (files_report query (bytes_at files world) (bytes_at files log)) answer written written')
-  pub read_fault : answer ≡ answers.ReadFault → Rose (reads world) (reads' world) ⊎ Rose (reads log) (reads' log)
-  pub read_order : IfSome held (λ files. answer ≡ answers.ReadFault → Rose (reads world) (reads' world) ⊎ WorldStands (bytes_at files world))
-  pub read_silent : answer ≡ answers.ReadFault → written' ≡ written
-  pub write_fault : answer ≡ answers.WriteFault → Rose writes writes'
-  pub no_fault : IsTold answer → CountsStay reads reads' writes writes'
-  pub read_later : (n : List ℕ) → reads n ≤ reads' n
-  pub write_later : writes ≤ writes'
-  pub not_usage : answer ≢ answers.Usage
 
 -- The answer comes exactly by its cause.
 abbrev pub ComesByCause : List (List ℕ) → Files → Status → Type 0

@@ -1,5 +1,5 @@
 -- What the files of a replay come to, where the shelf tells what it holds, and the counts of its faults.
-use Rattle.std.specs.Prelude.{◌≡◌, ◌≢◌, ◌⊎◌, ◌≤◌, ◌<◌, ℕ, length, List, Option, Result, Ok, Err, Vec}
+use Rattle.std.specs.Prelude.{◌≡◌, ◌≢◌, ◌⊎◌, ◌≤◌, ◌<◌, ◌+◌, ℕ, bytes_eq, if◌then◌else◌, length, List, Option, None, Some, Result, Ok, Err, Vec}
 use Rattle.std.specs.declared.alloc.Global.{Global}
 use Rattle.cm_world.specs.World.{world_of}
 use Rattle.cm_world.specs.declared.world.World as code
@@ -72,3 +72,28 @@ abbrev pub unready_by : WholeError → Short → Unready
 unready_by whole.Read past = unready.ReadFault
 unready_by whole.TooMuch past = unready.Refused past
 unready_by whole.NoMemory past = unready.NoMemory
+
+-- so many at this name, and none at another
+abbrev pub under : List ℕ → ℕ → List ℕ → ℕ
+under name most n = if bytes_eq n name then most else 0
+
+-- the most bytes that are taken under a name for the world and the log of a command, where it has them: the limit and
+-- one byte of each that has the name
+abbrev pub most_for : Option (List ℕ × List ℕ) → List ℕ → ℕ
+most_for None n = 0
+most_for (Some (world, log)) n = under world (world_limit + 1) n + under log (log_limit + 1) n
+
+-- no more than that is taken under any name
+abbrev pub TakesFor : Option (List ℕ × List ℕ) → (taken taken' : List ℕ → ℕ) → Type 0
+TakesFor files taken taken' = (n : List ℕ) → taken' n ≤ taken n + most_for files n
+
+-- the name is that of the world or of the log
+pub record IsFileOf (files : Option (List ℕ × List ℕ)) (n : List ℕ) : Type 0 where
+  pub world : List ℕ
+  pub log : List ℕ
+  pub names : files ≡ Some (world, log)
+  pub is : (n ≡ world) ⊎ (n ≡ log)
+
+-- no other name is read
+abbrev pub ReadsFor : Option (List ℕ × List ℕ) → (reads reads' : List ℕ → ℕ) → Type 0
+ReadsFor files reads reads' = (n : List ℕ) → ¬ IsFileOf files n → reads' n ≡ reads n

@@ -24,15 +24,19 @@ pub record IsTold (answer : Status) : Type 0 where
   pub not_write_fault : answer ≢ answers.WriteFault
   pub not_memory : answer ≢ answers.NoMemory
 
+-- the sink's count of faults before and after a command: with `WriteFault` it rose, with any other answer it didn't change
+pub record CountsWrites (answer : Status) (before now : ℕ) : Type 0 where
+  pub fault : answer ≡ answers.WriteFault → Rose before now
+  pub later : before ≤ now
+  pub stay : answer ≢ answers.WriteFault → now ≡ before
+
 -- The answer tells the report: with its status all of its text is written, with any other a front of it.
 pub record TellsReport (r : Report) (answer : Status) (written written' : Option (List ℕ)) (faults faults' : ℕ) : Type 0 where
   pub status : IsTold answer → answer ≡ r.status
   pub text : IsTold answer → written' ≡ then_written written (text_of r.lines)
   pub front : IsFront written written' (text_of r.lines)
   pub never_read_fault : answer ≢ answers.ReadFault
-  pub write_fault : answer ≡ answers.WriteFault → Rose faults faults'
-  pub no_fault : IsTold answer → faults' ≡ faults
-  pub later : faults ≤ faults'
+  pub counts : CountsWrites answer faults faults'
 
 -- the reports of one piece
 abbrev pub short_report : Short → Report

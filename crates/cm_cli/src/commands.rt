@@ -1,11 +1,11 @@
 // The top call.
-ghost use Rattle.std.specs.Prelude.{◌≡◌, ◌≢◌, ◌≤◌, ℕ, List, IfSome};
-ghost use Rattle.cm_cli.specs.Answers.{report_over, WritesReport, NamesFault, FaultsInOrder, IsUsageAnswer, NoneRose, CountsStay, IsValid, ReplayAnswer, ComesByCause, IsCompleted, SaysYes, SaysNo};
+ghost use Rattle.std.specs.Prelude.{◌≡◌, ◌≢◌, IfSome, Some};
+ghost use Rattle.cm_cli.specs.Answers.{report_over, asking, AnswersReport, CountsReads, NoneRose, IsValid, ComesByCause, IsCompleted, SaysYes, SaysNo};
 ghost use Rattle.cm_cli.specs.Query.{query_if};
-ghost use Rattle.cm_cli.specs.Telling.{IsTold};
-ghost use Rattle.cm_cli.specs.Words.{bytes_of};
-ghost use Rattle.cm_io.specs.Shelf.{Rose};
-ghost use Rattle.model_report.specs.Command.{command_of, query_of, NoForm};
+ghost use Rattle.cm_cli.specs.Reading.{TakesFor, ReadsFor};
+ghost use Rattle.cm_cli.specs.Telling.{IsTold, CountsWrites};
+ghost use Rattle.cm_cli.specs.Words.{bytes_of, command_view};
+ghost use Rattle.model_report.specs.Command.{command_of, files_of, query_of};
 
 use crate::query::Query;
 use crate::reading::{Unready, read_files};
@@ -18,33 +18,29 @@ use std::alloc::Global;
 /// Carries out the command that the words name: reads the files from the shelf, and writes the report to the sink.
 ///
 /// The answer is the report's status. `ReadFault` comes only where a read of a file that the words name failed, and
-/// then nothing is written; `WriteFault` only where a write failed, and `NoMemory` where there was no memory: then a
-/// front of the report is written.
+/// then nothing is written; `WriteFault` only where a write failed, and `NoMemory` where neither did: then a front of
+/// the report is written.
 pub fn run<H: Shelf, K: Sink>(
     alloc: Global,
     words: &Vec<String>,
     shelf: &mut H,
     out: &mut K,
 ) -> Status
-    // Where the shelf tells what it holds, the answer is the report's status, and its text is written.
-    ensures status { IfSome (H.held shelf.old) (λ files. IsTold result → result ≡ (report_over (bytes_of words.now.items) files).status) }
-    ensures text { IfSome (H.held shelf.old) (λ files.
-        WritesReport (report_over (bytes_of words.now.items) files) result (K.written out.old) (K.written out.new)) }
+    // Where the shelf tells what it holds, the answer is the report's status, and its text is written; after a read
+    // fault nothing is. Words of no form give the usage, and no other words do.
+    ensures report { AnswersReport (H.held shelf.old) (command_of (bytes_of words.now.items)) result
+        (K.written out.old) (K.written out.new) }
 
-    // Faults of the outside come only where its counts rose.
-    ensures read_fault { result ≡ Status.ReadFault → NamesFault (bytes_of words.now.items) (H.faults shelf.old) (H.faults shelf.new) }
-    ensures read_order { IfSome (H.held shelf.old) (λ files. result ≡ Status.ReadFault →
-        FaultsInOrder (bytes_of words.now.items) files (H.faults shelf.old) (H.faults shelf.new)) }
-    ensures read_silent { result ≡ Status.ReadFault → K.written out.new ≡ K.written out.old }
-    ensures write_fault { result ≡ Status.WriteFault → Rose (K.faults out.old) (K.faults out.new) }
-    ensures no_fault { IsTold result → CountsStay (H.faults shelf.old) (H.faults shelf.new) (K.faults out.old) (K.faults out.new) }
-    ensures read_later { (n : List ℕ) → H.faults shelf.old n ≤ H.faults shelf.new n }
-    ensures write_later { K.faults out.old ≤ K.faults out.new }
+    // A count of faults changes with its own fault alone: one of a file that the words name, with the answer
+    // `ReadFault`, and the sink's, with `WriteFault`. With `NoMemory` none does.
+    ensures read_faults { CountsReads (H.held shelf.old) (command_of (bytes_of words.now.items)) result
+        (H.faults shelf.old) (H.faults shelf.new) }
+    ensures write_faults { CountsWrites result (K.faults out.old) (K.faults out.new) }
+
+    // Of each file that the words name at most its limit and one byte are taken, and no other name is read.
+    ensures takes { TakesFor (files_of (command_of (bytes_of words.now.items))) (H.taken shelf.old) (H.taken shelf.new) }
+    ensures reads { ReadsFor (files_of (command_of (bytes_of words.now.items))) (H.reads shelf.old) (H.reads shelf.new) }
     ensures held { H.held shelf.new ≡ H.held shelf.old }
-
-    // Words of no form give the usage, and no other words do.
-    ensures usage { result ≡ Status.Usage → command_of (bytes_of words.now.items) ≡ NoForm }
-    ensures no_form { command_of (bytes_of words.now.items) ≡ NoForm → IsUsageAnswer result }
 
     // Each answer of a report has its cause in the words and the files, and each cause its answer.
     ensures answers { IfSome (H.held shelf.old) (λ files. IsTold result → ComesByCause (bytes_of words.now.items) files result) }
@@ -60,7 +56,7 @@ pub fn run<H: Shelf, K: Sink>(
         NoneRose (H.faults shelf.old) (H.faults shelf.new) (K.faults out.old) (K.faults out.new) →
         IsCompleted (query_of (command_of (bytes_of words.now.items))) result) }
 {
-    carry_out(alloc, words, shelf, out)
+    carry_out(alloc, read_words(words), shelf, out)
 }
 
 /// `run` over a shelf and a sink that never fail: no fault is answered. Where nothing in the input is refused, a replay
@@ -73,52 +69,41 @@ pub fn run_surely(
 ) -> Status
     ensures no_read_fault { result ≢ Status.ReadFault }
     ensures no_write_fault { result ≢ Status.WriteFault }
-
-    // The rest is as for every shelf and sink.
-    ensures status { IfSome (⟦<SureShelf as Shelf>⟧.held shelf.old) (λ files.
-        IsTold result → result ≡ (report_over (bytes_of words.now.items) files).status) }
-    ensures text { IfSome (⟦<SureShelf as Shelf>⟧.held shelf.old) (λ files.
-        WritesReport (report_over (bytes_of words.now.items) files) result
-        (⟦<SureSink as Sink>⟧.written out.old) (⟦<SureSink as Sink>⟧.written out.new)) }
-    ensures answers { IfSome (⟦<SureShelf as Shelf>⟧.held shelf.old) (λ files.
-        IsTold result → ComesByCause (bytes_of words.now.items) files result) }
-    ensures yes { IfSome (⟦<SureShelf as Shelf>⟧.held shelf.old) (λ files. result ≡ Status.Accepted → SaysYes (bytes_of words.now.items) files) }
-    ensures no { IfSome (⟦<SureShelf as Shelf>⟧.held shelf.old) (λ files. result ≡ Status.No → SaysNo (bytes_of words.now.items) files) }
     ensures complete { IfSome (⟦<SureShelf as Shelf>⟧.held shelf.old) (λ files.
         IsValid (bytes_of words.now.items) files → IsCompleted (query_of (command_of (bytes_of words.now.items))) result) }
+
+    // The rest is as for every shelf and sink.
+    ensures report { AnswersReport (⟦<SureShelf as Shelf>⟧.held shelf.old) (command_of (bytes_of words.now.items)) result
+        (⟦<SureSink as Sink>⟧.written out.old) (⟦<SureSink as Sink>⟧.written out.new) }
+    ensures takes { TakesFor (files_of (command_of (bytes_of words.now.items)))
+        (⟦<SureShelf as Shelf>⟧.taken shelf.old) (⟦<SureShelf as Shelf>⟧.taken shelf.new) }
+    ensures reads { ReadsFor (files_of (command_of (bytes_of words.now.items)))
+        (⟦<SureShelf as Shelf>⟧.reads shelf.old) (⟦<SureShelf as Shelf>⟧.reads shelf.new) }
     ensures held { ⟦<SureShelf as Shelf>⟧.held shelf.new ≡ ⟦<SureShelf as Shelf>⟧.held shelf.old }
-    ensures usage { result ≡ Status.Usage → command_of (bytes_of words.now.items) ≡ NoForm }
-    ensures no_form { command_of (bytes_of words.now.items) ≡ NoForm → IsUsageAnswer result }
+    ensures answers { IfSome (⟦<SureShelf as Shelf>⟧.held shelf.old) (λ files.
+        IsTold result → ComesByCause (bytes_of words.now.items) files result) }
+    ensures yes { IfSome (⟦<SureShelf as Shelf>⟧.held shelf.old) (λ files.
+        result ≡ Status.Accepted → SaysYes (bytes_of words.now.items) files) }
+    ensures no { IfSome (⟦<SureShelf as Shelf>⟧.held shelf.old) (λ files.
+        result ≡ Status.No → SaysNo (bytes_of words.now.items) files) }
 {
     run(alloc, words, shelf, out)
 }
 
 fn carry_out<H: Shelf, K: Sink>(
     alloc: Global,
-    words: &Vec<String>,
+    command: Command<'_>,
     shelf: &mut H,
     out: &mut K,
 ) -> Status
-    ensures status { IfSome (H.held shelf.old) (λ files. IsTold result → result ≡ (report_over (bytes_of words.now.items) files).status) }
-    ensures text { IfSome (H.held shelf.old) (λ files.
-        WritesReport (report_over (bytes_of words.now.items) files) result (K.written out.old) (K.written out.new)) }
-
-    // Faults of the outside come only where its counts rose.
-    ensures read_fault { result ≡ Status.ReadFault → NamesFault (bytes_of words.now.items) (H.faults shelf.old) (H.faults shelf.new) }
-    ensures read_order { IfSome (H.held shelf.old) (λ files. result ≡ Status.ReadFault →
-        FaultsInOrder (bytes_of words.now.items) files (H.faults shelf.old) (H.faults shelf.new)) }
-    ensures read_silent { result ≡ Status.ReadFault → K.written out.new ≡ K.written out.old }
-    ensures write_fault { result ≡ Status.WriteFault → Rose (K.faults out.old) (K.faults out.new) }
-    ensures no_fault { IsTold result → CountsStay (H.faults shelf.old) (H.faults shelf.new) (K.faults out.old) (K.faults out.new) }
-    ensures read_later { (n : List ℕ) → H.faults shelf.old n ≤ H.faults shelf.new n }
-    ensures write_later { K.faults out.old ≤ K.faults out.new }
+    ensures report { AnswersReport (H.held shelf.old) (command_view command.entry) result (K.written out.old) (K.written out.new) }
+    ensures read_faults { CountsReads (H.held shelf.old) (command_view command.entry) result (H.faults shelf.old) (H.faults shelf.new) }
+    ensures write_faults { CountsWrites result (K.faults out.old) (K.faults out.new) }
+    ensures takes { TakesFor (files_of (command_view command.entry)) (H.taken shelf.old) (H.taken shelf.new) }
+    ensures reads { ReadsFor (files_of (command_view command.entry)) (H.reads shelf.old) (H.reads shelf.new) }
     ensures held { H.held shelf.new ≡ H.held shelf.old }
-
-    // Words of no form give the usage, and no other words do.
-    ensures usage { result ≡ Status.Usage → command_of (bytes_of words.now.items) ≡ NoForm }
-    ensures no_form { command_of (bytes_of words.now.items) ≡ NoForm → IsUsageAnswer result }
 {
-    match read_words(words) {
+    match command {
         Command::NoForm => tell_short(alloc, Short::Usage, out),
         Command::Later => tell_short(alloc, Short::NotBuilt, out),
         Command::Replay(world, log) => run_log(alloc, world, log, None, shelf, out),
@@ -135,8 +120,13 @@ fn run_log<H: Shelf, K: Sink>(
     shelf: &mut H,
     out: &mut K,
 ) -> Status
-    ensures answer { ReplayAnswer (H.held shelf.old) (query_if query.entry) world.now log.now result (K.written out.old) (K.written out.new)
-        (H.faults shelf.old) (H.faults shelf.new) (K.faults out.old) (K.faults out.new) }
+    ensures report { AnswersReport (H.held shelf.old) (asking (query_if query.entry) world.now log.now) result
+        (K.written out.old) (K.written out.new) }
+    ensures read_faults { CountsReads (H.held shelf.old) (asking (query_if query.entry) world.now log.now) result
+        (H.faults shelf.old) (H.faults shelf.new) }
+    ensures write_faults { CountsWrites result (K.faults out.old) (K.faults out.new) }
+    ensures takes { TakesFor (Some (world.now, log.now)) (H.taken shelf.old) (H.taken shelf.new) }
+    ensures reads { ReadsFor (Some (world.now, log.now)) (H.reads shelf.old) (H.reads shelf.new) }
     ensures held { H.held shelf.new ≡ H.held shelf.old }
 {
     match read_files(alloc, shelf, world, log) {

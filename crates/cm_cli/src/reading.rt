@@ -1,8 +1,8 @@
 // Reading the files of a replay: the world, and then the log.
-ghost use Rattle.std.specs.Prelude.{◌≡◌, ◌≢◌, ◌⊎◌, false, Err, IfSome, IfOk, Option};
-ghost use Rattle.cm_cli.specs.Reading.{IsWorldRead, IsLogRead, IsReady, FileFaults, FilesFaults, WorldStands, unready_by};
-ghost use Rattle.cm_io.specs.Shelf.{bytes_at, Rose};
-ghost use Rattle.model_report.specs.Report.{files_report};
+ghost use Rattle.std.specs.Prelude.{◌≡◌, ◌≢◌, ◌⊎◌, ◌+◌, false, Err, Some, IfSome, IfOk, Option};
+ghost use Rattle.cm_cli.specs.Reading.{IsWorldRead, IsLogRead, IsReady, FileFaults, FilesFaults, WorldStands, TakesFor, ReadsFor, unready_by};
+ghost use Rattle.cm_io.specs.Shelf.{bytes_at, Rose, TakesAtMost, ReadsOnly};
+ghost use Rattle.model_report.specs.Report.{files_report, world_limit, log_limit};
 ghost use Rattle.model_report.specs.Query.{Query};
 ghost use Rattle.model_run.specs.WayBack.{StateFollows};
 
@@ -37,6 +37,9 @@ pub(crate) fn read_files<H: Shelf>(
     ensures not_usage { result ≢ Err (Unready.Refused Short.Usage) }
     ensures held { H.held shelf.new ≡ H.held shelf.old }
     ensures faults { FilesFaults (H.faults shelf.old) (H.faults shelf.new) world.now log.now result }
+    // Of each file at most its limit and one byte are taken, and no other name is read.
+    ensures takes { TakesFor (Some (world.now, log.now)) (H.taken shelf.old) (H.taken shelf.new) }
+    ensures reads { ReadsFor (Some (world.now, log.now)) (H.reads shelf.old) (H.reads shelf.new) }
     // Only a world that stands lets the log be read.
     ensures order { IfSome (H.held shelf.old) (λ files. result ≡ Err Unready.ReadFault →
         Rose (H.faults shelf.old world.now) (H.faults shelf.new world.now) ⊎ WorldStands (bytes_at files world.now)) }
@@ -57,6 +60,8 @@ fn read_world_file<H: Shelf>(alloc: Global, shelf: &mut H, name: &str) -> Result
     ensures not_usage { result ≢ Err (Unready.Refused Short.Usage) }
     ensures held { H.held shelf.new ≡ H.held shelf.old }
     ensures faults { FileFaults (H.faults shelf.old) (H.faults shelf.new) name.now result }
+    ensures takes { TakesAtMost (H.taken shelf.old) (H.taken shelf.new) name.now (world_limit + 1) }
+    ensures reads { ReadsOnly (H.reads shelf.old) (H.reads shelf.new) name.now }
 {
     let mut text = Vec::new(alloc);
     match read_whole(alloc, shelf, name, WORLD_LIMIT, &mut text) {
@@ -76,6 +81,8 @@ fn read_log_file<H: Shelf>(alloc: Global, shelf: &mut H, name: &str) -> Result<V
     ensures not_usage { result ≢ Err (Unready.Refused Short.Usage) }
     ensures held { H.held shelf.new ≡ H.held shelf.old }
     ensures faults { FileFaults (H.faults shelf.old) (H.faults shelf.new) name.now result }
+    ensures takes { TakesAtMost (H.taken shelf.old) (H.taken shelf.new) name.now (log_limit + 1) }
+    ensures reads { ReadsOnly (H.reads shelf.old) (H.reads shelf.new) name.now }
 {
     let mut text = Vec::new(alloc);
     match read_whole(alloc, shelf, name, LOG_LIMIT, &mut text) {

@@ -17,7 +17,7 @@ use crate::sending::send_full;
 use crate::writing::{put_bad_log, put_end, put_impossible, put_not_built, put_step};
 use cm_base::{NoMemory, Status};
 use cm_io::{Outside, Sink};
-use cm_machine::{Machine, StepError};
+use cm_machine::Machine;
 use cm_state::Call;
 use cm_world::World;
 use std::alloc::Global;
@@ -128,7 +128,6 @@ fn take_event(
             replay.count(event);
             Ok(true)
         }
-        Err(StepError::NoMemory) => Err(NoMemory),
         Err(why) => {
             put_impossible(text, event.line, &why)?;
             Ok(false)

@@ -390,10 +390,10 @@ fn files_are_named(rt: HostRuntime) -> Result<(), Fail> {
             [ROOT, "end 0\n"],
         ),
     ] {
+        let want = joined(alloc, &pieces)?;
         let mut shelf = shelf(&rt, alloc, world.as_bytes(), b"", &[])?;
         let named = ["replay", words[0], words[1]];
         let (got, text) = answer(alloc, &named, &mut shelf, &[])?;
-        let want = joined(alloc, &pieces)?;
         assert_eq!(rt; got, status, "{named:?}");
         assert!(rt; text.as_slice() == want.as_slice(), "{named:?}");
     }

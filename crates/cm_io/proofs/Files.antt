@@ -3,8 +3,8 @@ use Rattle.std.proofs.Common.{◌≡◌, ◌+◌, ◌<◌, ◌≤◌, ℕ, List,
 use Rattle.std.specs.Str.{bytes_eq}
 use Rattle.std.specs.declared.alloc.Global.{Global}
 use Rattle.cm_io.specs.Shelf.{bytes_at}
-use Rattle.cm_io.specs.Names.{place_of}
-use Rattle.cm_io.specs.Memory.{files_of, is_among}
+use Rattle.cm_io.specs.Names.{place_of, is_among}
+use Rattle.cm_io.specs.Memory.{files_of}
 
 -- a name with a place among the names is one of them
 pub among_below : (names : List (String Global)) (name : List ℕ) → place_of names name < length names → true ≡ is_among names name

@@ -1,5 +1,6 @@
 -- What the reads of a shelf of files give, and how its counts of faults tell why a read failed.
-use Rattle.std.specs.Prelude.{◌≡◌, ◌⊎◌, ◌<◌, ◌≤◌, ◌-◌, ◌^◌, ℕ, List, [], ◌∷◌, length, take, drop, Option, IfSome, Result, Err, IfOk, OnOk, if◌then◌else◌}
+use Rattle.std.specs.Prelude.{◌≡◌, ◌≢◌, ◌⊎◌, ◌<◌, ◌≤◌, ◌+◌, ◌-◌, ◌^◌, ℕ, Bool, IsTrue, not, min, if◌then◌else◌}
+use Rattle.std.specs.Prelude.{List, [], ◌∷◌, length, take, drop, Option, IfSome, Result, Ok, Err, IfOk, OnOk}
 use Rattle.std.specs.Str.{bytes_eq}
 use Rattle.cm_io.specs.declared.outside.Outside.{Outside}
 use Rattle.cm_io.specs.declared.outside.Outside.TheVariants.{Failed, NoMemory}
@@ -32,3 +33,25 @@ pub record ReadFaults {T : Type 0} (before now : List ℕ → ℕ) (name : List 
   pub ok : OnOk r ((n : List ℕ) → now n ≡ before n)
   pub failed : r ≡ Err Failed → Rose (before name) (now name)
   pub no_memory : r ≡ Err NoMemory → (n : List ℕ) → now n ≡ before n
+
+-- how many bytes a read gave: at an error none
+abbrev pub bytes_given : Result ℕ Outside → ℕ
+bytes_given (Ok n) = n
+bytes_given (Err e) = 0
+
+-- The counts of names before and after one of them is counted on by so many: a name that is counted rises by as many, or
+-- to the last value that a count can have; one that isn't counted stays at 0; no other name's count changes.
+pub record CountsOn (counted : List ℕ → Bool) (before now : List ℕ → ℕ) (name : List ℕ) (more : ℕ) : Type 0 where
+  pub most : now name ≤ before name + more
+  pub all : IsTrue (counted name) → min (before name + more) (2 ^ 64 - 1) ≤ now name
+  pub uncounted : IsTrue (not (counted name)) → now name ≡ 0
+  pub others : (n : List ℕ) → n ≢ name → now n ≡ before n
+
+-- the counts of the bytes taken, before and after: that of a name rose by no more than so many, and no other one changed
+pub record TakesAtMost (before now : List ℕ → ℕ) (name : List ℕ) (most : ℕ) : Type 0 where
+  pub here : now name ≤ before name + most
+  pub others : (n : List ℕ) → n ≢ name → now n ≡ before n
+
+-- the counts of reads, before and after: that of a name may have changed, and no other one
+abbrev pub ReadsOnly : (before now : List ℕ → ℕ) → List ℕ → Type 0
+ReadsOnly before now name = (n : List ℕ) → n ≢ name → now n ≡ before n

@@ -10,6 +10,8 @@ use std::alloc::Global;
 
 /// Files in memory. Reads are counted from 1, and those with given numbers fail; so does each read
 /// of a name that isn't held. The number of reads stays at 2^64 - 1.
+///
+/// It counts the reads of each name that it holds, and the bytes. No other name has any bytes.
 #[derive(Drop)]
 pub struct MemShelf {
     counts: Counts,
@@ -20,7 +22,7 @@ pub struct MemShelf {
 
 impl MemShelf {
     ghost use Rattle.std.specs.Prelude.{ℕ, List, Some, IfOk, IsTrue, length};
-    ghost use Rattle.cm_io.specs.Names.{are_distinct};
+    ghost use Rattle.cm_io.specs.Names.{are_distinct, is_among};
     ghost use Rattle.cm_io.specs.Turns.{StartsTurns};
     ghost use Rattle.cm_io.specs.Memory.{files_of, shelf_turns};
 
@@ -37,6 +39,10 @@ impl MemShelf {
         ensures held { IfOk result (λ s.
             ⟦<MemShelf as Shelf>⟧.held s ≡ Some (files_of names.items texts.items)) }
         ensures faults { IfOk result (λ s. (n : List ℕ) → ⟦<MemShelf as Shelf>⟧.faults s n ≡ 0) }
+        ensures counted { IfOk result (λ s.
+            (n : List ℕ) → ⟦<MemShelf as Shelf>⟧.counted s n ≡ is_among names.items n) }
+        ensures reads { IfOk result (λ s. (n : List ℕ) → ⟦<MemShelf as Shelf>⟧.reads s n ≡ 0) }
+        ensures taken { IfOk result (λ s. (n : List ℕ) → ⟦<MemShelf as Shelf>⟧.taken s n ≡ 0) }
         ensures turns { IfOk result (λ s. StartsTurns (shelf_turns s) fail.items) }
     {
         Ok(MemShelf {
@@ -48,40 +54,53 @@ impl MemShelf {
 }
 
 impl Shelf for MemShelf {
-    ghost use Rattle.std.specs.Prelude.{◌≢◌, ◌≤◌, ◌↔◌, length, Some, IsTrue, IfOk};
-    ghost use Rattle.cm_io.specs.Shelf.{ReadsHeld, ReadFaults};
-    ghost use Rattle.cm_io.specs.Counts.{count_of, OthersStay};
+    ghost use Rattle.std.specs.Prelude.{◌≢◌, ◌≤◌, ◌↔◌, ℕ, List, length, Some, IsTrue, IfOk};
+    ghost use Rattle.cm_io.specs.Shelf.{ReadsHeld, ReadFaults, CountsOn, bytes_given};
+    ghost use Rattle.cm_io.specs.Counts.{faults_of, reads_of, taken_of, counts_name, OthersStay};
     ghost use Rattle.cm_io.specs.Turns.{TakesTurn};
-    ghost use Rattle.cm_io.specs.Memory.{files_of, read_fails, shelf_turns, shelf_counts};
+    ghost use Rattle.cm_io.specs.Memory.{files_of, read_fails, shelf_turns, shelf_counts, GivesAll};
 
     ghost held = { λ s. Some (files_of s.counts.names.items s.texts.items) };
 
-    ghost faults = { λ s name. count_of s.counts name };
+    ghost faults = { λ s name. faults_of s.counts name };
+
+    ghost counted = { λ s name. counts_name s.counts name };
+
+    ghost reads = { λ s name. reads_of s.counts name };
+
+    ghost taken = { λ s name. taken_of s.counts name };
 
     /// Fails where this read is one of those that are to fail, and where no file has the name; else it
     /// gives as much as there is and fits. It never wants memory, and a failure changes nothing but the
-    /// name's count; names that aren't held share one.
+    /// counts; names that aren't held share one count of faults.
     fn read_at(&mut self, name: &str, at: u64, buf: &mut [u8]) -> Result<usize, Outside>
         ensures count { IfOk result (λ n. n ≤ length buf.new) }
         ensures read { ReadsHeld (⟦<MemShelf as Shelf>⟧.held self.old) name.now at buf.new result }
         ensures held { ⟦<MemShelf as Shelf>⟧.held self.new ≡ ⟦<MemShelf as Shelf>⟧.held self.old }
         ensures cause { ReadFaults (⟦<MemShelf as Shelf>⟧.faults self.old)
             (⟦<MemShelf as Shelf>⟧.faults self.new) name.now result }
+        ensures counted { (n : List ℕ) →
+            ⟦<MemShelf as Shelf>⟧.counted self.new n ≡ ⟦<MemShelf as Shelf>⟧.counted self.old n }
+        ensures reads { CountsOn (⟦<MemShelf as Shelf>⟧.counted self.old) (⟦<MemShelf as Shelf>⟧.reads self.old)
+            (⟦<MemShelf as Shelf>⟧.reads self.new) name.now 1 }
+        ensures taken { CountsOn (⟦<MemShelf as Shelf>⟧.counted self.old) (⟦<MemShelf as Shelf>⟧.taken self.old)
+            (⟦<MemShelf as Shelf>⟧.taken self.new) name.now (bytes_given result) }
 
-        // It fails at its turns and at names that aren't held, and at nothing else.
+        // It fails at its turns and at names that aren't held, and at nothing else; else it gives all that fits.
         ensures fails { (result ≡ Err Outside.Failed) ↔ IsTrue (read_fails self.old name.now) }
         ensures no_want { result ≢ Err Outside.NoMemory }
+        ensures gives { GivesAll (⟦<MemShelf as Shelf>⟧.held self.old) name.now at buf.new result }
         ensures turn { TakesTurn (shelf_turns self.old) (shelf_turns self.new) }
         ensures others { OthersStay (shelf_counts self.old) (shelf_counts self.new) name.now }
     {
-        let fails = self.turns.next_fails();
-        match text_of(self.counts.names(), &self.texts, name) {
+        let fails = self.turns.is_due();
+        self.turns.count();
+        let read = match text_of(self.counts.names(), &self.texts, name) {
             Some(text) if !fails => Ok(copy_part(text, at, buf)),
-            _ => {
-                self.counts.raise(name);
-                Err(Outside::Failed)
-            }
-        }
+            _ => Err(Outside::Failed),
+        };
+        self.counts.count(name, &read);
+        read
     }
 }
 
@@ -122,7 +141,7 @@ impl MemSink {
 }
 
 impl Sink for MemSink {
-    ghost use Rattle.std.specs.Prelude.{◌≤◌, ◌↔◌, length, Some, IsTrue, IfOk};
+    ghost use Rattle.std.specs.Prelude.{◌≢◌, ◌≤◌, ◌↔◌, length, Some, IsTrue, IfOk};
     ghost use Rattle.cm_io.specs.Sink.{then_written, sent, WriteFaults};
     ghost use Rattle.cm_io.specs.Turns.{is_due, TakesTurn};
     ghost use Rattle.cm_io.specs.Memory.{sink_turns};
@@ -131,8 +150,9 @@ impl Sink for MemSink {
 
     ghost faults = { λ s. s.faults };
 
-    /// Takes the whole piece, and fails where this write is one of those that are to fail. `NoMemory` is
-    /// want of memory for the piece. After an error nothing more is written, and the write was counted.
+    /// Takes the whole piece, and fails where this write is one of those that are to fail: then nothing
+    /// more is written, and the write was counted. `NoMemory` is want of memory for the piece, and changes
+    /// nothing: the write wasn't counted.
     fn write(&mut self, piece: &[u8]) -> Result<usize, Outside>
         ensures count { IfOk result (λ n. n ≤ length piece.now) }
         ensures some { IfOk result (λ n. n ≡ 0 → length piece.now ≡ 0) }
@@ -144,13 +164,16 @@ impl Sink for MemSink {
         // It fails at its turns and nowhere else, and takes the whole piece or nothing.
         ensures fails { (result ≡ Err Outside.Failed) ↔ IsTrue (is_due (sink_turns self.old)) }
         ensures whole { IfOk result (λ n. n ≡ length piece.now) }
-        ensures turn { TakesTurn (sink_turns self.old) (sink_turns self.new) }
+        ensures turn { result ≢ Err Outside.NoMemory → TakesTurn (sink_turns self.old) (sink_turns self.new) }
+        ensures no_turn { result ≡ Err Outside.NoMemory → sink_turns self.new ≡ sink_turns self.old }
     {
-        if self.turns.next_fails() {
+        if self.turns.is_due() {
+            self.turns.count();
             self.faults = self.faults.saturating_add(1);
             return Err(Outside::Failed);
         }
         self.bytes.extend_from_slice(piece)?;
+        self.turns.count();
         Ok(piece.len())
     }
 }

@@ -14,9 +14,10 @@ const TRIES: u32 = 1_000_000;
 
 /// Files of the system, by their paths. It tells nothing of what they hold.
 ///
-/// It keeps a count of faults for each name that was handed to `new`, of which the first equal one
-/// serves, and one for all other names. Each error of opening, moving or reading raises its name's
-/// count: at a file that is missing, one that may not be read, a directory.
+/// It keeps counts for each name that was handed to `new`, of which the first equal one serves: of faults, of
+/// reads, and of the bytes taken. All other names have one count of faults, and no others. Each error of
+/// opening, moving or reading raises its name's count of faults: at a file that is missing, one that may not be
+/// read, a directory.
 ///
 /// The file that was read last stays open, and a read that goes on where the last one ended is a plain
 /// read: so a pipe can be read from its front to its end. A read at the place 0 opens the file anew,
@@ -38,11 +39,20 @@ struct Kept<F> {
 }
 
 impl<R: Files + Drop> RealShelf<R> {
-    /// A shelf over these files, with a count for each of the names. All counts are 0, and no file is
-    /// opened yet. `NoMemory` is want of memory for the names and counts.
+    ghost use Rattle.cm_io.specs.Names.{is_among};
+    ghost use Rattle.cm_io.specs.Real.{real_counts};
+
+    /// A shelf over these files, with counts for each of the names. All counts are 0, and no file is opened
+    /// yet. `NoMemory` is want of memory for the names and counts.
     pub fn new(files: R, alloc: Global, names: &Vec<String>) -> Result<RealShelf<R>, NoMemory>
         ensures held { IfOk result (λ s. ⟦<RealShelf<R> as Shelf>⟧.held s ≡ None) }
+        ensures names { IfOk result (λ s.
+            map string_bytes (real_counts s).names.items ≡ map string_bytes names.now.items) }
         ensures faults { IfOk result (λ s. (n : List ℕ) → ⟦<RealShelf<R> as Shelf>⟧.faults s n ≡ 0) }
+        ensures counted { IfOk result (λ s.
+            (n : List ℕ) → ⟦<RealShelf<R> as Shelf>⟧.counted s n ≡ is_among names.now.items n) }
+        ensures reads { IfOk result (λ s. (n : List ℕ) → ⟦<RealShelf<R> as Shelf>⟧.reads s n ≡ 0) }
+        ensures taken { IfOk result (λ s. (n : List ℕ) → ⟦<RealShelf<R> as Shelf>⟧.taken s n ≡ 0) }
     {
         let names = copies_of(alloc, names)?;
         Ok(RealShelf {
@@ -65,13 +75,19 @@ fn copies_of(alloc: Global, names: &Vec<String>) -> Result<Vec<String>, NoMemory
 }
 
 impl<R: Files> Shelf for RealShelf<R> {
-    ghost use Rattle.cm_io.specs.Shelf.{ReadsHeld, ReadFaults};
-    ghost use Rattle.cm_io.specs.Counts.{count_of, OthersStay};
+    ghost use Rattle.cm_io.specs.Shelf.{ReadsHeld, ReadFaults, CountsOn, bytes_given};
+    ghost use Rattle.cm_io.specs.Counts.{faults_of, reads_of, taken_of, counts_name, OthersStay};
     ghost use Rattle.cm_io.specs.Real.{real_counts};
 
     ghost held = { λ _. None };
 
-    ghost faults = { λ s name. count_of s.counts name };
+    ghost faults = { λ s name. faults_of s.counts name };
+
+    ghost counted = { λ s name. counts_name s.counts name };
+
+    ghost reads = { λ s name. reads_of s.counts name };
+
+    ghost taken = { λ s name. taken_of s.counts name };
 
     /// A read that a signal interrupts is tried again, up to a million times; after that it failed.
     /// `NoMemory` is want of memory for the name of a file that is opened. After an error no file stays
@@ -82,20 +98,24 @@ impl<R: Files> Shelf for RealShelf<R> {
         ensures held { ⟦<RealShelf<R> as Shelf>⟧.held self.new ≡ None }
         ensures cause { ReadFaults (⟦<RealShelf<R> as Shelf>⟧.faults self.old)
             (⟦<RealShelf<R> as Shelf>⟧.faults self.new) name.now result }
+        ensures counted { (n : List ℕ) →
+            ⟦<RealShelf<R> as Shelf>⟧.counted self.new n ≡ ⟦<RealShelf<R> as Shelf>⟧.counted self.old n }
+        ensures reads { CountsOn (⟦<RealShelf<R> as Shelf>⟧.counted self.old) (⟦<RealShelf<R> as Shelf>⟧.reads self.old)
+            (⟦<RealShelf<R> as Shelf>⟧.reads self.new) name.now 1 }
+        ensures taken { CountsOn (⟦<RealShelf<R> as Shelf>⟧.counted self.old) (⟦<RealShelf<R> as Shelf>⟧.taken self.old)
+            (⟦<RealShelf<R> as Shelf>⟧.taken self.new) name.now (bytes_given result) }
         ensures others { OthersStay (real_counts self.old) (real_counts self.new) name.now }
     {
         let kept = self.kept.take();
-        match read_from(&self.files, self.alloc, kept, name, at, buf) {
+        let read = match read_from(&self.files, self.alloc, kept, name, at, buf) {
             Ok((n, kept)) => {
                 self.kept = Some(kept);
                 Ok(n)
             }
-            Err(Outside::Failed) => {
-                self.counts.raise(name);
-                Err(Outside::Failed)
-            }
-            Err(Outside::NoMemory) => Err(Outside::NoMemory),
-        }
+            Err(why) => Err(why),
+        };
+        self.counts.count(name, &read);
+        read
     }
 }
 

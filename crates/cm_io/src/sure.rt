@@ -1,61 +1,86 @@
 // A shelf and a sink in memory whose device never fails.
 ghost use Rattle.std.specs.Prelude.{◌≡◌, vec_len};
 
+use crate::counts::Counts;
 use crate::texts::{copy_part, text_of};
 use crate::{NoMemory, Outside, Shelf, Sink};
 use std::alloc::Global;
 
-/// Files in memory, of which each read gives what is there.
+/// Files in memory, of which each read gives what is there. It counts the reads of each name that it
+/// holds, and the bytes; no other name has any bytes.
 #[derive(Drop)]
 pub struct SureShelf {
-    names: Vec<String>,
+    counts: Counts,
     texts: Vec<Vec<u8>>,
-    ghost one_text_each: { vec_len texts ≡ vec_len names },
+    ghost one_text_each: { vec_len texts ≡ vec_len counts.names },
 }
 
 impl SureShelf {
-    ghost use Rattle.std.specs.Prelude.{Some, IfOk, IsTrue};
-    ghost use Rattle.cm_io.specs.Names.{are_distinct};
+    ghost use Rattle.std.specs.Prelude.{ℕ, List, Some, IfOk, IsTrue};
+    ghost use Rattle.cm_io.specs.Names.{are_distinct, is_among};
     ghost use Rattle.cm_io.specs.Memory.{files_of};
 
     /// A shelf that holds `texts` under `names`. It takes and gives what `MemShelf::new` does, but for the
     /// reads that are to fail.
     pub fn new(
-        _alloc: Global,
+        alloc: Global,
         names: Vec<String>,
         texts: Vec<Vec<u8>>,
     ) -> Result<SureShelf, NoMemory>
         requires distinct { IsTrue (are_distinct names.items) }
         requires one_text_each { vec_len texts ≡ vec_len names }
-        ensures { IfOk result (λ s.
+        ensures held { IfOk result (λ s.
             ⟦<SureShelf as Shelf>⟧.held s ≡ Some (files_of names.items texts.items)) }
+        ensures counted { IfOk result (λ s.
+            (n : List ℕ) → ⟦<SureShelf as Shelf>⟧.counted s n ≡ is_among names.items n) }
+        ensures reads { IfOk result (λ s. (n : List ℕ) → ⟦<SureShelf as Shelf>⟧.reads s n ≡ 0) }
+        ensures taken { IfOk result (λ s. (n : List ℕ) → ⟦<SureShelf as Shelf>⟧.taken s n ≡ 0) }
     {
-        Ok(SureShelf { names, texts })
+        Ok(SureShelf {
+            counts: Counts::new(alloc, names)?,
+            texts,
+        })
     }
 }
 
 impl Shelf for SureShelf {
-    ghost use Rattle.std.specs.Prelude.{◌≤◌, length, Some, IfOk, IsOk};
-    ghost use Rattle.cm_io.specs.Shelf.{ReadsHeld, ReadFaults};
-    ghost use Rattle.cm_io.specs.Memory.{files_of};
+    ghost use Rattle.std.specs.Prelude.{◌≤◌, ℕ, List, length, Some, IfOk, IsOk};
+    ghost use Rattle.cm_io.specs.Shelf.{ReadsHeld, ReadFaults, CountsOn, bytes_given};
+    ghost use Rattle.cm_io.specs.Counts.{reads_of, taken_of, counts_name};
+    ghost use Rattle.cm_io.specs.Memory.{files_of, GivesAll};
 
-    ghost held = { λ s. Some (files_of s.names.items s.texts.items) };
+    ghost held = { λ s. Some (files_of s.counts.names.items s.texts.items) };
 
     ghost faults = { λ _ _. 0 };
+
+    ghost counted = { λ s name. counts_name s.counts name };
+
+    ghost reads = { λ s name. reads_of s.counts name };
+
+    ghost taken = { λ s name. taken_of s.counts name };
 
     /// Gives as much as there is and fits, and 0 where no file has the name. It never fails.
     fn read_at(&mut self, name: &str, at: u64, buf: &mut [u8]) -> Result<usize, Outside>
         ensures sure { IsOk result }
+        ensures gives { GivesAll (⟦<SureShelf as Shelf>⟧.held self.old) name.now at buf.new result }
         ensures count { IfOk result (λ n. n ≤ length buf.new) }
         ensures read { ReadsHeld (⟦<SureShelf as Shelf>⟧.held self.old) name.now at buf.new result }
         ensures held { ⟦<SureShelf as Shelf>⟧.held self.new ≡ ⟦<SureShelf as Shelf>⟧.held self.old }
         ensures cause { ReadFaults (⟦<SureShelf as Shelf>⟧.faults self.old)
             (⟦<SureShelf as Shelf>⟧.faults self.new) name.now result }
+        ensures counted { (n : List ℕ) →
+            ⟦<SureShelf as Shelf>⟧.counted self.new n ≡ ⟦<SureShelf as Shelf>⟧.counted self.old n }
+        ensures reads { CountsOn (⟦<SureShelf as Shelf>⟧.counted self.old) (⟦<SureShelf as Shelf>⟧.reads self.old)
+            (⟦<SureShelf as Shelf>⟧.reads self.new) name.now 1 }
+        ensures taken { CountsOn (⟦<SureShelf as Shelf>⟧.counted self.old) (⟦<SureShelf as Shelf>⟧.taken self.old)
+            (⟦<SureShelf as Shelf>⟧.taken self.new) name.now (bytes_given result) }
     {
-        match text_of(&self.names, &self.texts, name) {
-            Some(text) => Ok(copy_part(text, at, buf)),
-            None => Ok(0),
-        }
+        let n = match text_of(self.counts.names(), &self.texts, name) {
+            Some(text) => copy_part(text, at, buf),
+            None => 0,
+        };
+        self.counts.count(name, &Ok(n));
+        Ok(n)
     }
 }
 
@@ -86,14 +111,26 @@ impl SureSink {
 }
 
 impl Sink for SureSink {
-    ghost use Rattle.std.specs.Prelude.{Some};
+    ghost use Rattle.std.specs.Prelude.{◌≢◌, ◌≤◌, length, Some, IfOk};
+    ghost use Rattle.cm_io.specs.Sink.{then_written, sent, WriteFaults};
 
     ghost written = { λ s. Some s.bytes.items };
 
     ghost faults = { λ _. 0 };
 
     /// Takes the whole piece, or wants memory for it.
-    fn write(&mut self, piece: &[u8]) -> Result<usize, Outside> {
+    fn write(&mut self, piece: &[u8]) -> Result<usize, Outside>
+        ensures count { IfOk result (λ n. n ≤ length piece.now) }
+        ensures some { IfOk result (λ n. n ≡ 0 → length piece.now ≡ 0) }
+        ensures written { ⟦<SureSink as Sink>⟧.written self.new
+            ≡ then_written (⟦<SureSink as Sink>⟧.written self.old) (sent piece.now result) }
+        ensures cause { WriteFaults (⟦<SureSink as Sink>⟧.faults self.old)
+            (⟦<SureSink as Sink>⟧.faults self.new) result }
+
+        // It takes the whole piece or nothing, and never fails.
+        ensures whole { IfOk result (λ n. n ≡ length piece.now) }
+        ensures sure { result ≢ Err Outside.Failed }
+    {
         self.bytes.extend_from_slice(piece)?;
         Ok(piece.len())
     }

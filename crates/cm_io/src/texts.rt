@@ -1,7 +1,8 @@
 // Reads of files that stand in memory.
 ghost use Rattle.std.specs.Prelude.{◌≡◌, ◌-◌, length, take, drop, min, [], IfSome, IfNone, is_some};
 ghost use Rattle.cm_io.specs.Shelf.{bytes_at};
-ghost use Rattle.cm_io.specs.Memory.{files_of, is_among};
+ghost use Rattle.cm_io.specs.Memory.{files_of};
+ghost use Rattle.cm_io.specs.Names.{is_among};
 
 use crate::names::place_of;
 

@@ -19,12 +19,17 @@ impl Turns {
         Turns { fail, calls: 0 }
     }
 
-    /// Counts a call, and says whether it is to fail.
-    pub(crate) fn next_fails(&mut self) -> bool
-        ensures due { result ≡ is_due self.old }
-        ensures turn { TakesTurn self.old self.new }
+    /// Whether the next call is to fail.
+    pub(crate) fn is_due(&self) -> bool
+        ensures { result ≡ is_due self.now }
+    {
+        self.fail.contains(&self.calls.saturating_add(1))
+    }
+
+    /// Counts a call.
+    pub(crate) fn count(&mut self)
+        ensures { TakesTurn self.old self.new }
     {
         self.calls = self.calls.saturating_add(1);
-        self.fail.contains(&self.calls)
     }
 }

@@ -1,6 +1,6 @@
 // Whole files and whole pieces: reads and writes until nothing is left.
-ghost use Rattle.std.specs.Prelude.{◌≡◌, ◌≢◌, ◌++◌, ◌+◌, ◌^◌, ◌<◌, ◌≤◌, ℕ, [], length, take, vec_len, IfOk, IfSome, OnOk, OnErr};
-ghost use Rattle.cm_io.specs.Shelf.{bytes_at, ReadsText};
+ghost use Rattle.std.specs.Prelude.{◌≡◌, ◌≢◌, ◌++◌, ◌+◌, ◌-◌, ◌^◌, ◌<◌, ◌≤◌, ℕ, [], length, take, vec_len, IfOk, IfSome, OnOk, OnErr};
+ghost use Rattle.cm_io.specs.Shelf.{bytes_at, ReadsText, TakesAtMost, ReadsOnly};
 ghost use Rattle.cm_io.specs.Sink.{then_written, WriteFaults};
 ghost use Rattle.cm_io.specs.Whole.{WholeFaults};
 ghost use Rattle.cm_io.specs.declared.whole.WholeError.TheVariants.{NoMemory as OutOfMemory};
@@ -61,8 +61,8 @@ pub fn write_all<K: Sink>(out: &mut K, piece: &[u8]) -> Result<(), Outside>
 ///
 /// `TooMuch` comes where the file has more bytes than `limit`: then `text` has the first `limit` + 1 of
 /// them. `Read` comes only where a read failed and the count of the name rose, and `NoMemory` where
-/// there was no memory for the text or in the shelf. At most `limit` + 1 bytes of the file are asked
-/// for, and at most 65,536 at once.
+/// there was no memory for the text or in the shelf. At most `limit` + 1 bytes of the file are taken;
+/// at most 65,536 are asked for at once.
 pub fn read_whole<H: Shelf>(
     alloc: Global,
     shelf: &mut H,
@@ -84,6 +84,10 @@ pub fn read_whole<H: Shelf>(
         OnOk result (text.new.items ≡ bytes_at files name.now)) }
     ensures too_long { IfSome (H.held shelf.old) (λ files.
         result ≡ Err WholeError.TooMuch → limit < length (bytes_at files name.now)) }
+
+    // No byte is taken that the text doesn't keep, and no other name is read.
+    ensures takes { TakesAtMost (H.taken shelf.old) (H.taken shelf.new) name.now (vec_len text.new) }
+    ensures reads { ReadsOnly (H.reads shelf.old) (H.reads shelf.new) name.now }
 
     ensures held { H.held shelf.new ≡ H.held shelf.old }
     ensures cause { WholeFaults (H.faults shelf.old) (H.faults shelf.new) name.now result }
@@ -119,6 +123,8 @@ fn read_more<H: Shelf>(
     ensures held { H.held shelf.new ≡ H.held shelf.old }
     ensures not_too_much { result ≢ Err WholeError.TooMuch }
     ensures cause { WholeFaults (H.faults shelf.old) (H.faults shelf.new) name.now result }
+    ensures takes { TakesAtMost (H.taken shelf.old) (H.taken shelf.new) name.now (vec_len text.new - vec_len text.old) }
+    ensures reads { ReadsOnly (H.reads shelf.old) (H.reads shelf.new) name.now }
 {
     text.reserve(buffer.len())?;
     match shelf.read_at(name, text.len() as u64, buffer) {

@@ -1,5 +1,5 @@
 // The lines that end a report.
-ghost use Rattle.std.specs.Prelude.{◌≡◌, ◌++◌, [], ◌∷◌, codes};
+ghost use Rattle.std.specs.Prelude.{◌≡◌, ◌≢◌, ◌++◌, [], ◌∷◌, codes};
 ghost use Rattle.cm_base.specs.Outcome.{OrNoMemory};
 ghost use Rattle.cm_cli.specs.Replay.{reason_of};
 ghost use Rattle.model_report.specs.Replay.{text_of, reason, Plain, ended, impossible_text, bad_log, not_built, limit_hit};
@@ -27,14 +27,15 @@ pub(crate) fn put_end(text: &mut Vec<u8>, count: u64) -> Result<(), NoMemory>
     put(text, b"\n")
 }
 
-/// The event of that line is impossible, for this reason.
+/// The event of that line is impossible, for this reason; want of memory is none, and is handed on.
 pub(crate) fn put_impossible(
     text: &mut Vec<u8>,
     number: u64,
     why: &StepError,
 ) -> Result<(), NoMemory>
-    ensures { OrNoMemory result (λ _. text.new.items ≡ text.old.items
+    ensures line { OrNoMemory result (λ _. text.new.items ≡ text.old.items
         ++ text_of (Plain (impossible_text number (reason_of why.now)) ∷ [])) }
+    ensures refusal { OrNoMemory result (λ _. why.now ≢ StepError.NoMemory) }
 {
     put(text, b"impossible line ")?;
     put_decimal(text, number)?;
@@ -44,14 +45,15 @@ pub(crate) fn put_impossible(
 }
 
 fn put_reason(text: &mut Vec<u8>, why: &StepError) -> Result<(), NoMemory>
-    ensures { OrNoMemory result (λ _. text.new.items ≡ text.old.items ++ reason_of why.now) }
+    ensures reason { OrNoMemory result (λ _. text.new.items ≡ text.old.items ++ reason_of why.now) }
+    ensures refusal { OrNoMemory result (λ _. why.now ≢ StepError.NoMemory) }
 {
     match why {
         StepError::NoProcess => put(text, b"no process"),
         StepError::NoSpace => put(text, b"no space"),
         StepError::PidInUse => put(text, b"pid in use"),
         StepError::Wrong { rules_give } => put_given(text, rules_give),
-        StepError::NoMemory => Ok(()),
+        StepError::NoMemory => Err(NoMemory),
     }
 }
 

@@ -10,5 +10,7 @@ loop-text-preserved g c = record {
       c.read_more.new.buffer (vec_len c.loop-text.text) c.in-Ok.field-0 (vec_len c.read_more.new.text)
       c.loop-text.invariant.front (rw c.loop-text.invariant.held at c.in-Ok.ensures.read) c.in-Ok.ensures.text c.in-Ok.ensures.len;
   held = search rules;
+  takes = search rules;
+  reads = search rules;
   faults = search rules;
 }

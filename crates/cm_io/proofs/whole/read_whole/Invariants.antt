@@ -1,4 +1,5 @@
 use Rattle.std.proofs.Common.{◌≡◌, ◌+◌, ◌-◌, ◌≤◌, ℕ, List, vec_len}
+use Rattle.cm_io.specs.Shelf.{TakesAtMost, ReadsOnly}
 use Rattle.cm_io.proofs.Front.{IsFront}
 use Rattle.cm_io.proofs.whole.read_whole.Given as goal
 
@@ -9,6 +10,8 @@ invariant-loop-text g l = record {
   buffer : vec_len l.buffer ≡ 65536;
   front : IsFront (g.H.Shelf.held l.initial.shelf) l.name (vec_len l.text) l.text.items;
   held : g.H.Shelf.held l.shelf ≡ g.H.Shelf.held l.initial.shelf;
+  takes : TakesAtMost (g.H.Shelf.taken l.initial.shelf) (g.H.Shelf.taken l.shelf) l.name (vec_len l.text);
+  reads : ReadsOnly (g.H.Shelf.reads l.initial.shelf) (g.H.Shelf.reads l.shelf) l.name;
   faults : (n : List ℕ) → g.H.Shelf.faults l.shelf n ≡ g.H.Shelf.faults l.initial.shelf n;
 }
 

@@ -1,9 +1,12 @@
-use Rattle.std.proofs.Common.{rules, ◌≡◌, ◌++◌, [], ◌∷◌, ℕ, ◌+◌, ◌-◌, ◌*◌, ◌<◌, ◌≤◌, length, ◌/◌, ◌%◌, Bool, true, false, nat_eq, nat_lt, List, slice_index_or, slice_set, bit_and, bit_or, Fits, w8, w32, w64, Bor, MutBor}
-use Rattle.cm_base.specs.Outcome.{OrNoMemory}
-use Rattle.model_cred.specs.Process.{process_at}
-use Rattle.model_report.specs.Replay.{text_of, step_lines, child_lines, credentials_if, Credentials, Told}
+use Rattle.std.proofs.Common.{sym, codes, None}
+use Rattle.cm_cli.proofs.ReportText.{closed, joined_once}
 use Rattle.cm_cli.proofs.writing.steps.put_process.Goals as goal
+use Rattle.model_report.specs.Replay.{Credentials}
+use Rattle.model_text.specs.Print.{credential_line, place_text}
 
--- src/writing/steps.rt:56:1
 pub returns : goal.returns
-returns c = ?
+unfolding credential_line place_text
+returns c =
+    rw (sym c.p.view_is)
+    (closed _ _ _ _ (Credentials (record { pid = c.p.inside.pid; forebear = None; space = c.p.inside.space.0; cred = c.p.inside.cred })) c.put.ensures
+    (joined_once _ _ _ (codes "\n") c.in_ok-put_credentials.ensures))

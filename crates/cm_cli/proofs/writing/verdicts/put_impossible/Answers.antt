@@ -1,11 +1,12 @@
-use Rattle.std.proofs.Common.{rules, ◌≡◌, ◌++◌, [], ◌∷◌, codes, ℕ, ◌+◌, ◌-◌, ◌*◌, ◌<◌, ◌≤◌, length, ◌/◌, ◌%◌, Bool, true, false, nat_eq, nat_lt, List, slice_index_or, slice_set, bit_and, bit_or, Fits, w8, w32, w64, Bor, MutBor}
-use Rattle.cm_base.specs.Outcome.{OrNoMemory}
-use Rattle.cm_cli.specs.Replay.{reason_of}
-use Rattle.model_report.specs.Replay.{text_of, reason, Plain, ended, impossible_text, bad_log, not_built, limit_hit}
-use Rattle.model_report.specs.Report.{world_limit, log_limit, usage}
-use Rattle.model_run.specs.Step.{Wrong}
+use Rattle.std.proofs.Common.{codes, decimal}
+use Rattle.cm_cli.proofs.ReportText.{joined_four, plain}
 use Rattle.cm_cli.proofs.writing.verdicts.put_impossible.Goals as goal
+use Rattle.cm_cli.specs.Replay.{reason_of}
+use Rattle.model_report.specs.Replay.{impossible_text}
 
--- src/writing/verdicts.rt:31:1
-pub returns : goal.returns
-returns c = ?
+pub returns-clause-line : goal.returns-clause-line
+returns-clause-line c =
+    let why = reason_of c.args.why.now in
+    plain _ _ _ _ (impossible_text c.args.number why) c.put-3.ensures
+    (joined_four _ _ _ _ _ (codes "impossible line ") (decimal c.args.number) (codes ": ") why (codes "\n") c.in_ok-put.ensures c.in_ok-put_decimal.ensures
+    c.in_ok-put-2.ensures c.in_ok-put_reason.ensures.reason)

@@ -1,0 +1,9 @@
+use Rattle.cm_cli.proofs.Ready.{files_ready, if_both}
+use Rattle.cm_io.specs.Shelf.{bytes_at}
+use Rattle.cm_cli.proofs.reading.read_files.Goals as goal
+
+pub returns-in-Ok-read_log_file-clause-ready : goal.returns-in-Ok-read_log_file-clause-ready
+returns-in-Ok-read_log_file-clause-ready g c =
+    let log = rw c.in-Ok.ensures.held at c.in-Ok-read_log_file.ensures.read in
+    if_both (g.H.Shelf.held c.args.shelf.now) c.in-Ok.ensures.read log (λ files world_read log_read query.
+    files_ready query c.in-Ok.w c.in-Ok-read_log_file.text (bytes_at files c.args.world.now) (bytes_at files c.args.log.now) world_read log_read)
