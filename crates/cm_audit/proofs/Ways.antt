@@ -4,19 +4,19 @@ use Rattle.std.specs.Prelude.{IsNone, IfSome, option_map}
 use Rattle.model_cred.specs.Call.{Event}
 use Rattle.model_cred.specs.Credential.{Credential}
 use Rattle.model_cred.specs.World.{World}
-use Rattle.model_run.proofs.WaysBack.{IsWayBack, way_back_is}
-use Rattle.model_run.specs.WayBack.{SetsFollowIds, BringsBack, CanComeBack, alone, way_back}
+use Rattle.model_run.proofs.RunsBack.{IsRunBack, run_back_is}
+use Rattle.model_run.specs.RunBack.{SetsFollowIds, BringsBack, CanComeBack, alone, run_back}
 
 module _ {A : Type 0} (calls : A → List Event) (c : Credential) (pid k : ℕ) (follow : SetsFollowIds c) (id : k < 4294967295) where
-  given_is : (given : Option (List Event)) → given ≡ way_back c pid k → (w : World) (forebear : Option ℕ) → IsWayBack w pid forebear c k given
-  given_is given is w forebear = subst (λ (o : Option (List Event)). IsWayBack w pid forebear c k o) (sym is) (way_back_is w pid forebear c k follow id)
+  given_is : (given : Option (List Event)) → given ≡ run_back c pid k → (w : World) (forebear : Option ℕ) → IsRunBack w pid forebear c k given
+  given_is given is w forebear = subst (λ (o : Option (List Event)). IsRunBack w pid forebear c k o) (sym is) (run_back_is w pid forebear c k follow id)
 
   -- none is given exactly where there is none
-  pub none_given : (way : Option A) → option_map calls way ≡ way_back c pid k → (w : World) (forebear : Option ℕ) → IsNone way ↔ ¬ CanComeBack w (alone pid forebear c) pid k
+  pub none_given : (way : Option A) → option_map calls way ≡ run_back c pid k → (w : World) (forebear : Option ℕ) → IsNone way ↔ ¬ CanComeBack w (alone pid forebear c) pid k
   none_given None is w forebear = (λ none. given_is None is w forebear, λ never. refl)
   none_given (Some v) is w forebear = (λ none. absurd (cc), λ never. absurd (never (calls v, given_is (Some (calls v)) is w forebear)))
 
   -- the way that is given is one
-  pub way_given : (way : Option A) → option_map calls way ≡ way_back c pid k → IfSome way (λ v. (w : World) (forebear : Option ℕ) → BringsBack w (alone pid forebear c) pid k (calls v))
+  pub way_given : (way : Option A) → option_map calls way ≡ run_back c pid k → IfSome way (λ v. (w : World) (forebear : Option ℕ) → BringsBack w (alone pid forebear c) pid k (calls v))
   way_given None is = tt
   way_given (Some v) is = λ w forebear. given_is (Some (calls v)) is w forebear

@@ -1,4 +1,4 @@
-ghost use Rattle.model_run.specs.WayBack.{SetsFollowIds};
+ghost use Rattle.model_run.specs.RunBack.{SetsFollowIds};
 
 use crate::audit_uid;
 use cm_base::{CapWord, Kgid, Kuid, Pid, Res, SecBits};

@@ -6,7 +6,7 @@ ghost use Rattle.cm_base.specs.Outcome.{OrNoMemory};
 ghost use Rattle.cm_base.specs.CapSet.{holds};
 ghost use Rattle.model_cred.specs.World.{World};
 ghost use Rattle.model_rules.specs.SetId.{cap_setuid, has_setuid};
-ghost use Rattle.model_run.specs.WayBack.{SetsFollowIds, BringsBack, CanComeBack, alone, becomes, way_back};
+ghost use Rattle.model_run.specs.RunBack.{SetsFollowIds, BringsBack, CanComeBack, alone, becomes, run_back};
 
 use cm_base::{Cap, Kuid, NoMemory, Pid, Res};
 use cm_state::{Call, Cred, Event};
@@ -28,13 +28,13 @@ pub fn audit_uid(alloc: Global, c: &Cred, pid: Pid, k: Kuid) -> Result<Option<Ve
     ensures run { OrNoMemory result (λ way. IfSome way (λ calls. (w : World) (forebear : Option ℕ) → BringsBack w (alone pid forebear c.now) pid k calls.items)) }
 
     // Which list it is: none, one or two calls.
-    ensures way { OrNoMemory result (λ way. option_map (λ calls. calls.items) way ≡ way_back c.now pid k) }
+    ensures way { OrNoMemory result (λ way. option_map (λ calls. calls.items) way ≡ run_back c.now pid k) }
 {
     calls_to(alloc, c, pid, k.number())
 }
 
 fn calls_to(alloc: Global, c: &Cred, pid: Pid, k: u32) -> Result<Option<Vec<Event>>, NoMemory>
-    ensures { OrNoMemory result (λ way. option_map (λ calls. calls.items) way ≡ way_back c.now pid k) }
+    ensures { OrNoMemory result (λ way. option_map (λ calls. calls.items) way ≡ run_back c.now pid k) }
 {
     if c.euid.number() == k {
         return Ok(Some(Vec::new(alloc)));

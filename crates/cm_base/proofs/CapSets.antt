@@ -1,10 +1,12 @@
 -- The laws of sets of capabilities: membership, inclusion, equality, and that the operations give sets of capabilities.
-use Rattle.std.proofs.Common.{◌≡◌, ℕ, zero, suc, ◌+◌, ◌*◌, ◌%◌, ◌^◌, ◌<◌, Bool, true, false, not, ◌&&◌, ◌||◌, eqb, ltb, min, max, refl, sym, ap, ◌∙◌, inl, inr, arith, eqb-true, eq-eqb, lit<}
+use Rattle.std.proofs.Common.{◌≡◌, ℕ, zero, suc, ◌+◌, ◌*◌, ◌%◌, ◌^◌, ◌<◌, Bool, true, false, not, ◌&&◌, ◌||◌, eqb, ltb}
+use Rattle.std.proofs.Common.{min, max, refl, sym, ap, ◌∙◌, inl, inr, arith, eqb-true, eq-eqb, lit<}
 use Rattle.std.specs.Prelude.{bit_and, bit_or, IsTrue}
 use Rattle.std.specs.Int.{bit_at}
 use Rattle.std.proofs.lemmas.Bool.{false≢true, cases_eq, cases_lt, ne_eqb, lt-ltb, le-ltb, and_parts, and_from, or_cases, or_left, or_right}
 use Rattle.std.proofs.lemmas.Nat.{or_lt, xor_lt, and_le_l, one_shl, pow_below}
-use Rattle.std.proofs.lemmas.Nat.Bits.{bit_at_and, bit_at_or, bit_at_xor, bit_at-lt, bit_at-zero, bit_at-pow_same, bit_at-pow_other, bit_at_ones, bit_at_ones_above, bit_at_above, same_from_bits}
+use Rattle.std.proofs.lemmas.Nat.Bits.{bit_at_and, bit_at_or, bit_at_xor, bit_at-lt, bit_at-zero, bit_at-pow_same}
+use Rattle.std.proofs.lemmas.Nat.Bits.{bit_at-pow_other, bit_at_ones, bit_at_ones_above, bit_at_above, same_from_bits}
 use Rattle.cm_base.specs.CapSet.{cap_count, full, none, holds, union, meet, minus, single, with, without, is_within, IsCapSet}
 use Rattle.cm_base.specs.Laws.{Membership, InclusionByMembers, InclusionOrder, CapSetsKept}
 
@@ -49,7 +51,8 @@ holds_meet a b c =
 pub holds_minus : (a b c : ℕ) → holds (minus a b) c ≡ (holds a c && not (holds b c))
 holds_minus a b c =
     ap (λ (bit : ℕ). eqb bit 1) (bit_at_xor a (bit_and a b) c ∙ ap (λ (bit : ℕ). (bit_at a c + bit) % 2) (bit_at_and a b c))
-    ∙ on_bits (λ (x y : ℕ). eqb ((x + min x y) % 2) 1 ≡ (eqb x 1 && not (eqb y 1))) refl refl refl refl (bit_at a c) (bit_at b c) (bit_at-lt a c) (bit_at-lt b c)
+    ∙ on_bits (λ (x y : ℕ). eqb ((x + min x y) % 2) 1 ≡ (eqb x 1 && not (eqb y 1))) refl refl refl refl (bit_at a c)
+    (bit_at b c) (bit_at-lt a c) (bit_at-lt b c)
 
 pub holds_with : (a k c : ℕ) → holds (with a k) c ≡ (holds a c || eqb c k)
 holds_with a k c = holds_union a (single k) c ∙ ap (λ (held : Bool). holds a c || held) (holds_single k c)
@@ -61,7 +64,9 @@ holds_without a k c = holds_minus a (single k) c ∙ ap (λ (held : Bool). holds
 pub same_members : (a b : ℕ) → ((c : ℕ) → holds a c ≡ holds b c) → a ≡ b
 same_members a b same =
     same_from_bits a b
-    (λ c. on_bits (λ (x y : ℕ). eqb x 1 ≡ eqb y 1 → x ≡ y) (λ _. refl) (λ wrong. cc) (λ wrong. cc) (λ _. refl) (bit_at a c) (bit_at b c) (bit_at-lt a c) (bit_at-lt b c) (same c))
+    (λ c.
+    on_bits (λ (x y : ℕ). eqb x 1 ≡ eqb y 1 → x ≡ y) (λ _. refl) (λ wrong. cc) (λ wrong. cc) (λ _. refl) (bit_at a c)
+    (bit_at b c) (bit_at-lt a c) (bit_at-lt b c) (same c))
 
 -- a test that implies another is what both together are
 both_is_first : (p q : Bool) → (IsTrue p → IsTrue q) → (p && q) ≡ p
@@ -91,7 +96,7 @@ pub within_transitive : (a b c : ℕ) → IsTrue (is_within a b) → IsTrue (is_
 within_transitive a b c first second = within_from_members a c (λ k held. member_of_wider b c second k (member_of_wider a b first k held))
 
 -- two tests that imply each other are one
-same_tests : (p q : Bool) → (IsTrue p → IsTrue q) → (IsTrue q → IsTrue p) → p ≡ q
+pub same_tests : (p q : Bool) → (IsTrue p → IsTrue q) → (IsTrue q → IsTrue p) → p ≡ q
 same_tests true q forth back = sym (forth refl)
 same_tests false true forth back = back refl
 same_tests false false forth back = refl
@@ -154,6 +159,9 @@ with_is_cap_set a k small low = or_lt 41 a (2 ^ k) small (pow_below k 41 low)
 -- the same of the set that the code's `1 << k` makes
 pub shifted_is_cap_set : (a k : ℕ) → a < 2 ^ 41 → k < 41 → bit_or a ((1 * 2 ^ k) % 2 ^ 64) < 2 ^ 41
 shifted_is_cap_set a k small low = let below : k < 64 = omega arith in rw one_shl (or_lt 41 a (2 ^ k) small (pow_below k 41 low))
+
+-- what the code's operations on sets stand on
+pub ruleset kept_sets = (union_is_cap_set, minus_is_cap_set, shifted_is_cap_set, one_shl)
 
 -- ---- as the contracts of `laws` state them
 pub membership : Membership

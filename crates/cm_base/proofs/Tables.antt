@@ -4,13 +4,16 @@ use Rattle.std.specs.Prelude.{slice_get, option_map, option_and_then, unwrap_or}
 use Rattle.std.proofs.lemmas.Bool.{agree_below_at, eqb-true}
 use Rattle.std.proofs.lemmas.Option.{slice_get-map, slice_get-get_or}
 use Rattle.cm_base.specs.declared.errno.Errno.{Errno}
-use Rattle.cm_base.specs.declared.errno.Errno.TheVariants.{EPERM, EINVAL, ENOSPC, ENOMEM, EAGAIN, EINTR, EFAULT, EIO, ENOENT, EACCES, ENOTDIR, ELOOP, ENAMETOOLONG, E2BIG, ENOEXEC, ETXTBSY, ELIBBAD}
+use Rattle.cm_base.specs.declared.errno.Errno.TheVariants.{EPERM, EINVAL, ENOSPC, ENOMEM, EAGAIN, EINTR, EFAULT, EIO}
+use Rattle.cm_base.specs.declared.errno.Errno.TheVariants.{ENOENT, EACCES, ENOTDIR, ELOOP, ENAMETOOLONG, E2BIG, ENOEXEC}
+use Rattle.cm_base.specs.declared.errno.Errno.TheVariants.{ETXTBSY, ELIBBAD}
 use Rattle.cm_base.specs.CapSet.{cap_count}
 use Rattle.cm_base.specs.Names.{cap_name, cap_of, errno_name, errno_of}
 use Rattle.cm_base.specs.Laws.{NamesReadBack}
 
 -- the name at a place of a table
-pub name_at : (table : List (Bor (List ℕ))) (place : ℕ) (other : Bor (List ℕ)) → place < length table → slice_get (map (λ (name : Bor (List ℕ)). name.now) table) place ≡ Some (get_or table place other).now
+pub name_at : (table : List (Bor (List ℕ))) (place : ℕ) (other : Bor (List ℕ)) → place < length table
+    → slice_get (map (λ (name : Bor (List ℕ)). name.now) table) place ≡ Some (get_or table place other).now
 name_at table place other within =
     slice_get-map (λ (name : Bor (List ℕ)). name.now) table place
     ∙ ap (option_map (λ (name : Bor (List ℕ)). name.now)) (slice_get-get_or table place other within)

@@ -8,7 +8,7 @@ cap_count = 41
 
 -- the set of all capabilities
 abbrev pub full : ℕ
-full = 2199023255551
+full = 0x1ffffffffff
 
 -- the set of none
 abbrev pub none : ℕ

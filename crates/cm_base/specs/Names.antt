@@ -1,7 +1,9 @@
 -- The names of errors (errno(3)) and of capabilities (capabilities(7)), each one table.
 use Rattle.std.specs.Prelude.{ℕ, codes, List, [], ◌∷◌, Option, bytes_eq, find, position, slice_get}
 use Rattle.cm_base.specs.declared.errno.Errno.{Errno}
-use Rattle.cm_base.specs.declared.errno.Errno.TheVariants.{EPERM, EINVAL, ENOSPC, ENOMEM, EAGAIN, EINTR, EFAULT, EIO, ENOENT, EACCES, ENOTDIR, ELOOP, ENAMETOOLONG, E2BIG, ENOEXEC, ETXTBSY, ELIBBAD}
+use Rattle.cm_base.specs.declared.errno.Errno.TheVariants.{EPERM, EINVAL, ENOSPC, ENOMEM, EAGAIN, EINTR, EFAULT, EIO}
+use Rattle.cm_base.specs.declared.errno.Errno.TheVariants.{ENOENT, EACCES, ENOTDIR, ELOOP, ENAMETOOLONG, E2BIG, ENOEXEC}
+use Rattle.cm_base.specs.declared.errno.Errno.TheVariants.{ETXTBSY, ELIBBAD}
 
 -- the name of an error
 abbrev pub errno_name : Errno → List ℕ
@@ -25,7 +27,9 @@ errno_name ELIBBAD = codes "ELIBBAD"
 
 -- the errors that a log may tell
 abbrev pub errnos : List Errno
-errnos = EPERM ∷ EINVAL ∷ ENOSPC ∷ ENOMEM ∷ EAGAIN ∷ EINTR ∷ EFAULT ∷ EIO ∷ ENOENT ∷ EACCES ∷ ENOTDIR ∷ ELOOP ∷ ENAMETOOLONG ∷ E2BIG ∷ ENOEXEC ∷ ETXTBSY ∷ ELIBBAD ∷ []
+errnos =
+    EPERM ∷ EINVAL ∷ ENOSPC ∷ ENOMEM ∷ EAGAIN ∷ EINTR ∷ EFAULT ∷ EIO ∷ ENOENT ∷ EACCES ∷ ENOTDIR ∷ ELOOP ∷ ENAMETOOLONG
+    ∷ E2BIG ∷ ENOEXEC ∷ ETXTBSY ∷ ELIBBAD ∷ []
 
 -- the error of that name
 abbrev pub errno_of : List ℕ → Option Errno
@@ -33,10 +37,17 @@ errno_of name = find (λ e. bytes_eq (errno_name e) name) errnos
 
 -- the names of the capabilities, in the order of their numbers
 abbrev pub cap_names : List (List ℕ)
-cap_names = codes "CAP_CHOWN" ∷ codes "CAP_DAC_OVERRIDE" ∷ codes "CAP_DAC_READ_SEARCH" ∷ codes "CAP_FOWNER" ∷ codes "CAP_FSETID" ∷ codes "CAP_KILL" ∷ codes "CAP_SETGID" ∷ codes "CAP_SETUID" ∷ codes "CAP_SETPCAP" ∷ codes "CAP_LINUX_IMMUTABLE"
-    ∷ codes "CAP_NET_BIND_SERVICE" ∷ codes "CAP_NET_BROADCAST" ∷ codes "CAP_NET_ADMIN" ∷ codes "CAP_NET_RAW" ∷ codes "CAP_IPC_LOCK" ∷ codes "CAP_IPC_OWNER" ∷ codes "CAP_SYS_MODULE" ∷ codes "CAP_SYS_RAWIO" ∷ codes "CAP_SYS_CHROOT" ∷ codes "CAP_SYS_PTRACE"
-    ∷ codes "CAP_SYS_PACCT" ∷ codes "CAP_SYS_ADMIN" ∷ codes "CAP_SYS_BOOT" ∷ codes "CAP_SYS_NICE" ∷ codes "CAP_SYS_RESOURCE" ∷ codes "CAP_SYS_TIME" ∷ codes "CAP_SYS_TTY_CONFIG" ∷ codes "CAP_MKNOD" ∷ codes "CAP_LEASE" ∷ codes "CAP_AUDIT_WRITE"
-    ∷ codes "CAP_AUDIT_CONTROL" ∷ codes "CAP_SETFCAP" ∷ codes "CAP_MAC_OVERRIDE" ∷ codes "CAP_MAC_ADMIN" ∷ codes "CAP_SYSLOG" ∷ codes "CAP_WAKE_ALARM" ∷ codes "CAP_BLOCK_SUSPEND" ∷ codes "CAP_AUDIT_READ" ∷ codes "CAP_PERFMON" ∷ codes "CAP_BPF"
+cap_names =
+    codes "CAP_CHOWN" ∷ codes "CAP_DAC_OVERRIDE" ∷ codes "CAP_DAC_READ_SEARCH" ∷ codes "CAP_FOWNER"
+    ∷ codes "CAP_FSETID" ∷ codes "CAP_KILL" ∷ codes "CAP_SETGID" ∷ codes "CAP_SETUID"
+    ∷ codes "CAP_SETPCAP" ∷ codes "CAP_LINUX_IMMUTABLE" ∷ codes "CAP_NET_BIND_SERVICE" ∷ codes "CAP_NET_BROADCAST"
+    ∷ codes "CAP_NET_ADMIN" ∷ codes "CAP_NET_RAW" ∷ codes "CAP_IPC_LOCK" ∷ codes "CAP_IPC_OWNER"
+    ∷ codes "CAP_SYS_MODULE" ∷ codes "CAP_SYS_RAWIO" ∷ codes "CAP_SYS_CHROOT" ∷ codes "CAP_SYS_PTRACE"
+    ∷ codes "CAP_SYS_PACCT" ∷ codes "CAP_SYS_ADMIN" ∷ codes "CAP_SYS_BOOT" ∷ codes "CAP_SYS_NICE"
+    ∷ codes "CAP_SYS_RESOURCE" ∷ codes "CAP_SYS_TIME" ∷ codes "CAP_SYS_TTY_CONFIG" ∷ codes "CAP_MKNOD"
+    ∷ codes "CAP_LEASE" ∷ codes "CAP_AUDIT_WRITE" ∷ codes "CAP_AUDIT_CONTROL" ∷ codes "CAP_SETFCAP"
+    ∷ codes "CAP_MAC_OVERRIDE" ∷ codes "CAP_MAC_ADMIN" ∷ codes "CAP_SYSLOG" ∷ codes "CAP_WAKE_ALARM"
+    ∷ codes "CAP_BLOCK_SUSPEND" ∷ codes "CAP_AUDIT_READ" ∷ codes "CAP_PERFMON" ∷ codes "CAP_BPF"
     ∷ codes "CAP_CHECKPOINT_RESTORE" ∷ []
 
 -- the name of a capability

@@ -1,6 +1,7 @@
 -- Numbers as digits: decimal and octal, without a sign, leading zeros allowed (choice).
 use Rattle.std.specs.Prelude.{ℕ, ◌+◌, ◌-◌, ◌*◌, ◌&&◌, ◌==◌, Bool, not, nat_le, nat_lt, length, List, fold, Result, Ok, Err, if◌then◌else◌}
 use Rattle.std.specs.List.{list_all}
+use Rattle.cm_base.specs.Limits.{greatest_number}
 use Rattle.cm_base.specs.declared.number.BadNumber.{BadNumber}
 use Rattle.cm_base.specs.declared.number.BadNumber.TheVariants.{NotNumber, TooLarge}
 
@@ -17,11 +18,11 @@ value_of base text = fold (λ before byte. base * before + (byte - 48)) 0 text
 abbrev pub is_number : ℕ → List ℕ → Bool
 is_number base text = not (length text == 0) && list_all (is_digit base) text
 
--- the number that a text spells, at most 4294967295
+-- the number that a text spells, at most the greatest one of 32 bits
 abbrev pub number_in : ℕ → List ℕ → Result ℕ BadNumber
 number_in base text =
     if is_number base text
-    then (if nat_le (value_of base text) 4294967295 then Ok (value_of base text) else Err TooLarge)
+    then (if nat_le (value_of base text) greatest_number then Ok (value_of base text) else Err TooLarge)
     else Err NotNumber
 
 -- the decimal number

@@ -1,7 +1,9 @@
 -- The numbers of the program's answers (choice).
 use Rattle.std.specs.Prelude.{ℕ}
 use Rattle.cm_base.specs.declared.status.Status.{Status}
-use Rattle.cm_base.specs.declared.status.Status.TheVariants.{Accepted, No, Undecided, Impossible, BadWorld, BadLog, Usage, ReadFault, WriteFault, Limit, NoMemory, Refused, BadQuery, NotBuilt}
+use Rattle.cm_base.specs.declared.status.Status.TheVariants.{Accepted, No, Undecided, Impossible, BadWorld, BadLog}
+use Rattle.cm_base.specs.declared.status.Status.TheVariants.{Usage, ReadFault, WriteFault, Limit, NoMemory, Refused}
+use Rattle.cm_base.specs.declared.status.Status.TheVariants.{BadQuery, NotBuilt}
 
 -- the exit status of the program
 abbrev pub status_number : Status → ℕ

@@ -1,5 +1,6 @@
 // A capability and its name (capabilities(7)).
 ghost use Rattle.std.specs.Prelude.{◌≡◌, ◌<◌, SomeIff, IfSome, position, bytes_eq, length, map, slice_get};
+ghost use Rattle.cm_base.specs.CapSet.{cap_count};
 ghost use Rattle.cm_base.specs.Names.{cap_name, cap_of};
 
 use std::marker::Model;
@@ -49,18 +50,22 @@ const NAMES: [&str; 41] = [
     "CAP_CHECKPOINT_RESTORE",
 ];
 
+// How many capabilities there are.
+const CAP_COUNT: u8 = 41;
+
 /// A capability: 0 (CAP_CHOWN) to 40 (CAP_CHECKPOINT_RESTORE).
 #[derive(Clone, Copy, Debug, PartialEq, Eq, PartialOrd, Ord)]
 pub struct Cap(u8);
 
 impl Model for Cap {
     ghost use Rattle.std.specs.Prelude.{ℕ, ◌<◌};
+    ghost use Rattle.cm_base.specs.CapSet.{cap_count};
 
     ghost Value = { ℕ };
 
     ghost view = { λ c. c.0 };
 
-    ghost invariant = { λ c. c.0 < 41 };
+    ghost invariant = { λ c. c.0 < cap_count };
 
     ghost inverse = { λ n. record { 0 = n } };
 }
@@ -93,15 +98,15 @@ impl Cap {
 
     /// The capability of that number. None exactly above 40.
     pub fn new(n: u8) -> Option<Cap>
-        ensures { SomeIff result (n < 41) n }
+        ensures { SomeIff result (n < cap_count) n }
     {
-        if n < 41 { Some(Cap(n)) } else { None }
+        if n < CAP_COUNT { Some(Cap(n)) } else { None }
     }
 
     /// Its number.
     pub fn number(self) -> u8
         ensures value { result ≡ self }
-        ensures range { result < 41 }
+        ensures range { result < cap_count }
     {
         self.0
     }

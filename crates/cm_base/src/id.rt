@@ -1,7 +1,9 @@
 // Ids of users and groups as the initial user namespace sees them, ids of processes, and numbers of user namespaces.
 // Each type keeps its range, so that no value stands for "no id".
 ghost use Rattle.std.specs.Prelude.{◌≡◌, ◌<◌, ◌≤◌, SomeIff};
+ghost use Rattle.cm_base.specs.Limits.{id_count, last_pid};
 
+use crate::limits::MINUS_ONE;
 use std::marker::Model;
 
 /// A user id as the initial user namespace sees it: 0 to 4294967294 (credentials(7), user_namespaces(7)).
@@ -10,27 +12,28 @@ pub struct Kuid(u32);
 
 impl Model for Kuid {
     ghost use Rattle.std.specs.Prelude.{ℕ, ◌<◌};
+    ghost use Rattle.cm_base.specs.Limits.{id_count};
 
     ghost Value = { ℕ };
 
     ghost view = { λ k. k.0 };
 
-    ghost invariant = { λ k. k.0 < 4294967295 };
+    ghost invariant = { λ k. k.0 < id_count };
 
     ghost inverse = { λ n. record { 0 = n } };
 }
 
 impl Kuid {
-    /// The user id of that number. None exactly for 4294967295, which stands for no id.
+    /// The user id of that number. None exactly for -1, which stands for no id.
     pub fn new(n: u32) -> Option<Kuid>
-        ensures { SomeIff result (n < 4294967295) n }
+        ensures { SomeIff result (n < id_count) n }
     {
-        if n < u32::MAX { Some(Kuid(n)) } else { None }
+        if n < MINUS_ONE { Some(Kuid(n)) } else { None }
     }
 
-    /// The user id of a number that isn't 4294967295.
+    /// The user id of a number that isn't -1.
     pub fn of(n: u32) -> Kuid
-        requires { n < 4294967295 }
+        requires { n < id_count }
         ensures { result ≡ n }
     {
         Kuid(n)
@@ -39,7 +42,7 @@ impl Kuid {
     /// Its number.
     pub fn number(self) -> u32
         ensures value { result ≡ self }
-        ensures range { result < 4294967295 }
+        ensures range { result < id_count }
     {
         self.0
     }
@@ -51,27 +54,28 @@ pub struct Kgid(u32);
 
 impl Model for Kgid {
     ghost use Rattle.std.specs.Prelude.{ℕ, ◌<◌};
+    ghost use Rattle.cm_base.specs.Limits.{id_count};
 
     ghost Value = { ℕ };
 
     ghost view = { λ k. k.0 };
 
-    ghost invariant = { λ k. k.0 < 4294967295 };
+    ghost invariant = { λ k. k.0 < id_count };
 
     ghost inverse = { λ n. record { 0 = n } };
 }
 
 impl Kgid {
-    /// The group id of that number. None exactly for 4294967295, which stands for no id.
+    /// The group id of that number. None exactly for -1, which stands for no id.
     pub fn new(n: u32) -> Option<Kgid>
-        ensures { SomeIff result (n < 4294967295) n }
+        ensures { SomeIff result (n < id_count) n }
     {
-        if n < u32::MAX { Some(Kgid(n)) } else { None }
+        if n < MINUS_ONE { Some(Kgid(n)) } else { None }
     }
 
-    /// The group id of a number that isn't 4294967295.
+    /// The group id of a number that isn't -1.
     pub fn of(n: u32) -> Kgid
-        requires { n < 4294967295 }
+        requires { n < id_count }
         ensures { result ≡ n }
     {
         Kgid(n)
@@ -80,7 +84,7 @@ impl Kgid {
     /// Its number.
     pub fn number(self) -> u32
         ensures value { result ≡ self }
-        ensures range { result < 4294967295 }
+        ensures range { result < id_count }
     {
         self.0
     }
@@ -90,18 +94,22 @@ impl Kgid {
 #[derive(Clone, Copy, Debug, PartialEq, Eq, PartialOrd, Ord)]
 pub struct SpaceId(pub u32);
 
-/// A process id: 1 to 4194304 (proc(5), pid_max).
+// The last pid (proc(5), pid_max; that it is one is a choice).
+const LAST_PID: u32 = 4_194_304;
+
+/// A process id: 1 to 4194304.
 #[derive(Clone, Copy, Debug, PartialEq, Eq, PartialOrd, Ord)]
 pub struct Pid(u32);
 
 impl Model for Pid {
     ghost use Rattle.std.specs.Prelude.{ℕ, ◌<◌, ◌≤◌};
+    ghost use Rattle.cm_base.specs.Limits.{last_pid};
 
     ghost Value = { ℕ };
 
     ghost view = { λ p. p.0 };
 
-    ghost invariant = { λ p. (1 ≤ p.0) × (p.0 ≤ 4194304) };
+    ghost invariant = { λ p. (1 ≤ p.0) × (p.0 ≤ last_pid) };
 
     ghost inverse = { λ n. record { 0 = n } };
 }
@@ -109,9 +117,9 @@ impl Model for Pid {
 impl Pid {
     /// The process id of that number. None exactly out of 1 to 4194304.
     pub fn new(n: u32) -> Option<Pid>
-        ensures { SomeIff result ((1 ≤ n) × (n ≤ 4194304)) n }
+        ensures { SomeIff result ((1 ≤ n) × (n ≤ last_pid)) n }
     {
-        if 1 <= n && n <= 4_194_304 {
+        if 1 <= n && n <= LAST_PID {
             Some(Pid(n))
         } else {
             None
@@ -122,7 +130,7 @@ impl Pid {
     pub fn number(self) -> u32
         ensures value { result ≡ self }
         ensures positive { 1 ≤ result }
-        ensures limit { result ≤ 4194304 }
+        ensures limit { result ≤ last_pid }
     {
         self.0
     }

@@ -7,6 +7,7 @@ mod cap;
 mod errno;
 mod id;
 mod laws;
+mod limits;
 mod memory;
 mod number;
 mod res;
@@ -20,6 +21,7 @@ pub use laws::{
     cap_sets_kept, equality_by_members, inclusion_by_members, inclusion_order, membership,
     names_read_back,
 };
+pub use limits::MINUS_ONE;
 pub use memory::NoMemory;
 pub use number::{BadNumber, read_octal, read_u32};
 pub use res::{FileRef, Res};

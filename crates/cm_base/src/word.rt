@@ -1,29 +1,31 @@
 // Sets of capabilities in one word, and the securebits in one byte.
-ghost use Rattle.std.specs.Prelude.{◌≡◌, ◌<◌, ◌^◌, ◌≢◌, bit_and, IsTrue, ◌↔◌};
-ghost use Rattle.cm_base.specs.CapSet.{holds, union, meet, is_within, with as with_cap, without as without_cap, none, full, minus as less};
+ghost use Rattle.std.specs.Prelude.{◌≡◌, ◌≢◌, bit_and, IsTrue, ◌↔◌};
+ghost use Rattle.cm_base.specs.CapSet.{IsCapSet, holds, union, meet, is_within, with as with_cap, without as without_cap, none, full, minus as less};
 
 use crate::Cap;
 use std::marker::Model;
 
-const FULL: u64 = 2_199_023_255_551;
+// The set of all capabilities.
+const FULL: u64 = 0x1ff_ffff_ffff;
 
 /// A set of capabilities (capabilities(7), "Thread capability sets"), of which only 0 to 40 are ever held.
 #[derive(Clone, Copy, Debug, PartialEq, Eq)]
 pub struct CapWord(u64);
 
 impl Model for CapWord {
-    ghost use Rattle.std.specs.Prelude.{ℕ, ◌<◌, ◌^◌};
+    ghost use Rattle.std.specs.Prelude.{ℕ};
+    ghost use Rattle.cm_base.specs.CapSet.{IsCapSet};
 
     ghost Value = { ℕ };
 
     ghost view = { λ w. w.0 };
 
-    ghost invariant = { λ w. w.0 < 2 ^ 41 };
+    ghost invariant = { λ w. IsCapSet w.0 };
 
     ghost inverse = { λ n. record { 0 = n } };
 }
 
-#[tactic(auto, using(crate::proofs::CapSets::union_is_cap_set, crate::proofs::CapSets::minus_is_cap_set, crate::proofs::CapSets::shifted_is_cap_set, std::proofs::lemmas::Nat::one_shl,))]
+#[tactic(auto, using(crate::proofs::CapSets::kept_sets))]
 impl CapWord {
     /// The set of the bits 0 to 40; the other bits are dropped.
     pub fn from_bits(bits: u64) -> CapWord
@@ -35,7 +37,7 @@ impl CapWord {
     /// The set as a word, bit k for capability k.
     pub fn bits(self) -> u64
         ensures value { result ≡ self }
-        ensures range { result < 2 ^ 41 }
+        ensures range { IsCapSet result }
     {
         self.0
     }

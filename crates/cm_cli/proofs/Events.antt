@@ -11,7 +11,7 @@ use Rattle.cm_machine.specs.declared.error.StepError.TheVariants as error
 use Rattle.model_cred.specs.Process.{State}
 use Rattle.model_cred.specs.World.{World}
 use Rattle.model_run.specs.Step.{Outcome, Goes, NoProcess, NoSpace, PidInUse, Wrong, Run, outcome}
-use Rattle.model_run.specs.WayBack.{are_setresuids, is_setresuid}
+use Rattle.model_run.specs.RunBack.{are_setresuids, is_setresuid}
 use Rattle.model_report.specs.Replay.{Report, Plain, text_of, by_outcome, after, impossible_text, step_lines, replayed}
 use Rattle.model_text.specs.Reading.{Placed, Reading, events_of, reads_on}
 

@@ -2,7 +2,7 @@
 use Rattle.std.proofs.Common.{length, get_or, ◌<◌, ◌≡◌, ℕ, zero, suc, List, [], ◌∷◌, Some, refl, subst, sym, slice_get}
 use Rattle.std.proofs.lemmas.Option.{slice_get_read}
 use Rattle.model_cred.specs.Process.{Process, State}
-use Rattle.model_run.specs.WayBack.{AllFollow, SetsFollowIds, StateFollows}
+use Rattle.model_run.specs.RunBack.{AllFollow, SetsFollowIds, StateFollows}
 
 -- what all keep, one keeps
 pub all_at : (ps : List Process) (i : ℕ) (p : Process) → AllFollow ps → slice_get ps i ≡ Some p → SetsFollowIds p.cred

@@ -16,7 +16,7 @@ use Rattle.model_cred.specs.Call.{Event}
 use Rattle.model_cred.specs.Process.{Process, State}
 use Rattle.model_cred.specs.Right.{Right, Cap, Uid, Gid}
 use Rattle.model_cred.specs.World.{World}
-use Rattle.model_run.specs.WayBack.{are_setresuids, way_back}
+use Rattle.model_run.specs.RunBack.{are_setresuids, run_back}
 use Rattle.model_run.specs.Step.{Outcome, Goes, NoProcess, NoSpace, PidInUse, Wrong, Run, outcome}
 use Rattle.model_text.specs.Reading.{Placed, Stop, Fault, Limit, NotBuilt, End, AtEnd, Stops, Reading, events_of, script_reading}
 use Rattle.model_report.proofs.Statuses as statuses
@@ -193,8 +193,8 @@ module _ (P : Status → Type 0) (holds : HoldsOfLogs P) where
   of_right more s p (Gid k) = holds.not_built
   of_right more s p (Cap cap n) = holds.not_built
   of_right more s p (Uid k) =
-      elim (not more && length s.processes == 1) as (λ (b : Bool). P (cond b (run_verdict p.pid (way_back p.cred p.pid k)) not_built).status) [
-        | true ↦ of_run p.pid (way_back p.cred p.pid k)
+      elim (not more && length s.processes == 1) as (λ (b : Bool). P (cond b (run_verdict p.pid (run_back p.cred p.pid k)) not_built).status) [
+        | true ↦ of_run p.pid (run_back p.cred p.pid k)
         | false ↦ holds.not_built
       ]
 

@@ -4,7 +4,7 @@ ghost use Rattle.cm_base.specs.Outcome.{OrNoMemory};
 ghost use Rattle.cm_cli.specs.Query.{query_view, query_if};
 ghost use Rattle.cm_state.specs.Right.{right_of};
 ghost use Rattle.cm_cli.specs.Telling.{answer_to};
-ghost use Rattle.model_run.specs.WayBack.{SetsFollowIds, StateFollows, way_back};
+ghost use Rattle.model_run.specs.RunBack.{SetsFollowIds, StateFollows, run_back};
 ghost use Rattle.model_report.specs.Query.{asked_process};
 ghost use Rattle.model_report.specs.Replay.{text_of};
 ghost use Rattle.model_report.specs.Report.{verdict, right_verdict, run_verdict};
@@ -94,8 +94,8 @@ fn put_right(
 
 fn put_uid(alloc: Global, p: &Proc, k: Kuid, text: &mut Vec<u8>) -> Result<Status, NoMemory>
     requires { SetsFollowIds p.now.cred }
-    ensures status { OrNoMemory result (λ status. status ≡ (run_verdict p.now.pid (way_back p.now.cred p.now.pid k)).status) }
-    ensures text { OrNoMemory result (λ _. text.new.items ≡ text.old.items ++ text_of (run_verdict p.now.pid (way_back p.now.cred p.now.pid k)).lines) }
+    ensures status { OrNoMemory result (λ status. status ≡ (run_verdict p.now.pid (run_back p.now.cred p.now.pid k)).status) }
+    ensures text { OrNoMemory result (λ _. text.new.items ≡ text.old.items ++ text_of (run_verdict p.now.pid (run_back p.now.cred p.now.pid k)).lines) }
 {
     match audit_uid(alloc, &p.cred, p.pid, k)? {
         None => {

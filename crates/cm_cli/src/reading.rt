@@ -4,7 +4,7 @@ ghost use Rattle.cm_cli.specs.Reading.{IsWorldRead, IsLogRead, IsReady, FileFaul
 ghost use Rattle.cm_io.specs.Shelf.{bytes_at, Rose, TakesAtMost, ReadsOnly};
 ghost use Rattle.model_report.specs.Report.{files_report, world_limit, log_limit};
 ghost use Rattle.model_report.specs.Query.{Query};
-ghost use Rattle.model_run.specs.WayBack.{StateFollows};
+ghost use Rattle.model_run.specs.RunBack.{StateFollows};
 
 use crate::telling::Short;
 use cm_io::{Shelf, WholeError, read_whole};

@@ -9,7 +9,7 @@ ghost use Rattle.cm_io.specs.Sink.{WriteFaults};
 ghost use Rattle.cm_world.specs.World.{world_of};
 ghost use Rattle.model_report.specs.Replay.{text_of, by_end};
 ghost use Rattle.model_run.specs.Step.{Run, outcome};
-ghost use Rattle.model_run.specs.WayBack.{are_setresuids, is_setresuid};
+ghost use Rattle.model_run.specs.RunBack.{are_setresuids, is_setresuid};
 ghost use Rattle.model_text.specs.Reading.{events_of};
 
 use crate::log::{Ending, Next, Placed, ScriptLog};

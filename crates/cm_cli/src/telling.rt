@@ -5,7 +5,7 @@ ghost use Rattle.cm_cli.specs.Query.{query_if};
 ghost use Rattle.cm_cli.specs.Sent.{IsSent, IsFront};
 ghost use Rattle.cm_cli.specs.Telling.{TellsReport, short_report, log_report, stopped_by};
 ghost use Rattle.cm_io.specs.Sink.{WriteFaults};
-ghost use Rattle.model_run.specs.WayBack.{StateFollows};
+ghost use Rattle.model_run.specs.RunBack.{StateFollows};
 ghost use Rattle.model_report.specs.Replay.{text_of, Credentials};
 
 use crate::answer::put_answer;

@@ -4,14 +4,16 @@ use Rattle.std.specs.Prelude.{nat_lt, is_none, All}
 use Rattle.std.specs.Option.{option_or}
 use Rattle.std.proofs.lemmas.Bool.{or_parts, ltb-false}
 use Rattle.std.proofs.lemmas.List.Elements.{All-cons}
+use Rattle.cm_base.specs.Limits.{id_count}
 use Rattle.model_cred.specs.IdMap.{Extent}
-use Rattle.model_cred.specs.MapFault.{Empty, TooMany, ZeroLength, PastEnd, Overlap, IsMap, map_fault, extent_fault, first_extent_fault, ranges_meet, extents_meet, overlap_with, first_overlap}
+use Rattle.model_cred.specs.MapFault.{Empty, TooMany, ZeroLength, PastEnd, Overlap, IsMap, map_fault, extent_fault}
+use Rattle.model_cred.specs.MapFault.{first_extent_fault, ranges_meet, extents_meet, overlap_with, first_overlap}
 use Rattle.cm_idmap.proofs.Sides.{AllApart}
 
 -- The extent ends within the ids on both sides.
 pub record Fits (e : Extent) : Type 0 where
-  pub inside : e.inside + e.length ≤ 4294967295
-  pub outside : e.outside + e.length ≤ 4294967295
+  pub inside : e.inside + e.length ≤ id_count
+  pub outside : e.outside + e.length ≤ id_count
 
 or_none : {A : Type 0} (x y : Option A) → option_or x y ≡ None → (x ≡ None) × (y ≡ None)
 or_none None y is = (cc, is)
@@ -28,10 +30,10 @@ not_some false a rest is = (cc, is)
 
 extent_fits : (i : ℕ) (e : Extent) → extent_fault i e ≡ None → Fits e
 extent_fits i e is =
-    let some : (nat_lt 4294967295 (e.inside + e.length) || nat_lt 4294967295 (e.outside + e.length)) ≡ false =
+    let some : (nat_lt id_count (e.inside + e.length) || nat_lt id_count (e.outside + e.length)) ≡ false =
     (not_some _ (PastEnd i) None (not_some (e.length == 0) (ZeroLength i) _ is).1).0 in
-    let parts : (nat_lt 4294967295 (e.inside + e.length) ≡ false) × (nat_lt 4294967295 (e.outside + e.length) ≡ false) = or_parts _ _ some in
-    record { inside = ltb-false 4294967295 _ parts.0; outside = ltb-false 4294967295 _ parts.1 }
+    let parts : (nat_lt id_count (e.inside + e.length) ≡ false) × (nat_lt id_count (e.outside + e.length) ≡ false) = or_parts _ _ some in
+    record { inside = ltb-false id_count _ parts.0; outside = ltb-false id_count _ parts.1 }
 
 all_fit : (i : ℕ) (list : List Extent) → first_extent_fault i list ≡ None → All Fits list
 all_fit i [] is = λ k d below. absurd (omega (arith, below))

@@ -1,6 +1,7 @@
 -- One side of a list of extents at a time: what the first extent that holds an id makes of it, and that this is what
 -- any extent makes of it where no two have an id in common on that side.
-use Rattle.std.proofs.Common.{◌≡◌, ℕ, zero, suc, ◌+◌, ◌-◌, ◌<◌, ◌≤◌, true, false, List, [], ◌∷◌, Option, None, Some, if◌then◌else◌, refl, sym, ap, subst, ◌∙◌, inl, inr, arith}
+use Rattle.std.proofs.Common.{◌≡◌, ℕ, zero, suc, ◌+◌, ◌-◌, ◌<◌, ◌≤◌, true, false, List, [], ◌∷◌, Option, None, Some}
+use Rattle.std.proofs.Common.{if◌then◌else◌, refl, sym, ap, subst, ◌∙◌, inl, inr, arith}
 use Rattle.std.specs.Prelude.{nat_lt, nat_le, All, Any}
 use Rattle.std.proofs.lemmas.Bool.{cases_Bool, and_parts, and_from, cond-true, cond-false, ltb-true, leb-true, lt-ltb, le-leb}
 use Rattle.model_cred.specs.IdMap.{Extent, lies_in}
@@ -49,12 +50,17 @@ found from to [] id out is = absurd (cc)
 found from to (e ∷ map) id out is =
     elim (cases_Bool (lies_in (from e) e.length id)) [
       | inl within ↦
-          let it : Some (to e + (id - from e)) ≡ Some out = sym (cond-true (lies_in (from e) e.length id) (Some (to e + (id - from e))) (image from to map id) within) ∙ is in
+          let it : Some (to e + (id - from e)) ≡ Some out
+          = sym (cond-true (lies_in (from e) e.length id) (Some (to e + (id - from e))) (image from to map id) within)
+          ∙ is in
           let made : to e + (id - from e) ≡ out = cc in
           let parts : (from e ≤ id) × (id < from e + e.length) = within_parts (from e) e.length id within in
           (0, e, omega arith, refl, record { low = parts.0; high = parts.1; image = sym made })
       | inr outside ↦
-          later _ e map (found from to map id out (sym (cond-false (lies_in (from e) e.length id) (Some (to e + (id - from e))) (image from to map id) outside) ∙ is))
+          later _ e map (found from to map id out
+          (sym (cond-false (lies_in (from e) e.length id) (Some (to e + (id - from e)))
+          (image from to map id) outside)
+          ∙ is))
     ]
 
 -- what an extent makes of an id is made of it, where no two have an id in common
@@ -69,7 +75,8 @@ given from to (e ∷ map) id out apart (suc k, x, below, is, holds) =
       | inl within ↦
           let parts : (from e ≤ id) × (id < from e + e.length) = within_parts (from e) e.length id within in
           let none : Apart from e x = subst (Apart from e) is (apart.0 k x (omega (arith, below))) in
-          let some : ranges_meet (from e) e.length (from x) x.length ≡ true = meet_at (from e) e.length (from x) x.length id parts.0 parts.1 holds.low holds.high in
+          let some : ranges_meet (from e) e.length (from x) x.length ≡ true
+          = meet_at (from e) e.length (from x) x.length id parts.0 parts.1 holds.low holds.high in
           absurd (cc)
       | inr outside ↦
           cond-false (lies_in (from e) e.length id) (Some (to e + (id - from e))) (image from to map id) outside

@@ -20,15 +20,23 @@ any_as P Q map as_q (k, e, below, is, holds) = (k, e, below, is, as_q e holds)
 -- `down` gives just the outside id that the map takes the inside id to
 pub down_maps : (map : List Extent) (id out : ℕ) → IsMap map → (down map id ≡ Some out) ↔ Maps map id out
 down_maps map id out is = (
-  λ gives. any_as _ _ map (λ e h. record { from_first = h.low; before_end = h.high; to = h.image }) (found (λ e. e.inside) (λ e. e.outside) map id out (sym (down_image map id) ∙ gives)),
-  λ takes. down_image map id ∙ given (λ e. e.inside) (λ e. e.outside) map id out (map_apart map is).0 (any_as _ _ map (λ e t. record { low = t.from_first; high = t.before_end; image = t.to }) takes),
+  λ gives.
+      any_as _ _ map (λ e h. record { from_first = h.low; before_end = h.high; to = h.image })
+      (found (λ e. e.inside) (λ e. e.outside) map id out (sym (down_image map id) ∙ gives)),
+  λ takes. down_image map id
+      ∙ given (λ e. e.inside) (λ e. e.outside) map id out (map_apart map is).0
+      (any_as _ _ map (λ e t. record { low = t.from_first; high = t.before_end; image = t.to }) takes),
 )
 
 held_outside : (id out : ℕ) (e : Extent) → Holds (λ e. e.outside) (λ e. e.inside) out id e → TakesTo id out e
 held_outside id out e h = record { from_first = omega (arith, h.image); before_end = omega (arith, h.low, h.high, h.image); to = omega (arith, h.low, h.image) }
 
 holds_outside : (id out : ℕ) (e : Extent) → TakesTo id out e → Holds (λ e. e.outside) (λ e. e.inside) out id e
-holds_outside id out e t = record { low = omega (arith, t.to); high = omega (arith, t.from_first, t.before_end, t.to); image = omega (arith, t.from_first, t.to) }
+holds_outside id out e t = record {
+  low = omega (arith, t.to);
+  high = omega (arith, t.from_first, t.before_end, t.to);
+  image = omega (arith, t.from_first, t.to);
+}
 
 -- `up` gives just the inside id that the map takes to the outside id
 pub up_maps : (map : List Extent) (id out : ℕ) → IsMap map → (up map out ≡ Some id) ↔ Maps map id out

@@ -1,16 +1,15 @@
 // Which lists of extents are no map, and why (user_namespaces(7), "Defining user and group ID mappings: writing to
 // uid_map and gid_map"). The checks stand in the order of the answers: the whole list, each extent, each pair.
 ghost use Rattle.std.specs.Prelude.{◌≡◌, ℕ, ◌+◌, ◌≤◌, length, drop, nat_lt, is_some, option_map};
+ghost use Rattle.cm_base.specs.Limits.{id_count};
 ghost use Rattle.model_cred.specs.MapFault.{Overlap, map_fault, first_extent_fault, first_overlap, overlap_with, ranges_meet, extents_meet};
 ghost use Rattle.cm_idmap.specs.Fault.{told};
 
 use crate::Extent;
+use cm_base::MINUS_ONE;
 
 // The most extents of a map (user_namespaces(7), since Linux 4.15).
 const MOST_EXTENTS: usize = 340;
-
-// One past the greatest id: the number itself is -1, which is no id.
-const END_OF_IDS: u64 = 4_294_967_295;
 
 /// Why a list of extents is no map. An extent is named by its place in the list, from 0 on.
 #[derive(Clone, Copy, Debug, PartialEq, Eq)]
@@ -64,9 +63,9 @@ fn bad_extent(list: &[Extent]) -> Option<BadMap>
 
 // A range of ids has one past the greatest id.
 fn passes_end(first: u32, length: u32) -> bool
-    ensures { result ≡ nat_lt 4294967295 (first + length) }
+    ensures { result ≡ nat_lt id_count (first + length) }
 {
-    u64::from(first) + u64::from(length) > END_OF_IDS
+    u64::from(first) + u64::from(length) > u64::from(MINUS_ONE)
 }
 
 // The least pair of extents that meet.

@@ -1,6 +1,7 @@
 // An id map: a list of extents that is one by user_namespaces(7), with what it takes an id to, both ways.
 ghost use Rattle.std.specs.Prelude.{◌≡◌, ℕ, ◌<◌, ◌↔◌, None, Some, IfOk, IfSome};
 ghost use Rattle.std.specs.declared.result.Result.TheVariants.{Err};
+ghost use Rattle.cm_base.specs.Limits.{id_count};
 ghost use Rattle.cm_base.specs.Outcome.{OrNoMemory};
 ghost use Rattle.model_cred.specs.IdMap.{down, up, initial_map, Maps};
 ghost use Rattle.model_cred.specs.MapFault.{map_fault};
@@ -10,7 +11,7 @@ ghost use Rattle.cm_idmap.specs.declared.fault.BadMap.TheVariants as answer;
 
 use crate::fault::first_fault;
 use crate::{BadMap, Extent};
-use cm_base::NoMemory;
+use cm_base::{MINUS_ONE, NoMemory};
 use std::alloc::Global;
 use std::marker::Model;
 
@@ -58,17 +59,17 @@ impl IdMap {
         let all = Extent {
             inside: 0,
             outside: 0,
-            length: 4_294_967_295,
+            length: MINUS_ONE,
         };
         let list = vec![in alloc; all]?;
         Ok(IdMap { list })
     }
 
-    /// The outside id of an inside id, below 4294967295. None exactly where no extent holds the id
+    /// The outside id of an inside id, which isn't -1. None exactly where no extent holds the id
     /// (user_namespaces(7)).
     pub fn down(&self, inside: u32) -> Option<u32>
         ensures image { result ≡ down self.now inside }
-        ensures is_id { IfSome result (λ id. id < 4294967295) }
+        ensures is_id { IfSome result (λ id. id < id_count) }
         ensures maps { (id : ℕ) → (result ≡ Some id) ↔ Maps self.now inside id }
     {
         for e in &self.list {
@@ -79,11 +80,11 @@ impl IdMap {
         None
     }
 
-    /// The inside id of an outside id, below 4294967295. None exactly where no extent holds the id
+    /// The inside id of an outside id, which isn't -1. None exactly where no extent holds the id
     /// (user_namespaces(7)).
     pub fn up(&self, outside: u32) -> Option<u32>
         ensures image { result ≡ up self.now outside }
-        ensures is_id { IfSome result (λ id. id < 4294967295) }
+        ensures is_id { IfSome result (λ id. id < id_count) }
         ensures maps { (id : ℕ) → (result ≡ Some id) ↔ Maps self.now id outside }
     {
         for e in &self.list {

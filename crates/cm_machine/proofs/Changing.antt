@@ -8,8 +8,9 @@ use Rattle.cm_machine.specs.Outcomes.{Gives, Tells, changed_by, own_answer}
 use Rattle.cm_machine.specs.Telling.{IsTold}
 use Rattle.cm_machine.specs.declared.error.StepError.{StepError}
 use Rattle.cm_machine.specs.declared.error.StepError.TheVariants as error
-use Rattle.cm_state.proofs.Places.{pid_of_at, get_of_at, put_ascends, put_at, insert_all}
+use Rattle.cm_state.proofs.Places.{pid_of_at, get_of_at, put_ascends, put_at}
 use Rattle.cm_state.specs.declared.call.Call.{Call}
+use Rattle.model_cred.proofs.Orders.{all_insert}
 use Rattle.model_cred.specs.Process.{Process, State, Ascends, put_process, insert_process}
 
 -- all are in spaces that stand
@@ -58,7 +59,7 @@ tells_change r s call told at old new p up h is rest tells there =
 pub insert_keeps : {T E : Type 0} (r : Result T E) (ps after : List Process) (n : ℕ) (child : Process) → AllStand n ps → child.space < n
     → IfOk r (λ _. after ≡ insert_process child ps) → OnErr r (after ≡ ps) → AllStand n after
 insert_keeps (Ok _) ps after n child stand there made same =
-    subst (AllStand n) (sym made) (insert_all (λ p. p.space < n) ps child there stand)
+    subst (AllStand n) (sym made) (all_insert (λ p. p.space < n) child ps there stand)
 insert_keeps (Err why) ps after n child stand there made same = subst (AllStand n) (sym same) stand
 
 -- some process stands at a place, and in a space that stands

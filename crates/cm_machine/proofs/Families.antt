@@ -8,8 +8,9 @@ use Rattle.std.proofs.lemmas.Option.{slice_get-get_or}
 use Rattle.std.specs.Prelude.{is_some, IfSome, IfNone, IfOk}
 use Rattle.cm_machine.proofs.FreePids.{alive_at}
 use Rattle.cm_machine.specs.Marks.{AreMarks, HoldsMark}
-use Rattle.cm_state.proofs.Places.{get_of_at, found_at, pid_of_found, ascending}
+use Rattle.cm_state.proofs.Places.{get_of_at, found_at, ascending}
 use Rattle.cm_state.specs.Places.{pid_at}
+use Rattle.model_cred.proofs.Lookups.{pid_of_found}
 use Rattle.model_cred.specs.Process.{Process, State, Ascends, process_at, is_alive}
 use Rattle.model_laws.proofs.Reaching.{reaches_plus, reaches_soon}
 use Rattle.model_run.specs.Family.{family, forebear_in, forebear_of, reaches, reaches_within}

@@ -2,7 +2,7 @@
 use Rattle.std.proofs.Common.{◌≡◌, ℕ, ◌<◌, List, map, filter, ◌==◌, not, ap, ◌∙◌, subst, sym}
 use Rattle.cm_machine.proofs.Changing.{AllStand}
 use Rattle.model_cred.specs.Process.{Process, Ascends, after_exit, without_process}
-use Rattle.model_laws.proofs.Orders.{ascends_forth, ascends_back, ascends_without, all_without}
+use Rattle.model_cred.proofs.Orders.{ascends_forth, ascends_back, ascends_without, all_without}
 
 -- the others ascend, each in a space that stands
 pub leave_keeps : (ps rest after : List Process) (n : ℕ) (gone : Process) → Ascends ps → AllStand n ps

@@ -7,7 +7,8 @@ pub less_within : (effective permitted some w : ℕ) → w ≡ minus effective s
 less_within effective permitted some w is within =
     subst (λ x. is_within x permitted ≡ true) (sym is) (within_transitive (minus effective some) effective permitted (minus_within effective some) within)
 
-pub more_within : (effective permitted some met w : ℕ) → w ≡ union effective met → met ≡ meet permitted some → is_within effective permitted ≡ true → is_within w permitted ≡ true
+pub more_within : (effective permitted some met w : ℕ) → w ≡ union effective met → met ≡ meet permitted some
+    → is_within effective permitted ≡ true → is_within w permitted ≡ true
 more_within effective permitted some met w is met_is within =
     subst (λ x. is_within x permitted ≡ true) (sym is)
     (union_within effective met permitted within (subst (λ x. is_within x permitted ≡ true) (sym met_is) (meet_within_first permitted some)))

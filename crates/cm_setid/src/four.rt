@@ -2,16 +2,16 @@
 // setreuid(2), setuid(2), setfsuid(2)). A rule knows the caller's map, and whether the caller has the capability.
 ghost use Rattle.std.specs.Prelude.{◌≡◌};
 ghost use Rattle.model_cred.specs.IdMap.{extents_of};
-ghost use Rattle.model_rules.specs.SetId.{set_res as model_set_res, set_re as model_set_re, set_one as model_set_one, set_fs as model_set_fs, saved_after};
+ghost use Rattle.model_rules.specs.SetId.{setresid, setreid, setid, setfsid, saved_after};
 
-use crate::mapped::{MINUS_ONE, asked_for, down_in};
-use cm_base::Errno;
+use crate::mapped::{asked_for, down_in};
+use cm_base::{Errno, MINUS_ONE};
 use cm_idmap::IdMap;
 use cm_state::FourIds;
 
 // setresuid(2) and setresgid(2): EINVAL for a given id without a mapping; else EPERM where without the capability one is
 // none of the old real, effective and saved id.
-pub(crate) fn set_res(
+pub(crate) fn set_resid(
     map: &Option<IdMap>,
     privileged: bool,
     old: FourIds,
@@ -19,7 +19,7 @@ pub(crate) fn set_res(
     e: u32,
     s: u32,
 ) -> Result<FourIds, Errno>
-    ensures { result ≡ model_set_res (extents_of map.now) privileged old r e s }
+    ensures { result ≡ setresid (extents_of map.now) privileged old r e s }
 {
     let Some(real) = asked_for(map, old.real, r) else {
         return Err(Errno::EINVAL);
@@ -43,14 +43,14 @@ pub(crate) fn set_res(
 
 // setreuid(2) and setregid(2): EINVAL for a given id without a mapping; else EPERM where without the capability the real
 // id is neither the old real nor the effective one, or the effective id none of the three.
-pub(crate) fn set_re(
+pub(crate) fn set_reid(
     map: &Option<IdMap>,
     privileged: bool,
     old: FourIds,
     r: u32,
     e: u32,
 ) -> Result<FourIds, Errno>
-    ensures { result ≡ model_set_re (extents_of map.now) privileged old r e }
+    ensures { result ≡ setreid (extents_of map.now) privileged old r e }
 {
     let Some(real) = asked_for(map, old.real, r) else {
         return Err(Errno::EINVAL);
@@ -85,13 +85,13 @@ fn saved_id(old: FourIds, r: u32, e: u32, effective: u32) -> u32
 
 // setuid(2) and setgid(2): EINVAL for an id without a mapping, as -1. With the capability all four become the id;
 // without it the effective and the fs id do, and EPERM comes where it is neither the old real nor the saved one.
-pub(crate) fn set_one(
+pub(crate) fn set_id(
     map: &Option<IdMap>,
     privileged: bool,
     old: FourIds,
     argument: u32,
 ) -> Result<FourIds, Errno>
-    ensures { result ≡ model_set_one (extents_of map.now) privileged old argument }
+    ensures { result ≡ setid (extents_of map.now) privileged old argument }
 {
     let Some(id) = down_in(map, argument) else {
         return Err(Errno::EINVAL);
@@ -111,8 +111,13 @@ pub(crate) fn set_one(
 
 // setfsuid(2) and setfsgid(2), which have no error: the ids with another fs id where that is mapped, and is one of the
 // four or the caller has the capability; else the old ones.
-pub(crate) fn set_fs(map: &Option<IdMap>, privileged: bool, old: FourIds, argument: u32) -> FourIds
-    ensures { result ≡ model_set_fs (extents_of map.now) privileged old argument }
+pub(crate) fn set_fsid(
+    map: &Option<IdMap>,
+    privileged: bool,
+    old: FourIds,
+    argument: u32,
+) -> FourIds
+    ensures { result ≡ setfsid (extents_of map.now) privileged old argument }
 {
     match down_in(map, argument) {
         Some(id) if privileged || old.has(id) || id == old.fs => FourIds { fs: id, ..old },

@@ -5,7 +5,7 @@ ghost use Rattle.cm_base.specs.declared.errno.Errno.{Errno};
 ghost use Rattle.cm_base.specs.declared.res.Res.TheVariants.{Err};
 ghost use Rattle.model_rules.specs.SetId.{has_setgid as model_has_setgid, with_gids, setresgid, setregid, setgid, setfsgid};
 
-use crate::four::{set_fs, set_one, set_re, set_res};
+use crate::four::{set_fsid, set_id, set_reid, set_resid};
 use crate::mapped::seen;
 use cm_base::{Cap, Errno, Res};
 use cm_state::{Cred, FourIds, Space};
@@ -17,11 +17,11 @@ pub fn set_gid(c: &mut Cred, s: &Space, gid: u32) -> Res
     ensures cred { c.new ≡ (setgid s.now c.old gid).cred }
     ensures unchanged { (e : Errno) → result ≡ Err e → c.new ≡ c.old }
 {
-    let new = set_one(&s.gids, has_setgid(c), c.group_ids(), gid);
+    let new = set_id(&s.gids, has_setgid(c), c.group_ids(), gid);
     leave(c, new)
 }
 
-/// setregid(2) in the caller's space, 4294967295 for -1, which leaves an id: `Done`, or `EINVAL` for a given id without a
+/// setregid(2) in the caller's space; -1 leaves an id: `Done`, or `EINVAL` for a given id without a
 /// mapping, or `EPERM` where without CAP_SETGID the real id is neither the real nor the effective one, or the effective
 /// id none of the real, effective and saved one. A refusal leaves the credential as it was.
 pub fn set_regid(c: &mut Cred, s: &Space, r: u32, e: u32) -> Res
@@ -29,11 +29,11 @@ pub fn set_regid(c: &mut Cred, s: &Space, r: u32, e: u32) -> Res
     ensures cred { c.new ≡ (setregid s.now c.old r e).cred }
     ensures unchanged { (e : Errno) → result ≡ Err e → c.new ≡ c.old }
 {
-    let new = set_re(&s.gids, has_setgid(c), c.group_ids(), r, e);
+    let new = set_reid(&s.gids, has_setgid(c), c.group_ids(), r, e);
     leave(c, new)
 }
 
-/// setresgid(2) in the caller's space, 4294967295 for -1, which leaves an id: `Done`, or `EINVAL` for a given id without
+/// setresgid(2) in the caller's space; -1 leaves an id: `Done`, or `EINVAL` for a given id without
 /// a mapping, or `EPERM` where without CAP_SETGID one is none of the real, effective and saved id. A refusal leaves the
 /// credential as it was.
 pub fn set_resgid(c: &mut Cred, s: &Space, r: u32, e: u32, v: u32) -> Res
@@ -41,7 +41,7 @@ pub fn set_resgid(c: &mut Cred, s: &Space, r: u32, e: u32, v: u32) -> Res
     ensures cred { c.new ≡ (setresgid s.now c.old r e v).cred }
     ensures unchanged { (e : Errno) → result ≡ Err e → c.new ≡ c.old }
 {
-    let new = set_res(&s.gids, has_setgid(c), c.group_ids(), r, e, v);
+    let new = set_resid(&s.gids, has_setgid(c), c.group_ids(), r, e, v);
     leave(c, new)
 }
 
@@ -52,7 +52,7 @@ pub fn set_fsgid(c: &mut Cred, s: &Space, f: u32) -> Res
     ensures cred { c.new ≡ (setfsgid s.now c.old f).cred }
 {
     let old = c.group_ids();
-    let new = set_fs(&s.gids, has_setgid(c), old, f);
+    let new = set_fsid(&s.gids, has_setgid(c), old, f);
     c.put_group_ids(new);
     Res::Id(seen(&s.gids, old.fs))
 }

@@ -6,7 +6,7 @@ ghost use Rattle.cm_base.specs.declared.res.Res.TheVariants.{Err};
 ghost use Rattle.model_rules.specs.SetId.{has_setuid as model_has_setuid, with_uids, setresuid, setreuid, setuid, setfsuid};
 
 use crate::fixups::{fix_up, fix_up_fs};
-use crate::four::{set_fs, set_one, set_re, set_res};
+use crate::four::{set_fsid, set_id, set_reid, set_resid};
 use crate::mapped::seen;
 use cm_base::{Cap, Errno, Res};
 use cm_state::{Cred, FourIds, Space};
@@ -18,11 +18,11 @@ pub fn set_uid(c: &mut Cred, s: &Space, uid: u32) -> Res
     ensures cred { c.new ≡ (setuid s.now c.old uid).cred }
     ensures unchanged { (e : Errno) → result ≡ Err e → c.new ≡ c.old }
 {
-    let new = set_one(&s.uids, has_setuid(c), c.user_ids(), uid);
+    let new = set_id(&s.uids, has_setuid(c), c.user_ids(), uid);
     leave(c, s, new)
 }
 
-/// setreuid(2) in the caller's space, 4294967295 for -1, which leaves an id: `Done`, or `EINVAL` for a given id without a
+/// setreuid(2) in the caller's space; -1 leaves an id: `Done`, or `EINVAL` for a given id without a
 /// mapping, or `EPERM` where without CAP_SETUID the real id is neither the real nor the effective one, or the effective
 /// id none of the real, effective and saved one. A refusal leaves the credential as it was.
 pub fn set_reuid(c: &mut Cred, s: &Space, r: u32, e: u32) -> Res
@@ -30,11 +30,11 @@ pub fn set_reuid(c: &mut Cred, s: &Space, r: u32, e: u32) -> Res
     ensures cred { c.new ≡ (setreuid s.now c.old r e).cred }
     ensures unchanged { (e : Errno) → result ≡ Err e → c.new ≡ c.old }
 {
-    let new = set_re(&s.uids, has_setuid(c), c.user_ids(), r, e);
+    let new = set_reid(&s.uids, has_setuid(c), c.user_ids(), r, e);
     leave(c, s, new)
 }
 
-/// setresuid(2) in the caller's space, 4294967295 for -1, which leaves an id: `Done`, or `EINVAL` for a given id without
+/// setresuid(2) in the caller's space; -1 leaves an id: `Done`, or `EINVAL` for a given id without
 /// a mapping, or `EPERM` where without CAP_SETUID one is none of the real, effective and saved id. A refusal leaves the
 /// credential as it was.
 pub fn set_resuid(c: &mut Cred, s: &Space, r: u32, e: u32, v: u32) -> Res
@@ -42,7 +42,7 @@ pub fn set_resuid(c: &mut Cred, s: &Space, r: u32, e: u32, v: u32) -> Res
     ensures cred { c.new ≡ (setresuid s.now c.old r e v).cred }
     ensures unchanged { (e : Errno) → result ≡ Err e → c.new ≡ c.old }
 {
-    let new = set_res(&s.uids, has_setuid(c), c.user_ids(), r, e, v);
+    let new = set_resid(&s.uids, has_setuid(c), c.user_ids(), r, e, v);
     leave(c, s, new)
 }
 
@@ -53,7 +53,7 @@ pub fn set_fsuid(c: &mut Cred, s: &Space, f: u32) -> Res
     ensures cred { c.new ≡ (setfsuid s.now c.old f).cred }
 {
     let old = c.user_ids();
-    let new = set_fs(&s.uids, has_setuid(c), old, f);
+    let new = set_fsid(&s.uids, has_setuid(c), old, f);
     c.put_user_ids(new);
     fix_up_fs(c, s, old.fs);
     Res::Id(seen(&s.uids, old.fs))

@@ -1,6 +1,8 @@
 -- Lists of ids that ascend, each once: two with the same members are one list, and so sorting a list and dropping the
 -- repeats gives its set.
-use Rattle.std.proofs.Common.{◌≡◌, ℕ, zero, suc, ◌+◌, ◌<◌, ◌≤◌, ◌==◌, ◌||◌, Bool, true, false, List, [], ◌∷◌, if◌then◌else◌, refl, sym, ◌∙◌, ap, inl, inr, subst, arith, slice_index_or, nat_lt, nat_cmp}
+use Rattle.std.proofs.Common.{◌≡◌, ℕ, zero, suc, ◌+◌, ◌<◌, ◌≤◌, ◌==◌, ◌||◌, Bool, true, false, List, [], ◌∷◌}
+use Rattle.std.proofs.Common.{if◌then◌else◌, refl, sym, ◌∙◌, ap, inl, inr, subst, arith, slice_index_or, nat_lt}
+use Rattle.std.proofs.Common.{nat_cmp}
 use Rattle.std.specs.List.{All, AllPairs, dedup, dedup_from, list_any}
 use Rattle.std.specs.List.Sorted.{IsPermutation, IsSorted}
 use Rattle.std.proofs.Math.Dec.{eqb}
@@ -93,7 +95,8 @@ not_before id other ids others rise same less =
     true≢false (sym (has_first id ids) ∙ same ∙ has_no_less other (other ∷ others) id rise less)
 
 -- and go on alike
-rest_agrees : (id : ℕ) (ids others : List ℕ) → AscendFrom (id + 1) ids → AscendFrom (id + 1) others → ((x : ℕ) → has (id ∷ ids) x ≡ has (id ∷ others) x) → (x : ℕ) → has ids x ≡ has others x
+rest_agrees : (id : ℕ) (ids others : List ℕ) → AscendFrom (id + 1) ids → AscendFrom (id + 1) others
+    → ((x : ℕ) → has (id ∷ ids) x ≡ has (id ∷ others) x) → (x : ℕ) → has ids x ≡ has others x
 rest_agrees id ids others rise climb same x =
     elim (cases_eq id x) [
       | inl here ↦ has_no_less (id + 1) ids x rise (omega arith) ∙ sym (has_no_less (id + 1) others x climb (omega arith))

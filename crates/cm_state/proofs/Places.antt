@@ -1,9 +1,8 @@
 -- Processes whose pids ascend, by their places.
-use Rattle.std.proofs.Common.{◌==◌, not, filter, ◌∙◌, ◌≡◌, ◌≢◌, false, ℕ, zero, suc, ◌<◌, ◌≤◌, ◌+◌, length, List, [], ◌∷◌, Some, None, refl, sym, ap, inl, inr, arith, get_or, slice_get, slice_set}
+use Rattle.std.proofs.Common.{◌==◌, not, filter, ◌∙◌, ◌≡◌, ◌≢◌, false, ℕ, zero, suc, ◌<◌, ◌≤◌, ◌+◌, length, List, []}
+use Rattle.std.proofs.Common.{◌∷◌, Some, None, refl, sym, ap, inl, inr, arith, get_or, slice_get, slice_set}
 use Rattle.std.specs.List.{insert, remove}
-use Rattle.std.specs.Prelude.{nat_lt, All}
-use Rattle.std.proofs.lemmas.List.Elements.{All-cons, All-head, All-tail}
-use Rattle.std.proofs.lemmas.Bool.{cases_order, cond_both, ltb-true, ltb-false, cond-true, cond-false, eq-eqb, ne_eqb, not_from_true, not_from_false}
+use Rattle.std.proofs.lemmas.Bool.{cases_order, cond-true, cond-false, eq-eqb, ne_eqb, not_from_true, not_from_false}
 use Rattle.cm_state.specs.Places.{pid_at, IsPlace}
 use Rattle.model_cred.specs.Process.{Process, Ascends, process_at, put_process, is_alive, insert_process}
 
@@ -85,11 +84,6 @@ pid_of_put [] i new h = absurd (omega arith)
 pid_of_put (p ∷ ps) zero new h = refl
 pid_of_put (p ∷ ps) (suc i) new h = pid_of_put ps i new (omega arith)
 
--- a process that is found by a pid has it
-pub pid_of_found : (ps : List Process) (pid : ℕ) (p : Process) → process_at ps pid ≡ Some p → p.pid ≡ pid
-pid_of_found [] pid p is = absurd (cc)
-pid_of_found (q ∷ ps) pid p is = grind (arith, is, pid_of_found ps pid p)
-
 -- the pids up to a place where the pid is below another are all below it
 pub below_up_to : (ps : List Process) → Ascends ps → (m pid : ℕ) → m < length ps → pid_at ps m < pid → (k : ℕ) → k < m + 1 → pid_at ps k < pid
 below_up_to ps up m pid h lower k lt = grind (arith, ascending ps up k m, lower)
@@ -143,15 +137,19 @@ keeps_others : (ps : List Process) (pid : ℕ) → ((k : ℕ) → k < length ps 
 keeps_others [] pid apart = refl
 keeps_others (p ∷ ps) pid apart =
     let here : p.pid ≢ pid = apart 0 (omega arith) in
-    cond-true (not (p.pid == pid)) (p ∷ filter (λ p. not (p.pid == pid)) ps) (filter (λ p. not (p.pid == pid)) ps) (not_from_false (p.pid == pid) (ne_eqb p.pid pid here))
+    cond-true (not (p.pid == pid)) (p ∷ filter (λ p. not (p.pid == pid)) ps) (filter (λ p. not (p.pid == pid)) ps)
+    (not_from_false (p.pid == pid) (ne_eqb p.pid pid here))
     ∙ ap (λ (l : List Process). p ∷ l) (keeps_others ps pid (λ k lt. apart (suc k) (omega arith)))
 
 -- without the process at a place the list is that of the processes with other pids
-pub remove_at : (ps : List Process) (at : ℕ) (gone : Process) → slice_get ps at ≡ Some gone → Ascends ps → remove ps at ≡ filter (λ p. not (p.pid == gone.pid)) ps
+pub remove_at : (ps : List Process) (at : ℕ) (gone : Process) → slice_get ps at ≡ Some gone → Ascends ps
+    → remove ps at ≡ filter (λ p. not (p.pid == gone.pid)) ps
 remove_at [] at gone is up = absurd (cc)
 remove_at (p ∷ ps) zero gone is up =
     let it : p ≡ gone = cc in
-    let later : (k : ℕ) → k < length ps → pid_at ps k ≢ gone.pid = λ k lt same. let less : p.pid < pid_at ps k = head_below p ps up k lt in absurd (omega (arith, ap (λ (q : Process). q.pid) it)) in
+    let later : (k : ℕ) → k < length ps → pid_at ps k ≢ gone.pid
+    = λ k lt same. let less : p.pid < pid_at ps k = head_below p ps up k lt in
+    absurd (omega (arith, ap (λ (q : Process). q.pid) it)) in
     sym (cond-false (not (p.pid == gone.pid)) (p ∷ filter (λ p. not (p.pid == gone.pid)) ps) (filter (λ p. not (p.pid == gone.pid)) ps)
     (not_from_true (p.pid == gone.pid) (eq-eqb p.pid gone.pid (ap (λ (q : Process). q.pid) it)))
     ∙ keeps_others ps gone.pid later)
@@ -164,35 +162,6 @@ remove_at (p ∷ ps) (suc at) gone is up =
     (not_from_false (p.pid == gone.pid) (ne_eqb p.pid gone.pid apart)))
 
 -- ---- what stays when the list changes
-
-insert_after : (p : Process) (ps : List Process) (new : Process) → p.pid < new.pid → is_alive ps new.pid ≡ false → Ascends (p ∷ ps) → Ascends (p ∷ insert_process new ps)
-insert_after p [] new less dead up = (less, tt)
-insert_after p (q ∷ qs) new less dead up =
-    cond_both (nat_lt new.pid q.pid) (new ∷ q ∷ qs) (q ∷ insert_process new qs) (λ l. Ascends (p ∷ l))
-    (λ first. (less, (ltb-true new.pid q.pid first, up.1)))
-    (λ later.
-    let apart : q.pid ≢ new.pid = not_alive_at (q ∷ qs) new.pid dead 0 (omega arith) in
-    let order : q.pid ≤ new.pid = ltb-false new.pid q.pid later in
-    (up.0, insert_after q qs new (omega (arith, apart)) (grind (arith, dead, apart)) up.1))
-
--- one more process in its place keeps the order
-pub insert_ascends : (ps : List Process) (new : Process) → is_alive ps new.pid ≡ false → Ascends ps → Ascends (insert_process new ps)
-insert_ascends [] new dead up = tt
-insert_ascends (p ∷ ps) new dead up =
-    cond_both (nat_lt new.pid p.pid) (new ∷ p ∷ ps) (p ∷ insert_process new ps) Ascends
-    (λ first. (ltb-true new.pid p.pid first, up))
-    (λ later.
-    let apart : p.pid ≢ new.pid = not_alive_at (p ∷ ps) new.pid dead 0 (omega arith) in
-    let order : p.pid ≤ new.pid = ltb-false new.pid p.pid later in
-    insert_after p ps new (omega (arith, apart)) (grind (arith, dead, apart)) up)
-
--- what holds of each process and of one more holds of each with it
-pub insert_all : (P : Process → Type 0) (ps : List Process) (new : Process) → P new → All P ps → All P (insert_process new ps)
-insert_all P [] new holds all = All-cons P new [] holds all
-insert_all P (p ∷ ps) new holds all =
-    cond_both (nat_lt new.pid p.pid) (new ∷ p ∷ ps) (p ∷ insert_process new ps) (All P)
-    (λ first. All-cons P new (p ∷ ps) holds all)
-    (λ later. All-cons P p (insert_process new ps) (All-head P p ps all) (insert_all P ps new holds (All-tail P p ps all)))
 
 remove_after : (p : Process) (ps : List Process) (at : ℕ) → Ascends (p ∷ ps) → Ascends (p ∷ remove ps at)
 remove_after p [] zero up = tt

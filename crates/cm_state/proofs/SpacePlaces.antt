@@ -29,8 +29,10 @@ pub space_at_place : (list : Spaces) (n : ℕ) (s : Space) → n < length list �
 space_at_place list n s h is =
     let back : length list - 1 - (length list - 1 - n) ≡ n = omega arith in
     let counted : length (reverse list) ≡ length list = length-reverse list in
-    let there : space_at (reverse list) n ≡ Some (get_or (reverse list) (length (reverse list) - 1 - n) s) = found (reverse list) n s (omega (arith, counted)) in
-    let turned : get_or (reverse list) (length list - 1 - n) s ≡ get_or list (length list - 1 - (length list - 1 - n)) s = get_or-reverse list (length list - 1 - n) s (omega arith) in
+    let there : space_at (reverse list) n ≡ Some (get_or (reverse list) (length (reverse list) - 1 - n) s)
+    = found (reverse list) n s (omega (arith, counted)) in
+    let turned : get_or (reverse list) (length list - 1 - n) s ≡ get_or list (length list - 1 - (length list - 1 - n)) s
+    = get_or-reverse list (length list - 1 - n) s (omega arith) in
     sym (there ∙ ap Some (rw (counted, turned, back) (sym is)))
 
 -- and there is none past the end

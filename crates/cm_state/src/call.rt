@@ -7,7 +7,7 @@ use crate::Ids;
 use cm_base::CapWord;
 use cm_filter::CallKind;
 
-/// A call with its arguments: ids as the caller's user namespace sees them, 4294967295 for -1.
+/// A call with its arguments: ids as the caller's user namespace sees them, or -1.
 #[derive(Debug, Drop)]
 pub enum Call {
     /// setuid(2): the effective id, or with CAP_SETUID the real, effective and saved id.

@@ -1,7 +1,7 @@
 // The four ids that a process has of users, and of groups (credentials(7), "User and group identifiers"), as numbers: what
 // holds for both is written once, and where a credential's ids are taken out or put back it shows which they are.
-ghost use Rattle.std.specs.Prelude.{◌≡◌, ◌<◌};
-ghost use Rattle.model_cred.specs.Credential.{is_one_of_three, all_four};
+ghost use Rattle.std.specs.Prelude.{◌≡◌};
+ghost use Rattle.model_cred.specs.Credential.{IsId, is_one_of_three, all_four};
 
 use crate::Cred;
 use cm_base::{Kgid, Kuid};
@@ -31,7 +31,7 @@ impl Model for FourIds {
 impl FourIds {
     /// Four times the one id.
     pub fn all(id: u32) -> FourIds
-        requires { id < 4294967295 }
+        requires { IsId id }
         ensures { result ≡ all_four id }
     {
         FourIds {

@@ -2,7 +2,7 @@
 // set that the machine makes of it.
 use std::marker::Model;
 
-/// A list of ids as the caller's user namespace sees them, 4294967295 for -1: the list as given.
+/// A list of ids as the caller's user namespace sees them, or -1: the list as given.
 #[derive(Debug, Drop)]
 pub struct Ids {
     list: Vec<u32>,

@@ -17,13 +17,14 @@ pub struct Spaces {
 
 impl Model for Spaces {
     ghost use Rattle.std.specs.Prelude.{◌≤◌, length, reverse};
+    ghost use Rattle.cm_base.specs.Limits.{greatest_number};
     ghost use Rattle.model_cred.specs.Space as model;
 
     ghost Value = { model.Spaces };
 
     ghost view = { λ spaces. reverse spaces.list.items };
 
-    ghost invariant = { λ spaces. model.IsTree (reverse spaces.list.items) × (length spaces.list.items ≤ 4294967295) };
+    ghost invariant = { λ spaces. model.IsTree (reverse spaces.list.items) × (length spaces.list.items ≤ greatest_number) };
 }
 
 impl Spaces {

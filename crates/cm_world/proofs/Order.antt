@@ -7,15 +7,17 @@ use Rattle.std.proofs.lemmas.List.Elements.{All-nil}
 use Rattle.std.specs.BTreeMap.{is_at, insert_entry}
 use Rattle.std.specs.Map.{lookup, keys_of, values_of}
 use Rattle.std.specs.List.{list_any}
+use Rattle.model_cred.proofs.Lookups.{alive_cons}
+use Rattle.model_cred.proofs.Orders.{insert_ascends, all_insert}
 use Rattle.toml.specs.View.{view, items_view}
 use Rattle.toml.specs.declared.value.Value.{Value}
-use Rattle.cm_world.proofs.Placing.{apart, Ascends-placed, All-placed, placed_all, placed_all-none, placed_all-placed, are_apart, are_apart-none, are_apart-placed, pids_of, among-pids_of, parents_stand-placed}
+use Rattle.cm_world.proofs.Placing.{apart, placed_all, placed_all-none, placed_all-placed, are_apart, are_apart-none, are_apart-placed, pids_of, among-pids_of, parents_stand-placed}
 use Rattle.cm_world.specs.World.{world_in}
-use Rattle.model_cred.specs.Process.{Process, Ascends}
+use Rattle.model_cred.specs.Process.{Process, Ascends, is_alive, insert_process}
 use Rattle.model_cred.specs.Space.{first_spaces}
 use Rattle.model_cred.specs.World.{World, Script}
 use Rattle.model_text.specs.ProcessText.{process_row}
-use Rattle.model_text.specs.WorldText.{WorldText, Reads, Bad, process_rows, one_more, distinct_world, are_distinct, has_pid, placed, is_among, parents_stand}
+use Rattle.model_text.specs.WorldText.{WorldText, Reads, Bad, process_rows, one_more, distinct_world, are_distinct, is_among, parents_stand}
 
 -- ---- the map
 -- each process at its pid
@@ -48,14 +50,14 @@ pub has_parent : (entries : List (ℕ × Process)) (forebear : Option ℕ) (pid 
 has_parent entries forebear pid parent is same = rw (is, same) (lookup-keys_of parent entries)
 
 -- the map finds a pid where the list has it
-lookup-by_pid : (pid : ℕ) (processes : List Process) → is_some (lookup (is_at (nat_cmp pid)) (by_pid processes)) ≡ has_pid pid processes
+lookup-by_pid : (pid : ℕ) (processes : List Process) → is_some (lookup (is_at (nat_cmp pid)) (by_pid processes)) ≡ is_alive processes pid
 lookup-by_pid pid processes = lookup-keys_of pid (by_pid processes) ∙ ap (list_any (λ other. other == pid)) (keys_of-by_pid processes) ∙ among-pids_of pid processes
 
 -- an insert of a new pid places its process
-insert_entry-by_pid : (p : Process) (processes : List Process) → has_pid p.pid processes ≡ false → insert_entry nat_cmp (by_pid processes) p.pid p ≡ by_pid (placed p processes)
+insert_entry-by_pid : (p : Process) (processes : List Process) → is_alive processes p.pid ≡ false → insert_entry nat_cmp (by_pid processes) p.pid p ≡ by_pid (insert_process p processes)
 insert_entry-by_pid p [] new = refl
 insert_entry-by_pid p (q ∷ processes) new =
-    let (here, more) = or_parts (q.pid == p.pid) (has_pid p.pid processes) new in
+    let (here, more) = or_parts (q.pid == p.pid) (is_alive processes p.pid) (sym (alive_cons q processes p.pid) ∙ new) in
     elim (apart p.pid q.pid here) [
       | inl w ↦ rw w.0
       | inr w ↦ rw (w.0, w.1) (ap (λ es. (q.pid, q) ∷ es) (insert_entry-by_pid p processes more))
@@ -80,22 +82,22 @@ and_false true = refl
 and_false false = refl
 
 -- a later row's process, whose pid is new and whose parent stands, is placed
-onto_one_more : (p : Process) (so_far : List Process) (rest : Option (List Process)) → has_pid p.pid so_far ≡ false → is_among (pids_of so_far) p.forebear ≡ true → world_onto so_far (one_more (Some p) rest) ≡ world_onto (placed p so_far) rest
+onto_one_more : (p : Process) (so_far : List Process) (rest : Option (List Process)) → is_alive so_far p.pid ≡ false → is_among (pids_of so_far) p.forebear ≡ true → world_onto so_far (one_more (Some p) rest) ≡ world_onto (insert_process p so_far) rest
 onto_one_more p so_far None new stands = refl
 onto_one_more p so_far (Some more) new stands =
     rw (new, stands, are_apart-placed p so_far more, parents_stand-placed p so_far more)
-    (elim (cases_Bool (has_pid p.pid more)) [
+    (elim (cases_Bool (is_alive more p.pid)) [
       | inl twice ↦ rw (twice, and_false (are_apart so_far more))
       | inr once ↦ rw (once, placed_all-placed p so_far more once)
     ])
 
-onto_twice : (p : Process) (so_far : List Process) (rest : Option (List Process)) → has_pid p.pid so_far ≡ true → world_onto so_far (one_more (Some p) rest) ≡ Bad
+onto_twice : (p : Process) (so_far : List Process) (rest : Option (List Process)) → is_alive so_far p.pid ≡ true → world_onto so_far (one_more (Some p) rest) ≡ Bad
 onto_twice p so_far None there = refl
 onto_twice p so_far (Some more) there = rw there
 
 onto_no_parent : (p : Process) (so_far : List Process) (rest : Option (List Process)) → is_among (pids_of so_far) p.forebear ≡ false → world_onto so_far (one_more (Some p) rest) ≡ Bad
 onto_no_parent p so_far None none = refl
-onto_no_parent p so_far (Some more) none = rw (none, and_false (not (has_pid p.pid more) && are_distinct more), and_false (not (has_pid p.pid so_far) && are_apart so_far more))
+onto_no_parent p so_far (Some more) none = rw (none, and_false (not (is_alive more p.pid) && are_distinct more), and_false (not (is_alive so_far p.pid) && are_apart so_far more))
 
 -- ---- the rows so far
 -- The entries are the processes of the rows before this place, by ascending pid and in the initial space; those of the
@@ -142,12 +144,12 @@ module _ (rows : List Value) (at : ℕ) (entries : List (ℕ × Process)) (read 
 
         pub AreRead-more : is_some (lookup (is_at (nat_cmp pid)) entries) ≡ false → is_among (keys_of entries) p.forebear ≡ true → p.space ≡ 0 → AreRead rows (at + 1) (insert_entry nat_cmp entries pid p)
         AreRead-more none stands space =
-            let new : has_pid p.pid read.processes ≡ false = rw (← lookup-by_pid p.pid read.processes, ← read.by_pid, ← same) none in
+            let new : is_alive read.processes p.pid ≡ false = rw (← lookup-by_pid p.pid read.processes, ← read.by_pid, ← same) none in
             record {
-              processes = placed p read.processes;
+              processes = insert_process p read.processes;
               by_pid = rw (same, read.by_pid) (insert_entry-by_pid p read.processes new);
-              ordered = Ascends-placed p read.processes new read.ordered;
-              initial = All-placed (λ q. q.space < length first_spaces) p read.processes (rw space (omega arith)) read.initial;
+              ordered = insert_ascends p read.processes new read.ordered;
+              initial = all_insert (λ q. q.space < length first_spaces) p read.processes (rw space (omega arith)) read.initial;
               world = sym (onto_one_more p read.processes (process_rows (items_view (drop (at + 1) rows))) new (rw (← keys_of-by_pid read.processes, ← read.by_pid) stands))
                   ∙ sym (rw (drop-here, is_process) refl) ∙ read.world;
             }

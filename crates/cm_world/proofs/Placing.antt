@@ -5,8 +5,9 @@ use Rattle.std.proofs.lemmas.Bool.{cases_Bool, or_parts}
 use Rattle.std.proofs.lemmas.Bool.Decides.{nat_tests}
 use Rattle.std.proofs.lemmas.List.Elements.{All-cons, All-head, All-tail}
 use Rattle.std.specs.List.{list_any}
-use Rattle.model_cred.specs.Process.{Process, Ascends}
-use Rattle.model_text.specs.WorldText.{has_pid, placed, in_order, is_among, parents_stand}
+use Rattle.model_cred.proofs.Lookups.{alive_cons, alive_inserted}
+use Rattle.model_cred.specs.Process.{Process, is_alive, insert_process}
+use Rattle.model_text.specs.WorldText.{in_order, is_among, parents_stand}
 
 -- how the pids of two processes stand to one another, where they aren't one
 pub apart : (a b : ℕ) → (b == a) ≡ false → ((nat_lt a b ≡ true) × (a < b)) ⊎ ((nat_lt a b ≡ false) × ((a == b) ≡ false) × (b < a))
@@ -19,45 +20,8 @@ or_swap false true c = refl
 or_swap false false c = refl
 
 -- ---- one more process
--- a placed process is one more
-has_pid-placed : (pid : ℕ) (p : Process) (processes : List Process) → has_pid pid (placed p processes) ≡ (p.pid == pid || has_pid pid processes)
-has_pid-placed pid p [] = refl
-has_pid-placed pid p (q ∷ processes) =
-    elim (cases_Bool (nat_lt p.pid q.pid)) [
-      | inl below ↦ rw below
-      | inr above ↦ rw above (ap (λ b. q.pid == pid || b) (has_pid-placed pid p processes) ∙ or_swap (q.pid == pid) (p.pid == pid) (has_pid pid processes))
-    ]
-
--- a process placed after one with a lower pid
-Ascends-placed_after : (q p : Process) (processes : List Process) → q.pid < p.pid → has_pid p.pid processes ≡ false → Ascends (q ∷ processes) → Ascends (q ∷ placed p processes)
-Ascends-placed_after q p [] lt new up = (lt, tt)
-Ascends-placed_after q p (r ∷ processes) lt new up =
-    let (here, more) = or_parts (r.pid == p.pid) (has_pid p.pid processes) new in
-    elim (apart p.pid r.pid here) [
-      | inl w ↦ rw w.0 (lt, (w.1, up.1))
-      | inr w ↦ rw w.0 (up.0, Ascends-placed_after r p processes w.2 more up.1)
-    ]
-
-pub Ascends-placed : (p : Process) (processes : List Process) → has_pid p.pid processes ≡ false → Ascends processes → Ascends (placed p processes)
-Ascends-placed p [] new up = tt
-Ascends-placed p (q ∷ processes) new up =
-    let (here, more) = or_parts (q.pid == p.pid) (has_pid p.pid processes) new in
-    elim (apart p.pid q.pid here) [
-      | inl w ↦ rw w.0 (w.1, up)
-      | inr w ↦ rw w.0 (Ascends-placed_after q p processes w.2 more up)
-    ]
-
--- what holds of a process and of others holds of all with it placed
-pub All-placed : (P : Process → Type 0) (p : Process) (processes : List Process) → P p → All P processes → All P (placed p processes)
-All-placed P p [] is all = All-cons P p [] is all
-All-placed P p (q ∷ processes) is all =
-    elim (nat_lt p.pid q.pid) as (λ (b : Bool). All P (cond b (p ∷ q ∷ processes) (q ∷ placed p processes))) [
-      | true ↦ All-cons P p (q ∷ processes) is all
-      | false ↦ All-cons P q (placed p processes) (All-head P q processes all) (All-placed P p processes is (All-tail P q processes all))
-    ]
-
 -- two processes may be placed in either order
-placed_swap : (p q : Process) (processes : List Process) → (p.pid == q.pid) ≡ false → placed p (placed q processes) ≡ placed q (placed p processes)
+placed_swap : (p q : Process) (processes : List Process) → (p.pid == q.pid) ≡ false → insert_process p (insert_process q processes) ≡ insert_process q (insert_process p processes)
 placed_swap p q [] ne = grind (arith, nat_tests, ne)
 placed_swap p q (r ∷ processes) ne = grind (arith, nat_tests, ne, placed_swap p q processes ne)
 
@@ -65,23 +29,23 @@ placed_swap p q (r ∷ processes) ne = grind (arith, nat_tests, ne, placed_swap 
 -- the processes of later rows placed among those so far
 abbrev pub placed_all : List Process → List Process → List Process
 placed_all so_far [] = so_far
-placed_all so_far (p ∷ more) = placed p (placed_all so_far more)
+placed_all so_far (p ∷ more) = insert_process p (placed_all so_far more)
 
 pub placed_all-none : (more : List Process) → placed_all [] more ≡ in_order more
 placed_all-none [] = refl
-placed_all-none (p ∷ more) = ap (placed p) (placed_all-none more)
+placed_all-none (p ∷ more) = ap (insert_process p) (placed_all-none more)
 
 -- the first of them may be placed first
-pub placed_all-placed : (p : Process) (so_far more : List Process) → has_pid p.pid more ≡ false → placed_all (placed p so_far) more ≡ placed p (placed_all so_far more)
+pub placed_all-placed : (p : Process) (so_far more : List Process) → is_alive more p.pid ≡ false → placed_all (insert_process p so_far) more ≡ insert_process p (placed_all so_far more)
 placed_all-placed p so_far [] new = refl
 placed_all-placed p so_far (q ∷ more) new =
-    let (here, later) = or_parts (q.pid == p.pid) (has_pid p.pid more) new in
-    ap (placed q) (placed_all-placed p so_far more later) ∙ placed_swap q p (placed_all so_far more) here
+    let (here, later) = or_parts (q.pid == p.pid) (is_alive more p.pid) (sym (alive_cons q more p.pid) ∙ new) in
+    ap (insert_process q) (placed_all-placed p so_far more later) ∙ placed_swap q p (placed_all so_far more) here
 
 -- no pid of the later ones is among those so far
 abbrev pub are_apart : List Process → List Process → Bool
 are_apart so_far [] = true
-are_apart so_far (p ∷ more) = not (has_pid p.pid so_far) && are_apart so_far more
+are_apart so_far (p ∷ more) = not (is_alive so_far p.pid) && are_apart so_far more
 
 pub are_apart-none : (more : List Process) → are_apart [] more ≡ true
 are_apart-none [] = refl
@@ -98,10 +62,11 @@ not_either false false true d = refl
 not_either false false false d = refl
 
 -- they are apart from one more, where it isn't one of them
-pub are_apart-placed : (p : Process) (so_far more : List Process) → are_apart (placed p so_far) more ≡ (not (has_pid p.pid more) && are_apart so_far more)
+pub are_apart-placed : (p : Process) (so_far more : List Process) → are_apart (insert_process p so_far) more ≡ (not (is_alive more p.pid) && are_apart so_far more)
 are_apart-placed p so_far [] = refl
 are_apart-placed p so_far (q ∷ more) =
-    rw (has_pid-placed q.pid p so_far, are_apart-placed p so_far more, same_swapped p.pid q.pid) (not_either (q.pid == p.pid) (has_pid q.pid so_far) (has_pid p.pid more) (are_apart so_far more))
+    rw (alive_inserted p so_far q.pid, are_apart-placed p so_far more, alive_cons q more p.pid, same_swapped p.pid q.pid)
+    (not_either (q.pid == p.pid) (is_alive so_far q.pid) (is_alive more p.pid) (are_apart so_far more))
 
 -- ---- parents
 -- the pids of processes
@@ -109,9 +74,10 @@ abbrev pub pids_of : List Process → List ℕ
 pids_of [] = []
 pids_of (p ∷ processes) = p.pid ∷ pids_of processes
 
-pub among-pids_of : (pid : ℕ) (processes : List Process) → list_any (λ other. other == pid) (pids_of processes) ≡ has_pid pid processes
+pub among-pids_of : (pid : ℕ) (processes : List Process) → list_any (λ other. other == pid) (pids_of processes) ≡ is_alive processes pid
 among-pids_of pid [] = refl
-among-pids_of pid (p ∷ processes) = ap (λ b. p.pid == pid || b) (among-pids_of pid processes)
+among-pids_of pid (p ∷ processes) =
+    ap (λ b. p.pid == pid || b) (among-pids_of pid processes) ∙ sym (alive_cons p processes pid)
 
 -- the same pids, in whatever order
 AreSame : List ℕ → List ℕ → Type 0
@@ -129,8 +95,8 @@ parents_stand-same some others (p ∷ processes) same =
     rw (is_among-same some others p.forebear same, parents_stand-same (p.pid ∷ some) (p.pid ∷ others) processes (λ pid. ap (λ b. p.pid == pid || b) (same pid)))
 
 -- a placed process may be a parent
-pub parents_stand-placed : (p : Process) (so_far more : List Process) → parents_stand (pids_of (placed p so_far)) more ≡ parents_stand (p.pid ∷ pids_of so_far) more
+pub parents_stand-placed : (p : Process) (so_far more : List Process) → parents_stand (pids_of (insert_process p so_far)) more ≡ parents_stand (p.pid ∷ pids_of so_far) more
 unfolding AreSame
 parents_stand-placed p so_far more =
-    parents_stand-same (pids_of (placed p so_far)) (p.pid ∷ pids_of so_far) more
-    (λ pid. among-pids_of pid (placed p so_far) ∙ has_pid-placed pid p so_far ∙ ap (λ b. p.pid == pid || b) (sym (among-pids_of pid so_far)))
+    parents_stand-same (pids_of (insert_process p so_far)) (p.pid ∷ pids_of so_far) more
+    (λ pid. among-pids_of pid (insert_process p so_far) ∙ alive_inserted p so_far pid ∙ ap (λ b. p.pid == pid || b) (sym (among-pids_of pid so_far)))

@@ -1,5 +1,6 @@
 -- The calls that change the caller's credential alone keep it within its row: one law for each call, of one credential.
-use Rattle.std.proofs.Common.{◌≡◌, ℕ, Bool, true, false, ◌&&◌, ◌||◌, not, Some, None, Option, List, [], ◌∷◌, length, refl, sym, ◌∙◌, inl, inr, ltb, eqb, Result, Ok}
+use Rattle.std.proofs.Common.{◌≡◌, ℕ, Bool, true, false, ◌&&◌, ◌||◌, not, Some, None, Option, List, [], ◌∷◌, length}
+use Rattle.std.proofs.Common.{refl, sym, ◌∙◌, inl, inr, ltb, eqb, Result, Ok}
 use Rattle.std.specs.Prelude.{◌⊎◌, ◌==◌, IsTrue, nat_lt, is_none, bit_and, bit_xor, option_map, option_and_then, if◌then◌else◌}
 use Rattle.std.specs.declared.result.Result.TheVariants.{Err}
 use Rattle.std.specs.List.{list_any}
@@ -7,7 +8,9 @@ use Rattle.std.proofs.lemmas.Bool.{false≢true, and_parts, and_from, or_cases, 
 use Rattle.cm_base.specs.CapSet.{holds, is_within, union, meet, minus, none, with, without, single}
 use Rattle.cm_base.specs.declared.errno.Errno.{Errno}
 use Rattle.cm_base.specs.declared.errno.Errno.TheVariants.{EPERM, EINVAL}
-use Rattle.cm_base.proofs.CapSets.{holds_none, holds_union, holds_meet, holds_minus, holds_single, member_of_wider, within_from_members, within_reflexive, within_transitive, none_within, meet_within_first, meet_within_second, union_within, minus_within}
+use Rattle.cm_base.proofs.CapSets.{holds_none, holds_union, holds_meet, holds_minus, holds_single, member_of_wider}
+use Rattle.cm_base.proofs.CapSets.{within_from_members, within_reflexive, within_transitive, none_within}
+use Rattle.cm_base.proofs.CapSets.{meet_within_first, meet_within_second, union_within, minus_within}
 use Rattle.cm_filter.specs.declared.kind.CallKind.{CallKind}
 use Rattle.cm_filter.specs.declared.kind.CallKind.TheVariants as kind
 use Rattle.model_cred.specs.Credential.{Credential, FourIds, id_set, insert_id}
@@ -16,40 +19,76 @@ use Rattle.model_cred.specs.IdMap.{Extent, down, extents_of, is_outside}
 use Rattle.model_cred.specs.Space.{Space, Spaces, stands, space_of}
 use Rattle.model_rules.specs.Answer.{Answer, done, refused}
 use Rattle.model_rules.specs.Caps.{cap_setuid, cap_setgid, cap_setpcap, fs_caps, last_cap}
-use Rattle.model_rules.specs.CapCalls.{has_setpcap, may_capset, with_capset, capset, bset_drop, may_raise, amb_raise, amb_lower, amb_clear, may_secure, secure_bits, without_keep_caps, with_keep_caps, set_keep_caps, set_no_new_privs}
+use Rattle.model_rules.specs.CapCalls.{has_setpcap, may_capset, with_capset, capset, bset_drop, may_raise, amb_raise}
+use Rattle.model_rules.specs.CapCalls.{amb_lower, amb_clear, may_secure, secure_bits, without_keep_caps, with_keep_caps}
+use Rattle.model_rules.specs.CapCalls.{set_keep_caps, set_no_new_privs}
 use Rattle.model_rules.specs.Fixups.{without_root, after_losing_root, following_effective, fixed_up, following_fs, fs_fixed_up}
 use Rattle.model_rules.specs.Securebits.{has_flag, keep_caps, no_setuid_fixup, no_cap_ambient_raise, lock_of, noroot, locks, locked_flags}
 use Rattle.model_rules.specs.SetGroups.{setgroups, with_groups, all_down, most_groups}
-use Rattle.model_rules.specs.SetId.{with_uids, with_gids, has_setuid, has_setgid, setuid, setreuid, setresuid, setfsuid, setgid, setregid, setresgid, setfsgid, set_res, set_re, set_one, set_fs}
+use Rattle.model_rules.specs.SetId.{with_uids, with_gids, has_setuid, has_setgid, setuid, setreuid, setresuid, setfsuid}
+use Rattle.model_rules.specs.SetId.{setgid, setregid, setresgid, setfsgid, setresid, setreid, setid, setfsid}
 use Rattle.model_rules.specs.Zero.{is_zero, has_zero}
-use Rattle.model_box.specs.Row.{Part, Uids, EffectiveUids, FsUids, Gids, EffectiveGids, FsGids, Groups, MappedUids, MappedGids, PermittedCaps, InheritableCaps, BoundingCaps, RootCounts, LockClear, Row, space_under, HasMembers}
+use Rattle.model_box.specs.Row.{Part, Uids, EffectiveUids, FsUids, Gids, EffectiveGids, FsGids, Groups, MappedUids}
+use Rattle.model_box.specs.Row.{MappedGids, PermittedCaps, InheritableCaps, BoundingCaps, RootCounts, LockClear, Row}
+use Rattle.model_box.specs.Row.{space_under, HasMembers}
 use Rattle.model_box.specs.Rule.{SetUid, SetFsUid, SetGid, SetFsGid, SetGroups, CapSet, SecureBits}
 use Rattle.model_box.specs.Closed.{Closed}
 use Rattle.model_box.specs.Covers.{MapsIn}
 use Rattle.model_box.specs.Gains.{SettableUid, SettableGid}
-use Rattle.model_box.proofs.Ids.{IdsIn, OkIn, down_outside, set_res_in, set_re_in, set_one_in, set_fs_in}
+use Rattle.model_box.proofs.Ids.{IdsIn, OkIn, down_outside, setresid_in, setreid_in, setid_in, setfsid_in}
 use Rattle.model_box.proofs.Rows.{Fine, noroot_is, lock_is, locked_stays}
 use Rattle.model_box.proofs.Writing.{choose}
 
 -- ---- fixups: the ids stay, and the sets shrink
 module _ (row : Part → ℕ → Type 0) where
   -- other effective and ambient sets change nothing of what the row holds
-  with_effective_fine : (c : Credential) → Fine row c → (effective : ℕ) → IsTrue (is_within effective c.permitted) → Fine row (record c { effective = effective })
+  with_effective_fine : (c : Credential) → Fine row c → (effective : ℕ) → IsTrue (is_within effective c.permitted)
+      → Fine row (record c { effective = effective })
   with_effective_fine c fine effective within = record {
-    held = record { uid = fine.held.uid; gid = fine.held.gid; groups = fine.held.groups; permitted = fine.held.permitted; inheritable = fine.held.inheritable; bounding = fine.held.bounding; new_privs = fine.held.new_privs; root = fine.held.root; lock = fine.held.lock };
+    held = record {
+      uid = fine.held.uid;
+      gid = fine.held.gid;
+      groups = fine.held.groups;
+      permitted = fine.held.permitted;
+      inheritable = fine.held.inheritable;
+      bounding = fine.held.bounding;
+      new_privs = fine.held.new_privs;
+      root = fine.held.root;
+      lock = fine.held.lock;
+    };
     included = record { effective = within; ambient_permitted = fine.included.ambient_permitted; ambient_inheritable = fine.included.ambient_inheritable };
   }
 
   with_ambient_fine : (c : Credential) → Fine row c → (ambient : ℕ) → IsTrue (is_within ambient c.permitted) → IsTrue (is_within ambient c.inheritable)
       → Fine row (record c { ambient = ambient })
   with_ambient_fine c fine ambient permitted inheritable = record {
-    held = record { uid = fine.held.uid; gid = fine.held.gid; groups = fine.held.groups; permitted = fine.held.permitted; inheritable = fine.held.inheritable; bounding = fine.held.bounding; new_privs = fine.held.new_privs; root = fine.held.root; lock = fine.held.lock };
+    held = record {
+      uid = fine.held.uid;
+      gid = fine.held.gid;
+      groups = fine.held.groups;
+      permitted = fine.held.permitted;
+      inheritable = fine.held.inheritable;
+      bounding = fine.held.bounding;
+      new_privs = fine.held.new_privs;
+      root = fine.held.root;
+      lock = fine.held.lock;
+    };
     included = record { effective = fine.included.effective; ambient_permitted = permitted; ambient_inheritable = inheritable };
   }
 
   no_sets_fine : (c : Credential) → Fine row c → Fine row (record c { permitted = none; effective = none; ambient = none })
   no_sets_fine c fine = record {
-    held = record { uid = fine.held.uid; gid = fine.held.gid; groups = fine.held.groups; permitted = λ x held. absurd (false≢true (sym (holds_none x) ∙ held)); inheritable = fine.held.inheritable; bounding = fine.held.bounding; new_privs = fine.held.new_privs; root = fine.held.root; lock = fine.held.lock };
+    held = record {
+      uid = fine.held.uid;
+      gid = fine.held.gid;
+      groups = fine.held.groups;
+      permitted = λ x held. absurd (false≢true (sym (holds_none x) ∙ held));
+      inheritable = fine.held.inheritable;
+      bounding = fine.held.bounding;
+      new_privs = fine.held.new_privs;
+      root = fine.held.root;
+      lock = fine.held.lock;
+    };
     included = record { effective = refl; ambient_permitted = refl; ambient_inheritable = none_within c.inheritable };
   }
 
@@ -79,9 +118,15 @@ module _ (row : Part → ℕ → Type 0) where
   following_fs_fine s old c fine =
       choose (Fine row) (is_zero s old && not (is_zero s c.uid.fs)) (record c { effective = minus c.effective fs_caps })
       (if not (is_zero s old) && is_zero s c.uid.fs then record c { effective = union c.effective (meet c.permitted fs_caps) } else c)
-      (λ _. with_effective_fine c fine (minus c.effective fs_caps) (within_transitive (minus c.effective fs_caps) c.effective c.permitted (minus_within c.effective fs_caps) fine.included.effective))
+      (λ _.
+      with_effective_fine c fine (minus c.effective fs_caps)
+      (within_transitive (minus c.effective fs_caps) c.effective c.permitted
+      (minus_within c.effective fs_caps) fine.included.effective))
       (λ _. choose (Fine row) (not (is_zero s old) && is_zero s c.uid.fs) (record c { effective = union c.effective (meet c.permitted fs_caps) }) c
-      (λ _. with_effective_fine c fine (union c.effective (meet c.permitted fs_caps)) (union_within c.effective (meet c.permitted fs_caps) c.permitted fine.included.effective (meet_within_first c.permitted fs_caps)))
+      (λ _.
+      with_effective_fine c fine (union c.effective (meet c.permitted fs_caps))
+      (union_within c.effective (meet c.permitted fs_caps) c.permitted fine.included.effective
+      (meet_within_first c.permitted fs_caps)))
       (λ _. fine))
 
   fs_fixed_up_fine : (s : Space) (old : ℕ) (c : Credential) → Fine row c → Fine row (fs_fixed_up s old c)
@@ -89,23 +134,55 @@ module _ (row : Part → ℕ → Type 0) where
       choose (Fine row) (has_flag c no_setuid_fixup) c (following_fs s old c) (λ _. fine) (λ _. following_fs_fine s old c fine)
 
   -- other user ids, within the row too
-  pub with_uid_fine : (c : Credential) → Fine row c → (ids : FourIds) → IdsIn (row Uids) (row EffectiveUids) (row FsUids) ids → Fine row (record c { uid = ids })
+  pub with_uid_fine : (c : Credential) → Fine row c → (ids : FourIds)
+      → IdsIn (row Uids) (row EffectiveUids) (row FsUids) ids → Fine row (record c { uid = ids })
   with_uid_fine c fine ids new = record {
-    held = record { uid = new; gid = fine.held.gid; groups = fine.held.groups; permitted = fine.held.permitted; inheritable = fine.held.inheritable; bounding = fine.held.bounding; new_privs = fine.held.new_privs; root = fine.held.root; lock = fine.held.lock };
-    included = record { effective = fine.included.effective; ambient_permitted = fine.included.ambient_permitted; ambient_inheritable = fine.included.ambient_inheritable };
+    held = record {
+      uid = new;
+      gid = fine.held.gid;
+      groups = fine.held.groups;
+      permitted = fine.held.permitted;
+      inheritable = fine.held.inheritable;
+      bounding = fine.held.bounding;
+      new_privs = fine.held.new_privs;
+      root = fine.held.root;
+      lock = fine.held.lock;
+    };
+    included = record {
+      effective = fine.included.effective;
+      ambient_permitted = fine.included.ambient_permitted;
+      ambient_inheritable = fine.included.ambient_inheritable;
+    };
   }
 
-  pub with_gid_fine : (c : Credential) → Fine row c → (ids : FourIds) → IdsIn (row Gids) (row EffectiveGids) (row FsGids) ids → Fine row (record c { gid = ids })
+  pub with_gid_fine : (c : Credential) → Fine row c → (ids : FourIds)
+      → IdsIn (row Gids) (row EffectiveGids) (row FsGids) ids → Fine row (record c { gid = ids })
   with_gid_fine c fine ids new = record {
-    held = record { uid = fine.held.uid; gid = new; groups = fine.held.groups; permitted = fine.held.permitted; inheritable = fine.held.inheritable; bounding = fine.held.bounding; new_privs = fine.held.new_privs; root = fine.held.root; lock = fine.held.lock };
-    included = record { effective = fine.included.effective; ambient_permitted = fine.included.ambient_permitted; ambient_inheritable = fine.included.ambient_inheritable };
+    held = record {
+      uid = fine.held.uid;
+      gid = new;
+      groups = fine.held.groups;
+      permitted = fine.held.permitted;
+      inheritable = fine.held.inheritable;
+      bounding = fine.held.bounding;
+      new_privs = fine.held.new_privs;
+      root = fine.held.root;
+      lock = fine.held.lock;
+    };
+    included = record {
+      effective = fine.included.effective;
+      ambient_permitted = fine.included.ambient_permitted;
+      ambient_inheritable = fine.included.ambient_inheritable;
+    };
   }
 
-  with_uids_fine : (s : Space) (c : Credential) → Fine row c → (r : Result FourIds Errno) → OkIn (IdsIn (row Uids) (row EffectiveUids) (row FsUids)) r → Fine row (with_uids s c r).cred
+  with_uids_fine : (s : Space) (c : Credential) → Fine row c → (r : Result FourIds Errno)
+      → OkIn (IdsIn (row Uids) (row EffectiveUids) (row FsUids)) r → Fine row (with_uids s c r).cred
   with_uids_fine s c fine (Ok ids) new = fixed_up_fine s c.uid (record c { uid = ids }) (with_uid_fine c fine ids new)
   with_uids_fine s c fine (Err e) new = fine
 
-  with_gids_fine : (c : Credential) → Fine row c → (r : Result FourIds Errno) → OkIn (IdsIn (row Gids) (row EffectiveGids) (row FsGids)) r → Fine row (with_gids c r).cred
+  with_gids_fine : (c : Credential) → Fine row c → (r : Result FourIds Errno)
+      → OkIn (IdsIn (row Gids) (row EffectiveGids) (row FsGids)) r → Fine row (with_gids c r).cred
   with_gids_fine c fine (Ok ids) new = with_gid_fine c fine ids new
   with_gids_fine c fine (Err e) new = fine
 
@@ -113,7 +190,8 @@ module _ (row : Part → ℕ → Type 0) where
 inserted : (id : ℕ) (ids : List ℕ) (x : ℕ) → IsTrue (list_any (λ g. eqb g x) (insert_id id ids)) → (id ≡ x) ⊎ IsTrue (list_any (λ g. eqb g x) ids)
 inserted id [] x held = elim (or_cases (eqb id x) false held) [ inl same ↦ inl (eqb-true id x same) | inr wrong ↦ absurd (false≢true wrong) ]
 inserted id (other ∷ ids) x held = by (ltb id other) (id == other) held (λ there. inserted id ids x there) where
-  head_or : (P : Bool) → IsTrue (eqb other x || P) → (IsTrue P → (id ≡ x) ⊎ IsTrue (list_any (λ g. eqb g x) ids)) → (id ≡ x) ⊎ IsTrue (list_any (λ g. eqb g x) (other ∷ ids))
+  head_or : (P : Bool) → IsTrue (eqb other x || P) → (IsTrue P → (id ≡ x) ⊎ IsTrue (list_any (λ g. eqb g x) ids))
+      → (id ≡ x) ⊎ IsTrue (list_any (λ g. eqb g x) (other ∷ ids))
   head_or P held' rest =
       elim (or_cases (eqb other x) P held') [
         | inl same ↦ inr (or_left (eqb other x) (list_any (λ g. eqb g x) ids) same)
@@ -140,7 +218,8 @@ in_id_set (id ∷ ids) x held =
       | inr there ↦ or_right (eqb id x) (list_any (λ g. eqb g x) ids) (in_id_set ids x there)
     ]
 
-all_outside : (map : List Extent) (list ids : List ℕ) → all_down map list ≡ Some ids → (x : ℕ) → IsTrue (list_any (λ g. eqb g x) ids) → IsTrue (is_outside map x)
+all_outside : (map : List Extent) (list ids : List ℕ) → all_down map list ≡ Some ids → (x : ℕ)
+    → IsTrue (list_any (λ g. eqb g x) ids) → IsTrue (is_outside map x)
 all_outside map [] ids down' x held = let none_ : [] ≡ ids = cc in absurd (false≢true (rw (← none_) at held))
 all_outside map (i ∷ list) ids down' x held = first (λ more rest there. all_outside map list more rest x there) (down map i) refl down' where
   second : ((more : List ℕ) → all_down map list ≡ Some more → IsTrue (list_any (λ g. eqb g x) more) → IsTrue (is_outside map x)) → (k : ℕ)
@@ -182,24 +261,32 @@ module _ (permitted : CallKind → Bool) (files : FileTable) (old : Spaces) (bou
 
     pub setresuid_fine : (r e v : ℕ) → Fine (bounds row) (setresuid s c r e v).cred
     setresuid_fine r e v =
-        with_uids_fine (bounds row) s c fine (set_res (extents_of s.uids) (has_setuid c) c.uid r e v)
-        (set_res_in (bounds row Uids) (bounds row EffectiveUids) (bounds row FsUids) (bounds row MappedUids) (bounds row PermittedCaps cap_setuid) (extents_of s.uids) maps.uids (has_setuid c) (cap_in cap_setuid) c.uid fine.held.uid uid_gain uid_old uid_fs r e v)
+        with_uids_fine (bounds row) s c fine (setresid (extents_of s.uids) (has_setuid c) c.uid r e v)
+        (setresid_in (bounds row Uids) (bounds row EffectiveUids) (bounds row FsUids) (bounds row MappedUids)
+        (bounds row PermittedCaps cap_setuid) (extents_of s.uids) maps.uids (has_setuid c)
+        (cap_in cap_setuid) c.uid fine.held.uid uid_gain uid_old uid_fs r e v)
 
     pub setreuid_fine : (r e : ℕ) → Fine (bounds row) (setreuid s c r e).cred
     setreuid_fine r e =
-        with_uids_fine (bounds row) s c fine (set_re (extents_of s.uids) (has_setuid c) c.uid r e)
-        (set_re_in (bounds row Uids) (bounds row EffectiveUids) (bounds row FsUids) (bounds row MappedUids) (bounds row PermittedCaps cap_setuid) (extents_of s.uids) maps.uids (has_setuid c) (cap_in cap_setuid) c.uid fine.held.uid uid_gain uid_old uid_fs r e)
+        with_uids_fine (bounds row) s c fine (setreid (extents_of s.uids) (has_setuid c) c.uid r e)
+        (setreid_in (bounds row Uids) (bounds row EffectiveUids) (bounds row FsUids) (bounds row MappedUids)
+        (bounds row PermittedCaps cap_setuid) (extents_of s.uids) maps.uids (has_setuid c)
+        (cap_in cap_setuid) c.uid fine.held.uid uid_gain uid_old uid_fs r e)
 
     pub setuid_fine : (id : ℕ) → Fine (bounds row) (setuid s c id).cred
     setuid_fine id =
-        with_uids_fine (bounds row) s c fine (set_one (extents_of s.uids) (has_setuid c) c.uid id)
-        (set_one_in (bounds row Uids) (bounds row EffectiveUids) (bounds row FsUids) (bounds row MappedUids) (bounds row PermittedCaps cap_setuid) (extents_of s.uids) maps.uids (has_setuid c) (cap_in cap_setuid) c.uid fine.held.uid uid_gain uid_old uid_fs id)
+        with_uids_fine (bounds row) s c fine (setid (extents_of s.uids) (has_setuid c) c.uid id)
+        (setid_in (bounds row Uids) (bounds row EffectiveUids) (bounds row FsUids) (bounds row MappedUids)
+        (bounds row PermittedCaps cap_setuid) (extents_of s.uids) maps.uids (has_setuid c)
+        (cap_in cap_setuid) c.uid fine.held.uid uid_gain uid_old uid_fs id)
 
   pub setfsuid_fine : IsTrue (permitted kind.SetFsUid) → (id : ℕ) → Fine (bounds row) (setfsuid s c id).cred
   setfsuid_fine allowed id =
-      fs_fixed_up_fine (bounds row) s c.uid.fs (record c { uid = set_fs (extents_of s.uids) (has_setuid c) c.uid id })
-      (with_uid_fine (bounds row) c fine (set_fs (extents_of s.uids) (has_setuid c) c.uid id)
-      (set_fs_in (bounds row Uids) (bounds row EffectiveUids) (bounds row FsUids) (bounds row MappedUids) (bounds row PermittedCaps cap_setuid) (extents_of s.uids) maps.uids (has_setuid c) (cap_in cap_setuid) c.uid fine.held.uid
+      fs_fixed_up_fine (bounds row) s c.uid.fs (record c { uid = setfsid (extents_of s.uids) (has_setuid c) c.uid id })
+      (with_uid_fine (bounds row) c fine (setfsid (extents_of s.uids) (has_setuid c) c.uid id)
+      (setfsid_in (bounds row Uids) (bounds row EffectiveUids) (bounds row FsUids) (bounds row MappedUids)
+      (bounds row PermittedCaps cap_setuid) (extents_of s.uids) maps.uids (has_setuid c)
+      (cap_in cap_setuid) c.uid fine.held.uid
       (λ x set. closed SetFsUid row standing FsUids x (allowed, members, set)) id))
 
   module _ (allowed : IsTrue (permitted kind.SetGid || permitted kind.SetReGid || permitted kind.SetResGid)) where
@@ -214,23 +301,31 @@ module _ (permitted : CallKind → Bool) (files : FileTable) (old : Spaces) (bou
 
     pub setresgid_fine : (r e v : ℕ) → Fine (bounds row) (setresgid s c r e v).cred
     setresgid_fine r e v =
-        with_gids_fine (bounds row) c fine (set_res (extents_of s.gids) (has_setgid c) c.gid r e v)
-        (set_res_in (bounds row Gids) (bounds row EffectiveGids) (bounds row FsGids) (bounds row MappedGids) (bounds row PermittedCaps cap_setgid) (extents_of s.gids) maps.gids (has_setgid c) (cap_in cap_setgid) c.gid fine.held.gid gid_gain gid_old gid_fs r e v)
+        with_gids_fine (bounds row) c fine (setresid (extents_of s.gids) (has_setgid c) c.gid r e v)
+        (setresid_in (bounds row Gids) (bounds row EffectiveGids) (bounds row FsGids) (bounds row MappedGids)
+        (bounds row PermittedCaps cap_setgid) (extents_of s.gids) maps.gids (has_setgid c)
+        (cap_in cap_setgid) c.gid fine.held.gid gid_gain gid_old gid_fs r e v)
 
     pub setregid_fine : (r e : ℕ) → Fine (bounds row) (setregid s c r e).cred
     setregid_fine r e =
-        with_gids_fine (bounds row) c fine (set_re (extents_of s.gids) (has_setgid c) c.gid r e)
-        (set_re_in (bounds row Gids) (bounds row EffectiveGids) (bounds row FsGids) (bounds row MappedGids) (bounds row PermittedCaps cap_setgid) (extents_of s.gids) maps.gids (has_setgid c) (cap_in cap_setgid) c.gid fine.held.gid gid_gain gid_old gid_fs r e)
+        with_gids_fine (bounds row) c fine (setreid (extents_of s.gids) (has_setgid c) c.gid r e)
+        (setreid_in (bounds row Gids) (bounds row EffectiveGids) (bounds row FsGids) (bounds row MappedGids)
+        (bounds row PermittedCaps cap_setgid) (extents_of s.gids) maps.gids (has_setgid c)
+        (cap_in cap_setgid) c.gid fine.held.gid gid_gain gid_old gid_fs r e)
 
     pub setgid_fine : (id : ℕ) → Fine (bounds row) (setgid s c id).cred
     setgid_fine id =
-        with_gids_fine (bounds row) c fine (set_one (extents_of s.gids) (has_setgid c) c.gid id)
-        (set_one_in (bounds row Gids) (bounds row EffectiveGids) (bounds row FsGids) (bounds row MappedGids) (bounds row PermittedCaps cap_setgid) (extents_of s.gids) maps.gids (has_setgid c) (cap_in cap_setgid) c.gid fine.held.gid gid_gain gid_old gid_fs id)
+        with_gids_fine (bounds row) c fine (setid (extents_of s.gids) (has_setgid c) c.gid id)
+        (setid_in (bounds row Gids) (bounds row EffectiveGids) (bounds row FsGids) (bounds row MappedGids)
+        (bounds row PermittedCaps cap_setgid) (extents_of s.gids) maps.gids (has_setgid c)
+        (cap_in cap_setgid) c.gid fine.held.gid gid_gain gid_old gid_fs id)
 
   pub setfsgid_fine : IsTrue (permitted kind.SetFsGid) → (id : ℕ) → Fine (bounds row) (setfsgid s c id).cred
   setfsgid_fine allowed id =
-      with_gid_fine (bounds row) c fine (set_fs (extents_of s.gids) (has_setgid c) c.gid id)
-      (set_fs_in (bounds row Gids) (bounds row EffectiveGids) (bounds row FsGids) (bounds row MappedGids) (bounds row PermittedCaps cap_setgid) (extents_of s.gids) maps.gids (has_setgid c) (cap_in cap_setgid) c.gid fine.held.gid
+      with_gid_fine (bounds row) c fine (setfsid (extents_of s.gids) (has_setgid c) c.gid id)
+      (setfsid_in (bounds row Gids) (bounds row EffectiveGids) (bounds row FsGids) (bounds row MappedGids)
+      (bounds row PermittedCaps cap_setgid) (extents_of s.gids) maps.gids (has_setgid c)
+      (cap_in cap_setgid) c.gid fine.held.gid
       (λ x set. closed SetFsGid row standing FsGids x (allowed, members, set)) id)
 
   -- setgroups(2): the word of the query holds as long as it is "deny"
@@ -240,7 +335,9 @@ module _ (permitted : CallKind → Bool) (files : FileTable) (old : Spaces) (bou
       choose (λ (a : Answer). Fine (bounds row) a.cred) (not (has_setgid c) || is_none s.gids || s.deny) (refused EPERM c)
       (if nat_lt most_groups (length ids) then refused EINVAL c else with_groups c (all_down (extents_of s.gids) ids))
       (λ _. fine)
-      (λ may. choose (λ (a : Answer). Fine (bounds row) a.cred) (ltb most_groups (length ids)) (refused EINVAL c) (with_groups c (all_down (extents_of s.gids) ids)) (λ _. fine)
+      (λ may.
+      choose (λ (a : Answer). Fine (bounds row) a.cred) (ltb most_groups (length ids)) (refused EINVAL c)
+      (with_groups c (all_down (extents_of s.gids) ids)) (λ _. fine)
       (λ _. go (all_down (extents_of s.gids) ids) refl
       (not-false (has_setgid c) (or_false_left (not (has_setgid c)) (is_none s.gids) (or_false_left (not (has_setgid c) || is_none s.gids) s.deny may)))
       (or_false_right (not (has_setgid c) || is_none s.gids) s.deny may))) where
@@ -262,8 +359,15 @@ module _ (permitted : CallKind → Bool) (files : FileTable) (old : Spaces) (bou
           held = record {
             uid = fine.held.uid;
             gid = fine.held.gid;
-            groups = λ x held. closed SetGroups row standing Groups x
-                (allowed, members, allow free (space_of old (space_under row)).deny refl, (cap_in cap_setgid has, maps.gids x (all_outside (extents_of s.gids) ids list down' x (in_id_set list x held))));
+            groups = λ x held. closed SetGroups row standing Groups x (
+              allowed,
+              members,
+              allow free (space_of old (space_under row)).deny refl,
+              (
+                cap_in cap_setgid has,
+                maps.gids x (all_outside (extents_of s.gids) ids list down' x (in_id_set list x held)),
+              ),
+            );
             permitted = fine.held.permitted;
             inheritable = fine.held.inheritable;
             bounding = fine.held.bounding;
@@ -271,7 +375,11 @@ module _ (permitted : CallKind → Bool) (files : FileTable) (old : Spaces) (bou
             root = fine.held.root;
             lock = fine.held.lock;
           };
-          included = record { effective = fine.included.effective; ambient_permitted = fine.included.ambient_permitted; ambient_inheritable = fine.included.ambient_inheritable };
+          included = record {
+            effective = fine.included.effective;
+            ambient_permitted = fine.included.ambient_permitted;
+            ambient_inheritable = fine.included.ambient_inheritable;
+          };
         }
 
   -- capset(2)
@@ -285,7 +393,11 @@ module _ (permitted : CallKind → Bool) (files : FileTable) (old : Spaces) (bou
             gid = fine.held.gid;
             groups = fine.held.groups;
             permitted = λ x held. fine.held.permitted x (member_of_wider p c.permitted three.1 x held);
-            inheritable = λ x held. by x (or_cases (holds c.inheritable x) (holds c.bounding x) (sym (holds_union c.inheritable c.bounding x) ∙ member_of_wider i (union c.inheritable c.bounding) two.1 x held)) held;
+            inheritable =
+                λ x held.
+                by x (or_cases (holds c.inheritable x) (holds c.bounding x)
+                (sym (holds_union c.inheritable c.bounding x)
+                ∙ member_of_wider i (union c.inheritable c.bounding) two.1 x held)) held;
             bounding = fine.held.bounding;
             new_privs = fine.held.new_privs;
             root = fine.held.root;
@@ -293,30 +405,50 @@ module _ (permitted : CallKind → Bool) (files : FileTable) (old : Spaces) (bou
           };
           included = record {
             effective = four.1;
-            ambient_permitted = within_transitive (meet (meet c.ambient p) i) (meet c.ambient p) p (meet_within_first (meet c.ambient p) i) (meet_within_second c.ambient p);
+            ambient_permitted =
+                within_transitive (meet (meet c.ambient p) i) (meet c.ambient p) p
+                (meet_within_first (meet c.ambient p) i) (meet_within_second c.ambient p);
             ambient_inheritable = meet_within_second (meet c.ambient p) i;
           };
         } where
-          four : IsTrue ((has_setpcap c || is_within i (union c.inheritable c.permitted)) && is_within i (union c.inheritable c.bounding) && is_within p c.permitted) × IsTrue (is_within e p)
-          four = and_parts ((has_setpcap c || is_within i (union c.inheritable c.permitted)) && is_within i (union c.inheritable c.bounding) && is_within p c.permitted) (is_within e p) may
+          four : IsTrue ((has_setpcap c || is_within i (union c.inheritable c.permitted))
+              && is_within i (union c.inheritable c.bounding) && is_within p c.permitted)
+              × IsTrue (is_within e p)
+          four =
+              and_parts ((has_setpcap c || is_within i (union c.inheritable c.permitted))
+              && is_within i (union c.inheritable c.bounding) && is_within p c.permitted)
+              (is_within e p) may
 
-          three : IsTrue ((has_setpcap c || is_within i (union c.inheritable c.permitted)) && is_within i (union c.inheritable c.bounding)) × IsTrue (is_within p c.permitted)
-          three = and_parts ((has_setpcap c || is_within i (union c.inheritable c.permitted)) && is_within i (union c.inheritable c.bounding)) (is_within p c.permitted) four.0
+          three : IsTrue ((has_setpcap c || is_within i (union c.inheritable c.permitted))
+              && is_within i (union c.inheritable c.bounding))
+              × IsTrue (is_within p c.permitted)
+          three =
+              and_parts ((has_setpcap c || is_within i (union c.inheritable c.permitted))
+              && is_within i (union c.inheritable c.bounding))
+              (is_within p c.permitted) four.0
 
           two : IsTrue (has_setpcap c || is_within i (union c.inheritable c.permitted)) × IsTrue (is_within i (union c.inheritable c.bounding))
           two = and_parts (has_setpcap c || is_within i (union c.inheritable c.permitted)) (is_within i (union c.inheritable c.bounding)) three.0
 
-          gains : (x : ℕ) → (bounds row PermittedCaps x × bounds row BoundingCaps x) ⊎ (bounds row PermittedCaps cap_setpcap × bounds row BoundingCaps x) → bounds row InheritableCaps x
+          gains : (x : ℕ)
+              → (bounds row PermittedCaps x × bounds row BoundingCaps x)
+              ⊎ (bounds row PermittedCaps cap_setpcap × bounds row BoundingCaps x)
+              → bounds row InheritableCaps x
           gains x gain = closed CapSet row standing InheritableCaps x (allowed, members, gain)
 
-          by_permitted : (x : ℕ) → IsTrue (holds c.bounding x) → (IsTrue (holds c.inheritable x)) ⊎ (IsTrue (holds c.permitted x)) → bounds row InheritableCaps x
+          by_permitted : (x : ℕ) → IsTrue (holds c.bounding x)
+              → (IsTrue (holds c.inheritable x)) ⊎ (IsTrue (holds c.permitted x)) → bounds row InheritableCaps x
           by_permitted x b (inl old_one) = fine.held.inheritable x old_one
           by_permitted x b (inr one) = gains x (inl (fine.held.permitted x one, fine.held.bounding x b))
 
-          by_cap : (x : ℕ) → IsTrue (holds c.bounding x) → IsTrue (holds i x) → (IsTrue (has_setpcap c)) ⊎ (IsTrue (is_within i (union c.inheritable c.permitted))) → bounds row InheritableCaps x
+          by_cap : (x : ℕ) → IsTrue (holds c.bounding x) → IsTrue (holds i x)
+              → (IsTrue (has_setpcap c)) ⊎ (IsTrue (is_within i (union c.inheritable c.permitted)))
+              → bounds row InheritableCaps x
           by_cap x b held (inl cap) = gains x (inr (cap_in cap_setpcap cap, fine.held.bounding x b))
           by_cap x b held (inr within) =
-              by_permitted x b (or_cases (holds c.inheritable x) (holds c.permitted x) (sym (holds_union c.inheritable c.permitted x) ∙ member_of_wider i (union c.inheritable c.permitted) within x held))
+              by_permitted x b (or_cases (holds c.inheritable x) (holds c.permitted x)
+              (sym (holds_union c.inheritable c.permitted x)
+              ∙ member_of_wider i (union c.inheritable c.permitted) within x held))
 
           by : (x : ℕ) → (IsTrue (holds c.inheritable x)) ⊎ (IsTrue (holds c.bounding x)) → IsTrue (holds i x) → bounds row InheritableCaps x
           by x (inl old_one) held = fine.held.inheritable x old_one
@@ -327,7 +459,9 @@ module _ (permitted : CallKind → Bool) (files : FileTable) (old : Spaces) (bou
   bset_drop_fine cap =
       choose (λ (a : Answer). Fine (bounds row) a.cred) (not (has_setpcap c)) (refused EPERM c)
       (if nat_lt last_cap cap then refused EINVAL c else done (record c { bounding = without c.bounding cap })) (λ _. fine)
-      (λ _. choose (λ (a : Answer). Fine (bounds row) a.cred) (ltb last_cap cap) (refused EINVAL c) (done (record c { bounding = without c.bounding cap })) (λ _. fine) (λ _. less)) where
+      (λ _.
+      choose (λ (a : Answer). Fine (bounds row) a.cred) (ltb last_cap cap) (refused EINVAL c)
+      (done (record c { bounding = without c.bounding cap })) (λ _. fine) (λ _. less)) where
         less : Fine (bounds row) (record c { bounding = without c.bounding cap })
         less = record {
           held = record {
@@ -341,7 +475,11 @@ module _ (permitted : CallKind → Bool) (files : FileTable) (old : Spaces) (bou
             root = fine.held.root;
             lock = fine.held.lock;
           };
-          included = record { effective = fine.included.effective; ambient_permitted = fine.included.ambient_permitted; ambient_inheritable = fine.included.ambient_inheritable };
+          included = record {
+            effective = fine.included.effective;
+            ambient_permitted = fine.included.ambient_permitted;
+            ambient_inheritable = fine.included.ambient_inheritable;
+          };
         }
 
   -- PR_CAP_AMBIENT_RAISE, LOWER and CLEAR_ALL: the ambient set is within the permitted one, which has a part
@@ -349,9 +487,13 @@ module _ (permitted : CallKind → Bool) (files : FileTable) (old : Spaces) (bou
   amb_raise_fine cap =
       choose (λ (a : Answer). Fine (bounds row) a.cred) (ltb last_cap cap) (refused EINVAL c)
       (if may_raise c cap then done (record c { ambient = with c.ambient cap }) else refused EPERM c) (λ _. fine)
-      (λ _. choose (λ (a : Answer). Fine (bounds row) a.cred) (may_raise c cap) (done (record c { ambient = with c.ambient cap })) (refused EPERM c) (λ may. more may) (λ _. fine)) where
+      (λ _.
+      choose (λ (a : Answer). Fine (bounds row) a.cred) (may_raise c cap)
+      (done (record c { ambient = with c.ambient cap })) (refused EPERM c) (λ may. more may) (λ _. fine)) where
         single_within : (set : ℕ) → IsTrue (holds set cap) → IsTrue (is_within (single cap) set)
-        single_within set has = within_from_members (single cap) set (λ x held. let same : x ≡ cap = eqb-true x cap (sym (holds_single cap x) ∙ held) in rw same has)
+        single_within set has =
+            within_from_members (single cap) set
+            (λ x held. let same : x ≡ cap = eqb-true x cap (sym (holds_single cap x) ∙ held) in rw same has)
 
         more : IsTrue (may_raise c cap) → Fine (bounds row) (record c { ambient = with c.ambient cap })
         more may =
@@ -375,21 +517,44 @@ module _ (permitted : CallKind → Bool) (files : FileTable) (old : Spaces) (bou
   with_bits_fine : (bits : ℕ) → ((has_flag (record c { securebits = bits }) noroot ≡ false) → bounds row RootCounts 0)
       → ((has_flag (record c { securebits = bits }) (lock_of noroot) ≡ false) → bounds row LockClear 0) → Fine (bounds row) (record c { securebits = bits })
   with_bits_fine bits root lock = record {
-    held = record { uid = fine.held.uid; gid = fine.held.gid; groups = fine.held.groups; permitted = fine.held.permitted; inheritable = fine.held.inheritable; bounding = fine.held.bounding; new_privs = fine.held.new_privs; root = root; lock = lock };
-    included = record { effective = fine.included.effective; ambient_permitted = fine.included.ambient_permitted; ambient_inheritable = fine.included.ambient_inheritable };
+    held = record {
+      uid = fine.held.uid;
+      gid = fine.held.gid;
+      groups = fine.held.groups;
+      permitted = fine.held.permitted;
+      inheritable = fine.held.inheritable;
+      bounding = fine.held.bounding;
+      new_privs = fine.held.new_privs;
+      root = root;
+      lock = lock;
+    };
+    included = record {
+      effective = fine.included.effective;
+      ambient_permitted = fine.included.ambient_permitted;
+      ambient_inheritable = fine.included.ambient_inheritable;
+    };
   }
 
   -- PR_SET_SECUREBITS: a locked flag stays, and a lock is never cleared
   pub secure_bits_fine : IsTrue (permitted kind.SecureBits) → (bits : ℕ) → Fine (bounds row) (secure_bits c bits).cred
   secure_bits_fine allowed bits =
-      choose (λ (a : Answer). Fine (bounds row) a.cred) (may_secure c bits) (done (record c { securebits = bits })) (refused EPERM c) (λ may. new may) (λ _. fine) where
+      choose (λ (a : Answer). Fine (bounds row) a.cred) (may_secure c bits) (done (record c { securebits = bits }))
+      (refused EPERM c) (λ may. new may) (λ _. fine) where
         new : IsTrue (may_secure c bits) → Fine (bounds row) (record c { securebits = bits })
         new may = with_bits_fine bits root_by lock_by where
-          three : IsTrue (has_setpcap c && bit_and (bit_xor c.securebits bits) (locked_flags c.securebits) == 0 && is_within (bit_and c.securebits locks) bits) × IsTrue (nat_lt bits 256)
-          three = and_parts (has_setpcap c && bit_and (bit_xor c.securebits bits) (locked_flags c.securebits) == 0 && is_within (bit_and c.securebits locks) bits) (nat_lt bits 256) may
+          three : IsTrue (has_setpcap c && bit_and (bit_xor c.securebits bits) (locked_flags c.securebits) == 0
+              && is_within (bit_and c.securebits locks) bits)
+              × IsTrue (nat_lt bits 256)
+          three =
+              and_parts (has_setpcap c && bit_and (bit_xor c.securebits bits) (locked_flags c.securebits) == 0
+              && is_within (bit_and c.securebits locks) bits)
+              (nat_lt bits 256) may
 
-          two : IsTrue (has_setpcap c && bit_and (bit_xor c.securebits bits) (locked_flags c.securebits) == 0) × IsTrue (is_within (bit_and c.securebits locks) bits)
-          two = and_parts (has_setpcap c && bit_and (bit_xor c.securebits bits) (locked_flags c.securebits) == 0) (is_within (bit_and c.securebits locks) bits) three.0
+          two : IsTrue (has_setpcap c && bit_and (bit_xor c.securebits bits) (locked_flags c.securebits) == 0)
+              × IsTrue (is_within (bit_and c.securebits locks) bits)
+          two =
+              and_parts (has_setpcap c && bit_and (bit_xor c.securebits bits) (locked_flags c.securebits) == 0)
+              (is_within (bit_and c.securebits locks) bits) three.0
 
           one : IsTrue (has_setpcap c) × IsTrue (bit_and (bit_xor c.securebits bits) (locked_flags c.securebits) == 0)
           one = and_parts (has_setpcap c) (bit_and (bit_xor c.securebits bits) (locked_flags c.securebits) == 0) two.0
@@ -398,7 +563,9 @@ module _ (permitted : CallKind → Bool) (files : FileTable) (old : Spaces) (bou
           new_cred = record c { securebits = bits }
 
           lock_kept : holds c.securebits 1 ≡ true → holds bits 1 ≡ true
-          lock_kept set = member_of_wider (bit_and c.securebits locks) bits two.1 1 (holds_meet c.securebits locks 1 ∙ and_from (holds c.securebits 1) (holds locks 1) set refl)
+          lock_kept set =
+              member_of_wider (bit_and c.securebits locks) bits two.1 1
+              (holds_meet c.securebits locks 1 ∙ and_from (holds c.securebits 1) (holds locks 1) set refl)
 
           lock_by : has_flag (record c { securebits = bits }) (lock_of noroot) ≡ false → bounds row LockClear 0
           lock_by clear = by (cases_Bool (holds c.securebits 1)) where
@@ -408,7 +575,8 @@ module _ (permitted : CallKind → Bool) (files : FileTable) (old : Spaces) (bou
 
           root_by : has_flag (record c { securebits = bits }) noroot ≡ false → bounds row RootCounts 0
           root_by clear = by (cases_Bool (holds c.securebits 0)) (cases_Bool (holds c.securebits 1)) where
-            by : (holds c.securebits 0 ≡ true) ⊎ (holds c.securebits 0 ≡ false) → (holds c.securebits 1 ≡ true) ⊎ (holds c.securebits 1 ≡ false) → bounds row RootCounts 0
+            by : (holds c.securebits 0 ≡ true) ⊎ (holds c.securebits 0 ≡ false)
+                → (holds c.securebits 1 ≡ true) ⊎ (holds c.securebits 1 ≡ false) → bounds row RootCounts 0
             by (inr free) other = fine.held.root (noroot_is c ∙ free)
             by (inl set) (inl locked) =
                 absurd (false≢true (sym (sym (noroot_is (record c { securebits = bits })) ∙ clear) ∙ locked_stays c.securebits bits one.1 locked set))
@@ -432,11 +600,13 @@ module _ (permitted : CallKind → Bool) (files : FileTable) (old : Spaces) (bou
 
   pub without_keep_caps_fine : Fine (bounds row) (without_keep_caps c)
   without_keep_caps_fine =
-      other_flags (minus c.securebits keep_caps) (holds_minus c.securebits keep_caps 0 ∙ and_yes (holds c.securebits 0)) (holds_minus c.securebits keep_caps 1 ∙ and_yes (holds c.securebits 1))
+      other_flags (minus c.securebits keep_caps) (holds_minus c.securebits keep_caps 0 ∙ and_yes (holds c.securebits 0))
+      (holds_minus c.securebits keep_caps 1 ∙ and_yes (holds c.securebits 1))
 
   with_keep_caps_fine : Fine (bounds row) (with_keep_caps c)
   with_keep_caps_fine =
-      other_flags (union c.securebits keep_caps) (holds_union c.securebits keep_caps 0 ∙ or_no (holds c.securebits 0)) (holds_union c.securebits keep_caps 1 ∙ or_no (holds c.securebits 1))
+      other_flags (union c.securebits keep_caps) (holds_union c.securebits keep_caps 0 ∙ or_no (holds c.securebits 0))
+      (holds_union c.securebits keep_caps 1 ∙ or_no (holds c.securebits 1))
 
   pub set_keep_caps_fine : (argument : ℕ) → Fine (bounds row) (set_keep_caps c argument).cred
   set_keep_caps_fine argument =
@@ -444,14 +614,31 @@ module _ (permitted : CallKind → Bool) (files : FileTable) (old : Spaces) (bou
       (if has_flag c (lock_of keep_caps) then refused EPERM c else if argument == 0 then done (without_keep_caps c) else done (with_keep_caps c)) (λ _. fine)
       (λ _. choose (λ (a : Answer). Fine (bounds row) a.cred) (has_flag c (lock_of keep_caps)) (refused EPERM c)
       (if argument == 0 then done (without_keep_caps c) else done (with_keep_caps c)) (λ _. fine)
-      (λ _. choose (λ (a : Answer). Fine (bounds row) a.cred) (argument == 0) (done (without_keep_caps c)) (done (with_keep_caps c)) (λ _. without_keep_caps_fine) (λ _. with_keep_caps_fine)))
+      (λ _.
+      choose (λ (a : Answer). Fine (bounds row) a.cred) (argument == 0) (done (without_keep_caps c))
+      (done (with_keep_caps c)) (λ _. without_keep_caps_fine) (λ _. with_keep_caps_fine)))
 
   -- PR_SET_NO_NEW_PRIVS: the flag is never cleared
   pub set_no_new_privs_fine : (argument : ℕ) → Fine (bounds row) (set_no_new_privs c argument).cred
   set_no_new_privs_fine argument =
-      choose (λ (a : Answer). Fine (bounds row) a.cred) (argument == 1) (done (record c { no_new_privs = true })) (refused EINVAL c) (λ _. set) (λ _. fine) where
+      choose (λ (a : Answer). Fine (bounds row) a.cred) (argument == 1) (done (record c { no_new_privs = true }))
+      (refused EINVAL c) (λ _. set) (λ _. fine) where
         set : Fine (bounds row) (record c { no_new_privs = true })
         set = record {
-          held = record { uid = fine.held.uid; gid = fine.held.gid; groups = fine.held.groups; permitted = fine.held.permitted; inheritable = fine.held.inheritable; bounding = fine.held.bounding; new_privs = λ clear. absurd (false≢true (sym clear)); root = fine.held.root; lock = fine.held.lock };
-          included = record { effective = fine.included.effective; ambient_permitted = fine.included.ambient_permitted; ambient_inheritable = fine.included.ambient_inheritable };
+          held = record {
+            uid = fine.held.uid;
+            gid = fine.held.gid;
+            groups = fine.held.groups;
+            permitted = fine.held.permitted;
+            inheritable = fine.held.inheritable;
+            bounding = fine.held.bounding;
+            new_privs = λ clear. absurd (false≢true (sym clear));
+            root = fine.held.root;
+            lock = fine.held.lock;
+          };
+          included = record {
+            effective = fine.included.effective;
+            ambient_permitted = fine.included.ambient_permitted;
+            ambient_inheritable = fine.included.ambient_inheritable;
+          };
         }

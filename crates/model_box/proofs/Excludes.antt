@@ -10,7 +10,7 @@ use Rattle.cm_filter.specs.declared.kind.CallKind.{CallKind}
 use Rattle.model_cred.specs.Credential.{Keeps}
 use Rattle.model_cred.specs.Process.{Process, State, KeepsState, process_at}
 use Rattle.model_cred.specs.Right.{Right, Cap, Uid, Gid}
-use Rattle.model_cred.specs.Space.{Space, Spaces, IsTree, space_of, is_ancestor}
+use Rattle.model_cred.specs.Space.{Space, Spaces, IsTree, space_of, is_at_or_above}
 use Rattle.model_cred.specs.World.{World}
 use Rattle.model_run.specs.Holds.{process_holds, holds_for, holds_right}
 use Rattle.model_run.specs.Later.{is_member, Later}
@@ -20,8 +20,8 @@ use Rattle.model_box.specs.Closed.{Closed}
 use Rattle.model_box.specs.Covers.{RowOf, Covers}
 use Rattle.model_box.specs.Covers as rows
 use Rattle.model_box.specs.Meets.{Meets, MeetsCap, IsOverStanding}
-use Rattle.model_box.proofs.Trees.{Earlier, space_of_newest, space_of_older, ancestor_below, power_cases}
-use Rattle.model_box.proofs.Fits.{MemberFits, ancestor_stays, next_stays}
+use Rattle.model_box.proofs.Trees.{Earlier, space_of_newest, space_of_older, at_or_above_low, power_cases}
+use Rattle.model_box.proofs.Fits.{MemberFits, at_or_above_stays, next_stays}
 use Rattle.model_box.proofs.Steps.{row_for}
 use Rattle.model_box.proofs.Runs.{Kept, later_kept}
 
@@ -30,7 +30,10 @@ pub tree_earlier : (spaces : Spaces) → IsTree spaces → Earlier spaces
 tree_earlier [] wrong n p parent = absurd wrong
 tree_earlier (s ∷ []) top n p parent =
     elim (cases_eq n 0) [
-      | inl same ↦ absurd (let up : s.parent ≡ Some p = sym (ap (λ (x : Space). x.parent) (space_of_newest s [])) ∙ (rw same at parent) in let none : s.parent ≡ None = top in cc)
+      | inl same ↦
+          absurd (let up : s.parent ≡ Some p
+          = sym (ap (λ (x : Space). x.parent) (space_of_newest s [])) ∙ (rw same at parent) in
+          let none : s.parent ≡ None = top in cc)
       | inr other ↦ absurd (let up : None ≡ Some p = sym (ap (λ (x : Space). x.parent) (space_of_older s [] n other)) ∙ parent in cc)
     ]
 tree_earlier (s ∷ t ∷ older) tree n p parent =
@@ -51,7 +54,8 @@ all_named P (x ∷ ps) all q p at = go (eqb x.pid q) at (λ rest. all_named P ps
   go false same rest = rest same
 
 -- what the query keeps, as a run keeps it
-pub kept_at_start : (s : State) (members : List ℕ) (bounds : Row → Part → ℕ → Type 0) → KeepsState s → Covers s s members bounds → Kept s.spaces s members bounds
+pub kept_at_start : (s : State) (members : List ℕ) (bounds : Row → Part → ℕ → Type 0) → KeepsState s
+    → Covers s s members bounds → Kept s.spaces s members bounds
 kept_at_start s members bounds keeps covers = record {
   spaces = record {
     before = tree_earlier s.spaces keeps.tree;
@@ -78,7 +82,8 @@ covers_kept old s members bounds kept = record {
 }
 
 module _ (permitted : CallKind → Bool) (w : World) (s : State) (members : List ℕ) (bounds : Row → Part → ℕ → Type 0)
-    (keeps : KeepsState s) (files_fit : FilesFit w.files s.spaces) (covers : Covers s s members bounds) (closed : Closed permitted w.files s.spaces bounds) where
+    (keeps : KeepsState s) (files_fit : FilesFit w.files s.spaces) (covers : Covers s s members bounds)
+    (closed : Closed permitted w.files s.spaces bounds) where
   -- Bounds that cover the members at the query and are closed cover them after every later run.
   pub soundness : (events : List Event) (later : State) (members_then : List ℕ) → Later permitted w s members events later members_then
       → Covers s later members_then bounds
@@ -86,21 +91,26 @@ module _ (permitted : CallKind → Bool) (w : World) (s : State) (members : List
       covers_kept s later members_then bounds
       (later_kept permitted w s.spaces bounds closed files_fit s members events later members_then (kept_at_start s members bounds keeps covers) run)
 
-  module _ (later : State) (members_then : List ℕ) (kept : Kept s.spaces later members_then bounds) (p : Process) (fits : MemberFits s.spaces later.spaces bounds p.space p.cred) where
+  module _ (later : State) (members_then : List ℕ) (kept : Kept s.spaces later members_then bounds) (p : Process)
+      (fits : MemberFits s.spaces later.spaces bounds p.space p.cred) where
     -- who holds a right is in a row that meets it
     holder_meets : (right : Right) → IsOverStanding s.spaces right → IsTrue (holds_right later.spaces p.space p.cred right) → Meets s.spaces bounds right
     holder_meets (Cap capability n) standing power = by found.2 where
       low : n < length s.spaces
       low = ltb-true n (length s.spaces) standing
 
-      found : (m : ℕ) × IsTrue (is_ancestor later.spaces m n)
-          × (((m ≡ p.space) × IsTrue (holds p.cred.effective capability)) ⊎ (((space_of later.spaces m).parent ≡ Some p.space) × ((space_of later.spaces m).owner ≡ p.cred.uid.effective)))
+      found : (m : ℕ) × IsTrue (is_at_or_above later.spaces m n)
+          × (((m ≡ p.space) × IsTrue (holds p.cred.effective capability))
+          ⊎ (((space_of later.spaces m).parent ≡ Some p.space)
+          × ((space_of later.spaces m).owner ≡ p.cred.uid.effective)))
       found = power_cases later.spaces p.space p.cred.effective p.cred.uid.effective capability n power
 
       m_low : found.0 ≤ n
-      m_low = ancestor_below later.spaces kept.spaces.earlier found.0 n found.1
+      m_low = at_or_above_low later.spaces kept.spaces.earlier found.0 n found.1
 
-      by : (((found.0 ≡ p.space) × IsTrue (holds p.cred.effective capability)) ⊎ (((space_of later.spaces found.0).parent ≡ Some p.space) × ((space_of later.spaces found.0).owner ≡ p.cred.uid.effective)))
+      by : (((found.0 ≡ p.space) × IsTrue (holds p.cred.effective capability))
+          ⊎ (((space_of later.spaces found.0).parent ≡ Some p.space)
+          × ((space_of later.spaces found.0).owner ≡ p.cred.uid.effective)))
           → MeetsCap s.spaces bounds capability n
       by (inl here) =
           let standing_low : n < length s.spaces = low in
@@ -109,9 +119,10 @@ module _ (permitted : CallKind → Bool) (w : World) (s : State) (members : List
           let at : RowOf (length s.spaces) later.spaces p.space (Standing p.space) = rows.own p.space (omega arith) in
           inl (
             p.space,
-            ancestor_stays s.spaces later.spaces bounds kept.spaces p.space n low (rw here.0 at found.1),
+            at_or_above_stays s.spaces later.spaces bounds kept.spaces p.space n low (rw here.0 at found.1),
             (p.cred.uid.effective, fits.held (Standing p.space) at EffectiveUids p.cred.uid.effective refl),
-            fits.held (Standing p.space) at PermittedCaps capability (member_of_wider p.cred.effective p.cred.permitted fits.included.effective capability here.1),
+            fits.held (Standing p.space) at PermittedCaps capability
+                (member_of_wider p.cred.effective p.cred.permitted fits.included.effective capability here.1),
           )
       by (inr owned) =
           let standing_low : n < length s.spaces = low in
@@ -125,8 +136,11 @@ module _ (permitted : CallKind → Bool) (w : World) (s : State) (members : List
             fits.held (Standing p.space) at EffectiveUids (space_of s.spaces found.0).owner (sym (kept.spaces.stay found.0 (omega arith)).owner ∙ owned.1),
           )
     holder_meets (Uid id) standing holds_it =
-        let some = row_for s.spaces later.spaces bounds kept.spaces (suc p.space) p.space (omega arith) fits.here in
-        (some.row, lt-ltb (space_under some.row) (length s.spaces) some.stands, fits.held some.row some.is EffectiveUids id (sym (eqb-true p.cred.uid.effective id holds_it)))
+        let some = row_for s.spaces later.spaces bounds kept.spaces (suc p.space) p.space (omega arith) fits.here in (
+          some.row,
+          lt-ltb (space_under some.row) (length s.spaces) some.stands,
+          fits.held some.row some.is EffectiveUids id (sym (eqb-true p.cred.uid.effective id holds_it)),
+        )
     holder_meets (Gid id) standing holds_it =
         let some = row_for s.spaces later.spaces bounds kept.spaces (suc p.space) p.space (omega arith) fits.here in (
           some.row,
@@ -138,7 +152,8 @@ module _ (permitted : CallKind → Bool) (w : World) (s : State) (members : List
         )
 
   -- Where they don't meet a right, no member holds it after any later run.
-  pub exclusion : (right : Right) → IsOverStanding s.spaces right → (Meets s.spaces bounds right → ⊥) → (events : List Event) (later : State) (members_then : List ℕ)
+  pub exclusion : (right : Right) → IsOverStanding s.spaces right → (Meets s.spaces bounds right → ⊥)
+      → (events : List Event) (later : State) (members_then : List ℕ)
       → Later permitted w s members events later members_then → (pid : ℕ) → IsTrue (is_member members_then pid) → process_holds later pid right ≡ false
   exclusion right standing apart events later members_then run pid member = at (process_at later.processes pid) refl where
     kept : Kept s.spaces later members_then bounds

@@ -2,7 +2,7 @@
 use Rattle.std.proofs.Common.{◌≡◌, ℕ, ◌<◌, ◌≤◌, Bool, true, false, ◌&&◌, ◌||◌, not, Some, None, Option, List, length, refl, sym, ap, ◌∙◌, inl, inr, arith}
 use Rattle.std.specs.Prelude.{◌⊎◌, IsTrue, is_some, is_none, slice_get, unwrap_or, if◌then◌else◌}
 use Rattle.std.specs.List.{list_any}
-use Rattle.std.proofs.lemmas.Bool.{false≢true, and_parts, and_from, or_cases, eqb-true, eq-eqb, not-true, not-false, ltb-true}
+use Rattle.std.proofs.lemmas.Bool.{false≢true, and_parts, and_from, or_cases, or_parts, eqb-true, eq-eqb, not-true, not-false, ltb-true}
 use Rattle.cm_base.specs.CapSet.{holds, is_within, union, meet, none, full}
 use Rattle.cm_base.specs.declared.errno.Errno.TheVariants.{EPERM, EACCES}
 use Rattle.cm_base.specs.declared.res.FileRef.{FileRef}
@@ -14,21 +14,28 @@ use Rattle.model_cred.specs.Credential.{Credential}
 use Rattle.model_cred.specs.Files.{FileTable, FileCaps, Mount}
 use Rattle.model_cred.specs.Files as declared_files
 use Rattle.model_cred.specs.IdMap.{Extent, down, extents_of, is_outside, is_the}
-use Rattle.model_cred.specs.Space.{Space, Spaces, stands, space_of, chain, is_ancestor}
+use Rattle.model_cred.specs.Space.{Space, Spaces, stands, space_of, chain, is_at_or_above}
 use Rattle.model_rules.specs.Answer.{Answer, done, refused}
 use Rattle.model_rules.specs.Caps.{cap_dac_override}
 use Rattle.model_rules.specs.CapCalls.{without_keep_caps}
-use Rattle.model_rules.specs.Exec.{is_in_group, execute_bit, may_override, may_run, interpreter_of, run_file, named_file, may_exec, setuid_counts, setgid_counts, attribute_counts, is_privileged, uids_after, gids_after, FileSets, no_sets, attribute_sets, own_sets, would_lack, raised_sets, is_excepted, sets_for, ambient_after, permitted_after, with_sets, cred_after, execve}
-use Rattle.model_rules.specs.FileView.{FileView, plain_view, view, view_in, view_if, has_bit, is_mapped_id, is_mapped_file, may_raise_in, allows_set_id, is_same_id, takes_attribute}
+use Rattle.model_rules.specs.Exec.{is_in_group, execute_bit, may_override, may_run, interpreter_of, run_file}
+use Rattle.model_rules.specs.Exec.{named_file, may_exec, setuid_counts, setgid_counts, attribute_counts, is_privileged}
+use Rattle.model_rules.specs.Exec.{uids_after, gids_after, FileSets, no_sets, attribute_sets, own_sets, would_lack}
+use Rattle.model_rules.specs.Exec.{raised_sets, is_excepted, sets_for, ambient_after, permitted_after, with_sets}
+use Rattle.model_rules.specs.Exec.{cred_after, execve}
+use Rattle.model_rules.specs.FileView.{FileView, plain_view, view, view_in, view_if, has_bit, is_mapped_id}
+use Rattle.model_rules.specs.FileView.{is_mapped_file, may_raise_in, allows_set_id, is_same_id, takes_attribute}
 use Rattle.model_rules.specs.Securebits.{has_flag, noroot}
 use Rattle.model_rules.specs.Zero.{zero_of, is_zero}
-use Rattle.model_box.specs.Row.{Part, Uids, EffectiveUids, FsUids, Gids, EffectiveGids, FsGids, Groups, MappedUids, MappedGids, PermittedCaps, InheritableCaps, BoundingCaps, NewPrivs, Row, Standing, Fresh, space_under, HasMembers}
+use Rattle.model_box.specs.Row.{Part, Uids, EffectiveUids, FsUids, Gids, EffectiveGids, FsGids, Groups, MappedUids}
+use Rattle.model_box.specs.Row.{MappedGids, PermittedCaps, InheritableCaps, BoundingCaps, NewPrivs, Row, Standing}
+use Rattle.model_box.specs.Row.{Fresh, space_under, HasMembers}
 use Rattle.model_box.specs.Rule.{ExecUid, ExecGid, ExecCaps, ExecRoot}
 use Rattle.model_box.specs.Files.{IdIn, HasOther, CanRun, SetIdCan, MayBeZero, ZeroIn, ZeroAbove, RootCan, TakesCan, FileGives, FilesFit, is_program}
 use Rattle.model_box.specs.Closed.{Closed}
 use Rattle.model_box.specs.Covers.{RowOf, own, MapsIn}
-use Rattle.model_box.proofs.Trees.{any_item, ancestor_below, row_standing, row_stands, split_chain}
-use Rattle.model_box.proofs.Fits.{SpacesFit, ancestor_stays}
+use Rattle.model_box.proofs.Trees.{any_item, at_or_above_low, row_standing, row_stands, split_chain}
+use Rattle.model_box.proofs.Fits.{SpacesFit, at_or_above_stays}
 use Rattle.model_box.proofs.Ids.{IdsIn, from_each, down_outside, is_real}
 use Rattle.model_box.proofs.Rows.{Fine}
 use Rattle.model_box.proofs.Calls.{with_uid_fine, with_gid_fine, without_keep_caps_fine}
@@ -51,10 +58,6 @@ id_there : (o : Option ℕ) (Set : ℕ → Type 0) → IdIn o Set → (x : ℕ) 
 id_there None Set wrong = absurd wrong
 id_there (Some x) Set held = (x, refl)
 
-or_false : (p q : Bool) → (p || q) ≡ false → (p ≡ false) × (q ≡ false)
-or_false true q e = absurd (false≢true (sym e))
-or_false false q e = (refl, e)
-
 -- ---- who may run a file
 module _ (row : Part → ℕ → Type 0) (c : Credential) (fine : Fine row c) (s : Space) (maps : MapsIn s row) (f : FileView) where
   cap_here : (cap : ℕ) → IsTrue (holds c.effective cap) → row PermittedCaps cap
@@ -76,7 +79,7 @@ module _ (row : Part → ℕ → Type 0) (c : Credential) (fine : Fine row c) (s
     other_user e = (c.uid.fs, fine.held.uid.fs c.uid.fs refl, ap not e)
 
     other_group : is_in_group c f.group ≡ false → HasOther (row FsGids) f.group
-    other_group e = (c.gid.fs, fine.held.gid.fs c.gid.fs refl, ap not (or_false (is_the f.group c.gid.fs) (list_any (is_the f.group) c.groups) e).0)
+    other_group e = (c.gid.fs, fine.held.gid.fs c.gid.fs refl, ap not (or_parts (is_the f.group c.gid.fs) (list_any (is_the f.group) c.groups) e).0)
 
     go : (owner group : Bool) → is_the f.owner c.uid.fs ≡ owner → is_in_group c f.group ≡ group
         → IsTrue (has_bit f (if owner then 0o100 else if group then 0o010 else 0o001))
@@ -112,12 +115,13 @@ module _ (row : Part → ℕ → Type 0) (c : Credential) (fine : Fine row c) (s
 -- ---- the spaces as a file sees them
 module _ (old new : Spaces) (bounds : Row → Part → ℕ → Type 0) (fit : SpacesFit old new bounds) where
   -- a space that stands and is above a member's space is above the standing space of its row
-  above_row : (m at : ℕ) (row : Row) → m < length old → RowOf (length old) new at row → IsTrue (is_ancestor new m at) → IsTrue (is_ancestor old m (space_under row))
-  above_row m at (Standing n) low row above = let two = row_standing row in ancestor_stays old new bounds fit m n (rw two.0 at two.1) (rw two.0 at above)
+  above_row : (m at : ℕ) (row : Row) → m < length old → RowOf (length old) new at row → IsTrue (is_at_or_above new m at)
+      → IsTrue (is_at_or_above old m (space_under row))
+  above_row m at (Standing n) low row above = let two = row_standing row in at_or_above_stays old new bounds fit m n (rw two.0 at two.1) (rw two.0 at above)
   above_row m at (Fresh a) low row above =
       elim (split_chain fit.earlier m row above) [
         | inl row_m ↦ absurd (let late : length old ≤ m = (row_stands row_m).1 in omega arith)
-        | inr up ↦ ancestor_stays old new bounds fit m a (row_stands row).0 up
+        | inr up ↦ at_or_above_stays old new bounds fit m a (row_stands row).0 up
       ]
 
   -- inside 0 of a standing space
@@ -139,17 +143,20 @@ module _ (old new : Spaces) (bounds : Row → Part → ℕ → Type 0) (fit : Sp
   same_id (Some a) None wrong = absurd (false≢true wrong)
   same_id None b wrong = absurd (false≢true wrong)
 
-  zero_above : (id : Option ℕ) (m z n : ℕ) → id ≡ Some z → zero_of (space_of new m) ≡ Some z → n < length old → IsTrue (is_ancestor new m n) → ZeroAbove old bounds n id
+  zero_above : (id : Option ℕ) (m z n : ℕ) → id ≡ Some z → zero_of (space_of new m) ≡ Some z → n < length old
+      → IsTrue (is_at_or_above new m n) → ZeroAbove old bounds n id
   zero_above id m z n is zero low up =
-      let m_low : m ≤ n = ancestor_below new fit.earlier m n up in
-      (m, ancestor_stays old new bounds fit m n low up, id_from id z (ZeroIn old bounds (Standing m)) is (zero_standing m z (omega arith) zero))
+      let m_low : m ≤ n = at_or_above_low new fit.earlier m n up in
+      (m, at_or_above_stays old new bounds fit m n low up, id_from id z (ZeroIn old bounds (Standing m)) is (zero_standing m z (omega arith) zero))
 
-  root_by : (id : Option ℕ) (m z at : ℕ) → id ≡ Some z → zero_of (space_of new m) ≡ Some z → IsTrue (is_ancestor new m at) → (row : Row)
+  root_by : (id : Option ℕ) (m z at : ℕ) → id ≡ Some z → zero_of (space_of new m) ≡ Some z → IsTrue (is_at_or_above new m at) → (row : Row)
       → RowOf (length old) new at row → RootCan old bounds row id
   root_by id m z at is zero up (Standing n) row_n = let two = row_standing row_n in zero_above id m z n is zero (rw two.0 at two.1) (rw two.0 at up)
   root_by id m z at is zero up (Fresh a) row_a =
       elim (split_chain fit.earlier m row_a up) [
-        | inl row_m ↦ inl (id_from id z (ZeroIn old bounds (Fresh a)) is ((fit.mapped m (Fresh a) row_m).uids z (down_outside (extents_of (space_of new m).uids) 0 z zero)))
+        | inl row_m ↦
+            inl (id_from id z (ZeroIn old bounds (Fresh a)) is
+            ((fit.mapped m (Fresh a) row_m).uids z (down_outside (extents_of (space_of new m).uids) 0 z zero)))
         | inr more ↦ inr (zero_above id m z a is zero (row_stands row_a).0 more)
       ]
 
@@ -164,8 +171,10 @@ module _ (old new : Spaces) (bounds : Row → Part → ℕ → Type 0) (fit : Sp
 -- ---- what closed bounds give at one file
 -- the effects of a file that can be run are in the row
 record FileIn (old : Spaces) (bounds : Row → Part → ℕ → Type 0) (row : Row) (f : FileView) : Type 0 where
-  owner : CanRun (bounds row) f → SetIdCan old (space_under row) (bounds row) f → IsTrue (has_bit f 0o4000) → (x : ℕ) → f.owner ≡ Some x → bounds row EffectiveUids x
-  group : CanRun (bounds row) f → SetIdCan old (space_under row) (bounds row) f → IsTrue (has_bit f 0o2000) → IsTrue (has_bit f 0o010) → (x : ℕ) → f.group ≡ Some x
+  owner : CanRun (bounds row) f → SetIdCan old (space_under row) (bounds row) f → IsTrue (has_bit f 0o4000) → (x : ℕ)
+      → f.owner ≡ Some x → bounds row EffectiveUids x
+  group : CanRun (bounds row) f → SetIdCan old (space_under row) (bounds row) f → IsTrue (has_bit f 0o2000)
+      → IsTrue (has_bit f 0o010) → (x : ℕ) → f.group ≡ Some x
       → bounds row EffectiveGids x
   caps : CanRun (bounds row) f → TakesCan old bounds row f → (x : ℕ) → FileGives (bounds row) f x → bounds row PermittedCaps x
   stands : (f ≡ plain_view) ⊎ (f.space < length old)
@@ -180,10 +189,12 @@ plain_in old bounds row = record {
 }
 
 module _ (permitted : CallKind → Bool) (files : FileTable) (old : Spaces) (bounds : Row → Part → ℕ → Type 0) (closed : Closed permitted files old bounds)
-    (files_fit : FilesFit files old) (row : Row) (standing : IsTrue (stands old (space_under row))) (members : HasMembers (bounds row)) (allowed : IsTrue (permitted kind.Exec)) where
+    (files_fit : FilesFit files old) (row : Row) (standing : IsTrue (stands old (space_under row)))
+    (members : HasMembers (bounds row)) (allowed : IsTrue (permitted kind.Exec)) where
   view_stands : (k : ℕ) → (view files k ≡ plain_view) ⊎ ((view files k).space < length old)
   view_stands k = at_row (slice_get files.rows k) where
-    at_mount : (f : declared_files.FileRow) (o : Option Mount) → slice_get files.mounts f.mount ≡ o → (view_if o f ≡ plain_view) ⊎ ((view_if o f).space < length old)
+    at_mount : (f : declared_files.FileRow) (o : Option Mount) → slice_get files.mounts f.mount ≡ o
+        → (view_if o f ≡ plain_view) ⊎ ((view_if o f).space < length old)
     at_mount f None same = inl refl
     at_mount f (Some m) same = inr (ltb-true m.space (length old) (files_fit.mounts f.mount m same))
 
@@ -225,13 +236,16 @@ module _ (permitted : CallKind → Bool) (files : FileTable) (old new : Spaces) 
 
   module _ (f : FileView) (inside : FileIn old bounds row f) (runs : CanRun (bounds row) f) where
     raises : IsTrue (is_some f.owner) ⊎ IsTrue (is_some f.caps) → IsTrue (may_raise_in new at f) → IsTrue (may_raise_in old (space_under row) f)
-    raises there may = by inside.stands (and_parts (not f.nosuid) (is_ancestor new f.space at) may) where
-      by : (f ≡ plain_view) ⊎ (f.space < length old) → IsTrue (not f.nosuid) × IsTrue (is_ancestor new f.space at) → IsTrue (may_raise_in old (space_under row) f)
+    raises there may = by inside.stands (and_parts (not f.nosuid) (is_at_or_above new f.space at) may) where
+      by : (f ≡ plain_view) ⊎ (f.space < length old) → IsTrue (not f.nosuid) × IsTrue (is_at_or_above new f.space at)
+          → IsTrue (may_raise_in old (space_under row) f)
       by (inl plain) both = absurd (no there) where
         no : IsTrue (is_some f.owner) ⊎ IsTrue (is_some f.caps) → ⊥
         no (inl owner) = false≢true (rw plain at owner)
         no (inr caps) = false≢true (rw plain at caps)
-      by (inr low) both = and_from (not f.nosuid) (is_ancestor old f.space (space_under row)) both.0 (above_row old new bounds fit f.space at row low row_at both.1)
+      by (inr low) both =
+          and_from (not f.nosuid) (is_at_or_above old f.space (space_under row)) both.0
+          (above_row old new bounds fit f.space at row low row_at both.1)
 
     -- the set-id bits count in the row
     owner_there : (o : Option ℕ) → IdIn o (bounds row MappedUids) → IsTrue (is_some o)
@@ -274,7 +288,8 @@ module _ (permitted : CallKind → Bool) (files : FileTable) (old new : Spaces) 
         choose (bounds row EffectiveUids) (setuid_counts new at c f) (unwrap_or f.owner c.uid.effective) c.uid.effective
         (λ counts.
         let two = and_parts (not c.no_new_privs && allows_set_id new at f) (has_bit f 0o4000) counts in
-        unwrapped f.owner c.uid.effective (bounds row EffectiveUids) (fine.held.uid.effective c.uid.effective refl) (inside.owner runs (set_id_can two.0) two.1))
+        unwrapped f.owner c.uid.effective (bounds row EffectiveUids) (fine.held.uid.effective c.uid.effective refl)
+        (inside.owner runs (set_id_can two.0) two.1))
         (λ _. fine.held.uid.effective c.uid.effective refl)
 
     new_gid : bounds row EffectiveGids (gids_after new at c f).effective
@@ -283,30 +298,39 @@ module _ (permitted : CallKind → Bool) (files : FileTable) (old new : Spaces) 
         (λ counts.
         let first = and_parts (not c.no_new_privs && allows_set_id new at f && has_bit f 0o2000) (has_bit f 0o010) counts in
         let two = and_parts (not c.no_new_privs && allows_set_id new at f) (has_bit f 0o2000) first.0 in
-        unwrapped f.group c.gid.effective (bounds row EffectiveGids) (fine.held.gid.effective c.gid.effective refl) (inside.group runs (set_id_can two.0) two.1 first.1))
+        unwrapped f.group c.gid.effective (bounds row EffectiveGids) (fine.held.gid.effective c.gid.effective refl)
+        (inside.group runs (set_id_can two.0) two.1 first.1))
         (λ _. fine.held.gid.effective c.gid.effective refl)
 
     uids_in : IdsIn (bounds row Uids) (bounds row EffectiveUids) (bounds row FsUids) (uids_after new at c f)
     uids_in =
         from_each (bounds row Uids) (bounds row EffectiveUids) (bounds row FsUids) (uids_after new at c f)
-        (fine.held.uid.three c.uid.real (is_real c.uid)) (uid_old (uids_after new at c f).effective new_uid) (uid_old (uids_after new at c f).effective new_uid) new_uid
+        (fine.held.uid.three c.uid.real (is_real c.uid)) (uid_old (uids_after new at c f).effective new_uid)
+        (uid_old (uids_after new at c f).effective new_uid) new_uid
         (uid_fs (uids_after new at c f).effective new_uid)
 
     gids_in : IdsIn (bounds row Gids) (bounds row EffectiveGids) (bounds row FsGids) (gids_after new at c f)
     gids_in =
         from_each (bounds row Gids) (bounds row EffectiveGids) (bounds row FsGids) (gids_after new at c f)
-        (fine.held.gid.three c.gid.real (is_real c.gid)) (gid_old (gids_after new at c f).effective new_gid) (gid_old (gids_after new at c f).effective new_gid) new_gid
+        (fine.held.gid.three c.gid.real (is_real c.gid)) (gid_old (gids_after new at c f).effective new_gid)
+        (gid_old (gids_after new at c f).effective new_gid) new_gid
         (gid_fs (gids_after new at c f).effective new_gid)
 
     -- ---- the sets
     abbrev SetsIn : FileSets → Type 0
-    SetsIn sets = (x : ℕ) → (IsTrue (holds c.inheritable x) × IsTrue (holds sets.inheritable x)) ⊎ (IsTrue (holds sets.permitted x) × IsTrue (holds c.bounding x)) → bounds row PermittedCaps x
+    SetsIn sets =
+        (x : ℕ)
+        → (IsTrue (holds c.inheritable x) × IsTrue (holds sets.inheritable x))
+        ⊎ (IsTrue (holds sets.permitted x) × IsTrue (holds c.bounding x))
+        → bounds row PermittedCaps x
 
     own_in : SetsIn (own_sets new at c f)
     own_in =
         choose SetsIn (attribute_counts new at c f) (attribute_sets f.caps) no_sets
         (λ counts x gives. inside.caps runs (takes_can counts) x (by x gives)) (λ _ x gives. absurd (nothing x gives)) where
-          by : (x : ℕ) → (IsTrue (holds c.inheritable x) × IsTrue (holds (attribute_sets f.caps).inheritable x)) ⊎ (IsTrue (holds (attribute_sets f.caps).permitted x) × IsTrue (holds c.bounding x))
+          by : (x : ℕ)
+              → (IsTrue (holds c.inheritable x) × IsTrue (holds (attribute_sets f.caps).inheritable x))
+              ⊎ (IsTrue (holds (attribute_sets f.caps).permitted x) × IsTrue (holds c.bounding x))
               → FileGives (bounds row) f x
           by x (inl both) = inl (fine.held.inheritable x both.0, both.1)
           by x (inr both) = inr (both.0, fine.held.bounding x both.1)
@@ -316,9 +340,19 @@ module _ (permitted : CallKind → Bool) (files : FileTable) (old new : Spaces) 
           nothing x (inr both) = false≢true (sym (holds_none x) ∙ both.0)
 
     -- what root gets as root
-    by_root : bounds row NewPrivs 0 → has_flag c noroot ≡ false → (z : ℕ) → bounds row Uids z → IsTrue (is_zero (space_of new at) z) → (sets : FileSets) → SetsIn sets
+    by_root : bounds row NewPrivs 0 → has_flag c noroot ≡ false → (z : ℕ) → bounds row Uids z
+        → IsTrue (is_zero (space_of new at) z) → (sets : FileSets) → SetsIn sets
     by_root may clear z held zero sets x gives =
-        closed ExecRoot row standing PermittedCaps x (allowed, has_members, (fine.held.root clear, may, (z, held, zero_own old new bounds fit at z row row_at (the_zero (zero_of (space_of new at)) zero)), by gives)) where
+        closed ExecRoot row standing PermittedCaps x (
+          allowed,
+          has_members,
+          (
+            fine.held.root clear,
+            may,
+            (z, held, zero_own old new bounds fit at z row row_at (the_zero (zero_of (space_of new at)) zero)),
+            by gives,
+          ),
+        ) where
           the_zero : (o : Option ℕ) → IsTrue (is_the o z) → o ≡ Some z
           the_zero None wrong = absurd (false≢true wrong)
           the_zero (Some y) same = ap Some (sym (eqb-true z y same))
@@ -331,33 +365,55 @@ module _ (permitted : CallKind → Bool) (files : FileTable) (old new : Spaces) 
     raised_in : bounds row NewPrivs 0 → has_flag c noroot ≡ false → SetsIn (raised_sets (space_of new at) (uids_after new at c f) (own_sets new at c f))
     raised_in may clear =
         choose SetsIn (is_zero (space_of new at) (uids_after new at c f).effective) (record { permitted = full; inheritable = full; effective = true })
-        (if is_zero (space_of new at) (uids_after new at c f).real then record (own_sets new at c f) { permitted = full; inheritable = full } else own_sets new at c f)
-        (λ zero. by_root may clear (uids_after new at c f).effective (uid_old (uids_after new at c f).effective new_uid) zero (record { permitted = full; inheritable = full; effective = true }))
-        (λ _. choose SetsIn (is_zero (space_of new at) (uids_after new at c f).real) (record (own_sets new at c f) { permitted = full; inheritable = full }) (own_sets new at c f)
-        (λ zero. by_root may clear c.uid.real (fine.held.uid.three c.uid.real (is_real c.uid)) zero (record (own_sets new at c f) { permitted = full; inheritable = full }))
+        (if is_zero (space_of new at) (uids_after new at c f).real then record (own_sets new at c f) {
+          permitted = full;
+          inheritable = full;
+        } else own_sets new at c f)
+        (λ zero.
+        by_root may clear (uids_after new at c f).effective (uid_old (uids_after new at c f).effective new_uid) zero
+        (record { permitted = full; inheritable = full; effective = true }))
+        (λ _.
+        choose SetsIn (is_zero (space_of new at) (uids_after new at c f).real)
+        (record (own_sets new at c f) { permitted = full; inheritable = full }) (own_sets new at c f)
+        (λ zero.
+        by_root may clear c.uid.real (fine.held.uid.three c.uid.real (is_real c.uid)) zero
+        (record (own_sets new at c f) { permitted = full; inheritable = full }))
         (λ _. own_in))
 
     sets_in : bounds row NewPrivs 0 → SetsIn (sets_for new at c f)
     sets_in may =
         choose SetsIn (has_flag c noroot || is_excepted (space_of new at) (uids_after new at c f) (attribute_counts new at c f)) (own_sets new at c f)
         (raised_sets (space_of new at) (uids_after new at c f) (own_sets new at c f))
-        (λ _. own_in) (λ no. raised_in may (or_false (has_flag c noroot) (is_excepted (space_of new at) (uids_after new at c f) (attribute_counts new at c f)) no).0)
+        (λ _. own_in) (λ no.
+        raised_in may (or_parts (has_flag c noroot)
+        (is_excepted (space_of new at) (uids_after new at c f) (attribute_counts new at c f)) no).0)
 
     -- the ambient set after it is no larger
     ambient_less : (set : ℕ) → IsTrue (is_within c.ambient set) → IsTrue (is_within (ambient_after c (is_privileged new at c f)) set)
     ambient_less set within =
         choose (λ (a : ℕ). IsTrue (is_within a set)) (is_privileged new at c f) none c.ambient (λ _. none_within set) (λ _. within)
 
-    module _ (sets : FileSets) (ambient : ℕ) (less : (set : ℕ) → IsTrue (is_within c.ambient set) → IsTrue (is_within ambient set)) (in_them : bounds row NewPrivs 0 → SetsIn sets) where
-      gained_in : bounds row NewPrivs 0 → (x : ℕ) → IsTrue (holds (union (union (meet c.inheritable sets.inheritable) (meet sets.permitted c.bounding)) ambient) x) → bounds row PermittedCaps x
+    module _ (sets : FileSets) (ambient : ℕ)
+        (less : (set : ℕ) → IsTrue (is_within c.ambient set) → IsTrue (is_within ambient set))
+        (in_them : bounds row NewPrivs 0 → SetsIn sets) where
+      gained_in : bounds row NewPrivs 0 → (x : ℕ)
+          → IsTrue (holds (union (union (meet c.inheritable sets.inheritable)
+          (meet sets.permitted c.bounding)) ambient) x)
+          → bounds row PermittedCaps x
       gained_in may x held =
           outer (or_cases (holds (union (meet c.inheritable sets.inheritable) (meet sets.permitted c.bounding)) x) (holds ambient x)
           (sym (holds_union (union (meet c.inheritable sets.inheritable) (meet sets.permitted c.bounding)) ambient x) ∙ held)) where
             inner : (holds (meet c.inheritable sets.inheritable) x ≡ true) ⊎ (holds (meet sets.permitted c.bounding) x ≡ true) → bounds row PermittedCaps x
-            inner (inl both) = in_them may x (inl (and_parts (holds c.inheritable x) (holds sets.inheritable x) (sym (holds_meet c.inheritable sets.inheritable x) ∙ both)))
-            inner (inr both) = in_them may x (inr (and_parts (holds sets.permitted x) (holds c.bounding x) (sym (holds_meet sets.permitted c.bounding x) ∙ both)))
+            inner (inl both) =
+                in_them may x (inl (and_parts (holds c.inheritable x) (holds sets.inheritable x)
+                (sym (holds_meet c.inheritable sets.inheritable x) ∙ both)))
+            inner (inr both) =
+                in_them may x (inr (and_parts (holds sets.permitted x) (holds c.bounding x)
+                (sym (holds_meet sets.permitted c.bounding x) ∙ both)))
 
-            outer : (holds (union (meet c.inheritable sets.inheritable) (meet sets.permitted c.bounding)) x ≡ true) ⊎ (holds ambient x ≡ true) → bounds row PermittedCaps x
+            outer : (holds (union (meet c.inheritable sets.inheritable) (meet sets.permitted c.bounding)) x ≡ true)
+                ⊎ (holds ambient x ≡ true)
+                → bounds row PermittedCaps x
             outer (inl two) =
                 inner (or_cases (holds (meet c.inheritable sets.inheritable) x) (holds (meet sets.permitted c.bounding) x)
                 (sym (holds_union (meet c.inheritable sets.inheritable) (meet sets.permitted c.bounding) x) ∙ two))
@@ -367,10 +423,16 @@ module _ (permitted : CallKind → Bool) (files : FileTable) (old new : Spaces) 
       permitted_in =
           by c.no_new_privs refl where
             by : (b : Bool) → c.no_new_privs ≡ b → (x : ℕ)
-                → IsTrue (holds (if b then meet (union (union (meet c.inheritable sets.inheritable) (meet sets.permitted c.bounding)) ambient) c.permitted else union (union (meet c.inheritable sets.inheritable) (meet sets.permitted c.bounding)) ambient) x)
+                → IsTrue (holds (if b
+                then meet (union (union (meet c.inheritable sets.inheritable)
+                (meet sets.permitted c.bounding)) ambient) c.permitted
+                else union (union (meet c.inheritable sets.inheritable) (meet sets.permitted c.bounding)) ambient) x)
                 → bounds row PermittedCaps x
             by true set x held =
-                fine.held.permitted x (and_parts (holds (union (union (meet c.inheritable sets.inheritable) (meet sets.permitted c.bounding)) ambient) x) (holds c.permitted x)
+                fine.held.permitted x (and_parts
+                (holds (union (union (meet c.inheritable sets.inheritable)
+                (meet sets.permitted c.bounding)) ambient) x)
+                (holds c.permitted x)
                 (sym (holds_meet (union (union (meet c.inheritable sets.inheritable) (meet sets.permitted c.bounding)) ambient) c.permitted x) ∙ held)).1
             by false clear x held = gained_in (fine.held.new_privs clear) x held
 
@@ -380,14 +442,28 @@ module _ (permitted : CallKind → Bool) (files : FileTable) (old new : Spaces) 
           (meet (union (union (meet c.inheritable sets.inheritable) (meet sets.permitted c.bounding)) ambient) c.permitted)
           (union (union (meet c.inheritable sets.inheritable) (meet sets.permitted c.bounding)) ambient)
           (λ _. within_meet (union (union (meet c.inheritable sets.inheritable) (meet sets.permitted c.bounding)) ambient) c.permitted ambient
-          (second_within_union (union (meet c.inheritable sets.inheritable) (meet sets.permitted c.bounding)) ambient) (less c.permitted fine.included.ambient_permitted))
+          (second_within_union (union (meet c.inheritable sets.inheritable) (meet sets.permitted c.bounding)) ambient)
+          (less c.permitted fine.included.ambient_permitted))
           (λ _. second_within_union (union (meet c.inheritable sets.inheritable) (meet sets.permitted c.bounding)) ambient)
 
       with_sets_fine : Fine (bounds row) (with_sets c sets ambient)
       with_sets_fine = record {
-        held = record { uid = fine.held.uid; gid = fine.held.gid; groups = fine.held.groups; permitted = permitted_in; inheritable = fine.held.inheritable; bounding = fine.held.bounding; new_privs = fine.held.new_privs; root = fine.held.root; lock = fine.held.lock };
+        held = record {
+          uid = fine.held.uid;
+          gid = fine.held.gid;
+          groups = fine.held.groups;
+          permitted = permitted_in;
+          inheritable = fine.held.inheritable;
+          bounding = fine.held.bounding;
+          new_privs = fine.held.new_privs;
+          root = fine.held.root;
+          lock = fine.held.lock;
+        };
         included = record {
-          effective = choose (λ (e : ℕ). IsTrue (is_within e (permitted_after c sets ambient))) sets.effective (permitted_after c sets ambient) ambient (λ _. within_reflexive (permitted_after c sets ambient)) (λ _. ambient_within);
+          effective =
+              choose (λ (e : ℕ). IsTrue (is_within e (permitted_after c sets ambient))) sets.effective
+              (permitted_after c sets ambient) ambient (λ _. within_reflexive (permitted_after c sets ambient))
+              (λ _. ambient_within);
           ambient_permitted = ambient_within;
           ambient_inheritable = less c.inheritable fine.included.ambient_inheritable;
         };
@@ -399,9 +475,16 @@ module _ (permitted : CallKind → Bool) (files : FileTable) (old new : Spaces) 
         let sets : Fine (bounds row) (with_sets c (sets_for new at c f) (ambient_after c (is_privileged new at c f)))
         = with_sets_fine (sets_for new at c f) (ambient_after c (is_privileged new at c f)) ambient_less sets_in in
         let kept : Fine (bounds row) (without_keep_caps (with_sets c (sets_for new at c f) (ambient_after c (is_privileged new at c f))))
-        = without_keep_caps_fine permitted files old bounds closed row standing (space_of new at) maps_here (with_sets c (sets_for new at c f) (ambient_after c (is_privileged new at c f))) sets in
-        with_gid_fine (bounds row) (record (without_keep_caps (with_sets c (sets_for new at c f) (ambient_after c (is_privileged new at c f)))) { uid = uids_after new at c f })
-        (with_uid_fine (bounds row) (without_keep_caps (with_sets c (sets_for new at c f) (ambient_after c (is_privileged new at c f)))) kept (uids_after new at c f) uids_in)
+        = without_keep_caps_fine permitted files old bounds closed row standing (space_of new at) maps_here
+        (with_sets c (sets_for new at c f) (ambient_after c (is_privileged new at c f))) sets in
+        with_gid_fine (bounds row)
+        (record (without_keep_caps
+        (with_sets c (sets_for new at c f) (ambient_after c (is_privileged new at c f)))) {
+          uid = uids_after new at c f;
+        })
+        (with_uid_fine (bounds row)
+        (without_keep_caps (with_sets c (sets_for new at c f) (ambient_after c (is_privileged new at c f)))) kept
+        (uids_after new at c f) uids_in)
         (gids_after new at c f) gids_in
 
   -- execve(2). That it refuses a program which would lack what its file permits isn't used.
@@ -409,7 +492,10 @@ module _ (permitted : CallKind → Bool) (files : FileTable) (old new : Spaces) 
   execve_fine files_fit f =
       choose (λ (a : Answer). Fine (bounds row) a.cred) (not (may_exec (space_of new at) c files f)) (refused EACCES c)
       (if would_lack c (own_sets new at c (run_file files f)) then refused EPERM c else done (cred_after new at c (run_file files f))) (λ _. fine)
-      (λ may. choose (λ (a : Answer). Fine (bounds row) a.cred) (would_lack c (own_sets new at c (run_file files f))) (refused EPERM c) (done (cred_after new at c (run_file files f))) (λ _. fine)
+      (λ may.
+      choose (λ (a : Answer). Fine (bounds row) a.cred) (would_lack c (own_sets new at c (run_file files f)))
+      (refused EPERM c) (done (cred_after new at c (run_file files f))) (λ _. fine)
       (λ _. cred_after_fine (run_file files f) (run_in permitted files old bounds closed files_fit row standing has_members allowed f)
       (can_run (bounds row) c fine (space_of new at) maps_here (run_file files f)
-      (and_parts (may_run (space_of new at) c (named_file files f)) (may_run (space_of new at) c (run_file files f)) (not-false (may_exec (space_of new at) c files f) may)).1)))
+      (and_parts (may_run (space_of new at) c (named_file files f)) (may_run (space_of new at) c (run_file files f))
+      (not-false (may_exec (space_of new at) c files f) may)).1)))

@@ -6,11 +6,11 @@ use Rattle.std.specs.List.{list_any}
 use Rattle.std.proofs.Common.{◌∙◌, sym, ap, eqb}
 use Rattle.std.proofs.lemmas.Bool.{lt-ltb}
 use Rattle.model_cred.specs.Credential.{Credential, Included}
-use Rattle.model_cred.specs.Space.{Spaces, space_of, is_ancestor, chain, stands}
+use Rattle.model_cred.specs.Space.{Spaces, space_of, is_at_or_above, chain, stands}
 use Rattle.model_box.specs.Row.{Part, Row, CredHas}
 use Rattle.model_box.specs.Covers.{RowOf, Stays, MapsIn, IsLater}
 use Rattle.model_box.specs.Spread.{IsNext}
-use Rattle.model_box.proofs.Trees.{Earlier, same_chain, ancestor_below}
+use Rattle.model_box.proofs.Trees.{Earlier, same_chain, at_or_above_low}
 
 pub record SpacesFit (old new : Spaces) (bounds : Row → Part → ℕ → Type 0) : Type 0 where
   pub before : Earlier old
@@ -34,13 +34,13 @@ module _ (old new : Spaces) (bounds : Row → Part → ℕ → Type 0) (fit : Sp
   pub chain_stays : (n : ℕ) → n < length old → chain new n ≡ chain old n
   chain_stays n low = same_chain old new fit.before fit.earlier fit.grown (λ m stands. (fit.stay m stands).parent) (suc n) n (omega arith) low
 
-  pub ancestor_stays : (m n : ℕ) → n < length old → IsTrue (is_ancestor new m n) → IsTrue (is_ancestor old m n)
-  ancestor_stays m n low above = ap (list_any (λ k. eqb k m)) (sym (chain_stays n low)) ∙ above
+  pub at_or_above_stays : (m n : ℕ) → n < length old → IsTrue (is_at_or_above new m n) → IsTrue (is_at_or_above old m n)
+  at_or_above_stays m n low above = ap (list_any (λ k. eqb k m)) (sym (chain_stays n low)) ∙ above
 
-  pub next_stays : (a n m : ℕ) → n < length old → IsTrue (is_ancestor new m n) → (space_of new m).parent ≡ Some a → IsNext old a n m
+  pub next_stays : (a n m : ℕ) → n < length old → IsTrue (is_at_or_above new m n) → (space_of new m).parent ≡ Some a → IsNext old a n m
   next_stays a n m low above parent =
-      let below : m ≤ n = ancestor_below new fit.earlier m n above in
-      (ancestor_stays m n low above, sym (fit.stay m (omega arith)).parent ∙ parent)
+      let below : m ≤ n = at_or_above_low new fit.earlier m n above in
+      (at_or_above_stays m n low above, sym (fit.stay m (omega arith)).parent ∙ parent)
 
   pub it_stands : (n : ℕ) → n < length old → IsTrue (stands old n)
   it_stands n low = lt-ltb n (length old) low

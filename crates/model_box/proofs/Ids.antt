@@ -1,5 +1,6 @@
 -- The calls that set user ids and group ids keep four ids within a row: said once, of any sets of ids.
-use Rattle.std.proofs.Common.{◌≡◌, ℕ, ◌+◌, ◌-◌, ◌<◌, ◌≤◌, Bool, true, false, ◌&&◌, ◌||◌, not, Some, None, Option, List, [], ◌∷◌, refl, sym, ◌∙◌, inl, inr, arith, ltb, leb, eqb, Result, Ok}
+use Rattle.std.proofs.Common.{◌≡◌, ℕ, ◌+◌, ◌-◌, ◌<◌, ◌≤◌, Bool, true, false, ◌&&◌, ◌||◌, not, Some, None, Option, List}
+use Rattle.std.proofs.Common.{[], ◌∷◌, refl, sym, ◌∙◌, inl, inr, arith, ltb, leb, eqb, Result, Ok}
 use Rattle.std.specs.Prelude.{◌⊎◌, ◌==◌, IsTrue, if◌then◌else◌}
 use Rattle.std.specs.declared.result.Result.TheVariants.{Err}
 use Rattle.std.proofs.lemmas.Bool.{false≢true, and_parts, and_from, or_cases, or_left, or_right, eqb-true, eq-eqb, ltb-true, leb-true, lt-ltb, le-leb}
@@ -7,7 +8,7 @@ use Rattle.cm_base.specs.declared.errno.Errno.{Errno}
 use Rattle.cm_base.specs.declared.errno.Errno.TheVariants.{EPERM}
 use Rattle.model_cred.specs.Credential.{FourIds, is_one_of_three, all_four}
 use Rattle.model_cred.specs.IdMap.{Extent, down, is_outside, lies_in}
-use Rattle.model_rules.specs.SetId.{minus_one, is_given, asked, set_res, set_re, set_one, set_fs, with_fs, saved_after, one_mapped, both_mapped, all_mapped}
+use Rattle.model_rules.specs.SetId.{minus_one, is_given, asked, setresid, setreid, setid, setfsid, with_fs, saved_after, one_mapped, both_mapped, all_mapped}
 use Rattle.model_box.specs.Gains.{Settable}
 use Rattle.model_box.proofs.Writing.{choose}
 
@@ -23,7 +24,10 @@ down_outside (e ∷ map) i k same = go (lies_in e.inside e.length i) refl same (
       let low : e.inside ≤ i = leb-true e.inside i ends.0 in
       let high : i < e.inside + e.length = ltb-true i (e.inside + e.length) ends.1 in
       choose (λ (b : Bool). IsTrue b) (lies_in e.outside e.length k) true (is_outside map k) (λ _. refl)
-      (λ wrong. absurd (false≢true (sym wrong ∙ and_from (leb e.outside k) (ltb k (e.outside + e.length)) (le-leb e.outside k (omega arith)) (lt-ltb k (e.outside + e.length) (omega arith)))))
+      (λ wrong.
+      absurd (false≢true (sym wrong
+      ∙ and_from (leb e.outside k) (ltb k (e.outside + e.length)) (le-leb e.outside k (omega arith))
+      (lt-ltb k (e.outside + e.length) (omega arith)))))
   go false outside found rest = choose (λ (b : Bool). IsTrue b) (lies_in e.outside e.length k) true (is_outside map k) (λ _. refl) (λ _. rest found)
 
 -- four ids are within three sets: the real, effective and saved one, the effective one, the fs one
@@ -74,7 +78,8 @@ module _ (Old Effective Fs Mapped : ℕ → Type 0) (Privileged : Type 0) (map :
     go true same' = inl (cc)
     go false same' = inr (down_outside map given k same')
 
-  module _ (gain : (x : ℕ) → Settable Old Mapped Privileged x → Effective x) (to_old : (x : ℕ) → Effective x → Old x) (to_fs : (x : ℕ) → Effective x → Fs x) where
+  module _ (gain : (x : ℕ) → Settable Old Mapped Privileged x → Effective x) (to_old : (x : ℕ) → Effective x → Old x)
+      (to_fs : (x : ℕ) → Effective x → Fs x) where
     -- a mapped id that the call may set
     set_in : (k : ℕ) → IsTrue (is_outside map k) → IsTrue privileged ⊎ Old k → Effective k
     set_in k out (inl may) = gain k (inr (cap may, maps k out))
@@ -104,8 +109,8 @@ module _ (Old Effective Fs Mapped : ℕ → Type 0) (Privileged : Type 0) (map :
         from_each Old Effective Fs (record { real = real; effective = effective; saved = saved; fs = effective }) r s (to_old effective e) e (to_fs effective e)
 
     -- setresuid and setresgid
-    pub set_res_in : (r e s : ℕ) → OkIn (IdsIn Old Effective Fs) (set_res map privileged old r e s)
-    set_res_in r e s = go (asked map old.real r) (asked map old.effective e) (asked map old.saved s) refl refl refl where
+    pub setresid_in : (r e s : ℕ) → OkIn (IdsIn Old Effective Fs) (setresid map privileged old r e s)
+    setresid_in r e s = go (asked map old.real r) (asked map old.effective e) (asked map old.saved s) refl refl refl where
       ids : (real effective saved : ℕ) → asked map old.real r ≡ Some real → asked map old.effective e ≡ Some effective → asked map old.saved s ≡ Some saved
           → IsTrue (privileged || (is_one_of_three old real && is_one_of_three old effective && is_one_of_three old saved))
           → IdsIn Old Effective Fs (record { real = real; effective = effective; saved = saved; fs = effective })
@@ -140,8 +145,8 @@ module _ (Old Effective Fs Mapped : ℕ → Type 0) (Privileged : Type 0) (map :
           (λ may. ids real effective saved a b c may) (λ _. tt)
 
     -- setreuid and setregid
-    pub set_re_in : (r e : ℕ) → OkIn (IdsIn Old Effective Fs) (set_re map privileged old r e)
-    set_re_in r e = go (asked map old.real r) (asked map old.effective e) refl refl where
+    pub setreid_in : (r e : ℕ) → OkIn (IdsIn Old Effective Fs) (setreid map privileged old r e)
+    setreid_in r e = go (asked map old.real r) (asked map old.effective e) refl refl where
       real_may : (real : ℕ) → IsTrue (real == old.real || real == old.effective) → Old real
       real_may real one =
           elim (or_cases (eqb real old.real) (eqb real old.effective) one) [
@@ -160,7 +165,9 @@ module _ (Old Effective Fs Mapped : ℕ → Type 0) (Privileged : Type 0) (map :
           → (IsTrue privileged ⊎ Old real) × (IsTrue privileged ⊎ Old effective)
           → IdsIn Old Effective Fs (record { real = real; effective = effective; saved = saved_after old r e effective; fs = effective })
       ids real effective a b may =
-          let now : Effective effective = effective_in old.effective effective (held.effective old.effective refl) (asked_cases old.effective e effective b) may.1 in
+          let now : Effective effective
+          = effective_in old.effective effective (held.effective old.effective refl)
+          (asked_cases old.effective e effective b) may.1 in
           new_ids real effective (saved_after old r e effective)
           (old_in old.real real old_real (asked_cases old.real r real a) may.0) now
           (choose Old (is_given r || (is_given e && not (effective == old.real))) effective old.saved (λ _. to_old effective now) (λ _. old_saved))
@@ -176,11 +183,14 @@ module _ (Old Effective Fs Mapped : ℕ → Type 0) (Privileged : Type 0) (map :
           choose (OkIn (IdsIn Old Effective Fs))
           (privileged || ((real == old.real || real == old.effective) && is_one_of_three old effective))
           (Ok (record { real = real; effective = effective; saved = saved_after old r e effective; fs = effective })) (Err EPERM)
-          (λ may. ids real effective a b (both real effective (or_cases privileged ((real == old.real || real == old.effective) && is_one_of_three old effective) may))) (λ _. tt)
+          (λ may.
+          ids real effective a b (both real effective
+          (or_cases privileged ((real == old.real || real == old.effective) && is_one_of_three old effective) may)))
+          (λ _. tt)
 
     -- setuid and setgid
-    pub set_one_in : (argument : ℕ) → OkIn (IdsIn Old Effective Fs) (set_one map privileged old argument)
-    set_one_in argument = go (down map argument) refl where
+    pub setid_in : (argument : ℕ) → OkIn (IdsIn Old Effective Fs) (setid map privileged old argument)
+    setid_in argument = go (down map argument) refl where
       one_of : (id : ℕ) → IsTrue (id == old.real || id == old.saved) → Old id
       one_of id one =
           elim (or_cases (eqb id old.real) (eqb id old.saved) one) [
@@ -212,8 +222,8 @@ module _ (Old Effective Fs Mapped : ℕ → Type 0) (Privileged : Type 0) (map :
           (λ one. two_ids id (down_outside map argument id same) (one_of id one)) (λ _. tt))
 
   -- setfsuid and setfsgid
-  pub set_fs_in : ((x : ℕ) → Settable Old Mapped Privileged x → Fs x) → (argument : ℕ) → IdsIn Old Effective Fs (set_fs map privileged old argument)
-  set_fs_in gain argument = go (down map argument) refl where
+  pub setfsid_in : ((x : ℕ) → Settable Old Mapped Privileged x → Fs x) → (argument : ℕ) → IdsIn Old Effective Fs (setfsid map privileged old argument)
+  setfsid_in gain argument = go (down map argument) refl where
     fs_is : (id : ℕ) → Fs id → IdsIn Old Effective Fs (record old { fs = id })
     fs_is id now = record { three = held.three; effective = held.effective; fs = λ x same. rw same now }
 

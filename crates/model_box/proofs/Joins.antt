@@ -8,16 +8,18 @@ use Rattle.cm_filter.specs.declared.kind.CallKind.{CallKind}
 use Rattle.cm_filter.specs.declared.kind.CallKind.TheVariants as kind
 use Rattle.model_cred.specs.Credential.{Credential, Included}
 use Rattle.model_cred.specs.Files.{FileTable}
-use Rattle.model_cred.specs.Space.{Spaces, space_of, is_ancestor}
+use Rattle.model_cred.specs.Space.{Spaces, space_of, is_at_or_above}
 use Rattle.model_rules.specs.Caps.{cap_sys_admin}
 use Rattle.model_rules.specs.Namespaces.{as_newcomer}
 use Rattle.model_rules.specs.Power.{has_over}
-use Rattle.model_box.specs.Row.{Part, Uids, EffectiveUids, FsUids, Gids, EffectiveGids, FsGids, Groups, MappedUids, MappedGids, PermittedCaps, InheritableCaps, BoundingCaps, NewPrivs, RootCounts, LockClear, Row, Standing, Fresh, CredHas}
+use Rattle.model_box.specs.Row.{Part, Uids, EffectiveUids, FsUids, Gids, EffectiveGids, FsGids, Groups, MappedUids}
+use Rattle.model_box.specs.Row.{MappedGids, PermittedCaps, InheritableCaps, BoundingCaps, NewPrivs, RootCounts}
+use Rattle.model_box.specs.Row.{LockClear, Row, Standing, Fresh, CredHas}
 use Rattle.model_box.specs.Rule.{Join}
 use Rattle.model_box.specs.Spread.{Brings, CanJoin, IsNext}
 use Rattle.model_box.specs.Closed.{Closed}
 use Rattle.model_box.specs.Covers.{RowOf, own, child, deeper}
-use Rattle.model_box.proofs.Trees.{ancestor_below, next_exists, power_cases, split_chain, row_standing, row_stands}
+use Rattle.model_box.proofs.Trees.{at_or_above_low, next_exists, power_cases, split_chain, row_standing, row_stands}
 use Rattle.model_box.proofs.Fits.{SpacesFit, MemberFits, InRow, next_stays, it_stands}
 
 -- ---- what a newcomer brings
@@ -102,7 +104,9 @@ module _ (permitted : CallKind → Bool) (files : FileTable) (old new : Spaces) 
       (m, next, (c.uid.effective, held EffectiveUids c.uid.effective refl), by cause) where
         by : (IsTrue (holds c.effective cap_sys_admin) ⊎ ((space_of new m).owner ≡ c.uid.effective))
             → (bounds (Standing at) PermittedCaps cap_sys_admin ⊎ bounds (Standing at) EffectiveUids (space_of old m).owner)
-        by (inl cap) = inl (member.held (Standing at) (own at stands) PermittedCaps cap_sys_admin (member_of_wider c.effective c.permitted member.included.effective cap_sys_admin cap))
+        by (inl cap) =
+            inl (member.held (Standing at) (own at stands) PermittedCaps cap_sys_admin
+            (member_of_wider c.effective c.permitted member.included.effective cap_sys_admin cap))
         by (inr owner) = inr (member.held (Standing at) (own at stands) EffectiveUids (space_of old m).owner (sym (fit.stay m m_low).owner ∙ owner))
 
   -- so what it then has is in that space's row
@@ -112,15 +116,15 @@ module _ (permitted : CallKind → Bool) (files : FileTable) (old new : Spaces) 
       (allowed, (at, joins, brought (bounds (Standing at)) c (member.held (Standing at) (own at stands)) part x has))
 
   -- power over a standing space from a space above it
-  joins_from_above : (n m : ℕ) → n < length old → IsTrue (is_ancestor new m n) → (space_of new m).parent ≡ Some at
+  joins_from_above : (n m : ℕ) → n < length old → IsTrue (is_at_or_above new m n) → (space_of new m).parent ≡ Some at
       → (IsTrue (holds c.effective cap_sys_admin) ⊎ ((space_of new m).owner ≡ c.uid.effective)) → InRow (bounds (Standing n)) (as_newcomer c)
   joins_from_above n m low above parent cause =
       let next : IsNext old at n m = next_stays old new bounds fit at n m low above parent in
-      let m_below : m ≤ n = ancestor_below new fit.earlier m n above in
+      let m_below : m ≤ n = at_or_above_low new fit.earlier m n above in
       let at_below : at < m = fit.earlier m at parent in
       joined_standing n low (omega arith) (can_join n m low next (omega arith) cause (omega arith))
 
-  joins_by_set : (n : ℕ) → n < length old → (at ≡ n → ⊥) → IsTrue (is_ancestor new at n) → IsTrue (holds c.effective cap_sys_admin)
+  joins_by_set : (n : ℕ) → n < length old → (at ≡ n → ⊥) → IsTrue (is_at_or_above new at n) → IsTrue (holds c.effective cap_sys_admin)
       → InRow (bounds (Standing n)) (as_newcomer c)
   joins_by_set n low other above cap =
       let found = next_exists new fit.earlier at n above other in
@@ -140,7 +144,7 @@ module _ (permitted : CallKind → Bool) (files : FileTable) (old new : Spaces) 
   join_later : (t a : ℕ) → t < length new → RowOf (length old) new t (Fresh a) → IsTrue (has_over new at c cap_sys_admin t)
       → InRow (bounds (Fresh a)) (as_newcomer c)
   join_later t a low row power part x has = by found.2 (split_chain fit.earlier found.0 row found.1) where
-    found : (m : ℕ) × IsTrue (is_ancestor new m t)
+    found : (m : ℕ) × IsTrue (is_at_or_above new m t)
         × (((m ≡ at) × IsTrue (holds c.effective cap_sys_admin)) ⊎ (((space_of new m).parent ≡ Some at) × ((space_of new m).owner ≡ c.uid.effective)))
     found = power_cases new at c.effective c.uid.effective cap_sys_admin t power
 
@@ -163,8 +167,9 @@ module _ (permitted : CallKind → Bool) (files : FileTable) (old new : Spaces) 
     parent (inl row_at) = inside row_at
     parent (inr same) = anchor same
 
-    by : (((found.0 ≡ at) × IsTrue (holds c.effective cap_sys_admin)) ⊎ (((space_of new found.0).parent ≡ Some at) × ((space_of new found.0).owner ≡ c.uid.effective)))
-        → RowOf (length old) new found.0 (Fresh a) ⊎ IsTrue (is_ancestor new found.0 a) → bounds (Fresh a) part x
+    by : (((found.0 ≡ at) × IsTrue (holds c.effective cap_sys_admin))
+        ⊎ (((space_of new found.0).parent ≡ Some at) × ((space_of new found.0).owner ≡ c.uid.effective)))
+        → RowOf (length old) new found.0 (Fresh a) ⊎ IsTrue (is_at_or_above new found.0 a) → bounds (Fresh a) part x
     by (inl here) (inl row_at) = inside (rw here.0 at row_at)
     by (inl here) (inr up) =
         elim (cases_eq at a) [

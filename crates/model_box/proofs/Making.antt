@@ -68,8 +68,20 @@ module _ (permitted : CallKind → Bool) (files : FileTable) (old new : Spaces) 
         allowed,
         (
           rw (same ∙ ap (λ k. level old k) (row_standing row).0) at shallow,
-          (c.uid.effective, member.held (Standing a) row EffectiveUids c.uid.effective refl, (fit.mapped at (Standing a) row).uids c.uid.effective (and_parts (is_outside (extents_of (space_of new at).uids) c.uid.effective) (is_outside (extents_of (space_of new at).gids) c.gid.effective) mapped).0),
-          (c.gid.effective, member.held (Standing a) row EffectiveGids c.gid.effective refl, (fit.mapped at (Standing a) row).gids c.gid.effective (and_parts (is_outside (extents_of (space_of new at).uids) c.uid.effective) (is_outside (extents_of (space_of new at).gids) c.gid.effective) mapped).1),
+          (
+            c.uid.effective,
+            member.held (Standing a) row EffectiveUids c.uid.effective refl,
+            (fit.mapped at (Standing a) row).uids c.uid.effective
+                (and_parts (is_outside (extents_of (space_of new at).uids) c.uid.effective)
+                (is_outside (extents_of (space_of new at).gids) c.gid.effective) mapped).0,
+          ),
+          (
+            c.gid.effective,
+            member.held (Standing a) row EffectiveGids c.gid.effective refl,
+            (fit.mapped at (Standing a) row).gids c.gid.effective
+                (and_parts (is_outside (extents_of (space_of new at).uids) c.uid.effective)
+                (is_outside (extents_of (space_of new at).gids) c.gid.effective) mapped).1,
+          ),
           brings,
         ),
       ) where
@@ -93,7 +105,10 @@ module _ (permitted : CallKind → Bool) (files : FileTable) (old new : Spaces) 
   made_later : IsLater (length old) old (created_by new at c ∷ new) (length new) bounds
   made_later = record {
     parent = (at, ap (λ (s : Space). s.parent) newest_is, member.here);
-    owner = λ p row parent row_p. rw newest_is (member.held row (older_row at row member.here (rw (the_parent p parent) at row_p)) EffectiveUids c.uid.effective refl);
+    owner =
+        λ p row parent row_p.
+        rw newest_is (member.held row
+        (older_row at row member.here (rw (the_parent p parent) at row_p)) EffectiveUids c.uid.effective refl);
     deny = λ a row word. ap (λ (s : Space). s.deny) newest_is ∙ denied_made a (made_row a row) word;
     filled = λ a row. filled_made a (made_row a row);
   }
@@ -134,7 +149,10 @@ module _ (permitted : CallKind → Bool) (files : FileTable) (old new : Spaces) 
   }
 
   made_in : (row : Row) → RowOf (length old) (created_by new at c ∷ new) (length new) row → InRow (bounds row) (as_newcomer c)
-  made_in (Standing n) row part x has = absurd (let two = row_standing row in let grown : length old ≤ length new = fit.grown in let low : length new < length old = two.1 in omega arith)
+  made_in (Standing n) row part x has =
+      absurd (let two = row_standing row in
+      let grown : length old ≤ length new = fit.grown in
+      let low : length new < length old = two.1 in omega arith)
   made_in (Fresh a) row part x has = by (made_row a row) where
     by : RowOf (length old) new at (Standing a) ⊎ RowOf (length old) new at (Fresh a) → bounds (Fresh a) part x
     by (inl row_at) = filled_from a row_at part x (brought (bounds (Standing a)) c (member.held (Standing a) row_at) part x has)

@@ -1,5 +1,6 @@
 -- Writing a map, or the setgroups word, keeps the spaces and the members covered.
-use Rattle.std.proofs.Common.{◌≡◌, ℕ, ◌+◌, ◌-◌, ◌<◌, ◌≤◌, Bool, true, false, ◌&&◌, ◌||◌, not, Some, None, Option, List, [], ◌∷◌, length, refl, sym, ap, ◌∙◌, inl, inr, arith, ltb, leb, eqb}
+use Rattle.std.proofs.Common.{◌≡◌, ℕ, ◌+◌, ◌-◌, ◌<◌, ◌≤◌, Bool, true, false, ◌&&◌, ◌||◌, not, Some, None, Option, List}
+use Rattle.std.proofs.Common.{[], ◌∷◌, length, refl, sym, ap, ◌∙◌, inl, inr, arith, ltb, leb, eqb}
 use Rattle.std.specs.Prelude.{◌⊎◌, ◌==◌, IsTrue, nat_le, is_none, if◌then◌else◌, option_map, option_and_then}
 use Rattle.std.proofs.lemmas.Bool.{false≢true, and_parts, and_from, or_cases, eqb-true, ltb-true, leb-true, lt-ltb, le-leb, not-false, not-true}
 use Rattle.cm_base.specs.CapSet.{holds}
@@ -11,15 +12,18 @@ use Rattle.model_cred.specs.Credential.{Credential}
 use Rattle.model_cred.specs.Files.{FileTable}
 use Rattle.model_cred.specs.IdMap.{Extent, extents_of, is_outside, is_the, lies_in}
 use Rattle.model_cred.specs.MapFault.{is_map}
-use Rattle.model_cred.specs.Space.{Space, Spaces, space_of, put_space, is_ancestor}
+use Rattle.model_cred.specs.Space.{Space, Spaces, space_of, put_space, is_at_or_above}
 use Rattle.model_rules.specs.Caps.{cap_setuid, cap_setgid, cap_sys_admin}
-use Rattle.model_rules.specs.Maps.{Written, MapFile, UidMap, GidMap, map_of, with_map, cap_for, effective_id, parent_map, extent_down, list_down, has_over_parent, may_write, setfcap_allows, is_single, word_allows, is_own_map, may_map, write_mapped, write_map, write_refused, write_done, write_setgroups, may_say}
+use Rattle.model_rules.specs.Maps.{Written, MapFile, UidMap, GidMap, map_of, with_map, cap_for, effective_id}
+use Rattle.model_rules.specs.Maps.{parent_map, extent_down, list_down, has_over_parent, may_write, setfcap_allows}
+use Rattle.model_rules.specs.Maps.{is_single, word_allows, is_own_map, may_map, write_stored, write_map, write_refused}
+use Rattle.model_rules.specs.Maps.{write_done, write_setgroups, may_say}
 use Rattle.model_rules.specs.Power.{has_over}
 use Rattle.model_box.specs.Row.{Part, EffectiveUids, EffectiveGids, MappedUids, MappedGids, PermittedCaps, Row, Standing, Fresh, HasMembers}
 use Rattle.model_box.specs.Rule.{Maps}
 use Rattle.model_box.specs.Closed.{Closed}
 use Rattle.model_box.specs.Covers.{RowOf, own, child, deeper, Stays, MapsIn}
-use Rattle.model_box.proofs.Trees.{Earlier, has_parent_stands, ancestor_below, power_cases, row_standing}
+use Rattle.model_box.proofs.Trees.{Earlier, has_parent_stands, at_or_above_low, power_cases, row_standing}
 use Rattle.model_box.proofs.Fits.{SpacesFit, MemberFits, InRow, it_stands}
 use Rattle.model_box.proofs.Writing.{choose, put_fits, put_members}
 
@@ -48,14 +52,19 @@ extent_outside (p ∷ map) e f down x held = go fits refl down (λ rest. extent_
       let from : p.outside + (e.outside - p.inside) ≤ x = leb-true (p.outside + (e.outside - p.inside)) x two.0 in
       let to : x < (p.outside + (e.outside - p.inside)) + e.length = ltb-true x ((p.outside + (e.outside - p.inside)) + e.length) two.1 in
       choose (λ (b : Bool). IsTrue b) (lies_in p.outside p.length x) true (is_outside map x) (λ _. refl)
-      (λ wrong. absurd (false≢true (sym wrong ∙ and_from (leb p.outside x) (ltb x (p.outside + p.length)) (le-leb p.outside x (omega arith)) (lt-ltb x (p.outside + p.length) (omega arith)))))
+      (λ wrong.
+      absurd (false≢true (sym wrong
+      ∙ and_from (leb p.outside x) (ltb x (p.outside + p.length)) (le-leb p.outside x (omega arith))
+      (lt-ltb x (p.outside + p.length) (omega arith)))))
   go false outside same rest = choose (λ (b : Bool). IsTrue b) (lies_in p.outside p.length x) true (is_outside map x) (λ _. refl) (λ _. rest same)
 
 -- an outside id of a list taken down is one of the map
 list_outside : (map list mapped : List Extent) → list_down map list ≡ Some mapped → (x : ℕ) → IsTrue (is_outside mapped x) → IsTrue (is_outside map x)
 list_outside map [] mapped down x held = let none : [] ≡ mapped = cc in absurd (false≢true (rw (← none) at held))
 list_outside map (e ∷ list) mapped down x held = first (λ more rest held. list_outside map list more rest x held) (extent_down map e) refl down where
-  second : ((more : List Extent) → list_down map list ≡ Some more → IsTrue (is_outside more x) → IsTrue (is_outside map x)) → (f : Extent) → extent_down map e ≡ Some f → (r : Option (List Extent)) → list_down map list ≡ r
+  second : ((more : List Extent) → list_down map list ≡ Some more → IsTrue (is_outside more x)
+      → IsTrue (is_outside map x))
+      → (f : Extent) → extent_down map e ≡ Some f → (r : Option (List Extent)) → list_down map list ≡ r
       → option_map (λ rest. f ∷ rest) r ≡ Some mapped → IsTrue (is_outside map x)
   second later f one None rest same = absurd (cc)
   second later f one (Some more) rest same =
@@ -66,7 +75,10 @@ list_outside map (e ∷ list) mapped down x held = first (λ more rest held. lis
         by true here _ = extent_outside map e f one x here
         by false there held'' = later more rest held''
 
-  first : ((more : List Extent) → list_down map list ≡ Some more → IsTrue (is_outside more x) → IsTrue (is_outside map x)) → (o : Option Extent) → extent_down map e ≡ o → option_and_then (λ f. option_map (λ rest. f ∷ rest) (list_down map list)) o ≡ Some mapped
+  first : ((more : List Extent) → list_down map list ≡ Some more → IsTrue (is_outside more x)
+      → IsTrue (is_outside map x))
+      → (o : Option Extent) → extent_down map e ≡ o
+      → option_and_then (λ f. option_map (λ rest. f ∷ rest) (list_down map list)) o ≡ Some mapped
       → IsTrue (is_outside map x)
   first later None one same = absurd (cc)
   first later (Some f) one same = second later f one (list_down map list) refl same
@@ -116,12 +128,12 @@ by_why cause_ power in_target in_parent =
 over_parent : (new : Spaces) → Earlier new → (at : ℕ) (c : Credential) (cap t q : ℕ) → (space_of new t).parent ≡ Some q
     → ((at ≡ t) ⊎ (at ≡ q)) → IsTrue (has_over new at c cap q) → (at ≡ q) × IsTrue (holds c.effective cap)
 over_parent new earlier at c cap t q parent sits power = by sits found.2 where
-  found : (m : ℕ) × IsTrue (is_ancestor new m q)
+  found : (m : ℕ) × IsTrue (is_at_or_above new m q)
       × (((m ≡ at) × IsTrue (holds c.effective cap)) ⊎ (((space_of new m).parent ≡ Some at) × ((space_of new m).owner ≡ c.uid.effective)))
   found = power_cases new at c.effective c.uid.effective cap q power
 
   m_low : found.0 ≤ q
-  m_low = ancestor_below new earlier found.0 q found.1
+  m_low = at_or_above_low new earlier found.0 q found.1
 
   q_low : q < t
   q_low = earlier t q parent
@@ -131,18 +143,21 @@ over_parent new earlier at c cap t q parent sits power = by sits found.2 where
       → (at ≡ q) × IsTrue (holds c.effective cap)
   by (inl in_target) (inl here) = absurd (let m : found.0 ≤ q = m_low in let q' : q < t = q_low in let e : found.0 ≡ at = here.0 in omega arith)
   by (inr in_parent) (inl here) = (in_parent, here.1)
-  by (inl in_target) (inr owned) = absurd (let m : found.0 ≤ q = m_low in let q' : q < t = q_low in let up : at < found.0 = earlier found.0 at owned.0 in omega arith)
+  by (inl in_target) (inr owned) =
+      absurd (let m : found.0 ≤ q = m_low in
+      let q' : q < t = q_low in
+      let up : at < found.0 = earlier found.0 at owned.0 in omega arith)
   by (inr in_parent) (inr owned) = absurd (let m : found.0 ≤ q = m_low in let up : at < found.0 = earlier found.0 at owned.0 in omega arith)
 
 -- Power over one's own space is in the effective set.
 over_own : (new : Spaces) → Earlier new → (at : ℕ) (c : Credential) (cap : ℕ) → IsTrue (has_over new at c cap at) → IsTrue (holds c.effective cap)
 over_own new earlier at c cap power = by found.2 where
-  found : (m : ℕ) × IsTrue (is_ancestor new m at)
+  found : (m : ℕ) × IsTrue (is_at_or_above new m at)
       × (((m ≡ at) × IsTrue (holds c.effective cap)) ⊎ (((space_of new m).parent ≡ Some at) × ((space_of new m).owner ≡ c.uid.effective)))
   found = power_cases new at c.effective c.uid.effective cap at power
 
   m_low : found.0 ≤ at
-  m_low = ancestor_below new earlier found.0 at found.1
+  m_low = at_or_above_low new earlier found.0 at found.1
 
   by : (((found.0 ≡ at) × IsTrue (holds c.effective cap)) ⊎ (((space_of new found.0).parent ≡ Some at) × ((space_of new found.0).owner ≡ c.uid.effective)))
       → IsTrue (holds c.effective cap)
@@ -185,9 +200,15 @@ cause file new earlier at c t list mapped writes down may x held =
           why = elim (or_cases (has_over_parent new at c (cap_for file) (space_of new t).parent) (is_own_map file c (space_of new t) mapped) allowed) [
             | inl power ↦ inl (over_parent new earlier at c (cap_for file) t q parent (sits q parent) (rw parent at power))
             | inr alone ↦
-                let first = and_parts (is_single mapped (effective_id file c) && (space_of new t).owner == c.uid.effective) (word_allows file (space_of new t)) alone in
+                let first
+                = and_parts (is_single mapped (effective_id file c) && (space_of new t).owner == c.uid.effective)
+                (word_allows file (space_of new t)) alone in
                 let second = and_parts (is_single mapped (effective_id file c)) ((space_of new t).owner == c.uid.effective) first.0 in
-                inr (single_is mapped (effective_id file c) second.0 x held, eqb-true (space_of new t).owner c.uid.effective second.1, sits_so q (sits q parent))
+                inr (
+                  single_is mapped (effective_id file c) second.0 x held,
+                  eqb-true (space_of new t).owner c.uid.effective second.1,
+                  sits_so q (sits q parent),
+                )
           ];
         },
       )
@@ -249,7 +270,14 @@ module _ (permitted : CallKind → Bool) (files : FileTable) (old new : Spaces) 
               (fit.mapped q (Standing q) is_q).uids x cause_.outside,
               by_why cause_
                   (λ here cap. inl (cap_at cap_setuid q (Standing q) here is_q cap))
-                  (λ same owner here cap. inr (same ∙ owner_is low owner, inr (owner_at low t (Standing t) owner here (own t low), cap_at cap_setuid t (Standing t) here (own t low) cap)))
+                  (λ same owner here cap.
+                  inr (
+                    same ∙ owner_is low owner,
+                    inr (
+                      owner_at low t (Standing t) owner here (own t low),
+                      cap_at cap_setuid t (Standing t) here (own t low) cap,
+                    ),
+                  ))
                   (λ same owner here. inr (same ∙ owner_is low owner, inl (owner_at low q (Standing q) owner here is_q))),
             ),
           ),
@@ -269,7 +297,12 @@ module _ (permitted : CallKind → Bool) (files : FileTable) (old new : Spaces) 
               (fit.mapped q (Standing q) is_q).gids x cause_.outside,
               by_why cause_
                   (λ here cap. inl (cap_at cap_setgid q (Standing q) here is_q cap))
-                  (λ same owner here cap. inr (inr (owner_at low t (Standing t) owner here (own t low), cap_at cap_setgid t (Standing t) here (own t low) cap, held_at t (Standing t) here (own t low) EffectiveGids x same)))
+                  (λ same owner here cap.
+                  inr (inr (
+                    owner_at low t (Standing t) owner here (own t low),
+                    cap_at cap_setgid t (Standing t) here (own t low) cap,
+                    held_at t (Standing t) here (own t low) EffectiveGids x same,
+                  )))
                   (λ same owner here. inr (inl (owner_at low q (Standing q) owner here is_q, held_at q (Standing q) here is_q EffectiveGids x same))),
             ),
           ),
@@ -279,7 +312,8 @@ module _ (permitted : CallKind → Bool) (files : FileTable) (old new : Spaces) 
     uid_child : IsTrue (permitted kind.WriteUidMap) → (a : ℕ) → length old ≤ t → (space_of new t).parent ≡ Some q → RowOf (length old) new q (Standing a)
         → Cause UidMap new at c t q x → bounds (Fresh a) MappedUids x
     uid_child allowed a late parent is_q cause_ =
-        let owner_in : bounds (Standing a) EffectiveUids (space_of new t).owner = (fit.later t late (has_parent_stands new t q parent)).owner q (Standing a) parent is_q in
+        let owner_in : bounds (Standing a) EffectiveUids (space_of new t).owner
+        = (fit.later t late (has_parent_stands new t q parent)).owner q (Standing a) parent is_q in
         closed Maps (Fresh a) (it_stands old new bounds fit a (rw (← (row_standing is_q).0) (row_standing is_q).1)) MappedUids x (
           allowed,
           fresh_members q a late parent (child t q a late parent is_q) (inl is_q),
@@ -360,19 +394,21 @@ pub write_by : (P : Spaces → Type 0) (file : MapFile) (new : Spaces) (at : ℕ
     → P (write_map file new at c t list).spaces
 write_by P file new at c t list stays written =
     choose (λ (w : Written). P w.spaces) (not (may_write file new at c t)) (write_refused EPERM new)
-    (if not (is_map list) then write_refused EINVAL new else write_mapped file new at c t list (list_down (parent_map file new (space_of new t)) list))
+    (if not (is_map list) then write_refused EINVAL new else write_stored file new at c t list (list_down (parent_map file new (space_of new t)) list))
     (λ _. stays)
     (λ may. choose (λ (w : Written). P w.spaces) (not (is_map list)) (write_refused EINVAL new)
-    (write_mapped file new at c t list (list_down (parent_map file new (space_of new t)) list))
+    (write_stored file new at c t list (list_down (parent_map file new (space_of new t)) list))
     (λ _. stays)
     (λ _. mapped_by (not-false (may_write file new at c t) may) (list_down (parent_map file new (space_of new t)) list) refl)) where
       mapped_by : IsTrue (may_write file new at c t) → (o : Option (List Extent)) → list_down (parent_map file new (space_of new t)) list ≡ o
-          → P (write_mapped file new at c t list o).spaces
+          → P (write_stored file new at c t list o).spaces
       mapped_by may None down = stays
       mapped_by may (Some mapped) down =
           choose (λ (w : Written). P w.spaces) (setfcap_allows file new at c (space_of new t) list && may_map file new at c (space_of new t) mapped)
           (write_done new t (with_map file (space_of new t) mapped)) (write_refused EPERM new)
-          (λ both. written may mapped down (and_parts (setfcap_allows file new at c (space_of new t) list) (may_map file new at c (space_of new t) mapped) both).1)
+          (λ both.
+          written may mapped down (and_parts (setfcap_allows file new at c (space_of new t) list)
+          (may_map file new at c (space_of new t) mapped) both).1)
           (λ _. stays)
 
 module _ (permitted : CallKind → Bool) (files : FileTable) (old new : Spaces) (bounds : Row → Part → ℕ → Type 0)

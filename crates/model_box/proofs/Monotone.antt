@@ -6,8 +6,10 @@ use Rattle.model_cred.specs.Files.{FileTable}
 use Rattle.model_cred.specs.IdMap.{Extent}
 use Rattle.model_cred.specs.Space.{Spaces, space_of}
 use Rattle.model_rules.specs.FileView.{FileView, view}
-use Rattle.model_box.specs.Row.{Part, EffectiveUids, EffectiveGids, MappedUids, MappedGids, PermittedCaps, NewPrivs, Row, Standing, Fresh, space_under, IsWithin, HasMembers}
-use Rattle.model_box.specs.Rule.{Rule, SetUid, SetFsUid, SetGid, SetFsGid, SetGroups, CapSet, SecureBits, ExecUid, ExecGid, ExecCaps, ExecRoot, Create, Join, Maps}
+use Rattle.model_box.specs.Row.{Part, EffectiveUids, EffectiveGids, MappedUids, MappedGids, PermittedCaps, NewPrivs}
+use Rattle.model_box.specs.Row.{Row, Standing, Fresh, space_under, IsWithin, HasMembers}
+use Rattle.model_box.specs.Rule.{Rule, SetUid, SetFsUid, SetGid, SetFsGid, SetGroups, CapSet, SecureBits, ExecUid}
+use Rattle.model_box.specs.Rule.{ExecGid, ExecCaps, ExecRoot, Create, Join, Maps}
 use Rattle.model_box.specs.Gains.{SettableUid, SettableGid, SpreadsUid, SpreadsGid, GainsFsUid, GainsFsGid, GainsGroups, GainsInheritable, GainsRoot}
 use Rattle.model_box.specs.Files.{IdIn, HasOther, CanRun, SetIdCan, TakesCan, MayBeZero, ZeroIn, ZeroAbove, RootCan, FileGives}
 use Rattle.model_box.specs.Spread.{Brings, CanJoin, NewUid, NewGid, FreshUid, FreshGid}
@@ -145,21 +147,48 @@ module _ (bounds wider : Row → Part → ℕ → Type 0) (within : IsWithin bou
   -- what the rules add that look at one row
   adds_more_here : (permitted : CallKind → Bool) (files : FileTable) (spaces : Spaces) (rule : Rule) (row : Row) (part : Part) (x : ℕ)
       → Adds permitted files spaces bounds rule row part x → Adds permitted files spaces wider rule row part x
-  adds_more_here permitted files spaces SetUid row part x (p, m, added) =
-      (p, members_more row m, spreads_uid_more (bounds row) (wider row) (SettableUid (bounds row)) (SettableUid (wider row)) (within row) (λ y held. grind (arith, within)) part x added)
-  adds_more_here permitted files spaces SetFsUid row part x (p, m, added) = (p, members_more row m, gains_fs_uid_more (bounds row) (wider row) (within row) part x added)
-  adds_more_here permitted files spaces SetGid row part x (p, m, added) =
-      (p, members_more row m, spreads_gid_more (bounds row) (wider row) (SettableGid (bounds row)) (SettableGid (wider row)) (within row) (λ y held. grind (arith, within)) part x added)
-  adds_more_here permitted files spaces SetFsGid row part x (p, m, added) = (p, members_more row m, gains_fs_gid_more (bounds row) (wider row) (within row) part x added)
-  adds_more_here permitted files spaces SetGroups row part x (p, m, word, added) = (p, members_more row m, word, gains_groups_more (bounds row) (wider row) (within row) part x added)
-  adds_more_here permitted files spaces CapSet row part x (p, m, added) = (p, members_more row m, gains_inheritable_more (bounds row) (wider row) (within row) part x added)
-  adds_more_here permitted files spaces SecureBits row part x (p, m, added) = (p, members_more row m, gains_root_more (bounds row) (wider row) (within row) part x added)
-  adds_more_here permitted files spaces ExecUid row part x (p, m, added) =
-      (p, members_more row m, spreads_uid_more (bounds row) (wider row) (OwnerByFile files spaces (space_under row) (bounds row)) (OwnerByFile files spaces (space_under row) (wider row)) (within row) (owner_more (bounds row) (wider row) (within row) files spaces (space_under row)) part x added)
-  adds_more_here permitted files spaces ExecGid row part x (p, m, added) =
-      (p, members_more row m, spreads_gid_more (bounds row) (wider row) (GroupByFile files spaces (space_under row) (bounds row)) (GroupByFile files spaces (space_under row) (wider row)) (within row) (group_more (bounds row) (wider row) (within row) files spaces (space_under row)) part x added)
-  adds_more_here permitted files spaces ExecCaps row part x (p, m, added) =
-      (p, members_more row m, only_caps_more (CapByFile files spaces bounds row) (CapByFile files spaces wider row) (cap_by_file_more files spaces row) part x added)
+  adds_more_here permitted files spaces SetUid row part x (p, m, added) = (
+    p,
+    members_more row m,
+    spreads_uid_more (bounds row) (wider row) (SettableUid (bounds row)) (SettableUid (wider row)) (within row)
+        (λ y held. grind (arith, within)) part x added,
+  )
+  adds_more_here permitted files spaces SetFsUid row part x (p, m, added) =
+      (p, members_more row m, gains_fs_uid_more (bounds row) (wider row) (within row) part x added)
+  adds_more_here permitted files spaces SetGid row part x (p, m, added) = (
+    p,
+    members_more row m,
+    spreads_gid_more (bounds row) (wider row) (SettableGid (bounds row)) (SettableGid (wider row)) (within row)
+        (λ y held. grind (arith, within)) part x added,
+  )
+  adds_more_here permitted files spaces SetFsGid row part x (p, m, added) =
+      (p, members_more row m, gains_fs_gid_more (bounds row) (wider row) (within row) part x added)
+  adds_more_here permitted files spaces SetGroups row part x (p, m, word, added) =
+      (p, members_more row m, word, gains_groups_more (bounds row) (wider row) (within row) part x added)
+  adds_more_here permitted files spaces CapSet row part x (p, m, added) =
+      (p, members_more row m, gains_inheritable_more (bounds row) (wider row) (within row) part x added)
+  adds_more_here permitted files spaces SecureBits row part x (p, m, added) =
+      (p, members_more row m, gains_root_more (bounds row) (wider row) (within row) part x added)
+  adds_more_here permitted files spaces ExecUid row part x (p, m, added) = (
+    p,
+    members_more row m,
+    spreads_uid_more (bounds row) (wider row) (OwnerByFile files spaces (space_under row) (bounds row))
+        (OwnerByFile files spaces (space_under row) (wider row)) (within row)
+        (owner_more (bounds row) (wider row) (within row) files spaces (space_under row)) part x added,
+  )
+  adds_more_here permitted files spaces ExecGid row part x (p, m, added) = (
+    p,
+    members_more row m,
+    spreads_gid_more (bounds row) (wider row) (GroupByFile files spaces (space_under row) (bounds row))
+        (GroupByFile files spaces (space_under row) (wider row)) (within row)
+        (group_more (bounds row) (wider row) (within row) files spaces (space_under row)) part x added,
+  )
+  adds_more_here permitted files spaces ExecCaps row part x (p, m, added) = (
+    p,
+    members_more row m,
+    only_caps_more (CapByFile files spaces bounds row) (CapByFile files spaces wider row)
+        (cap_by_file_more files spaces row) part x added,
+  )
   adds_more_here permitted files spaces ExecRoot row part x (p, m, added) =
       (p, members_more row m, only_caps_more (CapByRoot spaces bounds row) (CapByRoot spaces wider row) (cap_by_root_more spaces row) part x added)
   adds_more_here permitted files spaces Create (Standing n) part x added = added

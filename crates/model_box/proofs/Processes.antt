@@ -116,15 +116,28 @@ without_found gone (p ∷ ps) q found at =
       here rest stays at' =
           elim (cases_Bool (eqb p.pid q)) [
             | inl is ↦
-                let same : after_exit gone p ≡ found = one_of (after_exit gone p) found (sym (at_head (after_exit gone p) (without_process gone ps) q (ap (λ (k : ℕ). eqb k q) pid_stays ∙ is)) ∙ at') in (
+                let same : after_exit gone p ≡ found
+                = one_of (after_exit gone p) found
+                (sym (at_head (after_exit gone p) (without_process gone ps) q (ap (λ (k : ℕ). eqb k q) pid_stays ∙ is))
+                ∙ at') in (
                   λ gone_is. eqb-false p.pid gone.pid (not-true (eqb p.pid gone.pid) stays) (eqb-true p.pid q is ∙ gone_is),
-                  record { was = p; named = at_head p ps q is; space = sym (ap (λ (x : Process). x.space) same) ∙ space_stays; cred = sym (ap (λ (x : Process). x.cred) same) ∙ cred_stays },
+                  record {
+                    was = p;
+                    named = at_head p ps q is;
+                    space = sym (ap (λ (x : Process). x.space) same) ∙ space_stays;
+                    cred = sym (ap (λ (x : Process). x.cred) same) ∙ cred_stays;
+                  },
                 )
-            | inr not_it ↦ lifted not_it (rest (sym (at_tail (after_exit gone p) (without_process gone ps) q (ap (λ (k : ℕ). eqb k q) pid_stays ∙ not_it)) ∙ at'))
+            | inr not_it ↦
+                lifted not_it (rest (sym
+                (at_tail (after_exit gone p) (without_process gone ps) q (ap (λ (k : ℕ). eqb k q) pid_stays ∙ not_it))
+                ∙ at'))
           ]
 
 -- ---- members
-kept_member : (members : List ℕ) (pid q : ℕ) → IsTrue (list_any (λ m. eqb m q) (filter (λ member. not (eqb member pid)) members)) → IsTrue (list_any (λ m. eqb m q) members)
+kept_member : (members : List ℕ) (pid q : ℕ)
+    → IsTrue (list_any (λ m. eqb m q) (filter (λ member. not (eqb member pid)) members))
+    → IsTrue (list_any (λ m. eqb m q) members)
 kept_member [] pid q held = held
 kept_member (m ∷ members) pid q held =
     choose (λ (kept : List ℕ). IsTrue (list_any (λ k. eqb k q) kept) → IsTrue (list_any (λ k. eqb k q) (m ∷ members)))
@@ -144,7 +157,8 @@ without_member members pid q (Id k) held = held
 without_member members pid q (Child k) held = held
 without_member members pid q (Err e) held = held
 
-with_member : (ps : List Process) (members : List ℕ) (q : ℕ) (res : Res) → is_living_child ps res ≡ false → IsTrue (is_alive ps q) → IsTrue (is_member (members_with members res) q)
+with_member : (ps : List Process) (members : List ℕ) (q : ℕ) (res : Res) → is_living_child ps res ≡ false
+    → IsTrue (is_alive ps q) → IsTrue (is_member (members_with members res) q)
     → IsTrue (is_member members q)
 with_member ps members q (Child k) free alive held =
     elim (or_cases (eqb k q) (is_member members q) held) [

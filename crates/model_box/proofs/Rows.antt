@@ -9,7 +9,9 @@ use Rattle.cm_base.specs.CapSet.{holds}
 use Rattle.cm_base.proofs.CapSets.{holds_meet, holds_none}
 use Rattle.model_cred.specs.Credential.{Credential, Included}
 use Rattle.model_rules.specs.Securebits.{has_flag, lock_of, noroot, locks, locked_flags}
-use Rattle.model_box.specs.Row.{Part, Uids, EffectiveUids, FsUids, Gids, EffectiveGids, FsGids, Groups, MappedUids, MappedGids, PermittedCaps, InheritableCaps, BoundingCaps, NewPrivs, RootCounts, LockClear}
+use Rattle.model_box.specs.Row.{Part, Uids, EffectiveUids, FsUids, Gids, EffectiveGids, FsGids, Groups, MappedUids}
+use Rattle.model_box.specs.Row.{MappedGids, PermittedCaps, InheritableCaps, BoundingCaps, NewPrivs, RootCounts}
+use Rattle.model_box.specs.Row.{LockClear}
 use Rattle.model_box.proofs.Fits.{InRow}
 use Rattle.model_box.proofs.Ids.{IdsIn}
 
@@ -89,7 +91,9 @@ locked_stays old new same lock set = cases (bit_at new 0) refl (bit_at-lt new 0)
   lock_bit = ap (λ (b : ℕ). eqb b 1) (sym (bit_at-suc (bit_and old locks) 0)) ∙ holds_meet old locks 1 ∙ and_from (holds old 1) (holds locks 1) lock refl
 
   changed : holds (bit_xor old new) 0 ≡ true → ⊥
-  changed one = false≢true (sym none_of ∙ holds_meet (bit_xor old new) (locked_flags old) 0 ∙ and_from (holds (bit_xor old new) 0) (holds (locked_flags old) 0) one lock_bit)
+  changed one =
+      false≢true (sym none_of ∙ holds_meet (bit_xor old new) (locked_flags old) 0
+      ∙ and_from (holds (bit_xor old new) 0) (holds (locked_flags old) 0) one lock_bit)
 
   cases : (b : ℕ) → bit_at new 0 ≡ b → b < 2 → holds new 0 ≡ true
   cases zero at low =

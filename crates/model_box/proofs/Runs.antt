@@ -24,6 +24,7 @@ use Rattle.model_box.specs.Row.{Part, Row}
 use Rattle.model_box.specs.Files.{FilesFit}
 use Rattle.model_box.specs.Closed.{Closed}
 use Rattle.model_box.proofs.Fits.{SpacesFit, MemberFits}
+use Rattle.model_box.proofs.Grows.{goes_to}
 use Rattle.model_box.proofs.Writing.{choose}
 use Rattle.model_box.proofs.MapWrites.{StillFits, nothing_changes}
 use Rattle.model_box.proofs.Making.{made_fits, maker_fits, others_fit}
@@ -33,7 +34,8 @@ use Rattle.model_box.proofs.Steps.{AfterCall, after_call}
 -- what a run keeps
 pub record Kept (old : Spaces) (s : State) (members : List ℕ) (bounds : Row → Part → ℕ → Type 0) : Type 0 where
   pub spaces : SpacesFit old s.spaces bounds
-  pub members_fit : (pid : ℕ) (p : Process) → IsTrue (is_member members pid) → process_at s.processes pid ≡ Some p → MemberFits old s.spaces bounds p.space p.cred
+  pub members_fit : (pid : ℕ) (p : Process) → IsTrue (is_member members pid) → process_at s.processes pid ≡ Some p
+      → MemberFits old s.spaces bounds p.space p.cred
 
 alive_is : (ps : List Process) (q : ℕ) (p : Process) → process_at ps q ≡ Some p → IsTrue (is_alive ps q)
 alive_is ps q p at = ap (λ (o : Option Process). is_some o) at
@@ -58,7 +60,11 @@ module _ (permitted : CallKind → Bool) (w : World) (old : Spaces) (bounds : Ro
 
     -- the caller has another space and credential, and the spaces may have changed
     changed_kept : (after : Spaces) (space : ℕ) (c : Credential) → AfterCall old s.spaces after bounds space c
-        → Kept old (record { processes = put_process (record p { space = space; cred = c }) s.processes; spaces = after }) (members_after members pid call res) bounds
+        → Kept old (record {
+          processes = put_process (record p { space = space; cred = c }) s.processes;
+          spaces = after;
+        })
+        (members_after members pid call res) bounds
     changed_kept after space c after_ = record {
       spaces = after_.still.spaces;
       members_fit = λ q found member found_at. by q found member (put_found (record p { space = space; cred = c }) s.processes q found found_at);
@@ -73,7 +79,11 @@ module _ (permitted : CallKind → Bool) (w : World) (old : Spaces) (bounds : Ro
         → Kept old (birth s baby after).state (members_after members pid call res) bounds
     born_kept after baby still fits =
         choose (λ (r : Ruling). Kept old r.state (members_after members pid call res) bounds) (is_pid baby.pid)
-        (record { res = Child baby.pid; state = record { processes = insert_process baby s.processes; spaces = after } }) (record { res = Err EAGAIN; state = s })
+        (record {
+          res = Child baby.pid;
+          state = record { processes = insert_process baby s.processes; spaces = after };
+        })
+        (record { res = Err EAGAIN; state = s })
         (λ _. record { spaces = still.spaces; members_fit = λ q found member found_at. by q found member (insert_found baby s.processes q found found_at) })
         (λ _. stays_kept) where
           by : (q : ℕ) (found : Process) → IsTrue (is_member (members_after members pid call res) q)
@@ -87,7 +97,8 @@ module _ (permitted : CallKind → Bool) (w : World) (old : Spaces) (bounds : Ro
       spaces = kept.spaces;
       members_fit = λ q found member found_at.
           let remains = (without_found p s.processes q found found_at).1 in
-          moved remains.was.space found.space remains.was.cred found.cred (sym remains.space) (sym remains.cred) (was_covered q remains.was member remains.named);
+          moved remains.was.space found.space remains.was.cred found.cred (sym remains.space) (sym remains.cred)
+          (was_covered q remains.was member remains.named);
     } where
       moved : (a b : ℕ) (c d : Credential) → a ≡ b → c ≡ d → MemberFits old s.spaces bounds a c → MemberFits old s.spaces bounds b d
       moved a b c d same other fits = rw (same, other) at fits
@@ -96,11 +107,18 @@ module _ (permitted : CallKind → Bool) (w : World) (old : Spaces) (bounds : Ro
   clone_kept : (res : Res) → is_living_child s.processes res ≡ false → (child_pid : ℕ) → IsTrue (permitted kind.CloneUser)
       → Kept old (ruling w s p CloneUser child_pid).state (members_after members pid CloneUser res) bounds
   clone_kept res free child_pid allowed =
-      choose (λ (a : Answer). Kept old (birth_unless a.res s (clone_child s.spaces p child_pid) (spaces_with a.res s.spaces p.space p.cred)).state (members_after members pid CloneUser res) bounds)
+      choose (λ (a : Answer).
+      Kept old (birth_unless a.res s (clone_child s.spaces p child_pid)
+      (spaces_with a.res s.spaces p.space p.cred)).state
+      (members_after members pid CloneUser res) bounds)
       (not (nat_lt (level s.spaces p.space) deepest)) (refused ENOSPC p.cred)
       (if not (is_mapped_in (space_of s.spaces p.space) p.cred) then refused EPERM p.cred else done (as_newcomer p.cred))
       (λ _. stays_kept CloneUser res free)
-      (λ shallow. choose (λ (a : Answer). Kept old (birth_unless a.res s (clone_child s.spaces p child_pid) (spaces_with a.res s.spaces p.space p.cred)).state (members_after members pid CloneUser res) bounds)
+      (λ shallow.
+      choose (λ (a : Answer).
+      Kept old (birth_unless a.res s (clone_child s.spaces p child_pid)
+      (spaces_with a.res s.spaces p.space p.cred)).state
+      (members_after members pid CloneUser res) bounds)
       (not (is_mapped_in (space_of s.spaces p.space) p.cred)) (refused EPERM p.cred) (done (as_newcomer p.cred))
       (λ _. stays_kept CloneUser res free)
       (λ mapped. made (not-false (nat_lt (level s.spaces p.space) deepest) shallow) (not-false (is_mapped_in (space_of s.spaces p.space) p.cred) mapped))) where
@@ -108,7 +126,9 @@ module _ (permitted : CallKind → Bool) (w : World) (old : Spaces) (bounds : Ro
         either = or_right (permitted kind.Unshare) (permitted kind.CloneUser) allowed
 
         made : IsTrue (nat_lt (level s.spaces p.space) deepest) → IsTrue (is_mapped_in (space_of s.spaces p.space) p.cred)
-            → Kept old (birth s (clone_child s.spaces p child_pid) (created_by s.spaces p.space p.cred ∷ s.spaces)).state (members_after members pid CloneUser res) bounds
+            → Kept old (birth s (clone_child s.spaces p child_pid)
+            (created_by s.spaces p.space p.cred ∷ s.spaces)).state
+            (members_after members pid CloneUser res) bounds
         made shallow mapped =
             born_kept CloneUser res free (created_by s.spaces p.space p.cred ∷ s.spaces) (clone_child s.spaces p child_pid)
             (record {
@@ -118,34 +138,41 @@ module _ (permitted : CallKind → Bool) (w : World) (old : Spaces) (bounds : Ro
             (maker_fits permitted w.files old s.spaces bounds closed kept.spaces p.space p.cred the_caller either shallow mapped)
 
   -- What the rules give is covered.
-  ruled_kept : (call : Call) (res : Res) → is_living_child s.processes res ≡ false → IsTrue (permitted (kind_of call)) → names_no_space s.spaces call ≡ false → (child_pid : ℕ)
+  ruled_kept : (call : Call) (res : Res) → is_living_child s.processes res ≡ false → IsTrue (permitted (kind_of call))
+      → names_no_space s.spaces call ≡ false → (child_pid : ℕ)
       → Kept old (ruling w s p call child_pid).state (members_after members pid call res) bounds
-  ruled_kept Fork res free allowed named child_pid = born_kept Fork res free s.spaces (fork_child p child_pid) (nothing_changes old s.spaces bounds kept.spaces) the_caller
+  ruled_kept Fork res free allowed named child_pid =
+      born_kept Fork res free s.spaces (fork_child p child_pid)
+      (nothing_changes old s.spaces bounds kept.spaces) the_caller
   ruled_kept CloneUser res free allowed named child_pid = clone_kept res free child_pid allowed
   ruled_kept Exit res free allowed named child_pid = left_kept Exit res free
   ruled_kept call res free allowed named child_pid =
-      changed_kept call res free (spaces_after s.spaces p.space p.cred call) (reply w.files s.spaces p.space p.cred call).space (reply w.files s.spaces p.space p.cred call).cred
+      changed_kept call res free (spaces_after s.spaces p.space p.cred call)
+      (reply w.files s.spaces p.space p.cred call).space (reply w.files s.spaces p.space p.cred call).cred
       (after_call permitted w.files old s.spaces bounds closed files_fit kept.spaces p.space p.cred the_caller call allowed named)
 
   -- a step of the caller
-  told_kept : (call : Call) (res : Res) (s' : State) → IsTrue (permitted (kind_of call)) → names_no_space s.spaces call ≡ false → is_living_child s.processes res ≡ false
+  told_kept : (call : Call) (res : Res) (s' : State) → IsTrue (permitted (kind_of call))
+      → names_no_space s.spaces call ≡ false → is_living_child s.processes res ≡ false
       → told_call w s p call res ≡ Goes s' → Kept old s' (members_after members pid call res) bounds
   told_kept call res s' allowed named free step = outside (comes_from_outside call res) step where
-    goes : (a b : State) → Goes a ≡ Goes b → a ≡ b
-    goes a b same = cc
-
-    rules : (b : Bool) → (if b then Goes (ruling w s p call (told_child res)).state else Wrong (own w s p call).res) ≡ Goes s' → Kept old s' (members_after members pid call res) bounds
-    rules true same = rw (goes (ruling w s p call (told_child res)).state s' same) at (ruled_kept call res free allowed named (told_child res))
+    rules : (b : Bool)
+        → (if b then Goes (ruling w s p call (told_child res)).state else Wrong (own w s p call).res) ≡ Goes s'
+        → Kept old s' (members_after members pid call res) bounds
+    rules true same = rw (goes_to (ruling w s p call (told_child res)).state s' same) at (ruled_kept call res free allowed named (told_child res))
     rules false same = absurd (cc)
 
-    outside : (b : Bool) → (if b then Goes s else told_rules res (ruling w s p call (told_child res)) (own w s p call)) ≡ Goes s' → Kept old s' (members_after members pid call res) bounds
-    outside true same = rw (goes s s' same) at (stays_kept call res free)
+    outside : (b : Bool)
+        → (if b then Goes s else told_rules res (ruling w s p call (told_child res)) (own w s p call)) ≡ Goes s'
+        → Kept old s' (members_after members pid call res) bounds
+    outside true same = rw (goes_to s s' same) at (stays_kept call res free)
     outside false same = rules (same_res res (ruling w s p call (told_child res)).res) same
 
 module _ (permitted : CallKind → Bool) (w : World) (old : Spaces) (bounds : Row → Part → ℕ → Type 0)
     (closed : Closed permitted w.files old bounds) (files_fit : FilesFit w.files old) where
   -- Each step of a member, of a kind that is permitted, keeps all members covered.
-  pub step_kept : (s : State) (members : List ℕ) (e : Event) (s' : State) → Kept old s members bounds → IsTrue (is_member members e.pid) → IsTrue (permitted (kind_of e.call))
+  pub step_kept : (s : State) (members : List ℕ) (e : Event) (s' : State) → Kept old s members bounds
+      → IsTrue (is_member members e.pid) → IsTrue (permitted (kind_of e.call))
       → Step w s e s' → Kept old s' (members_after members e.pid e.call e.res) bounds
   step_kept s members e s' kept caller allowed step = named (process_at s.processes e.pid) refl step where
     living : (p : Process) → process_at s.processes e.pid ≡ Some p → names_no_space s.spaces e.call ≡ false → (b : Bool) → is_living_child s.processes e.res ≡ b
@@ -159,7 +186,8 @@ module _ (permitted : CallKind → Bool) (w : World) (old : Spaces) (bounds : Ro
     spaced p at true is same = absurd (cc)
     spaced p at false is same = living p at is (is_living_child s.processes e.res) refl same
 
-    named : (o : Option Process) → process_at s.processes e.pid ≡ o → outcome_for w s o e ≡ Goes s' → Kept old s' (members_after members e.pid e.call e.res) bounds
+    named : (o : Option Process) → process_at s.processes e.pid ≡ o → outcome_for w s o e ≡ Goes s'
+        → Kept old s' (members_after members e.pid e.call e.res) bounds
     named None at same = absurd (cc)
     named (Some p) at same = spaced p at (names_no_space s.spaces e.call) refl same
 

@@ -9,7 +9,8 @@ use Rattle.model_cred.specs.Process.{Process, State, KeepsState, process_at}
 use Rattle.model_cred.specs.Space.{Spaces, space_of, stands}
 use Rattle.model_run.specs.Later.{is_member}
 use Rattle.model_box.specs.Row.{Part, MappedUids, MappedGids, Row, Standing, Fresh, space_under, row_number, row_at, IsWithin, CredHas}
-use Rattle.model_box.specs.Rule.{Rule, SetUid, SetFsUid, SetGid, SetFsGid, SetGroups, CapSet, SecureBits, ExecUid, ExecGid, ExecCaps, ExecRoot, Create, Join, Maps}
+use Rattle.model_box.specs.Rule.{Rule, SetUid, SetFsUid, SetGid, SetFsGid, SetGroups, CapSet, SecureBits, ExecUid}
+use Rattle.model_box.specs.Rule.{ExecGid, ExecCaps, ExecRoot, Create, Join, Maps}
 use Rattle.model_box.specs.Closed.{Adds, ByMaps}
 use Rattle.model_box.specs.Covers.{RowOf, Covers, MapsIn, child, deeper}
 use Rattle.model_box.specs.Covers as rows
@@ -24,13 +25,17 @@ module _ (s : State) (members : List ℕ) (bounds : Row → Part → ℕ → Typ
   -- Bounds that hold the start bounds cover the members at the query.
   pub covers_start : KeepsState s → IsWithin (StartHas s members) bounds → Covers s s members bounds
   covers_start keeps within = record {
-    creds = λ pid p row member at is part x has. creds pid p row member at is (all_named (λ (q : Process). q.space < length s.spaces) s.processes keeps.stands pid p at) part x has;
+    creds =
+        λ pid p row member at is part x has.
+        creds pid p row member at is
+        (all_named (λ (q : Process). q.space < length s.spaces) s.processes keeps.stands pid p at) part x has;
     grown = omega arith;
     stay = λ n low. record { parent = refl; owner = refl; uids = λ map written. written; gids = λ map written. written; deny = λ word. word };
     mapped = λ n row is. mapped is;
     later = λ n late low. absurd (omega arith);
   } where
-    creds : (pid : ℕ) (p : Process) (row : Row) → IsTrue (is_member members pid) → process_at s.processes pid ≡ Some p → RowOf (length s.spaces) s.spaces p.space row
+    creds : (pid : ℕ) (p : Process) (row : Row) → IsTrue (is_member members pid) → process_at s.processes pid ≡ Some p
+        → RowOf (length s.spaces) s.spaces p.space row
         → p.space < length s.spaces → (part : Part) (x : ℕ) → CredHas p.cred part x → bounds row part x
     creds pid p row member at is here part x has = by is refl where
       by : {n : ℕ} {row : Row} → RowOf (length s.spaces) s.spaces n row → p.space ≡ n → bounds row part x
@@ -44,7 +49,8 @@ module _ (s : State) (members : List ℕ) (bounds : Row → Part → ℕ → Typ
     mapped (deeper n q a late parent up) = absurd (let here : n < length s.spaces = has_parent_stands s.spaces n q parent in omega arith)
 
   -- And the other way: they hold the start bounds.
-  pub holds_start : Covers s s members bounds → (row : Row) → IsTrue (stands s.spaces (space_under row)) → (part : Part) (x : ℕ) → StartHas s members row part x → bounds row part x
+  pub holds_start : Covers s s members bounds → (row : Row) → IsTrue (stands s.spaces (space_under row))
+      → (part : Part) (x : ℕ) → StartHas s members row part x → bounds row part x
   holds_start covers (Standing n) standing part x (inl (pid, p, member, at, same, has)) =
       covers.creds pid p (Standing n) member at (rw same (rows.own n (ltb-true n (length s.spaces) standing))) part x has
   holds_start covers (Standing n) standing part x (inr maps) = by part maps where
@@ -86,10 +92,12 @@ module _ (permitted : CallKind → Bool) (files : FileTable) (spaces : Spaces) (
   -- No later space is above a standing one, so what comes to a standing row is read from standing rows alone.
   pub standing_apart : ((n : ℕ) (part : Part) (x : ℕ) → bounds (Standing n) part x → other (Standing n) part x) → (rule : Rule) (n : ℕ) (part : Part) (x : ℕ)
       → Adds permitted files spaces bounds rule (Standing n) part x → Adds permitted files spaces other rule (Standing n) part x
-  standing_apart within rule n part x added = merged_adds rule n part x (adds_more permitted files spaces bounds (merged other bounds) both rule (Standing n) part x added) where
-    both : IsWithin bounds (merged other bounds)
-    both (Standing m) part' y held = within m part' y held
-    both (Fresh m) part' y held = held
+  standing_apart within rule n part x added =
+      merged_adds rule n part x
+      (adds_more permitted files spaces bounds (merged other bounds) both rule (Standing n) part x added) where
+        both : IsWithin bounds (merged other bounds)
+        both (Standing m) part' y held = within m part' y held
+        both (Fresh m) part' y held = held
 
 -- ---- what a rule rests on
 none_of_three : (a b d : Bool) → a ≡ false → b ≡ false → d ≡ false → IsTrue (a || b || d) → ⊥
@@ -99,7 +107,8 @@ none_of_two : (a b : Bool) → a ≡ false → b ≡ false → IsTrue (a || b) �
 none_of_two a b first second held = false≢true (rw (first, second) at held)
 
 module _ (permitted : CallKind → Bool) (files : FileTable) (spaces : Spaces) (bounds : Row → Part → ℕ → Type 0) where
-  maps_need_writes : permitted kind.WriteUidMap ≡ false → permitted kind.WriteGidMap ≡ false → (row : Row) (part : Part) (x : ℕ) → ByMaps permitted spaces bounds row part x → ⊥
+  maps_need_writes : permitted kind.WriteUidMap ≡ false → permitted kind.WriteGidMap ≡ false
+      → (row : Row) (part : Part) (x : ℕ) → ByMaps permitted spaces bounds row part x → ⊥
   maps_need_writes uid gid (Standing n) MappedUids x added = false≢true (sym uid ∙ added.0)
   maps_need_writes uid gid (Standing n) MappedGids x added = false≢true (sym gid ∙ added.0)
   maps_need_writes uid gid (Fresh n) MappedUids x added = false≢true (sym uid ∙ added.0)
@@ -111,10 +120,14 @@ module _ (permitted : CallKind → Bool) (files : FileTable) (spaces : Spaces) (
   pub excluded_adds_nothing : (rule : Rule) → ((k : CallKind) → RestsOn rule k → permitted k ≡ false) → (row : Row) (part : Part) (x : ℕ)
       → Adds permitted files spaces bounds rule row part x → ⊥
   excluded_adds_nothing SetUid none row part x added =
-      none_of_three (permitted kind.SetUid) (permitted kind.SetReUid) (permitted kind.SetResUid) (none kind.SetUid (inl refl)) (none kind.SetReUid (inr (inl refl))) (none kind.SetResUid (inr (inr refl))) added.0
+      none_of_three (permitted kind.SetUid) (permitted kind.SetReUid) (permitted kind.SetResUid)
+      (none kind.SetUid (inl refl)) (none kind.SetReUid (inr (inl refl)))
+      (none kind.SetResUid (inr (inr refl))) added.0
   excluded_adds_nothing SetFsUid none row part x added = false≢true (sym (none kind.SetFsUid refl) ∙ added.0)
   excluded_adds_nothing SetGid none row part x added =
-      none_of_three (permitted kind.SetGid) (permitted kind.SetReGid) (permitted kind.SetResGid) (none kind.SetGid (inl refl)) (none kind.SetReGid (inr (inl refl))) (none kind.SetResGid (inr (inr refl))) added.0
+      none_of_three (permitted kind.SetGid) (permitted kind.SetReGid) (permitted kind.SetResGid)
+      (none kind.SetGid (inl refl)) (none kind.SetReGid (inr (inl refl)))
+      (none kind.SetResGid (inr (inr refl))) added.0
   excluded_adds_nothing SetFsGid none row part x added = false≢true (sym (none kind.SetFsGid refl) ∙ added.0)
   excluded_adds_nothing SetGroups none row part x added = false≢true (sym (none kind.SetGroups refl) ∙ added.0)
   excluded_adds_nothing CapSet none row part x added = false≢true (sym (none kind.CapSet refl) ∙ added.0)

@@ -1,5 +1,6 @@
 -- The laws as the contracts of `laws` state them, over bounds that tests give.
-use Rattle.model_box.specs.Laws.{tested, Soundness, Exclusion, CoversAtStart, Monotone, StandingApart, ExcludedRulesAddNothing, FilesOfWorldsFit, RowsByNumber, common, ClosedInCommon}
+use Rattle.model_box.specs.Laws.{tested, Soundness, Exclusion, CoversAtStart, Monotone, StandingApart}
+use Rattle.model_box.specs.Laws.{ExcludedRulesAddNothing, FilesOfWorldsFit, RowsByNumber, common, ClosedInCommon}
 use Rattle.std.proofs.lemmas.Bool.{and_parts, and_from}
 use Rattle.model_box.specs.Row.{row_number}
 use Rattle.model_box.proofs.Excludes as ends
@@ -19,7 +20,8 @@ pub covers_at_start : CoversAtStart
 covers_at_start s members bounds keeps = (starts.covers_start s members (tested bounds) keeps, starts.holds_start s members (tested bounds))
 
 pub monotone : Monotone
-monotone permitted files spaces bounds wider within rule row part x added = adds_more permitted files spaces (tested bounds) (tested wider) within rule row part x added
+monotone permitted files spaces bounds wider within rule row part x added =
+    adds_more permitted files spaces (tested bounds) (tested wider) within rule row part x added
 
 pub standing_apart : StandingApart
 standing_apart permitted files spaces bounds other within rule n part x added =

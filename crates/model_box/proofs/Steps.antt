@@ -3,7 +3,10 @@ use Rattle.std.proofs.Common.{◌≡◌, ℕ, zero, suc, ◌<◌, ◌≤◌, Boo
 use Rattle.std.specs.Prelude.{◌==◌, IsTrue, nat_lt, if◌then◌else◌}
 use Rattle.std.proofs.lemmas.Bool.{or_left, or_right, cases_lt, eqb-false, not-false, ltb-true}
 use Rattle.cm_base.specs.declared.errno.Errno.TheVariants.{EPERM, EINVAL, ENOSPC}
-use Rattle.model_cred.specs.Call.{Call, SetUid, SetReUid, SetResUid, SetFsUid, SetGid, SetReGid, SetResGid, SetFsGid, SetGroups, CapSet, BsetDrop, AmbRaise, AmbLower, AmbClear, SecureBits, KeepCaps, NoNewPrivs, Fork, CloneUser, Unshare, SetNs, WriteUidMap, WriteGidMap, WriteSetgroups, Exec, Exit, kind_of}
+use Rattle.model_cred.specs.Call.{Call, SetUid, SetReUid, SetResUid, SetFsUid, SetGid, SetReGid, SetResGid, SetFsGid}
+use Rattle.model_cred.specs.Call.{SetGroups, CapSet, BsetDrop, AmbRaise, AmbLower, AmbClear, SecureBits, KeepCaps}
+use Rattle.model_cred.specs.Call.{NoNewPrivs, Fork, CloneUser, Unshare, SetNs, WriteUidMap, WriteGidMap, WriteSetgroups}
+use Rattle.model_cred.specs.Call.{Exec, Exit, kind_of}
 use Rattle.cm_filter.specs.declared.kind.CallKind.{CallKind}
 use Rattle.cm_filter.specs.declared.kind.CallKind.TheVariants as kind
 use Rattle.model_cred.specs.Credential.{Credential}
@@ -11,7 +14,7 @@ use Rattle.model_cred.specs.Files.{FileTable}
 use Rattle.model_cred.specs.Space.{Spaces, space_of, stands, level}
 use Rattle.model_rules.specs.Answer.{Answer, done, refused}
 use Rattle.model_rules.specs.Caps.{cap_sys_admin}
-use Rattle.model_rules.specs.Namespaces.{create, created_by, join, as_newcomer, is_mapped_in, deepest}
+use Rattle.model_rules.specs.Namespaces.{unshare, clone_user, created_by, join, as_newcomer, is_mapped_in, deepest}
 use Rattle.model_rules.specs.Power.{has_over}
 use Rattle.model_rules.specs.Reply.{reply, place_after, spaces_with, spaces_after}
 use Rattle.model_run.specs.Step.{names_no_space}
@@ -27,7 +30,10 @@ use Rattle.model_box.proofs.Writing.{choose}
 use Rattle.model_box.proofs.MapWrites.{StillFits, nothing_changes, uid_map_fits, gid_map_fits, word_fits}
 use Rattle.model_box.proofs.Making.{made_fits, maker_fits, others_fit}
 use Rattle.model_box.proofs.Joins.{join_fits}
-use Rattle.model_box.proofs.Calls.{setresuid_fine, setreuid_fine, setuid_fine, setfsuid_fine, setresgid_fine, setregid_fine, setgid_fine, setfsgid_fine, setgroups_fine, capset_fine, bset_drop_fine, amb_raise_fine, amb_lower_fine, amb_clear_fine, secure_bits_fine, set_keep_caps_fine, set_no_new_privs_fine}
+use Rattle.model_box.proofs.Calls.{setresuid_fine, setreuid_fine, setuid_fine, setfsuid_fine, setresgid_fine}
+use Rattle.model_box.proofs.Calls.{setregid_fine, setgid_fine, setfsgid_fine, setgroups_fine, capset_fine}
+use Rattle.model_box.proofs.Calls.{bset_drop_fine, amb_raise_fine, amb_lower_fine, amb_clear_fine, secure_bits_fine}
+use Rattle.model_box.proofs.Calls.{set_keep_caps_fine, set_no_new_privs_fine}
 use Rattle.model_box.proofs.Execs.{execve_fine}
 
 -- a row of a standing space
@@ -79,7 +85,9 @@ module _ (permitted : CallKind → Bool) (files : FileTable) (old new : Spaces) 
   fine_at row is = record { held = held_in (bounds row) c (member.held row is); included = member.included }
 
   -- a call that changes the caller's credential alone
-  own_call : (d : Credential) → ((row : Row) → RowOf (length old) new at row → IsTrue (stands old (space_under row)) → Fine (bounds row) c → Fine (bounds row) d)
+  own_call : (d : Credential)
+      → ((row : Row) → RowOf (length old) new at row → IsTrue (stands old (space_under row)) → Fine (bounds row) c
+      → Fine (bounds row) d)
       → AfterCall old new new bounds at d
   own_call d keeps =
       let some = row_for old new bounds fit (suc at) at (omega arith) member.here in
@@ -87,7 +95,10 @@ module _ (permitted : CallKind → Bool) (files : FileTable) (old new : Spaces) 
         still = nothing_changes old new bounds fit;
         caller = record {
           here = member.here;
-          held = λ row is. in_row (bounds row) d (keeps row is (it_stands old new bounds fit (space_under row) (row_under old new at row is)) (fine_at row is)).held;
+          held =
+              λ row is.
+              in_row (bounds row) d (keeps row is
+              (it_stands old new bounds fit (space_under row) (row_under old new at row is)) (fine_at row is)).held;
           included = (keeps some.row some.is (it_stands old new bounds fit (space_under some.row) some.stands) (fine_at some.row some.is)).included;
         };
       }
@@ -105,7 +116,7 @@ module _ (permitted : CallKind → Bool) (files : FileTable) (old new : Spaces) 
 
   -- unshare(2)
   unshare_call : IsTrue (permitted kind.Unshare || permitted kind.CloneUser)
-      → AfterCall old new (spaces_with (create new at c).res new at c) bounds (place_after (create new at c).res at (length new)) (create new at c).cred
+      → AfterCall old new (spaces_with (unshare new at c).res new at c) bounds (place_after (unshare new at c).res at (length new)) (unshare new at c).cred
   unshare_call allowed =
       choose (λ (a : Answer). AfterCall old new (spaces_with a.res new at c) bounds (place_after a.res at (length new)) a.cred)
       (not (nat_lt (level new at) deepest)) (refused ENOSPC c) (if not (is_mapped_in (space_of new at) c) then refused EPERM c else done (as_newcomer c))
@@ -125,7 +136,7 @@ module _ (permitted : CallKind → Bool) (files : FileTable) (old new : Spaces) 
         }
 
   -- clone(2) with CLONE_NEWUSER, as far as the spaces go
-  clone_call : IsTrue (permitted kind.Unshare || permitted kind.CloneUser) → AfterCall old new (spaces_with (create new at c).res new at c) bounds at c
+  clone_call : IsTrue (permitted kind.Unshare || permitted kind.CloneUser) → AfterCall old new (spaces_with (clone_user new at c) new at c) bounds at c
   clone_call allowed = let after = unshare_call allowed in record { still = after.still; caller = after.still.members at c member }
 
   -- setns(2)
@@ -134,11 +145,15 @@ module _ (permitted : CallKind → Bool) (files : FileTable) (old new : Spaces) 
   setns_call allowed target here =
       choose (λ (a : Answer). AfterCall old new new bounds (place_after a.res at target) a.cred) (target == at) (refused EINVAL c)
       (if not (has_over new at c cap_sys_admin target) then refused EPERM c else done (as_newcomer c)) (λ _. same_cred)
-      (λ other. choose (λ (a : Answer). AfterCall old new new bounds (place_after a.res at target) a.cred) (not (has_over new at c cap_sys_admin target)) (refused EPERM c) (done (as_newcomer c))
+      (λ other.
+      choose (λ (a : Answer). AfterCall old new new bounds (place_after a.res at target) a.cred)
+      (not (has_over new at c cap_sys_admin target)) (refused EPERM c) (done (as_newcomer c))
       (λ _. same_cred)
       (λ power. record {
         still = nothing_changes old new bounds fit;
-        caller = join_fits permitted files old new bounds closed fit allowed at c member target here (eqb-false target at other) (not-false (has_over new at c cap_sys_admin target) power);
+        caller =
+            join_fits permitted files old new bounds closed fit allowed at c member target here
+            (eqb-false target at other) (not-false (has_over new at c cap_sys_admin target) power);
       }))
 
   -- Each call but births and exits, by its rule.
@@ -146,31 +161,45 @@ module _ (permitted : CallKind → Bool) (files : FileTable) (old new : Spaces) 
       → AfterCall old new (spaces_after new at c call) bounds (reply files new at c call).space (reply files new at c call).cred
   after_call (SetUid id) allowed named =
       own_call (reply files new at c (SetUid id)).cred
-      (λ row is standing fine. setuid_fine permitted files old bounds closed row standing (space_of new at) (fit.mapped at row is) c fine (one_allowed (permitted kind.SetUid) (permitted kind.SetReUid) (permitted kind.SetResUid) allowed) id)
+      (λ row is standing fine.
+      setuid_fine permitted files old bounds closed row standing (space_of new at) (fit.mapped at row is) c fine
+      (one_allowed (permitted kind.SetUid) (permitted kind.SetReUid) (permitted kind.SetResUid) allowed) id)
   after_call (SetReUid r e) allowed named =
       own_call (reply files new at c (SetReUid r e)).cred
-      (λ row is standing fine. setreuid_fine permitted files old bounds closed row standing (space_of new at) (fit.mapped at row is) c fine (two_allowed (permitted kind.SetUid) (permitted kind.SetReUid) (permitted kind.SetResUid) allowed) r e)
+      (λ row is standing fine.
+      setreuid_fine permitted files old bounds closed row standing (space_of new at) (fit.mapped at row is) c fine
+      (two_allowed (permitted kind.SetUid) (permitted kind.SetReUid) (permitted kind.SetResUid) allowed) r e)
   after_call (SetResUid r e v) allowed named =
       own_call (reply files new at c (SetResUid r e v)).cred
-      (λ row is standing fine. setresuid_fine permitted files old bounds closed row standing (space_of new at) (fit.mapped at row is) c fine (three_allowed (permitted kind.SetUid) (permitted kind.SetReUid) (permitted kind.SetResUid) allowed) r e v)
+      (λ row is standing fine.
+      setresuid_fine permitted files old bounds closed row standing (space_of new at) (fit.mapped at row is) c fine
+      (three_allowed (permitted kind.SetUid) (permitted kind.SetReUid) (permitted kind.SetResUid) allowed) r e v)
   after_call (SetFsUid id) allowed named =
       own_call (reply files new at c (SetFsUid id)).cred
       (λ row is standing fine. setfsuid_fine permitted files old bounds closed row standing (space_of new at) (fit.mapped at row is) c fine allowed id)
   after_call (SetGid id) allowed named =
       own_call (reply files new at c (SetGid id)).cred
-      (λ row is standing fine. setgid_fine permitted files old bounds closed row standing (space_of new at) (fit.mapped at row is) c fine (one_allowed (permitted kind.SetGid) (permitted kind.SetReGid) (permitted kind.SetResGid) allowed) id)
+      (λ row is standing fine.
+      setgid_fine permitted files old bounds closed row standing (space_of new at) (fit.mapped at row is) c fine
+      (one_allowed (permitted kind.SetGid) (permitted kind.SetReGid) (permitted kind.SetResGid) allowed) id)
   after_call (SetReGid r e) allowed named =
       own_call (reply files new at c (SetReGid r e)).cred
-      (λ row is standing fine. setregid_fine permitted files old bounds closed row standing (space_of new at) (fit.mapped at row is) c fine (two_allowed (permitted kind.SetGid) (permitted kind.SetReGid) (permitted kind.SetResGid) allowed) r e)
+      (λ row is standing fine.
+      setregid_fine permitted files old bounds closed row standing (space_of new at) (fit.mapped at row is) c fine
+      (two_allowed (permitted kind.SetGid) (permitted kind.SetReGid) (permitted kind.SetResGid) allowed) r e)
   after_call (SetResGid r e v) allowed named =
       own_call (reply files new at c (SetResGid r e v)).cred
-      (λ row is standing fine. setresgid_fine permitted files old bounds closed row standing (space_of new at) (fit.mapped at row is) c fine (three_allowed (permitted kind.SetGid) (permitted kind.SetReGid) (permitted kind.SetResGid) allowed) r e v)
+      (λ row is standing fine.
+      setresgid_fine permitted files old bounds closed row standing (space_of new at) (fit.mapped at row is) c fine
+      (three_allowed (permitted kind.SetGid) (permitted kind.SetReGid) (permitted kind.SetResGid) allowed) r e v)
   after_call (SetFsGid id) allowed named =
       own_call (reply files new at c (SetFsGid id)).cred
       (λ row is standing fine. setfsgid_fine permitted files old bounds closed row standing (space_of new at) (fit.mapped at row is) c fine allowed id)
   after_call (SetGroups ids) allowed named =
       own_call (reply files new at c (SetGroups ids)).cred
-      (λ row is standing fine. setgroups_fine permitted files old bounds closed row standing (space_of new at) (fit.mapped at row is) c fine allowed (word_stays row is) ids)
+      (λ row is standing fine.
+      setgroups_fine permitted files old bounds closed row standing (space_of new at)
+      (fit.mapped at row is) c fine allowed (word_stays row is) ids)
   after_call (CapSet e p i) allowed named =
       own_call (reply files new at c (CapSet e p i)).cred
       (λ row is standing fine. capset_fine permitted files old bounds closed row standing (space_of new at) (fit.mapped at row is) c fine allowed e p i)

@@ -1,11 +1,13 @@
 -- Chains of spaces: what is above a space, and which row it has.
-use Rattle.std.proofs.Common.{◌≡◌, ℕ, zero, suc, ◌<◌, ◌≤◌, Bool, false, ◌&&◌, eqb, Option, None, Some, List, [], ◌∷◌, length, refl, sym, ap, ◌∙◌, inl, inr, arith}
+use Rattle.std.proofs.Common.{◌≡◌, ℕ, zero, suc, ◌<◌, ◌≤◌, Bool, false, ◌&&◌, eqb, Option, None, Some, List, [], ◌∷◌}
+use Rattle.std.proofs.Common.{length, refl, sym, ap, ◌∙◌, inl, inr, arith}
 use Rattle.std.specs.Prelude.{◌⊎◌, IsTrue, unwrap_or}
 use Rattle.std.specs.List.{list_any}
 use Rattle.std.proofs.lemmas.Bool.{false≢true, cases_lt, cases_eq, eqb-true, eq-eqb, ne_eqb, and_parts, or_cases, or_left, or_right}
 use Rattle.cm_base.specs.CapSet.{holds}
+use Rattle.model_cred.proofs.Spaces.{chain_none, chain_empty}
 use Rattle.model_cred.specs.IdMap.{is_the}
-use Rattle.model_cred.specs.Space.{Space, Spaces, space_at, space_of, no_space, chain, chain_from, is_ancestor}
+use Rattle.model_cred.specs.Space.{Space, Spaces, space_at, space_of, no_space, chain, is_at_or_above}
 use Rattle.model_rules.specs.Power.{over, gives_power, is_owned}
 use Rattle.model_box.specs.Row.{Row, Standing, Fresh}
 use Rattle.model_box.specs.Covers.{RowOf, own, child, deeper}
@@ -36,18 +38,12 @@ has_parent_stands [] n p parent = absurd (cc)
 has_parent_stands (t ∷ older) n p parent =
     elim (cases_eq n (length older)) [
       | inl same ↦ omega arith
-      | inr other ↦ let low : n < length older = has_parent_stands older n p (sym (ap (λ (s : Space). s.parent) (space_of_older t older n other)) ∙ parent) in omega arith
+      | inr other ↦ let low : n < length older =
+          has_parent_stands older n p (sym (ap (λ (s : Space). s.parent) (space_of_older t older n other)) ∙ parent) in
+          omega arith
     ]
 
 -- ---- chains
-chain_none : (spaces : Spaces) → chain_from spaces None ≡ []
-chain_none [] = refl
-chain_none (t ∷ older) = chain_none older
-
-chain_past : (spaces : Spaces) (n : ℕ) → length spaces ≤ n → chain spaces n ≡ []
-chain_past [] n past = refl
-chain_past (t ∷ older) n past = rw (ne_eqb (length older) n (λ same. omega arith)) (chain_past older n (omega arith))
-
 chain_older : (t : Space) (older : Spaces) (n : ℕ) → (n ≡ length older → ⊥) → chain (t ∷ older) n ≡ chain older n
 chain_older t older n other = rw (ne_eqb (length older) n (λ same. other (sym same)))
 
@@ -78,20 +74,20 @@ chain_top (t ∷ older) n parent low =
     ]
 
 -- ---- what is above a space
-pub ancestor_self : (spaces : Spaces) → Earlier spaces → (n : ℕ) → n < length spaces → IsTrue (is_ancestor spaces n n)
-ancestor_self spaces earlier n low = at_parent (space_of spaces n).parent refl where
-  at_parent : (o : Option ℕ) → (space_of spaces n).parent ≡ o → IsTrue (is_ancestor spaces n n)
+pub at_or_above_self : (spaces : Spaces) → Earlier spaces → (n : ℕ) → n < length spaces → IsTrue (is_at_or_above spaces n n)
+at_or_above_self spaces earlier n low = at_parent (space_of spaces n).parent refl where
+  at_parent : (o : Option ℕ) → (space_of spaces n).parent ≡ o → IsTrue (is_at_or_above spaces n n)
   at_parent None parent = rw (chain_top spaces n parent low) (or_left (eqb n n) false (eq-eqb n n refl))
-  at_parent (Some p) parent = rw (chain_next spaces n p parent (earlier n p parent)) (or_left (eqb n n) (is_ancestor spaces n p) (eq-eqb n n refl))
+  at_parent (Some p) parent = rw (chain_next spaces n p parent (earlier n p parent)) (or_left (eqb n n) (is_at_or_above spaces n p) (eq-eqb n n refl))
 
-pub ancestor_up : (spaces : Spaces) → Earlier spaces → (m n p : ℕ) → (space_of spaces n).parent ≡ Some p → IsTrue (is_ancestor spaces m p)
-    → IsTrue (is_ancestor spaces m n)
-ancestor_up spaces earlier m n p parent above =
-    rw (chain_next spaces n p parent (earlier n p parent)) (or_right (eqb n m) (is_ancestor spaces m p) above)
+pub at_or_above_up : (spaces : Spaces) → Earlier spaces → (m n p : ℕ) → (space_of spaces n).parent ≡ Some p → IsTrue (is_at_or_above spaces m p)
+    → IsTrue (is_at_or_above spaces m n)
+at_or_above_up spaces earlier m n p parent above =
+    rw (chain_next spaces n p parent (earlier n p parent)) (or_right (eqb n m) (is_at_or_above spaces m p) above)
 
-pub ancestor_cases : (spaces : Spaces) → Earlier spaces → (m n : ℕ) → IsTrue (is_ancestor spaces m n)
-    → (m ≡ n) ⊎ ((p : ℕ) × ((space_of spaces n).parent ≡ Some p) × IsTrue (is_ancestor spaces m p))
-ancestor_cases spaces earlier m n above = at_parent (space_of spaces n).parent refl where
+pub at_or_above_cases : (spaces : Spaces) → Earlier spaces → (m n : ℕ) → IsTrue (is_at_or_above spaces m n)
+    → (m ≡ n) ⊎ ((p : ℕ) × ((space_of spaces n).parent ≡ Some p) × IsTrue (is_at_or_above spaces m p))
+at_or_above_cases spaces earlier m n above = at_parent (space_of spaces n).parent refl where
   one : (xs : List ℕ) → chain spaces n ≡ n ∷ xs → (m ≡ n) ⊎ IsTrue (list_any (λ k. eqb k m) xs)
   one xs same =
       elim (or_cases (eqb n m) (list_any (λ k. eqb k m) xs) (sym (ap (list_any (λ k. eqb k m)) same) ∙ above)) [
@@ -99,19 +95,19 @@ ancestor_cases spaces earlier m n above = at_parent (space_of spaces n).parent r
         | inr there ↦ inr there
       ]
 
-  top : (m ≡ n) ⊎ IsTrue (list_any (λ k. eqb k m) []) → (m ≡ n) ⊎ ((p : ℕ) × ((space_of spaces n).parent ≡ Some p) × IsTrue (is_ancestor spaces m p))
+  top : (m ≡ n) ⊎ IsTrue (list_any (λ k. eqb k m) []) → (m ≡ n) ⊎ ((p : ℕ) × ((space_of spaces n).parent ≡ Some p) × IsTrue (is_at_or_above spaces m p))
   top (inl same) = inl same
   top (inr wrong) = absurd (false≢true wrong)
 
-  next : (p : ℕ) → (space_of spaces n).parent ≡ Some p → (m ≡ n) ⊎ IsTrue (is_ancestor spaces m p)
-      → (m ≡ n) ⊎ ((p : ℕ) × ((space_of spaces n).parent ≡ Some p) × IsTrue (is_ancestor spaces m p))
+  next : (p : ℕ) → (space_of spaces n).parent ≡ Some p → (m ≡ n) ⊎ IsTrue (is_at_or_above spaces m p)
+      → (m ≡ n) ⊎ ((p : ℕ) × ((space_of spaces n).parent ≡ Some p) × IsTrue (is_at_or_above spaces m p))
   next p parent (inl same) = inl same
   next p parent (inr there) = inr (p, parent, there)
 
   past : length spaces ≤ n → ⊥
-  past high = false≢true (sym (ap (list_any (λ k. eqb k m)) (chain_past spaces n high)) ∙ above)
+  past high = false≢true (sym (ap (list_any (λ k. eqb k m)) (chain_empty spaces n high)) ∙ above)
 
-  at_parent : (o : Option ℕ) → (space_of spaces n).parent ≡ o → (m ≡ n) ⊎ ((p : ℕ) × ((space_of spaces n).parent ≡ Some p) × IsTrue (is_ancestor spaces m p))
+  at_parent : (o : Option ℕ) → (space_of spaces n).parent ≡ o → (m ≡ n) ⊎ ((p : ℕ) × ((space_of spaces n).parent ≡ Some p) × IsTrue (is_at_or_above spaces m p))
   at_parent None parent =
       elim (cases_lt n (length spaces)) [
         | inl low ↦ top (one [] (chain_top spaces n parent low))
@@ -120,33 +116,33 @@ ancestor_cases spaces earlier m n above = at_parent (space_of spaces n).parent r
   at_parent (Some p) parent = next p parent (one (chain spaces p) (chain_next spaces n p parent (earlier n p parent)))
 
 -- Induction from a space up to one above it.
-pub ancestor_ind : (spaces : Spaces) → Earlier spaces → (m : ℕ) (P : ℕ → Type 0) → P m
-    → ((n p : ℕ) → (space_of spaces n).parent ≡ Some p → IsTrue (is_ancestor spaces m p) → P p → P n)
-    → (fuel n : ℕ) → n < fuel → IsTrue (is_ancestor spaces m n) → P n
-ancestor_ind spaces earlier m P base step zero n low above = absurd (omega arith)
-ancestor_ind spaces earlier m P base step (suc fuel) n low above =
-    elim (ancestor_cases spaces earlier m n above) [
+pub at_or_above_ind : (spaces : Spaces) → Earlier spaces → (m : ℕ) (P : ℕ → Type 0) → P m
+    → ((n p : ℕ) → (space_of spaces n).parent ≡ Some p → IsTrue (is_at_or_above spaces m p) → P p → P n)
+    → (fuel n : ℕ) → n < fuel → IsTrue (is_at_or_above spaces m n) → P n
+at_or_above_ind spaces earlier m P base step zero n low above = absurd (omega arith)
+at_or_above_ind spaces earlier m P base step (suc fuel) n low above =
+    elim (at_or_above_cases spaces earlier m n above) [
       | inl same ↦ rw (← same) base
       | inr up ↦
           let before : up.0 < n = earlier n up.0 up.1 in
-          step n up.0 up.1 up.2 (ancestor_ind spaces earlier m P base step fuel up.0 (omega arith) up.2)
+          step n up.0 up.1 up.2 (at_or_above_ind spaces earlier m P base step fuel up.0 (omega arith) up.2)
     ]
 
-pub ancestor_below : (spaces : Spaces) → Earlier spaces → (m n : ℕ) → IsTrue (is_ancestor spaces m n) → m ≤ n
-ancestor_below spaces earlier m n above =
-    ancestor_ind spaces earlier m (λ k. m ≤ k) (omega arith) (λ k p parent up low. let before : p < k = earlier k p parent in omega arith)
+pub at_or_above_low : (spaces : Spaces) → Earlier spaces → (m n : ℕ) → IsTrue (is_at_or_above spaces m n) → m ≤ n
+at_or_above_low spaces earlier m n above =
+    at_or_above_ind spaces earlier m (λ k. m ≤ k) (omega arith) (λ k p parent up low. let before : p < k = earlier k p parent in omega arith)
     (suc n) n (omega arith) above
 
 -- Above a space there is a next one on its chain.
-pub next_exists : (spaces : Spaces) → Earlier spaces → (a n : ℕ) → IsTrue (is_ancestor spaces a n) → (a ≡ n → ⊥)
-    → (m : ℕ) × IsTrue (is_ancestor spaces m n) × ((space_of spaces m).parent ≡ Some a)
+pub next_exists : (spaces : Spaces) → Earlier spaces → (a n : ℕ) → IsTrue (is_at_or_above spaces a n) → (a ≡ n → ⊥)
+    → (m : ℕ) × IsTrue (is_at_or_above spaces m n) × ((space_of spaces m).parent ≡ Some a)
 next_exists spaces earlier a n above other =
-    ancestor_ind spaces earlier a (λ k. (a ≡ k → ⊥) → (m : ℕ) × IsTrue (is_ancestor spaces m k) × ((space_of spaces m).parent ≡ Some a))
+    at_or_above_ind spaces earlier a (λ k. (a ≡ k → ⊥) → (m : ℕ) × IsTrue (is_at_or_above spaces m k) × ((space_of spaces m).parent ≡ Some a))
     (λ wrong. absurd (wrong refl))
     (λ k p parent up rest apart.
     elim (cases_eq a p) [
-      | inl same ↦ (k, ancestor_self spaces earlier k (has_parent_stands spaces k p parent), parent ∙ ap Some (sym same))
-      | inr more ↦ let found = rest more in (found.0, ancestor_up spaces earlier found.0 k p parent found.1, found.2)
+      | inl same ↦ (k, at_or_above_self spaces earlier k (has_parent_stands spaces k p parent), parent ∙ ap Some (sym same))
+      | inr more ↦ let found = rest more in (found.0, at_or_above_up spaces earlier found.0 k p parent found.1, found.2)
     ])
     (suc n) n (omega arith) above other
 
@@ -166,7 +162,7 @@ owned_parts spaces m at euid held = parts (space_at spaces m) held where
 
 -- Whoever has power over a space has it by a space on the chain: its own, or one that it owns and whose parent is its own.
 pub power_cases : (spaces : Spaces) (at effective euid cap n : ℕ) → IsTrue (over spaces at effective euid cap n)
-    → (m : ℕ) × IsTrue (is_ancestor spaces m n)
+    → (m : ℕ) × IsTrue (is_at_or_above spaces m n)
     × (((m ≡ at) × IsTrue (holds effective cap)) ⊎ (((space_of spaces m).parent ≡ Some at) × ((space_of spaces m).owner ≡ euid)))
 power_cases spaces at effective euid cap n held =
     let found = any_item (gives_power spaces at effective euid cap) (chain spaces n) held in (
@@ -183,14 +179,15 @@ pub same_chain : (old new : Spaces) → Earlier old → Earlier new → length o
     → ((n : ℕ) → n < length old → (space_of new n).parent ≡ (space_of old n).parent)
     → (fuel n : ℕ) → n < fuel → n < length old → chain new n ≡ chain old n
 same_chain old new before after grown same zero n low stands = absurd (omega arith)
-same_chain old new before after grown same (suc fuel) n low stands = at_parent (space_of old n).parent refl (same_chain old new before after grown same fuel) where
-  at_parent : (o : Option ℕ) → (space_of old n).parent ≡ o
-      → ((k : ℕ) → k < fuel → k < length old → chain new k ≡ chain old k) → chain new n ≡ chain old n
-  at_parent None parent rest = chain_top new n (same n stands ∙ parent) (omega arith) ∙ sym (chain_top old n parent stands)
-  at_parent (Some p) parent rest =
-      let earlier : p < n = before n p parent in
-      chain_next new n p (same n stands ∙ parent) earlier ∙ ap (λ (c : List ℕ). n ∷ c) (rest p (omega arith) (omega arith))
-      ∙ sym (chain_next old n p parent earlier)
+same_chain old new before after grown same (suc fuel) n low stands =
+    at_parent (space_of old n).parent refl (same_chain old new before after grown same fuel) where
+      at_parent : (o : Option ℕ) → (space_of old n).parent ≡ o
+          → ((k : ℕ) → k < fuel → k < length old → chain new k ≡ chain old k) → chain new n ≡ chain old n
+      at_parent None parent rest = chain_top new n (same n stands ∙ parent) (omega arith) ∙ sym (chain_top old n parent stands)
+      at_parent (Some p) parent rest =
+          let earlier : p < n = before n p parent in
+          chain_next new n p (same n stands ∙ parent) earlier ∙ ap (λ (c : List ℕ). n ∷ c) (rest p (omega arith) (omega arith))
+          ∙ sym (chain_next old n p parent earlier)
 
 -- ---- rows
 pub row_standing : {k : ℕ} {spaces : Spaces} {n a : ℕ} → RowOf k spaces n (Standing a) → (n ≡ a) × (n < k)
@@ -218,10 +215,10 @@ row_stands (child n p a late parent up) = let two = row_standing up in (rw (← 
 row_stands (deeper n p a late parent up) = ((row_stands up).0, late)
 
 -- What is above a later space has its row, or is the standing space of that row or above it.
-pub split_chain : {k : ℕ} {spaces : Spaces} → Earlier spaces → (m : ℕ) → {t a : ℕ} → RowOf k spaces t (Fresh a) → IsTrue (is_ancestor spaces m t)
-    → RowOf k spaces m (Fresh a) ⊎ IsTrue (is_ancestor spaces m a)
+pub split_chain : {k : ℕ} {spaces : Spaces} → Earlier spaces → (m : ℕ) → {t a : ℕ} → RowOf k spaces t (Fresh a) → IsTrue (is_at_or_above spaces m t)
+    → RowOf k spaces m (Fresh a) ⊎ IsTrue (is_at_or_above spaces m a)
 split_chain {spaces = spaces} earlier m (child t p a late parent up) above =
-    elim (ancestor_cases spaces earlier m t above) [
+    elim (at_or_above_cases spaces earlier m t above) [
       | inl same ↦ inl (rw same (child t p a late parent up))
       | inr more ↦
           let both : Some more.0 ≡ Some p = sym more.1 ∙ parent in
@@ -229,7 +226,7 @@ split_chain {spaces = spaces} earlier m (child t p a late parent up) above =
           inr (rw (one ∙ (row_standing up).0) at more.2)
     ]
 split_chain {spaces = spaces} earlier m (deeper t p a late parent up) above =
-    elim (ancestor_cases spaces earlier m t above) [
+    elim (at_or_above_cases spaces earlier m t above) [
       | inl same ↦ inl (rw same (deeper t p a late parent up))
       | inr more ↦
           let both : Some more.0 ≡ Some p = sym more.1 ∙ parent in

@@ -1,8 +1,10 @@
 -- The worked case: its bounds are closed, cover it, and meet neither right.
-use Rattle.std.proofs.Common.{◌≡◌, ℕ, zero, suc, ◌+◌, ◌<◌, ◌≤◌, Bool, true, false, ◌||◌, Some, None, [], ◌∷◌, refl, sym, ap, ◌∙◌, inl, inr, arith, eqb, ltb, leb, lit<, lit≤}
+use Rattle.std.proofs.Common.{◌≡◌, ℕ, zero, suc, ◌+◌, ◌<◌, ◌≤◌, Bool, true, false, ◌||◌, Some, None, [], ◌∷◌, refl, sym}
+use Rattle.std.proofs.Common.{ap, ◌∙◌, inl, inr, arith, eqb, ltb, leb, lit<, lit≤}
 use Rattle.std.specs.Prelude.{◌⊎◌, IsTrue, All, is_none, if◌then◌else◌}
 use Rattle.std.proofs.lemmas.Bool.{false≢true, or_cases, and_parts, eqb-true, ltb-true, cases_eq}
 use Rattle.cm_base.proofs.CapSets.{holds_none}
+use Rattle.cm_base.specs.Limits.{id_count}
 use Rattle.model_cred.specs.Credential.{Keeps, all_four, is_one_of_three}
 use Rattle.model_cred.specs.Files.{FileTable}
 use Rattle.model_cred.specs.IdMap.{Extent, extents_of, is_outside, lies_in}
@@ -10,7 +12,9 @@ use Rattle.model_cred.specs.Process.{Process, KeepsState, process_at}
 use Rattle.model_cred.specs.Right.{Right, Cap, Uid}
 use Rattle.model_cred.specs.Space.{Space, KeepsSpace, initial_space, first_spaces, space_of, stands}
 use Rattle.model_run.specs.Holds.{process_holds}
-use Rattle.model_box.specs.Row.{Part, Uids, EffectiveUids, FsUids, Gids, EffectiveGids, FsGids, Groups, MappedUids, MappedGids, PermittedCaps, InheritableCaps, BoundingCaps, NewPrivs, RootCounts, LockClear, Row, Standing, Fresh, space_under, IsWithin, CredHas}
+use Rattle.model_box.specs.Row.{Part, Uids, EffectiveUids, FsUids, Gids, EffectiveGids, FsGids, Groups, MappedUids}
+use Rattle.model_box.specs.Row.{MappedGids, PermittedCaps, InheritableCaps, BoundingCaps, NewPrivs, RootCounts}
+use Rattle.model_box.specs.Row.{LockClear, Row, Standing, Fresh, space_under, IsWithin, CredHas}
 use Rattle.model_box.specs.Rule.{SetUid, SetFsUid, SetGid, SetFsGid, SetGroups, CapSet, SecureBits, ExecUid, ExecGid, ExecCaps, ExecRoot, Create, Join, Maps}
 use Rattle.model_box.specs.Gains.{SettableUid, SettableGid, SpreadsUid, SpreadsGid, GainsFsUid, GainsFsGid, GainsGroups, GainsInheritable, GainsRoot}
 use Rattle.model_box.specs.Spread.{Brings, IsNext}
@@ -39,10 +43,12 @@ gid_1000 (Standing n) x (inr both) = absurd both.0
 gid_1000 (Fresh n) x (inl both) = both.0
 gid_1000 (Fresh n) x (inr both) = both.1
 
-spread_uid : (row : Row) (New : ℕ → Type 0) → ((x : ℕ) → New x → x ≡ 1000) → (part : Part) (x : ℕ) → SpreadsUid (plain_bounds row) New part x → plain_bounds row part x
+spread_uid : (row : Row) (New : ℕ → Type 0) → ((x : ℕ) → New x → x ≡ 1000) → (part : Part) (x : ℕ)
+    → SpreadsUid (plain_bounds row) New part x → plain_bounds row part x
 spread_uid row New only part x added = grind (arith, only)
 
-spread_gid : (row : Row) (New : ℕ → Type 0) → ((x : ℕ) → New x → x ≡ 1000) → (part : Part) (x : ℕ) → SpreadsGid (plain_bounds row) New part x → plain_bounds row part x
+spread_gid : (row : Row) (New : ℕ → Type 0) → ((x : ℕ) → New x → x ≡ 1000) → (part : Part) (x : ℕ)
+    → SpreadsGid (plain_bounds row) New part x → plain_bounds row part x
 spread_gid row New only part x added = grind (arith, only)
 
 fs_uid : (row : Row) (part : Part) (x : ℕ) → GainsFsUid (plain_bounds row) part x → plain_bounds row part x
@@ -89,7 +95,8 @@ module _ (files : FileTable) where
   no_group (Standing n) x held = absurd held.3.0
   no_group (Fresh n) x held = absurd held.3.0
 
-  maps_in : (row : Row) → IsTrue (stands first_spaces (space_under row)) → (part : Part) (x : ℕ) → ByMaps all_permitted first_spaces plain_bounds row part x → plain_bounds row part x
+  maps_in : (row : Row) → IsTrue (stands first_spaces (space_under row)) → (part : Part) (x : ℕ)
+      → ByMaps all_permitted first_spaces plain_bounds row part x → plain_bounds row part x
   maps_in (Standing n) here MappedUids x added = absurd (written (only_one n here) added.1) where
     written : n ≡ 0 → IsTrue (is_none (space_of first_spaces n).uids) → ⊥
     written same free = false≢true (rw same at free)
@@ -117,14 +124,18 @@ module _ (files : FileTable) where
   plain_closed SetGroups row here part x (allowed, members, word, added) = one_group row part x added
   plain_closed CapSet row here part x (allowed, members, added) = inheritable_gain row part x added
   plain_closed SecureBits row here part x (allowed, members, added) = root_gain row part x added
-  plain_closed ExecUid row here part x (allowed, members, added) = spread_uid row (OwnerByFile files first_spaces (space_under row) (plain_bounds row)) (no_owner row) part x added
-  plain_closed ExecGid row here part x (allowed, members, added) = spread_gid row (GroupByFile files first_spaces (space_under row) (plain_bounds row)) (no_group row) part x added
+  plain_closed ExecUid row here part x (allowed, members, added) =
+      spread_uid row (OwnerByFile files first_spaces (space_under row) (plain_bounds row)) (no_owner row) part x added
+  plain_closed ExecGid row here part x (allowed, members, added) =
+      spread_gid row (GroupByFile files first_spaces (space_under row) (plain_bounds row)) (no_group row) part x added
   plain_closed ExecCaps (Standing n) here part x (allowed, members, added) =
       caps_in (Standing n) (CapByFile files first_spaces plain_bounds (Standing n)) (λ y held. held.3.0) part x added
   plain_closed ExecCaps (Fresh n) here part x (allowed, members, added) =
       caps_in (Fresh n) (CapByFile files first_spaces plain_bounds (Fresh n)) (λ y held. held.3.0) part x added
-  plain_closed ExecRoot (Standing n) here part x (allowed, members, added) = caps_in (Standing n) (CapByRoot first_spaces plain_bounds (Standing n)) (λ y held. held.1) part x added
-  plain_closed ExecRoot (Fresh n) here part x (allowed, members, added) = caps_in (Fresh n) (CapByRoot first_spaces plain_bounds (Fresh n)) (λ y held. held.1) part x added
+  plain_closed ExecRoot (Standing n) here part x (allowed, members, added) =
+      caps_in (Standing n) (CapByRoot first_spaces plain_bounds (Standing n)) (λ y held. held.1) part x added
+  plain_closed ExecRoot (Fresh n) here part x (allowed, members, added) =
+      caps_in (Fresh n) (CapByRoot first_spaces plain_bounds (Fresh n)) (λ y held. held.1) part x added
   plain_closed Create (Standing n) here part x added = absurd added
   plain_closed Create (Fresh n) here part x (allowed, (level, uids, gids, brings)) = brings_in n n part x brings
   plain_closed Join (Standing n) here part x (allowed, (a, joins, brings)) = absurd (nothing_above a joins.0 (rw (only_one n here) at joins.1))
@@ -161,10 +172,10 @@ member_in n RootCounts x has = has.0
 member_in n LockClear x has = has.0
 
 -- the outside ids of the initial space's maps are the ids
-id_below : (x : ℕ) → IsTrue (is_outside (extents_of (Some (record { inside = 0; outside = 0; length = 4294967295 } ∷ []))) x) → x < 4294967295
-id_below x out = go (lies_in 0 4294967295 x) refl out where
-  go : (b : Bool) → lies_in 0 4294967295 x ≡ b → IsTrue (if b then true else false) → x < 4294967295
-  go true inside _ = ltb-true x 4294967295 (and_parts (leb 0 x) (ltb x 4294967295) inside).1
+id_below : (x : ℕ) → IsTrue (is_outside (extents_of (Some (record { inside = 0; outside = 0; length = id_count } ∷ []))) x) → x < id_count
+id_below x out = go (lies_in 0 id_count x) refl out where
+  go : (b : Bool) → lies_in 0 id_count x ≡ b → IsTrue (if b then true else false) → x < id_count
+  go true inside _ = ltb-true x id_count (and_parts (leb 0 x) (ltb x id_count) inside).1
   go false outside wrong = absurd (false≢true wrong)
 
 maps_of : (n : ℕ) (part : Part) (x : ℕ) → SpaceMaps (space_of first_spaces n) part x → plain_bounds (Standing n) part x
@@ -181,12 +192,13 @@ maps_of n MappedGids x out =
 maps_of n _ x out = absurd out
 
 start_within : IsWithin (StartHas plain_state (100 ∷ [])) plain_bounds
-start_within (Standing n) part x (inl (pid, p, member, at, space, has)) = member_in n part x (rw (ap (λ (q : Process). q.cred) (sym (is_it pid p at))) at has) where
-  is_it : (pid : ℕ) (p : Process) → process_at (plain_process ∷ []) pid ≡ Some p → plain_process ≡ p
-  is_it pid p at = go (eqb 100 pid) at where
-    go : (b : Bool) → (if b then Some plain_process else None) ≡ Some p → plain_process ≡ p
-    go true same = cc
-    go false same = absurd (cc)
+start_within (Standing n) part x (inl (pid, p, member, at, space, has)) =
+    member_in n part x (rw (ap (λ (q : Process). q.cred) (sym (is_it pid p at))) at has) where
+      is_it : (pid : ℕ) (p : Process) → process_at (plain_process ∷ []) pid ≡ Some p → plain_process ≡ p
+      is_it pid p at = go (eqb 100 pid) at where
+        go : (b : Bool) → (if b then Some plain_process else None) ≡ Some p → plain_process ≡ p
+        go true same = cc
+        go false same = absurd (cc)
 start_within (Standing n) part x (inr maps) = maps_of n part x maps
 start_within (Fresh n) part x wrong = absurd wrong
 
@@ -199,7 +211,8 @@ one_space : (P : Space → Type 0) → P initial_space → All P first_spaces
 one_space P held zero d low = held
 one_space P held (suc k) d low = absurd (omega arith)
 
-one_extent : (P : Extent → Type 0) → P (record { inside = 0; outside = 0; length = 4294967295 }) → All P (record { inside = 0; outside = 0; length = 4294967295 } ∷ [])
+one_extent : (P : Extent → Type 0) → P (record { inside = 0; outside = 0; length = id_count })
+    → All P (record { inside = 0; outside = 0; length = id_count } ∷ [])
 one_extent P held zero d low = held
 one_extent P held (suc k) d low = absurd (omega arith)
 
@@ -218,7 +231,12 @@ plain_keeps = record {
     securebits = lit< tt;
   });
   tree = refl;
-  spaces = one_space KeepsSpace (record { owner = lit< tt; uids = one_extent (λ e. e.outside + e.length ≤ 4294967295) (lit≤ tt); gids = one_extent (λ e. e.outside + e.length ≤ 4294967295) (lit≤ tt) });
+  spaces =
+      one_space KeepsSpace (record {
+        owner = lit< tt;
+        uids = one_extent (λ e. e.outside + e.length ≤ id_count) (lit≤ tt);
+        gids = one_extent (λ e. e.outside + e.length ≤ id_count) (lit≤ tt);
+      });
 }
 
 -- ---- the case
@@ -227,7 +245,8 @@ plain_stays_plain w files events later members run pid member =
     (λ id other. never (Uid id) tt (no_uid id other), λ capability. never (Cap capability 0) refl (no_cap capability)) where
       never : (right : Right) → IsOverStanding first_spaces right → (Meets first_spaces plain_bounds right → ⊥) → process_holds later pid right ≡ false
       never right standing apart =
-          exclusion all_permitted w plain_state (100 ∷ []) plain_bounds plain_keeps files (covers_start plain_state (100 ∷ []) plain_bounds plain_keeps start_within) (plain_closed w.files)
+          exclusion all_permitted w plain_state (100 ∷ []) plain_bounds plain_keeps files
+          (covers_start plain_state (100 ∷ []) plain_bounds plain_keeps start_within) (plain_closed w.files)
           right standing apart events later members run pid member
 
       no_uid : (id : ℕ) → (id ≡ 1000 → ⊥) → Meets first_spaces plain_bounds (Uid id) → ⊥

@@ -23,7 +23,8 @@ module _ (w : World) (keeps : KeepsWorld w) where
     program None wrong = absurd wrong
     program (Some f) none = none
 
-    script : (o : Option FileRow) → slice_get w.files.rows row ≡ o → option_and_then (λ (f : FileRow). f.interpreter) o ≡ Some k → interpreter_of w.files k ≡ None
+    script : (o : Option FileRow) → slice_get w.files.rows row ≡ o
+        → option_and_then (λ (f : FileRow). f.interpreter) o ≡ Some k → interpreter_of w.files k ≡ None
     script None same at' = absurd (cc)
     script (Some f) same at' =
         program (slice_get w.files.rows k)

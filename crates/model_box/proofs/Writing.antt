@@ -1,7 +1,8 @@
 -- Writing the maps of a space and its setgroups word keeps the spaces and the members covered.
-use Rattle.std.proofs.Common.{◌≡◌, ℕ, suc, Bool, true, false, Some, List, [], ◌∷◌, length, refl, sym, ap, ◌∙◌, inl, inr, eqb}
+use Rattle.std.proofs.Common.{◌≡◌, ℕ, Bool, true, false, Some, List, [], ◌∷◌, length, refl, sym, ap, ◌∙◌, inl, inr, eqb}
 use Rattle.std.specs.Prelude.{◌⊎◌, if◌then◌else◌}
 use Rattle.std.proofs.lemmas.Bool.{cases_eq, eqb-true}
+use Rattle.model_cred.proofs.Spaces.{length_put}
 use Rattle.model_cred.specs.Credential.{Credential}
 use Rattle.model_cred.specs.IdMap.{Extent}
 use Rattle.model_cred.specs.Space.{Space, Spaces, space_of, put_space}
@@ -11,16 +12,10 @@ use Rattle.model_box.proofs.Trees.{space_of_newest, space_of_older, row_same}
 use Rattle.model_box.proofs.Fits.{SpacesFit, MemberFits}
 
 -- ---- another space in the place of one
--- a choice, by its two ways
+-- a choice, by its two sides
 pub choose : {A : Type 0} (P : A → Type 0) (b : Bool) (x y : A) → (b ≡ true → P x) → (b ≡ false → P y) → P (if b then x else y)
 choose P true x y first second = first refl
 choose P false x y first second = second refl
-
-pub length_put : (t : ℕ) (new : Space) (spaces : Spaces) → length (put_space t new spaces) ≡ length spaces
-length_put t new [] = refl
-length_put t new (s ∷ older) =
-    choose (λ (spaces : Spaces). length spaces ≡ suc (length older)) (eqb t (length older)) (new ∷ older) (s ∷ put_space t new older)
-    (λ _. refl) (λ _. ap suc (length_put t new older))
 
 pub put_cases : (t : ℕ) (new : Space) (spaces : Spaces) (n : ℕ)
     → ((n ≡ t) × (space_of (put_space t new spaces) n ≡ new)) ⊎ (space_of (put_space t new spaces) n ≡ space_of spaces n)
@@ -42,12 +37,15 @@ put_cases t new (s ∷ older) n =
       below put_other other (inr kept) = inr (space_of_older s (put_space t new older) n put_other ∙ kept ∙ sym (space_of_older s older n other))
 
       there : ((n ≡ t) × (space_of (put_space t new older) n ≡ new)) ⊎ (space_of (put_space t new older) n ≡ space_of older n)
-          → eqb t (length older) ≡ false → ((n ≡ t) × (space_of (s ∷ put_space t new older) n ≡ new)) ⊎ (space_of (s ∷ put_space t new older) n ≡ space_of (s ∷ older) n)
+          → eqb t (length older) ≡ false
+          → ((n ≡ t) × (space_of (s ∷ put_space t new older) n ≡ new))
+          ⊎ (space_of (s ∷ put_space t new older) n ≡ space_of (s ∷ older) n)
       there rest past =
           elim (cases_eq n (length older)) [
             | inl same ↦
                 let put_same : n ≡ length (put_space t new older) = same ∙ sym (length_put t new older) in
-                inr ((ap (space_of (s ∷ put_space t new older)) put_same ∙ space_of_newest s (put_space t new older)) ∙ sym (ap (space_of (s ∷ older)) same ∙ space_of_newest s older))
+                inr ((ap (space_of (s ∷ put_space t new older)) put_same ∙ space_of_newest s (put_space t new older))
+                ∙ sym (ap (space_of (s ∷ older)) same ∙ space_of_newest s older))
             | inr other ↦ below (λ e. other (e ∙ length_put t new older)) other rest
           ]
 

@@ -6,8 +6,11 @@ use Rattle.model_cred.specs.Files.{FileTable}
 use Rattle.model_cred.specs.Space.{Spaces, level, stands, space_of}
 use Rattle.model_rules.specs.FileView.{view, has_bit}
 use Rattle.model_rules.specs.Namespaces.{deepest}
-use Rattle.model_box.specs.Row.{Part, Uids, EffectiveUids, EffectiveGids, MappedUids, MappedGids, PermittedCaps, InheritableCaps, BoundingCaps, NewPrivs, RootCounts, Row, Standing, Fresh, space_under, HasMembers}
-use Rattle.model_box.specs.Rule.{Rule, SetUid, SetFsUid, SetGid, SetFsGid, SetGroups, CapSet, SecureBits, ExecUid, ExecGid, ExecCaps, ExecRoot, Create, Join, Maps}
+use Rattle.model_box.specs.Row.{Part, Uids, EffectiveUids, EffectiveGids, MappedUids, MappedGids, PermittedCaps}
+use Rattle.model_box.specs.Row.{InheritableCaps, BoundingCaps, NewPrivs, RootCounts, Row, Standing, Fresh, space_under}
+use Rattle.model_box.specs.Row.{HasMembers}
+use Rattle.model_box.specs.Rule.{Rule, SetUid, SetFsUid, SetGid, SetFsGid, SetGroups, CapSet, SecureBits, ExecUid}
+use Rattle.model_box.specs.Rule.{ExecGid, ExecCaps, ExecRoot, Create, Join, Maps}
 use Rattle.model_box.specs.Gains.{SettableUid, SettableGid, SpreadsUid, SpreadsGid, GainsFsUid, GainsFsGid, GainsGroups, GainsInheritable, GainsRoot}
 use Rattle.model_box.specs.Files.{CanRun, SetIdCan, TakesCan, ZeroIn, FileGives, is_program}
 use Rattle.model_box.specs.Spread.{Brings, Meet, CanJoin, NewUid, NewGid, FreshUid, FreshGid}

@@ -1,6 +1,7 @@
 -- A worked case: a process alone in the initial space, with the ids 1000, no capabilities, and no_new_privs.
 use Rattle.std.specs.Prelude.{◌≡◌, ℕ, ◌<◌, Bool, true, false, IsTrue, List, [], ◌∷◌, None}
 use Rattle.cm_base.specs.CapSet.{holds, full, none}
+use Rattle.cm_base.specs.Limits.{id_count}
 use Rattle.model_cred.specs.Call.{Event}
 use Rattle.cm_filter.specs.declared.kind.CallKind.{CallKind}
 use Rattle.model_cred.specs.Credential.{Credential, all_four}
@@ -11,7 +12,8 @@ use Rattle.model_cred.specs.World.{World}
 use Rattle.model_run.specs.Holds.{process_holds}
 use Rattle.model_run.specs.Later.{Later, is_member}
 use Rattle.model_box.specs.Files.{FilesFit}
-use Rattle.model_box.specs.Row.{Part, Groups, MappedUids, MappedGids, PermittedCaps, InheritableCaps, BoundingCaps, NewPrivs, RootCounts, LockClear, Row, Standing, Fresh}
+use Rattle.model_box.specs.Row.{Part, Groups, MappedUids, MappedGids, PermittedCaps, InheritableCaps, BoundingCaps}
+use Rattle.model_box.specs.Row.{NewPrivs, RootCounts, LockClear, Row, Standing, Fresh}
 
 -- ids 1000, no groups, five empty sets, no securebits, no_new_privs
 abbrev pub plain_cred : Credential
@@ -43,8 +45,8 @@ all_permitted kind = true
 -- Its bounds: the ids 1000; in the initial space each id is mapped and there is no capability; in later spaces its own
 -- ids alone are mapped, and there are all capabilities.
 abbrev pub plain_bounds : Row → Part → ℕ → Type 0
-plain_bounds (Standing n) MappedUids x = x < 4294967295
-plain_bounds (Standing n) MappedGids x = x < 4294967295
+plain_bounds (Standing n) MappedUids x = x < id_count
+plain_bounds (Standing n) MappedGids x = x < id_count
 plain_bounds (Standing n) PermittedCaps x = ⊥
 plain_bounds (Standing n) InheritableCaps x = ⊥
 plain_bounds (Standing n) BoundingCaps x = ⊥

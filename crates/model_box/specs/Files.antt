@@ -3,11 +3,12 @@ use Rattle.std.specs.Prelude.{◌≡◌, ◌⊎◌, ℕ, Bool, not, IsTrue, is_s
 use Rattle.cm_base.specs.CapSet.{holds}
 use Rattle.model_cred.specs.Files.{FileTable, Mount}
 use Rattle.model_cred.specs.IdMap.{Extent, down, is_the}
-use Rattle.model_cred.specs.Space.{Spaces, is_ancestor, stands, space_of}
+use Rattle.model_cred.specs.Space.{Spaces, is_at_or_above, stands, space_of}
 use Rattle.model_rules.specs.Caps.{cap_dac_override}
 use Rattle.model_rules.specs.Exec.{attribute_sets, interpreter_of}
 use Rattle.model_rules.specs.FileView.{FileView, has_bit, may_raise_in}
-use Rattle.model_box.specs.Row.{Part, FsUids, FsGids, Groups, MappedUids, MappedGids, PermittedCaps, InheritableCaps, BoundingCaps, NewPrivs, Row, Standing, Fresh, space_under}
+use Rattle.model_box.specs.Row.{Part, FsUids, FsGids, Groups, MappedUids, MappedGids, PermittedCaps, InheritableCaps}
+use Rattle.model_box.specs.Row.{BoundingCaps, NewPrivs, Row, Standing, Fresh, space_under}
 
 -- the optional id is there, and is in the set
 abbrev pub IdIn : Option ℕ → (ℕ → Type 0) → Type 0
@@ -45,7 +46,7 @@ ZeroIn spaces bounds (Fresh n) x = bounds (Fresh n) MappedUids x
 
 -- the optional id may be inside 0 of the standing space or of one above it
 abbrev pub ZeroAbove : Spaces → (Row → Part → ℕ → Type 0) → ℕ → Option ℕ → Type 0
-ZeroAbove spaces bounds n id = (a : ℕ) × IsTrue (is_ancestor spaces a n) × IdIn id (ZeroIn spaces bounds (Standing a))
+ZeroAbove spaces bounds n id = (a : ℕ) × IsTrue (is_at_or_above spaces a n) × IdIn id (ZeroIn spaces bounds (Standing a))
 
 -- the optional id may be inside 0 of a space of the row or of one above it
 abbrev pub RootCan : Spaces → (Row → Part → ℕ → Type 0) → Row → Option ℕ → Type 0

@@ -1,7 +1,8 @@
 -- What a member can gain for its own row by the calls that set ids, groups, capabilities and securebits.
 use Rattle.std.specs.Prelude.{◌≡◌, ◌⊎◌, ℕ}
 use Rattle.model_rules.specs.Caps.{cap_setuid, cap_setgid, cap_setpcap}
-use Rattle.model_box.specs.Row.{Part, Uids, EffectiveUids, FsUids, Gids, EffectiveGids, FsGids, Groups, MappedUids, MappedGids, PermittedCaps, InheritableCaps, BoundingCaps, RootCounts, LockClear}
+use Rattle.model_box.specs.Row.{Part, Uids, EffectiveUids, FsUids, Gids, EffectiveGids, FsGids, Groups, MappedUids}
+use Rattle.model_box.specs.Row.{MappedGids, PermittedCaps, InheritableCaps, BoundingCaps, RootCounts, LockClear}
 
 -- The ids that a call can set: mapped ones that are among the old ones, and any mapped one with the capability for it.
 abbrev pub Settable : (ℕ → Type 0) → (ℕ → Type 0) → Type 0 → ℕ → Type 0

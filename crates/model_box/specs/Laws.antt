@@ -13,7 +13,8 @@ use Rattle.model_run.specs.Holds.{process_holds}
 use Rattle.model_run.specs.Later.{Later, is_member}
 use Rattle.model_run.specs.Step.{Run}
 use Rattle.model_box.specs.Row.{Part, Row, Standing, row_number, row_at, space_under, IsWithin}
-use Rattle.model_box.specs.Rule.{Rule, SetUid, SetFsUid, SetGid, SetFsGid, SetGroups, CapSet, SecureBits, ExecUid, ExecGid, ExecCaps, ExecRoot, Create, Join, Maps}
+use Rattle.model_box.specs.Rule.{Rule, SetUid, SetFsUid, SetGid, SetFsGid, SetGroups, CapSet, SecureBits, ExecUid}
+use Rattle.model_box.specs.Rule.{ExecGid, ExecCaps, ExecRoot, Create, Join, Maps}
 use Rattle.model_box.specs.Files.{FilesFit}
 use Rattle.model_box.specs.Closed.{Adds, Closed}
 use Rattle.model_box.specs.Covers.{Covers}

@@ -1,7 +1,7 @@
 -- Bounds that meet a right, and what closed covering bounds exclude.
 use Rattle.std.specs.Prelude.{◌⊎◌, ℕ, IsTrue}
 use Rattle.model_cred.specs.Right.{Right, Cap, Uid, Gid}
-use Rattle.model_cred.specs.Space.{Spaces, is_ancestor, stands, space_of}
+use Rattle.model_cred.specs.Space.{Spaces, is_at_or_above, stands, space_of}
 use Rattle.model_box.specs.Row.{Part, EffectiveUids, EffectiveGids, Groups, PermittedCaps, Row, Standing, space_under, HasMembers}
 use Rattle.model_box.specs.Spread.{IsNext}
 
@@ -9,7 +9,7 @@ use Rattle.model_box.specs.Spread.{IsNext}
 -- above it that owns the next space on the chain.
 abbrev pub MeetsCap : Spaces → (Row → Part → ℕ → Type 0) → ℕ → ℕ → Type 0
 MeetsCap spaces bounds cap n =
-    ((a : ℕ) × IsTrue (is_ancestor spaces a n) × HasMembers (bounds (Standing a)) × bounds (Standing a) PermittedCaps cap)
+    ((a : ℕ) × IsTrue (is_at_or_above spaces a n) × HasMembers (bounds (Standing a)) × bounds (Standing a) PermittedCaps cap)
     ⊎ ((a : ℕ) × (m : ℕ) × IsNext spaces a n m × bounds (Standing a) EffectiveUids (space_of spaces m).owner)
 
 -- The bounds meet the right, the spaces being those of the query.

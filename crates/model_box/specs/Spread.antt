@@ -1,9 +1,10 @@
 -- What comes to a row from another: by making spaces, by joining them, and by writing their maps.
 use Rattle.std.specs.Prelude.{◌≡◌, ◌⊎◌, ℕ, IsTrue, Some}
 use Rattle.cm_base.specs.CapSet.{holds, full}
-use Rattle.model_cred.specs.Space.{Spaces, is_ancestor, space_of}
+use Rattle.model_cred.specs.Space.{Spaces, is_at_or_above, space_of}
 use Rattle.model_rules.specs.Caps.{cap_setuid, cap_setgid, cap_sys_admin}
-use Rattle.model_box.specs.Row.{Part, EffectiveUids, EffectiveGids, MappedUids, MappedGids, PermittedCaps, InheritableCaps, BoundingCaps, RootCounts, LockClear, Row, Standing, Fresh, HasMembers}
+use Rattle.model_box.specs.Row.{Part, EffectiveUids, EffectiveGids, MappedUids, MappedGids, PermittedCaps}
+use Rattle.model_box.specs.Row.{InheritableCaps, BoundingCaps, RootCounts, LockClear, Row, Standing, Fresh, HasMembers}
 
 -- What the members of a row bring with them as newcomers to a space: their ids and groups, and whether they may lack
 -- no_new_privs; full permitted and bounding sets; no securebits.
@@ -24,7 +25,7 @@ Meet One Other = (x : ℕ) × One x × Other x
 -- The third space is on the chain from the second to the initial one, and its parent is the first: so the first is above
 -- the second.
 abbrev pub IsNext : Spaces → ℕ → ℕ → ℕ → Type 0
-IsNext spaces a n m = IsTrue (is_ancestor spaces m n) × ((space_of spaces m).parent ≡ Some a)
+IsNext spaces a n m = IsTrue (is_at_or_above spaces m n) × ((space_of spaces m).parent ≡ Some a)
 
 -- A member in a standing space above the target can have CAP_SYS_ADMIN over it: by its own set, or because it owns the
 -- space on the chain whose parent is its own.

@@ -1,6 +1,7 @@
 // The laws of bounds. Each function does nothing: its contract is the law, which the check proves, and which proofs above
 // cite by its lemmas in proofs/. A contract ranges over bounds that tests give; the lemmas range over any.
-ghost use Rattle.model_box.specs.Laws.{Soundness, Exclusion, CoversAtStart, Monotone, StandingApart, ExcludedRulesAddNothing, FilesOfWorldsFit, RowsByNumber, ClosedInCommon};
+ghost use Rattle.model_box.specs.Laws.{Soundness, Exclusion, CoversAtStart, Monotone, StandingApart};
+ghost use Rattle.model_box.specs.Laws.{ExcludedRulesAddNothing, FilesOfWorldsFit, RowsByNumber, ClosedInCommon};
 ghost use Rattle.model_box.specs.Example.{PlainStaysPlain};
 
 /// Bounds that cover the members at the query, and are closed, cover them after every later run.

@@ -6,7 +6,7 @@ use Rattle.cm_filter.specs.declared.kind.CallKind.{CallKind}
 use Rattle.cm_filter.specs.declared.kind.CallKind.TheVariants as kind
 use Rattle.model_cred.specs.IdMap.{Extent}
 
--- The 26 calls with their arguments, ids as the caller's space sees them, 4294967295 for -1. capset has effective,
+-- The 26 calls with their arguments, ids as the caller's space sees them, or -1. capset has effective,
 -- permitted and inheritable, in this order. A space is given by its number. The outside ids of a map that is written are
 -- those of the target's parent. The word of WriteSetgroups is "deny" where it is true, else "allow".
 pub data Call : Type 0 where

@@ -1,5 +1,6 @@
 -- Credentials (credentials(7), capabilities(7)).
 use Rattle.std.specs.Prelude.{◌≡◌, ℕ, ◌+◌, ◌<◌, ◌≤◌, ◌^◌, ◌||◌, ◌==◌, Bool, true, nat_lt, List, [], ◌∷◌, if◌then◌else◌}
+use Rattle.cm_base.specs.Limits.{id_count, securebit_count}
 use Rattle.cm_base.specs.CapSet.{is_within, IsCapSet}
 
 -- The four user ids, or the four group ids, of a process (credentials(7), "User and group identifiers").
@@ -30,9 +31,9 @@ pub record Included (c : Credential) : Type 0 where
   pub ambient_permitted : is_within c.ambient c.permitted ≡ true
   pub ambient_inheritable : is_within c.ambient c.inheritable ≡ true
 
--- an id: 4294967295 stands for none (user_namespaces(7), "User and group ID mappings: uid_map and gid_map")
+-- the number is an id
 abbrev pub IsId : ℕ → Type 0
-IsId id = id < 4294967295
+IsId id = id < id_count
 
 -- The four are ids.
 pub record AreIds (ids : FourIds) : Type 0 where
@@ -55,7 +56,7 @@ pub record Keeps (c : Credential) : Type 0 where
   pub inheritable : IsCapSet c.inheritable
   pub permitted : IsCapSet c.permitted
   pub bounding : IsCapSet c.bounding
-  pub securebits : c.securebits < 2 ^ 8
+  pub securebits : c.securebits < 2 ^ securebit_count
 
 -- a list of ids that ascend, each once, and one more
 abbrev pub insert_id : ℕ → List ℕ → List ℕ

@@ -1,5 +1,7 @@
 -- Id maps of user namespaces (user_namespaces(7), "User and group ID mappings: uid_map and gid_map").
-use Rattle.std.specs.Prelude.{◌≡◌, ℕ, ◌+◌, ◌-◌, ◌<◌, ◌≤◌, ◌==◌, ◌&&◌, Bool, true, false, nat_le, nat_lt, List, [], ◌∷◌, Option, Some, None, if◌then◌else◌, All, Any}
+use Rattle.std.specs.Prelude.{◌≡◌, ℕ, ◌+◌, ◌-◌, ◌<◌, ◌≤◌, ◌==◌, ◌&&◌, Bool, true, false, nat_le, nat_lt, List, [], ◌∷◌}
+use Rattle.std.specs.Prelude.{Option, Some, None, if◌then◌else◌, All, Any}
+use Rattle.cm_base.specs.Limits.{id_count}
 
 -- One line of a map: the ids from inside on, length many, stand for those from outside on.
 pub record Extent : Type 0 where
@@ -31,13 +33,13 @@ abbrev pub extents_of : Option (List Extent) → List Extent
 extents_of None = []
 extents_of (Some map) = map
 
--- The outside ids of the map are ids: 4294967295, which is -1, is none ("unmapped and unusable").
+-- The outside ids of the map are ids: -1 is none ("unmapped and unusable").
 abbrev pub HasIds : List Extent → Type 0
-HasIds map = All (λ e. e.outside + e.length ≤ 4294967295) map
+HasIds map = All (λ e. e.outside + e.length ≤ id_count) map
 
 -- the map of the initial user namespace: each id stands for itself
 abbrev pub initial_map : List Extent
-initial_map = record { inside = 0; outside = 0; length = 4294967295 } ∷ []
+initial_map = record { inside = 0; outside = 0; length = id_count } ∷ []
 
 -- the optional number is there and is this one
 abbrev pub is_the : Option ℕ → ℕ → Bool

@@ -9,6 +9,7 @@ pub mod Call
 pub mod Right
 pub mod World
 pub use Rattle.cm_base.specs.CapSet
+pub use Rattle.cm_base.specs.Limits
 pub use Rattle.cm_base.specs.Names
 pub use Rattle.cm_base.specs.Number
 pub use Rattle.cm_base.specs.Outcome

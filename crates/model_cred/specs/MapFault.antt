@@ -2,6 +2,7 @@
 -- gid_map": the validity rules).
 use Rattle.std.specs.Prelude.{ℕ, IsTrue, ◌+◌, ◌==◌, ◌&&◌, ◌||◌, Bool, nat_lt, is_none, length, List, [], ◌∷◌, Option, None, Some, if◌then◌else◌}
 use Rattle.std.specs.Option.{option_or}
+use Rattle.cm_base.specs.Limits.{id_count}
 use Rattle.model_cred.specs.IdMap.{Extent}
 
 -- Why a list is no map. An extent is named by its place in the list, from 0 on.
@@ -12,11 +13,11 @@ pub data MapFault : Type 0 where
   PastEnd : ℕ → MapFault
   Overlap : ℕ → ℕ → MapFault
 
--- The fault of one extent at a place: no ids, or ids past 4294967294 on one of its sides.
+-- The fault of one extent at a place: no ids, or ids past the last one on one of its sides.
 abbrev pub extent_fault : ℕ → Extent → Option MapFault
 extent_fault i e =
     if e.length == 0 then Some (ZeroLength i)
-    else if nat_lt 4294967295 (e.inside + e.length) || nat_lt 4294967295 (e.outside + e.length) then Some (PastEnd i)
+    else if nat_lt id_count (e.inside + e.length) || nat_lt id_count (e.outside + e.length) then Some (PastEnd i)
     else None
 
 -- the first fault of one extent, the list's head having place i
@@ -42,12 +43,16 @@ abbrev pub first_overlap : ℕ → List Extent → Option MapFault
 first_overlap i [] = None
 first_overlap i (e ∷ list) = option_or (overlap_with i e (i + 1) list) (first_overlap (i + 1) list)
 
--- The first fault of a list, in this order (the order is a choice): no line, more than 340 lines, a line of its own,
--- two lines that meet.
+-- the most lines of a map (user_namespaces(7), since Linux 4.15)
+abbrev pub most_extents : ℕ
+most_extents = 340
+
+-- The first fault of a list, in this order (the order is a choice): no line, too many lines, a line of its own, two
+-- lines that meet.
 abbrev pub map_fault : List Extent → Option MapFault
 map_fault list =
     if length list == 0 then Some Empty
-    else if nat_lt 340 (length list) then Some TooMany
+    else if nat_lt most_extents (length list) then Some TooMany
     else option_or (first_extent_fault 0 list) (first_overlap 0 list)
 
 -- the list is a map

@@ -1,5 +1,7 @@
 -- Processes and the state of the machine.
-use Rattle.std.specs.Prelude.{ℕ, ◌==◌, ◌<◌, ◌&&◌, Bool, not, nat_lt, nat_le, is_some, length, List, [], ◌∷◌, map, filter, Option, Some, None, if◌then◌else◌, All}
+use Rattle.std.specs.Prelude.{ℕ, ◌==◌, ◌<◌, ◌&&◌, Bool, not, nat_lt, nat_le, is_some, length, List, [], ◌∷◌, map}
+use Rattle.std.specs.Prelude.{filter, Option, Some, None, if◌then◌else◌, All}
+use Rattle.cm_base.specs.Limits.{last_pid}
 use Rattle.model_cred.specs.Credential.{Credential, Keeps}
 use Rattle.model_cred.specs.IdMap.{is_the}
 use Rattle.model_cred.specs.Space.{Spaces, IsTree, KeepsSpace}
@@ -17,9 +19,13 @@ pub record State : Type 0 where
   pub processes : List Process
   pub spaces : Spaces
 
--- the number is a pid (proc(5), pid_max; that 4194304 is one is a choice)
+-- the number is a pid
 abbrev pub is_pid : ℕ → Bool
-is_pid n = nat_le 1 n && nat_le n 4194304
+is_pid n = nat_le 1 n && nat_le n last_pid
+
+-- the number, where it is a pid
+abbrev pub as_pid : ℕ → Option ℕ
+as_pid n = if is_pid n then Some n else None
 
 -- the live process of that pid
 abbrev pub process_at : List Process → ℕ → Option Process

@@ -1,5 +1,6 @@
 -- User namespaces (user_namespaces(7)), called spaces here.
-use Rattle.std.specs.Prelude.{◌≡◌, ℕ, ◌-◌, ◌==◌, ◌<◌, Bool, false, nat_lt, length, List, [], ◌∷◌, ◌++◌, Option, Some, None, find, unwrap_or, if◌then◌else◌, IsSomeAnd}
+use Rattle.std.specs.Prelude.{◌≡◌, ℕ, ◌-◌, ◌==◌, ◌<◌, Bool, false, nat_lt, length, List, [], ◌∷◌, ◌++◌, Option, Some}
+use Rattle.std.specs.Prelude.{None, find, unwrap_or, if◌then◌else◌, IsSomeAnd}
 use Rattle.std.specs.List.{list_any}
 use Rattle.model_cred.specs.Credential.{IsId}
 use Rattle.model_cred.specs.IdMap.{Extent, HasIds, extents_of, initial_map, is_the}
@@ -87,8 +88,8 @@ abbrev pub level : Spaces → ℕ → ℕ
 level spaces n = length (chain spaces n) - 1
 
 -- the first space is the second or above it
-abbrev pub is_ancestor : Spaces → ℕ → ℕ → Bool
-is_ancestor spaces a n = list_any (λ m. m == a) (chain spaces n)
+abbrev pub is_at_or_above : Spaces → ℕ → ℕ → Bool
+is_at_or_above spaces a n = list_any (λ m. m == a) (chain spaces n)
 
 -- the parent of the space is that one
 abbrev pub is_child : Option Space → ℕ → Bool

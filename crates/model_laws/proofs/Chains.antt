@@ -1,11 +1,16 @@
 -- Chains of spaces, and the laws of power over them.
-use Rattle.std.proofs.Common.{◌≡◌, ◌≢◌, ℕ, suc, zero, ◌<◌, ◌≤◌, ◌||◌, ◌&&◌, ◌==◌, ◌++◌, ◌↔◌, Bool, true, false, List, [], ◌∷◌, length, Option, Some, None, if◌then◌else◌, refl, sym, subst, ap, ◌∙◌, inl, inr, arith}
+use Rattle.std.proofs.Common.{◌≡◌, ◌≢◌, ℕ, suc, zero, ◌<◌, ◌≤◌, ◌||◌, ◌&&◌, ◌==◌, ◌++◌, ◌↔◌, Bool, true, false, List}
+use Rattle.std.proofs.Common.{[], ◌∷◌, length, Option, Some, None, if◌then◌else◌, refl, sym, subst, ap, ◌∙◌, inl, inr}
+use Rattle.std.proofs.Common.{arith}
 use Rattle.std.specs.Prelude.{IsTrue}
 use Rattle.std.specs.List.{list_any}
-use Rattle.std.proofs.lemmas.Bool.{cases_eq, cases_lt, ne_eqb, eq-eqb, eqb-true, ltb-true, cond-true, cond-false, and_parts, and_from, or_cases, or_left, or_right, false_from_ne_true}
+use Rattle.std.proofs.lemmas.Bool.{cases_eq, cases_lt, ne_eqb, eq-eqb, eqb-true, ltb-true, cond-true, cond-false}
+use Rattle.std.proofs.lemmas.Bool.{and_parts, and_from, or_cases, or_left, or_right, false_from_ne_true}
+use Rattle.cm_base.proofs.CapSets.{same_tests}
 use Rattle.cm_base.specs.CapSet.{holds}
+use Rattle.model_cred.proofs.Spaces.{chain_none, chain_empty}
 use Rattle.model_cred.specs.IdMap.{is_the}
-use Rattle.model_cred.specs.Space.{Space, Spaces, IsTree, space_at, chain, chain_from, is_ancestor}
+use Rattle.model_cred.specs.Space.{Space, Spaces, IsTree, space_at, chain, chain_from, is_at_or_above}
 use Rattle.model_rules.specs.Power.{Over, here, owned, above, over, has_over, gives_power, is_owned}
 use Rattle.model_laws.specs.Powers.{PowerIsComputed, NoPowerAbove, PowerOverOwnSpace}
 
@@ -138,7 +143,8 @@ over_forth spaces at effective euid cap n tree low (above m p s is parent rest) 
 owned_by : (spaces : Spaces) (at effective euid cap n : ℕ) (s : Space) → space_at spaces n ≡ Some s
     → is_owned at euid (space_at spaces n) ≡ true → Over spaces at effective euid cap n
 owned_by spaces at effective euid cap n s is owns =
-    let parts : (is_the s.parent at ≡ true) × ((s.owner == euid) ≡ true) = and_parts (is_the s.parent at) (s.owner == euid) (sym (ap (is_owned at euid) is) ∙ owns) in
+    let parts : (is_the s.parent at ≡ true) × ((s.owner == euid) ≡ true) =
+    and_parts (is_the s.parent at) (s.owner == euid) (sym (ap (is_owned at euid) is) ∙ owns) in
     owned n s is (the_is s.parent at parts.0) (eqb-true s.owner euid parts.1)
 
 -- what the first space of a chain gives
@@ -153,24 +159,15 @@ gives_forth spaces at effective euid cap n s is gives =
       | inr owns ↦ owned_by spaces at effective euid cap n s is owns
     ]
 
--- no chain begins at no space
-chain_none : (spaces : Spaces) → chain_from spaces None ≡ []
-chain_none [] = refl
-chain_none (t ∷ older) = chain_none older
-
--- a space that isn't there has no chain
-chain_empty : (spaces : Spaces) (n : ℕ) → length spaces ≤ n → chain spaces n ≡ []
-chain_empty [] n high = refl
-chain_empty (t ∷ older) n high =
-    chain_skip t older (Some n) (ne_eqb (length older) n (λ same. omega arith)) ∙ chain_empty older n (omega arith)
-
 -- power over a space through its parent
 from_parent : (spaces : Spaces) (at effective euid cap n : ℕ) → IsTree spaces
     → ((p : ℕ) → p < n → IsTrue (over spaces at effective euid cap p) → Over spaces at effective euid cap p)
     → (s : Space) → space_at spaces n ≡ Some s → (o : Option ℕ) → s.parent ≡ o
     → list_any (gives_power spaces at effective euid cap) (chain_from spaces o) ≡ true → Over spaces at effective euid cap n
 from_parent spaces at effective euid cap n tree before s is None parent rest =
-    absurd (let none : list_any (gives_power spaces at effective euid cap) (chain_from spaces None) ≡ false = ap (list_any (gives_power spaces at effective euid cap)) (chain_none spaces) in cc)
+    absurd (let none : list_any (gives_power spaces at effective euid cap) (chain_from spaces None) ≡ false
+    = ap (list_any (gives_power spaces at effective euid cap)) (chain_none spaces) in
+    cc)
 from_parent spaces at effective euid cap n tree before s is (Some p) parent rest =
     above n p s is parent (before p (parent_older spaces n p s tree is parent) rest)
 
@@ -180,7 +177,10 @@ over_back : (fuel : ℕ) (spaces : Spaces) (at effective euid cap n : ℕ) → n
 over_back zero spaces at effective euid cap n low tree held = absurd (omega arith)
 over_back (suc fuel) spaces at effective euid cap n low tree held =
     elim (cases_lt n (length spaces)) [
-      | inr high ↦ absurd (let none : over spaces at effective euid cap n ≡ false = ap (list_any (gives_power spaces at effective euid cap)) (chain_empty spaces n high) in cc)
+      | inr high ↦
+          absurd (let none : over spaces at effective euid cap n ≡ false
+          = ap (list_any (gives_power spaces at effective euid cap)) (chain_empty spaces n high) in
+          cc)
       | inl there ↦
           let it : (s : Space) × (space_at spaces n ≡ Some s) = space_there spaces n there in
           elim (or_cases (gives_power spaces at effective euid cap n) (list_any (gives_power spaces at effective euid cap) (chain_from spaces it.0.parent))
@@ -209,7 +209,7 @@ power_goes_down spaces at effective euid cap n tree (above m p s is parent rest)
     omega arith
 
 -- a space above the parent
-up_from_parent : (spaces : Spaces) (n a : ℕ) → IsTree spaces → ((p : ℕ) → p < n → is_ancestor spaces a p ≡ true → a ≤ p)
+up_from_parent : (spaces : Spaces) (n a : ℕ) → IsTree spaces → ((p : ℕ) → p < n → is_at_or_above spaces a p ≡ true → a ≤ p)
     → (s : Space) → space_at spaces n ≡ Some s → (o : Option ℕ) → s.parent ≡ o
     → list_any (λ m. m == a) (chain_from spaces o) ≡ true → a ≤ n
 up_from_parent spaces n a tree before s at None parent rest =
@@ -220,14 +220,15 @@ up_from_parent spaces n a tree before s at (Some p) parent rest =
     omega arith
 
 -- each space of a chain is the first or an older one
-chain_goes_up : (fuel : ℕ) (spaces : Spaces) (n a : ℕ) → n < fuel → IsTree spaces → is_ancestor spaces a n ≡ true → a ≤ n
+chain_goes_up : (fuel : ℕ) (spaces : Spaces) (n a : ℕ) → n < fuel → IsTree spaces → is_at_or_above spaces a n ≡ true → a ≤ n
 chain_goes_up zero spaces n a low tree is = absurd (omega arith)
 chain_goes_up (suc fuel) spaces n a low tree is =
     elim (cases_lt n (length spaces)) [
-      | inr high ↦ absurd (let none : is_ancestor spaces a n ≡ false = ap (list_any (λ m. m == a)) (chain_empty spaces n high) in cc)
+      | inr high ↦ absurd (let none : is_at_or_above spaces a n ≡ false = ap (list_any (λ m. m == a)) (chain_empty spaces n high) in cc)
       | inl there ↦
           let it : (s : Space) × (space_at spaces n ≡ Some s) = space_there spaces n there in
-          elim (or_cases (n == a) (list_any (λ m. m == a) (chain_from spaces it.0.parent)) (sym (ap (list_any (λ m. m == a)) (chain_step spaces n it.0 tree it.1)) ∙ is)) [
+          elim (or_cases (n == a) (list_any (λ m. m == a) (chain_from spaces it.0.parent))
+          (sym (ap (list_any (λ m. m == a)) (chain_step spaces n it.0 tree it.1)) ∙ is)) [
             | inl same ↦ let e : n ≡ a = eqb-true n a same in omega arith
             | inr rest ↦
                 up_from_parent spaces n a tree (λ p under up. chain_goes_up fuel spaces p a (omega arith) tree up) it.0 it.1 it.0.parent refl rest
@@ -244,12 +245,6 @@ own_is spaces at effective euid cap n tree same (above m p s is parent rest) =
     let low : at ≤ p = power_goes_down spaces at effective euid cap p tree rest in
     omega arith)
 
--- two tests that imply each other are one
-pub same_test : (p q : Bool) → (IsTrue p → IsTrue q) → (IsTrue q → IsTrue p) → p ≡ q
-same_test true q forth back = sym (forth refl)
-same_test false true forth back = back refl
-same_test false false forth back = refl
-
 -- ---- as the contracts of `power` state them
 pub power_is_computed : PowerIsComputed
 unfolding PowerIsComputed
@@ -260,12 +255,16 @@ unfolding NoPowerAbove
 no_power_above spaces at c cap a tree there is other =
     false_from_ne_true (has_over spaces at c cap a) (λ held.
     let low : a ≤ at = chain_goes_up (suc at) spaces at a (omega arith) tree is in
-    let down : at ≤ a = power_goes_down spaces at c.effective c.uid.effective cap a tree (over_back (suc a) spaces at c.effective c.uid.effective cap a (omega arith) tree held) in
+    let down : at ≤ a
+    = power_goes_down spaces at c.effective c.uid.effective cap a tree
+    (over_back (suc a) spaces at c.effective c.uid.effective cap a (omega arith) tree held) in
     other (omega arith))
 
 pub power_over_own_space : PowerOverOwnSpace
 unfolding PowerOverOwnSpace
 power_over_own_space spaces at c cap tree there =
-    same_test (has_over spaces at c cap at) (holds c.effective cap)
-    (λ held. own_is spaces at c.effective c.uid.effective cap at tree refl (over_back (suc at) spaces at c.effective c.uid.effective cap at (omega arith) tree held))
+    same_tests (has_over spaces at c cap at) (holds c.effective cap)
+    (λ held.
+    own_is spaces at c.effective c.uid.effective cap at tree refl
+    (over_back (suc at) spaces at c.effective c.uid.effective cap at (omega arith) tree held))
     (λ held. over_forth spaces at c.effective c.uid.effective cap at tree (ltb-true at (length spaces) there) (here held))

@@ -1,5 +1,6 @@
 -- Each call keeps what a credential keeps.
-use Rattle.std.proofs.Common.{◌≡◌, ℕ, ◌^◌, ◌<◌, ◌≤◌, ◌==◌, ◌&&◌, ◌||◌, not, Bool, true, false, List, Option, Some, None, if◌then◌else◌, refl, sym, ap, ◌∙◌, inl, inr, subst, arith, lit<}
+use Rattle.std.proofs.Common.{◌≡◌, ℕ, ◌^◌, ◌<◌, ◌≤◌, ◌==◌, ◌&&◌, ◌||◌, not, Bool, true, false, List, Option, Some, None}
+use Rattle.std.proofs.Common.{if◌then◌else◌, refl, sym, ap, ◌∙◌, inl, inr, subst, arith, lit<}
 use Rattle.std.specs.Prelude.{Result, Ok, IsTrue, nat_lt, All, IfSome, option_and_then, option_map, slice_get, unwrap_or, bit_and, bit_xor}
 use Rattle.std.specs.declared.result.Result.TheVariants.{Err}
 use Rattle.std.proofs.lemmas.Bool.{eqb-true, ltb-true, and_parts, or_cases}
@@ -11,24 +12,31 @@ use Rattle.cm_base.specs.declared.errno.Errno.{Errno}
 use Rattle.cm_base.specs.declared.errno.Errno.TheVariants.{EPERM, EINVAL, ENOSPC, EACCES}
 use Rattle.cm_base.specs.declared.res.FileRef.{FileRef}
 use Rattle.cm_base.specs.declared.res.FileRef.TheVariants.{Row, Plain}
-use Rattle.cm_base.proofs.CapSets.{within_reflexive, within_transitive, none_within, within_meet, meet_within_first, meet_within_second, second_within_union, union_within, minus_within, within_from_members, member_of_wider, holds_with, union_is_cap_set, meet_is_cap_set, minus_is_cap_set}
+use Rattle.cm_base.proofs.CapSets.{within_reflexive, within_transitive, none_within, within_meet, meet_within_first}
+use Rattle.cm_base.proofs.CapSets.{meet_within_second, second_within_union, union_within, minus_within}
+use Rattle.cm_base.proofs.CapSets.{within_from_members, member_of_wider, holds_with, union_is_cap_set, meet_is_cap_set}
+use Rattle.cm_base.proofs.CapSets.{minus_is_cap_set}
 use Rattle.model_cred.specs.Credential.{Credential, FourIds, Keeps, AreIds, AscendFrom, IsId, id_set}
 use Rattle.model_cred.specs.Files.{FileTable, FileRow, Mount, MapPair, KeepsFiles, KeepsRow, KeepsMount, KeepsPair}
 use Rattle.model_cred.specs.IdMap.{Extent, HasIds, extents_of, down, up}
 use Rattle.model_cred.specs.Space.{Space, Spaces, KeepsSpace}
 use Rattle.model_rules.specs.Answer.{Answer, done, refused}
-use Rattle.model_rules.specs.CapCalls.{capset, may_capset, has_setpcap, bset_drop, amb_raise, may_raise, amb_lower, amb_clear, secure_bits, may_secure, set_keep_caps, set_no_new_privs, with_keep_caps, without_keep_caps}
+use Rattle.model_rules.specs.CapCalls.{capset, may_capset, has_setpcap, bset_drop, amb_raise, may_raise, amb_lower}
+use Rattle.model_rules.specs.CapCalls.{amb_clear, secure_bits, may_secure, set_keep_caps, set_no_new_privs}
+use Rattle.model_rules.specs.CapCalls.{with_keep_caps, without_keep_caps}
 use Rattle.model_rules.specs.Caps.{fs_caps, last_cap}
-use Rattle.model_rules.specs.Exec.{FileSets, execve, cred_after, uids_after, gids_after, with_effective, with_sets, permitted_after, ambient_after, sets_for, is_privileged, setuid_counts, setgid_counts, run_file, interpreter_of}
+use Rattle.model_rules.specs.Exec.{FileSets, execve, cred_after, uids_after, gids_after, with_effective, with_sets}
+use Rattle.model_rules.specs.Exec.{permitted_after, ambient_after, sets_for, is_privileged, setuid_counts}
+use Rattle.model_rules.specs.Exec.{setgid_counts, run_file, interpreter_of}
 use Rattle.model_rules.specs.FileView.{FileView, view, view_in, view_if, view_on, plain_view, id_on, mount_uids, mount_gids}
 use Rattle.model_rules.specs.Fixups.{fixed_up, fs_fixed_up, following_effective, following_fs, after_losing_root, without_root}
-use Rattle.model_rules.specs.Namespaces.{as_newcomer, create, join}
+use Rattle.model_rules.specs.Namespaces.{as_newcomer, unshare, join}
 use Rattle.model_rules.specs.Securebits.{has_flag, keep_caps, no_setuid_fixup, locks, locked_flags}
 use Rattle.model_rules.specs.SetGroups.{all_down, with_groups, setgroups}
-use Rattle.model_rules.specs.SetId.{with_uids, with_gids, has_setuid, has_setgid, set_fs, setfsuid, setfsgid}
+use Rattle.model_rules.specs.SetId.{with_uids, with_gids, has_setuid, has_setgid, setfsid, setfsuid, setfsgid}
 use Rattle.model_rules.specs.Zero.{is_zero, has_zero}
 use Rattle.model_cred.proofs.IdSets.{set_ascends}
-use Rattle.model_laws.proofs.Ids.{either, down_id, GivesIds, set_fs_ids, all_down_ids}
+use Rattle.model_laws.proofs.Ids.{either, down_id, GivesIds, setfsid_ids, all_down_ids}
 
 -- a set within a set of capabilities is one
 pub within_is_cap_set : (a b : ℕ) → IsTrue (is_within a b) → IsCapSet b → IsCapSet a
@@ -63,7 +71,11 @@ keeps_ambient c a keeps permitted inherited = keeps_sets c c.permitted c.effecti
 -- with other user ids
 pub keeps_uids : (c : Credential) (ids : FourIds) → Keeps c → AreIds ids → Keeps (record c { uid = ids })
 keeps_uids c ids keeps are = record {
-  included = record { effective = keeps.included.effective; ambient_permitted = keeps.included.ambient_permitted; ambient_inheritable = keeps.included.ambient_inheritable };
+  included = record {
+    effective = keeps.included.effective;
+    ambient_permitted = keeps.included.ambient_permitted;
+    ambient_inheritable = keeps.included.ambient_inheritable;
+  };
   uid = are;
   gid = keeps.gid;
   groups = keeps.groups;
@@ -76,7 +88,11 @@ keeps_uids c ids keeps are = record {
 -- with other group ids
 keeps_gids : (c : Credential) (ids : FourIds) → Keeps c → AreIds ids → Keeps (record c { gid = ids })
 keeps_gids c ids keeps are = record {
-  included = record { effective = keeps.included.effective; ambient_permitted = keeps.included.ambient_permitted; ambient_inheritable = keeps.included.ambient_inheritable };
+  included = record {
+    effective = keeps.included.effective;
+    ambient_permitted = keeps.included.ambient_permitted;
+    ambient_inheritable = keeps.included.ambient_inheritable;
+  };
   uid = keeps.uid;
   gid = are;
   groups = keeps.groups;
@@ -89,7 +105,11 @@ keeps_gids c ids keeps are = record {
 -- with other groups
 keeps_groups : (c : Credential) (groups : List ℕ) → Keeps c → AscendFrom 0 groups → Keeps (record c { groups = groups })
 keeps_groups c groups keeps ascends = record {
-  included = record { effective = keeps.included.effective; ambient_permitted = keeps.included.ambient_permitted; ambient_inheritable = keeps.included.ambient_inheritable };
+  included = record {
+    effective = keeps.included.effective;
+    ambient_permitted = keeps.included.ambient_permitted;
+    ambient_inheritable = keeps.included.ambient_inheritable;
+  };
   uid = keeps.uid;
   gid = keeps.gid;
   groups = ascends;
@@ -102,7 +122,11 @@ keeps_groups c groups keeps ascends = record {
 -- with another bounding set
 keeps_bounding : (c : Credential) (b : ℕ) → Keeps c → IsCapSet b → Keeps (record c { bounding = b })
 keeps_bounding c b keeps small = record {
-  included = record { effective = keeps.included.effective; ambient_permitted = keeps.included.ambient_permitted; ambient_inheritable = keeps.included.ambient_inheritable };
+  included = record {
+    effective = keeps.included.effective;
+    ambient_permitted = keeps.included.ambient_permitted;
+    ambient_inheritable = keeps.included.ambient_inheritable;
+  };
   uid = keeps.uid;
   gid = keeps.gid;
   groups = keeps.groups;
@@ -115,7 +139,11 @@ keeps_bounding c b keeps small = record {
 -- with other securebits
 keeps_bits : (c : Credential) (bits : ℕ) → Keeps c → bits < 2 ^ 8 → Keeps (record c { securebits = bits })
 keeps_bits c bits keeps small = record {
-  included = record { effective = keeps.included.effective; ambient_permitted = keeps.included.ambient_permitted; ambient_inheritable = keeps.included.ambient_inheritable };
+  included = record {
+    effective = keeps.included.effective;
+    ambient_permitted = keeps.included.ambient_permitted;
+    ambient_inheritable = keeps.included.ambient_inheritable;
+  };
   uid = keeps.uid;
   gid = keeps.gid;
   groups = keeps.groups;
@@ -128,7 +156,11 @@ keeps_bits c bits keeps small = record {
 -- with no_new_privs set
 keeps_flag : (c : Credential) (flag : Bool) → Keeps c → Keeps (record c { no_new_privs = flag })
 keeps_flag c flag keeps = record {
-  included = record { effective = keeps.included.effective; ambient_permitted = keeps.included.ambient_permitted; ambient_inheritable = keeps.included.ambient_inheritable };
+  included = record {
+    effective = keeps.included.effective;
+    ambient_permitted = keeps.included.ambient_permitted;
+    ambient_inheritable = keeps.included.ambient_inheritable;
+  };
   uid = keeps.uid;
   gid = keeps.gid;
   groups = keeps.groups;
@@ -194,7 +226,9 @@ good_either true x y first second = first
 good_either false x y first second = second
 
 pub good_uids : (s : Space) (c : Credential) (r : Result FourIds Errno) → Keeps c → GivesIds r → Good (with_uids s c r)
-good_uids s c (Ok ids) keeps gives = good_done (fixed_up s c.uid (record c { uid = ids })) (keeps_fixed s c.uid (record c { uid = ids }) (keeps_uids c ids keeps (gives.ids ids refl)))
+good_uids s c (Ok ids) keeps gives =
+    good_done (fixed_up s c.uid (record c { uid = ids }))
+    (keeps_fixed s c.uid (record c { uid = ids }) (keeps_uids c ids keeps (gives.ids ids refl)))
 good_uids s c (Err e) keeps gives = good_refused e c keeps
 
 pub good_gids : (c : Credential) (r : Result FourIds Errno) → Keeps c → GivesIds r → Good (with_gids c r)
@@ -203,13 +237,15 @@ good_gids c (Err e) keeps gives = good_refused e c keeps
 
 pub good_setfsuid : (s : Space) (c : Credential) (id : ℕ) → KeepsSpace s → Keeps c → Good (setfsuid s c id)
 good_setfsuid s c id space keeps = record {
-  cred = keeps_fs_fixed s c.uid.fs (record c { uid = set_fs (extents_of s.uids) (has_setuid c) c.uid id })
-      (keeps_uids c (set_fs (extents_of s.uids) (has_setuid c) c.uid id) keeps (set_fs_ids (extents_of s.uids) (has_setuid c) c.uid id space.uids keeps.uid));
+  cred = keeps_fs_fixed s c.uid.fs (record c { uid = setfsid (extents_of s.uids) (has_setuid c) c.uid id })
+      (keeps_uids c (setfsid (extents_of s.uids) (has_setuid c) c.uid id) keeps (setfsid_ids (extents_of s.uids) (has_setuid c) c.uid id space.uids keeps.uid));
 }
 
 pub good_setfsgid : (s : Space) (c : Credential) (id : ℕ) → KeepsSpace s → Keeps c → Good (setfsgid s c id)
 good_setfsgid s c id space keeps = record {
-  cred = keeps_gids c (set_fs (extents_of s.gids) (has_setgid c) c.gid id) keeps (set_fs_ids (extents_of s.gids) (has_setgid c) c.gid id space.gids keeps.gid);
+  cred =
+      keeps_gids c (setfsid (extents_of s.gids) (has_setgid c) c.gid id) keeps
+      (setfsid_ids (extents_of s.gids) (has_setgid c) c.gid id space.gids keeps.gid);
 }
 
 good_groups : (c : Credential) (o : Option (List ℕ)) → Keeps c → ((ids : List ℕ) → o ≡ Some ids → All IsId ids) → Good (with_groups c o)
@@ -226,15 +262,22 @@ good_setgroups s c ids space keeps =
 pub good_capset : (c : Credential) (e p i : ℕ) → Keeps c → Good (capset c e p i)
 good_capset c e p i keeps =
     good_if (may_capset c e p i) _ _ (λ may.
-    let first = and_parts ((has_setpcap c || is_within i (union c.inheritable c.permitted)) && is_within i (union c.inheritable c.bounding) && is_within p c.permitted)
+    let first
+    = and_parts ((has_setpcap c || is_within i (union c.inheritable c.permitted))
+    && is_within i (union c.inheritable c.bounding) && is_within p c.permitted)
     (is_within e p) may in
-    let second = and_parts ((has_setpcap c || is_within i (union c.inheritable c.permitted)) && is_within i (union c.inheritable c.bounding)) (is_within p c.permitted) first.0 in
+    let second
+    = and_parts ((has_setpcap c || is_within i (union c.inheritable c.permitted))
+    && is_within i (union c.inheritable c.bounding))
+    (is_within p c.permitted) first.0 in
     let third = and_parts (has_setpcap c || is_within i (union c.inheritable c.permitted)) (is_within i (union c.inheritable c.bounding)) second.0 in
     record {
       cred = record {
         included = record {
           effective = first.1;
-          ambient_permitted = within_transitive (meet (meet c.ambient p) i) (meet c.ambient p) p (meet_within_first (meet c.ambient p) i) (meet_within_second c.ambient p);
+          ambient_permitted =
+              within_transitive (meet (meet c.ambient p) i) (meet c.ambient p) p
+              (meet_within_first (meet c.ambient p) i) (meet_within_second c.ambient p);
           ambient_inheritable = meet_within_second (meet c.ambient p) i;
         };
         uid = keeps.uid;
@@ -289,7 +332,10 @@ good_amb_clear c keeps = good_done (record c { ambient = none }) (keeps_ambient 
 pub good_secure_bits : (c : Credential) (bits : ℕ) → Keeps c → Good (secure_bits c bits)
 good_secure_bits c bits keeps =
     good_if (may_secure c bits) _ _ (λ may.
-    let last = and_parts (has_setpcap c && bit_and (bit_xor c.securebits bits) (locked_flags c.securebits) == 0 && is_within (bit_and c.securebits locks) bits) (nat_lt bits 256) may in
+    let last
+    = and_parts (has_setpcap c && bit_and (bit_xor c.securebits bits) (locked_flags c.securebits) == 0
+    && is_within (bit_and c.securebits locks) bits)
+    (nat_lt bits 256) may in
     let small : bits < 256 = ltb-true bits 256 last.1 in
     good_done (record c { securebits = bits }) (keeps_bits c bits keeps small))
     (λ _. good_refused EPERM c keeps)
@@ -297,7 +343,10 @@ good_secure_bits c bits keeps =
 keeps_without_keep_caps : (c : Credential) → Keeps c → Keeps (without_keep_caps c)
 keeps_without_keep_caps c keeps =
     keeps_bits c (minus c.securebits keep_caps) keeps
-    (xor_lt 8 c.securebits (bit_and c.securebits keep_caps) keeps.securebits (let le : bit_and c.securebits keep_caps ≤ c.securebits = and_le_l c.securebits keep_caps in let small : c.securebits < 2 ^ 8 = keeps.securebits in omega arith))
+    (xor_lt 8 c.securebits (bit_and c.securebits keep_caps) keeps.securebits
+    (let le : bit_and c.securebits keep_caps ≤ c.securebits = and_le_l c.securebits keep_caps in
+    let small : c.securebits < 2 ^ 8 = keeps.securebits in
+    omega arith))
 
 pub good_keep_caps : (c : Credential) (argument : ℕ) → Keeps c → Good (set_keep_caps c argument)
 good_keep_caps c argument keeps =
@@ -322,8 +371,8 @@ keeps_newcomer c keeps = record {
   securebits = lit< tt;
 }
 
-pub good_create : (spaces : Spaces) (at : ℕ) (c : Credential) → Keeps c → Good (create spaces at c)
-good_create spaces at c keeps =
+pub good_unshare : (spaces : Spaces) (at : ℕ) (c : Credential) → Keeps c → Good (unshare spaces at c)
+good_unshare spaces at c keeps =
     good_either _ _ _ (good_refused ENOSPC c keeps)
     (good_either _ _ _ (good_refused EPERM c keeps) (good_done (as_newcomer c) (keeps_newcomer c keeps)))
 
@@ -338,7 +387,8 @@ record GoodView (f : FileView) : Type 0 where
   owner : (id : ℕ) → f.owner ≡ Some id → IsId id
   group : (id : ℕ) → f.group ≡ Some id → IsId id
 
-id_on_id : (fs : List Extent) (o : Option (List Extent)) (id out : ℕ) → IsId id → ((map : List Extent) → o ≡ Some map → HasIds map) → id_on fs o id ≡ Some out → IsId out
+id_on_id : (fs : List Extent) (o : Option (List Extent)) (id out : ℕ) → IsId id
+    → ((map : List Extent) → o ≡ Some map → HasIds map) → id_on fs o id ≡ Some out → IsId out
 id_on_id fs None id out small has is = let e : id ≡ out = cc in omega arith
 id_on_id fs (Some map) id out small has is = through (up fs id) is
   where
@@ -406,7 +456,8 @@ keeps_exec_sets c f a keeps within =
     (within_is_cap_set a c.permitted permitted keeps.permitted) in
     let in_gained : IsTrue (is_within a gained) = second_within_union (union (meet c.inheritable f.inheritable) (meet f.permitted c.bounding)) a in
     let in_after : IsTrue (is_within a (permitted_after c f a))
-    = either (λ set. IsTrue (is_within a set)) c.no_new_privs (meet gained c.permitted) gained (within_meet gained c.permitted a in_gained permitted) in_gained in
+    = either (λ set. IsTrue (is_within a set)) c.no_new_privs (meet gained c.permitted) gained
+    (within_meet gained c.permitted a in_gained permitted) in_gained in
     keeps_sets c (permitted_after c f a) (if f.effective then permitted_after c f a else a) a keeps
     (either IsCapSet c.no_new_privs (meet gained c.permitted) gained (meet_is_cap_set gained c.permitted small) small)
     (either (λ set. IsTrue (is_within set (permitted_after c f a))) f.effective (permitted_after c f a) a (within_reflexive (permitted_after c f a)) in_after)

@@ -5,6 +5,7 @@ use Rattle.cm_base.specs.declared.errno.Errno.{Errno}
 use Rattle.cm_base.specs.declared.errno.Errno.TheVariants.{EAGAIN}
 use Rattle.cm_base.specs.declared.res.Res.{Res}
 use Rattle.cm_base.specs.declared.res.Res.TheVariants.{Done, Id, Child, Err}
+use Rattle.model_cred.proofs.Lookups.{pid_of_found}
 use Rattle.model_cred.specs.Call.{Call, Fork, CloneUser, Exit, Event}
 use Rattle.model_cred.specs.Credential.{Credential}
 use Rattle.model_cred.specs.Process.{Process, State, process_at, put_process, insert_process, without_process, is_alive, is_pid}
@@ -12,10 +13,11 @@ use Rattle.model_cred.specs.Space.{Spaces}
 use Rattle.model_cred.specs.World.{World}
 use Rattle.model_run.specs.Later.{members_after, members_with}
 use Rattle.model_run.specs.Outside.{comes_from_outside}
+use Rattle.model_rules.specs.Namespaces.{clone_user}
 use Rattle.model_run.specs.Ruling.{Ruling, ruling, birth, birth_unless, reply_to, state_left, spaces_left, fork_child, clone_child}
 use Rattle.model_run.specs.Step.{Step, told_child, is_living_child}
 use Rattle.model_laws.proofs.Keeping.{told_is_new}
-use Rattle.model_laws.proofs.Refusals.{found_pid, put_same}
+use Rattle.model_laws.proofs.Refusals.{put_same}
 use Rattle.model_laws.proofs.Results.{IsRuled, reply_plain}
 use Rattle.model_laws.proofs.StepParts.{Stepped, Answers, stepped}
 
@@ -94,7 +96,7 @@ error_calls : (processes : List Process) (pid : ℕ) (p : Process) (call : Call)
 error_calls processes pid p call res e lives is = record {
   space = p.space;
   cred = p.cred;
-  processes = sym (put_same processes pid p (found_pid processes pid p lives) lives);
+  processes = sym (put_same processes pid p (pid_of_found processes pid p lives) lives);
   members = λ members n. ap (members_after members n call) is ∙ error_members call e members n;
   childless = subst IsChildless (sym is) tt;
 }
@@ -155,7 +157,9 @@ owed_left : (w : World) (s : State) (pid : ℕ) (p : Process) (call : Call) (res
     → Owed s.processes p call res (record { res = (reply_to w s p call).res; state = state_left s p call (reply_to w s p call) })
 owed_left w s pid p call res brings = record {
   owes = λ is.
-      let plain : IsChildless res = subst IsChildless (sym is) (ruled_childless (reply_to w s p call).res (reply_plain w.files s.spaces p.space p.cred call).ruled) in
+      let plain : IsChildless res
+      = subst IsChildless (sym is)
+      (ruled_childless (reply_to w s p call).res (reply_plain w.files s.spaces p.space p.cred call).ruled) in
       inl (record {
         space = (reply_to w s p call).space;
         cred = (reply_to w s p call).cred;
@@ -169,7 +173,7 @@ owed : (w : World) (s : State) (pid : ℕ) (p : Process) (call : Call) (n : ℕ)
     → (is_pid n ≡ true → is_alive s.processes n ≡ false) → Owed s.processes p call res (ruling w s p call n)
 owed w s pid p Fork n res lives fresh = owed_birth s pid p (fork_child p n) s.spaces Fork res lives fork refl fresh
 owed w s pid p CloneUser n res lives fresh =
-    owed_unless (reply_to w s p CloneUser).res s pid p (clone_child s.spaces p n) (spaces_left s p CloneUser) CloneUser res lives clone refl fresh
+    owed_unless (clone_user s.spaces p.space p.cred) s pid p (clone_child s.spaces p n) (spaces_left s p CloneUser) CloneUser res lives clone refl fresh
 owed w s pid p Exit n res lives fresh = record {
   owes = λ is. inr (inr (record { exit = refl; result = is; processes = refl; members = λ members m. ap (members_after members m Exit) is }));
 }
@@ -179,7 +183,8 @@ effect_of : (w : World) (s : State) (e : Event) (s' : State) (p : Process) → p
     → Answers w s p e.call e.res s' → Effect s.processes p e.call e.res s'.processes
 effect_of w s e s' p lives fresh (inl outside) =
     let error : (k : Errno) × (e.res ≡ Err k) = outside_error e.call e.res outside.outside in
-    subst (λ (t : State). Effect s.processes p e.call e.res t.processes) (sym outside.state) (inl (error_calls s.processes e.pid p e.call e.res error.0 lives error.1))
+    subst (λ (t : State). Effect s.processes p e.call e.res t.processes) (sym outside.state)
+    (inl (error_calls s.processes e.pid p e.call e.res error.0 lives error.1))
 effect_of w s e s' p lives fresh (inr rules) =
     subst (λ (t : State). Effect s.processes p e.call e.res t.processes) (sym rules.state)
     ((owed w s e.pid p e.call (told_child e.res) e.res lives (told_is_new s.processes e.res fresh)).owes rules.result)
@@ -191,6 +196,6 @@ does w s e s' step =
     record {
       caller = parts.caller;
       lives = parts.lives;
-      named = found_pid s.processes e.pid parts.caller parts.lives;
+      named = pid_of_found s.processes e.pid parts.caller parts.lives;
       effect = effect_of w s e s' parts.caller parts.lives parts.child parts.answers;
     }

@@ -1,15 +1,17 @@
 -- The calls that set ids give ids.
-use Rattle.std.proofs.Common.{◌≡◌, ℕ, ◌+◌, ◌-◌, ◌<◌, ◌≤◌, ◌==◌, ◌&&◌, ◌||◌, not, Bool, true, false, List, [], ◌∷◌, Option, Some, None, if◌then◌else◌, refl, sym, ◌∙◌, inl, inr, subst, arith, All}
+use Rattle.std.proofs.Common.{◌≡◌, ℕ, ◌+◌, ◌-◌, ◌<◌, ◌≤◌, ◌==◌, ◌&&◌, ◌||◌, not, Bool, true, false, List, [], ◌∷◌}
+use Rattle.std.proofs.Common.{Option, Some, None, if◌then◌else◌, refl, sym, ◌∙◌, inl, inr, subst, arith, All}
 use Rattle.std.specs.Prelude.{Result, Ok, option_and_then, option_map, nat_le, nat_lt}
 use Rattle.std.specs.declared.result.Result.TheVariants.{Err}
 use Rattle.std.proofs.lemmas.Bool.{cases_Bool, ltb-true, leb-true, cond-true, cond-false, and_parts}
 use Rattle.std.proofs.lemmas.List.Elements.{All-nil, All-cons, All-head, All-tail}
+use Rattle.cm_base.specs.Limits.{id_count}
 use Rattle.cm_base.specs.declared.errno.Errno.{Errno}
 use Rattle.cm_base.specs.declared.errno.Errno.TheVariants.{EPERM, EINVAL}
 use Rattle.model_cred.specs.Credential.{FourIds, AreIds, IsId, all_four, is_one_of_three}
 use Rattle.model_cred.specs.IdMap.{Extent, HasIds, down, lies_in}
 use Rattle.model_rules.specs.SetGroups.{all_down}
-use Rattle.model_rules.specs.SetId.{asked, minus_one, one_mapped, both_mapped, all_mapped, set_res, set_re, set_one, set_fs, with_fs, saved_after, is_given}
+use Rattle.model_rules.specs.SetId.{asked, minus_one, one_mapped, both_mapped, all_mapped, setresid, setreid, setid, setfsid, with_fs, saved_after, is_given}
 
 -- what holds of both holds of the one that a test chooses
 pub either : {A : Type 0} (P : A → Type 0) (b : Bool) (x y : A) → P x → P y → P (if b then x else y)
@@ -18,7 +20,7 @@ either P false x y first second = second
 
 -- the outside ids of one line are ids
 abbrev pub FitsIds : Extent → Type 0
-FitsIds e = e.outside + e.length ≤ 4294967295
+FitsIds e = e.outside + e.length ≤ id_count
 
 -- a map whose outside ids are ids gives ids
 pub down_id : (map : List Extent) (id out : ℕ) → HasIds map → down map id ≡ Some out → IsId out
@@ -26,15 +28,20 @@ down_id [] id out ids is = absurd (cc)
 down_id (e ∷ map) id out ids is =
     elim (cases_Bool (lies_in e.inside e.length id)) [
       | inl within ↦
-          let it : Some (e.outside + (id - e.inside)) ≡ Some out = sym (cond-true (lies_in e.inside e.length id) (Some (e.outside + (id - e.inside))) (down map id) within) ∙ is in
+          let it : Some (e.outside + (id - e.inside)) ≡ Some out
+          = sym (cond-true (lies_in e.inside e.length id) (Some (e.outside + (id - e.inside))) (down map id) within)
+          ∙ is in
           let e_is : e.outside + (id - e.inside) ≡ out = cc in
           let parts : (nat_le e.inside id ≡ true) × (nat_lt id (e.inside + e.length) ≡ true) = and_parts _ _ within in
           let low : e.inside ≤ id = leb-true e.inside id parts.0 in
           let high : id < e.inside + e.length = ltb-true id (e.inside + e.length) parts.1 in
-          let fits : e.outside + e.length ≤ 4294967295 = All-head FitsIds e map ids in
+          let fits : e.outside + e.length ≤ id_count = All-head FitsIds e map ids in
           omega arith
       | inr outside ↦
-          down_id map id out (All-tail FitsIds e map ids) (sym (cond-false (lies_in e.inside e.length id) (Some (e.outside + (id - e.inside))) (down map id) outside) ∙ is)
+          down_id map id out (All-tail FitsIds e map ids)
+          (sym (cond-false (lies_in e.inside e.length id) (Some (e.outside + (id - e.inside)))
+          (down map id) outside)
+          ∙ is)
     ]
 
 -- what is asked for is an id
@@ -74,8 +81,8 @@ all_give (Some a) None q f gives = gives_error EINVAL
 all_give (Some a) (Some b) None f gives = gives_error EINVAL
 all_give (Some a) (Some b) (Some c) f gives = gives a b c refl refl refl
 
-pub set_res_ids : (map : List Extent) (privileged : Bool) (old : FourIds) (r e s : ℕ) → HasIds map → AreIds old → GivesIds (set_res map privileged old r e s)
-set_res_ids map privileged old r e s ids are =
+pub setresid_ids : (map : List Extent) (privileged : Bool) (old : FourIds) (r e s : ℕ) → HasIds map → AreIds old → GivesIds (setresid map privileged old r e s)
+setresid_ids map privileged old r e s ids are =
     all_give (asked map old.real r) (asked map old.effective e) (asked map old.saved s) _ (λ real effective saved is_real is_effective is_saved.
     either GivesIds (privileged || (is_one_of_three old real && is_one_of_three old effective && is_one_of_three old saved))
     (Ok (record { real = real; effective = effective; saved = saved; fs = effective })) (Err EPERM)
@@ -87,8 +94,8 @@ set_res_ids map privileged old r e s ids are =
     }))
     (gives_error EPERM))
 
-pub set_re_ids : (map : List Extent) (privileged : Bool) (old : FourIds) (r e : ℕ) → HasIds map → AreIds old → GivesIds (set_re map privileged old r e)
-set_re_ids map privileged old r e ids are =
+pub setreid_ids : (map : List Extent) (privileged : Bool) (old : FourIds) (r e : ℕ) → HasIds map → AreIds old → GivesIds (setreid map privileged old r e)
+setreid_ids map privileged old r e ids are =
     both_give (asked map old.real r) (asked map old.effective e) _ (λ real effective is_real is_effective.
     either GivesIds (privileged || ((real == old.real || real == old.effective) && is_one_of_three old effective))
     (Ok (record { real = real; effective = effective; saved = saved_after old r e effective; fs = effective })) (Err EPERM)
@@ -101,8 +108,8 @@ set_re_ids map privileged old r e ids are =
     }))
     (gives_error EPERM))
 
-pub set_one_ids : (map : List Extent) (privileged : Bool) (old : FourIds) (argument : ℕ) → HasIds map → AreIds old → GivesIds (set_one map privileged old argument)
-set_one_ids map privileged old argument ids are =
+pub setid_ids : (map : List Extent) (privileged : Bool) (old : FourIds) (argument : ℕ) → HasIds map → AreIds old → GivesIds (setid map privileged old argument)
+setid_ids map privileged old argument ids are =
     one_gives (down map argument) _ (λ id is.
     let small : IsId id = down_id map argument id ids is in
     either GivesIds privileged (Ok (all_four id)) (if id == old.real || id == old.saved then Ok (record old { effective = id; fs = id }) else Err EPERM)
@@ -117,8 +124,9 @@ with_fs_ids privileged old (Some id) are small =
     either AreIds (privileged || is_one_of_three old id || id == old.fs) (record old { fs = id }) old
     (record { real = are.real; effective = are.effective; saved = are.saved; fs = small id refl }) are
 
-pub set_fs_ids : (map : List Extent) (privileged : Bool) (old : FourIds) (argument : ℕ) → HasIds map → AreIds old → AreIds (set_fs map privileged old argument)
-set_fs_ids map privileged old argument ids are = with_fs_ids privileged old (down map argument) are (λ id is. down_id map argument id ids is)
+pub setfsid_ids : (map : List Extent) (privileged : Bool) (old : FourIds) (argument : ℕ) → HasIds map → AreIds old
+    → AreIds (setfsid map privileged old argument)
+setfsid_ids map privileged old argument ids are = with_fs_ids privileged old (down map argument) are (λ id is. down_id map argument id ids is)
 
 -- ---- groups
 -- what a list of ids is mapped to are ids, by what the first and the rest are mapped to

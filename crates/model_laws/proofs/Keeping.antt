@@ -6,7 +6,10 @@ use Rattle.std.proofs.lemmas.List.Elements.{All-weaker}
 use Rattle.cm_base.specs.declared.errno.Errno.TheVariants.{EPERM, ENOSPC, EAGAIN}
 use Rattle.cm_base.specs.declared.res.Res.{Res}
 use Rattle.cm_base.specs.declared.res.Res.TheVariants.{Done, Id, Child, Err}
-use Rattle.model_cred.specs.Call.{Call, SetUid, SetReUid, SetResUid, SetFsUid, SetGid, SetReGid, SetResGid, SetFsGid, SetGroups, CapSet, BsetDrop, AmbRaise, AmbLower, AmbClear, SecureBits, KeepCaps, NoNewPrivs, Fork, CloneUser, Unshare, SetNs, WriteUidMap, WriteGidMap, WriteSetgroups, Exec, Exit, Event}
+use Rattle.model_cred.specs.Call.{Call, SetUid, SetReUid, SetResUid, SetFsUid, SetGid, SetReGid, SetResGid, SetFsGid}
+use Rattle.model_cred.specs.Call.{SetGroups, CapSet, BsetDrop, AmbRaise, AmbLower, AmbClear, SecureBits, KeepCaps}
+use Rattle.model_cred.specs.Call.{NoNewPrivs, Fork, CloneUser, Unshare, SetNs, WriteUidMap, WriteGidMap, WriteSetgroups}
+use Rattle.model_cred.specs.Call.{Exec, Exit, Event}
 use Rattle.cm_filter.specs.declared.kind.CallKind.{CallKind}
 use Rattle.model_cred.specs.Credential.{Credential, Keeps}
 use Rattle.model_cred.specs.Files.{FileTable, KeepsFiles}
@@ -16,16 +19,19 @@ use Rattle.model_cred.specs.Space.{Spaces, KeepsSpace, space_of, stands}
 use Rattle.model_cred.specs.World.{World}
 use Rattle.model_rules.specs.Answer.{Answer, done}
 use Rattle.model_rules.specs.Maps.{UidMap, GidMap, Written}
-use Rattle.model_rules.specs.Namespaces.{create, join, as_newcomer}
+use Rattle.model_rules.specs.Namespaces.{unshare, clone_user, join, as_newcomer}
 use Rattle.model_rules.specs.Reply.{Reply, reply, spaces_after, stays, place_after, spaces_with, writes}
 use Rattle.model_rules.specs.SetId.{has_setuid, has_setgid}
 use Rattle.model_run.specs.Later.{Later, members_after}
 use Rattle.model_run.specs.Ruling.{Ruling, ruling, birth_unless, reply_to, state_left, state_without, fork_child, clone_child}
 use Rattle.model_run.specs.Step.{Run, told_child, names_no_space, is_living_child}
 use Rattle.model_laws.specs.Runs.{StepKeeps, RunKeeps, LaterKeeps, WorldRunKeeps}
-use Rattle.model_laws.proofs.Credentials.{Good, good_uids, good_gids, good_setfsuid, good_setfsgid, good_setgroups, good_capset, good_bset_drop, good_amb_raise, good_amb_lower, good_amb_clear, good_secure_bits, good_keep_caps, good_no_new_privs, good_create, good_join, good_execve, keeps_newcomer}
-use Rattle.model_laws.proofs.Ids.{set_res_ids, set_re_ids, set_one_ids}
-use Rattle.model_laws.proofs.Orders.{ascends_forth, ascends_back, ascends_put, ascends_insert, ascends_without, all_put, all_insert, all_without, all_found}
+use Rattle.model_laws.proofs.Credentials.{Good, good_uids, good_gids, good_setfsuid, good_setfsgid, good_setgroups}
+use Rattle.model_laws.proofs.Credentials.{good_capset, good_bset_drop, good_amb_raise, good_amb_lower, good_amb_clear}
+use Rattle.model_laws.proofs.Credentials.{good_secure_bits, good_keep_caps, good_no_new_privs, good_unshare, good_join}
+use Rattle.model_laws.proofs.Credentials.{good_execve, keeps_newcomer}
+use Rattle.model_laws.proofs.Ids.{setresid_ids, setreid_ids, setid_ids}
+use Rattle.model_cred.proofs.Orders.{ascends_forth, ascends_back, ascends_put, ascends_insert, ascends_without, all_put, all_insert, all_without, all_found}
 use Rattle.model_laws.proofs.StepParts.{Stepped, Answers, stepped}
 use Rattle.model_laws.proofs.Trees.{KeepsTree, keeps_space_of, keeps_created, GoodWrite, good_map, good_word}
 
@@ -64,7 +70,8 @@ joined (Err e) at target count there other = there
 stands_there : (spaces : Spaces) (n : ℕ) → not (stands spaces n) ≡ false → n < length spaces
 stands_there spaces n is = ltb-true n (length spaces) (not-false (stands spaces n) is)
 
-writes_good : (spaces : Spaces) (at : ℕ) (c : Credential) (a : Written) → at < length spaces → Keeps c → GoodWrite spaces a → GoodReply spaces (writes at c a) a.spaces
+writes_good : (spaces : Spaces) (at : ℕ) (c : Credential) (a : Written) → at < length spaces → Keeps c
+    → GoodWrite spaces a → GoodReply spaces (writes at c a) a.spaces
 writes_good spaces at c a there keeps good =
     let count : length a.spaces ≡ length spaces = good.count in
     record { space = omega arith; cred = keeps; tree = good.keeps; grows = omega arith }
@@ -73,24 +80,30 @@ reply_good : (files : FileTable) (spaces : Spaces) (at : ℕ) (c : Credential) (
     → names_no_space spaces call ≡ false → GoodReply spaces (reply files spaces at c call) (spaces_after spaces at c call)
 reply_good files spaces at c (SetUid id) has tree there keeps named =
     let s : KeepsSpace (space_of spaces at) = keeps_space_of spaces at tree.each in
-    stays_good spaces at _ there tree (good_uids (space_of spaces at) c _ keeps (set_one_ids (extents_of (space_of spaces at).uids) (has_setuid c) c.uid id s.uids keeps.uid))
+    stays_good spaces at _ there tree
+    (good_uids (space_of spaces at) c _ keeps
+    (setid_ids (extents_of (space_of spaces at).uids) (has_setuid c) c.uid id s.uids keeps.uid))
 reply_good files spaces at c (SetReUid r e) has tree there keeps named =
     let s : KeepsSpace (space_of spaces at) = keeps_space_of spaces at tree.each in
-    stays_good spaces at _ there tree (good_uids (space_of spaces at) c _ keeps (set_re_ids (extents_of (space_of spaces at).uids) (has_setuid c) c.uid r e s.uids keeps.uid))
+    stays_good spaces at _ there tree
+    (good_uids (space_of spaces at) c _ keeps
+    (setreid_ids (extents_of (space_of spaces at).uids) (has_setuid c) c.uid r e s.uids keeps.uid))
 reply_good files spaces at c (SetResUid r e v) has tree there keeps named =
     let s : KeepsSpace (space_of spaces at) = keeps_space_of spaces at tree.each in
-    stays_good spaces at _ there tree (good_uids (space_of spaces at) c _ keeps (set_res_ids (extents_of (space_of spaces at).uids) (has_setuid c) c.uid r e v s.uids keeps.uid))
+    stays_good spaces at _ there tree
+    (good_uids (space_of spaces at) c _ keeps
+    (setresid_ids (extents_of (space_of spaces at).uids) (has_setuid c) c.uid r e v s.uids keeps.uid))
 reply_good files spaces at c (SetFsUid id) has tree there keeps named =
     stays_good spaces at _ there tree (good_setfsuid (space_of spaces at) c id (keeps_space_of spaces at tree.each) keeps)
 reply_good files spaces at c (SetGid id) has tree there keeps named =
     let s : KeepsSpace (space_of spaces at) = keeps_space_of spaces at tree.each in
-    stays_good spaces at _ there tree (good_gids c _ keeps (set_one_ids (extents_of (space_of spaces at).gids) (has_setgid c) c.gid id s.gids keeps.gid))
+    stays_good spaces at _ there tree (good_gids c _ keeps (setid_ids (extents_of (space_of spaces at).gids) (has_setgid c) c.gid id s.gids keeps.gid))
 reply_good files spaces at c (SetReGid r e) has tree there keeps named =
     let s : KeepsSpace (space_of spaces at) = keeps_space_of spaces at tree.each in
-    stays_good spaces at _ there tree (good_gids c _ keeps (set_re_ids (extents_of (space_of spaces at).gids) (has_setgid c) c.gid r e s.gids keeps.gid))
+    stays_good spaces at _ there tree (good_gids c _ keeps (setreid_ids (extents_of (space_of spaces at).gids) (has_setgid c) c.gid r e s.gids keeps.gid))
 reply_good files spaces at c (SetResGid r e v) has tree there keeps named =
     let s : KeepsSpace (space_of spaces at) = keeps_space_of spaces at tree.each in
-    stays_good spaces at _ there tree (good_gids c _ keeps (set_res_ids (extents_of (space_of spaces at).gids) (has_setgid c) c.gid r e v s.gids keeps.gid))
+    stays_good spaces at _ there tree (good_gids c _ keeps (setresid_ids (extents_of (space_of spaces at).gids) (has_setgid c) c.gid r e v s.gids keeps.gid))
 reply_good files spaces at c (SetFsGid id) has tree there keeps named =
     stays_good spaces at _ there tree (good_setfsgid (space_of spaces at) c id (keeps_space_of spaces at tree.each) keeps)
 reply_good files spaces at c (SetGroups ids) has tree there keeps named =
@@ -105,11 +118,13 @@ reply_good files spaces at c (KeepCaps argument) has tree there keeps named = st
 reply_good files spaces at c (NoNewPrivs argument) has tree there keeps named = stays_good spaces at _ there tree (good_no_new_privs c argument keeps)
 reply_good files spaces at c Fork has tree there keeps named = record { space = there; cred = keeps; tree = tree; grows = omega arith }
 reply_good files spaces at c CloneUser has tree there keeps named =
-    let new : Made spaces at (create spaces at c).res (spaces_with (create spaces at c).res spaces at c) = made (create spaces at c).res spaces at c there tree keeps in
+    let new : Made spaces at (clone_user spaces at c) (spaces_with (clone_user spaces at c) spaces at c)
+    = made (clone_user spaces at c) spaces at c there tree keeps in
     record { space = new.old; cred = keeps; tree = new.tree; grows = new.grows }
 reply_good files spaces at c Unshare has tree there keeps named =
-    let new : Made spaces at (create spaces at c).res (spaces_with (create spaces at c).res spaces at c) = made (create spaces at c).res spaces at c there tree keeps in
-    record { space = new.place; cred = (good_create spaces at c keeps).cred; tree = new.tree; grows = new.grows }
+    let new : Made spaces at (unshare spaces at c).res (spaces_with (unshare spaces at c).res spaces at c)
+    = made (unshare spaces at c).res spaces at c there tree keeps in
+    record { space = new.place; cred = (good_unshare spaces at c keeps).cred; tree = new.tree; grows = new.grows }
 reply_good files spaces at c (SetNs target) has tree there keeps named =
     record {
       space = joined (join spaces at c target).res at target (length spaces) there (stands_there spaces target named);
@@ -147,7 +162,8 @@ keeps_left s p r after keeps good = record {
 }
 
 -- one more process, with these spaces
-keeps_born : (s : State) (child : Process) (after : Spaces) → KeepsState s → is_alive s.processes child.pid ≡ false → child.space < length after → Keeps child.cred
+keeps_born : (s : State) (child : Process) (after : Spaces) → KeepsState s → is_alive s.processes child.pid ≡ false
+    → child.space < length after → Keeps child.cred
     → length s.spaces ≤ length after → KeepsTree after → KeepsState (record { processes = insert_process child s.processes; spaces = after })
 keeps_born s child after keeps dead place cred grows tree = record {
   ascends = ascends_back 0 (insert_process child s.processes)
@@ -170,7 +186,15 @@ keeps_without s p keeps = record {
 -- a birth, by the test for a pid
 keeps_birth : (s : State) (child : Process) (after : Spaces) (b : Bool) → KeepsState s
     → (b ≡ true → KeepsState (record { processes = insert_process child s.processes; spaces = after }))
-    → KeepsState (let r : Ruling = if b then record { res = Child child.pid; state = record { processes = insert_process child s.processes; spaces = after } } else record { res = Err EAGAIN; state = s } in r.state)
+    → KeepsState (let r : Ruling
+    = if b then record {
+      res = Child child.pid;
+      state = record { processes = insert_process child s.processes; spaces = after };
+    } else record {
+      res = Err EAGAIN;
+      state = s;
+    } in
+    r.state)
 keeps_birth s child after true keeps born = born refl
 keeps_birth s child after false keeps born = keeps
 
@@ -184,8 +208,8 @@ IsPlain (Err e) = Unit {0}
 abbrev pub IsPlainAnswer : Answer → Type 0
 IsPlainAnswer a = IsPlain a.res
 
-create_plain : (spaces : Spaces) (at : ℕ) (c : Credential) → IsPlain (create spaces at c).res
-create_plain spaces at c = plain _ _ tt tt
+clone_plain : (spaces : Spaces) (at : ℕ) (c : Credential) → IsPlain (clone_user spaces at c)
+clone_plain spaces at c = plain _ _ tt tt
   where
     plain : (a b : Bool) → IsPlain Done → IsPlain Done
         → IsPlain (if a then record { res = Err ENOSPC; cred = c } else if b then record { res = Err EPERM; cred = c } else done (as_newcomer c)).res
@@ -203,7 +227,8 @@ keeps_clone (Child m) s p n plain keeps there cred dead = absurd plain
 keeps_clone Done s p n plain keeps there cred dead =
     let new : Made s.spaces p.space Done (spaces_with Done s.spaces p.space p.cred) = made Done s.spaces p.space p.cred there (tree_of s keeps) cred in
     keeps_birth s (clone_child s.spaces p n) (spaces_with Done s.spaces p.space p.cred) (is_pid n) keeps (λ is.
-    keeps_born s (clone_child s.spaces p n) (spaces_with Done s.spaces p.space p.cred) keeps (dead is) new.place (keeps_newcomer p.cred cred) new.grows new.tree)
+    keeps_born s (clone_child s.spaces p n) (spaces_with Done s.spaces p.space p.cred) keeps (dead is) new.place
+    (keeps_newcomer p.cred cred) new.grows new.tree)
 
 -- a call that is neither a birth nor an exit
 keeps_call : (w : World) (s : State) (p : Process) (call : Call) → KeepsFiles w.files → KeepsState s → p.space < length s.spaces → Keeps p.cred
@@ -218,12 +243,13 @@ keeps_ruling w s p Fork n has keeps there cred named dead =
     keeps_birth s (fork_child p n) s.spaces (is_pid n) keeps (λ is.
     keeps_born s (fork_child p n) s.spaces keeps (dead is) there cred (omega arith) (tree_of s keeps))
 keeps_ruling w s p CloneUser n has keeps there cred named dead =
-    keeps_clone (create s.spaces p.space p.cred).res s p n (create_plain s.spaces p.space p.cred) keeps there cred dead
+    keeps_clone (clone_user s.spaces p.space p.cred) s p n (clone_plain s.spaces p.space p.cred) keeps there cred dead
 keeps_ruling w s p Exit n has keeps there cred named dead = keeps_without s p keeps
 keeps_ruling w s p call n has keeps there cred named dead = keeps_call w s p call has keeps there cred named
 
 -- the child that is told isn't alive
-pub told_is_new : (processes : List Process) (res : Res) → is_living_child processes res ≡ false → is_pid (told_child res) ≡ true → is_alive processes (told_child res) ≡ false
+pub told_is_new : (processes : List Process) (res : Res) → is_living_child processes res ≡ false
+    → is_pid (told_child res) ≡ true → is_alive processes (told_child res) ≡ false
 told_is_new processes Done dead is = absurd (cc)
 told_is_new processes (Id n) dead is = absurd (cc)
 told_is_new processes (Child n) dead is = dead

@@ -8,7 +8,7 @@ use Rattle.model_cred.specs.Process.{Process, State, process_at, put_process, in
 use Rattle.model_run.specs.Family.{Family, itself, child}
 use Rattle.model_laws.specs.Families.{ChainEnds, first, next, ChainsEnd}
 use Rattle.model_laws.proofs.Chains.{is_the_same, not_the, the_is}
-use Rattle.model_laws.proofs.Lookups.{at_put_same, at_put_other, at_insert_same, at_insert_other, at_without_gone, at_without_other}
+use Rattle.model_cred.proofs.Lookups.{at_put_same, at_put_other, at_insert_same, at_insert_other, at_without_gone, at_without_other}
 
 -- a test for something there
 pub there : (o : Option Process) → is_some o ≡ true → (p : Process) × (o ≡ Some p)
@@ -74,7 +74,8 @@ module _ (s s' : State) (p : Process) (lives : process_at s.processes p.pid ≡ 
       elim (cases_eq pid p.pid) [
         | inl same ↦
             let e : record p { space = place; cred = cred } ≡ q
-            = one_some (record p { space = place; cred = cred }) q (process_at s'.processes p.pid) caller_after (sym (ap (process_at s'.processes) same) ∙ at) in
+            = one_some (record p { space = place; cred = cred }) q (process_at s'.processes p.pid) caller_after
+            (sym (ap (process_at s'.processes) same) ∙ at) in
             record { process = p; lives = ap (process_at s.processes) same ∙ lives; forebear = ap (λ (r : Process). r.forebear) e }
         | inr other ↦ record { process = q; lives = sym (other_after pid other) ∙ at; forebear = refl }
       ]
@@ -160,7 +161,10 @@ module _ (s s' : State) (gone : Process) (lives : process_at s.processes gone.pi
   was_there pid q at =
       elim (cases_eq pid gone.pid) [
         | inl same ↦
-            absurd (let none : process_at s'.processes pid ≡ None = ap (process_at s'.processes) same ∙ ap (λ ps. process_at ps gone.pid) is ∙ at_without_gone gone s.processes in cc)
+            absurd (let none : process_at s'.processes pid ≡ None
+            = ap (process_at s'.processes) same ∙ ap (λ ps. process_at ps gone.pid) is
+            ∙ at_without_gone gone s.processes in
+            cc)
         | inr other ↦
             by (process_at s.processes pid) refl other
             (sym (at_without_other gone s.processes pid other) ∙ sym (ap (λ ps. process_at ps pid) is) ∙ at)

@@ -6,9 +6,7 @@ pub mod Results
 pub mod Refusals
 pub mod Credentials
 pub mod Trees
-pub mod Orders
 pub mod Keeping
-pub mod Lookups
 pub mod Effects
 pub mod Kin
 pub mod Reaching

@@ -1,7 +1,9 @@
 -- Members in later runs: they are the family of the root, and whoever is none stays as it is.
-use Rattle.std.proofs.Common.{◌≡◌, ◌≢◌, ℕ, ◌==◌, ◌&&◌, not, Bool, true, false, List, [], ◌∷◌, ◌++◌, filter, Some, None, if◌then◌else◌, refl, sym, ap, ◌∙◌, inl, inr, subst}
+use Rattle.std.proofs.Common.{◌≡◌, ◌≢◌, ℕ, ◌==◌, ◌&&◌, not, Bool, true, false, List, [], ◌∷◌, ◌++◌, filter, Some, None}
+use Rattle.std.proofs.Common.{if◌then◌else◌, refl, sym, ap, ◌∙◌, inl, inr, subst}
 use Rattle.std.specs.Prelude.{IsTrue, is_some}
-use Rattle.std.proofs.lemmas.Bool.{cases_eq, eqb-true, eqb-false, eq-eqb, ne_eqb, and_parts, and_from, and_right, or_cases, or_left, or_right, or_from, false_from_ne_true, not-true, not_from_false}
+use Rattle.std.proofs.lemmas.Bool.{cases_eq, eqb-true, eqb-false, eq-eqb, ne_eqb, and_parts, and_from, and_right}
+use Rattle.std.proofs.lemmas.Bool.{or_cases, or_left, or_right, or_from, false_from_ne_true, not-true, not_from_false}
 use Rattle.std.proofs.lemmas.Map.Views.{any-filter_same}
 use Rattle.cm_base.specs.declared.res.Res.TheVariants.{Done, Child}
 use Rattle.model_cred.specs.Call.{Event, Exit}
@@ -12,10 +14,15 @@ use Rattle.model_cred.specs.World.{World}
 use Rattle.model_run.specs.Family.{Family, child, family}
 use Rattle.model_run.specs.Later.{Later, is_member, members_after}
 use Rattle.model_run.specs.Step.{Step}
-use Rattle.model_laws.specs.Families.{ChainEnds, first, next, ChainsEnd, AreFamily, NeverExits, StepKeepsChains, MembersAreFamily, MemberAt, CallersAreMembers, ChildrenAreMembers, StaysOutside, OthersStay, IsForebearOutside, OthersStayWhole, StrangersStay}
+use Rattle.model_laws.specs.Families.{ChainEnds, first, next, ChainsEnd, AreFamily, NeverExits, StepKeepsChains}
+use Rattle.model_laws.specs.Families.{MembersAreFamily, MemberAt, CallersAreMembers, ChildrenAreMembers, StaysOutside}
+use Rattle.model_laws.specs.Families.{OthersStay, IsForebearOutside, OthersStayWhole, StrangersStay}
 use Rattle.model_laws.proofs.Effects.{Effect, Does, IsChildless, does}
 use Rattle.model_laws.proofs.Reaching.{family_is}
-use Rattle.model_laws.proofs.Kin.{there, alive_found, after_other, KinStay, family_stays, chain_stays, call_kin, call_kin_back, other_after, new_after, old_after, is_old, birth_kin, family_after_birth, rest_after, family_after_exit, family_before_exit, chains_after_exit}
+use Rattle.model_laws.proofs.Kin.{there, alive_found, after_other, KinStay, family_stays, chain_stays, call_kin}
+use Rattle.model_laws.proofs.Kin.{call_kin_back, other_after, new_after, old_after, is_old, birth_kin}
+use Rattle.model_laws.proofs.Kin.{family_after_birth, rest_after, family_after_exit, family_before_exit}
+use Rattle.model_laws.proofs.Kin.{chains_after_exit}
 
 -- ---- the caller of a step, by its own pid
 caller_lives : (w : World) (s : State) (e : Event) (s' : State) (d : Does w s e s') → process_at s.processes d.caller.pid ≡ Some d.caller
@@ -23,16 +30,20 @@ caller_lives w s e s' d = ap (process_at s.processes) d.named ∙ d.lives
 
 -- ---- members after an exit
 -- whoever is another is a member as before
-filter_member : (members : List ℕ) (gone pid : ℕ) → is_member (filter (λ member. not (member == gone)) members) pid ≡ (not (pid == gone) && is_member members pid)
+filter_member : (members : List ℕ) (gone pid : ℕ)
+    → is_member (filter (λ member. not (member == gone)) members) pid ≡ (not (pid == gone) && is_member members pid)
 filter_member members gone pid =
     any-filter_same (λ member. member == pid) (λ member. not (member == gone)) (not (pid == gone))
     (λ member same. ap (λ (n : ℕ). not (n == gone)) (eqb-true member pid same)) members
 
-member_after : (members : List ℕ) (gone pid : ℕ) → pid ≢ gone → is_member members pid ≡ true → is_member (filter (λ member. not (member == gone)) members) pid ≡ true
+member_after : (members : List ℕ) (gone pid : ℕ) → pid ≢ gone → is_member members pid ≡ true
+    → is_member (filter (λ member. not (member == gone)) members) pid ≡ true
 member_after members gone pid other is =
     filter_member members gone pid ∙ and_from (not (pid == gone)) (is_member members pid) (not_from_false (pid == gone) (ne_eqb pid gone other)) is
 
-member_before : (members : List ℕ) (gone pid : ℕ) → is_member (filter (λ member. not (member == gone)) members) pid ≡ true → (pid ≢ gone) × (is_member members pid ≡ true)
+member_before : (members : List ℕ) (gone pid : ℕ)
+    → is_member (filter (λ member. not (member == gone)) members) pid ≡ true
+    → (pid ≢ gone) × (is_member members pid ≡ true)
 member_before members gone pid is =
     let parts : (not (pid == gone) ≡ true) × (is_member members pid ≡ true)
     = and_parts (not (pid == gone)) (is_member members pid) (sym (filter_member members gone pid) ∙ is) in
@@ -70,7 +81,8 @@ family_effect w s e s' root members d chains are member stays (inr (inr exits)) 
     (λ pid. (
       λ is.
           let parts : (pid ≢ e.pid) × (is_member members pid ≡ true) = member_before members e.pid pid is in
-          elim (family_after_exit s s' d.caller (caller_lives w s e s' d) exits.processes root pid (λ same. stays (sym (same ∙ d.named)) exits.exit) ((are pid).0 parts.1)) [
+          elim (family_after_exit s s' d.caller (caller_lives w s e s' d) exits.processes root pid
+          (λ same. stays (sym (same ∙ d.named)) exits.exit) ((are pid).0 parts.1)) [
             | inl it ↦ it.1
             | inr through ↦ absurd (parts.0 (through.same ∙ d.named))
           ],
@@ -80,7 +92,8 @@ family_effect w s e s' root members d chains are member stays (inr (inr exits)) 
     ))
 
 -- ---- chains of forebears
-chains_effect : (w : World) (s : State) (e : Event) (s' : State) (d : Does w s e s') → ChainsEnd s → Effect s.processes d.caller e.call e.res s'.processes → ChainsEnd s'
+chains_effect : (w : World) (s : State) (e : Event) (s' : State) (d : Does w s e s') → ChainsEnd s
+    → Effect s.processes d.caller e.call e.res s'.processes → ChainsEnd s'
 chains_effect w s e s' d chains (inl calls) pid alive =
     let q : (q : Process) × (process_at s'.processes pid ≡ Some q) = there (process_at s'.processes pid) alive in
     let was = call_kin_back s s' d.caller (caller_lives w s e s' d) calls.space calls.cred calls.processes pid q.0 q.1 in
@@ -149,7 +162,8 @@ children w s e s' members n d is (inl calls) = absurd (subst IsChildless is call
 children w s e s' members n d is (inr (inl births)) =
     let it : Child births.child.pid ≡ Child n = sym births.result ∙ is in
     let same : births.child.pid ≡ n = cc in (
-      ap (λ (m : List ℕ). is_member m n) (births.members members e.pid) ∙ or_left (births.child.pid == n) (is_member members n) (eq-eqb births.child.pid n same),
+      ap (λ (m : List ℕ). is_member m n) (births.members members e.pid)
+          ∙ or_left (births.child.pid == n) (is_member members n) (eq-eqb births.child.pid n same),
       alive_found s'.processes n births.child (sym (ap (process_at s'.processes) same) ∙ new_after s s' births.child births.fresh births.processes),
     )
 children w s e s' members n d is (inr (inr exits)) = absurd (let wrong : Done ≡ Child n = sym exits.result ∙ is in cc)
@@ -174,7 +188,10 @@ others_effect : (w : World) (s : State) (e : Event) (s' : State) (members : List
 others_effect w s e s' members pid p d member lives outside (inl calls) = record {
   outside = record {
     process = p;
-    lives = other_after s s' d.caller (caller_lives w s e s' d) calls.space calls.cred calls.processes pid (λ same. apart_by members pid e.pid outside member (same ∙ d.named)) ∙ lives;
+    lives =
+        other_after s s' d.caller (caller_lives w s e s' d) calls.space calls.cred calls.processes pid
+        (λ same. apart_by members pid e.pid outside member (same ∙ d.named))
+        ∙ lives;
     space = refl;
     cred = refl;
     outside = ap (λ (m : List ℕ). is_member m pid) (calls.members members e.pid) ∙ outside;
@@ -200,7 +217,9 @@ others_effect w s e s' members pid p d member lives outside (inr (inr exits)) = 
     lives = rest_after s s' d.caller (caller_lives w s e s' d) exits.processes pid p (λ same. apart_by members pid e.pid outside member (same ∙ d.named)) lives;
     space = same_place d.caller p (is_the p.forebear d.caller.pid);
     cred = same_cred d.caller p (is_the p.forebear d.caller.pid);
-    outside = ap (λ (m : List ℕ). is_member m pid) (exits.members members e.pid) ∙ filter_member members e.pid pid ∙ and_right (not (pid == e.pid)) (is_member members pid) outside;
+    outside =
+        ap (λ (m : List ℕ). is_member m pid) (exits.members members e.pid) ∙ filter_member members e.pid pid
+        ∙ and_right (not (pid == e.pid)) (is_member members pid) outside;
   };
   whole = λ other. after_other d.caller p (λ wrong. other (wrong ∙ ap (λ (n : ℕ). Some n) d.named));
 }
@@ -218,7 +237,8 @@ others_step : (w : World) (s : State) (e : Event) (s' : State) (members : List �
 others_step w s e s' members pid p member step lives outside =
     let d : Does w s e s' = does w s e s' step in others_effect w s e s' members pid p d member lives outside d.effect
 
-others_later : (permitted : CallKind → Bool) (w : World) (s : State) (members : List ℕ) (es : List Event) (s' : State) (members' : List ℕ) (pid : ℕ) (p : Process)
+others_later : (permitted : CallKind → Bool) (w : World) (s : State) (members : List ℕ) (es : List Event) (s' : State)
+    (members' : List ℕ) (pid : ℕ) (p : Process)
     → Later permitted w s members es s' members' → process_at s.processes pid ≡ Some p → is_member members pid ≡ false → StaysOutside pid p s' members'
 others_later permitted w s members [] s' members' pid p later lives outside = record {
   process = p;
@@ -230,7 +250,8 @@ others_later permitted w s members [] s' members' pid p later lives outside = re
 others_later permitted w s members (e ∷ es) s' members' pid p later lives outside =
     let now : StaysOne pid p later.0 (members_after members e.pid e.call e.res) e.pid = others_step w s e later.0 members pid p later.1 later.3 lives outside in
     let rest : StaysOutside pid now.outside.process s' members'
-    = others_later permitted w later.0 (members_after members e.pid e.call e.res) es s' members' pid now.outside.process later.4 now.outside.lives now.outside.outside in
+    = others_later permitted w later.0
+    (members_after members e.pid e.call e.res) es s' members' pid now.outside.process later.4 now.outside.lives now.outside.outside in
     record { process = rest.process; lives = rest.lives; space = rest.space ∙ now.outside.space; cred = rest.cred ∙ now.outside.cred; outside = rest.outside }
 
 pub others_stay : OthersStay
@@ -246,7 +267,8 @@ forebear_step w s e s' members p member step outside f forebear =
     let now : StaysOne f q.0 s' (members_after members e.pid e.call e.res) e.pid = others_step w s e s' members f q.0 member step q.1 fore.1 in
     (alive_found s'.processes f now.outside.process now.outside.lives, now.outside.outside)
 
-whole_later : (permitted : CallKind → Bool) (w : World) (s : State) (members : List ℕ) (es : List Event) (s' : State) (members' : List ℕ) (pid : ℕ) (p : Process)
+whole_later : (permitted : CallKind → Bool) (w : World) (s : State) (members : List ℕ) (es : List Event) (s' : State)
+    (members' : List ℕ) (pid : ℕ) (p : Process)
     → Later permitted w s members es s' members' → process_at s.processes pid ≡ Some p → is_member members pid ≡ false → IsForebearOutside s members p
     → process_at s'.processes pid ≡ Some p
 whole_later permitted w s members [] s' members' pid p later lives outside fore = ap (λ (t : State). process_at t.processes pid) later.0 ∙ lives
@@ -266,7 +288,8 @@ head_alive : (s : State) (pid : ℕ) → ChainEnds s pid → is_alive s.processe
 head_alive s pid (first n p at ends) = alive_found s.processes n p at
 head_alive s pid (next n f p at forebear rest) = alive_found s.processes n p at
 
-forebear_lives : (s : State) (pid f : ℕ) (p : Process) → process_at s.processes pid ≡ Some p → p.forebear ≡ Some f → ChainEnds s pid → is_alive s.processes f ≡ true
+forebear_lives : (s : State) (pid f : ℕ) (p : Process) → process_at s.processes pid ≡ Some p → p.forebear ≡ Some f
+    → ChainEnds s pid → is_alive s.processes f ≡ true
 forebear_lives s pid f p at forebear (first n q found ends) =
     let both : Some p ≡ Some q = sym at ∙ found in
     let e : p ≡ q = cc in

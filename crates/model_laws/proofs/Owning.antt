@@ -10,6 +10,7 @@ use Rattle.model_cred.specs.Process.{Process, State, process_at, insert_process,
 use Rattle.model_cred.specs.Space.{Spaces}
 use Rattle.model_cred.specs.World.{World}
 use Rattle.model_run.specs.Outside.{comes_from_outside}
+use Rattle.model_rules.specs.Namespaces.{clone_user}
 use Rattle.model_run.specs.Ruling.{Ruling, ruling, own, free_pid, birth, birth_unless, reply_to, state_left, spaces_left, fork_child, clone_child}
 use Rattle.model_run.specs.Same.{same_res, errno_number}
 use Rattle.model_run.specs.Step.{Goes, NoSpace, PidInUse, Wrong, Step, outcome, outcome_for, told_call, told_rules, told_child, names_no_space, is_living_child}
@@ -17,7 +18,7 @@ use Rattle.model_laws.specs.Owns.{OwnIsStep, WrongHasOwnAnswer, AllPidsLive, Aga
 use Rattle.model_laws.proofs.Pids.{free_is_least}
 use Rattle.model_laws.proofs.Refusals.{safe_ruling}
 use Rattle.model_laws.proofs.Effects.{outside_error}
-use Rattle.model_laws.proofs.Results.{IsRuled, reply_plain}
+use Rattle.model_laws.proofs.Results.{IsRuled, clone_ruled, reply_plain}
 
 -- ---- births
 -- The ruling with the child that the result tells is the ruling, and a child that it tells isn't alive.
@@ -29,8 +30,16 @@ again_birth : (s : State) (child : ℕ → Process) (after : Spaces) (n : ℕ) �
 again_birth s child after n named =
     elim (cases_Bool (is_pid (child n).pid)) [
       | inl is ↦
-          let e : birth s (child n) after ≡ record { res = Child (child n).pid; state = record s { processes = insert_process (child n) s.processes; spaces = after } }
-          = cond-true (is_pid (child n).pid) (record { res = Child (child n).pid; state = record s { processes = insert_process (child n) s.processes; spaces = after } }) (record { res = Err EAGAIN; state = s }) is in
+          let e : birth s (child n) after ≡ record {
+            res = Child (child n).pid;
+            state = record s { processes = insert_process (child n) s.processes; spaces = after };
+          }
+          = cond-true (is_pid (child n).pid)
+          (record {
+            res = Child (child n).pid;
+            state = record s { processes = insert_process (child n) s.processes; spaces = after };
+          })
+          (record { res = Err EAGAIN; state = s }) is in
           record {
             same = ap (λ (r : Ruling). birth s (child (told_child r.res)) after) e ∙ ap (λ (m : ℕ). birth s (child m) after) (named n);
             fresh = λ new. ap (λ (r : Ruling). is_living_child s.processes r.res) e
@@ -38,16 +47,27 @@ again_birth s child after n named =
           }
       | inr not_pid ↦
           let e : birth s (child n) after ≡ record { res = Err EAGAIN; state = s }
-          = cond-false (is_pid (child n).pid) (record { res = Child (child n).pid; state = record s { processes = insert_process (child n) s.processes; spaces = after } }) (record { res = Err EAGAIN; state = s }) not_pid in
+          = cond-false (is_pid (child n).pid)
+          (record {
+            res = Child (child n).pid;
+            state = record s { processes = insert_process (child n) s.processes; spaces = after };
+          })
+          (record { res = Err EAGAIN; state = s }) not_pid in
           let zero_is : birth s (child 0) after ≡ record { res = Err EAGAIN; state = s }
-          = cond-false (is_pid (child 0).pid) (record { res = Child (child 0).pid; state = record s { processes = insert_process (child 0) s.processes; spaces = after } }) (record { res = Err EAGAIN; state = s }) (ap is_pid (named 0)) in
+          = cond-false (is_pid (child 0).pid)
+          (record {
+            res = Child (child 0).pid;
+            state = record s { processes = insert_process (child 0) s.processes; spaces = after };
+          })
+          (record { res = Err EAGAIN; state = s }) (ap is_pid (named 0)) in
           record {
             same = ap (λ (r : Ruling). birth s (child (told_child r.res)) after) e ∙ zero_is ∙ sym e;
             fresh = λ _. ap (λ (r : Ruling). is_living_child s.processes r.res) e;
           }
     ]
 
-again_unless : (r : Res) (s : State) (child : ℕ → Process) (after : Spaces) (n : ℕ) → ((m : ℕ) → (child m).pid ≡ m) → Again s (λ m. birth_unless r s (child m) after) n
+again_unless : (r : Res) (s : State) (child : ℕ → Process) (after : Spaces) (n : ℕ) → ((m : ℕ) → (child m).pid ≡ m)
+    → Again s (λ m. birth_unless r s (child m) after) n
 again_unless Done s child after n named = again_birth s child after n named
 again_unless (Id k) s child after n named = again_birth s child after n named
 again_unless (Child k) s child after n named = again_birth s child after n named
@@ -61,11 +81,15 @@ ruled_childless processes (Err e) is = refl
 
 again_left : (w : World) (s : State) (p : Process) (call : Call) (n : ℕ)
     → Again s (λ m. record { res = (reply_to w s p call).res; state = state_left s p call (reply_to w s p call) }) n
-again_left w s p call n = record { same = refl; fresh = λ _. ruled_childless s.processes (reply_to w s p call).res (reply_plain w.files s.spaces p.space p.cred call).ruled }
+again_left w s p call n = record {
+  same = refl;
+  fresh =
+      λ _. ruled_childless s.processes (reply_to w s p call).res (reply_plain w.files s.spaces p.space p.cred call).ruled;
+}
 
 again : (w : World) (s : State) (p : Process) (call : Call) (n : ℕ) → Again s (ruling w s p call) n
 again w s p Fork n = again_birth s (fork_child p) s.spaces n (λ m. refl)
-again w s p CloneUser n = again_unless (reply_to w s p CloneUser).res s (clone_child s.spaces p) (spaces_left s p CloneUser) n (λ m. refl)
+again w s p CloneUser n = again_unless (clone_user s.spaces p.space p.cred) s (clone_child s.spaces p) (spaces_left s p CloneUser) n (λ m. refl)
 again w s p Exit n = record { same = refl; fresh = λ _. refl }
 again w s p call n = again_left w s p call n
 
@@ -122,7 +146,9 @@ wrong_rules w s e answer p lives named false false t is =
     record { caller = p; lives = lives; named = named; own_answer = let it : (own w s p e.call).res ≡ answer = cc in sym it }
 
 wrong_call : (w : World) (s : State) (e : Event) (answer : Res) (p : Process) → process_at s.processes e.pid ≡ Some p → (a b : Bool)
-    → names_no_space s.spaces e.call ≡ a → (if a then NoSpace else if b then PidInUse else told_call w s p e.call e.res) ≡ Wrong answer → WrongAnswer w s e answer
+    → names_no_space s.spaces e.call ≡ a
+    → (if a then NoSpace else if b then PidInUse else told_call w s p e.call e.res) ≡ Wrong answer
+    → WrongAnswer w s e answer
 wrong_call w s e answer p lives true b named is = absurd (cc)
 wrong_call w s e answer p lives false true named is = absurd (cc)
 wrong_call w s e answer p lives false false named is =
@@ -157,7 +183,18 @@ never_again r ruled is = subst IsRuled is ruled
 birth_again : (s : State) (child : Process) (after : Spaces) → (birth s child after).res ≡ Err EAGAIN → is_pid child.pid ≡ false
 birth_again s child after is = by (is_pid child.pid) is
   where
-    by : (b : Bool) → (let r : Ruling = if b then record { res = Child child.pid; state = record s { processes = insert_process child s.processes; spaces = after } } else record { res = Err EAGAIN; state = s } in r).res ≡ Err EAGAIN → b ≡ false
+    by : (b : Bool)
+        → (let r : Ruling
+        = if b then record {
+          res = Child child.pid;
+          state = record s { processes = insert_process child s.processes; spaces = after };
+        } else record {
+          res = Err EAGAIN;
+          state = s;
+        } in
+        r).res
+        ≡ Err EAGAIN
+        → b ≡ false
     by true wrong = absurd (let never : Child child.pid ≡ Err EAGAIN = wrong in cc)
     by false it = refl
 
@@ -174,8 +211,8 @@ own_again : (w : World) (s : State) (p : Process) (call : Call) → (own w s p c
 own_again w s p Fork is = (inl refl, (free_is_least s).none (birth_again s (fork_child p (free_pid s)) s.spaces is))
 own_again w s p CloneUser is = (
   inr refl,
-  (free_is_least s).none (unless_again (reply_to w s p CloneUser).res s (clone_child s.spaces p (free_pid s)) (spaces_left s p CloneUser)
-      (reply_plain w.files s.spaces p.space p.cred CloneUser).ruled is),
+  (free_is_least s).none (unless_again (clone_user s.spaces p.space p.cred) s (clone_child s.spaces p (free_pid s)) (spaces_left s p CloneUser)
+      (clone_ruled s.spaces p.space p.cred) is),
 )
 own_again w s p Exit is = absurd (let never : Done ≡ Err EAGAIN = is in cc)
 own_again w s p call is = left_again w s p call is

@@ -1,12 +1,15 @@
 -- The least pid that isn't alive.
-use Rattle.std.proofs.Common.{◌≡◌, ◌⊎◌, ℕ, zero, suc, ◌+◌, ◌<◌, ◌≤◌, not, Bool, true, false, List, length, map, Some, None, refl, sym, ap, ◌∙◌, inl, inr, subst, arith, eqb}
+use Rattle.std.proofs.Common.{◌≡◌, ◌⊎◌, ℕ, zero, suc, ◌+◌, ◌<◌, ◌≤◌, not, Bool, true, false, List, length, map, Some}
+use Rattle.std.proofs.Common.{None, refl, sym, ap, ◌∙◌, inl, inr, subst, arith, eqb}
 use Rattle.std.specs.Prelude.{find, unwrap_or, nat_le}
 use Rattle.std.specs.List.{list_any, range_with_len, IsDistinct}
 use Rattle.std.specs.Cmp.{nat_eq_equiv}
-use Rattle.std.proofs.lemmas.Bool.{cases_Bool, cases_lt, eqb-true, leb-true, le-leb, leb-false, cond-true, cond-false, and_parts, and_cases, or_cases, not_from_true, not_from_false, false_from_ne_true}
+use Rattle.std.proofs.lemmas.Bool.{cases_Bool, cases_lt, eqb-true, leb-true, le-leb, leb-false, cond-true, cond-false}
+use Rattle.std.proofs.lemmas.Bool.{and_parts, and_cases, or_cases, not_from_true, not_from_false, false_from_ne_true}
 use Rattle.std.proofs.lemmas.List.{length-map}
 use Rattle.std.proofs.lemmas.List.FromFn.{length-range_with_len}
 use Rattle.std.proofs.lemmas.Map.Made.{length-le_from_is_member}
+use Rattle.cm_base.specs.Limits.{last_pid}
 use Rattle.model_cred.specs.Process.{Process, State, is_alive, is_pid}
 use Rattle.model_run.specs.Ruling.{free_pid}
 use Rattle.model_laws.specs.Owns.{IsLeastFree, LeastFreePid}
@@ -104,14 +107,14 @@ some_free processes all =
     omega arith
 
 -- a pid is from 1 to the last
-pid_bounds : (n : ℕ) → is_pid n ≡ true → (1 ≤ n) × (n ≤ 4194304)
-pid_bounds n is = let parts = and_parts (nat_le 1 n) (nat_le n 4194304) is in (leb-true 1 n parts.0, leb-true n 4194304 parts.1)
+pid_bounds : (n : ℕ) → is_pid n ≡ true → (1 ≤ n) × (n ≤ last_pid)
+pid_bounds n is = let parts = and_parts (nat_le 1 n) (nat_le n last_pid) is in (leb-true 1 n parts.0, leb-true n last_pid parts.1)
 
-no_pid : (n : ℕ) → 1 ≤ n → is_pid n ≡ false → 4194304 < n
+no_pid : (n : ℕ) → 1 ≤ n → is_pid n ≡ false → last_pid < n
 no_pid n low is =
-    elim (and_cases (nat_le 1 n) (nat_le n 4194304) is) [
+    elim (and_cases (nat_le 1 n) (nat_le n last_pid) is) [
       | inl wrong ↦ absurd (let one : nat_le 1 n ≡ true = le-leb 1 n low in let no_way : true ≡ false = sym one ∙ wrong in cc)
-      | inr above ↦ leb-false n 4194304 above
+      | inr above ↦ leb-false n last_pid above
     ]
 
 least_free : (s : State) → IsLeastFree s (free_pid s)
@@ -124,8 +127,8 @@ least_free s =
             fresh = λ _. found.2.free;
             least = λ pid a_pid below. found.2.earlier pid (pid_bounds pid a_pid).0 below;
             none = λ not_pid pid a_pid.
-                let past : 4194304 < found.0 = no_pid found.0 found.2.low not_pid in
-                let last : pid ≤ 4194304 = (pid_bounds pid a_pid).1 in
+                let past : last_pid < found.0 = no_pid found.0 found.2.low not_pid in
+                let last : pid ≤ last_pid = (pid_bounds pid a_pid).1 in
                 found.2.earlier pid (pid_bounds pid a_pid).0 (omega arith);
           })
     ]

@@ -1,5 +1,7 @@
 -- The relation of a family and the function that computes it agree.
-use Rattle.std.proofs.Common.{◌≡◌, ℕ, zero, suc, ◌+◌, ◌<◌, ◌≤◌, ◌==◌, ◌&&◌, Bool, true, false, List, [], ◌∷◌, length, map, filter, ◌-◌, Option, Some, None, if◌then◌else◌, refl, sym, ap, ◌∙◌, inl, inr, subst, arith, eqb}
+use Rattle.std.proofs.Common.{◌≡◌, ℕ, zero, suc, ◌+◌, ◌<◌, ◌≤◌, ◌==◌, ◌&&◌, Bool, true, false, List, [], ◌∷◌, length}
+use Rattle.std.proofs.Common.{map, filter, ◌-◌, Option, Some, None, if◌then◌else◌, refl, sym, ap, ◌∙◌, inl, inr, subst}
+use Rattle.std.proofs.Common.{arith, eqb}
 use Rattle.std.specs.Prelude.{is_some}
 use Rattle.std.specs.List.{list_any, IsDistinct, AllByRecursion}
 use Rattle.std.specs.Cmp.{nat_eq_equiv}
@@ -159,7 +161,8 @@ pid_of_alive (p ∷ processes) q alive =
 chain_short : (s : State) (root k : ℕ) → Chain s root k → k < length s.processes
 chain_short s root k chain =
     let le : length chain.list ≤ length (map (λ p. p.pid) s.processes)
-    = length-le_from_is_member nat_eq_equiv chain.list (map (λ p. p.pid) s.processes) chain.distinct (λ q in_it. alive_pid s.processes q (chain.alive q in_it)) in
+    = length-le_from_is_member nat_eq_equiv chain.list (map (λ p. p.pid) s.processes) chain.distinct
+    (λ q in_it. alive_pid s.processes q (chain.alive q in_it)) in
     let count : length chain.list ≡ suc k = chain.count in
     let same : length (map (λ p. p.pid) s.processes) ≡ length s.processes = length-map s.processes (λ p. p.pid) in
     omega arith
@@ -177,8 +180,11 @@ reaches_soon k s root pid alive is =
 family_reaches : (s : State) (root pid : ℕ) → Family s root pid → (k : ℕ) × (reaches_within k s root (Some pid) ≡ true)
 family_reaches s root pid (itself alive) = (zero, eq-eqb root root refl)
 family_reaches s root pid (child n f p at forebear rest) =
-    let up : (k : ℕ) × (reaches_within k s root (Some f) ≡ true) = family_reaches s root f rest in
-    (suc up.0, or_right (n == root) (reaches_within up.0 s root (forebear_of s n)) (ap (λ o. reaches_within up.0 s root (forebear_in o)) at ∙ ap (reaches_within up.0 s root) forebear ∙ up.1))
+    let up : (k : ℕ) × (reaches_within k s root (Some f) ≡ true) = family_reaches s root f rest in (
+      suc up.0,
+      or_right (n == root) (reaches_within up.0 s root (forebear_of s n))
+          (ap (λ o. reaches_within up.0 s root (forebear_in o)) at ∙ ap (reaches_within up.0 s root) forebear ∙ up.1),
+    )
 
 family_root : (s : State) (root pid : ℕ) → Family s root pid → is_alive s.processes root ≡ true
 family_root s root pid (itself alive) = alive
@@ -217,7 +223,8 @@ reaches_family (suc k) s root pid alive is =
 
 -- membership in the computed family
 family_member : (s : State) (root pid : ℕ) (b : Bool) → is_alive s.processes root ≡ b
-    → is_member (if b then filter (reaches s root) (map (λ p. p.pid) s.processes) else []) pid ≡ (b && (reaches s root pid && is_member (map (λ p. p.pid) s.processes) pid))
+    → is_member (if b then filter (reaches s root) (map (λ p. p.pid) s.processes) else []) pid
+    ≡ (b && (reaches s root pid && is_member (map (λ p. p.pid) s.processes) pid))
 family_member s root pid true is =
     any-filter_same (λ n. n == pid) (reaches s root) (reaches s root pid) (λ n same. ap (reaches s root) (eqb-true n pid same)) (map (λ p. p.pid) s.processes)
 family_member s root pid false is = refl
@@ -226,15 +233,18 @@ pub family_is : (s : State) (root : ℕ) → AreFamily s root (family s root)
 family_is s root pid = (
   λ is.
       let parts : (is_alive s.processes root ≡ true) × ((reaches s root pid && is_member (map (λ p. p.pid) s.processes) pid) ≡ true)
-      = and_parts (is_alive s.processes root) (reaches s root pid && is_member (map (λ p. p.pid) s.processes) pid) (sym (family_member s root pid (is_alive s.processes root) refl) ∙ is) in
-      let more : (reaches s root pid ≡ true) × (is_member (map (λ p. p.pid) s.processes) pid ≡ true) = and_parts (reaches s root pid) (is_member (map (λ p. p.pid) s.processes) pid) parts.1 in
+      = and_parts (is_alive s.processes root) (reaches s root pid && is_member (map (λ p. p.pid) s.processes) pid)
+      (sym (family_member s root pid (is_alive s.processes root) refl) ∙ is) in
+      let more : (reaches s root pid ≡ true) × (is_member (map (λ p. p.pid) s.processes) pid ≡ true)
+      = and_parts (reaches s root pid) (is_member (map (λ p. p.pid) s.processes) pid) parts.1 in
       reaches_family (length s.processes) s root pid parts.0 more.0,
   λ of_it.
       let alive : is_alive s.processes root ≡ true = family_root s root pid of_it in
       let up : (k : ℕ) × (reaches_within k s root (Some pid) ≡ true) = family_reaches s root pid of_it in
       family_member s root pid (is_alive s.processes root) refl
       ∙ and_from (is_alive s.processes root) (reaches s root pid && is_member (map (λ p. p.pid) s.processes) pid) alive
-      (and_from (reaches s root pid) (is_member (map (λ p. p.pid) s.processes) pid) (reaches_soon up.0 s root pid alive up.1) (pid_of_alive s.processes pid (family_alive s root pid of_it))),
+      (and_from (reaches s root pid) (is_member (map (λ p. p.pid) s.processes) pid)
+      (reaches_soon up.0 s root pid alive up.1) (pid_of_alive s.processes pid (family_alive s root pid of_it))),
 )
 
 pub family_is_computed : FamilyIsComputed

@@ -1,33 +1,23 @@
 -- A refusal changes nothing.
 use Rattle.std.proofs.Common.{◌≡◌, ℕ, ◌==◌, Bool, true, false, List, [], ◌∷◌, Some, if◌then◌else◌, refl, sym, ap, ◌∙◌, inl, inr}
-use Rattle.std.proofs.lemmas.Bool.{cases_Bool, eqb-true, cond-true, cond-false}
+use Rattle.std.proofs.lemmas.Bool.{cases_Bool, cond-true, cond-false}
 use Rattle.cm_base.specs.declared.errno.Errno.{Errno}
 use Rattle.cm_base.specs.declared.errno.Errno.TheVariants.{EAGAIN}
 use Rattle.cm_base.specs.declared.res.Res.{Res}
 use Rattle.cm_base.specs.declared.res.Res.TheVariants.{Done, Id, Child, Err}
+use Rattle.model_cred.proofs.Lookups.{pid_of_found}
 use Rattle.model_cred.specs.Call.{Call, Fork, CloneUser, Exit}
 use Rattle.model_cred.specs.Credential.{Credential}
 use Rattle.model_cred.specs.Process.{Process, State, process_at, put_process, insert_process, is_pid}
 use Rattle.model_cred.specs.Space.{Spaces}
 use Rattle.model_cred.specs.World.{World}
 use Rattle.model_rules.specs.Reply.{spaces_after}
+use Rattle.model_rules.specs.Namespaces.{clone_user}
 use Rattle.model_run.specs.Ruling.{Ruling, ruling, birth, birth_unless, reply_to, state_left, spaces_left, fork_child, clone_child}
 use Rattle.model_run.specs.Step.{told_child}
 use Rattle.model_laws.specs.Steps.{OneNextState, ErrorChangesNothing}
 use Rattle.model_laws.proofs.Results.{Kept, reply_plain}
 use Rattle.model_laws.proofs.StepParts.{Stepped, Answers, stepped}
-
--- the process that is found has the pid
-pub found_pid : (processes : List Process) (pid : ℕ) (p : Process) → process_at processes pid ≡ Some p → p.pid ≡ pid
-found_pid [] pid p is = absurd (cc)
-found_pid (q ∷ processes) pid p is =
-    elim (cases_Bool (q.pid == pid)) [
-      | inl same ↦
-          let it : Some q ≡ Some p = sym (cond-true (q.pid == pid) (Some q) (process_at processes pid) same) ∙ is in
-          let e : q ≡ p = cc in
-          ap (λ (x : Process). x.pid) (sym e) ∙ eqb-true q.pid pid same
-      | inr other ↦ found_pid processes pid p (sym (cond-false (q.pid == pid) (Some q) (process_at processes pid) other) ∙ is)
-    ]
 
 -- a process put in its own place changes nothing
 pub put_same : (processes : List Process) (pid : ℕ) (p : Process) → p.pid ≡ pid → process_at processes pid ≡ Some p → put_process p processes ≡ processes
@@ -41,7 +31,9 @@ put_same (q ∷ processes) pid p named is =
           ∙ ap (λ (x : Process). x ∷ processes) e
       | inr other ↦
           cond-false (q.pid == p.pid) (p ∷ processes) (q ∷ put_process p processes) (ap (λ (n : ℕ). q.pid == n) named ∙ other)
-          ∙ ap (λ (rest : List Process). q ∷ rest) (put_same processes pid p named (sym (cond-false (q.pid == pid) (Some q) (process_at processes pid) other) ∙ is))
+          ∙ ap (λ (rest : List Process). q ∷ rest)
+          (put_same processes pid p named
+          (sym (cond-false (q.pid == pid) (Some q) (process_at processes pid) other) ∙ is))
     ]
 
 -- ---- what the rules give
@@ -49,7 +41,7 @@ same_state : (s : State) (pid : ℕ) (p : Process) (n : ℕ) (c : Credential) (s
     → n ≡ p.space → c ≡ p.cred → spaces ≡ s.spaces
     → record s { processes = put_process (record p { space = n; cred = c }) s.processes; spaces = spaces } ≡ s
 same_state s pid p n c spaces lives place cred same =
-    rw (place, cred, same) (ap (λ (ps : List Process). record s { processes = ps }) (put_same s.processes pid p (found_pid s.processes pid p lives) lives))
+    rw (place, cred, same) (ap (λ (ps : List Process). record s { processes = ps }) (put_same s.processes pid p (pid_of_found s.processes pid p lives) lives))
 
 pub record SafeRuling (s : State) (r : Ruling) : Type 0 where
   pub keeps : (e : Errno) → r.res ≡ Err e → r.state ≡ s
@@ -82,13 +74,16 @@ safe_left : (w : World) (s : State) (pid : ℕ) (p : Process) → process_at s.p
     → SafeRuling s (record { res = (reply_to w s p call).res; state = state_left s p call (reply_to w s p call) })
 safe_left w s pid p lives call = record {
   keeps = λ e is.
-      let kept : Kept s.spaces p.space p.cred (reply_to w s p call) (spaces_after s.spaces p.space p.cred call) = (reply_plain w.files s.spaces p.space p.cred call).kept e is in
-      same_state s pid p (reply_to w s p call).space (reply_to w s p call).cred (spaces_after s.spaces p.space p.cred call) lives kept.space kept.cred kept.spaces;
+      let kept : Kept s.spaces p.space p.cred (reply_to w s p call) (spaces_after s.spaces p.space p.cred call)
+      = (reply_plain w.files s.spaces p.space p.cred call).kept e is in
+      same_state s pid p (reply_to w s p call).space (reply_to w s p call).cred
+      (spaces_after s.spaces p.space p.cred call) lives kept.space kept.cred kept.spaces;
 }
 
-pub safe_ruling : (w : World) (s : State) (pid : ℕ) (p : Process) → process_at s.processes pid ≡ Some p → (call : Call) (n : ℕ) → SafeRuling s (ruling w s p call n)
+pub safe_ruling : (w : World) (s : State) (pid : ℕ) (p : Process) → process_at s.processes pid ≡ Some p
+    → (call : Call) (n : ℕ) → SafeRuling s (ruling w s p call n)
 safe_ruling w s pid p lives Fork n = safe_birth s (fork_child p n) s.spaces
-safe_ruling w s pid p lives CloneUser n = safe_birth_unless (reply_to w s p CloneUser).res s (clone_child s.spaces p n) (spaces_left s p CloneUser)
+safe_ruling w s pid p lives CloneUser n = safe_birth_unless (clone_user s.spaces p.space p.cred) s (clone_child s.spaces p n) (spaces_left s p CloneUser)
 safe_ruling w s pid p lives Exit n = record { keeps = λ e wrong. absurd (let no : Done ≡ Err e = wrong in cc) }
 safe_ruling w s pid p lives call n = safe_left w s pid p lives call
 

@@ -6,17 +6,21 @@ use Rattle.cm_base.specs.declared.errno.Errno.{Errno}
 use Rattle.cm_base.specs.declared.errno.Errno.TheVariants.{EPERM, EINVAL, ENOSPC, EACCES}
 use Rattle.cm_base.specs.declared.res.Res.{Res}
 use Rattle.cm_base.specs.declared.res.Res.TheVariants.{Done, Id, Child, Err}
-use Rattle.model_cred.specs.Call.{Call, SetUid, SetReUid, SetResUid, SetFsUid, SetGid, SetReGid, SetResGid, SetFsGid, SetGroups, CapSet, BsetDrop, AmbRaise, AmbLower, AmbClear, SecureBits, KeepCaps, NoNewPrivs, Fork, CloneUser, Unshare, SetNs, WriteUidMap, WriteGidMap, WriteSetgroups, Exec, Exit}
+use Rattle.model_cred.specs.Call.{Call, SetUid, SetReUid, SetResUid, SetFsUid, SetGid, SetReGid, SetResGid, SetFsGid}
+use Rattle.model_cred.specs.Call.{SetGroups, CapSet, BsetDrop, AmbRaise, AmbLower, AmbClear, SecureBits, KeepCaps}
+use Rattle.model_cred.specs.Call.{NoNewPrivs, Fork, CloneUser, Unshare, SetNs, WriteUidMap, WriteGidMap, WriteSetgroups}
+use Rattle.model_cred.specs.Call.{Exec, Exit}
 use Rattle.model_cred.specs.Credential.{Credential, FourIds, is_one_of_three, all_four}
 use Rattle.model_cred.specs.Files.{FileTable}
 use Rattle.model_cred.specs.IdMap.{Extent, down, extents_of}
 use Rattle.model_cred.specs.Space.{Space, Spaces, space_of}
 use Rattle.model_rules.specs.Answer.{Answer, done, refused}
-use Rattle.model_rules.specs.Maps.{MapFile, UidMap, GidMap, Written, write_map, write_mapped, write_setgroups, write_done, write_refused}
-use Rattle.model_rules.specs.Namespaces.{create, join}
+use Rattle.model_rules.specs.Maps.{MapFile, UidMap, GidMap, Written, write_map, write_stored, write_setgroups, write_done, write_refused}
+use Rattle.model_rules.specs.Namespaces.{unshare, clone_user, join}
 use Rattle.model_rules.specs.Reply.{Reply, reply, spaces_after, stays, place_after, spaces_with, writes}
 use Rattle.model_rules.specs.SetGroups.{with_groups}
-use Rattle.model_rules.specs.SetId.{asked, one_mapped, both_mapped, all_mapped, set_res, set_re, set_one, saved_after, with_uids, with_gids, has_setuid, has_setgid}
+use Rattle.model_rules.specs.SetId.{asked, one_mapped, both_mapped, all_mapped, setresid, setreid, setid, saved_after}
+use Rattle.model_rules.specs.SetId.{with_uids, with_gids, has_setuid, has_setgid}
 use Rattle.model_laws.proofs.Ids.{either}
 
 -- the errors of the rules
@@ -79,20 +83,20 @@ ok_or_perm : (b : Bool) (ids : FourIds) → PlainIds (if b then Ok ids else Fail
 ok_or_perm true ids = ids_ok ids
 ok_or_perm false ids = ids_failed EPERM tt
 
-set_res_plain : (map : List Extent) (privileged : Bool) (old : FourIds) (r e s : ℕ) → PlainIds (set_res map privileged old r e s)
-set_res_plain map privileged old r e s =
+setresid_plain : (map : List Extent) (privileged : Bool) (old : FourIds) (r e s : ℕ) → PlainIds (setresid map privileged old r e s)
+setresid_plain map privileged old r e s =
     ids_all (asked map old.real r) (asked map old.effective e) (asked map old.saved s) _ (λ real effective saved.
     ok_or_perm (privileged || (is_one_of_three old real && is_one_of_three old effective && is_one_of_three old saved))
     (record { real = real; effective = effective; saved = saved; fs = effective }))
 
-set_re_plain : (map : List Extent) (privileged : Bool) (old : FourIds) (r e : ℕ) → PlainIds (set_re map privileged old r e)
-set_re_plain map privileged old r e =
+setreid_plain : (map : List Extent) (privileged : Bool) (old : FourIds) (r e : ℕ) → PlainIds (setreid map privileged old r e)
+setreid_plain map privileged old r e =
     ids_both (asked map old.real r) (asked map old.effective e) _ (λ real effective.
     ok_or_perm (privileged || ((real == old.real || real == old.effective) && is_one_of_three old effective))
     (record { real = real; effective = effective; saved = saved_after old r e effective; fs = effective }))
 
-set_one_plain : (map : List Extent) (privileged : Bool) (old : FourIds) (argument : ℕ) → PlainIds (set_one map privileged old argument)
-set_one_plain map privileged old argument =
+setid_plain : (map : List Extent) (privileged : Bool) (old : FourIds) (argument : ℕ) → PlainIds (setid map privileged old argument)
+setid_plain map privileged old argument =
     ids_one (down map argument) _ (λ id.
     either PlainIds privileged (Ok (all_four id)) (if id == old.real || id == old.saved then Ok (record old { effective = id; fs = id }) else Failed EPERM)
     (ids_ok (all_four id)) (ok_or_perm (id == old.real || id == old.saved) (record old { effective = id; fs = id })))
@@ -109,8 +113,12 @@ plain_groups : (c : Credential) (o : Option (List ℕ)) → Plain c (with_groups
 plain_groups c None = plain_refused EINVAL c tt
 plain_groups c (Some ids) = plain_done c _
 
-plain_create : (spaces : Spaces) (at : ℕ) (c : Credential) → Plain c (create spaces at c)
-plain_create spaces at c = plain_if c _ _ _ (plain_refused ENOSPC c tt) (plain_if c _ _ _ (plain_refused EPERM c tt) (plain_done c _))
+plain_unshare : (spaces : Spaces) (at : ℕ) (c : Credential) → Plain c (unshare spaces at c)
+plain_unshare spaces at c = plain_if c _ _ _ (plain_refused ENOSPC c tt) (plain_if c _ _ _ (plain_refused EPERM c tt) (plain_done c _))
+
+-- the refusal of clone_user
+pub clone_ruled : (spaces : Spaces) (at : ℕ) (c : Credential) → IsRuled (clone_user spaces at c)
+clone_ruled spaces at c = (plain_unshare spaces at c).ruled
 
 plain_join : (spaces : Spaces) (at : ℕ) (c : Credential) (target : ℕ) → Plain c (join spaces at c target)
 plain_join spaces at c target = plain_if c _ _ _ (plain_refused EINVAL c tt) (plain_if c _ _ _ (plain_refused EPERM c tt) (plain_done c _))
@@ -132,7 +140,7 @@ plain_no_write : (e : Errno) (spaces : Spaces) → IsRuleError e → PlainWrite 
 plain_no_write e spaces is = record { ruled = is; keeps = λ _ _. refl }
 
 plain_mapped : (file : MapFile) (spaces : Spaces) (at : ℕ) (c : Credential) (target : ℕ) (list : List Extent) (o : Option (List Extent))
-    → PlainWrite spaces (write_mapped file spaces at c target list o)
+    → PlainWrite spaces (write_stored file spaces at c target list o)
 plain_mapped file spaces at c target list None = plain_no_write EPERM spaces tt
 plain_mapped file spaces at c target list (Some mapped) = write_if spaces _ _ _ (plain_write spaces target _) (plain_no_write EPERM spaces tt)
 
@@ -166,17 +174,19 @@ writes_plain spaces at c a plain = record { ruled = plain.ruled; kept = λ e is.
 pub reply_plain : (files : FileTable) (spaces : Spaces) (at : ℕ) (c : Credential) (call : Call)
     → PlainReply spaces at c (reply files spaces at c call) (spaces_after spaces at c call)
 reply_plain files spaces at c (SetUid id) =
-    stays_plain spaces at c _ (plain_uids (space_of spaces at) c _ (set_one_plain (extents_of (space_of spaces at).uids) (has_setuid c) c.uid id))
+    stays_plain spaces at c _ (plain_uids (space_of spaces at) c _ (setid_plain (extents_of (space_of spaces at).uids) (has_setuid c) c.uid id))
 reply_plain files spaces at c (SetReUid r e) =
-    stays_plain spaces at c _ (plain_uids (space_of spaces at) c _ (set_re_plain (extents_of (space_of spaces at).uids) (has_setuid c) c.uid r e))
+    stays_plain spaces at c _ (plain_uids (space_of spaces at) c _ (setreid_plain (extents_of (space_of spaces at).uids) (has_setuid c) c.uid r e))
 reply_plain files spaces at c (SetResUid r e v) =
-    stays_plain spaces at c _ (plain_uids (space_of spaces at) c _ (set_res_plain (extents_of (space_of spaces at).uids) (has_setuid c) c.uid r e v))
+    stays_plain spaces at c _ (plain_uids (space_of spaces at) c _ (setresid_plain (extents_of (space_of spaces at).uids) (has_setuid c) c.uid r e v))
 reply_plain files spaces at c (SetFsUid id) = record { ruled = tt; kept = λ e wrong. absurd (cc) }
-reply_plain files spaces at c (SetGid id) = stays_plain spaces at c _ (plain_gids c _ (set_one_plain (extents_of (space_of spaces at).gids) (has_setgid c) c.gid id))
+reply_plain files spaces at c (SetGid id) =
+    stays_plain spaces at c _
+    (plain_gids c _ (setid_plain (extents_of (space_of spaces at).gids) (has_setgid c) c.gid id))
 reply_plain files spaces at c (SetReGid r e) =
-    stays_plain spaces at c _ (plain_gids c _ (set_re_plain (extents_of (space_of spaces at).gids) (has_setgid c) c.gid r e))
+    stays_plain spaces at c _ (plain_gids c _ (setreid_plain (extents_of (space_of spaces at).gids) (has_setgid c) c.gid r e))
 reply_plain files spaces at c (SetResGid r e v) =
-    stays_plain spaces at c _ (plain_gids c _ (set_res_plain (extents_of (space_of spaces at).gids) (has_setgid c) c.gid r e v))
+    stays_plain spaces at c _ (plain_gids c _ (setresid_plain (extents_of (space_of spaces at).gids) (has_setgid c) c.gid r e v))
 reply_plain files spaces at c (SetFsGid id) = record { ruled = tt; kept = λ e wrong. absurd (cc) }
 reply_plain files spaces at c (SetGroups ids) =
     stays_plain spaces at c _ (plain_if c _ _ _ (plain_refused EPERM c tt) (plain_if c _ _ _ (plain_refused EINVAL c tt) (plain_groups c _)))
@@ -194,15 +204,12 @@ reply_plain files spaces at c (KeepCaps argument) =
     (plain_if c _ _ _ (plain_refused EPERM c tt) (plain_if c _ _ _ (plain_done c _) (plain_done c _))))
 reply_plain files spaces at c (NoNewPrivs argument) = stays_plain spaces at c _ (plain_if c _ _ _ (plain_done c _) (plain_refused EINVAL c tt))
 reply_plain files spaces at c Fork = stays_plain spaces at c _ (plain_done c c)
-reply_plain files spaces at c CloneUser = record {
-  ruled = (plain_create spaces at c).ruled;
-  kept = λ e is. record { space = refl; cred = refl; spaces = ap (λ (r : Res). spaces_with r spaces at c) is };
-}
+reply_plain files spaces at c CloneUser = record { ruled = tt; kept = λ e wrong. absurd (let no : Done ≡ Err e = wrong in cc) }
 reply_plain files spaces at c Unshare = record {
-  ruled = (plain_create spaces at c).ruled;
+  ruled = (plain_unshare spaces at c).ruled;
   kept = λ e is. record {
     space = ap (λ (r : Res). place_after r at (length spaces)) is;
-    cred = (plain_create spaces at c).keeps e is;
+    cred = (plain_unshare spaces at c).keeps e is;
     spaces = ap (λ (r : Res). spaces_with r spaces at c) is;
   };
 }

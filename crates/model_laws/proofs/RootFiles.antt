@@ -5,12 +5,15 @@ use Rattle.std.proofs.lemmas.Bool.{eqb-true, and_parts, and_from, or_cases, or_l
 use Rattle.cm_base.specs.CapSet.{full, none, union, meet, is_within, IsCapSet}
 use Rattle.cm_base.specs.declared.errno.Errno.TheVariants.{EPERM, EACCES}
 use Rattle.cm_base.specs.declared.res.Res.TheVariants.{Done}
-use Rattle.cm_base.proofs.CapSets.{within_reflexive, within_transitive, within_antisymmetric, none_within, within_full, within_meet, meet_within_second, first_within_union, union_within}
+use Rattle.cm_base.proofs.CapSets.{within_reflexive, within_transitive, within_antisymmetric, none_within, within_full}
+use Rattle.cm_base.proofs.CapSets.{within_meet, meet_within_second, first_within_union, union_within}
 use Rattle.model_cred.specs.Credential.{Credential, Keeps}
 use Rattle.model_cred.specs.Files.{FileCaps}
 use Rattle.model_cred.specs.Space.{Spaces, space_of}
 use Rattle.model_rules.specs.Answer.{Answer, done, refused}
-use Rattle.model_rules.specs.Exec.{FileSets, execve, cred_after, uids_after, own_sets, attribute_sets, no_sets, sets_for, attribute_counts, setuid_counts, setgid_counts, is_privileged, run_file, may_exec, would_lack, permitted_after, ambient_after}
+use Rattle.model_rules.specs.Exec.{FileSets, execve, cred_after, uids_after, own_sets, attribute_sets, no_sets}
+use Rattle.model_rules.specs.Exec.{sets_for, attribute_counts, setuid_counts, setgid_counts, is_privileged, run_file}
+use Rattle.model_rules.specs.Exec.{may_exec, would_lack, permitted_after, ambient_after}
 use Rattle.model_rules.specs.FileView.{FileView}
 use Rattle.model_rules.specs.Securebits.{has_flag, noroot}
 use Rattle.model_rules.specs.Zero.{is_zero, zero_of}
@@ -35,15 +38,78 @@ record Table (n a r e : Bool) (own sets : FileSets) : Type 0 where
   noroot : n ≡ true → sets ≡ own
 
 table : (n a r e : Bool) (own : FileSets) → Table n a r e own (sets_by n a r e own)
-table true a r e own = record { permitted = λ x y z. absurd (cc); inheritable = λ x y z. absurd (cc); bit = λ x y. absurd (cc); others = λ x y. refl; excepted = λ x. refl; noroot = λ x. refl }
-table false true true true own = record { permitted = λ x y z. refl; inheritable = λ x y z. refl; bit = λ x y. refl; others = λ x y. absurd (cc); excepted = λ x. absurd (cc); noroot = λ x. absurd (cc) }
-table false true true false own = record { permitted = λ x y z. refl; inheritable = λ x y z. refl; bit = λ x y. refl; others = λ x y. absurd (cc); excepted = λ x. absurd (cc); noroot = λ x. absurd (cc) }
-table false true false true own = record { permitted = λ x y z. absurd (cc); inheritable = λ x y z. absurd (cc); bit = λ x y. absurd (cc); others = λ x y. refl; excepted = λ x. refl; noroot = λ x. refl }
-table false true false false own = record { permitted = λ x y z. absurd (cc); inheritable = λ x y z. absurd (cc); bit = λ x y. refl; others = λ x y. refl; excepted = λ x. refl; noroot = λ x. refl }
-table false false true true own = record { permitted = λ x y z. refl; inheritable = λ x y z. refl; bit = λ x y. refl; others = λ x y. absurd (cc); excepted = λ x. absurd (cc); noroot = λ x. absurd (cc) }
-table false false true false own = record { permitted = λ x y z. refl; inheritable = λ x y z. refl; bit = λ x y. refl; others = λ x y. absurd (cc); excepted = λ x. absurd (cc); noroot = λ x. absurd (cc) }
-table false false false true own = record { permitted = λ x y z. refl; inheritable = λ x y z. refl; bit = λ x y. refl; others = λ x y. absurd (cc); excepted = λ x. absurd (cc); noroot = λ x. absurd (cc) }
-table false false false false own = record { permitted = λ x y z. absurd (cc); inheritable = λ x y z. absurd (cc); bit = λ x y. refl; others = λ x y. refl; excepted = λ x. refl; noroot = λ x. refl }
+table true a r e own = record {
+  permitted = λ x y z. absurd (cc);
+  inheritable = λ x y z. absurd (cc);
+  bit = λ x y. absurd (cc);
+  others = λ x y. refl;
+  excepted = λ x. refl;
+  noroot = λ x. refl;
+}
+table false true true true own = record {
+  permitted = λ x y z. refl;
+  inheritable = λ x y z. refl;
+  bit = λ x y. refl;
+  others = λ x y. absurd (cc);
+  excepted = λ x. absurd (cc);
+  noroot = λ x. absurd (cc);
+}
+table false true true false own = record {
+  permitted = λ x y z. refl;
+  inheritable = λ x y z. refl;
+  bit = λ x y. refl;
+  others = λ x y. absurd (cc);
+  excepted = λ x. absurd (cc);
+  noroot = λ x. absurd (cc);
+}
+table false true false true own = record {
+  permitted = λ x y z. absurd (cc);
+  inheritable = λ x y z. absurd (cc);
+  bit = λ x y. absurd (cc);
+  others = λ x y. refl;
+  excepted = λ x. refl;
+  noroot = λ x. refl;
+}
+table false true false false own = record {
+  permitted = λ x y z. absurd (cc);
+  inheritable = λ x y z. absurd (cc);
+  bit = λ x y. refl;
+  others = λ x y. refl;
+  excepted = λ x. refl;
+  noroot = λ x. refl;
+}
+table false false true true own = record {
+  permitted = λ x y z. refl;
+  inheritable = λ x y z. refl;
+  bit = λ x y. refl;
+  others = λ x y. absurd (cc);
+  excepted = λ x. absurd (cc);
+  noroot = λ x. absurd (cc);
+}
+table false false true false own = record {
+  permitted = λ x y z. refl;
+  inheritable = λ x y z. refl;
+  bit = λ x y. refl;
+  others = λ x y. absurd (cc);
+  excepted = λ x. absurd (cc);
+  noroot = λ x. absurd (cc);
+}
+table false false false true own = record {
+  permitted = λ x y z. refl;
+  inheritable = λ x y z. refl;
+  bit = λ x y. refl;
+  others = λ x y. absurd (cc);
+  excepted = λ x. absurd (cc);
+  noroot = λ x. absurd (cc);
+}
+table false false false false own = record {
+  permitted = λ x y z. absurd (cc);
+  inheritable = λ x y z. absurd (cc);
+  bit = λ x y. refl;
+  others = λ x y. refl;
+  excepted = λ x. refl;
+  noroot = λ x. refl;
+}
 
 -- the test for root's id and the sentence
 module _ (spaces : Spaces) (at : ℕ) where
@@ -79,7 +145,9 @@ root_rule spaces at c f =
     = λ (other : ¬ (IsExcepted spaces at c f)). false_from_ne_true ((attribute && not real) && effective) (λ is. other (excepted_is is)) in
     let is_excepted : IsExcepted spaces at c f → ((attribute && not real) && effective) ≡ true
     = λ (is : IsExcepted spaces at c f).
-    and_from (attribute && not real) effective (and_from attribute (not real) is.0 (not_from_false real (no_root_test spaces at r is.1))) (root_test spaces at e is.2) in
+    and_from (attribute && not real) effective
+    (and_from attribute (not real) is.0 (not_from_false real (no_root_test spaces at r is.1)))
+    (root_test spaces at e is.2) in
     record {
       all_permitted = λ plain other roots. rows.permitted plain (not_excepted other) (either_test spaces at r e roots);
       all_inheritable = λ plain other roots. rows.inheritable plain (not_excepted other) (either_test spaces at r e roots);
@@ -123,7 +191,9 @@ union_absorbs a b within = within_antisymmetric (union a b) a (union_within a b 
 gained : (c : Credential) (f : FileSets) (ambient : ℕ) → c.no_new_privs ≡ false
     → permitted_after c f ambient ≡ union (union (meet c.inheritable f.inheritable) (meet f.permitted c.bounding)) ambient
 gained c f ambient free =
-    ap (λ (b : Bool). if b then meet (union (union (meet c.inheritable f.inheritable) (meet f.permitted c.bounding)) ambient) c.permitted else union (union (meet c.inheritable f.inheritable) (meet f.permitted c.bounding)) ambient) free
+    ap (λ (b : Bool). if b
+    then meet (union (union (meet c.inheritable f.inheritable) (meet f.permitted c.bounding)) ambient) c.permitted
+    else union (union (meet c.inheritable f.inheritable) (meet f.permitted c.bounding)) ambient) free
 
 -- of root's sets that is all of the inheritable and the bounding set
 gains_all : (c : Credential) (f : FileSets) (ambient : ℕ) → Keeps c → c.no_new_privs ≡ false → f.permitted ≡ full → f.inheritable ≡ full
@@ -153,7 +223,8 @@ root_after spaces at c f keeps free plain effective real =
     let within : IsTrue (is_within ambient c.ambient)
     = either (λ set. IsTrue (is_within set c.ambient)) (is_privileged spaces at c f) none c.ambient (none_within c.ambient) (within_reflexive c.ambient) in
     let bit : (sets_for spaces at c f).effective ≡ true = (rule.effective_bit plain other).1 (inl effective) in (
-      gains_all c (sets_for spaces at c f) ambient keeps free (rule.all_permitted plain other (inr effective)) (rule.all_inheritable plain other (inr effective)) within,
+      gains_all c (sets_for spaces at c f) ambient keeps free (rule.all_permitted plain other (inr effective))
+          (rule.all_inheritable plain other (inr effective)) within,
       ap (λ (b : Bool). if b then permitted_after c (sets_for spaces at c f) ambient else ambient) bit,
     )
 
@@ -179,13 +250,17 @@ excepted_after spaces at c f a free is caps =
     = or_left (attribute_counts spaces at c f || setuid_counts spaces at c f) (setgid_counts spaces at c f)
     (or_left (attribute_counts spaces at c f) (setuid_counts spaces at c f) is.0) in
     let ambient : ambient_after c (is_privileged spaces at c f) ≡ none = ap (ambient_after c) privileged in
-    let permitted : permitted_after c (sets_for spaces at c f) (ambient_after c (is_privileged spaces at c f)) ≡ union (meet c.inheritable a.inheritable) (meet a.permitted c.bounding)
+    let permitted : permitted_after c (sets_for spaces at c f) (ambient_after c (is_privileged spaces at c f))
+    ≡ union (meet c.inheritable a.inheritable) (meet a.permitted c.bounding)
     = ap (λ (x : FileSets). permitted_after c x (ambient_after c (is_privileged spaces at c f))) sets
     ∙ ap (permitted_after c own) ambient
     ∙ gained c own none free
-    ∙ union_absorbs (union (meet c.inheritable a.inheritable) (meet a.permitted c.bounding)) none (none_within (union (meet c.inheritable a.inheritable) (meet a.permitted c.bounding))) in (
+    ∙ union_absorbs (union (meet c.inheritable a.inheritable) (meet a.permitted c.bounding)) none
+    (none_within (union (meet c.inheritable a.inheritable) (meet a.permitted c.bounding))) in (
       permitted,
-      ap (λ (x : FileSets). if x.effective then permitted_after c (sets_for spaces at c f) (ambient_after c (is_privileged spaces at c f)) else ambient_after c (is_privileged spaces at c f)) sets
+      ap (λ (x : FileSets). if x.effective
+          then permitted_after c (sets_for spaces at c f) (ambient_after c (is_privileged spaces at c f))
+          else ambient_after c (is_privileged spaces at c f)) sets
           ∙ ap (λ (set : ℕ). if a.effective then permitted_after c (sets_for spaces at c f) (ambient_after c (is_privileged spaces at c f)) else set) ambient,
     )
 
@@ -195,5 +270,6 @@ exception_gains_own files spaces at c file a is free excepted caps =
     let f : FileView = run_file files file in
     let after : (execve files spaces at c file).cred ≡ cred_after spaces at c f
     = exec_done c (cred_after spaces at c f) (not (may_exec (space_of spaces at) c files file)) (would_lack c (own_sets spaces at c f)) is in
-    subst (λ (d : Credential). (d.permitted ≡ union (meet c.inheritable a.inheritable) (meet a.permitted c.bounding)) × (d.effective ≡ (if a.effective then d.permitted else none)))
+    subst (λ (d : Credential). (d.permitted ≡ union (meet c.inheritable a.inheritable) (meet a.permitted c.bounding))
+    × (d.effective ≡ (if a.effective then d.permitted else none)))
     (sym after) (excepted_after spaces at c f a free excepted caps)

@@ -2,7 +2,8 @@
 use Rattle.std.proofs.Common.{◌≡◌, ℕ, ◌==◌, ◌&&◌, ◌||◌, not, Bool, true, Option, Some, None, List, if◌then◌else◌, refl, sym, ◌∙◌, inl, inr, subst}
 use Rattle.std.specs.Prelude.{Result, Ok}
 use Rattle.std.specs.declared.result.Result.TheVariants.{Err as Failed}
-use Rattle.std.proofs.lemmas.Bool.{eqb-false, ne_eqb, cond-true, cond-false, and_parts, and_from, or_cases, or_left, or_right, not-true, not_from_false, false_from_ne_true}
+use Rattle.std.proofs.lemmas.Bool.{eqb-false, ne_eqb, cond-true, cond-false, and_parts, and_from, or_cases, or_left}
+use Rattle.std.proofs.lemmas.Bool.{or_right, not-true, not_from_false, false_from_ne_true}
 use Rattle.cm_base.specs.declared.errno.Errno.{Errno}
 use Rattle.cm_base.specs.declared.errno.Errno.TheVariants.{EPERM, EINVAL}
 use Rattle.cm_base.specs.declared.res.Res.TheVariants.{Done}
@@ -11,14 +12,16 @@ use Rattle.model_cred.specs.IdMap.{Extent, extents_of}
 use Rattle.model_cred.specs.Space.{Space}
 use Rattle.model_rules.specs.Fixups.{fixed_up, following_effective, after_losing_root, without_root}
 use Rattle.model_rules.specs.Securebits.{has_flag, keep_caps, no_setuid_fixup}
-use Rattle.model_rules.specs.SetId.{asked, minus_one, is_given, both_mapped, set_re, saved_after, with_uids, with_gids, has_setuid, has_setgid}
+use Rattle.model_rules.specs.SetId.{asked, minus_one, is_given, both_mapped, setreid, saved_after, with_uids, with_gids, has_setuid, has_setgid}
 use Rattle.model_rules.specs.Zero.{is_zero, has_zero}
 use Rattle.model_laws.specs.Sentences.{SetsSaved, SavedId, SavedAfterSetReUid, SavedAfterSetReGid}
 use Rattle.model_laws.proofs.Ids.{either}
 
 -- ---- the fixups leave the user ids
 without_root_uid : (c : Credential) → (without_root c).uid ≡ c.uid
-without_root_uid c = either (λ (d : Credential). d.uid ≡ c.uid) (has_flag c keep_caps) (record c { ambient = 0 }) (record c { permitted = 0; effective = 0; ambient = 0 }) refl refl
+without_root_uid c =
+    either (λ (d : Credential). d.uid ≡ c.uid) (has_flag c keep_caps) (record c { ambient = 0 })
+    (record c { permitted = 0; effective = 0; ambient = 0 }) refl refl
 
 losing_uid : (s : Space) (old : FourIds) (c : Credential) → (after_losing_root s old c).uid ≡ c.uid
 losing_uid s old c = either (λ (d : Credential). d.uid ≡ c.uid) (has_zero s old && not (has_zero s c.uid)) (without_root c) c (without_root_uid c) refl
@@ -27,7 +30,8 @@ following_uid : (s : Space) (old : FourIds) (c : Credential) → (following_effe
 following_uid s old c =
     either (λ (d : Credential). d.uid ≡ c.uid) (is_zero s old.effective && not (is_zero s c.uid.effective)) (record c { effective = 0 })
     (if not (is_zero s old.effective) && is_zero s c.uid.effective then record c { effective = c.permitted } else c)
-    refl (either (λ (d : Credential). d.uid ≡ c.uid) (not (is_zero s old.effective) && is_zero s c.uid.effective) (record c { effective = c.permitted }) c refl refl)
+    refl (either (λ (d : Credential). d.uid ≡ c.uid) (not (is_zero s old.effective) && is_zero s c.uid.effective)
+    (record c { effective = c.permitted }) c refl refl)
 
 pub fixed_uid : (s : Space) (old : FourIds) (c : Credential) → (fixed_up s old c).uid ≡ c.uid
 fixed_uid s old c =
@@ -53,7 +57,13 @@ saved_set old new r e (inr effective) =
     (and_from (is_given e) (not (new.effective == old.real)) (not_from_false (e == minus_one) (ne_eqb e minus_one effective.0))
     (not_from_false (new.effective == old.real) (ne_eqb new.effective old.real effective.1)))
 
-saved_is : (old : FourIds) (r e real effective : ℕ) → SavedId old (record { real = real; effective = effective; saved = saved_after old r e effective; fs = effective }) r e
+saved_is : (old : FourIds) (r e real effective : ℕ)
+    → SavedId old (record {
+      real = real;
+      effective = effective;
+      saved = saved_after old r e effective;
+      fs = effective;
+    }) r e
 saved_is old r e real effective =
     let new : FourIds = record { real = real; effective = effective; saved = saved_after old r e effective; fs = effective } in
     record {
@@ -70,7 +80,8 @@ record Saves (old : FourIds) (r e : ℕ) (result : Result FourIds Errno) : Type 
 saves_error : (old : FourIds) (r e : ℕ) (k : Errno) → Saves old r e (Failed k)
 saves_error old r e k = record { ids = λ ids wrong. absurd (cc) }
 
-saves_both : (old : FourIds) (r e : ℕ) (o p : Option ℕ) (f : ℕ → ℕ → Result FourIds Errno) → ((a b : ℕ) → Saves old r e (f a b)) → Saves old r e (both_mapped o p f)
+saves_both : (old : FourIds) (r e : ℕ) (o p : Option ℕ) (f : ℕ → ℕ → Result FourIds Errno)
+    → ((a b : ℕ) → Saves old r e (f a b)) → Saves old r e (both_mapped o p f)
 saves_both old r e None p f saves = saves_error old r e EINVAL
 saves_both old r e (Some a) None f saves = saves_error old r e EINVAL
 saves_both old r e (Some a) (Some b) f saves = saves a b
@@ -78,8 +89,8 @@ saves_both old r e (Some a) (Some b) f saves = saves a b
 saves_ok : (old : FourIds) (r e : ℕ) (ids : FourIds) → SavedId old ids r e → Saves old r e (Ok ids)
 saves_ok old r e ids saved = record { ids = λ others is. let same : ids ≡ others = cc in subst (λ (new : FourIds). SavedId old new r e) same saved }
 
-set_re_saves : (map : List Extent) (privileged : Bool) (old : FourIds) (r e : ℕ) → Saves old r e (set_re map privileged old r e)
-set_re_saves map privileged old r e =
+setreid_saves : (map : List Extent) (privileged : Bool) (old : FourIds) (r e : ℕ) → Saves old r e (setreid map privileged old r e)
+setreid_saves map privileged old r e =
     saves_both old r e (asked map old.real r) (asked map old.effective e) _ (λ real effective.
     either (Saves old r e) (privileged || ((real == old.real || real == old.effective) && is_one_of_three old effective))
     (Ok (record { real = real; effective = effective; saved = saved_after old r e effective; fs = effective })) (Failed EPERM)
@@ -101,9 +112,9 @@ of_gids c r e (Failed k) saves wrong = absurd (cc)
 pub saved_after_setreuid : SavedAfterSetReUid
 unfolding SavedAfterSetReUid
 saved_after_setreuid s c r e is =
-    of_uids s c r e (set_re (extents_of s.uids) (has_setuid c) c.uid r e) (set_re_saves (extents_of s.uids) (has_setuid c) c.uid r e) is
+    of_uids s c r e (setreid (extents_of s.uids) (has_setuid c) c.uid r e) (setreid_saves (extents_of s.uids) (has_setuid c) c.uid r e) is
 
 pub saved_after_setregid : SavedAfterSetReGid
 unfolding SavedAfterSetReGid
 saved_after_setregid s c r e is =
-    of_gids c r e (set_re (extents_of s.gids) (has_setgid c) c.gid r e) (set_re_saves (extents_of s.gids) (has_setgid c) c.gid r e) is
+    of_gids c r e (setreid (extents_of s.gids) (has_setgid c) c.gid r e) (setreid_saves (extents_of s.gids) (has_setgid c) c.gid r e) is

@@ -2,7 +2,9 @@
 use Rattle.std.proofs.Common.{◌≡◌, ◌⊎◌, ℕ, Bool, true, false, [], ◌∷◌, get_or, Option, Some, None, if◌then◌else◌, refl, sym, ap, ◌∙◌, inl, inr}
 use Rattle.std.proofs.lemmas.Bool.{eqb-true}
 use Rattle.cm_base.specs.declared.errno.Errno.{Errno}
-use Rattle.cm_base.specs.declared.errno.Errno.TheVariants.{EPERM, EINVAL, ENOSPC, ENOMEM, EAGAIN, EINTR, EFAULT, EIO, ENOENT, EACCES, ENOTDIR, ELOOP, ENAMETOOLONG, E2BIG, ENOEXEC, ETXTBSY, ELIBBAD}
+use Rattle.cm_base.specs.declared.errno.Errno.TheVariants.{EPERM, EINVAL, ENOSPC, ENOMEM, EAGAIN, EINTR, EFAULT, EIO}
+use Rattle.cm_base.specs.declared.errno.Errno.TheVariants.{ENOENT, EACCES, ENOTDIR, ELOOP, ENAMETOOLONG, E2BIG, ENOEXEC}
+use Rattle.cm_base.specs.declared.errno.Errno.TheVariants.{ETXTBSY, ELIBBAD}
 use Rattle.cm_base.specs.declared.res.Res.{Res}
 use Rattle.cm_base.specs.declared.res.Res.TheVariants.{Done, Id, Child, Err}
 use Rattle.model_cred.specs.Call.{Call, Event}
@@ -16,7 +18,8 @@ use Rattle.model_run.specs.Step.{Step, Goes, NoSpace, PidInUse, Wrong, outcome_f
 -- the error of a number
 abbrev errno_at : ℕ → Errno
 errno_at n =
-    get_or (EPERM ∷ EINVAL ∷ ENOSPC ∷ ENOMEM ∷ EAGAIN ∷ EINTR ∷ EFAULT ∷ EIO ∷ ENOENT ∷ EACCES ∷ ENOTDIR ∷ ELOOP ∷ ENAMETOOLONG ∷ E2BIG ∷ ENOEXEC ∷ ETXTBSY ∷ ELIBBAD ∷ []) n EPERM
+    get_or (EPERM ∷ EINVAL ∷ ENOSPC ∷ ENOMEM ∷ EAGAIN ∷ EINTR ∷ EFAULT ∷ EIO ∷ ENOENT ∷ EACCES ∷ ENOTDIR ∷ ELOOP
+    ∷ ENAMETOOLONG ∷ E2BIG ∷ ENOEXEC ∷ ETXTBSY ∷ ELIBBAD ∷ []) n EPERM
 
 errno_back : (a : Errno) → errno_at (errno_number a) ≡ a
 errno_back EPERM = refl
@@ -91,7 +94,11 @@ rules_give : (w : World) (s : State) (p : Process) (call : Call) (res : Res) (s'
     → (if b then Goes (ruling w s p call (told_child res)).state else Wrong (own w s p call).res) ≡ Goes s'
     → ByRules w s p call res s'
 rules_give w s p call res s' inside true same goes =
-    record { inside = inside; result = one_res res (ruling w s p call (told_child res)).res same; state = goes_same (ruling w s p call (told_child res)).state s' goes }
+    record {
+      inside = inside;
+      result = one_res res (ruling w s p call (told_child res)).res same;
+      state = goes_same (ruling w s p call (told_child res)).state s' goes;
+    }
 rules_give w s p call res s' inside false other wrong = absurd (cc)
 
 -- a call's answer, by the test for an error from outside

@@ -1,14 +1,19 @@
 -- Each call keeps the tree of spaces and what each space keeps.
-use Rattle.std.proofs.Common.{◌≡◌, ◌≢◌, ℕ, suc, ◌+◌, ◌-◌, ◌<◌, ◌≤◌, ◌==◌, ◌&&◌, Bool, true, false, List, [], ◌∷◌, length, Option, Some, None, if◌then◌else◌, refl, sym, ap, ◌∙◌, inl, inr, subst, arith, lit<}
+use Rattle.std.proofs.Common.{◌≡◌, ◌≢◌, ℕ, ◌+◌, ◌-◌, ◌<◌, ◌≤◌, ◌==◌, ◌&&◌, Bool, true, false, List, [], ◌∷◌}
+use Rattle.std.proofs.Common.{length, Option, Some, None, if◌then◌else◌, refl, sym, ap, ◌∙◌, inl, inr, subst, arith}
+use Rattle.std.proofs.Common.{lit<}
 use Rattle.std.specs.Prelude.{IsSomeAnd, nat_le, All, option_and_then, option_map, unwrap_or}
 use Rattle.std.proofs.lemmas.Bool.{cases_Bool, cases_eq, eq-eqb, ne_eqb, leb-true, cond-true, cond-false, and_parts}
 use Rattle.std.proofs.lemmas.List.Elements.{All-head, All-tail, All-nil, All-cons}
+use Rattle.cm_base.specs.Limits.{id_count}
 use Rattle.cm_base.specs.declared.errno.Errno.{Errno}
 use Rattle.cm_base.specs.declared.errno.Errno.TheVariants.{EPERM, EINVAL}
+use Rattle.model_cred.proofs.Spaces.{length_put}
 use Rattle.model_cred.specs.Credential.{Credential, Keeps}
 use Rattle.model_cred.specs.IdMap.{Extent, HasIds, extents_of}
 use Rattle.model_cred.specs.Space.{Space, Spaces, KeepsSpace, IsTree, space_of, no_space, put_space}
-use Rattle.model_rules.specs.Maps.{MapFile, UidMap, GidMap, Written, write_done, write_refused, write_map, write_mapped, write_setgroups, map_of, with_map, parent_map, extent_down, list_down}
+use Rattle.model_rules.specs.Maps.{MapFile, UidMap, GidMap, Written, write_done, write_refused, write_map, write_stored}
+use Rattle.model_rules.specs.Maps.{write_setgroups, map_of, with_map, parent_map, extent_down, list_down}
 use Rattle.model_rules.specs.Namespaces.{created_by}
 use Rattle.model_laws.proofs.Chains.{space_newest, space_older, tree_older}
 use Rattle.model_laws.proofs.Ids.{FitsIds}
@@ -45,14 +50,6 @@ put_newest new t older n same = cond-true (n == length older) (new ∷ older) (t
 put_older : (new t : Space) (older : Spaces) (n : ℕ) → n ≢ length older → put_space n new (t ∷ older) ≡ t ∷ put_space n new older
 put_older new t older n other = cond-false (n == length older) (new ∷ older) (t ∷ put_space n new older) (ne_eqb n (length older) other)
 
-pub length_put : (n : ℕ) (new : Space) (spaces : Spaces) → length (put_space n new spaces) ≡ length spaces
-length_put n new [] = refl
-length_put n new (t ∷ older) =
-    elim (cases_eq n (length older)) [
-      | inl same ↦ ap length (put_newest new t older n same)
-      | inr other ↦ ap length (put_older new t older n other) ∙ ap suc (length_put n new older)
-    ]
-
 all_put : (n : ℕ) (new : Space) (spaces : Spaces) → KeepsSpace new → All KeepsSpace spaces → All KeepsSpace (put_space n new spaces)
 all_put n new [] keeps each = each
 all_put n new (t ∷ older) keeps each =
@@ -78,7 +75,8 @@ tree_newest : (new t : Space) (older : Spaces) → new.parent ≡ t.parent → I
 tree_newest new t [] same tree = same ∙ tree
 tree_newest new t (u ∷ older) same tree = (subst (λ (o : Option ℕ). IsSomeAnd o (λ p. p < length (u ∷ older))) (sym same) tree.0, tree.1)
 
-tree_put : (n : ℕ) (new : Space) (spaces : Spaces) → n < length spaces → new.parent ≡ (space_of spaces n).parent → IsTree spaces → IsTree (put_space n new spaces)
+tree_put : (n : ℕ) (new : Space) (spaces : Spaces) → n < length spaces → new.parent ≡ (space_of spaces n).parent
+    → IsTree spaces → IsTree (put_space n new spaces)
 tree_put n new [] there same tree = tree
 tree_put n new (t ∷ older) there same tree =
     elim (cases_eq n (length older)) [
@@ -115,16 +113,20 @@ extent_fits (p ∷ map) e out ids is =
     elim (cases_Bool (nat_le p.inside e.outside && nat_le (e.outside + e.length) (p.inside + p.length))) [
       | inl within ↦
           let it : Some (record e { outside = p.outside + (e.outside - p.inside) }) ≡ Some out
-          = sym (cond-true (nat_le p.inside e.outside && nat_le (e.outside + e.length) (p.inside + p.length)) (Some (record e { outside = p.outside + (e.outside - p.inside) })) (extent_down map e) within) ∙ is in
+          = sym (cond-true (nat_le p.inside e.outside && nat_le (e.outside + e.length) (p.inside + p.length))
+          (Some (record e { outside = p.outside + (e.outside - p.inside) })) (extent_down map e) within)
+          ∙ is in
           let e_is : record e { outside = p.outside + (e.outside - p.inside) } ≡ out = cc in
           let parts = and_parts (nat_le p.inside e.outside) (nat_le (e.outside + e.length) (p.inside + p.length)) within in
           let low : p.inside ≤ e.outside = leb-true p.inside e.outside parts.0 in
           let high : e.outside + e.length ≤ p.inside + p.length = leb-true (e.outside + e.length) (p.inside + p.length) parts.1 in
-          let fits : p.outside + p.length ≤ 4294967295 = All-head FitsIds p map ids in
+          let fits : p.outside + p.length ≤ id_count = All-head FitsIds p map ids in
           subst FitsIds e_is (omega arith)
       | inr outside ↦
           extent_fits map e out (All-tail FitsIds p map ids)
-          (sym (cond-false (nat_le p.inside e.outside && nat_le (e.outside + e.length) (p.inside + p.length)) (Some (record e { outside = p.outside + (e.outside - p.inside) })) (extent_down map e) outside) ∙ is)
+          (sym (cond-false (nat_le p.inside e.outside && nat_le (e.outside + e.length) (p.inside + p.length))
+          (Some (record e { outside = p.outside + (e.outside - p.inside) })) (extent_down map e) outside)
+          ∙ is)
     ]
 
 list_step : (first : Option Extent) (rest : Option (List Extent)) (out : List Extent) → ((e : Extent) → first ≡ Some e → FitsIds e)
@@ -175,7 +177,7 @@ good_done : (spaces : Spaces) (n : ℕ) (new : Space) → n < length spaces → 
 good_done spaces n new there same keeps kept = record { keeps = keeps_put n new spaces there same keeps kept; count = length_put n new spaces }
 
 good_mapped : (file : MapFile) (spaces : Spaces) (at : ℕ) (c : Credential) (n : ℕ) (list : List Extent) (o : Option (List Extent)) → n < length spaces
-    → ((mapped : List Extent) → o ≡ Some mapped → HasIds mapped) → KeepsTree spaces → GoodWrite spaces (write_mapped file spaces at c n list o)
+    → ((mapped : List Extent) → o ≡ Some mapped → HasIds mapped) → KeepsTree spaces → GoodWrite spaces (write_stored file spaces at c n list o)
 good_mapped file spaces at c n list None there ids kept = good_refused EPERM spaces kept
 good_mapped file spaces at c n list (Some mapped) there ids kept =
     write_either spaces _ _ _

@@ -1,7 +1,11 @@
 -- Who may write which id map: the function and the sentences agree.
-use Rattle.std.proofs.Common.{◌≡◌, ◌≢◌, ◌⊎◌, ℕ, zero, suc, ◌+◌, ◌-◌, ◌<◌, ◌≤◌, ◌==◌, ◌&&◌, ◌||◌, not, Bool, true, false, List, [], ◌∷◌, length, Option, Some, None, if◌then◌else◌, refl, sym, ap, ◌∙◌, inl, inr, subst, arith}
+use Rattle.std.proofs.Common.{◌≡◌, ◌≢◌, ◌⊎◌, ℕ, zero, suc, ◌+◌, ◌-◌, ◌<◌, ◌≤◌, ◌==◌, ◌&&◌, ◌||◌, not, Bool, true, false}
+use Rattle.std.proofs.Common.{List, [], ◌∷◌, length, Option, Some, None, if◌then◌else◌, refl, sym, ap, ◌∙◌, inl, inr}
+use Rattle.std.proofs.Common.{subst, arith}
 use Rattle.std.specs.Prelude.{IsTrue, All, Any, is_none, nat_le, nat_lt, option_and_then, option_map, slice_index_or, unwrap_or}
-use Rattle.std.proofs.lemmas.Bool.{cases_Bool, cases_lt, eqb-true, eq-eqb, ltb-true, lt-ltb, le-ltb, leb-true, le-leb, lt-leb, cond-true, cond-false, and_parts, and_from, or_cases, or_left, or_right, not-true, not_from_false}
+use Rattle.std.proofs.lemmas.Bool.{cases_Bool, cases_lt, eqb-true, eq-eqb, ltb-true, lt-ltb, le-ltb, leb-true, le-leb}
+use Rattle.std.proofs.lemmas.Bool.{lt-leb, cond-true, cond-false, and_parts, and_from, or_cases, or_left, or_right}
+use Rattle.std.proofs.lemmas.Bool.{not-true, not_from_false}
 use Rattle.std.proofs.lemmas.List.Elements.{All-head, All-tail, All-nil, All-cons}
 use Rattle.cm_base.specs.declared.errno.Errno.TheVariants.{EPERM, EINVAL}
 use Rattle.cm_base.specs.declared.res.Res.TheVariants.{Done}
@@ -10,7 +14,10 @@ use Rattle.model_cred.specs.IdMap.{Extent, down, lies_in, is_the}
 use Rattle.model_cred.specs.MapFault.{is_map}
 use Rattle.model_cred.specs.Space.{Space, Spaces, IsTree, space_at, space_of, no_space}
 use Rattle.model_rules.specs.Caps.{cap_setfcap}
-use Rattle.model_rules.specs.Maps.{MapFile, UidMap, GidMap, Written, map_of, with_map, parent_map, cap_for, effective_id, write_map, write_mapped, write_refused, write_done, may_write, may_map, maps_zero, setfcap_allows, has_over_parent, is_own_map, is_single, word_allows, extent_down, list_down}
+use Rattle.model_rules.specs.Maps.{MapFile, UidMap, GidMap, Written, map_of, with_map, parent_map, cap_for}
+use Rattle.model_rules.specs.Maps.{effective_id, write_map, write_stored, write_refused, write_done, may_write, may_map}
+use Rattle.model_rules.specs.Maps.{maps_zero, setfcap_allows, has_over_parent, is_own_map, is_single, word_allows}
+use Rattle.model_rules.specs.Maps.{extent_down, list_down}
 use Rattle.model_rules.specs.Power.{Over, has_over}
 use Rattle.model_laws.specs.Writers.{LiesInOne, MapsZero, MayMapZero, IsOwnLine, MayWriteMap, WhoWritesMaps}
 use Rattle.model_laws.proofs.Chains.{is_the_same, the_is, not_the, over_is, parent_older, space_there}
@@ -52,7 +59,9 @@ extent_cases p map e =
       | inl within ↦
           let parts = and_parts (nat_le p.inside e.outside) (nat_le (e.outside + e.length) (p.inside + p.length)) within in
           inl (leb-true p.inside e.outside parts.0, leb-true (e.outside + e.length) (p.inside + p.length) parts.1)
-      | inr outside ↦ inr (cond-false (nat_le p.inside e.outside && nat_le (e.outside + e.length) (p.inside + p.length)) (Some (moved p e)) (extent_down map e) outside)
+      | inr outside ↦
+          inr (cond-false (nat_le p.inside e.outside && nat_le (e.outside + e.length) (p.inside + p.length))
+          (Some (moved p e)) (extent_down map e) outside)
     ]
 
 extent_lies : (map : List Extent) (e out : Extent) → extent_down map e ≡ Some out → LiesInOne map e
@@ -132,7 +141,13 @@ split_by : (map : List Extent) (e : Extent) (list mapped : List Extent) (o : Opt
     → extent_down map e ≡ o → list_down map list ≡ p → option_and_then (λ f. option_map (λ r. f ∷ r) p) o ≡ Some mapped → Split map e list mapped
 split_by map e list mapped None p a b is = absurd (cc)
 split_by map e list mapped (Some f) None a b is = absurd (cc)
-split_by map e list mapped (Some f) (Some r) a b is = record { first = f; rest = r; first_is = a; rest_is = b; mapped_is = let it : (f ∷ r) ≡ mapped = cc in sym it }
+split_by map e list mapped (Some f) (Some r) a b is = record {
+  first = f;
+  rest = r;
+  first_is = a;
+  rest_is = b;
+  mapped_is = let it : (f ∷ r) ≡ mapped = cc in sym it;
+}
 
 split : (map : List Extent) (e : Extent) (list mapped : List Extent) → list_down map (e ∷ list) ≡ Some mapped → Split map e list mapped
 split map e list mapped is = split_by map e list mapped (extent_down map e) (list_down map list) refl refl is
@@ -143,7 +158,8 @@ list_lies map (e ∷ list) mapped is =
     let parts : Split map e list mapped = split map e list mapped is in
     All-cons (LiesInOne map) e list (extent_lies map e parts.first parts.first_is) (list_lies map list parts.rest parts.rest_is)
 
-join_down : (map : List Extent) (e f : Extent) (list rest : List Extent) → extent_down map e ≡ Some f → list_down map list ≡ Some rest → list_down map (e ∷ list) ≡ Some (f ∷ rest)
+join_down : (map : List Extent) (e f : Extent) (list rest : List Extent) → extent_down map e ≡ Some f
+    → list_down map list ≡ Some rest → list_down map (e ∷ list) ≡ Some (f ∷ rest)
 join_down map e f list rest a b =
     ap (λ o. option_and_then (λ first. option_map (λ r. first ∷ r) (list_down map list)) o) a ∙ ap (option_map (λ r. f ∷ r)) b
 
@@ -224,7 +240,10 @@ module _ (spaces : Spaces) (at : ℕ) (c : Credential) (tree : IsTree spaces) (t
                     ∙ sym (cond-true (is_the t.parent at) (has_over_parent spaces at c cap_setfcap t.parent) t.creator_setfcap child) ∙ may),
               )
           | inr other ↦
-              let creator : t.creator_setfcap ≡ true = sym (cond-false (is_the t.parent at) (has_over_parent spaces at c cap_setfcap t.parent) t.creator_setfcap other) ∙ may in
+              let creator : t.creator_setfcap ≡ true
+              = sym (cond-false (is_the t.parent at)
+              (has_over_parent spaces at c cap_setfcap t.parent) t.creator_setfcap other)
+              ∙ may in
               elim place [
                 | inl same ↦ inr (same, creator)
                 | inr parent ↦ absurd (let never : true ≡ false = sym (is_the_same t.parent at parent) ∙ other in cc)
@@ -238,7 +257,10 @@ module _ (spaces : Spaces) (at : ℕ) (c : Credential) (tree : IsTree spaces) (t
   zero_back UidMap target list may =
       let t : Space = space_of spaces target in
       elim (cases_Bool (maps_zero list)) [
-        | inr none ↦ or_left (not (maps_zero list)) (if is_the t.parent at then has_over_parent spaces at c cap_setfcap t.parent else t.creator_setfcap) (not_from_false (maps_zero list) none)
+        | inr none ↦
+            or_left (not (maps_zero list))
+            (if is_the t.parent at then has_over_parent spaces at c cap_setfcap t.parent else t.creator_setfcap)
+            (not_from_false (maps_zero list) none)
         | inl maps ↦
             or_right (not (maps_zero list)) (if is_the t.parent at then has_over_parent spaces at c cap_setfcap t.parent else t.creator_setfcap)
             (elim (may refl (test_zero list maps)) [
@@ -247,7 +269,9 @@ module _ (spaces : Spaces) (at : ℕ) (c : Credential) (tree : IsTree spaces) (t
                   ∙ parent_over cap_setfcap t.parent at child.0 child.1
               | inr own ↦
                   let not_child : is_the t.parent at ≡ false
-                  = not_the t.parent at (λ p parent same. not_itself (ap (λ (n : ℕ). (space_of spaces n).parent) own.0 ∙ parent ∙ ap (λ (n : ℕ). Some n) same)) in
+                  = not_the t.parent at (λ p parent same.
+                  not_itself (ap (λ (n : ℕ). (space_of spaces n).parent) own.0 ∙ parent
+                  ∙ ap (λ (n : ℕ). Some n) same)) in
                   cond-false (is_the t.parent at) (has_over_parent spaces at c cap_setfcap t.parent) t.creator_setfcap not_child ∙ own.1
             ])
       ]
@@ -291,7 +315,8 @@ alone map (e ∷ f ∷ list) m is =
     let wrong : [] ≡ more.first ∷ more.rest = none ∙ more.mapped_is in
     absurd (cc)
 
-own_forth : (file : MapFile) (spaces : Spaces) (c : Credential) (t : Space) (list mapped : List Extent) → list_down (parent_map file spaces t) list ≡ Some mapped
+own_forth : (file : MapFile) (spaces : Spaces) (c : Credential) (t : Space) (list mapped : List Extent)
+    → list_down (parent_map file spaces t) list ≡ Some mapped
     → is_own_map file c t mapped ≡ true → IsOwnLine file spaces c t list
 own_forth file spaces c t list mapped is own =
     let first = and_parts (is_single mapped (effective_id file c) && t.owner == c.uid.effective) (word_allows file t) own in
@@ -318,12 +343,14 @@ own_back file spaces c t list mapped is own =
     let none : [] ≡ parts.rest = cc in
     let mapped_is : mapped ≡ parts.first ∷ [] = parts.mapped_is ∙ ap (λ (x : List Extent). parts.first ∷ x) (sym none) in
     let one : parts.first.length ≡ 1 = extent_length map own.line parts.first parts.first_is ∙ own.one_id in
-    let it : Some parts.first.outside ≡ Some (effective_id file c) = sym (ap (option_map (λ m. m.outside)) parts.first_is) ∙ sym (one_down map own.line own.one_id) ∙ own.own_id in
+    let it : Some parts.first.outside ≡ Some (effective_id file c)
+    = sym (ap (option_map (λ m. m.outside)) parts.first_is) ∙ sym (one_down map own.line own.one_id) ∙ own.own_id in
     let outside : parts.first.outside ≡ effective_id file c = cc in
     and_from (is_single mapped (effective_id file c) && t.owner == c.uid.effective) (word_allows file t)
     (and_from (is_single mapped (effective_id file c)) (t.owner == c.uid.effective)
     (ap (λ (x : List Extent). is_single x (effective_id file c)) mapped_is
-    ∙ and_from (parts.first.length == 1) (parts.first.outside == effective_id file c) (eq-eqb parts.first.length 1 one) (eq-eqb parts.first.outside (effective_id file c) outside))
+    ∙ and_from (parts.first.length == 1) (parts.first.outside == effective_id file c) (eq-eqb parts.first.length 1 one)
+    (eq-eqb parts.first.outside (effective_id file c) outside))
     (eq-eqb t.owner c.uid.effective (sym own.owner)))
     (word_back file t own.denied)
 
@@ -337,20 +364,30 @@ record Passed (file : MapFile) (spaces : Spaces) (at : ℕ) (c : Credential) (ta
   setfcap : setfcap_allows file spaces at c (space_of spaces target) list ≡ true
   maps : may_map file spaces at c (space_of spaces target) mapped ≡ true
 
-done_passed : (file : MapFile) (spaces : Spaces) (at : ℕ) (c : Credential) (target : ℕ) (list : List Extent) → (write_map file spaces at c target list).res ≡ Done
+done_passed : (file : MapFile) (spaces : Spaces) (at : ℕ) (c : Credential) (target : ℕ) (list : List Extent)
+    → (write_map file spaces at c target list).res ≡ Done
     → Passed file spaces at c target list
 done_passed file spaces at c target list is =
     by (may_write file spaces at c target) (is_map list) (list_down (parent_map file spaces (space_of spaces target)) list) refl refl refl is
   where
     last : (mapped : List Extent) (b : Bool)
         → (setfcap_allows file spaces at c (space_of spaces target) list && may_map file spaces at c (space_of spaces target) mapped) ≡ b
-        → (let x : Written = if b then write_done spaces target (with_map file (space_of spaces target) mapped) else write_refused EPERM spaces in x).res ≡ Done → b ≡ true
+        → (let x : Written
+        = if b then write_done spaces target (with_map file (space_of spaces target) mapped)
+        else write_refused EPERM spaces in
+        x).res
+        ≡ Done
+        → b ≡ true
     last mapped true e it = refl
     last mapped false e wrong = absurd (cc)
 
     by : (a b : Bool) (o : Option (List Extent)) → may_write file spaces at c target ≡ a → is_map list ≡ b
         → list_down (parent_map file spaces (space_of spaces target)) list ≡ o
-        → (let x : Written = if not a then write_refused EPERM spaces else if not b then write_refused EINVAL spaces else write_mapped file spaces at c target list o in x).res ≡ Done
+        → (let x : Written
+        = if not a then write_refused EPERM spaces else if not b then write_refused EINVAL spaces
+        else write_stored file spaces at c target list o in
+        x).res
+        ≡ Done
         → Passed file spaces at c target list
     by false b o x y z wrong = absurd (cc)
     by true false o x y z wrong = absurd (cc)
@@ -364,11 +401,25 @@ done_passed file spaces at c target list is =
 passed_done : (file : MapFile) (spaces : Spaces) (at : ℕ) (c : Credential) (target : ℕ) (list : List Extent) → Passed file spaces at c target list
     → (write_map file spaces at c target list).res ≡ Done
 passed_done file spaces at c target list passed =
-    ap (λ (a : Bool). (let x : Written = if not a then write_refused EPERM spaces else if not (is_map list) then write_refused EINVAL spaces else write_mapped file spaces at c target list (list_down (parent_map file spaces (space_of spaces target)) list) in x).res) passed.may
-    ∙ ap (λ (b : Bool). (let x : Written = if not b then write_refused EINVAL spaces else write_mapped file spaces at c target list (list_down (parent_map file spaces (space_of spaces target)) list) in x).res) passed.valid
-    ∙ ap (λ (o : Option (List Extent)). (write_mapped file spaces at c target list o).res) passed.mapped_is
-    ∙ ap (λ (b : Bool). (let x : Written = if b then write_done spaces target (with_map file (space_of spaces target) passed.mapped) else write_refused EPERM spaces in x).res)
-    (and_from (setfcap_allows file spaces at c (space_of spaces target) list) (may_map file spaces at c (space_of spaces target) passed.mapped) passed.setfcap passed.maps)
+    ap (λ (a : Bool).
+    (let x : Written
+    = if not a then write_refused EPERM spaces else if not (is_map list) then write_refused EINVAL spaces
+    else write_stored file spaces at c target list
+    (list_down (parent_map file spaces (space_of spaces target)) list) in
+    x).res) passed.may
+    ∙ ap (λ (b : Bool).
+    (let x : Written
+    = if not b then write_refused EINVAL spaces
+    else write_stored file spaces at c target list (list_down (parent_map file spaces (space_of spaces target)) list) in
+    x).res) passed.valid
+    ∙ ap (λ (o : Option (List Extent)). (write_stored file spaces at c target list o).res) passed.mapped_is
+    ∙ ap (λ (b : Bool).
+    (let x : Written
+    = if b then write_done spaces target (with_map file (space_of spaces target) passed.mapped)
+    else write_refused EPERM spaces in
+    x).res)
+    (and_from (setfcap_allows file spaces at c (space_of spaces target) list)
+    (may_map file spaces at c (space_of spaces target) passed.mapped) passed.setfcap passed.maps)
 
 passed_may : (file : MapFile) (spaces : Spaces) (at : ℕ) (c : Credential) (target : ℕ) (list : List Extent) → IsTree spaces → at < length spaces
     → Passed file spaces at c target list → MayWriteMap file spaces at c target list
@@ -390,7 +441,8 @@ passed_may file spaces at c target list tree there passed =
       zero = zero_forth spaces at c tree there file target list place passed.setfcap;
       any_or_own = elim (or_cases (has_over_parent spaces at c (cap_for file) t.parent) (is_own_map file c t passed.mapped) passed.maps) [
         | inl over ↦
-            let p : (p : ℕ) × (t.parent ≡ Some p) × Over spaces at c.effective c.uid.effective (cap_for file) p = over_parent spaces at c tree there (cap_for file) t.parent over in
+            let p : (p : ℕ) × (t.parent ≡ Some p) × Over spaces at c.effective c.uid.effective (cap_for file) p
+            = over_parent spaces at c tree there (cap_for file) t.parent over in
             inl (record { parent = p.0; is_parent = p.1; power = p.2 })
         | inr own ↦ inr (own_forth file spaces c t list passed.mapped passed.mapped_is own)
       ];
@@ -417,7 +469,9 @@ may_passed file spaces at c target list tree there may =
         | inl over ↦
             or_left (has_over_parent spaces at c (cap_for file) t.parent) (is_own_map file c t mapped.0)
             (parent_over spaces at c tree there (cap_for file) t.parent over.parent over.is_parent over.power)
-        | inr own ↦ or_right (has_over_parent spaces at c (cap_for file) t.parent) (is_own_map file c t mapped.0) (own_back file spaces c t list mapped.0 mapped.1 own)
+        | inr own ↦
+            or_right (has_over_parent spaces at c (cap_for file) t.parent) (is_own_map file c t mapped.0)
+            (own_back file spaces c t list mapped.0 mapped.1 own)
       ];
     }
 

@@ -22,7 +22,7 @@ LiesInOne map e = Any (λ p. (p.inside ≤ e.outside) × (e.outside + e.length �
 
 -- the list maps the parent's id 0
 abbrev pub MapsZero : List Extent → Type 0
-MapsZero list = Any (λ e. (e.outside ≡ 0) × (0 < e.length)) list
+MapsZero given = Any (λ e. (e.outside ≡ 0) × (0 < e.length)) given
 
 -- Who maps the parent's user id 0: a writer in the parent with CAP_SETFCAP over it, or a writer in the space itself,
 -- which was made with CAP_SETFCAP.
@@ -33,9 +33,9 @@ MayMapZero spaces at c target =
 
 -- The list is the writer's own: a single line that maps its effective id in the parent; it has the effective user id of the
 -- space's owner; and for gid_map the word in the setgroups file is "deny".
-pub record IsOwnLine (file : MapFile) (spaces : Spaces) (c : Credential) (t : Space) (list : List Extent) : Type 0 where
+pub record IsOwnLine (file : MapFile) (spaces : Spaces) (c : Credential) (t : Space) (given : List Extent) : Type 0 where
   pub line : Extent
-  pub single : list ≡ line ∷ []
+  pub single : given ≡ line ∷ []
   pub one_id : line.length ≡ 1
   pub own_id : down (parent_map file spaces t) line.outside ≡ Some (effective_id file c)
   pub owner : c.uid.effective ≡ t.owner
@@ -45,16 +45,16 @@ pub record IsOwnLine (file : MapFile) (spaces : Spaces) (c : Credential) (t : Sp
 -- list is a map; the writer has CAP_SETUID (for gid_map CAP_SETGID) in the target; it is in the target or in its parent; the
 -- outside ids have a mapping in the parent; for uid_map the parent's id 0 is mapped by one who may do that; and the writer has
 -- CAP_SETUID (CAP_SETGID) in the parent, or the list is its own line.
-pub record MayWriteMap (file : MapFile) (spaces : Spaces) (at : ℕ) (c : Credential) (target : ℕ) (list : List Extent) : Type 0 where
+pub record MayWriteMap (file : MapFile) (spaces : Spaces) (at : ℕ) (c : Credential) (target : ℕ) (given : List Extent) : Type 0 where
   pub unwritten : map_of file (space_of spaces target) ≡ None
-  pub valid : IsTrue (is_map list)
+  pub valid : IsTrue (is_map given)
   pub power : Over spaces at c.effective c.uid.effective (cap_for file) target
   pub place : (at ≡ target) ⊎ ((space_of spaces target).parent ≡ Some at)
-  pub mapped : All (LiesInOne (parent_map file spaces (space_of spaces target))) list
-  pub zero : file ≡ UidMap → MapsZero list → MayMapZero spaces at c target
-  pub any_or_own : OverParent spaces at c (cap_for file) (space_of spaces target) ⊎ IsOwnLine file spaces c (space_of spaces target) list
+  pub mapped : All (LiesInOne (parent_map file spaces (space_of spaces target))) given
+  pub zero : file ≡ UidMap → MapsZero given → MayMapZero spaces at c target
+  pub any_or_own : OverParent spaces at c (cap_for file) (space_of spaces target) ⊎ IsOwnLine file spaces c (space_of spaces target) given
 
 -- The write is done exactly then.
 unfoldable pub WhoWritesMaps : Type 0
-WhoWritesMaps = (file : MapFile) (spaces : Spaces) (at : ℕ) (c : Credential) (target : ℕ) (list : List Extent) → IsTree spaces → IsTrue (stands spaces at)
-    → ((write_map file spaces at c target list).res ≡ Done) ↔ MayWriteMap file spaces at c target list
+WhoWritesMaps = (file : MapFile) (spaces : Spaces) (at : ℕ) (c : Credential) (target : ℕ) (given : List Extent) → IsTree spaces → IsTrue (stands spaces at)
+    → ((write_map file spaces at c target given).res ≡ Done) ↔ MayWriteMap file spaces at c target given

@@ -1,5 +1,6 @@
 // The laws of families, and of members in later runs.
-ghost use Rattle.model_laws.specs.Families.{FamilyIsComputed, StepKeepsChains, MembersAreFamily, CallersAreMembers, ChildrenAreMembers, OthersStay, OthersStayWhole, StrangersStay};
+ghost use Rattle.model_laws.specs.Families.{FamilyIsComputed, StepKeepsChains, MembersAreFamily, CallersAreMembers};
+ghost use Rattle.model_laws.specs.Families.{ChildrenAreMembers, OthersStay, OthersStayWhole, StrangersStay};
 
 /// The relation of a family and the function that computes it agree.
 #[tactic(auto, using(crate::proofs::Reaching::family_is_computed))]

@@ -8,7 +8,7 @@ use Rattle.model_cred.specs.Call.{Event}
 use Rattle.model_cred.specs.Process.{State}
 use Rattle.model_cred.specs.World.{World}
 use Rattle.model_run.specs.Step.{outcome}
-use Rattle.model_run.specs.WayBack.{BringsBack}
+use Rattle.model_run.specs.RunBack.{BringsBack}
 use Rattle.model_report.proofs.Lines.{IsWritten, plain_verdict, written_end, written_told, written_shows, written_true}
 use Rattle.model_report.proofs.Replays.{Halts, passed_lines, runs_or_halts}
 use Rattle.model_report.proofs.Statuses.{has_its_cause, over_all, of_replay, of_asked, of_stopped, of_impossible}

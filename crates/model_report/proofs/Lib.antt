@@ -1,4 +1,3 @@
-pub mod Processes
 pub mod StepFacts
 pub mod Replays
 pub mod Showing

@@ -10,8 +10,8 @@ use Rattle.model_cred.specs.Process.{Process, State, process_at}
 use Rattle.model_cred.specs.Right.{Right, Cap, Uid, Gid}
 use Rattle.model_cred.specs.World.{World}
 use Rattle.model_run.specs.Step.{Step, Run}
-use Rattle.model_run.specs.WayBack.{way_back}
-use Rattle.model_report.proofs.Processes.{pid_of_found}
+use Rattle.model_run.specs.RunBack.{run_back}
+use Rattle.model_cred.proofs.Lookups.{pid_of_found}
 use Rattle.model_report.proofs.Replays.{passed_lines, passed_step}
 use Rattle.model_report.proofs.Showing.{silent_shown, run_shows, start_shows}
 use Rattle.model_report.specs.Laws.{Shows, last_credentials, told_in, AreTrue, EndsIn}
@@ -65,8 +65,8 @@ plain_right : (more : Bool) (s : State) (p : Process) (right : Right) → ArePla
 plain_right more s p (Gid k) = tt
 plain_right more s p (Cap cap n) = tt
 plain_right more s p (Uid k) =
-    elim (not more && length s.processes == 1) as (λ (b : Bool). ArePlain (cond b (run_verdict p.pid (way_back p.cred p.pid k)) not_built).lines) [
-      | true ↦ plain_run_verdict p.pid (way_back p.cred p.pid k)
+    elim (not more && length s.processes == 1) as (λ (b : Bool). ArePlain (cond b (run_verdict p.pid (run_back p.cred p.pid k)) not_built).lines) [
+      | true ↦ plain_run_verdict p.pid (run_back p.cred p.pid k)
       | false ↦ tt
     ]
 

@@ -2,21 +2,22 @@
 use Rattle.std.proofs.Common.{◌≡◌, ◌≢◌, ℕ, ◌==◌, ◌⊎◌, cond, inl, inr, List, [], ◌∷◌, ◌++◌, Option, Some, None, IsSomeAnd, refl, sym, ◌∙◌, ap, subst, arith, append_assoc, append-nil, map, false, true}
 use Rattle.std.proofs.lemmas.List.Elements.{All-head, All-tail}
 use Rattle.std.proofs.lemmas.Bool.{cases_eq}
+use Rattle.std.specs.Prelude.{is_some}
 use Rattle.std.specs.Option.{option_or}
 use Rattle.cm_base.specs.declared.res.Res.{Res}
 use Rattle.cm_base.specs.declared.res.Res.TheVariants.{Child}
-use Rattle.model_cred.specs.Process.{Process, State, process_at}
+use Rattle.model_cred.specs.Process.{Process, State, process_at, is_alive}
 use Rattle.model_cred.specs.World.{World}
 use Rattle.model_run.specs.Step.{Step, Run}
 use Rattle.model_report.proofs.Replays.{passed_lines, passed_step}
-use Rattle.model_report.proofs.Processes.{pid_of_found, IsLike}
+use Rattle.model_cred.proofs.Lookups.{pid_of_found, IsLike}
 use Rattle.model_report.proofs.StepFacts.{WasThere, others_were_there}
 use Rattle.model_report.specs.Laws.{Shows, last_credentials}
 use Rattle.model_text.specs.Line.{IsBuilt}
 use Rattle.model_report.specs.Replay.{ReportLine, Credentials, Told, Plain, credentials_if, child_lines, step_lines}
 use Rattle.model_text.proofs.Built.{AreBuilt}
 use Rattle.model_text.specs.Reading.{Placed, events_of}
-use Rattle.model_text.specs.WorldText.{are_distinct, has_pid}
+use Rattle.model_text.specs.WorldText.{are_distinct}
 
 -- ---- the last credential lines
 or_assoc : (a b c : Option Process) → option_or (option_or a b) c ≡ option_or a (option_or b c)
@@ -118,9 +119,12 @@ run_shows w (e ∷ events) from to built run before shows =
     (append_assoc before step rest ∙ ap (λ (ls : List ReportLine). before ++ ls) (sym (passed_step w from run.0 e events run.1))) shown
 
 -- ---- the credential lines at the start
-not_found : (pid : ℕ) (ps : List Process) → has_pid pid ps ≡ false → process_at ps pid ≡ None
-not_found pid [] free = refl
-not_found pid (p ∷ ps) free = grind (arith, free, not_found pid ps)
+not_found : (pid : ℕ) (ps : List Process) → is_alive ps pid ≡ false → process_at ps pid ≡ None
+not_found pid ps free = none (process_at ps pid) free
+  where
+    none : (o : Option Process) → is_some o ≡ false → o ≡ None
+    none None free = refl
+    none (Some p) there = absurd (cc)
 
 or_none : (o : Option Process) → option_or o None ≡ o
 or_none None = refl

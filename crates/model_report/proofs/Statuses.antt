@@ -7,7 +7,7 @@ use Rattle.model_cred.specs.Call.{Event}
 use Rattle.model_cred.specs.Process.{State}
 use Rattle.model_cred.specs.World.{World}
 use Rattle.model_run.specs.Step.{Run, outcome}
-use Rattle.model_run.specs.WayBack.{are_setresuids}
+use Rattle.model_run.specs.RunBack.{are_setresuids}
 use Rattle.model_report.proofs.Replays.{Halts, passed_lines, run_passes, run_after, runs_or_halts, halt_passes}
 use Rattle.model_report.proofs.Verdicts.{log_verdict, VerdictCause, verdict_cause, verdict_by}
 use Rattle.model_report.specs.Causes.{Names, Begins, ComesTo, IsImpossible, IsStopped, IsLongWorld, IsLongLog, IsAccepted, Cause}

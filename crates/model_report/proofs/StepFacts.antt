@@ -13,7 +13,7 @@ use Rattle.model_run.specs.Outside.{comes_from_outside}
 use Rattle.model_run.specs.Ruling.{Ruling, ruling, own, reply_to, fork_child, state_without}
 use Rattle.model_run.specs.Same.{same_res}
 use Rattle.model_run.specs.Step.{Outcome, Goes, NoSpace, PidInUse, Wrong, Step, outcome_for, names_no_space, is_living_child, told_child, told_call, with_cred}
-use Rattle.model_report.proofs.Processes.{pid_of_found, put_other, insert_other, IsLike, like_after_exit, without_other}
+use Rattle.model_cred.proofs.Lookups.{pid_of_found, at_put_other, at_insert_other, IsLike, like_after_exit, at_without_other}
 use Rattle.model_text.specs.Line.{IsBuilt}
 
 -- ---- whether an event goes on
@@ -135,11 +135,11 @@ was_found : (s : State) (caller : Process) (res : Res) (s' : State) → Changes 
 unfolding Changes
 was_found s caller res s' (inl same) p found other untold = there_as_it_was s p (ap (λ (x : State). process_at x.processes p.pid) (sym same) ∙ found)
 was_found s caller res s' (inr (inl (c, put))) p found other untold =
-    there_as_it_was s p (sym (put_other (record caller { cred = c }) s.processes p.pid other) ∙ ap (λ (x : State). process_at x.processes p.pid) (sym put) ∙ found)
+    there_as_it_was s p (sym (at_put_other (record caller { cred = c }) s.processes p.pid other) ∙ ap (λ (x : State). process_at x.processes p.pid) (sym put) ∙ found)
 was_found s caller res s' (inr (inr (inl (pid, told, comes)))) p found other untold =
-    there_as_it_was s p (sym (insert_other (fork_child caller pid) s.processes p.pid (untold pid told)) ∙ ap (λ (x : State). process_at x.processes p.pid) (sym comes) ∙ found)
+    there_as_it_was s p (sym (at_insert_other (fork_child caller pid) s.processes p.pid (untold pid told)) ∙ ap (λ (x : State). process_at x.processes p.pid) (sym comes) ∙ found)
 was_found s caller res s' (inr (inr (inr goes))) p found other untold =
-    left_by_exit s caller p (process_at s.processes p.pid) refl (sym (without_other caller s.processes p.pid other) ∙ ap (λ (x : State). process_at x.processes p.pid) (sym goes) ∙ found)
+    left_by_exit s caller p (process_at s.processes p.pid) refl (sym (at_without_other caller s.processes p.pid other) ∙ ap (λ (x : State). process_at x.processes p.pid) (sym goes) ∙ found)
 
 -- each process after it but the caller and the child that it tells was there before
 pub others_were_there : (w : World) (s : State) (e : Event) (s' : State) → IsBuilt e.call → Step w s e s' → (p : Process) → process_at s'.processes p.pid ≡ Some p → p.pid ≢ e.pid

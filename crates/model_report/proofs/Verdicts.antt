@@ -8,9 +8,9 @@ use Rattle.model_cred.specs.Process.{Process, State, process_at}
 use Rattle.model_cred.specs.Right.{Right, Cap, Uid, Gid}
 use Rattle.model_cred.specs.Space.{first_spaces}
 use Rattle.model_cred.specs.World.{World}
-use Rattle.model_run.proofs.WaysBack.{AllFollow, StateFollows, setresuids_follow, IsWayBack, way_back_is}
+use Rattle.model_run.proofs.RunsBack.{AllFollow, StateFollows, setresuids_follow, IsRunBack, run_back_is}
 use Rattle.model_run.specs.Step.{Run}
-use Rattle.model_run.specs.WayBack.{are_setresuids, BringsBack, CanComeBack, alone, way_back}
+use Rattle.model_run.specs.RunBack.{are_setresuids, BringsBack, CanComeBack, alone, run_back}
 use Rattle.model_text.proofs.Declared.{start_follows}
 use Rattle.model_report.specs.Causes.{IsAccepted, Asks, AsksAlone, IsKnown, HasMore, IsYes, IsNo, IsBadQuery, IsBeyond}
 use Rattle.model_text.specs.Reading.{events_of}
@@ -124,17 +124,17 @@ RunIs : World → State → Process → ℕ → Option (List Event) → Type 0
 RunIs w s p k None = (run : List Event) → ¬ BringsBack w s p.pid k run
 RunIs w s p k (Some run) = BringsBack w s p.pid k run
 
-run_is_by : (w : World) (s : State) (p : Process) (k : ℕ) (found : Option (List Event)) → alone p.pid p.forebear p.cred ≡ s → IsWayBack w p.pid p.forebear p.cred k found → RunIs w s p k found
+run_is_by : (w : World) (s : State) (p : Process) (k : ℕ) (found : Option (List Event)) → alone p.pid p.forebear p.cred ≡ s → IsRunBack w p.pid p.forebear p.cred k found → RunIs w s p k found
 unfolding RunIs
 run_is_by w s p k None same never = λ run back. never (run, subst (λ (x : State). BringsBack w x p.pid k run) (sym same) back)
 run_is_by w s p k (Some run) same back = subst (λ (x : State). BringsBack w x p.pid k run) same back
 
-run_is : (w : World) (s : State) (q : Query) (p : Process) (k : ℕ) → StateFollows s → Asks q s p (Uid k) → length s.processes ≡ 1 → RunIs w s p k (way_back p.cred p.pid k)
+run_is : (w : World) (s : State) (q : Query) (p : Process) (k : ℕ) → StateFollows s → Asks q s p (Uid k) → length s.processes ≡ 1 → RunIs w s p k (run_back p.cred p.pid k)
 run_is w s q p k follow asks one =
     let found : (n : ℕ) × (process_at s.processes n ≡ Some p) = found_pid s (pid_token q.pid) p asks.process in
     let only : (s.processes ≡ p ∷ []) × (p.pid ≡ found.0) = one_of_one s.processes found.0 p one found.1 in
     let all : AllFollow (p ∷ []) = subst (λ (ps : List Process). AllFollow ps) only.0 follow.processes in
-    run_is_by w s p k (way_back p.cred p.pid k) (alone_is s p follow.spaces only.0 all.0) (way_back_is w p.pid p.forebear p.cred k all.1 (asked_id q.right k asks.asked))
+    run_is_by w s p k (run_back p.cred p.pid k) (alone_is s p follow.spaces only.0 all.0) (run_back_is w p.pid p.forebear p.cred k all.1 (asked_id q.right k asks.asked))
 
 -- ---- the answer by what is asked
 of_asks : (more : Bool) (s : State) (q : Query) (p : Process) (right : Right) → Asks q s p right → verdict more s q ≡ right_verdict more s p right
@@ -154,7 +154,7 @@ beyond_uid more s p (Gid k) other = refl
 beyond_uid more s p (Cap cap n) other = refl
 
 beyond_one : (more one : Bool) (s : State) (p : Process) (right : Right) → (length s.processes == 1) ≡ one → (not more && one) ≡ false → (right_verdict more s p right).status ≡ status.NotBuilt
-beyond_one more one s p (Uid k) is beyond = ap (λ (b : Bool). (cond b (run_verdict p.pid (way_back p.cred p.pid k)) not_built).status) (ap (λ (b : Bool). not more && b) is ∙ beyond)
+beyond_one more one s p (Uid k) is beyond = ap (λ (b : Bool). (cond b (run_verdict p.pid (run_back p.cred p.pid k)) not_built).status) (ap (λ (b : Bool). not more && b) is ∙ beyond)
 beyond_one more one s p (Gid k) is beyond = refl
 beyond_one more one s p (Cap cap n) is beyond = refl
 
@@ -181,15 +181,15 @@ module _ (words : List (List ℕ)) (bytes : List ℕ → List ℕ) (is : IsAccep
   run_cause p k asks None never = (p, k, asks, never)
   run_cause p k asks (Some run) back = (p, k, asks, (run, back))
 
-  run_of_alone : (p : Process) (k : ℕ) → AsksAlone words bytes is q p k → RunIs is.world is.state p k (way_back p.cred p.pid k)
+  run_of_alone : (p : Process) (k : ℕ) → AsksAlone words bytes is q p k → RunIs is.world is.state p k (run_back p.cred p.pid k)
   run_of_alone p k asks = run_is is.world is.state q p k (accepted_follows words bytes is asks.known) asks.asks asks.alone
 
   uid_cause : (p : Process) (k : ℕ) → Asks q is.state p (Uid k) → (more one : Bool) → has_more words bytes is ≡ more → (length is.state.processes == 1) ≡ one
-      → VerdictCause words bytes is q (cond (not more && one) (run_verdict p.pid (way_back p.cred p.pid k)) not_built).status
+      → VerdictCause words bytes is q (cond (not more && one) (run_verdict p.pid (run_back p.cred p.pid k)) not_built).status
   uid_cause p k asks true one is_more is_one = (p, Uid k, asks, inr (inr (some_more (text_says_more (bytes is.comes.begins.names.world)) (are_setresuids (events_of is.comes.events)) is_more)))
   uid_cause p k asks false true is_more is_one =
       let only : AsksAlone words bytes is q p k = record { asks = asks; alone = same_number (length is.state.processes) 1 is_one; known = is_known words bytes is is_more } in
-      run_cause p k only (way_back p.cred p.pid k) (run_of_alone p k only)
+      run_cause p k only (run_back p.cred p.pid k) (run_of_alone p k only)
   uid_cause p k asks false false is_more is_one =
       let found : (n : ℕ) × (process_at is.state.processes n ≡ Some p) = found_pid is.state (pid_token q.pid) p asks.process in
       (p, Uid k, asks, inr (inl (several is.state.processes found.0 p found.1 is_one)))
@@ -210,11 +210,11 @@ module _ (words : List (List ℕ)) (bytes : List ℕ → List ℕ) (is : IsAccep
 
   -- ---- and a cause makes its answer
   -- the answer where one process is asked for a user id
-  pub of_alone : (p : Process) (k : ℕ) → AsksAlone words bytes is q p k → log_verdict ≡ run_verdict p.pid (way_back p.cred p.pid k)
+  pub of_alone : (p : Process) (k : ℕ) → AsksAlone words bytes is q p k → log_verdict ≡ run_verdict p.pid (run_back p.cred p.pid k)
   of_alone p k asks =
       of_asks (has_more words bytes is) is.state q p (Uid k) asks.asks
-      ∙ ap (λ (more : Bool). cond (not more && length is.state.processes == 1) (run_verdict p.pid (way_back p.cred p.pid k)) not_built) (known_is words bytes is asks.known)
-      ∙ ap (λ (one : Bool). cond one (run_verdict p.pid (way_back p.cred p.pid k)) not_built) (eq-eqb (length is.state.processes) 1 asks.alone)
+      ∙ ap (λ (more : Bool). cond (not more && length is.state.processes == 1) (run_verdict p.pid (run_back p.cred p.pid k)) not_built) (known_is words bytes is asks.known)
+      ∙ ap (λ (one : Bool). cond one (run_verdict p.pid (run_back p.cred p.pid k)) not_built) (eq-eqb (length is.state.processes) 1 asks.alone)
 
   yes_status : (p : Process) (k : ℕ) (found : Option (List Event)) → RunIs is.world is.state p k found → ((run : List Event) → ¬ BringsBack is.world is.state p.pid k run) → (run_verdict p.pid found).status ≡ status.Accepted
   unfolding RunIs
@@ -235,8 +235,8 @@ module _ (words : List (List ℕ)) (bytes : List ℕ → List ℕ) (is : IsAccep
   beyond_several p right more = beyond_one (has_more words bytes is) false is.state p right (not_one (length is.state.processes) more) (never (has_more words bytes is))
 
   pub verdict_by : (st : Status) → VerdictCause words bytes is q st → log_verdict.status ≡ st
-  verdict_by status.Accepted (p, k, asks, never) = ap (λ (r : Report). r.status) (of_alone p k asks) ∙ yes_status p k (way_back p.cred p.pid k) (run_of_alone p k asks) never
-  verdict_by status.No (p, k, asks, back) = ap (λ (r : Report). r.status) (of_alone p k asks) ∙ no_status p k (way_back p.cred p.pid k) (run_of_alone p k asks) back
+  verdict_by status.Accepted (p, k, asks, never) = ap (λ (r : Report). r.status) (of_alone p k asks) ∙ yes_status p k (run_back p.cred p.pid k) (run_of_alone p k asks) never
+  verdict_by status.No (p, k, asks, back) = ap (λ (r : Report). r.status) (of_alone p k asks) ∙ no_status p k (run_back p.cred p.pid k) (run_of_alone p k asks) back
   verdict_by status.BadQuery (inl none) = ap (λ (o : Option Process). (asked_verdict (has_more words bytes is) is.state o (right_token q.right)).status) none
   verdict_by status.BadQuery (inr (p, found, none)) =
       ap (λ (o : Option Process). (asked_verdict (has_more words bytes is) is.state o (right_token q.right)).status) found
@@ -250,7 +250,7 @@ module _ (words : List (List ℕ)) (bytes : List ℕ → List ℕ) (is : IsAccep
   pub no_shows : (p : Process) (k : ℕ) → AsksAlone words bytes is q p k → CanComeBack is.world is.state p.pid k
       → (run : List Event) × BringsBack is.world is.state p.pid k run × (log_verdict ≡ run_verdict p.pid (Some run))
   unfolding RunIs
-  no_shows p k asks back = shown (way_back p.cred p.pid k) (run_of_alone p k asks) (of_alone p k asks)
+  no_shows p k asks back = shown (run_back p.cred p.pid k) (run_of_alone p k asks) (of_alone p k asks)
     where
       shown : (found : Option (List Event)) → RunIs is.world is.state p k found → log_verdict ≡ run_verdict p.pid found
           → (run : List Event) × BringsBack is.world is.state p.pid k run × (log_verdict ≡ run_verdict p.pid (Some run))

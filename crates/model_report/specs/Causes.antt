@@ -7,7 +7,7 @@ use Rattle.model_cred.specs.Process.{Process, State}
 use Rattle.model_cred.specs.Right.{Right, Uid}
 use Rattle.model_cred.specs.World.{World}
 use Rattle.model_run.specs.Step.{Step, Run}
-use Rattle.model_run.specs.WayBack.{are_setresuids, BringsBack, CanComeBack}
+use Rattle.model_run.specs.RunBack.{are_setresuids, BringsBack, CanComeBack}
 use Rattle.model_report.specs.Command.{Later, NoForm, command_of, files_of, query_of}
 use Rattle.model_report.specs.Query.{Query, asked_process, right_token}
 use Rattle.model_report.specs.Report.{world_limit, log_limit}

@@ -7,7 +7,7 @@ use Rattle.model_cred.specs.Call.{Event}
 use Rattle.model_cred.specs.Process.{Process, State, process_at}
 use Rattle.model_cred.specs.World.{World}
 use Rattle.model_run.specs.Step.{Step, outcome}
-use Rattle.model_run.specs.WayBack.{BringsBack}
+use Rattle.model_run.specs.RunBack.{BringsBack}
 use Rattle.model_report.specs.Causes.{Begins, Cause, IsAccepted, IsImpossible, IsStopped, AsksAlone, IsYes}
 use Rattle.model_report.specs.Command.{command_of, query_of}
 use Rattle.model_report.specs.Query.{Query}

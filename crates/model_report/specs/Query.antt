@@ -1,5 +1,6 @@
 -- What an audit asks for: the text of a pid, and the text of a right (choice).
 use Rattle.std.specs.Prelude.{ℕ, ◌+◌, ◌==◌, nat_lt, codes, bytes_eq, length, take, drop, position, List, Option, Some, None, if◌then◌else◌, option_and_then, option_map}
+use Rattle.cm_base.specs.Limits.{id_count}
 use Rattle.cm_base.specs.Names.{cap_of}
 use Rattle.model_cred.specs.Process.{Process, State, process_at}
 use Rattle.model_cred.specs.Right.{Right, Cap, Uid, Gid}
@@ -15,7 +16,7 @@ rest_after front text = if bytes_eq (take (length front) text) front then Some (
 
 -- the number, where it is an id
 abbrev pub as_id : ℕ → Option ℕ
-as_id n = if nat_lt n 4294967295 then Some n else None
+as_id n = if nat_lt n id_count then Some n else None
 
 -- an id: a number of at most 4294967294
 abbrev pub id_number : List ℕ → Option ℕ

@@ -7,7 +7,7 @@ use Rattle.model_cred.specs.Call.{Event}
 use Rattle.model_cred.specs.Process.{Process, State}
 use Rattle.model_cred.specs.Right.{Right, Cap, Uid, Gid}
 use Rattle.model_cred.specs.World.{World}
-use Rattle.model_run.specs.WayBack.{are_setresuids, way_back}
+use Rattle.model_run.specs.RunBack.{are_setresuids, run_back}
 use Rattle.model_report.specs.Command.{Command, Replay, Audit, Later, NoForm, command_of}
 use Rattle.model_report.specs.Query.{Query, asked_process, right_token}
 use Rattle.model_report.specs.Replay.{ReportLine, Credentials, Plain, Report, says, after, at_line, not_built, limit_hit, replayed, state_after}
@@ -30,7 +30,7 @@ run_verdict pid (Some run) = record { status = status.No; lines = run_lines pid 
 -- the answer about a right of a process of a state. So far it is built for a user id where one process lives, whose sets
 -- follow its user ids: not after a world that says more of it than these, nor after other calls than setresuid.
 abbrev pub right_verdict : Bool → State → Process → Right → Report
-right_verdict more s p (Uid k) = if not more && length s.processes == 1 then run_verdict p.pid (way_back p.cred p.pid k) else not_built
+right_verdict more s p (Uid k) = if not more && length s.processes == 1 then run_verdict p.pid (run_back p.cred p.pid k) else not_built
 right_verdict more s p (Gid k) = not_built
 right_verdict more s p (Cap cap n) = not_built
 

@@ -1,6 +1,7 @@
 -- The calls that change a process's sets of capabilities, its securebits and no_new_privs (capset(2), prctl(2),
 -- capabilities(7)).
-use Rattle.std.specs.Prelude.{ℕ, ◌==◌, ◌&&◌, ◌||◌, Bool, true, not, nat_lt, bit_and, bit_xor, if◌then◌else◌}
+use Rattle.std.specs.Prelude.{ℕ, ◌^◌, ◌==◌, ◌&&◌, ◌||◌, Bool, true, not, nat_lt, bit_and, bit_xor, if◌then◌else◌}
+use Rattle.cm_base.specs.Limits.{securebit_count}
 use Rattle.cm_base.specs.CapSet.{holds, is_within, union, meet, minus, none, with, without}
 use Rattle.cm_base.specs.declared.errno.Errno.TheVariants.{EPERM, EINVAL}
 use Rattle.model_cred.specs.Credential.{Credential}
@@ -64,13 +65,13 @@ abbrev pub amb_clear : Credential → Answer
 amb_clear c = done (record c { ambient = none })
 
 -- The new securebits are allowed (prctl(2), PR_SET_SECUREBITS; capabilities(7), "The securebits flags"): the caller has
--- CAP_SETPCAP, no locked flag changes, no lock is cleared, and there is no bit above 0xff (choice).
+-- CAP_SETPCAP, no locked flag changes, no lock is cleared, and there is no other bit (choice).
 abbrev pub may_secure : Credential → ℕ → Bool
 may_secure c bits =
     has_setpcap c
     && bit_and (bit_xor c.securebits bits) (locked_flags c.securebits) == 0
     && is_within (bit_and c.securebits locks) bits
-    && nat_lt bits 256
+    && nat_lt bits (2 ^ securebit_count)
 
 -- prctl(2), PR_SET_SECUREBITS: EPERM where the new securebits aren't allowed
 abbrev pub secure_bits : Credential → ℕ → Answer

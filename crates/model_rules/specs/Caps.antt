@@ -1,6 +1,6 @@
 -- The capabilities that the rules name, by their numbers (capabilities(7), "Capabilities list").
-use Rattle.std.specs.Prelude.{ℕ, List, [], ◌∷◌}
-use Rattle.cm_base.specs.CapSet.{none, with}
+use Rattle.std.specs.Prelude.{ℕ, ◌-◌, List, [], ◌∷◌}
+use Rattle.cm_base.specs.CapSet.{cap_count, none, with}
 
 -- CAP_CHOWN
 abbrev pub cap_chown : ℕ
@@ -54,9 +54,9 @@ cap_setfcap = 31
 abbrev pub cap_mac_override : ℕ
 cap_mac_override = 32
 
--- the highest number of a capability, CAP_CHECKPOINT_RESTORE
+-- the last capability, CAP_CHECKPOINT_RESTORE
 abbrev pub last_cap : ℕ
-last_cap = 40
+last_cap = cap_count - 1
 
 -- the set of the capabilities in a list
 abbrev pub caps_of : List ℕ → ℕ

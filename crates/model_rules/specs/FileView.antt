@@ -5,7 +5,7 @@ use Rattle.std.specs.Prelude.{ℕ, ◌==◌, ◌&&◌, Bool, false, not, bit_and
 use Rattle.std.specs.List.{list_any}
 use Rattle.model_cred.specs.Files.{FileCaps, FileRow, FileTable, Mount}
 use Rattle.model_cred.specs.IdMap.{Extent, down, up, extents_of, is_outside}
-use Rattle.model_cred.specs.Space.{Space, Spaces, is_ancestor, chain, space_of}
+use Rattle.model_cred.specs.Space.{Space, Spaces, is_at_or_above, chain, space_of}
 use Rattle.model_rules.specs.Zero.{zero_of}
 
 -- What counts of a file and its mount: owner, group and the attribute's root id where they have an image, all as the
@@ -59,12 +59,12 @@ attribute_root m caps = option_and_then (λ a. root_on m.fs.uids (mount_uids m) 
 
 -- a row as its mount shows it
 abbrev pub view_on : Mount → FileRow → FileView
-view_on m f = record {
-  owner = id_on m.fs.uids (mount_uids m) f.uid;
-  group = id_on m.fs.gids (mount_gids m) f.gid;
-  root = attribute_root m f.caps;
-  mode = f.mode;
-  caps = f.caps;
+view_on m row = record {
+  owner = id_on m.fs.uids (mount_uids m) row.uid;
+  group = id_on m.fs.gids (mount_gids m) row.gid;
+  root = attribute_root m row.caps;
+  mode = row.mode;
+  caps = row.caps;
   nosuid = m.nosuid;
   noexec = m.noexec;
   space = m.space;
@@ -72,12 +72,12 @@ view_on m f = record {
 
 -- a row with its mount, where that is in the table
 abbrev pub view_if : Option Mount → FileRow → FileView
-view_if (Some m) f = view_on m f
-view_if None f = plain_view
+view_if (Some m) row = view_on m row
+view_if None row = plain_view
 
 -- a row as its mount shows it, where it is in the table
 abbrev pub view_in : FileTable → Option FileRow → FileView
-view_in files (Some f) = view_if (slice_get files.mounts f.mount) f
+view_in files (Some row) = view_if (slice_get files.mounts row.mount) row
 view_in files None = plain_view
 
 -- a row of the table as its mount shows it (a row or a mount that isn't in the table never comes up)
@@ -86,7 +86,7 @@ view files row = view_in files (slice_get files.rows row)
 
 -- one of these mode bits is set
 abbrev pub has_bit : FileView → ℕ → Bool
-has_bit f bits = not (bit_and f.mode bits == 0)
+has_bit file bits = not (bit_and file.mode bits == 0)
 
 -- the optional id is there, and is an outside id of the map
 abbrev pub is_mapped_id : List Extent → Option ℕ → Bool
@@ -95,17 +95,17 @@ is_mapped_id map (Some id) = is_outside map id
 
 -- owner and group are both mapped in the space
 abbrev pub is_mapped_file : Space → FileView → Bool
-is_mapped_file s f = is_mapped_id (extents_of s.uids) f.owner && is_mapped_id (extents_of s.gids) f.group
+is_mapped_file s file = is_mapped_id (extents_of s.uids) file.owner && is_mapped_id (extents_of s.gids) file.group
 
 -- Programs of the mount may raise privilege in the space: the mount isn't nosuid, and the space is the mount's or below
 -- it (mount(2), MS_NOSUID; that the space matters is a choice).
 abbrev pub may_raise_in : Spaces → ℕ → FileView → Bool
-may_raise_in spaces n f = not f.nosuid && is_ancestor spaces f.space n
+may_raise_in spaces n file = not file.nosuid && is_at_or_above spaces file.space n
 
 -- Set-id bits count in the space: moreover owner and group are both mapped in it (user_namespaces(7), "Set-user-ID and
 -- set-group-ID programs").
 abbrev pub allows_set_id : Spaces → ℕ → FileView → Bool
-allows_set_id spaces n f = may_raise_in spaces n f && is_mapped_file (space_of spaces n) f
+allows_set_id spaces n file = may_raise_in spaces n file && is_mapped_file (space_of spaces n) file
 
 -- the two optional ids are there and are one
 abbrev pub is_same_id : Option ℕ → Option ℕ → Bool
@@ -116,5 +116,5 @@ is_same_id None b = false
 -- The attribute takes effect in the space: there is one, programs of the mount may raise privilege in the space, and the
 -- space or one above it has the attribute's root id as its inside 0 (capabilities(7), "Namespaced file capabilities").
 abbrev pub takes_attribute : Spaces → ℕ → FileView → Bool
-takes_attribute spaces n f =
-    is_some f.caps && may_raise_in spaces n f && list_any (λ m. is_same_id f.root (zero_of (space_of spaces m))) (chain spaces n)
+takes_attribute spaces n file =
+    is_some file.caps && may_raise_in spaces n file && list_any (λ m. is_same_id file.root (zero_of (space_of spaces m))) (chain spaces n)

@@ -1,6 +1,9 @@
 -- Writing the two maps of a space and its setgroups word (user_namespaces(7), "Defining user and group ID mappings:
 -- writing to uid_map and gid_map" and "The /proc/pid/setgroups file"). What is alike for the two maps is said once.
-use Rattle.std.specs.Prelude.{ℕ, ◌+◌, ◌-◌, ◌==◌, ◌&&◌, ◌||◌, Bool, true, false, not, is_none, nat_le, List, [], ◌∷◌, Option, None, Some, option_map, option_and_then, if◌then◌else◌}
+-- `given` is the list that is written, its outside ids as the target's parent sees them; `stored` is that list as the
+-- target keeps it, its outside ids as the initial space sees them.
+use Rattle.std.specs.Prelude.{ℕ, ◌+◌, ◌-◌, ◌==◌, ◌&&◌, ◌||◌, Bool, true, false, not, is_none, nat_le, List, [], ◌∷◌}
+use Rattle.std.specs.Prelude.{Option, None, Some, option_map, option_and_then, if◌then◌else◌}
 use Rattle.std.specs.List.{list_any}
 use Rattle.cm_base.specs.declared.errno.Errno.{Errno}
 use Rattle.cm_base.specs.declared.errno.Errno.TheVariants.{EPERM, EINVAL}
@@ -66,8 +69,8 @@ extent_down (p ∷ map) e =
 -- the list with its outsides as the initial space sees them, where each lies in one extent of the parent's map
 abbrev pub list_down : List Extent → List Extent → Option (List Extent)
 list_down map [] = Some []
-list_down map (e ∷ list) =
-    option_and_then (λ first. option_map (λ rest. first ∷ rest) (list_down map list)) (extent_down map e)
+list_down map (e ∷ given) =
+    option_and_then (λ first. option_map (λ rest. first ∷ rest) (list_down map given)) (extent_down map e)
 
 -- a process in the space `at` has the capability over the parent of a space
 abbrev pub has_over_parent : Spaces → ℕ → Credential → ℕ → Option ℕ → Bool
@@ -82,60 +85,61 @@ may_write file spaces at c target =
     && (at == target || is_the (space_of spaces target).parent at)
     && has_over spaces at c (cap_for file) target
 
--- an outside range of the list holds the parent's id 0
+-- an outside range of the given list holds the parent's id 0
 abbrev pub maps_zero : List Extent → Bool
-maps_zero list = list_any (λ e. lies_in e.outside e.length 0) list
+maps_zero given = list_any (λ e. lies_in e.outside e.length 0) given
 
 -- A uid_map that maps the parent's id 0 needs CAP_SETFCAP: a writer in the parent has it over the parent; for a writer
 -- in the target the process that made the target had it.
 abbrev pub setfcap_allows : MapFile → Spaces → ℕ → Credential → Space → List Extent → Bool
-setfcap_allows GidMap spaces at c t list = true
-setfcap_allows UidMap spaces at c t list =
-    not (maps_zero list) || (if is_the t.parent at then has_over_parent spaces at c cap_setfcap t.parent else t.creator_setfcap)
+setfcap_allows GidMap spaces at c t given = true
+setfcap_allows UidMap spaces at c t given =
+    not (maps_zero given) || (if is_the t.parent at then has_over_parent spaces at c cap_setfcap t.parent else t.creator_setfcap)
 
 -- the list is one extent of one id, which outside is this one
 abbrev pub is_single : List Extent → ℕ → Bool
 is_single [] id = false
 is_single (e ∷ []) id = e.length == 1 && e.outside == id
-is_single (e ∷ f ∷ list) id = false
+is_single (e ∷ f ∷ rest) id = false
 
 -- a gid_map of one id wants the word "deny" in the setgroups file
 abbrev pub word_allows : MapFile → Space → Bool
 word_allows UidMap t = true
 word_allows GidMap t = t.deny
 
--- Without power over the parent: the list is the writer's own effective id alone, and the writer's effective user id is
+-- Without power over the parent: the stored list is the writer's own effective id alone, and the writer's effective user id is
 -- that of the space's owner.
 abbrev pub is_own_map : MapFile → Credential → Space → List Extent → Bool
-is_own_map file c t mapped = is_single mapped (effective_id file c) && t.owner == c.uid.effective && word_allows file t
+is_own_map file c t stored = is_single stored (effective_id file c) && t.owner == c.uid.effective && word_allows file t
 
 -- The writer may map these ids: by CAP_SETUID (CAP_SETGID) over the parent any, else its own alone.
 abbrev pub may_map : MapFile → Spaces → ℕ → Credential → Space → List Extent → Bool
-may_map file spaces at c t mapped = has_over_parent spaces at c (cap_for file) t.parent || is_own_map file c t mapped
+may_map file spaces at c t stored = has_over_parent spaces at c (cap_for file) t.parent || is_own_map file c t stored
 
--- the write of a list whose ids are as the initial space sees them, or EPERM where one isn't mapped in the parent
-abbrev pub write_mapped : MapFile → Spaces → ℕ → Credential → ℕ → List Extent → Option (List Extent) → Written
-write_mapped file spaces at c target list None = write_refused EPERM spaces
-write_mapped file spaces at c target list (Some mapped) =
-    if setfcap_allows file spaces at c (space_of spaces target) list && may_map file spaces at c (space_of spaces target) mapped
-    then write_done spaces target (with_map file (space_of spaces target) mapped)
+-- the write of a list with what would be stored of it, or EPERM where nothing can be: an outside id isn't mapped in the
+-- parent
+abbrev pub write_stored : MapFile → Spaces → ℕ → Credential → ℕ → List Extent → Option (List Extent) → Written
+write_stored file spaces at c target given None = write_refused EPERM spaces
+write_stored file spaces at c target given (Some stored) =
+    if setfcap_allows file spaces at c (space_of spaces target) given && may_map file spaces at c (space_of spaces target) stored
+    then write_done spaces target (with_map file (space_of spaces target) stored)
     else write_refused EPERM spaces
 
 -- Writing a map: EPERM where the writer may not write to it; EINVAL for a list that is no map; EPERM where an outside
 -- range doesn't lie in one extent of the parent's map, or the writer may not map these ids (the order is a choice).
 abbrev pub write_map : MapFile → Spaces → ℕ → Credential → ℕ → List Extent → Written
-write_map file spaces at c target list =
+write_map file spaces at c target given =
     if not (may_write file spaces at c target) then write_refused EPERM spaces
-    else if not (is_map list) then write_refused EINVAL spaces
-    else write_mapped file spaces at c target list (list_down (parent_map file spaces (space_of spaces target)) list)
+    else if not (is_map given) then write_refused EINVAL spaces
+    else write_stored file spaces at c target given (list_down (parent_map file spaces (space_of spaces target)) given)
 
 -- writing uid_map
 abbrev pub write_uid_map : Spaces → ℕ → Credential → ℕ → List Extent → Written
-write_uid_map spaces at c target list = write_map UidMap spaces at c target list
+write_uid_map spaces at c target given = write_map UidMap spaces at c target given
 
 -- writing gid_map
 abbrev pub write_gid_map : Spaces → ℕ → Credential → ℕ → List Extent → Written
-write_gid_map spaces at c target list = write_map GidMap spaces at c target list
+write_gid_map spaces at c target given = write_map GidMap spaces at c target given
 
 -- the word may be written: not "deny" once gid_map is written, not "allow" once the word is "deny"
 abbrev pub may_say : Space → Bool → Bool

@@ -2,6 +2,7 @@
 use Rattle.std.specs.Prelude.{ℕ, ◌==◌, ◌&&◌, Bool, not, nat_lt, None, Some, if◌then◌else◌}
 use Rattle.cm_base.specs.CapSet.{holds, full, none}
 use Rattle.cm_base.specs.declared.errno.Errno.TheVariants.{EPERM, EINVAL, ENOSPC}
+use Rattle.cm_base.specs.declared.res.Res.{Res}
 use Rattle.model_cred.specs.Credential.{Credential}
 use Rattle.model_cred.specs.IdMap.{extents_of, is_outside}
 use Rattle.model_cred.specs.Space.{Space, Spaces, level, space_of}
@@ -22,14 +23,19 @@ as_newcomer c = record c { permitted = full; effective = full; bounding = full; 
 abbrev pub is_mapped_in : Space → Credential → Bool
 is_mapped_in s c = is_outside (extents_of s.uids) c.uid.effective && is_outside (extents_of s.gids) c.gid.effective
 
--- Making a space, by unshare(2) for the caller or by clone(2) for the child: ENOSPC where the caller's space is at the
--- deepest level (unshare(2), "ERRORS"; user_namespaces(7) has its older name EUSERS), then EPERM where the effective user
--- or group id isn't mapped in it (the order is a choice).
-abbrev pub create : Spaces → ℕ → Credential → Answer
-create spaces at c =
+-- unshare(2) with CLONE_NEWUSER: ENOSPC where the caller's space is at the deepest level (unshare(2), "ERRORS";
+-- user_namespaces(7) has its older name EUSERS), then EPERM where the effective user or group id isn't mapped in it (the
+-- order is a choice); else the caller comes into the space that it makes.
+abbrev pub unshare : Spaces → ℕ → Credential → Answer
+unshare spaces at c =
     if not (nat_lt (level spaces at) deepest) then refused ENOSPC c
     else if not (is_mapped_in (space_of spaces at) c) then refused EPERM c
     else done (as_newcomer c)
+
+-- The refusal of clone(2) with CLONE_NEWUSER, for the same reasons as that of unshare(2), or done: then the child, and
+-- not the caller, comes into the space that is made.
+abbrev pub clone_user : Spaces → ℕ → Credential → Res
+clone_user spaces at c = (unshare spaces at c).res
 
 -- The space that a process in the space `at` makes: that is its parent, the effective user id its owner
 -- (user_namespaces(7), "Capabilities"); no maps yet, the setgroups word of the parent ("The /proc/pid/setgroups file"),

@@ -1,17 +1,20 @@
--- What the rules answer a caller, what becomes of the caller, and what becomes of the spaces. What births and exits do
--- to the processes stands apart (they depend on which pids are alive).
+-- What the rules answer a caller, what becomes of the caller, and what becomes of the spaces. What births and exits
+-- answer, and what they do to the processes, stands apart (it depends on which pids are alive).
 use Rattle.std.specs.Prelude.{ℕ, length, ◌∷◌}
 use Rattle.cm_base.specs.declared.res.Res.{Res}
 use Rattle.cm_base.specs.declared.res.Res.TheVariants.{Done}
-use Rattle.model_cred.specs.Call.{Call, SetUid, SetReUid, SetResUid, SetFsUid, SetGid, SetReGid, SetResGid, SetFsGid, SetGroups, CapSet, BsetDrop, AmbRaise, AmbLower, AmbClear, SecureBits, KeepCaps, NoNewPrivs, Fork, CloneUser, Unshare, SetNs, WriteUidMap, WriteGidMap, WriteSetgroups, Exec, Exit}
+use Rattle.model_cred.specs.Call.{Call, SetUid, SetReUid, SetResUid, SetFsUid, SetGid, SetReGid, SetResGid, SetFsGid}
+use Rattle.model_cred.specs.Call.{SetGroups, CapSet, BsetDrop, AmbRaise, AmbLower, AmbClear, SecureBits, KeepCaps}
+use Rattle.model_cred.specs.Call.{NoNewPrivs, Fork, CloneUser, Unshare, SetNs, WriteUidMap, WriteGidMap, WriteSetgroups}
+use Rattle.model_cred.specs.Call.{Exec, Exit}
 use Rattle.model_cred.specs.Credential.{Credential}
 use Rattle.model_cred.specs.Files.{FileTable}
 use Rattle.model_cred.specs.Space.{Spaces, space_of}
-use Rattle.model_rules.specs.Answer.{Answer, done}
+use Rattle.model_rules.specs.Answer.{Answer}
 use Rattle.model_rules.specs.CapCalls.{capset, bset_drop, amb_raise, amb_lower, amb_clear, secure_bits, set_keep_caps, set_no_new_privs}
 use Rattle.model_rules.specs.Exec.{execve}
 use Rattle.model_rules.specs.Maps.{Written, write_uid_map, write_gid_map, write_setgroups}
-use Rattle.model_rules.specs.Namespaces.{create, created_by, join}
+use Rattle.model_rules.specs.Namespaces.{unshare, clone_user, created_by, join}
 use Rattle.model_rules.specs.SetGroups.{setgroups}
 use Rattle.model_rules.specs.SetId.{setuid, setreuid, setresuid, setfsuid, setgid, setregid, setresgid, setfsgid}
 
@@ -38,8 +41,12 @@ goes_to at target answer = record { res = answer.res; space = place_after answer
 abbrev pub writes : ℕ → Credential → Written → Reply
 writes at c w = record { res = w.res; space = at; cred = c }
 
--- What the rules answer a caller in the space `at` with that credential. fork, clone and exit leave it as it was; of
--- clone_user this is the refusal of a new space, if there is one.
+-- what stands in the place of a reply to a birth or an exit, which has none
+abbrev pub no_reply : ℕ → Credential → Reply
+no_reply at c = record { res = Done; space = at; cred = c }
+
+-- What the rules answer a caller in the space `at` with that credential. A birth and an exit have no reply: what they
+-- give is said of a state with its processes.
 abbrev pub reply : FileTable → Spaces → ℕ → Credential → Call → Reply
 reply files spaces at c (SetUid id) = stays at (setuid (space_of spaces at) c id)
 reply files spaces at c (SetReUid r e) = stays at (setreuid (space_of spaces at) c r e)
@@ -58,15 +65,15 @@ reply files spaces at c AmbClear = stays at (amb_clear c)
 reply files spaces at c (SecureBits bits) = stays at (secure_bits c bits)
 reply files spaces at c (KeepCaps argument) = stays at (set_keep_caps c argument)
 reply files spaces at c (NoNewPrivs argument) = stays at (set_no_new_privs c argument)
-reply files spaces at c Fork = stays at (done c)
-reply files spaces at c CloneUser = stays at (record (create spaces at c) { cred = c })
-reply files spaces at c Unshare = goes_to at (length spaces) (create spaces at c)
+reply files spaces at c Fork = no_reply at c
+reply files spaces at c CloneUser = no_reply at c
+reply files spaces at c Unshare = goes_to at (length spaces) (unshare spaces at c)
 reply files spaces at c (SetNs target) = goes_to at target (join spaces at c target)
-reply files spaces at c (WriteUidMap target list) = writes at c (write_uid_map spaces at c target list)
-reply files spaces at c (WriteGidMap target list) = writes at c (write_gid_map spaces at c target list)
+reply files spaces at c (WriteUidMap target given) = writes at c (write_uid_map spaces at c target given)
+reply files spaces at c (WriteGidMap target given) = writes at c (write_gid_map spaces at c target given)
 reply files spaces at c (WriteSetgroups target deny) = writes at c (write_setgroups spaces at c target deny)
-reply files spaces at c (Exec f) = stays at (execve files spaces at c f)
-reply files spaces at c Exit = stays at (done c)
+reply files spaces at c (Exec name) = stays at (execve files spaces at c name)
+reply files spaces at c Exit = no_reply at c
 
 -- the spaces and the new one where it is made, else the spaces
 abbrev pub spaces_with : Res → Spaces → ℕ → Credential → Spaces
@@ -75,9 +82,9 @@ spaces_with _ spaces at c = spaces
 
 -- The spaces after a call: making one adds the newest, a write changes one, and all other calls leave them.
 abbrev pub spaces_after : Spaces → ℕ → Credential → Call → Spaces
-spaces_after spaces at c CloneUser = spaces_with (create spaces at c).res spaces at c
-spaces_after spaces at c Unshare = spaces_with (create spaces at c).res spaces at c
-spaces_after spaces at c (WriteUidMap target list) = (write_uid_map spaces at c target list).spaces
-spaces_after spaces at c (WriteGidMap target list) = (write_gid_map spaces at c target list).spaces
+spaces_after spaces at c CloneUser = spaces_with (clone_user spaces at c) spaces at c
+spaces_after spaces at c Unshare = spaces_with (unshare spaces at c).res spaces at c
+spaces_after spaces at c (WriteUidMap target given) = (write_uid_map spaces at c target given).spaces
+spaces_after spaces at c (WriteGidMap target given) = (write_gid_map spaces at c target given).spaces
 spaces_after spaces at c (WriteSetgroups target deny) = (write_setgroups spaces at c target deny).spaces
 spaces_after spaces at c _ = spaces

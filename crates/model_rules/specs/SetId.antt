@@ -13,11 +13,8 @@ use Rattle.model_cred.specs.Space.{Space}
 use Rattle.model_rules.specs.Answer.{Answer, done, refused}
 use Rattle.model_rules.specs.Caps.{cap_setgid}
 use Rattle.model_rules.specs.Fixups.{fixed_up, fs_fixed_up}
+pub use Rattle.cm_base.specs.Limits.{minus_one}
 pub use Rattle.model_rules.specs.Caps.{cap_setuid}
-
--- The argument -1, which leaves an id as it is.
-abbrev pub minus_one : ℕ
-minus_one = 4294967295
 
 -- the argument isn't -1
 abbrev pub is_given : ℕ → Bool
@@ -44,8 +41,8 @@ all_mapped _ _ _ then_ids = Err EINVAL
 
 -- The new ids, or the error, of setresuid and setresgid: a given id without a mapping is refused by EINVAL; without
 -- the capability each must be the old real, effective or saved id, else EPERM; the fs id becomes the effective one.
-abbrev pub set_res : List Extent → Bool → FourIds → ℕ → ℕ → ℕ → Result FourIds Errno
-set_res map privileged old r e s =
+abbrev pub setresid : List Extent → Bool → FourIds → ℕ → ℕ → ℕ → Result FourIds Errno
+setresid map privileged old r e s =
     all_mapped (asked map old.real r) (asked map old.effective e) (asked map old.saved s) (λ real effective saved.
     if privileged || (is_one_of_three old real && is_one_of_three old effective && is_one_of_three old saved)
     then Ok (record { real = real; effective = effective; saved = saved; fs = effective })
@@ -59,8 +56,8 @@ saved_after old r e effective = if is_given r || (is_given e && not (effective =
 -- The new ids, or the error, of setreuid and setregid: a given id without a mapping is refused by EINVAL; without the
 -- capability the real id must be the old real or effective one, the effective id the old real, effective or saved one,
 -- else EPERM; the fs id becomes the effective one.
-abbrev pub set_re : List Extent → Bool → FourIds → ℕ → ℕ → Result FourIds Errno
-set_re map privileged old r e =
+abbrev pub setreid : List Extent → Bool → FourIds → ℕ → ℕ → Result FourIds Errno
+setreid map privileged old r e =
     both_mapped (asked map old.real r) (asked map old.effective e) (λ real effective.
     if privileged || ((real == old.real || real == old.effective) && is_one_of_three old effective)
     then Ok (record { real = real; effective = effective; saved = saved_after old r e effective; fs = effective })
@@ -69,8 +66,8 @@ set_re map privileged old r e =
 -- The new ids, or the error, of setuid and setgid: an id without a mapping, as -1, is refused by EINVAL; with the
 -- capability all become the id; without it the effective one alone does, which must be the old real or saved one, else
 -- EPERM; the fs id becomes the effective one.
-abbrev pub set_one : List Extent → Bool → FourIds → ℕ → Result FourIds Errno
-set_one map privileged old argument =
+abbrev pub setid : List Extent → Bool → FourIds → ℕ → Result FourIds Errno
+setid map privileged old argument =
     one_mapped (down map argument) (λ id.
     if privileged then Ok (all_four id)
     else if id == old.real || id == old.saved then Ok (record old { effective = id; fs = id })
@@ -82,12 +79,16 @@ with_fs privileged old None = old
 with_fs privileged old (Some id) = if privileged || is_one_of_three old id || id == old.fs then record old { fs = id } else old
 
 -- the new ids of setfsuid and setfsgid, which have no error: an id without a mapping changes nothing
-abbrev pub set_fs : List Extent → Bool → FourIds → ℕ → FourIds
-set_fs map privileged old argument = with_fs privileged old (down map argument)
+abbrev pub setfsid : List Extent → Bool → FourIds → ℕ → FourIds
+setfsid map privileged old argument = with_fs privileged old (down map argument)
 
--- an id as the caller's space sees it, 65534 where it has no mapping (user_namespaces(7), "Unmapped user and group IDs")
+-- the id for one without a mapping (user_namespaces(7), "Unmapped user and group IDs")
+abbrev pub overflow_id : ℕ
+overflow_id = 65534
+
+-- an id as the caller's space sees it, the overflow id where it has no mapping
 abbrev pub seen_id : List Extent → ℕ → ℕ
-seen_id map id = unwrap_or (up map id) 65534
+seen_id map id = unwrap_or (up map id) overflow_id
 
 -- the caller may set user ids as it likes
 abbrev pub has_setuid : Credential → Bool
@@ -109,38 +110,38 @@ with_gids c (Err e) = refused e c
 
 -- setresuid(2)
 abbrev pub setresuid : Space → Credential → ℕ → ℕ → ℕ → Answer
-setresuid s c r e v = with_uids s c (set_res (extents_of s.uids) (has_setuid c) c.uid r e v)
+setresuid s c r e v = with_uids s c (setresid (extents_of s.uids) (has_setuid c) c.uid r e v)
 
 -- setreuid(2)
 abbrev pub setreuid : Space → Credential → ℕ → ℕ → Answer
-setreuid s c r e = with_uids s c (set_re (extents_of s.uids) (has_setuid c) c.uid r e)
+setreuid s c r e = with_uids s c (setreid (extents_of s.uids) (has_setuid c) c.uid r e)
 
 -- setuid(2)
 abbrev pub setuid : Space → Credential → ℕ → Answer
-setuid s c id = with_uids s c (set_one (extents_of s.uids) (has_setuid c) c.uid id)
+setuid s c id = with_uids s c (setid (extents_of s.uids) (has_setuid c) c.uid id)
 
 -- setfsuid(2): it answers the fs id from before
 abbrev pub setfsuid : Space → Credential → ℕ → Answer
 setfsuid s c id = record {
   res = Id (seen_id (extents_of s.uids) c.uid.fs);
-  cred = fs_fixed_up s c.uid.fs (record c { uid = set_fs (extents_of s.uids) (has_setuid c) c.uid id });
+  cred = fs_fixed_up s c.uid.fs (record c { uid = setfsid (extents_of s.uids) (has_setuid c) c.uid id });
 }
 
 -- setresgid(2)
 abbrev pub setresgid : Space → Credential → ℕ → ℕ → ℕ → Answer
-setresgid s c r e v = with_gids c (set_res (extents_of s.gids) (has_setgid c) c.gid r e v)
+setresgid s c r e v = with_gids c (setresid (extents_of s.gids) (has_setgid c) c.gid r e v)
 
 -- setregid(2)
 abbrev pub setregid : Space → Credential → ℕ → ℕ → Answer
-setregid s c r e = with_gids c (set_re (extents_of s.gids) (has_setgid c) c.gid r e)
+setregid s c r e = with_gids c (setreid (extents_of s.gids) (has_setgid c) c.gid r e)
 
 -- setgid(2)
 abbrev pub setgid : Space → Credential → ℕ → Answer
-setgid s c id = with_gids c (set_one (extents_of s.gids) (has_setgid c) c.gid id)
+setgid s c id = with_gids c (setid (extents_of s.gids) (has_setgid c) c.gid id)
 
 -- setfsgid(2): it answers the fs id from before
 abbrev pub setfsgid : Space → Credential → ℕ → Answer
 setfsgid s c id = record {
   res = Id (seen_id (extents_of s.gids) c.gid.fs);
-  cred = record c { gid = set_fs (extents_of s.gids) (has_setgid c) c.gid id };
+  cred = record c { gid = setfsid (extents_of s.gids) (has_setgid c) c.gid id };
 }

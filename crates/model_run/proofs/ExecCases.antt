@@ -65,7 +65,8 @@ pub to_root_it_gives_all : Leads (world_of ping) (one (record (user 0) { permitt
 to_root_it_gives_all = refl
 
 -- a program that would lack what its attribute permits isn't run
-pub a_program_that_would_lack_a_capability_is_refused : IsRefused (world_of ping) (one (record (user 1000) { bounding = 0x1ffffffdfff })) 100 (Exec (Row 0)) EPERM
+pub a_program_that_would_lack_a_capability_is_refused : IsRefused (world_of ping)
+    (one (record (user 1000) { bounding = 0x1ffffffdfff })) 100 (Exec (Row 0)) EPERM
 a_program_that_would_lack_a_capability_is_refused = record { refused = refl; done = refl }
 
 -- not even by root
@@ -122,7 +123,8 @@ pub a_real_root_id_fills_the_permitted_set_alone : Leads world (one (record (use
 a_real_root_id_fills_the_permitted_set_alone = refl
 
 -- a saved root id isn't kept by a program
-pub a_saved_root_id_goes_with_a_program : Leads world (one (record (user 1000) { uid = record (all_four 1000) { saved = 0 }; permitted = full; effective = full }))
+pub a_saved_root_id_goes_with_a_program : Leads world
+    (one (record (user 1000) { uid = record (all_four 1000) { saved = 0 }; permitted = full; effective = full }))
     (done 100 (Exec Plain) ∷ [])
     (one (user 1000))
 a_saved_root_id_goes_with_a_program = refl
@@ -177,7 +179,8 @@ pub the_owner_has_the_owner_bits : IsRefusedToRun (world_of (record file { uid =
 the_owner_has_the_owner_bits = refl
 
 -- the group's bits count for a member by a supplementary group, though others have more
-pub a_member_has_the_group_bits : replay (world_of (record file { gid = 34; mode = 0o705 })) (one (record (user 1000) { groups = 33 ∷ 34 ∷ [] })) (done 100 (Exec (Row 0)) ∷ [])
+pub a_member_has_the_group_bits : replay (world_of (record file { gid = 34; mode = 0o705 }))
+    (one (record (user 1000) { groups = 33 ∷ 34 ∷ [] })) (done 100 (Exec (Row 0)) ∷ [])
     ≡ Wrong (Err EACCES)
 a_member_has_the_group_bits = refl
 
@@ -188,10 +191,13 @@ a_noexec_mount_runs_nothing = refl
 abbrev overriding : Credential
 overriding = record (user 1000) { permitted = 0x2; effective = 0x2 }
 
-pub dac_override_runs_what_has_an_execute_bit : Leads (world_of (record file { mode = 0o010 })) (one overriding) (done 100 (Exec (Row 0)) ∷ []) (one (user 1000))
+pub dac_override_runs_what_has_an_execute_bit : Leads (world_of (record file { mode = 0o010 })) (one overriding)
+    (done 100 (Exec (Row 0)) ∷ []) (one (user 1000))
 dac_override_runs_what_has_an_execute_bit = refl
 
-pub dac_override_runs_nothing_without_one : replay (world_of (record file { mode = 0o666 })) (one overriding) (done 100 (Exec (Row 0)) ∷ []) ≡ Wrong (Err EACCES)
+pub dac_override_runs_nothing_without_one : replay (world_of (record file { mode = 0o666 })) (one overriding)
+    (done 100 (Exec (Row 0)) ∷ [])
+    ≡ Wrong (Err EACCES)
 dac_override_runs_nothing_without_one = refl
 
 -- on a nosuid mount neither bit nor attribute counts

@@ -67,14 +67,18 @@ pub a_pid_may_be_born_again : Leads world after_three (gives 102 Fork (Child 7) 
 a_pid_may_be_born_again = refl
 
 -- the own step of a fork gives the least pid that isn't alive
-pub the_least_free_pid_is_born : (own world (with_processes (process 1 (user 0) ∷ process 2 (user 0) ∷ process 4 (user 0) ∷ [])) (process 2 (user 0)) Fork).res ≡ Child 3
+pub the_least_free_pid_is_born :
+    (own world (with_processes (process 1 (user 0) ∷ process 2 (user 0) ∷ process 4 (user 0) ∷ []))
+    (process 2 (user 0)) Fork).res
+    ≡ Child 3
 the_least_free_pid_is_born = refl
 
 -- pids end at 4194304
 pub past_the_last_pid_there_is_no_child : replay world (one (user 0)) (gives 100 Fork (Child 4194305) ∷ []) ≡ Wrong (Child 1)
 past_the_last_pid_there_is_no_child = refl
 
-pub the_last_pid_is_born : Leads world (one (user 0)) (gives 100 Fork (Child 4194304) ∷ []) (with_processes (process 100 (user 0) ∷ born_of 100 4194304 (user 0) ∷ []))
+pub the_last_pid_is_born : Leads world (one (user 0)) (gives 100 Fork (Child 4194304) ∷ [])
+    (with_processes (process 100 (user 0) ∷ born_of 100 4194304 (user 0) ∷ []))
 the_last_pid_is_born = refl
 
 -- members gain the child of a birth and lose one that exits, and stay where a birth is refused
@@ -96,7 +100,11 @@ a_filter_permits_the_rest = refl
 
 -- a group is held as the effective or a supplementary one, a user id as the effective one alone
 abbrev of_groups : Credential
-of_groups = record (user 1000) { uid = record { real = 0; effective = 1000; saved = 0; fs = 0 }; gid = record { real = 1; effective = 2; saved = 3; fs = 4 }; groups = 5 ∷ 6 ∷ [] }
+of_groups = record (user 1000) {
+  uid = record { real = 0; effective = 1000; saved = 0; fs = 0 };
+  gid = record { real = 1; effective = 2; saved = 3; fs = 4 };
+  groups = 5 ∷ 6 ∷ [];
+}
 
 pub the_effective_group_is_held : process_holds (one of_groups) 100 (Gid 2) ≡ true
 the_effective_group_is_held = refl

@@ -57,7 +57,8 @@ pub a_set_user_id_program_gives_the_owner_that_the_mount_shows : Leads (on_mappe
     (one (record (user 1000) { uid = with_real 1000 100000 }))
 a_set_user_id_program_gives_the_owner_that_the_mount_shows = refl
 
-pub an_owner_that_the_mount_does_not_show_gives_nothing : Leads (on_mapped (record file { uid = 7 })) (one (user 1000)) (done 100 (Exec (Row 0)) ∷ []) (one (user 1000))
+pub an_owner_that_the_mount_does_not_show_gives_nothing : Leads (on_mapped (record file { uid = 7 })) (one (user 1000))
+    (done 100 (Exec (Row 0)) ∷ []) (one (user 1000))
 an_owner_that_the_mount_does_not_show_gives_nothing = refl
 
 -- an attribute's root id is taken down through the mount too, so that 0 on this mount is root of the box
@@ -95,10 +96,12 @@ pub a_program_of_the_space_s_root_gives_all : Leads (world_of (su_of 100000 1000
     (in_box (record (user 100005) { uid = with_real 100005 100000; permitted = full; effective = full }))
 a_program_of_the_space_s_root_gives_all = refl
 
-pub a_program_of_an_unmapped_owner_gives_nothing : Leads (world_of (su_of 0 100000)) (in_box (user 100005)) (done 100 (Exec (Row 0)) ∷ []) (in_box (user 100005))
+pub a_program_of_an_unmapped_owner_gives_nothing : Leads (world_of (su_of 0 100000)) (in_box (user 100005))
+    (done 100 (Exec (Row 0)) ∷ []) (in_box (user 100005))
 a_program_of_an_unmapped_owner_gives_nothing = refl
 
-pub a_program_of_an_unmapped_group_gives_nothing : Leads (world_of (su_of 100000 0)) (in_box (user 100005)) (done 100 (Exec (Row 0)) ∷ []) (in_box (user 100005))
+pub a_program_of_an_unmapped_group_gives_nothing : Leads (world_of (su_of 100000 0)) (in_box (user 100005))
+    (done 100 (Exec (Row 0)) ∷ []) (in_box (user 100005))
 a_program_of_an_unmapped_group_gives_nothing = refl
 
 -- a mount of the box gives nothing to a caller outside it
@@ -118,12 +121,15 @@ pub without_an_inside_0_no_program_gives_all : Leads (world_of (su_of 100000 100
     (no_zero (record (user 100005) { uid = with_real 100005 100000 }))
 without_an_inside_0_no_program_gives_all = refl
 
-pub an_attribute_of_the_parent_s_root_serves_there : Leads (world_of (p3 0)) (no_zero (user 100005)) (done 100 (Exec (Row 0)) ∷ []) (no_zero (with_net_raw 100005))
+pub an_attribute_of_the_parent_s_root_serves_there : Leads (world_of (p3 0)) (no_zero (user 100005))
+    (done 100 (Exec (Row 0)) ∷ []) (no_zero (with_net_raw 100005))
 an_attribute_of_the_parent_s_root_serves_there = refl
 
 -- in a space whose map isn't written, no set-id bit counts
 pub in_an_unwritten_map_no_bit_counts : allows_set_id (record (space 0 1000 []) { uids = None } ∷ first_spaces) 1 (view (world_of (su_of 0 0)).files 0) ≡ false
 in_an_unwritten_map_no_bit_counts = refl
 
-pub an_attribute_of_the_initial_root_serves_there_too : takes_attribute (record (space 0 1000 []) { uids = None } ∷ first_spaces) 1 (view (world_of (p3 0)).files 0) ≡ true
+pub an_attribute_of_the_initial_root_serves_there_too : takes_attribute
+    (record (space 0 1000 []) { uids = None } ∷ first_spaces) 1 (view (world_of (p3 0)).files 0)
+    ≡ true
 an_attribute_of_the_initial_root_serves_there_too = refl

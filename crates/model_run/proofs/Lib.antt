@@ -10,4 +10,4 @@ pub mod FileCases
 pub mod FamilyCases
 pub mod ImpossibleCases
 pub mod OutsideCases
-pub mod WaysBack
+pub mod RunsBack

@@ -134,7 +134,11 @@ pub a_range_over_two_extents_is_refused : IsRefused world (below 1 (newcomer 100
 a_range_over_two_extents_is_refused = record { refused = refl; done = refl }
 
 pub below_an_unwritten_map_nothing_is_mapped : IsRefused world
-    (record { processes = in_space 1 100 (newcomer 1000) ∷ []; spaces = new_space 1 1000 ∷ new_space 0 1000 ∷ first_spaces }) 100 (WriteUidMap 2 (ids 0 0 1 ∷ [])) EPERM
+    (record {
+      processes = in_space 1 100 (newcomer 1000) ∷ [];
+      spaces = new_space 1 1000 ∷ new_space 0 1000 ∷ first_spaces;
+    }) 100
+    (WriteUidMap 2 (ids 0 0 1 ∷ [])) EPERM
 below_an_unwritten_map_nothing_is_mapped = record { refused = refl; done = refl }
 
 -- what is stored has ids as the initial space sees them
@@ -167,7 +171,8 @@ without_the_parent_s_0_setfcap_is_not_wanted = refl
 pub two_ids_want_power_over_the_parent : IsRefused world (beside 1 (newcomer 1000) (new_space 0 1000)) 100 (WriteUidMap 1 (ids 0 1000 2 ∷ [])) EPERM
 two_ids_want_power_over_the_parent = record { refused = refl; done = refl }
 
-pub two_extents_want_power_over_the_parent : IsRefused world (beside 1 (newcomer 1000) (new_space 0 1000)) 100 (WriteUidMap 1 (ids 0 1000 1 ∷ ids 1 1001 1 ∷ [])) EPERM
+pub two_extents_want_power_over_the_parent : IsRefused world (beside 1 (newcomer 1000) (new_space 0 1000)) 100
+    (WriteUidMap 1 (ids 0 1000 1 ∷ ids 1 1001 1 ∷ [])) EPERM
 two_extents_want_power_over_the_parent = record { refused = refl; done = refl }
 
 pub another_s_id_wants_power_over_the_parent : IsRefused world (beside 1 (newcomer 1000) (new_space 0 1000)) 100 (WriteUidMap 1 (ids 0 1001 1 ∷ [])) EPERM
@@ -176,7 +181,9 @@ another_s_id_wants_power_over_the_parent = record { refused = refl; done = refl 
 pub one_who_is_not_the_owner_maps_nothing : IsRefused world (beside 1 (newcomer 1001) (new_space 0 1000)) 100 (WriteUidMap 1 (ids 0 1001 1 ∷ [])) EPERM
 one_who_is_not_the_owner_maps_nothing = record { refused = refl; done = refl }
 
-pub a_group_wants_the_word_deny : IsRefused world (beside 1 (record (newcomer 1000) { gid = all_four 1000 }) (new_space 0 1000)) 100 (WriteGidMap 1 (ids 0 1000 1 ∷ [])) EPERM
+pub a_group_wants_the_word_deny : IsRefused world
+    (beside 1 (record (newcomer 1000) { gid = all_four 1000 }) (new_space 0 1000)) 100
+    (WriteGidMap 1 (ids 0 1000 1 ∷ [])) EPERM
 a_group_wants_the_word_deny = record { refused = refl; done = refl }
 
 -- the owner in the parent maps its own id too, without any capability
@@ -198,7 +205,8 @@ deny_is_not_written_after_the_map = record { refused = refl; done = refl }
 pub allow_is_not_written_after_deny : IsRefused world (beside 0 (user 0) (record (new_space 0 1000) { deny = true })) 100 (WriteSetgroups 1 false) EPERM
 allow_is_not_written_after_deny = record { refused = refl; done = refl }
 
-pub allow_changes_nothing_where_it_stands : Leads world (beside 0 (user 0) (space 0 1000 two)) (done 100 (WriteSetgroups 1 false) ∷ []) (beside 0 (user 0) (space 0 1000 two))
+pub allow_changes_nothing_where_it_stands : Leads world (beside 0 (user 0) (space 0 1000 two))
+    (done 100 (WriteSetgroups 1 false) ∷ []) (beside 0 (user 0) (space 0 1000 two))
 allow_changes_nothing_where_it_stands = refl
 
 pub deny_may_be_written_again : Leads world (beside 0 (user 1000) (new_space 0 1000))
@@ -214,6 +222,9 @@ pub a_new_space_has_the_word_of_its_parent : Leads world (beside 1 (newcomer 100
     (done 100 Unshare ∷ [])
     (record {
       processes = in_space 2 100 (newcomer 100) ∷ [];
-      spaces = record (new_space 1 100) { deny = true; creator_setfcap = true } ∷ record (space 0 100 two) { deny = true; gids = Some (ids 0 0 9 ∷ []) } ∷ first_spaces;
+      spaces = record (new_space 1 100) { deny = true; creator_setfcap = true } ∷ record (space 0 100 two) {
+        deny = true;
+        gids = Some (ids 0 0 9 ∷ []);
+      } ∷ first_spaces;
     })
 a_new_space_has_the_word_of_its_parent = refl

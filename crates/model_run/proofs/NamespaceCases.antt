@@ -1,6 +1,7 @@
 -- Worked cases of making and joining spaces, and of power over them (user_namespaces(7), unshare(2), setns(2)).
 use Rattle.std.proofs.Common.{◌≡◌, ℕ, zero, suc, true, false, Some, None, [], ◌∷◌, refl}
 use Rattle.cm_base.specs.CapSet.{none}
+use Rattle.cm_base.specs.Limits.{minus_one}
 use Rattle.cm_base.specs.declared.errno.Errno.TheVariants.{EPERM, EINVAL, ENOSPC}
 use Rattle.cm_base.specs.declared.res.Res.TheVariants.{Child, Err}
 use Rattle.model_cred.specs.Call.{SetResUid, CloneUser, Unshare, SetNs}
@@ -8,12 +9,12 @@ use Rattle.model_cred.specs.Credential.{Credential}
 use Rattle.model_cred.specs.IdMap.{initial_map}
 use Rattle.model_cred.specs.Process.{State}
 use Rattle.model_cred.specs.Right.{Cap}
-use Rattle.model_cred.specs.Space.{Space, Spaces, first_spaces, level, is_ancestor, next_below}
+use Rattle.model_cred.specs.Space.{Space, Spaces, first_spaces, level, is_at_or_above, next_below}
 use Rattle.model_rules.specs.Power.{Over, owned, above, over}
 use Rattle.model_run.specs.Holds.{process_holds}
 use Rattle.model_run.specs.Ruling.{own}
 use Rattle.model_run.specs.Step.{Wrong}
-use Rattle.model_run.proofs.Worlds.{unchanged, user, process, in_space, one, new_space, newcomer, space, ids, world, done, gives, replay, Leads, IsRefused}
+use Rattle.model_run.proofs.Worlds.{user, process, in_space, one, new_space, newcomer, space, ids, world, done, gives, replay, Leads, IsRefused}
 
 -- unshare: the caller has all capabilities in the new space, and none over the initial one
 abbrev unshared : State
@@ -75,12 +76,18 @@ at_level_31_one_is_made = refl
 -- clone_user: the child is in the new space, its parent stays where it was
 pub a_child_is_born_into_a_new_space : Leads world (one (user 1000))
     (gives 100 CloneUser (Child 101) ∷ [])
-    (record { processes = process 100 (user 1000) ∷ record (in_space 1 101 (newcomer 1000)) { forebear = Some 100 } ∷ []; spaces = new_space 0 1000 ∷ first_spaces })
+    (record {
+      processes = process 100 (user 1000) ∷ record (in_space 1 101 (newcomer 1000)) { forebear = Some 100 } ∷ [];
+      spaces = new_space 0 1000 ∷ first_spaces;
+    })
 a_child_is_born_into_a_new_space = refl
 
 -- without capabilities of its own, the parent has power over the space as its owner
 pub the_owner_has_power_over_it : process_holds
-    (record { processes = process 100 (user 1000) ∷ record (in_space 1 101 (newcomer 1000)) { forebear = Some 100 } ∷ []; spaces = new_space 0 1000 ∷ first_spaces })
+    (record {
+      processes = process 100 (user 1000) ∷ record (in_space 1 101 (newcomer 1000)) { forebear = Some 100 } ∷ [];
+      spaces = new_space 0 1000 ∷ first_spaces;
+    })
     100 (Cap 21 1) ≡ true
 the_owner_has_power_over_it = refl
 
@@ -106,13 +113,13 @@ family_of_spaces = other ∷ inner ∷ box ∷ first_spaces
 pub the_levels : level family_of_spaces 2 ≡ 2
 the_levels = refl
 
-pub the_initial_space_is_above_all : is_ancestor family_of_spaces 0 2 ≡ true
+pub the_initial_space_is_above_all : is_at_or_above family_of_spaces 0 2 ≡ true
 the_initial_space_is_above_all = refl
 
-pub a_space_is_above_itself : is_ancestor family_of_spaces 3 3 ≡ true
+pub a_space_is_above_itself : is_at_or_above family_of_spaces 3 3 ≡ true
 a_space_is_above_itself = refl
 
-pub a_space_is_not_above_its_sibling : is_ancestor family_of_spaces 1 3 ≡ false
+pub a_space_is_not_above_its_sibling : is_at_or_above family_of_spaces 1 3 ≡ false
 a_space_is_not_above_its_sibling = refl
 
 pub the_next_below_the_initial_space_is_the_box : next_below family_of_spaces 0 2 ≡ Some 1
@@ -177,7 +184,7 @@ with_saved_owner id = record {
   spaces = child ∷ first_spaces;
 }
 
-pub the_owner_s_id_is_taken_up : Leads world (with_saved_owner 1000) (done 100 (SetResUid unchanged 500 unchanged) ∷ []) (with_saved_owner 500)
+pub the_owner_s_id_is_taken_up : Leads world (with_saved_owner 1000) (done 100 (SetResUid minus_one 500 minus_one) ∷ []) (with_saved_owner 500)
 the_owner_s_id_is_taken_up = refl
 
 pub before_that_nothing_is_held : process_holds (with_saved_owner 1000) 100 (Cap 5 1) ≡ false

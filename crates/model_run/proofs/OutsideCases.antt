@@ -12,14 +12,17 @@ pub want_of_memory_changes_nothing : Leads world (one (user 0)) (refused 100 (Se
 want_of_memory_changes_nothing = refl
 
 pub the_five_common_errors_may_come : Leads world (one (user 0))
-    (refused 100 Fork ENOMEM ∷ refused 100 CloneUser EAGAIN ∷ refused 100 (WriteUidMap 0 []) EINTR ∷ refused 100 AmbClear EFAULT ∷ refused 100 (Exec Plain) EIO ∷ [])
+    (refused 100 Fork ENOMEM ∷ refused 100 CloneUser EAGAIN ∷ refused 100 (WriteUidMap 0 []) EINTR
+    ∷ refused 100 AmbClear EFAULT ∷ refused 100 (Exec Plain) EIO ∷ [])
     (one (user 0))
 the_five_common_errors_may_come = refl
 
 pub a_space_may_be_invalid_to_make : Leads world (one (user 0)) (refused 100 CloneUser EINVAL ∷ refused 100 Unshare EINVAL ∷ []) (one (user 0))
 a_space_may_be_invalid_to_make = refl
 
-pub a_program_may_not_be_there : Leads world (one (user 0)) (refused 100 (Exec Plain) ENOENT ∷ refused 100 (Exec Plain) EACCES ∷ refused 100 (Exec Plain) ELIBBAD ∷ []) (one (user 0))
+pub a_program_may_not_be_there : Leads world (one (user 0))
+    (refused 100 (Exec Plain) ENOENT ∷ refused 100 (Exec Plain) EACCES ∷ refused 100 (Exec Plain) ELIBBAD ∷ [])
+    (one (user 0))
 a_program_may_not_be_there = refl
 
 pub a_user_id_is_not_missing : replay world (one (user 0)) (refused 100 (SetUid 0) ENOENT ∷ []) ≡ Wrong Done

@@ -2,11 +2,10 @@
 use Rattle.std.proofs.Common.{◌≡◌, List, [], ◌∷◌, refl, sym, ◌∙◌, ap}
 use Rattle.cm_base.specs.CapSet.{none, full}
 use Rattle.model_cred.specs.Call.{Event, CapSet}
-use Rattle.cm_filter.specs.Filters.{no_filter, permits}
 use Rattle.model_cred.specs.Credential.{Credential}
 use Rattle.model_cred.specs.Process.{State}
 use Rattle.model_cred.specs.World.{World}
-use Rattle.model_run.specs.Later.{Later}
+use Rattle.model_run.specs.Later.{LaterRun}
 use Rattle.model_run.specs.Step.{Outcome, Goes, NoProcess, NoSpace, PidInUse, Wrong, outcome, Step, Run}
 use Rattle.model_run.proofs.Worlds.{after_all, then_event, Leads, user, one, world, done}
 
@@ -38,11 +37,11 @@ pub leads_is_run : (w : World) (s s' : State) (es : List Event) → Leads w s es
 leads_is_run w s s' [] h = sym (ap (state_or s) h)
 leads_is_run w s s' (e ∷ es) h = first_is_step w s s' e es (λ mid. leads_is_run w mid s' es) (outcome w s e) refl h
 
--- a later run of one member under no filter: a saved root id brings capabilities back
+-- a later run of one member, where the world's filter excludes nothing: a saved root id brings capabilities back
 abbrev with_saved_root : Credential
 with_saved_root = record (user 0) { uid = record { real = 0; effective = 1000; saved = 0; fs = 1000 }; effective = none }
 
-pub a_later_run : Later (permits no_filter) world (one with_saved_root) (100 ∷ [])
+pub a_later_run : LaterRun world (one with_saved_root) (100 ∷ [])
     (done 100 (CapSet full full none) ∷ [])
     (one (record with_saved_root { effective = full })) (100 ∷ [])
 a_later_run = (one (record with_saved_root { effective = full }), refl, refl, refl, (refl, refl))

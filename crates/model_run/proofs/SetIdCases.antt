@@ -2,17 +2,19 @@
 -- capabilities(7), "Effect of user ID changes on capabilities").
 use Rattle.std.proofs.Common.{◌≡◌, ℕ, true, false, Some, None, [], ◌∷◌, refl}
 use Rattle.cm_base.specs.CapSet.{none, full}
+use Rattle.cm_base.specs.Limits.{minus_one}
 use Rattle.cm_base.specs.declared.errno.Errno.TheVariants.{EPERM, EINVAL}
 use Rattle.cm_base.specs.declared.res.FileRef.TheVariants.{Plain}
 use Rattle.cm_base.specs.declared.res.Res.TheVariants.{Id, Child, Err}
-use Rattle.model_cred.specs.Call.{SetUid, SetReUid, SetResUid, SetFsUid, SetGid, SetReGid, SetResGid, SetFsGid, SetGroups, CapSet, KeepCaps, NoNewPrivs, Fork, Exec}
+use Rattle.model_cred.specs.Call.{SetUid, SetReUid, SetResUid, SetFsUid, SetGid, SetReGid, SetResGid, SetFsGid}
+use Rattle.model_cred.specs.Call.{SetGroups, CapSet, KeepCaps, NoNewPrivs, Fork, Exec}
 use Rattle.model_cred.specs.Credential.{Credential, FourIds, all_four}
 use Rattle.model_cred.specs.Process.{State}
 use Rattle.model_cred.specs.Right.{Cap}
 use Rattle.model_cred.specs.Space.{Space, first_spaces}
 use Rattle.model_run.specs.Holds.{process_holds}
 use Rattle.model_run.specs.Step.{Wrong}
-use Rattle.model_run.proofs.Worlds.{unchanged, user, process, in_space, one, with_processes, space, ids, world, done, gives, replay, Leads, IsRefused}
+use Rattle.model_run.proofs.Worlds.{user, process, in_space, one, with_processes, space, ids, world, done, gives, replay, Leads, IsRefused}
 
 -- real, effective, saved and fs id
 abbrev four : ℕ → ℕ → ℕ → ℕ → FourIds
@@ -32,7 +34,7 @@ keep_caps_keeps_the_permitted_set_alone = refl
 
 -- setreuid with a real id sets the saved id to the effective one; root stays root by it
 pub the_saved_id_follows_a_given_real_id : Leads world (one (record (user 0) { uid = four 0 0 7 0 }))
-    (done 100 (SetReUid 1000 unchanged) ∷ [])
+    (done 100 (SetReUid 1000 minus_one) ∷ [])
     (one (record (user 0) { uid = four 1000 0 0 0 }))
 the_saved_id_follows_a_given_real_id = refl
 
@@ -41,7 +43,7 @@ abbrev with_saved_root : Credential
 with_saved_root = record (user 0) { uid = four 0 1000 0 1000; effective = none }
 
 pub a_saved_root_id_keeps_the_permitted_set : Leads world (one (user 0))
-    (done 100 (SetResUid unchanged 1000 unchanged) ∷ [])
+    (done 100 (SetResUid minus_one 1000 minus_one) ∷ [])
     (one with_saved_root)
 a_saved_root_id_keeps_the_permitted_set = refl
 
@@ -71,7 +73,7 @@ pub setuid_by_root_sets_all_ids : Leads world (one (user 0))
 setuid_by_root_sets_all_ids = refl
 
 -- setuid has no argument that leaves an id as it is
-pub setuid_of_minus_one_is_invalid : IsRefused world (one (user 0)) 100 (SetUid unchanged) EINVAL
+pub setuid_of_minus_one_is_invalid : IsRefused world (one (user 0)) 100 (SetUid minus_one) EINVAL
 setuid_of_minus_one_is_invalid = record { refused = refl; done = refl }
 
 -- setfsuid answers the fs id from before, whether it changes or not
@@ -99,32 +101,33 @@ in_unmapped c = record { processes = in_space 1 100 c ∷ []; spaces = unmapped 
 pub an_unmapped_fs_id_is_answered_as_65534 : Leads world (in_unmapped (user 1000)) (gives 100 (SetFsUid 1000) (Id 65534) ∷ []) (in_unmapped (user 1000))
 an_unmapped_fs_id_is_answered_as_65534 = refl
 
-pub in_an_unwritten_map_no_id_can_be_given : IsRefused world (in_unmapped (record (user 1000) { effective = full; permitted = full })) 100 (SetResUid 1000 1000 1000) EINVAL
+pub in_an_unwritten_map_no_id_can_be_given : IsRefused world
+    (in_unmapped (record (user 1000) { effective = full; permitted = full })) 100 (SetResUid 1000 1000 1000) EINVAL
 in_an_unwritten_map_no_id_can_be_given = record { refused = refl; done = refl }
 
 pub in_an_unwritten_map_leaving_all_ids_is_done : Leads world (in_unmapped (user 1000))
-    (done 100 (SetResUid unchanged unchanged unchanged) ∷ [])
+    (done 100 (SetResUid minus_one minus_one minus_one) ∷ [])
     (in_unmapped (user 1000))
 in_an_unwritten_map_leaving_all_ids_is_done = refl
 
 -- an effective id that is given and is the old real id leaves the saved id
 pub setreuid_to_the_real_id_keeps_the_saved_id : Leads world (one (record (user 6) { uid = four 5 6 7 6 }))
-    (done 100 (SetReUid unchanged 5) ∷ [])
+    (done 100 (SetReUid minus_one 5) ∷ [])
     (one (record (user 6) { uid = four 5 5 7 5 }))
 setreuid_to_the_real_id_keeps_the_saved_id = refl
 
 -- one that differs from it takes the saved id along
 pub setreuid_to_the_saved_id_sets_it : Leads world (one (record (user 6) { uid = four 5 6 7 6 }))
-    (done 100 (SetReUid unchanged 7) ∷ [])
+    (done 100 (SetReUid minus_one 7) ∷ [])
     (one (record (user 6) { uid = four 5 7 7 7 }))
 setreuid_to_the_saved_id_sets_it = refl
 
 -- the real id can't be set to the saved one by setreuid, though setresuid may
-pub setreuid_of_the_real_id_to_the_saved_one_is_refused : IsRefused world (one (record (user 2) { uid = four 1 2 3 2 })) 100 (SetReUid 3 unchanged) EPERM
+pub setreuid_of_the_real_id_to_the_saved_one_is_refused : IsRefused world (one (record (user 2) { uid = four 1 2 3 2 })) 100 (SetReUid 3 minus_one) EPERM
 setreuid_of_the_real_id_to_the_saved_one_is_refused = record { refused = refl; done = refl }
 
 pub setresuid_of_the_real_id_to_the_saved_one_is_done : Leads world (one (record (user 2) { uid = four 1 2 3 2 }))
-    (done 100 (SetResUid 3 unchanged unchanged) ∷ [])
+    (done 100 (SetResUid 3 minus_one minus_one) ∷ [])
     (one (record (user 2) { uid = four 3 2 3 2 }))
 setresuid_of_the_real_id_to_the_saved_one_is_done = refl
 
@@ -132,10 +135,10 @@ setresuid_of_the_real_id_to_the_saved_one_is_done = refl
 abbrev in_small : Credential → State
 in_small c = record { processes = in_space 1 100 c ∷ []; spaces = space 0 1000 (ids 1 100000 10 ∷ []) ∷ first_spaces }
 
-pub past_the_end_of_a_map_an_id_is_invalid : IsRefused world (in_small (user 100000)) 100 (SetResUid 11 unchanged unchanged) EINVAL
+pub past_the_end_of_a_map_an_id_is_invalid : IsRefused world (in_small (user 100000)) 100 (SetResUid 11 minus_one minus_one) EINVAL
 past_the_end_of_a_map_an_id_is_invalid = record { refused = refl; done = refl }
 
-pub at_the_end_of_a_map_an_id_wants_privilege : IsRefused world (in_small (user 100000)) 100 (SetResUid 10 unchanged unchanged) EPERM
+pub at_the_end_of_a_map_an_id_wants_privilege : IsRefused world (in_small (user 100000)) 100 (SetResUid 10 minus_one minus_one) EPERM
 at_the_end_of_a_map_an_id_wants_privilege = record { refused = refl; done = refl }
 
 -- in a space without an inside 0 no change of ids clears a set
@@ -165,24 +168,24 @@ keep_caps_keeps_the_effective_set_of_another_user = refl
 
 -- an effective id that becomes root's makes the permitted set effective
 pub becoming_root_makes_the_permitted_set_effective : Leads world (one (record (user 1000) { uid = four 1000 1000 0 1000; permitted = 0x20 }))
-    (done 100 (SetResUid unchanged 0 unchanged) ∷ [])
+    (done 100 (SetResUid minus_one 0 minus_one) ∷ [])
     (one (record (user 1000) { uid = four 1000 0 0 0; permitted = 0x20; effective = 0x20 }))
 becoming_root_makes_the_permitted_set_effective = refl
 
 -- the first two calls are steps, the third isn't
 pub the_third_call_is_refused : replay world (one (user 1000))
-    (done 100 (SetResUid unchanged unchanged unchanged) ∷ gives 100 (SetFsUid 5) (Id 1000) ∷ done 100 (SetResUid 0 0 0) ∷ [])
+    (done 100 (SetResUid minus_one minus_one minus_one) ∷ gives 100 (SetFsUid 5) (Id 1000) ∷ done 100 (SetResUid 0 0 0) ∷ [])
     ≡ Wrong (Err EPERM)
 the_third_call_is_refused = refl
 
 pub the_first_two_change_nothing : Leads world (one (user 1000))
-    (done 100 (SetResUid unchanged unchanged unchanged) ∷ gives 100 (SetFsUid 5) (Id 1000) ∷ [])
+    (done 100 (SetResUid minus_one minus_one minus_one) ∷ gives 100 (SetFsUid 5) (Id 1000) ∷ [])
     (one (user 1000))
 the_first_two_change_nothing = refl
 
 -- group ids have no fixups: root stays what it is
 pub group_ids_have_no_fixups : Leads world (one (user 0))
-    (done 100 (SetResGid 1 1 1) ∷ done 100 (SetReGid 2 unchanged) ∷ gives 100 (SetFsGid 3) (Id 1) ∷ [])
+    (done 100 (SetResGid 1 1 1) ∷ done 100 (SetReGid 2 minus_one) ∷ gives 100 (SetFsGid 3) (Id 1) ∷ [])
     (one (record (user 0) { gid = four 2 1 1 3 }))
 group_ids_have_no_fixups = refl
 
@@ -201,7 +204,8 @@ pub an_unmapped_group_is_invalid : IsRefused world (in_small (record (user 10000
 an_unmapped_group_is_invalid = record { refused = refl; done = refl }
 
 -- where the map of groups isn't written, want of privilege comes first
-pub without_a_group_map_groups_are_refused : IsRefused world (in_unmapped (record (user 1000) { permitted = full; effective = full })) 100 (SetGroups (1 ∷ [])) EPERM
+pub without_a_group_map_groups_are_refused : IsRefused world
+    (in_unmapped (record (user 1000) { permitted = full; effective = full })) 100 (SetGroups (1 ∷ [])) EPERM
 without_a_group_map_groups_are_refused = record { refused = refl; done = refl }
 
 -- A daemon that is started by root, forks, and gives up all but one capability in its child; the worker that it runs in

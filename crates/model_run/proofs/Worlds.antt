@@ -15,10 +15,6 @@ use Rattle.model_cred.specs.Space.{Space, first_spaces}
 use Rattle.model_cred.specs.World.{World, Script}
 use Rattle.model_run.specs.Step.{Outcome, Goes, NoProcess, NoSpace, PidInUse, Wrong, outcome}
 
--- the argument -1
-abbrev pub unchanged : ℕ
-unchanged = 4294967295
-
 -- a credential with that id as all four user ids, group ids 0, and all capabilities permitted and effective for user 0
 -- alone
 abbrev pub user : ℕ → Credential

@@ -5,6 +5,7 @@ use Rattle.cm_base.specs.declared.res.Res.{Res}
 use Rattle.cm_base.specs.declared.res.Res.TheVariants.{Done, Child}
 use Rattle.model_cred.specs.Call.{Call, Exit, Event, kind_of}
 use Rattle.cm_filter.specs.declared.kind.CallKind.{CallKind}
+use Rattle.cm_filter.specs.Filters.{permits}
 use Rattle.model_cred.specs.Process.{State}
 use Rattle.model_cred.specs.World.{World}
 use Rattle.model_run.specs.Step.{Step}
@@ -35,3 +36,7 @@ Later permitted w s members [] s' members' = (s' ≡ s) × (members' ≡ members
 Later permitted w s members (e ∷ es) s' members' =
     (mid : State) × IsTrue (is_member members e.pid) × IsTrue (permitted (kind_of e.call)) × Step w s e mid
     × Later permitted w mid (members_after members e.pid e.call e.res) es s' members'
+
+-- a later run under the world's own filter
+abbrev pub LaterRun : World → State → List ℕ → List Event → State → List ℕ → Type 0
+LaterRun w = Later (permits w.filter) w

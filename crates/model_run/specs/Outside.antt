@@ -2,7 +2,9 @@
 -- nothing changed (choice; the ERRORS sections of the calls' manual pages).
 use Rattle.std.specs.Prelude.{Bool, true, false}
 use Rattle.cm_base.specs.declared.errno.Errno.{Errno}
-use Rattle.cm_base.specs.declared.errno.Errno.TheVariants.{EINVAL, ENOMEM, EAGAIN, EINTR, EFAULT, EIO, ENOENT, EACCES, ENOTDIR, ELOOP, ENAMETOOLONG, E2BIG, ENOEXEC, ETXTBSY, ELIBBAD}
+use Rattle.cm_base.specs.declared.errno.Errno.TheVariants.{EINVAL, ENOMEM, EAGAIN, EINTR, EFAULT, EIO, ENOENT, EACCES}
+use Rattle.cm_base.specs.declared.errno.Errno.TheVariants.{ENOTDIR, ELOOP, ENAMETOOLONG, E2BIG, ENOEXEC, ETXTBSY}
+use Rattle.cm_base.specs.declared.errno.Errno.TheVariants.{ELIBBAD}
 use Rattle.cm_base.specs.declared.res.Res.{Res}
 use Rattle.cm_base.specs.declared.res.Res.TheVariants.{Err}
 use Rattle.model_cred.specs.Call.{Call, SetFsUid, SetFsGid, CloneUser, Unshare, SetNs, Exec, Exit}

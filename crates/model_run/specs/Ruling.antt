@@ -9,7 +9,7 @@ use Rattle.model_cred.specs.Credential.{Credential}
 use Rattle.model_cred.specs.Process.{Process, State, is_alive, is_pid, put_process, insert_process, without_process}
 use Rattle.model_cred.specs.Space.{Spaces}
 use Rattle.model_cred.specs.World.{World}
-use Rattle.model_rules.specs.Namespaces.{as_newcomer}
+use Rattle.model_rules.specs.Namespaces.{as_newcomer, clone_user}
 use Rattle.model_rules.specs.Reply.{Reply, reply, spaces_after}
 
 -- What the rules give: a result, and the state that they leave.
@@ -62,7 +62,7 @@ state_without s p = record s { processes = without_process p s.processes }
 -- What the rules give for a call of the process. The number is the child's pid at a birth, and counts for no other call.
 abbrev pub ruling : World → State → Process → Call → ℕ → Ruling
 ruling w s p Fork pid = birth s (fork_child p pid) s.spaces
-ruling w s p CloneUser pid = birth_unless (reply_to w s p CloneUser).res s (clone_child s.spaces p pid) (spaces_left s p CloneUser)
+ruling w s p CloneUser pid = birth_unless (clone_user s.spaces p.space p.cred) s (clone_child s.spaces p pid) (spaces_left s p CloneUser)
 ruling w s p Exit pid = record { res = Done; state = state_without s p }
 ruling w s p call pid = record { res = (reply_to w s p call).res; state = state_left s p call (reply_to w s p call) }
 

@@ -23,8 +23,8 @@ pub data Outcome : Type 0 where
 -- the call names a space that doesn't stand
 abbrev pub names_no_space : Spaces → Call → Bool
 names_no_space spaces (SetNs n) = not (stands spaces n)
-names_no_space spaces (WriteUidMap n list) = not (stands spaces n)
-names_no_space spaces (WriteGidMap n list) = not (stands spaces n)
+names_no_space spaces (WriteUidMap n given) = not (stands spaces n)
+names_no_space spaces (WriteGidMap n given) = not (stands spaces n)
 names_no_space spaces (WriteSetgroups n deny) = not (stands spaces n)
 names_no_space spaces _ = false
 
@@ -38,9 +38,10 @@ abbrev pub told_child : Res → ℕ
 told_child (Child pid) = pid
 told_child _ = 0
 
--- the result that is told against what the rules give for it, and against their own answer
+-- The result that is told against what the rules give for it. Where the two differ, the outcome has what the rules
+-- answer of themselves.
 abbrev pub told_rules : Res → Ruling → Ruling → Outcome
-told_rules told given own = if same_res told given.res then Goes given.state else Wrong own.res
+told_rules told given answer = if same_res told given.res then Goes given.state else Wrong answer.res
 
 -- The call of a live process with the result that is told: an error from outside with nothing changed, or what the rules
 -- give. (A filter of the process's own, which no process has yet, is to be asked here, before both.)

@@ -4,16 +4,17 @@ use Rattle.std.proofs.Common.{◌≡◌, ℕ, ◌==◌, ◌||◌, Bool, true, fa
 use Rattle.std.proofs.lemmas.List.Elements.{All-nil, All-cons, All-head, All-tail, All-weaker}
 use Rattle.std.specs.Prelude.{codes, is_some, option_map}
 use Rattle.cm_base.specs.CapSet.{full, none}
+use Rattle.model_cred.proofs.Orders.{all_insert}
 use Rattle.model_cred.specs.Credential.{Credential, FourIds, all_four}
-use Rattle.model_cred.specs.Process.{Process, State}
+use Rattle.model_cred.specs.Process.{Process, State, insert_process}
 use Rattle.model_cred.specs.Space.{first_spaces}
 use Rattle.model_cred.specs.World.{World}
-use Rattle.model_run.specs.WayBack.{has_root, SetsFollowIds, AllFollow, StateFollows}
+use Rattle.model_run.specs.RunBack.{has_root, SetsFollowIds, AllFollow, StateFollows}
 use Rattle.model_text.proofs.Starts.{Made, start_made}
 use Rattle.model_text.specs.Places.{IsInitial}
 use Rattle.model_text.specs.ProcessText.{held_by_default, included, credential_of, credential_with, credential_declared, ids_value, pid_value, parent_value, process_with, process_keys, process_row, further_keys}
 use Rattle.model_text.specs.Toml.{has_key, has_key_of, has_only}
-use Rattle.model_text.specs.WorldText.{Reads, world_text, text_says_more, in_order, placed, process_rows, one_more, processes_of, row_has, some_row_has, rows_have}
+use Rattle.model_text.specs.WorldText.{Reads, world_text, text_says_more, in_order, process_rows, one_more, processes_of, row_has, some_row_has, rows_have}
 use Rattle.toml.specs.Data.{Data, array, table, Items, no_items, item, Members, get_member}
 
 -- the credential of a process of which nothing but its user ids is declared: group ids 0, no groups, all capabilities
@@ -140,20 +141,10 @@ value_declared (Some (array rows)) ps is = rows_declared rows ps is
 value_declared (Some _) ps is = absurd (cc)
 
 -- the order of the processes changes nothing of it
-placed_all : (P : Process → Type 0) (p : Process) (ps : List Process) → All P (p ∷ ps) → All P (placed p ps)
-placed_all P p [] all = all
-placed_all P p (q ∷ ps) all =
-    elim (nat_lt p.pid q.pid) as (λ (b : Bool). All P (cond b (p ∷ q ∷ ps) (q ∷ placed p ps))) [
-      | true ↦ all
-      | false ↦
-          let rest : All P (q ∷ ps) = All-tail P p (q ∷ ps) all in
-          All-cons P q (placed p ps) (All-head P q ps rest) (placed_all P p ps (All-cons P p ps (All-head P p (q ∷ ps) all) (All-tail P q ps rest)))
-    ]
-
 pub in_order_all : (P : Process → Type 0) (ps : List Process) → All P ps → All P (in_order ps)
 in_order_all P [] all = all
 in_order_all P (p ∷ ps) all =
-    placed_all P p (in_order ps) (All-cons P p (in_order ps) (All-head P p ps all) (in_order_all P ps (All-tail P p ps all)))
+    all_insert P p (in_order ps) (All-head P p ps all) (in_order_all P ps (All-tail P p ps all))
 
 -- ---- the state that a world begins with
 -- The state has the initial space alone, and its processes are declared.

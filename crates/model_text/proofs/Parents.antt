@@ -4,36 +4,33 @@ use Rattle.std.proofs.Common.{◌≡◌, ◌≢◌, ℕ, ◌==◌, true, false, 
 use Rattle.std.proofs.lemmas.Bool.{cond-true, cond-false, eq-eqb, eqb-true, ne_eqb, or_cases}
 use Rattle.std.proofs.lemmas.List.Elements.{All-nil, All-cons, All-head, All-tail, All-weaker}
 use Rattle.std.specs.List.{list_any}
+use Rattle.model_cred.proofs.Lookups.{alive_cons}
 use Rattle.model_cred.specs.Process.{Process, process_at, is_alive}
 use Rattle.model_cred.specs.World.{World}
-use Rattle.model_text.proofs.Starts.{Made, start_made, both_true, has_pid_in_order, in_order_finds}
-use Rattle.model_text.specs.WorldText.{Reads, world_text, text_says_more, in_order, has_pid, are_distinct, is_among, parents_stand}
+use Rattle.model_text.proofs.Starts.{Made, start_made, both_true, alive_in_order, in_order_finds}
+use Rattle.model_text.specs.WorldText.{Reads, world_text, text_says_more, in_order, are_distinct, is_among, parents_stand}
 
 -- ---- each is found by its pid
-alive_by_pid : (pid : ℕ) (ps : List Process) → is_alive ps pid ≡ has_pid pid ps
-alive_by_pid pid [] = refl
-alive_by_pid pid (p ∷ ps) = grind (arith, alive_by_pid pid ps)
-
 -- the process is the one that is found by its pid
 abbrev pub IsFound : List Process → Process → Type 0
 IsFound all p = process_at all p.pid ≡ Some p
 
 -- also after another, whose pid none of them has
-found_behind : (p : Process) (ps : List Process) (q : Process) → has_pid p.pid ps ≡ false → IsFound ps q → IsFound (p ∷ ps) q
+found_behind : (p : Process) (ps : List Process) (q : Process) → is_alive ps p.pid ≡ false → IsFound ps q → IsFound (p ∷ ps) q
 found_behind p ps q free is =
     cond-false (p.pid == q.pid) (Some p) (process_at ps q.pid) (ne_eqb p.pid q.pid other) ∙ is
   where
     other : p.pid ≢ q.pid
     other same =
-        let alive : true ≡ has_pid q.pid ps = sym (ap is_some is) ∙ alive_by_pid q.pid ps in
-        let wrong : true ≡ false = alive ∙ sym (ap (λ (n : ℕ). has_pid n ps) same) ∙ free in
+        let alive : true ≡ is_alive ps q.pid = sym (ap is_some is) in
+        let wrong : true ≡ false = alive ∙ sym (ap (λ (n : ℕ). is_alive ps n) same) ∙ free in
         cc
 
 -- so is each, where no pid stands twice
 pub each_found : (ps : List Process) → are_distinct ps ≡ true → All (IsFound ps) ps
 each_found [] distinct = All-nil (IsFound [])
 each_found (p ∷ ps) distinct =
-    let free : has_pid p.pid ps ≡ false = grind (arith, distinct) in
+    let free : is_alive ps p.pid ≡ false = grind (arith, distinct) in
     let others : All (IsFound ps) ps = each_found ps (grind (arith, distinct)) in
     All-cons (IsFound (p ∷ ps)) p ps
     (cond-true (p.pid == p.pid) (Some p) (process_at ps p.pid) (eq-eqb p.pid p.pid refl))
@@ -62,12 +59,12 @@ module _ (P : ℕ → Type 0) where
 
   -- it holds of the processes of rows, whose parents are among these pids or of earlier rows
   rows_hold : (all : List Process) (pids : List ℕ) (ps : List Process) → FollowsForebear P all → HoldsAmong P pids → All (IsFound all) ps
-      → parents_stand pids ps ≡ true → (pid : ℕ) → has_pid pid ps ≡ true → P pid
+      → parents_stand pids ps ≡ true → (pid : ℕ) → is_alive ps pid ≡ true → P pid
   rows_hold all pids [] follows holds found stand pid has = absurd (cc)
   rows_hold all pids (p ∷ ps) follows holds found stand pid has =
       let (among, later) = both_true (is_among pids p.forebear) (parents_stand (p.pid ∷ pids) ps) stand in
       let own : P p.pid = follows p (All-head (IsFound all) p ps found) (forebear_holds pids p.forebear holds among) in
-      elim (or_cases (p.pid == pid) (has_pid pid ps) has) [
+      elim (or_cases (p.pid == pid) (is_alive ps pid) (sym (alive_cons p ps pid) ∙ has)) [
         | inl same ↦ subst P (eqb-true p.pid pid same) own
         | inr behind ↦
             rows_hold all (p.pid ∷ pids) ps follows (one_more_holds pids p.pid own holds) (All-tail (IsFound all) p ps found) later pid behind
@@ -83,4 +80,4 @@ module _ (P : ℕ → Type 0) where
       (λ follows pid alive.
       rows_hold ps [] ps (λ p found. follows p (in_order_finds ps made.distinct p.pid ∙ found)) (λ n none. absurd (cc))
       (each_found ps made.distinct) made.parents pid
-      (sym (alive_by_pid pid (in_order ps) ∙ has_pid_in_order pid ps) ∙ alive))
+      (sym (alive_in_order pid ps) ∙ alive))

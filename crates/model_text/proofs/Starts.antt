@@ -1,77 +1,51 @@
 -- The processes at a world's start: no pid stands twice, and the pids ascend.
-use Rattle.std.proofs.Common.{◌≡◌, ℕ, ◌==◌, Bool, true, false, cond, ◌&&◌, ◌||◌, List, [], ◌∷◌, Option, Some, None, refl, sym, ◌∙◌, ap, subst, arith, ◌≢◌, ◌<◌, inl, inr}
+use Rattle.std.proofs.Common.{◌≡◌, ℕ, ◌==◌, Bool, true, false, cond, ◌&&◌, ◌||◌, List, [], ◌∷◌, map, Option, Some, None, refl, sym, ◌∙◌, ap, subst, arith, ◌≢◌, ◌<◌, inl, inr}
 use Rattle.std.proofs.lemmas.Bool.{cases_lt, lt-ltb, le-ltb}
-use Rattle.std.specs.Prelude.{codes}
+use Rattle.std.specs.Prelude.{codes, is_some}
 use Rattle.std.specs.Str.{is_utf8}
-use Rattle.model_cred.specs.Process.{Process, process_at, Ascends}
+use Rattle.std.specs.Option.{option_or}
+use Rattle.model_cred.proofs.Lookups.{alive_cons, alive_inserted}
+use Rattle.model_cred.proofs.Orders.{insert_ascends}
+use Rattle.model_cred.specs.Process.{Process, process_at, is_alive, Ascends, insert_process}
 use Rattle.model_cred.specs.World.{World}
 use Rattle.model_text.specs.Toml.{has_only, is_text}
-use Rattle.model_text.specs.WorldText.{WorldText, Reads, Bad, NotBuilt, world_text, document_text, table_text, built_table, distinct_world, world_with, in_order, placed, are_distinct, parents_stand, has_pid, asks_more, processes_of, rows_have, says_more, document_says_more, text_says_more}
+use Rattle.model_text.specs.WorldText.{WorldText, Reads, Bad, NotBuilt, world_text, document_text, table_text, built_table, distinct_world, world_with, in_order, are_distinct, parents_stand, asks_more, processes_of, rows_have, says_more, document_says_more, text_says_more}
 use Rattle.model_text.specs.ProcessText.{further_keys}
 use Rattle.toml.specs.Data.{Data, Members, get_member}
 use Rattle.toml.specs.Parse.{parse_document}
 
 -- ---- the order of pids
--- a process that is placed among others adds its pid alone
-has_pid_placed : (pid : ℕ) (p : Process) (ps : List Process) → has_pid pid (placed p ps) ≡ (p.pid == pid || has_pid pid ps)
-has_pid_placed pid p [] = refl
-has_pid_placed pid p (q ∷ ps) = grind (arith, has_pid_placed pid p ps)
-
 -- among processes with distinct pids, where its own isn't taken, the pids stay distinct
-distinct_placed : (p : Process) (ps : List Process) → has_pid p.pid ps ≡ false → are_distinct ps ≡ true → are_distinct (placed p ps) ≡ true
+distinct_placed : (p : Process) (ps : List Process) → is_alive ps p.pid ≡ false → are_distinct ps ≡ true → are_distinct (insert_process p ps) ≡ true
 distinct_placed p [] free distinct = refl
-distinct_placed p (q ∷ ps) free distinct = grind (arith, free, distinct, distinct_placed p ps, has_pid_placed q.pid p ps)
+distinct_placed p (q ∷ ps) free distinct = grind (arith, free, distinct, distinct_placed p ps, alive_inserted p ps q.pid)
 
 -- the order takes no pid away and adds none
-pub has_pid_in_order : (pid : ℕ) (ps : List Process) → has_pid pid (in_order ps) ≡ has_pid pid ps
-has_pid_in_order pid [] = refl
-has_pid_in_order pid (p ∷ ps) = has_pid_placed pid p (in_order ps) ∙ ap (λ (b : Bool). p.pid == pid || b) (has_pid_in_order pid ps)
+pub alive_in_order : (pid : ℕ) (ps : List Process) → is_alive (in_order ps) pid ≡ is_alive ps pid
+alive_in_order pid [] = refl
+alive_in_order pid (p ∷ ps) =
+    alive_inserted p (in_order ps) pid ∙ ap (λ (b : Bool). p.pid == pid || b) (alive_in_order pid ps) ∙ sym (alive_cons p ps pid)
 
 -- distinct pids stay distinct in their order
 pub distinct_in_order : (ps : List Process) → are_distinct ps ≡ true → are_distinct (in_order ps) ≡ true
 distinct_in_order [] distinct = refl
-distinct_in_order (p ∷ ps) distinct = grind (arith, distinct, distinct_in_order ps, distinct_placed p (in_order ps), has_pid_in_order p.pid ps)
+distinct_in_order (p ∷ ps) distinct = grind (arith, distinct, distinct_in_order ps, distinct_placed p (in_order ps), alive_in_order p.pid ps)
 
 -- placing keeps who is found by a pid
-placed_finds : (p : Process) (ps : List Process) → has_pid p.pid ps ≡ false → (pid : ℕ) → process_at (placed p ps) pid ≡ process_at (p ∷ ps) pid
+placed_finds : (p : Process) (ps : List Process) → is_alive ps p.pid ≡ false → (pid : ℕ) → process_at (insert_process p ps) pid ≡ process_at (p ∷ ps) pid
 placed_finds p [] free pid = refl
 placed_finds p (q ∷ ps) free pid = grind (arith, free, placed_finds p ps)
 
 -- and so does the order, where no pid stands twice
 pub in_order_finds : (ps : List Process) → are_distinct ps ≡ true → (pid : ℕ) → process_at (in_order ps) pid ≡ process_at ps pid
 in_order_finds [] distinct pid = refl
-in_order_finds (p ∷ ps) distinct pid = grind (arith, distinct, in_order_finds ps, placed_finds p (in_order ps), has_pid_in_order p.pid ps)
-
--- a process that is placed among others whose pids ascend leaves them ascending, where its own isn't taken
-placed_ascends : (p : Process) (ps : List Process) → has_pid p.pid ps ≡ false → Ascends ps → Ascends (placed p ps)
-placed_ascends p [] free up = tt
-placed_ascends p (q ∷ []) free up =
-    elim (cases_lt p.pid q.pid) [
-      | inl lower ↦ rw (lt-ltb p.pid q.pid lower) (lower, tt)
-      | inr upper ↦ rw (le-ltb p.pid q.pid upper) (let other : q.pid ≢ p.pid = λ same. grind (arith, free, same) in omega arith, tt)
-    ]
-placed_ascends p (q ∷ r ∷ ps) free up =
-    elim (cases_lt p.pid q.pid) [
-      | inl lower ↦ rw (lt-ltb p.pid q.pid lower) (lower, up)
-      | inr upper ↦
-          let other : q.pid ≢ p.pid = λ same. grind (arith, free, same) in
-          let below : q.pid < p.pid = omega arith in
-          let rest : Ascends (placed p (r ∷ ps)) = placed_ascends p (r ∷ ps) (grind (arith, free)) up.1 in
-          rw (le-ltb p.pid q.pid upper) (behind q p r ps below up.0 rest)
-    ]
-  where
-    behind : (q p r : Process) (ps : List Process) → q.pid < p.pid → q.pid < r.pid → Ascends (placed p (r ∷ ps)) → Ascends (q ∷ placed p (r ∷ ps))
-    behind q p r ps low lower up =
-        elim (cases_lt p.pid r.pid) [
-          | inl before ↦ rw (lt-ltb p.pid r.pid before) (low, rw (lt-ltb p.pid r.pid before) at up)
-          | inr after ↦ rw (le-ltb p.pid r.pid after) (lower, rw (le-ltb p.pid r.pid after) at up)
-        ]
+in_order_finds (p ∷ ps) distinct pid = grind (arith, distinct, in_order_finds ps, placed_finds p (in_order ps), alive_in_order p.pid ps)
 
 -- the pids of the processes in their order ascend, where no pid stands twice
 pub in_order_ascends : (ps : List Process) → are_distinct ps ≡ true → Ascends (in_order ps)
 in_order_ascends [] distinct = tt
 in_order_ascends (p ∷ ps) distinct =
-    placed_ascends p (in_order ps) (has_pid_in_order p.pid ps ∙ grind (arith, distinct)) (in_order_ascends ps (grind (arith, distinct)))
+    insert_ascends p (in_order ps) (alive_in_order p.pid ps ∙ grind (arith, distinct)) (in_order_ascends ps (grind (arith, distinct)))
 
 -- ---- what a world's text reads as
 unless : (test : Bool) (t : WorldText) (w : World) → cond test NotBuilt t ≡ Reads w → t ≡ Reads w

@@ -1,5 +1,6 @@
 -- The lines of a report: credentials and events, as text (choice).
 use Rattle.std.specs.Prelude.{ℕ, codes, decimal, ◌+◌, ◌/◌, ◌%◌, ◌==◌, nat_lt, List, [], ◌∷◌, ◌++◌, zero, suc, if◌then◌else◌, flat_map, unwrap_or}
+use Rattle.cm_base.specs.Limits.{minus_one}
 use Rattle.cm_base.specs.Names.{cap_name, errno_name}
 use Rattle.cm_base.specs.declared.res.Res.{Res}
 use Rattle.cm_base.specs.declared.res.Res.TheVariants.{Done, Id, Child, Err}
@@ -64,9 +65,9 @@ flags_text c = codes " sec=" ++ hex_bits c.securebits ++ codes " nnp=" ++ (if c.
 unfoldable pub credential_line : Process → List ℕ
 credential_line p = place_text p ++ all_ids_text p.cred ++ sets_text p.cred ++ bounds_text p.cred ++ flags_text p.cred
 
--- an id of a call, `-1` for 4294967295
+-- an id of a call, or -1
 abbrev pub id_text : ℕ → List ℕ
-id_text id = if id == 4294967295 then codes "-1" else decimal id
+id_text id = if id == minus_one then codes "-1" else decimal id
 
 -- a result
 abbrev pub res_text : Res → List ℕ

@@ -1,6 +1,7 @@
 -- The process that a row of a world declares (choice): its pid, its parent, its ids and groups, its sets of capabilities,
 -- its flags.
-use Rattle.std.specs.Prelude.{ℕ, codes, ◌==◌, ◌&&◌, Bool, false, List, [], ◌∷◌, Option, Some, None, option_map, option_and_then, if◌then◌else◌}
+use Rattle.std.specs.Prelude.{ℕ, codes, ◌+◌, ◌==◌, ◌&&◌, Bool, false, List, [], ◌∷◌, Option, Some, None, option_map, option_and_then, if◌then◌else◌}
+use Rattle.cm_base.specs.Limits.{id_count, last_pid}
 use Rattle.cm_base.specs.CapSet.{full, none, is_within}
 use Rattle.model_cred.specs.Credential.{Credential, FourIds, all_four, id_set}
 use Rattle.model_cred.specs.Process.{Process}
@@ -11,12 +12,12 @@ use Rattle.toml.specs.Data.{Data, string, boolean, array, table, Items, no_items
 -- ---- pids and ids
 -- an id is a whole number from 0 to 4294967294
 abbrev pub id_value : Data → Option ℕ
-id_value value = number_below 4294967295 value
+id_value value = number_below id_count value
 
 -- a pid is one from 1 to 4194304
 abbrev pub pid_value : Option Data → Option ℕ
 pid_value None = None
-pid_value (Some value) = option_and_then (λ n. if n == 0 then None else Some n) (number_below 4194305 value)
+pid_value (Some value) = option_and_then (λ n. if n == 0 then None else Some n) (number_below (last_pid + 1) value)
 
 -- four ids, where each is there
 abbrev pub four_ids : Option ℕ → Option ℕ → Option ℕ → Option ℕ → Option FourIds

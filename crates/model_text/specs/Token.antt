@@ -1,27 +1,25 @@
 -- Single tokens of a script line (choice).
-use Rattle.std.specs.Prelude.{ℕ, ◌&&◌, Bool, false, nat_le, codes, bytes_eq, List, [], ◌∷◌, ◌==◌, Option, Some, None, if◌then◌else◌, option_and_then, option_map}
+use Rattle.std.specs.Prelude.{ℕ, Bool, false, codes, bytes_eq, List, [], ◌∷◌, ◌==◌, Option, Some, None, if◌then◌else◌, option_and_then, option_map}
 use Rattle.std.specs.Option.{option_or}
 use Rattle.std.specs.Result.{result_ok}
+use Rattle.cm_base.specs.Limits.{minus_one}
 use Rattle.cm_base.specs.Number.{read_decimal}
 use Rattle.cm_base.specs.Names.{cap_of, errno_of}
 use Rattle.cm_base.specs.declared.res.Res.{Res}
 use Rattle.cm_base.specs.declared.res.Res.TheVariants.{Done, Child, Err}
+use Rattle.model_cred.specs.Process.{as_pid}
 
 -- a number: decimal digits, leading zeros allowed, of at most 4294967295
 abbrev pub number_token : List ℕ → Option ℕ
 number_token text = result_ok (read_decimal text)
 
--- the number, where it is a pid
-abbrev pub as_pid : ℕ → Option ℕ
-as_pid n = if nat_le 1 n && nat_le n 4194304 then Some n else None
-
 -- a pid: a number from 1 to 4194304
 abbrev pub pid_token : List ℕ → Option ℕ
 pid_token text = option_and_then as_pid (number_token text)
 
--- an id: a number, or -1, which is 4294967295
+-- an id: a number, or -1
 abbrev pub id_token : List ℕ → Option ℕ
-id_token text = if bytes_eq text (codes "-1") then Some 4294967295 else number_token text
+id_token text = if bytes_eq text (codes "-1") then Some minus_one else number_token text
 
 -- the result of a call that is done or refused: 0, or the name of an error
 abbrev pub result_token : List ℕ → Option Res

@@ -2,7 +2,7 @@
 use Rattle.std.specs.Prelude.{ℕ, codes, ◌==◌, ◌&&◌, ◌||◌, Bool, true, false, not, nat_lt, List, [], ◌∷◌, Option, Some, None, if◌then◌else◌}
 use Rattle.std.specs.List.{list_any}
 use Rattle.std.specs.Str.{is_utf8}
-use Rattle.model_cred.specs.Process.{Process}
+use Rattle.model_cred.specs.Process.{Process, is_alive, insert_process}
 use Rattle.model_cred.specs.Space.{first_spaces}
 use Rattle.model_cred.specs.Files.{FileTable, plain_mount}
 use Rattle.cm_filter.specs.Filters.{no_filter}
@@ -63,25 +63,15 @@ processes_of None = Some []
 processes_of (Some (array rows)) = process_rows rows
 processes_of (Some _) = None
 
--- one of the processes has the pid
-abbrev pub has_pid : ℕ → List Process → Bool
-has_pid pid [] = false
-has_pid pid (p ∷ processes) = p.pid == pid || has_pid pid processes
-
 -- no pid stands twice
 abbrev pub are_distinct : List Process → Bool
 are_distinct [] = true
-are_distinct (p ∷ processes) = not (has_pid p.pid processes) && are_distinct processes
-
--- the process at its place among others whose pids ascend
-abbrev pub placed : Process → List Process → List Process
-placed p [] = p ∷ []
-placed p (q ∷ processes) = if nat_lt p.pid q.pid then p ∷ q ∷ processes else q ∷ placed p processes
+are_distinct (p ∷ processes) = not (is_alive processes p.pid) && are_distinct processes
 
 -- the processes by ascending pid
 abbrev pub in_order : List Process → List Process
 in_order [] = []
-in_order (p ∷ processes) = placed p (in_order processes)
+in_order (p ∷ processes) = insert_process p (in_order processes)
 
 -- the mount `root`, which always stands, and no declared files
 abbrev pub root_alone : FileTable

@@ -7,7 +7,7 @@ use Rattle.cm_world.specs.World.{world_of}
 use Rattle.model_cred.specs.Process.{State}
 use Rattle.model_report.specs.Replay.{text_of}
 use Rattle.model_run.specs.Step.{Run}
-use Rattle.model_run.specs.WayBack.{are_setresuids}
+use Rattle.model_run.specs.RunBack.{are_setresuids}
 use Rattle.model_text.specs.Reading.{events_of}
 
 -- The report of what is left goes on from what is written and what waits, and the run and what is told of its calls go on.

@@ -9,7 +9,7 @@ use Rattle.cm_cli.specs.Telling.{log_report, answer_to}
 use Rattle.cm_io.specs.declared.outside.Outside.TheVariants as outside
 use Rattle.model_cred.specs.Process.{State}
 use Rattle.model_report.specs.Replay.{text_of}
-use Rattle.model_run.proofs.WaysBack.{setresuids_follow}
+use Rattle.model_run.proofs.RunsBack.{setresuids_follow}
 use Rattle.model_text.specs.Reading.{Reading, events_of, script_reading}
 
 -- without memory for the machine nothing is written

@@ -1,5 +1,6 @@
 use Rattle.std.proofs.Common.{◌≡◌, ◌<◌, ◌+◌, ◌-◌, Some, None, sym, subst, arith}
 use Rattle.std.proofs.lemmas.Grind.{common_steps}
+use Rattle.cm_base.specs.Limits.{id_count}
 use Rattle.model_cred.specs.IdMap.{up}
 use Rattle.model_cred.specs.MapFault.{IsMap}
 use Rattle.cm_idmap.proofs.Faultless.{Fits}
@@ -7,7 +8,7 @@ use Rattle.cm_idmap.proofs.Taken.{up_answer, fits_at}
 use Rattle.cm_idmap.proofs.map.IdMap.up.Goals as goal
 
 -- the extent that holds the id ends within the ids
-within : (c : goal.Then-outside-e) → c.e.inside.inside + (c.args.outside - c.e.inside.outside) < 4294967295
+within : (c : goal.Then-outside-e) → c.e.inside.inside + (c.args.outside - c.e.inside.outside) < id_count
 within c =
     let is : IsMap c.deref-e-items.result.now = subst IsMap (sym c.deref-e-items.ensures.value) c.self.invariant in
     let fits : Fits c.e-item.result = fits_at c.deref-e-items.result.now c.loop-e.e-index c.e-item.result is c.loop-e-test.true (sym c.e-item.is) in

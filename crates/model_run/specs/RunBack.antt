@@ -76,11 +76,11 @@ CanComeBack w s pid k = (run : List Event) × BringsBack w s pid k run
 abbrev pub becomes : ℕ → ℕ → Event
 becomes pid k = record { pid = pid; call = SetResUid minus_one k minus_one; res = Done }
 
--- The way back to a user id where the sets follow the ids: no call where the effective id is this one; one call where the
--- real or the saved id is, or the effective set has CAP_SETUID; two calls, the first to id 0, where the real or the saved
--- id is 0 and the permitted set has CAP_SETUID; else there is none.
-abbrev pub way_back : Credential → ℕ → ℕ → Option (List Event)
-way_back c pid k =
+-- The run that brings the process back to a user id, where the sets follow the ids: no call where the effective id is
+-- this one; one call where the real or the saved id is, or the effective set has CAP_SETUID; two calls, the first to id
+-- 0, where the real or the saved id is 0 and the permitted set has CAP_SETUID; else there is none.
+abbrev pub run_back : Credential → ℕ → ℕ → Option (List Event)
+run_back c pid k =
     if c.uid.effective == k then Some []
     else if c.uid.real == k || c.uid.saved == k || has_setuid c then Some (becomes pid k ∷ [])
     else if (c.uid.real == 0 || c.uid.saved == 0) && holds c.permitted cap_setuid then Some (becomes pid 0 ∷ becomes pid k ∷ [])

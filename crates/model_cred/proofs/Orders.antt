@@ -1,10 +1,14 @@
--- Each call keeps the order of pids and what holds of each process.
-use Rattle.std.proofs.Common.{◌≡◌, ◌≢◌, ℕ, suc, ◌<◌, ◌≤◌, ◌==◌, not, Bool, true, false, List, [], ◌∷◌, map, filter, Option, Some, if◌then◌else◌, sym, ap, ◌∙◌, inl, inr, subst, arith}
-use Rattle.std.specs.Prelude.{nat_lt, All, is_some}
-use Rattle.std.proofs.lemmas.Bool.{cases_Bool, eqb-true, eqb-false, ltb-true, ltb-false, cond-true, cond-false}
+-- The order of pids, and what holds of each process, with one process in the place of another, with one more, and with
+-- one less.
+use Rattle.std.proofs.Common.{◌≡◌, ◌≢◌, ℕ, suc, ◌<◌, ◌≤◌, ◌==◌, not, Bool, true, false, cond, List, [], ◌∷◌, map, filter}
+use Rattle.std.proofs.Common.{Option, Some, if◌then◌else◌, sym, ◌∙◌, inl, inr, subst, arith}
+use Rattle.std.specs.Prelude.{nat_lt, All}
+use Rattle.std.proofs.lemmas.Bool.{cases_Bool, eqb-true, eqb-false, ltb-true, ltb-false, cond-true, cond-false, or_parts}
 use Rattle.std.proofs.lemmas.List.Elements.{All-head, All-tail, All-cons, All-filter, All-map, All-weaker}
 use Rattle.model_cred.specs.IdMap.{is_the}
-use Rattle.model_cred.specs.Process.{Process, Ascends, process_at, put_process, insert_process, is_alive, after_exit, without_process}
+use Rattle.model_cred.specs.Process.{Process, Ascends, process_at, put_process, insert_process, is_alive}
+use Rattle.model_cred.specs.Process.{after_exit, without_process}
+use Rattle.model_cred.proofs.Lookups.{alive_cons, like_after_exit}
 
 -- the pids ascend from a number on
 abbrev pub AscendsFrom : ℕ → List Process → Type 0
@@ -47,26 +51,24 @@ ascends_put low new (p ∷ processes) ascends =
           (ascends.0, ascends_put (suc p.pid) new processes ascends.1)
     ]
 
-pub all_put : (P : Process → Type 0) (new : Process) (processes : List Process) → P new → All P processes → All P (put_process new processes)
+pub all_put : (P : Process → Type 0) (new : Process) (processes : List Process) → P new → All P processes
+    → All P (put_process new processes)
 all_put P new [] holds all = all
 all_put P new (p ∷ processes) holds all =
-    elim (cases_Bool (p.pid == new.pid)) [
-      | inl same ↦
-          subst (All P) (sym (cond-true (p.pid == new.pid) (new ∷ processes) (p ∷ put_process new processes) same))
-          (All-cons P new processes holds (All-tail P p processes all))
-      | inr other ↦
-          subst (All P) (sym (cond-false (p.pid == new.pid) (new ∷ processes) (p ∷ put_process new processes) other))
-          (All-cons P p (put_process new processes) (All-head P p processes all) (all_put P new processes holds (All-tail P p processes all)))
+    elim (p.pid == new.pid) as (λ (b : Bool). All P (cond b (new ∷ processes) (p ∷ put_process new processes))) [
+      | true ↦ All-cons P new processes holds (All-tail P p processes all)
+      | false ↦
+          All-cons P p (put_process new processes) (All-head P p processes all)
+          (all_put P new processes holds (All-tail P p processes all))
     ]
 
 -- ---- one more process
 -- a pid that isn't alive is none of the processes'
-pub other_pid : (p : Process) (processes : List Process) (pid : ℕ) → is_alive (p ∷ processes) pid ≡ false → (p.pid ≢ pid) × (is_alive processes pid ≡ false)
+other_pid : (p : Process) (processes : List Process) (pid : ℕ) → is_alive (p ∷ processes) pid ≡ false
+    → (p.pid ≢ pid) × (is_alive processes pid ≡ false)
 other_pid p processes pid dead =
-    elim (cases_Bool (p.pid == pid)) [
-      | inl same ↦ absurd (let alive : is_alive (p ∷ processes) pid ≡ true = ap is_some (cond-true (p.pid == pid) (Some p) (process_at processes pid) same) in cc)
-      | inr other ↦ (eqb-false p.pid pid other, sym (ap is_some (cond-false (p.pid == pid) (Some p) (process_at processes pid) other)) ∙ dead)
-    ]
+    let (here, later) = or_parts (p.pid == pid) (is_alive processes pid) (sym (alive_cons p processes pid) ∙ dead) in
+    (eqb-false p.pid pid here, later)
 
 pub ascends_insert : (low : ℕ) (new : Process) (processes : List Process) → is_alive processes new.pid ≡ false → low ≤ new.pid → AscendsFrom low processes
     → AscendsFrom low (insert_process new processes)
@@ -85,25 +87,27 @@ ascends_insert low new (p ∷ processes) dead above ascends =
           (ascends.0, ascends_insert (suc p.pid) new processes others.1 (omega arith) ascends.1)
     ]
 
-pub all_insert : (P : Process → Type 0) (new : Process) (processes : List Process) → P new → All P processes → All P (insert_process new processes)
+pub insert_ascends : (new : Process) (processes : List Process) → is_alive processes new.pid ≡ false → Ascends processes
+    → Ascends (insert_process new processes)
+insert_ascends new processes dead ascends =
+    ascends_back 0 (insert_process new processes)
+    (ascends_insert 0 new processes dead (omega arith) (ascends_forth processes ascends))
+
+pub all_insert : (P : Process → Type 0) (new : Process) (processes : List Process) → P new → All P processes
+    → All P (insert_process new processes)
 all_insert P new [] holds all = All-cons P new [] holds all
 all_insert P new (p ∷ processes) holds all =
-    elim (cases_Bool (nat_lt new.pid p.pid)) [
-      | inl less ↦
-          subst (All P) (sym (cond-true (nat_lt new.pid p.pid) (new ∷ p ∷ processes) (p ∷ insert_process new processes) less))
-          (All-cons P new (p ∷ processes) holds all)
-      | inr not_less ↦
-          subst (All P) (sym (cond-false (nat_lt new.pid p.pid) (new ∷ p ∷ processes) (p ∷ insert_process new processes) not_less))
-          (All-cons P p (insert_process new processes) (All-head P p processes all) (all_insert P new processes holds (All-tail P p processes all)))
+    elim (nat_lt new.pid p.pid)
+    as (λ (b : Bool). All P (cond b (new ∷ p ∷ processes) (p ∷ insert_process new processes))) [
+      | true ↦ All-cons P new (p ∷ processes) holds all
+      | false ↦
+          All-cons P p (insert_process new processes) (All-head P p processes all)
+          (all_insert P new processes holds (All-tail P p processes all))
     ]
 
 -- ---- one process less
 pub pid_after : (gone p : Process) → (after_exit gone p).pid ≡ p.pid
-pid_after gone p =
-    elim (cases_Bool (is_the p.forebear gone.pid)) [
-      | inl its ↦ ap (λ (q : Process). q.pid) (cond-true (is_the p.forebear gone.pid) (record p { forebear = gone.forebear }) p its)
-      | inr other ↦ ap (λ (q : Process). q.pid) (cond-false (is_the p.forebear gone.pid) (record p { forebear = gone.forebear }) p other)
-    ]
+pid_after gone p = sym (like_after_exit gone p).pid
 
 pub ascends_filter : (low : ℕ) (test : Process → Bool) (processes : List Process) → AscendsFrom low processes → AscendsFrom low (filter test processes)
 ascends_filter low test [] ascends = tt
@@ -130,27 +134,33 @@ pub ascends_without : (low : ℕ) (gone : Process) (processes : List Process) �
 ascends_without low gone processes ascends =
     ascends_after low gone (filter (λ p. not (p.pid == gone.pid)) processes) (ascends_filter low (λ p. not (p.pid == gone.pid)) processes ascends)
 
--- what doesn't ask for a forebear holds after an exit too
-pub all_without : (P : Process → Type 0) (gone : Process) (processes : List Process) → ((p : Process) (f : Option ℕ) → P p → P (record p { forebear = f }))
-    → All P processes → All P (without_process gone processes)
-all_without P gone processes any all =
-    All-map P (after_exit gone) (filter (λ p. not (p.pid == gone.pid)) processes)
-    (All-weaker P (λ p. P (after_exit gone p)) (λ p holds. after p holds (is_the p.forebear gone.pid))
-    (filter (λ p. not (p.pid == gone.pid)) processes)
+-- what outlasts an exit holds of those that are left, where it holds of all
+pub all_left : (P : Process → Type 0) (gone : Process) (processes : List Process)
+    → ((p : Process) → P p → P (after_exit gone p)) → All P processes → All P (without_process gone processes)
+all_left P gone processes lasts all =
+    let left : List Process = filter (λ p. not (p.pid == gone.pid)) processes in
+    All-map P (after_exit gone) left
+    (All-weaker P (λ p. P (after_exit gone p)) lasts left
     (All-filter (λ p. not (p.pid == gone.pid)) P processes all))
+
+-- so does what doesn't ask for a forebear
+pub all_without : (P : Process → Type 0) (gone : Process) (processes : List Process)
+    → ((p : Process) (f : Option ℕ) → P p → P (record p { forebear = f })) → All P processes
+    → All P (without_process gone processes)
+all_without P gone processes any all =
+    all_left P gone processes (λ p holds. after p holds (is_the p.forebear gone.pid)) all
   where
     after : (p : Process) → P p → (b : Bool) → P (if b then record p { forebear = gone.forebear } else p)
     after p holds true = any p gone.forebear holds
     after p holds false = holds
 
+-- ---- the process of a pid
 -- what holds of each process holds of the one that is found
-pub all_found : (P : Process → Type 0) (processes : List Process) (pid : ℕ) (p : Process) → All P processes → process_at processes pid ≡ Some p → P p
+pub all_found : (P : Process → Type 0) (processes : List Process) (pid : ℕ) (p : Process) → All P processes
+    → process_at processes pid ≡ Some p → P p
 all_found P [] pid p all is = absurd (cc)
 all_found P (q ∷ processes) pid p all is =
-    elim (cases_Bool (q.pid == pid)) [
-      | inl same ↦
-          let it : Some q ≡ Some p = sym (cond-true (q.pid == pid) (Some q) (process_at processes pid) same) ∙ is in
-          let e : q ≡ p = cc in
-          subst P e (All-head P q processes all)
-      | inr other ↦ all_found P processes pid p (All-tail P q processes all) (sym (cond-false (q.pid == pid) (Some q) (process_at processes pid) other) ∙ is)
-    ]
+    elim (q.pid == pid) as (λ (b : Bool). cond b (Some q) (process_at processes pid) ≡ Some p → P p) [
+      | true ↦ λ found. let same : q ≡ p = cc in subst P same (All-head P q processes all)
+      | false ↦ λ found. all_found P processes pid p (All-tail P q processes all) found
+    ] is
