@@ -5,12 +5,12 @@ use Rattle.cm_base.specs.declared.status.Status.TheVariants as answers
 use Rattle.cm_cli.specs.Answers.{report_over, ComesByCause, IsValid, IsCompleted, SaysYes, SaysNo, NoneRose, NamesFault}
 use Rattle.cm_cli.specs.Telling.{IsTold}
 use Rattle.cm_io.specs.Shelf.{Files, bytes_at, Rose}
-use Rattle.model_text.proofs.Endings.{yes_is_never, no_is_way}
-use Rattle.model_text.proofs.Statuses.{each_by_its_cause}
-use Rattle.model_text.specs.Causes.{Cause, AfterLog, IsAccepted, IsNo, IsBeyond}
-use Rattle.model_text.specs.Command.{command_of, query_of}
-use Rattle.model_text.specs.Query.{Query}
-use Rattle.model_text.specs.Laws.{EachByItsCause, YesIsNever, NoIsWay}
+use Rattle.model_report.proofs.Endings.{yes_is_never, no_is_run}
+use Rattle.model_report.proofs.Statuses.{each_by_its_cause}
+use Rattle.model_report.specs.Causes.{Cause, AfterLog, IsAccepted, IsNo, IsBeyond}
+use Rattle.model_report.specs.Command.{command_of, query_of}
+use Rattle.model_report.specs.Query.{Query}
+use Rattle.model_report.specs.Laws.{EachByItsCause, YesIsNever, NoIsRun}
 
 -- the answer's cause, from its being the report's status
 pub by_cause : (words : List (List ℕ)) (files : Files) (answer : Status) → answer ≡ (report_over words files).status
@@ -99,9 +99,9 @@ says_yes words files answer is said q asked =
 
 pub says_no : (words : List (List ℕ)) (files : Files) (answer : Status) → (IsTold answer → answer ≡ (report_over words files).status)
     → answer ≡ answers.No → SaysNo words files
-unfolding NoIsWay
+unfolding NoIsRun
 says_no words files answer is said =
-    no_is_way words (bytes_at files) (sym (is (subst IsTold (sym said) (told answers.No (λ e. cc) (λ e. cc) (λ e. cc)))) ∙ said)
+    no_is_run words (bytes_at files) (sym (is (subst IsTold (sym said) (told answers.No (λ e. cc) (λ e. cc) (λ e. cc)))) ∙ said)
 
 -- a count that is always 0 never rises
 pub never_rises : ¬ Rose 0 0

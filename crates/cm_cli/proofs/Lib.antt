@@ -1,13 +1,8 @@
 -- Lemmas of this crate, by topic.
-pub mod Tokens
-pub mod CapNumbers
-pub mod Arguments
-pub mod LogTurns
-pub mod Waiting
 pub mod FirstLine
 pub mod ReportText
-pub mod HexDigits
-pub mod GroupText
+pub mod Events
+pub mod Waiting
 pub mod Ready
 pub mod Starting
 pub mod Following

@@ -6,8 +6,8 @@ use Rattle.cm_cli.specs.Reading.{IsWorldRead, IsLogRead}
 use Rattle.cm_cli.specs.Telling.{log_report}
 use Rattle.cm_world.specs.declared.world.World as code
 use Rattle.cm_world.specs.World.{world_of}
-use Rattle.model_text.specs.Query.{Query}
-use Rattle.model_text.specs.Report.{files_report, world_limit, log_limit}
+use Rattle.model_report.specs.Query.{Query}
+use Rattle.model_report.specs.Report.{files_report, world_limit, log_limit}
 use Rattle.model_text.specs.WorldText.{Reads, world_text}
 
 -- the report of both is that of the world and the log that were read

@@ -7,7 +7,7 @@ use Rattle.cm_cli.specs.Answers.{asking, AnswersReport, CountsReads}
 use Rattle.cm_world.specs.World.{world_of}
 use Rattle.cm_world.specs.declared.world.World as code
 use Rattle.cm_cli.specs.Reading.{WorldStands}
-use Rattle.cm_cli.specs.Telling.{IsTold, Tells, short_report, log_report}
+use Rattle.cm_cli.specs.Telling.{IsTold, TellsReport, short_report, log_report}
 use Rattle.cm_cli.specs.declared.telling.Short.{Short}
 use Rattle.cm_cli.specs.declared.telling.Short.TheVariants as short
 use Rattle.cm_io.specs.Shelf.{Files, bytes_at, Rose}
@@ -17,11 +17,10 @@ use Rattle.model_cred.specs.Right.{Right, Cap, Uid, Gid}
 use Rattle.model_cred.specs.World.{World}
 use Rattle.model_run.specs.RunBack.{are_setresuids, run_back}
 use Rattle.model_run.specs.Step.{Outcome, Goes, NoProcess, NoSpace, PidInUse, Wrong, outcome}
-use Rattle.model_text.specs.Command.{NoForm, files_of}
-use Rattle.model_text.specs.Cut.{lines_of}
-use Rattle.model_text.specs.Line.{Line, NoEvent, Tells as TellsEvent, Faulty, Unbuilt, script_line, events_of}
-use Rattle.model_text.specs.Query.{Query, asked_process, right_token}
-use Rattle.model_text.specs.Report.{Report, command_report, files_report, answered, go_on, verdict_after, asked_verdict, right_verdict, way_verdict, not_built, state_after, replayed, by_line, by_outcome}
+use Rattle.model_report.specs.Command.{NoForm, files_of}
+use Rattle.model_report.specs.Query.{Query, asked_process, right_token}
+use Rattle.model_report.specs.Replay.{Report}
+use Rattle.model_report.specs.Report.{command_report, files_report}
 
 -- a fact of what is told, from another
 pub if_told : {T : Type 0} {P Q : T → Type 0} (o : Option T) → IfSome o P → ((x : T) → P x → Q x) → IfSome o Q
@@ -40,56 +39,6 @@ short_not_usage short.NotBuilt not is = cc
 short_not_usage short.BadWorld not is = cc
 short_not_usage short.WorldLimit not is = cc
 short_not_usage short.LogLimit not is = cc
-
-outcome_not_usage : (n count : ℕ) (e : Event) (rest : State → ℕ → Report) → ((s : State) (c : ℕ) → (rest s c).status ≢ answers.Usage) → (become : Outcome) → (by_outcome n count e rest become).status ≢ answers.Usage
-outcome_not_usage n count e rest told (Goes s) = told s (count + 1)
-outcome_not_usage n count e rest told NoProcess = λ is. cc
-outcome_not_usage n count e rest told (Wrong res) = λ is. cc
-outcome_not_usage n count e rest told NoSpace = λ is. cc
-outcome_not_usage n count e rest told PidInUse = λ is. cc
-
-line_not_usage : (w : World) (s : State) (n count : ℕ) (rest : State → ℕ → Report) → ((s' : State) (c : ℕ) → (rest s' c).status ≢ answers.Usage) → (line : Line) → (by_line w s n count rest line).status ≢ answers.Usage
-line_not_usage w s n count rest told NoEvent = told s count
-line_not_usage w s n count rest told (TellsEvent e) = outcome_not_usage n count e rest told (outcome w s e)
-line_not_usage w s n count rest told Faulty = λ is. cc
-line_not_usage w s n count rest told Unbuilt = λ is. cc
-
-replayed_not_usage : (w : World) (lines : List (List ℕ)) (s : State) (n count : ℕ) → (replayed w lines s n count).status ≢ answers.Usage
-replayed_not_usage w [] s n count = λ is. cc
-replayed_not_usage w (line ∷ lines) s n count = line_not_usage w s n count (λ s' c. replayed w lines s' (n + 1) c) (λ s' c. replayed_not_usage w lines s' (n + 1) c) (script_line line)
-
--- nor has an answer to an audit
-way_not_usage : (pid : ℕ) (way : Option (List Event)) → (way_verdict pid way).status ≢ answers.Usage
-way_not_usage pid None is = cc
-way_not_usage pid (Some way) is = cc
-
-right_not_usage : (more : Bool) (s : State) (p : Process) (right : Right) → (right_verdict more s p right).status ≢ answers.Usage
-right_not_usage more s p (Gid k) is = cc
-right_not_usage more s p (Cap cap n) is = cc
-right_not_usage more s p (Uid k) is =
-    elim (not more && length s.processes == 1) as (λ (b : Bool). (cond b (way_verdict p.pid (run_back p.cred p.pid k)) not_built).status ≡ answers.Usage → ⊥) [
-      | true ↦ way_not_usage p.pid (run_back p.cred p.pid k)
-      | false ↦ λ never. cc
-    ] is
-
-asked_not_usage : (more : Bool) (s : State) (p : Option Process) (right : Option Right) → (asked_verdict more s p right).status ≢ answers.Usage
-asked_not_usage more s None right is = cc
-asked_not_usage more s (Some p) None is = cc
-asked_not_usage more s (Some p) (Some right) is = right_not_usage more s p right is
-
-go_on_not_usage : (st : Status) (r next : Report) → r.status ≢ answers.Usage → next.status ≢ answers.Usage → (go_on st r next).status ≢ answers.Usage
-go_on_not_usage answers.Accepted r next first second = second
-go_on_not_usage _ r next first second = first
-
-answered_not_usage : (query : Option Query) (more : Bool) (w : World) (lines : List (List ℕ)) → (answered query more w lines).status ≢ answers.Usage
-answered_not_usage None more w lines = replayed_not_usage w lines w.start 1 0
-answered_not_usage (Some q) more w lines =
-    go_on_not_usage (replayed w lines w.start 1 0).status (replayed w lines w.start 1 0) (verdict_after more w (events_of lines) q) (replayed_not_usage w lines w.start 1 0)
-    (asked_not_usage (more || not (are_setresuids (events_of lines))) (state_after w w.start (events_of lines)) (asked_process (state_after w w.start (events_of lines)) q.pid) (right_token q.right))
-
--- nor has the report of a log
-pub log_not_usage : (query : Option Query) (w : code.World) (log : List ℕ) → (log_report query w log).status ≢ answers.Usage
-log_not_usage query w log = answered_not_usage query w.more (world_of w) (lines_of log)
 
 -- ---- the command that asks after a log
 asking_has_form : (query : Option Query) (world log : List ℕ) → asking query world log ≢ NoForm
@@ -111,7 +60,7 @@ told_usage = record { not_read_fault = λ e. cc; not_write_fault = λ e. cc; not
 -- the files were read, and a report was told
 pub log_answers : (held : Option Files) (query : Option Query) (world log : List ℕ) (r : Report) (answer : Status) (w w' : Option (List ℕ)) (f f' : ℕ)
     → IfSome held (λ files. files_report query (bytes_at files world) (bytes_at files log) ≡ r) → r.status ≢ answers.Usage
-    → Tells r answer w w' f f' → AnswersReport held (asking query world log) answer w w'
+    → TellsReport r answer w w' f f' → AnswersReport held (asking query world log) answer w w'
 log_answers held query world log r answer w w' f f' ready not_usage told = record {
   status = if_told held ready (λ files is is_told.
       told.status is_told ∙ ap (λ (q : Report). q.status) (sym (asking_report query world log (bytes_at files) ∙ is)));

@@ -2,7 +2,8 @@
 use Rattle.std.proofs.Common.{◌≡◌, ℕ, List, [], ◌∷◌, ◌++◌, Result, length, map, OnOk, sym, ap, ◌∙◌, append_assoc, append-nil}
 use Rattle.std.proofs.lemmas.Grind.{flat_map-append}
 use Rattle.std.proofs.lemmas.Result.{IfOk-equal}
-use Rattle.model_text.specs.Report.{ReportLine, Plain, line_text, text_of, at_line, way_lines}
+use Rattle.model_report.specs.Replay.{ReportLine, Plain, line_text, text_of, at_line}
+use Rattle.model_report.specs.Report.{run_lines}
 use Rattle.model_cred.specs.Call.{Event}
 use Rattle.model_text.specs.Print.{event_text}
 use Rattle.std.specs.Prelude.{codes}
@@ -35,24 +36,41 @@ text_of_steps now new all ls more wrote whole =
 pub joined : (old one two a b c : List ℕ) → one ≡ old ++ a → two ≡ one ++ b → two ++ c ≡ old ++ (a ++ b ++ c)
 joined old one two a b c first second = rw (second, first) (simp append_assoc)
 
--- the last piece of a line of plain text
+-- one piece and a last one
+pub joined_once : (old one a b : List ℕ) → one ≡ old ++ a → one ++ b ≡ old ++ (a ++ b)
+joined_once old one a b first = rw first (append_assoc old a b)
+
+-- four pieces and a last one
+pub joined_four : (old one two three four a b c d e : List ℕ) → one ≡ old ++ a → two ≡ one ++ b → three ≡ two ++ c → four ≡ three ++ d
+    → four ++ e ≡ old ++ (((a ++ b) ++ c) ++ d ++ e)
+joined_four old one two three four a b c d e first second third fourth = rw (fourth, third, second, first) (simp append_assoc)
+
+-- the end of a line
+pub closed : {T E : Type 0} (r : Result T E) (old now new : List ℕ) (l : ReportLine)
+    → OnOk r (new ≡ now) → now ≡ old ++ (line_text l ++ 10 ∷ []) → OnOk r (new ≡ old ++ text_of (l ∷ []))
+closed r old now new l wrote same =
+    IfOk-equal r new now (old ++ text_of (l ∷ [])) wrote (same ∙ ap (λ t. old ++ t) (sym (text_of_one l)))
+
+-- the end of a line of plain text
 pub plain : {T E : Type 0} (r : Result T E) (old now new text : List ℕ)
     → OnOk r (new ≡ now) → now ≡ old ++ (text ++ 10 ∷ []) → OnOk r (new ≡ old ++ text_of (Plain text ∷ []))
-plain r old now new text wrote same =
-    IfOk-equal r new now (old ++ text_of (Plain text ∷ [])) wrote (same ∙ ap (λ t. old ++ t) (sym (text_of_one (Plain text))))
+plain r old now new text wrote same = closed r old now new (Plain text) wrote same
 
--- the lines of a way back: how many calls, the calls, and the holder
-way_text : (pid : ℕ) (way : List Event)
-    → text_of (way_lines pid way) ≡ text_of (Plain (at_line (codes "no ") (length way)) ∷ []) ++ text_of (map (λ e. Plain (event_text e)) way) ++ text_of (Plain (at_line (codes "holder ") pid) ∷ [])
-way_text pid way =
-    let no : ReportLine = Plain (at_line (codes "no ") (length way)) in
-    let calls : List ReportLine = map (λ e. Plain (event_text e)) way in
+-- the lines of a run back: how many calls, the calls, and the holder
+run_text : (pid : ℕ) (run : List Event) → text_of (run_lines pid run)
+    ≡ text_of (Plain (at_line (codes "no ") (length run)) ∷ []) ++ text_of (map (λ e. Plain (event_text e)) run)
+    ++ text_of (Plain (at_line (codes "holder ") pid) ∷ [])
+run_text pid run =
+    let no : ReportLine = Plain (at_line (codes "no ") (length run)) in
+    let calls : List ReportLine = map (λ e. Plain (event_text e)) run in
     let holder : ReportLine = Plain (at_line (codes "holder ") pid) in
     text_of_append (no ∷ calls) (holder ∷ []) ∙ ap (λ t. t ++ text_of (holder ∷ [])) (text_of_cons no calls)
 
 -- the same, written one after another
-pub way_written : (old one two : List ℕ) (pid : ℕ) (way : List Event) → one ≡ old ++ text_of (Plain (at_line (codes "no ") (length way)) ∷ [])
-    → two ≡ one ++ text_of (map (λ e. Plain (event_text e)) way) → two ++ text_of (Plain (at_line (codes "holder ") pid) ∷ []) ≡ old ++ text_of (way_lines pid way)
-way_written old one two pid way first second =
-    joined old one two (text_of (Plain (at_line (codes "no ") (length way)) ∷ [])) (text_of (map (λ e. Plain (event_text e)) way)) (text_of (Plain (at_line (codes "holder ") pid) ∷ [])) first second
-    ∙ ap (λ t. old ++ t) (sym (way_text pid way))
+pub run_written : (old one two : List ℕ) (pid : ℕ) (run : List Event) → one ≡ old ++ text_of (Plain (at_line (codes "no ") (length run)) ∷ [])
+    → two ≡ one ++ text_of (map (λ e. Plain (event_text e)) run) → two ++ text_of (Plain (at_line (codes "holder ") pid) ∷ []) ≡ old ++ text_of (run_lines pid run)
+run_written old one two pid run first second =
+    let no : List ℕ = text_of (Plain (at_line (codes "no ") (length run)) ∷ []) in
+    let calls : List ℕ = text_of (map (λ e. Plain (event_text e)) run) in
+    let holder : List ℕ = text_of (Plain (at_line (codes "holder ") pid) ∷ []) in
+    joined old one two no calls holder first second ∙ ap (λ t. old ++ t) (sym (run_text pid run))

@@ -1,8 +1,8 @@
--- The credential lines at the start, and the calls of a way back.
+-- The credential lines at the start, and the calls of a run back.
 use Rattle.std.proofs.Common.{◌≡◌, ℕ, suc, ◌+◌, ◌<◌, length, List, [], ◌∷◌, ◌++◌, map, drop, get_or, sym, ap, ◌∙◌, append_assoc, add-one, drop-cons}
 use Rattle.cm_cli.proofs.ReportText.{text_of_cons}
 use Rattle.model_cred.specs.Process.{Process}
-use Rattle.model_text.specs.Report.{ReportLine, Credentials, Plain, text_of}
+use Rattle.model_report.specs.Replay.{ReportLine, Credentials, Plain, text_of}
 use Rattle.model_text.specs.Print.{event_text}
 use Rattle.model_cred.specs.Call.{Event}
 

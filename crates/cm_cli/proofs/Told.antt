@@ -4,27 +4,29 @@ use Rattle.cm_base.specs.declared.status.Status.{Status}
 use Rattle.cm_base.specs.declared.status.Status.TheVariants as answers
 use Rattle.cm_cli.proofs.ReportText.{text_of_append}
 use Rattle.cm_cli.specs.Sent.{IsSent, IsFront}
-use Rattle.cm_cli.specs.Telling.{IsTold, Tells, stopped_by, log_report, answer_to}
+use Rattle.cm_cli.specs.Replay.{report_from}
+use Rattle.cm_cli.specs.declared.replay.Replay.{Replay}
+use Rattle.cm_cli.specs.Telling.{IsTold, TellsReport, stopped_by, log_report, answer_to}
 use Rattle.cm_io.specs.Sink.{then_written, WriteFaults}
 use Rattle.cm_io.specs.declared.outside.Outside.{Outside}
 use Rattle.cm_io.specs.declared.outside.Outside.TheVariants as outside
 use Rattle.cm_world.specs.World.{world_of}
 use Rattle.cm_world.specs.declared.world.World as code
-use Rattle.model_text.specs.Cut.{lines_of}
 use Rattle.model_cred.specs.Call.{Event}
 use Rattle.model_cred.specs.Process.{Process, State}
 use Rattle.model_cred.specs.Right.{Right, Cap, Uid, Gid}
 use Rattle.model_cred.specs.World.{World}
 use Rattle.model_run.specs.RunBack.{are_setresuids, run_back}
 use Rattle.model_run.specs.Step.{Outcome, Goes, NoProcess, NoSpace, PidInUse, Wrong, Run, outcome}
-use Rattle.model_text.specs.Line.{Line, NoEvent, Tells as TellsEvent, Faulty, Unbuilt, script_line, events_of}
-use Rattle.model_text.proofs.Statuses.{of_end, of_stop}
-use Rattle.model_text.specs.Query.{Query, asked_process, right_token}
-use Rattle.model_text.specs.Report.{Report, Credentials, text_of, answered, after, go_on, verdict, verdict_after, asked_verdict, right_verdict, way_verdict, not_built, state_after, replayed, by_line, by_outcome}
+use Rattle.model_text.specs.Reading.{Placed, Stop, Fault, Limit, NotBuilt, End, AtEnd, Stops, Reading, events_of, script_reading}
+use Rattle.model_report.proofs.Statuses as statuses
+use Rattle.model_report.specs.Query.{Query, asked_process, right_token}
+use Rattle.model_report.specs.Replay.{Report, Credentials, text_of, after, not_built, state_after, replayed, by_end, stopped, by_outcome}
+use Rattle.model_report.specs.Report.{answered, replay_of, go_on, verdict, verdict_after, asked_verdict, right_verdict, run_verdict}
 
 -- a report that stopped at an error: a front of it is written
 pub stops : {T : Type 0} (r : Report) (why : Outside) (answer : Status) (w w' : Option (List ℕ)) (f f' : ℕ) → answer ≡ stopped_by why
-    → IsFront w w' (text_of r.lines) → WriteFaults {T = T} f f' (Err why) → Tells r answer w w' f f'
+    → IsFront w w' (text_of r.lines) → WriteFaults {T = T} f f' (Err why) → TellsReport r answer w w' f f'
 stops r outside.Failed answer w w' f f' is front cause = record {
   status = λ told. absurd (told.not_write_fault is);
   text = λ told. absurd (told.not_write_fault is);
@@ -50,8 +52,8 @@ wants_memory same = record { later = le_of_eq (sym same); ok = tt; failed = λ i
 
 -- the text of the log's report: the start lines, and what is answered
 pub log_text : (query : Option Query) (w : code.World) (log : List ℕ)
-    → text_of (log_report query w log).lines ≡ text_of (map Credentials w.start.processes) ++ text_of (answered query w.more (world_of w) (lines_of log)).lines
-log_text query w log = text_of_append (map Credentials w.start.processes) (answered query w.more (world_of w) (lines_of log)).lines
+    → text_of (log_report query w log).lines ≡ text_of (map Credentials w.start.processes) ++ text_of (answered query w.more (world_of w) (script_reading log)).lines
+log_text query w log = text_of_append (map Credentials w.start.processes) (answered query w.more (world_of w) (script_reading log)).lines
 
 -- the rest of a report after the replay
 stopped_rest : (query : Option Query) (more : Bool) (st : Status) (s : State) → st ≢ answers.Accepted → answer_to query more st s ≡ record { status = st; lines = [] }
@@ -60,72 +62,72 @@ stopped_rest (Some q) more answers.Accepted s other = absurd (other refl)
 stopped_rest (Some q) more _ s other = refl
 
 -- What is answered is the replay, and then what comes after it in the state that an accepted log leads to.
-pub record IsAnswered (query : Option Query) (more : Bool) (w : World) (lines : List (List ℕ)) (behind : Bool) (st : Status) (s : State) : Type 0 where
-  pub status : (answered query more w lines).status ≡ (answer_to query behind st s).status
-  pub text : text_of (answered query more w lines).lines ≡ text_of (replayed w lines w.start 1 0).lines ++ text_of (answer_to query behind st s).lines
+pub record IsAnswered (query : Option Query) (more : Bool) (w : World) (reading : Reading) (unknown : Bool) (st : Status) (s : State) : Type 0 where
+  pub status : (answered query more w reading).status ≡ (answer_to query unknown st s).status
+  pub text : text_of (answered query more w reading).lines ≡ text_of (replay_of w reading).lines ++ text_of (answer_to query unknown st s).lines
 
 -- there is more after the log than the weak audit knows, by what the world says and by the events
-abbrev pub more_after : Bool → List (List ℕ) → Bool
-more_after more lines = more || not (are_setresuids (events_of lines))
+abbrev pub more_after : Bool → Reading → Bool
+more_after more reading = more || not (are_setresuids (events_of reading.events))
 
-accepted_answer : (q : Query) (more : Bool) (w : World) (lines : List (List ℕ)) (s : State) → (replayed w lines w.start 1 0).status ≡ answers.Accepted → Run w w.start (events_of lines) s
-    → IsAnswered (Some q) more w lines (more_after more lines) answers.Accepted s
-accepted_answer q more w lines s is run =
-    let same : answered (Some q) more w lines ≡ after (replayed w lines w.start 1 0).lines (verdict (more_after more lines) s q) = of_end q more w lines s is run in
+accepted_answer : (q : Query) (more : Bool) (w : World) (reading : Reading) (s : State) → (replay_of w reading).status ≡ answers.Accepted → Run w w.start (events_of reading.events) s
+    → IsAnswered (Some q) more w reading (more_after more reading) answers.Accepted s
+accepted_answer q more w reading s is run =
+    let same : answered (Some q) more w reading ≡ after (replay_of w reading).lines (verdict (more_after more reading) s q) = statuses.of_end q more w reading s is run in
     record {
       status = ap (λ (r : Report). r.status) same;
-      text = ap (λ (r : Report). text_of r.lines) same ∙ text_of_append (replayed w lines w.start 1 0).lines (verdict (more_after more lines) s q).lines;
+      text = ap (λ (r : Report). text_of r.lines) same ∙ text_of_append (replay_of w reading).lines (verdict (more_after more reading) s q).lines;
     }
 
-stopped_answer : (query : Option Query) (more : Bool) (w : World) (lines : List (List ℕ)) (behind : Bool) (st : Status) (s : State) → (replayed w lines w.start 1 0).status ≡ st → st ≢ answers.Accepted → IsAnswered query more w lines behind st s
-stopped_answer query more w lines behind st s is other =
-    let same : answered query more w lines ≡ replayed w lines w.start 1 0 = of_stop query more w lines st is other in
-    let rest : answer_to query behind st s ≡ record { status = st; lines = [] } = stopped_rest query behind st s other in
+stopped_answer : (query : Option Query) (more : Bool) (w : World) (reading : Reading) (unknown : Bool) (st : Status) (s : State) → (replay_of w reading).status ≡ st → st ≢ answers.Accepted → IsAnswered query more w reading unknown st s
+stopped_answer query more w reading unknown st s is other =
+    let same : answered query more w reading ≡ replay_of w reading = statuses.of_stop query more w reading st is other in
+    let rest : answer_to query unknown st s ≡ record { status = st; lines = [] } = stopped_rest query unknown st s other in
     record {
       status = ap (λ (r : Report). r.status) same ∙ is ∙ sym (ap (λ (r : Report). r.status) rest);
       text =
-          ap (λ (r : Report). text_of r.lines) same ∙ sym (append-nil (text_of (replayed w lines w.start 1 0).lines))
-          ∙ ap (λ (r : Report). text_of (replayed w lines w.start 1 0).lines ++ text_of r.lines) (sym rest);
+          ap (λ (r : Report). text_of r.lines) same ∙ sym (append-nil (text_of (replay_of w reading).lines))
+          ∙ ap (λ (r : Report). text_of (replay_of w reading).lines ++ text_of r.lines) (sym rest);
     }
 
 accepted_or_not : (st : Status) → (st ≡ answers.Accepted) ⊎ (st ≢ answers.Accepted)
 accepted_or_not answers.Accepted = inl refl
 accepted_or_not _ = inr (λ e. cc)
 
-pub is_answered : (query : Option Query) (more : Bool) (w : World) (lines : List (List ℕ)) (behind : Bool) (st : Status) (s : State) → (replayed w lines w.start 1 0).status ≡ st
-    → (st ≡ answers.Accepted → Run w w.start (events_of lines) s) → (st ≡ answers.Accepted → behind ≡ more_after more lines) → IsAnswered query more w lines behind st s
-is_answered None more w lines behind st s is reached told = record { status = is; text = sym (append-nil (text_of (replayed w lines w.start 1 0).lines)) }
-is_answered (Some q) more w lines behind st s is reached told =
+pub is_answered : (query : Option Query) (more : Bool) (w : World) (reading : Reading) (unknown : Bool) (st : Status) (s : State) → (replay_of w reading).status ≡ st
+    → (st ≡ answers.Accepted → Run w w.start (events_of reading.events) s) → (st ≡ answers.Accepted → unknown ≡ more_after more reading) → IsAnswered query more w reading unknown st s
+is_answered None more w reading unknown st s is reached told = record { status = is; text = sym (append-nil (text_of (replay_of w reading).lines)) }
+is_answered (Some q) more w reading unknown st s is reached told =
     elim (accepted_or_not st) [
       | inl accepted ↦
-          subst (λ (b : Bool). IsAnswered (Some q) more w lines b st s) (sym (told accepted))
-          (subst (λ (x : Status). IsAnswered (Some q) more w lines (more_after more lines) x s) (sym accepted) (accepted_answer q more w lines s (is ∙ accepted) (reached accepted)))
-      | inr other ↦ stopped_answer (Some q) more w lines behind st s is other
+          subst (λ (b : Bool). IsAnswered (Some q) more w reading b st s) (sym (told accepted))
+          (subst (λ (x : Status). IsAnswered (Some q) more w reading (more_after more reading) x s) (sym accepted) (accepted_answer q more w reading s (is ∙ accepted) (reached accepted)))
+      | inr other ↦ stopped_answer (Some q) more w reading unknown st s is other
     ]
 
 -- the text of the log's report: the start lines, the replay, and the answer
-pub log_whole : (query : Option Query) (w : code.World) (log : List ℕ) (behind : Bool) (st : Status) (s : State) → IsAnswered query w.more (world_of w) (lines_of log) behind st s
-    → text_of (log_report query w log).lines ≡ (text_of (map Credentials w.start.processes) ++ text_of (replayed (world_of w) (lines_of log) w.start 1 0).lines) ++ text_of (answer_to query behind st s).lines
-log_whole query w log behind st s is =
+pub log_whole : (query : Option Query) (w : code.World) (log : List ℕ) (unknown : Bool) (st : Status) (s : State) → IsAnswered query w.more (world_of w) (script_reading log) unknown st s
+    → text_of (log_report query w log).lines ≡ (text_of (map Credentials w.start.processes) ++ text_of (replay_of (world_of w) (script_reading log)).lines) ++ text_of (answer_to query unknown st s).lines
+log_whole query w log unknown st s is =
     log_text query w log ∙ ap (λ (t : List ℕ). text_of (map Credentials w.start.processes) ++ t) is.text
-    ∙ sym (append_assoc (text_of (map Credentials w.start.processes)) (text_of (replayed (world_of w) (lines_of log) w.start 1 0).lines) (text_of (answer_to query behind st s).lines))
+    ∙ sym (append_assoc (text_of (map Credentials w.start.processes)) (text_of (replay_of (world_of w) (script_reading log)).lines) (text_of (answer_to query unknown st s).lines))
 
 goes_longer : (st : Status) (r next : Report) → (more : List ℕ) × (text_of (go_on st r next).lines ≡ text_of r.lines ++ more)
 goes_longer answers.Accepted r next = (text_of next.lines, text_of_append r.lines next.lines)
 goes_longer _ r next = ([], sym (append-nil (text_of r.lines)))
 
-answered_longer : (query : Option Query) (more : Bool) (w : World) (lines : List (List ℕ)) → (longer : List ℕ) × (text_of (answered query more w lines).lines ≡ text_of (replayed w lines w.start 1 0).lines ++ longer)
-answered_longer None more w lines = ([], sym (append-nil (text_of (replayed w lines w.start 1 0).lines)))
-answered_longer (Some q) more w lines = goes_longer (replayed w lines w.start 1 0).status (replayed w lines w.start 1 0) (verdict_after more w (events_of lines) q)
+answered_longer : (query : Option Query) (more : Bool) (w : World) (reading : Reading) → (longer : List ℕ) × (text_of (answered query more w reading).lines ≡ text_of (replay_of w reading).lines ++ longer)
+answered_longer None more w reading = ([], sym (append-nil (text_of (replay_of w reading).lines)))
+answered_longer (Some q) more w reading = goes_longer (replay_of w reading).status (replay_of w reading) (verdict_after more w (events_of reading.events) q)
 
 -- it begins with the start lines and the replay
 pub log_longer : (query : Option Query) (w : code.World) (log : List ℕ) → (longer : List ℕ)
-    × (text_of (log_report query w log).lines ≡ (text_of (map Credentials w.start.processes) ++ text_of (replayed (world_of w) (lines_of log) w.start 1 0).lines) ++ longer)
+    × (text_of (log_report query w log).lines ≡ (text_of (map Credentials w.start.processes) ++ text_of (replay_of (world_of w) (script_reading log)).lines) ++ longer)
 log_longer query w log =
-    let longer : (rest : List ℕ) × (text_of (answered query w.more (world_of w) (lines_of log)).lines ≡ text_of (replayed (world_of w) (lines_of log) w.start 1 0).lines ++ rest) = answered_longer query w.more (world_of w) (lines_of log) in (
+    let longer : (rest : List ℕ) × (text_of (answered query w.more (world_of w) (script_reading log)).lines ≡ text_of (replay_of (world_of w) (script_reading log)).lines ++ rest) = answered_longer query w.more (world_of w) (script_reading log) in (
       longer.0,
       log_text query w log ∙ ap (λ (t : List ℕ). text_of (map Credentials w.start.processes) ++ t) longer.1
-          ∙ sym (append_assoc (text_of (map Credentials w.start.processes)) (text_of (replayed (world_of w) (lines_of log) w.start 1 0).lines) longer.0),
+          ∙ sym (append_assoc (text_of (map Credentials w.start.processes)) (text_of (replay_of (world_of w) (script_reading log)).lines) longer.0),
     )
 
 -- all of a text is written where nothing of it waits
@@ -133,7 +135,7 @@ all_written : (w w' : Option (List ℕ)) (whole : List ℕ) → IsSent w w' [] w
 all_written w w' whole sent = sent.written ∙ ap (then_written w) (sym (append-nil sent.front) ∙ sym sent.parts)
 
 -- a report that is told whole
-pub tells_whole : (r : Report) (answer : Status) (w w' : Option (List ℕ)) (f f' : ℕ) → r.status ≡ answer → IsTold r.status → IsSent w w' [] (text_of r.lines) → f' ≡ f → Tells r answer w w' f f'
+pub tells_whole : (r : Report) (answer : Status) (w w' : Option (List ℕ)) (f f' : ℕ) → r.status ≡ answer → IsTold r.status → IsSent w w' [] (text_of r.lines) → f' ≡ f → TellsReport r answer w w' f f'
 tells_whole r answer w w' f f' is told sent same = record {
   status = λ _. sym is;
   text = λ _. all_written w w' (text_of r.lines) sent;
@@ -142,65 +144,100 @@ tells_whole r answer w w' f f' is told sent same = record {
   counts = record { fault = λ fault. absurd (told.not_write_fault (is ∙ fault)); later = le_of_eq (sym same); stay = λ _. same };
 }
 
+-- the report from the beginning of a replay
+pub from_start : (w : World) (replay : Replay) (left reading : Reading) → replay.machine.state ≡ w.start → replay.events ≡ 0 → left ≡ reading
+    → report_from w replay left ≡ replay_of w reading
+from_start w replay left reading state none same =
+    ap (λ (r : Reading). report_from w replay r) same
+    ∙ ap (λ (s : State). replayed w s replay.events reading.events reading.ending) state
+    ∙ ap (λ (n : ℕ). replayed w w.start n reading.events reading.ending) none
+
+-- ---- the statuses of reports of logs
+-- What holds of each status that such a report may have.
+pub record HoldsOfLogs (P : Status → Type 0) : Type 0 where
+  pub accepted : P answers.Accepted
+  pub no : P answers.No
+  pub impossible : P answers.Impossible
+  pub bad_log : P answers.BadLog
+  pub limit : P answers.Limit
+  pub bad_query : P answers.BadQuery
+  pub not_built : P answers.NotBuilt
+
+module _ (P : Status → Type 0) (holds : HoldsOfLogs P) where
+  of_outcome : (e : Placed) (rest : State → Report) → ((s : State) → P (rest s).status) → (become : Outcome) → P (by_outcome e rest become).status
+  of_outcome e rest told (Goes s) = told s
+  of_outcome e rest told NoProcess = holds.impossible
+  of_outcome e rest told (Wrong res) = holds.impossible
+  of_outcome e rest told NoSpace = holds.impossible
+  of_outcome e rest told PidInUse = holds.impossible
+
+  of_stop : (stop : Stop) → P (stopped stop).status
+  of_stop (Fault number) = holds.bad_log
+  of_stop (Limit name most) = holds.limit
+  of_stop NotBuilt = holds.not_built
+
+  of_ending : (count : ℕ) (ending : End) → P (by_end count ending).status
+  of_ending count AtEnd = holds.accepted
+  of_ending count (Stops stop) = of_stop stop
+
+  of_replay : (w : World) (s : State) (count : ℕ) (events : List Placed) (ending : End) → P (replayed w s count events ending).status
+  of_replay w s count [] ending = of_ending count ending
+  of_replay w s count (e ∷ events) ending =
+      of_outcome e (λ s'. replayed w s' (count + 1) events ending) (λ s'. of_replay w s' (count + 1) events ending) (outcome w s e.event)
+
+  of_run : (pid : ℕ) (run : Option (List Event)) → P (run_verdict pid run).status
+  of_run pid None = holds.accepted
+  of_run pid (Some run) = holds.no
+
+  of_right : (more : Bool) (s : State) (p : Process) (right : Right) → P (right_verdict more s p right).status
+  of_right more s p (Gid k) = holds.not_built
+  of_right more s p (Cap cap n) = holds.not_built
+  of_right more s p (Uid k) =
+      elim (not more && length s.processes == 1) as (λ (b : Bool). P (cond b (run_verdict p.pid (run_back p.cred p.pid k)) not_built).status) [
+        | true ↦ of_run p.pid (run_back p.cred p.pid k)
+        | false ↦ holds.not_built
+      ]
+
+  of_asked : (more : Bool) (s : State) (p : Option Process) (right : Option Right) → P (asked_verdict more s p right).status
+  of_asked more s None right = holds.bad_query
+  of_asked more s (Some p) None = holds.bad_query
+  of_asked more s (Some p) (Some right) = of_right more s p right
+
+  going_on : (st : Status) (r next : Report) → P r.status → P next.status → P (go_on st r next).status
+  going_on answers.Accepted r next first second = second
+  going_on _ r next first second = first
+
+  of_answered : (query : Option Query) (more : Bool) (w : World) (reading : Reading) → P (answered query more w reading).status
+  of_answered None more w reading = of_replay w w.start 0 reading.events reading.ending
+  of_answered (Some q) more w reading =
+      let s : State = state_after w w.start (events_of reading.events) in
+      let replay : Report = replay_of w reading in
+      going_on replay.status replay (verdict_after more w (events_of reading.events) q) (of_replay w w.start 0 reading.events reading.ending)
+      (of_asked (more_after more reading) s (asked_process s q.pid) (right_token q.right))
+
+-- each is that of a report
 is_told : (st : Status) → st ≢ answers.ReadFault → st ≢ answers.WriteFault → st ≢ answers.NoMemory → IsTold st
 is_told st a b c = record { not_read_fault = a; not_write_fault = b; not_memory = c }
 
-told_accepted : IsTold answers.Accepted
-told_accepted = is_told answers.Accepted (λ e. cc) (λ e. cc) (λ e. cc)
+pub answered_told : (query : Option Query) (more : Bool) (w : World) (reading : Reading) → IsTold (answered query more w reading).status
+answered_told query more w reading = of_answered IsTold (record {
+  accepted = is_told answers.Accepted (λ e. cc) (λ e. cc) (λ e. cc);
+  no = is_told answers.No (λ e. cc) (λ e. cc) (λ e. cc);
+  impossible = is_told answers.Impossible (λ e. cc) (λ e. cc) (λ e. cc);
+  bad_log = is_told answers.BadLog (λ e. cc) (λ e. cc) (λ e. cc);
+  limit = is_told answers.Limit (λ e. cc) (λ e. cc) (λ e. cc);
+  bad_query = is_told answers.BadQuery (λ e. cc) (λ e. cc) (λ e. cc);
+  not_built = is_told answers.NotBuilt (λ e. cc) (λ e. cc) (λ e. cc);
+}) query more w reading
 
-told_impossible : IsTold answers.Impossible
-told_impossible = is_told answers.Impossible (λ e. cc) (λ e. cc) (λ e. cc)
-
-told_outcome : (n count : ℕ) (e : Event) (rest : State → ℕ → Report) → ((s : State) (c : ℕ) → IsTold (rest s c).status) → (become : Outcome) → IsTold (by_outcome n count e rest become).status
-told_outcome n count e rest told (Goes s) = told s (count + 1)
-told_outcome n count e rest told NoProcess = told_impossible
-told_outcome n count e rest told (Wrong res) = told_impossible
-told_outcome n count e rest told NoSpace = told_impossible
-told_outcome n count e rest told PidInUse = told_impossible
-
-told_line : (w : World) (s : State) (n count : ℕ) (rest : State → ℕ → Report) → ((s' : State) (c : ℕ) → IsTold (rest s' c).status) → (line : Line) → IsTold (by_line w s n count rest line).status
-told_line w s n count rest told NoEvent = told s count
-told_line w s n count rest told (TellsEvent e) = told_outcome n count e rest told (outcome w s e)
-told_line w s n count rest told Faulty = is_told answers.BadLog (λ e. cc) (λ e. cc) (λ e. cc)
-told_line w s n count rest told Unbuilt = is_told answers.NotBuilt (λ e. cc) (λ e. cc) (λ e. cc)
-
--- a replay has a status of a report
-pub replayed_told : (w : World) (lines : List (List ℕ)) (s : State) (n count : ℕ) → IsTold (replayed w lines s n count).status
-replayed_told w [] s n count = told_accepted
-replayed_told w (line ∷ lines) s n count = told_line w s n count (λ s' c. replayed w lines s' (n + 1) c) (λ s' c. replayed_told w lines s' (n + 1) c) (script_line line)
-
--- and so has an answer to an audit
-told_way : (pid : ℕ) (way : Option (List Event)) → IsTold (way_verdict pid way).status
-told_way pid None = told_accepted
-told_way pid (Some way) = is_told answers.No (λ e. cc) (λ e. cc) (λ e. cc)
-
-told_unbuilt : IsTold answers.NotBuilt
-told_unbuilt = is_told answers.NotBuilt (λ e. cc) (λ e. cc) (λ e. cc)
-
-told_query : IsTold answers.BadQuery
-told_query = is_told answers.BadQuery (λ e. cc) (λ e. cc) (λ e. cc)
-
-told_right : (more : Bool) (s : State) (p : Process) (right : Right) → IsTold (right_verdict more s p right).status
-told_right more s p (Gid k) = told_unbuilt
-told_right more s p (Cap cap n) = told_unbuilt
-told_right more s p (Uid k) =
-    elim (not more && length s.processes == 1) as (λ (b : Bool). IsTold (cond b (way_verdict p.pid (run_back p.cred p.pid k)) not_built).status) [
-      | true ↦ told_way p.pid (run_back p.cred p.pid k)
-      | false ↦ told_unbuilt
-    ]
-
-told_asked : (more : Bool) (s : State) (p : Option Process) (right : Option Right) → IsTold (asked_verdict more s p right).status
-told_asked more s None right = told_query
-told_asked more s (Some p) None = told_query
-told_asked more s (Some p) (Some right) = told_right more s p right
-
-told_on : (st : Status) (r next : Report) → IsTold r.status → IsTold next.status → IsTold (go_on st r next).status
-told_on answers.Accepted r next first second = second
-told_on _ r next first second = first
-
-pub answered_told : (query : Option Query) (more : Bool) (w : World) (lines : List (List ℕ)) → IsTold (answered query more w lines).status
-answered_told None more w lines = replayed_told w lines w.start 1 0
-answered_told (Some q) more w lines =
-    let s : State = state_after w w.start (events_of lines) in
-    told_on (replayed w lines w.start 1 0).status (replayed w lines w.start 1 0) (verdict_after more w (events_of lines) q) (replayed_told w lines w.start 1 0)
-    (told_asked (more_after more lines) s (asked_process s q.pid) (right_token q.right))
+-- and none is that of the usage
+pub log_not_usage : (query : Option Query) (w : code.World) (log : List ℕ) → (log_report query w log).status ≢ answers.Usage
+log_not_usage query w log = of_answered (λ st. st ≢ answers.Usage) (record {
+  accepted = λ is. cc;
+  no = λ is. cc;
+  impossible = λ is. cc;
+  bad_log = λ is. cc;
+  limit = λ is. cc;
+  bad_query = λ is. cc;
+  not_built = λ is. cc;
+}) query w.more (world_of w) (script_reading log)

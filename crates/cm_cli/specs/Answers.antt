@@ -7,11 +7,12 @@ use Rattle.cm_cli.specs.Sent.{IsFront}
 use Rattle.cm_cli.specs.Telling.{IsTold}
 use Rattle.cm_io.specs.Shelf.{Files, bytes_at, Rose}
 use Rattle.cm_io.specs.Sink.{then_written}
-use Rattle.model_text.specs.Causes.{Cause, IsAccepted, IsUnbuilt, IsYes}
-use Rattle.model_text.specs.Command.{Command, Replay, Audit, NoForm, command_of, files_of, query_of}
-use Rattle.model_text.specs.Laws.{ShowsWay}
-use Rattle.model_text.specs.Query.{Query}
-use Rattle.model_text.specs.Report.{Report, report, command_report, text_of}
+use Rattle.model_report.specs.Causes.{Cause, IsAccepted, IsUnbuilt, IsYes}
+use Rattle.model_report.specs.Command.{Command, Replay, Audit, NoForm, command_of, files_of, query_of}
+use Rattle.model_report.specs.Laws.{ShowsRun}
+use Rattle.model_report.specs.Query.{Query}
+use Rattle.model_report.specs.Replay.{Report, text_of}
+use Rattle.model_report.specs.Report.{report, command_report}
 
 -- the report of the words over files
 abbrev pub report_over : List (List ℕ) → Files → Report
@@ -97,4 +98,4 @@ SaysYes words files =
 
 -- What no says: the last lines of the report show such a list, which does.
 abbrev pub SaysNo : List (List ℕ) → Files → Type 0
-SaysNo words files = ShowsWay words (bytes_at files) (report_over words files).lines
+SaysNo words files = ShowsRun words (bytes_at files) (report_over words files).lines

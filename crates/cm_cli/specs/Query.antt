@@ -1,15 +1,7 @@
--- The code's query and right as those of the definitions.
+-- The code's query as that of the definitions.
 use Rattle.std.specs.Prelude.{Option, None, Some}
 use Rattle.cm_cli.specs.declared.query.Query.{Query}
-use Rattle.cm_cli.specs.declared.query.Right.{Right}
-use Rattle.cm_cli.specs.declared.query.Right.TheVariants as code
-use Rattle.model_cred.specs.Right as model
-use Rattle.model_text.specs.Query as asked
-
-abbrev pub right_view : Right → model.Right
-right_view (code.Cap cap n) = model.Cap cap n
-right_view (code.Uid id) = model.Uid id
-right_view (code.Gid id) = model.Gid id
+use Rattle.model_report.specs.Query as asked
 
 abbrev pub query_view : Query → asked.Query
 query_view q = record { pid = q.pid.now; right = q.right.now }

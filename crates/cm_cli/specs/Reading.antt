@@ -13,8 +13,9 @@ use Rattle.cm_io.specs.Shelf.{Rose}
 use Rattle.cm_io.specs.declared.whole.WholeError.{WholeError}
 use Rattle.cm_io.specs.declared.whole.WholeError.TheVariants as whole
 use Rattle.model_cred.specs.World.{World}
-use Rattle.model_text.specs.Query.{Query}
-use Rattle.model_text.specs.Report.{Report, world_limit, log_limit}
+use Rattle.model_report.specs.Query.{Query}
+use Rattle.model_report.specs.Replay.{Report}
+use Rattle.model_report.specs.Report.{world_limit, log_limit}
 use Rattle.model_text.specs.WorldText.{WorldText, Reads, Bad, NotBuilt, world_text, text_says_more}
 
 -- the bytes of a world, within the limit, read so

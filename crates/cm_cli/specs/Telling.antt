@@ -12,9 +12,11 @@ use Rattle.cm_io.specs.Sink.{then_written}
 use Rattle.cm_world.specs.World.{world_of}
 use Rattle.cm_world.specs.declared.world.World.{World}
 use Rattle.model_cred.specs.Process.{State}
-use Rattle.model_text.specs.Cut.{lines_of}
-use Rattle.model_text.specs.Query.{Query}
-use Rattle.model_text.specs.Report.{Report, after, start_lines, answered, verdict, text_of, says, limit_hit, not_built, usage, world_limit, log_limit}
+use Rattle.model_report.specs.Query.{Query}
+use Rattle.model_report.specs.Replay.{Report, text_of, says, limit_hit, not_built}
+use Rattle.model_report.specs.Report.{verdict, usage, world_limit, log_limit}
+use Rattle.model_report.specs.Report as whole
+use Rattle.model_text.specs.Reading.{script_reading}
 
 -- The status is that of a report: neither a fault of reading or writing, nor want of memory.
 pub record IsTold (answer : Status) : Type 0 where
@@ -29,7 +31,7 @@ pub record CountsWrites (answer : Status) (before now : ℕ) : Type 0 where
   pub stay : answer ≢ answers.WriteFault → now ≡ before
 
 -- The answer tells the report: with its status all of its text is written, with any other a front of it.
-pub record Tells (r : Report) (answer : Status) (written written' : Option (List ℕ)) (faults faults' : ℕ) : Type 0 where
+pub record TellsReport (r : Report) (answer : Status) (written written' : Option (List ℕ)) (faults faults' : ℕ) : Type 0 where
   pub status : IsTold answer → answer ≡ r.status
   pub text : IsTold answer → written' ≡ then_written written (text_of r.lines)
   pub front : IsFront written written' (text_of r.lines)
@@ -46,7 +48,7 @@ short_report short.LogLimit = limit_hit (codes "log") log_limit
 
 -- the report of a log in the world, with what is asked after it
 abbrev pub log_report : Option Query → World → List ℕ → Report
-log_report query w log = after (start_lines (world_of w)) (answered query w.more (world_of w) (lines_of log))
+log_report query w log = whole.log_report query w.more (world_of w) (script_reading log)
 
 -- what comes after the replay of a log that ends so, in the state that it leads to: the status, and more lines
 abbrev pub answer_to : Option Query → Bool → Status → State → Report

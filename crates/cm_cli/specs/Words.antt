@@ -3,7 +3,7 @@ use Rattle.std.specs.Prelude.{ℕ, List, map, String, string_bytes}
 use Rattle.std.specs.declared.alloc.Global.{Global}
 use Rattle.cm_cli.specs.declared.words.Command.{Command}
 use Rattle.cm_cli.specs.declared.words.Command.TheVariants as code
-use Rattle.model_text.specs.Command as model
+use Rattle.model_report.specs.Command as model
 
 -- the bytes of the words
 abbrev pub bytes_of : List (String Global) → List (List ℕ)

@@ -1,18 +1,20 @@
 // The answer to an audit, after an accepted log: one process lives, and is asked for a user id (so far).
-ghost use Rattle.std.specs.Prelude.{◌≡◌, ◌++◌, false, Some, IfSome, IfNone, None, OnOk, slice_get, length, ◌<◌};
+ghost use Rattle.std.specs.Prelude.{◌≡◌, ◌++◌, false, Some, IfSome, IfNone, None, slice_get, length, ◌<◌};
 ghost use Rattle.cm_base.specs.Outcome.{OrNoMemory};
-ghost use Rattle.cm_cli.specs.Query.{query_view, query_if, right_view};
+ghost use Rattle.cm_cli.specs.Query.{query_view, query_if};
+ghost use Rattle.cm_state.specs.Right.{right_of};
 ghost use Rattle.cm_cli.specs.Telling.{answer_to};
 ghost use Rattle.model_run.specs.RunBack.{SetsFollowIds, StateFollows, run_back};
-ghost use Rattle.model_text.specs.Query.{asked_process};
-ghost use Rattle.model_text.specs.Report.{text_of, verdict, right_verdict, way_verdict};
+ghost use Rattle.model_report.specs.Query.{asked_process};
+ghost use Rattle.model_report.specs.Replay.{text_of};
+ghost use Rattle.model_report.specs.Report.{verdict, right_verdict, run_verdict};
 
-use crate::line::read_pid;
-use crate::query::{Query, Right, read_right};
-use crate::writing::{put_bad_pid, put_bad_right, put_not_built, put_way, put_yes};
+use crate::query::{Query, read_right};
+use crate::writing::{put_bad_pid, put_bad_right, put_not_built, put_run, put_yes};
 use cm_audit::audit_uid;
 use cm_base::{Kuid, NoMemory, Status};
-use cm_state::{Proc, State};
+use cm_script::read_pid;
+use cm_state::{Proc, Right, State};
 use std::alloc::Global;
 
 /// Answers what is asked after a replay that ended with this status, and says the status of the whole. `more` says that
@@ -27,7 +29,7 @@ pub(crate) fn put_answer(
 ) -> Result<Status, NoMemory>
     requires { replayed ≡ Status.Accepted → more ≡ false → StateFollows state.now }
     ensures status { OrNoMemory result (λ status. status ≡ (answer_to (query_if query.entry) more replayed state.now).status) }
-    ensures text { OnOk result (text.new.items ≡ text.old.items ++ text_of (answer_to (query_if query.entry) more replayed state.now).lines) }
+    ensures text { OrNoMemory result (λ _. text.new.items ≡ text.old.items ++ text_of (answer_to (query_if query.entry) more replayed state.now).lines) }
 {
     match (query, replayed) {
         (Some(query), Status::Accepted) => put_verdict(alloc, state, query, more, text),
@@ -44,7 +46,7 @@ fn put_verdict(
 ) -> Result<Status, NoMemory>
     requires { more ≡ false → StateFollows state.now }
     ensures status { OrNoMemory result (λ status. status ≡ (verdict more state.now (query_view query.entry)).status) }
-    ensures text { OnOk result (text.new.items ≡ text.old.items ++ text_of (verdict more state.now (query_view query.entry)).lines) }
+    ensures text { OrNoMemory result (λ _. text.new.items ≡ text.old.items ++ text_of (verdict more state.now (query_view query.entry)).lines) }
 {
     let Some(at) = place_asked(state, query.pid.as_bytes()) else {
         put_bad_pid(text)?;
@@ -76,8 +78,8 @@ fn put_right(
 ) -> Result<Status, NoMemory>
     requires here { at < length state.now.processes }
     requires follows { more ≡ false → StateFollows state.now }
-    ensures status { OrNoMemory result (λ status. IfSome (slice_get state.now.processes at) (λ p. status ≡ (right_verdict more state.now p (right_view right)).status)) }
-    ensures text { OnOk result (IfSome (slice_get state.now.processes at) (λ p. text.new.items ≡ text.old.items ++ text_of (right_verdict more state.now p (right_view right)).lines)) }
+    ensures status { OrNoMemory result (λ status. IfSome (slice_get state.now.processes at) (λ p. status ≡ (right_verdict more state.now p (right_of right)).status)) }
+    ensures text { OrNoMemory result (λ _. IfSome (slice_get state.now.processes at) (λ p. text.new.items ≡ text.old.items ++ text_of (right_verdict more state.now p (right_of right)).lines)) }
 {
     match right {
         Right::Uid(k) if !more && state.procs.items().len() == 1 => {
@@ -92,16 +94,16 @@ fn put_right(
 
 fn put_uid(alloc: Global, p: &Proc, k: Kuid, text: &mut Vec<u8>) -> Result<Status, NoMemory>
     requires { SetsFollowIds p.now.cred }
-    ensures status { OrNoMemory result (λ status. status ≡ (way_verdict p.now.pid (run_back p.now.cred p.now.pid k)).status) }
-    ensures text { OnOk result (text.new.items ≡ text.old.items ++ text_of (way_verdict p.now.pid (run_back p.now.cred p.now.pid k)).lines) }
+    ensures status { OrNoMemory result (λ status. status ≡ (run_verdict p.now.pid (run_back p.now.cred p.now.pid k)).status) }
+    ensures text { OrNoMemory result (λ _. text.new.items ≡ text.old.items ++ text_of (run_verdict p.now.pid (run_back p.now.cred p.now.pid k)).lines) }
 {
     match audit_uid(alloc, &p.cred, p.pid, k)? {
         None => {
             put_yes(text)?;
             Ok(Status::Accepted)
         }
-        Some(way) => {
-            put_way(text, p.pid, &way)?;
+        Some(run) => {
+            put_run(text, p.pid, &run)?;
             Ok(Status::No)
         }
     }

@@ -6,7 +6,7 @@ ghost use Rattle.cm_cli.specs.Query.{query_if};
 ghost use Rattle.cm_cli.specs.Reading.{TakesFor, ReadsFor};
 ghost use Rattle.cm_cli.specs.Telling.{IsTold, CountsWrites};
 ghost use Rattle.cm_cli.specs.Words.{bytes_of, command_in, command_view};
-ghost use Rattle.model_text.specs.Command.{files_of, query_of};
+ghost use Rattle.model_report.specs.Command.{files_of, query_of};
 
 use crate::query::Query;
 use crate::reading::{Unready, read_files};

@@ -1,34 +1,67 @@
 // Laws of the report that the top call writes.
-ghost use Rattle.model_text.specs.Laws.{EachByItsCause, AcceptedIsRun, ImpossibleIsNoStep, YesIsNever, NoIsWay};
+ghost use Rattle.model_report.specs.Laws.{EachByItsCause, AcceptedIsRun, ImpossibleIsNoStep, YesIsNever, NoIsRun, ReportTellsOfLog, EndCountsEvents, ImpossibleIsNumbered, BadLogIsNumbered, SameReadingSameReport};
 
 /// A status comes exactly by its cause, whatever the words and the files.
-#[tactic(auto, using(model_text::proofs::Statuses::each_by_its_cause))]
+#[tactic(auto, using(model_report::proofs::Statuses::each_by_its_cause))]
 pub fn each_by_its_cause()
     ensures { EachByItsCause }
 {}
 
 /// Where the status is accepted, the events of the log are a run from the world's state, and the last credential line
 /// of each process that lives in the state reached is its credential there.
-#[tactic(auto, using(model_text::proofs::Endings::accepted_is_run))]
+#[tactic(auto, using(model_report::proofs::Endings::accepted_is_run))]
 pub fn accepted_is_run()
     ensures { AcceptedIsRun }
 {}
 
 /// Where it is impossible, the events before that line are a run, and no state follows by its event.
-#[tactic(auto, using(model_text::proofs::Endings::impossible_is_no_step))]
+#[tactic(auto, using(model_report::proofs::Endings::impossible_is_no_step))]
 pub fn impossible_is_no_step()
     ensures { ImpossibleIsNoStep }
 {}
 
 /// Where an audit's status is 0, one process lives after the log, and no list of later setresuid calls of it, of any
 /// length, ends where its effective user id is the one that is asked for.
-#[tactic(auto, using(model_text::proofs::Endings::yes_is_never))]
+#[tactic(auto, using(model_report::proofs::Endings::yes_is_never))]
 pub fn yes_is_never()
     ensures { YesIsNever }
 {}
 
 /// Where it is 1, the last lines of the report show such a list, which does.
-#[tactic(auto, using(model_text::proofs::Endings::no_is_way))]
-pub fn no_is_way()
-    ensures { NoIsWay }
+#[tactic(auto, using(model_report::proofs::Endings::no_is_run))]
+pub fn no_is_run()
+    ensures { NoIsRun }
+{}
+
+/// The report of a log tells the first of its events, in their order and none left out, each with the number of its line;
+/// read from the top, each told event is a step, and each credential line shows the process of its pid as it is after the
+/// events before it.
+#[tactic(auto, using(model_report::proofs::Endings::report_tells_of_log))]
+pub fn report_tells_of_log()
+    ensures { ReportTellsOfLog }
+{}
+
+/// N of `end N` is the number of the log's events.
+#[tactic(auto, using(model_report::proofs::Endings::end_counts_events))]
+pub fn end_counts_events()
+    ensures { EndCountsEvents }
+{}
+
+/// K of `impossible line K` is the number of the line whose event is no step, and the reason is what becomes of it.
+#[tactic(auto, using(model_report::proofs::Endings::impossible_is_numbered))]
+pub fn impossible_is_numbered()
+    ensures { ImpossibleIsNumbered }
+{}
+
+/// K of `bad log line K` is the number of a line with a fault.
+#[tactic(auto, using(model_report::proofs::Endings::bad_log_is_numbered))]
+pub fn bad_log_is_numbered()
+    ensures { BadLogIsNumbered }
+{}
+
+/// Logs that read as the same events in the same places, and whose readings end alike, have the same report, whatever form
+/// they have.
+#[tactic(auto, using(model_report::proofs::Endings::same_reading_same_report))]
+pub fn same_reading_same_report()
+    ensures { SameReadingSameReport }
 {}

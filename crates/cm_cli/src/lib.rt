@@ -8,7 +8,8 @@ mod audit_tests;
 mod call_tests;
 mod commands;
 mod laws;
-mod line;
+mod lines;
+mod log;
 mod query;
 mod reading;
 mod replay;
@@ -24,5 +25,7 @@ mod writing;
 pub use cm_base::Status;
 pub use commands::{run, run_surely};
 pub use laws::{
-    accepted_is_run, each_by_its_cause, impossible_is_no_step, no_is_way, yes_is_never,
+    accepted_is_run, bad_log_is_numbered, each_by_its_cause, end_counts_events,
+    impossible_is_no_step, impossible_is_numbered, no_is_run, report_tells_of_log,
+    same_reading_same_report, yes_is_never,
 };

@@ -1,9 +1,10 @@
 // What an audit asks: the texts of a pid and of a right (choice).
 ghost use Rattle.std.specs.Prelude.{◌≡◌, ◌<◌, ◌==◌, length, position, option_map, IfSome, MatchOption, None, Some};
-ghost use Rattle.cm_cli.specs.Query.{right_view};
-ghost use Rattle.model_text.specs.Query.{rest_after, id_number, space_number, cap_text, right_token};
+ghost use Rattle.cm_state.specs.Right.{right_of};
+ghost use Rattle.model_report.specs.Query.{rest_after, id_number, space_number, cap_text, right_token};
 
-use cm_base::{Cap, Kgid, Kuid, read_u32};
+use cm_base::{Cap, Kgid, Kuid, SpaceId, read_u32};
+use cm_state::Right;
 
 /// The words of a query.
 #[derive(Clone, Copy, Debug)]
@@ -12,17 +13,9 @@ pub(crate) struct Query<'a> {
     pub right: &'a str,
 }
 
-/// A right that a process may hold: a capability over a space, an effective user id, or a group id.
-#[derive(Clone, Copy, Debug)]
-pub(crate) enum Right {
-    Cap(Cap, u32),
-    Uid(Kuid),
-    Gid(Kgid),
-}
-
 /// The right that a text is: `uid:K`, `gid:K` or `cap:NAME@SPACE`.
 pub(crate) fn read_right(text: &[u8]) -> Option<Right>
-    ensures { option_map right_view result ≡ right_token text.now }
+    ensures { option_map right_of result ≡ right_token text.now }
 {
     if let Some(uid) = rest_after(b"uid:", text) {
         let id = read_uid(uid)?;
@@ -56,12 +49,12 @@ fn read_gid(text: &[u8]) -> Option<Kgid>
 
 // The name of a capability, `@` and a space.
 fn read_cap(text: &[u8]) -> Option<Right>
-    ensures { option_map right_view result ≡ cap_text text.now }
+    ensures { option_map right_of result ≡ cap_text text.now }
 {
     let at = place_of_at(text)?;
     let cap = Cap::from_name(&text[..at])?;
     let space = read_space(&text[at + 1..])?;
-    Some(Right::Cap(cap, space))
+    Some(Right::Cap(cap, SpaceId(space)))
 }
 
 // The place of the first `@`.

@@ -2,8 +2,8 @@
 ghost use Rattle.std.specs.Prelude.{◌≡◌, ◌≢◌, ◌⊎◌, ◌+◌, false, Err, Some, IfSome, IfOk, Option};
 ghost use Rattle.cm_cli.specs.Reading.{IsWorldRead, IsLogRead, IsReady, FileFaults, FilesFaults, WorldStands, TakesFor, ReadsFor, unready_by};
 ghost use Rattle.cm_io.specs.Shelf.{bytes_at, Rose, TakesAtMost, ReadsOnly};
-ghost use Rattle.model_text.specs.Report.{files_report, world_limit, log_limit};
-ghost use Rattle.model_text.specs.Query.{Query};
+ghost use Rattle.model_report.specs.Report.{files_report, world_limit, log_limit};
+ghost use Rattle.model_report.specs.Query.{Query};
 ghost use Rattle.model_run.specs.RunBack.{StateFollows};
 
 use crate::telling::Short;

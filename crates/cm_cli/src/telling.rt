@@ -1,22 +1,23 @@
 // Telling a report: what is written goes to the sink, and the answer says how it went.
 ghost use Rattle.std.specs.Prelude.{◌≡◌, ◌++◌, ◌||◌, not, false, OnOk, OnErr, List, map};
+ghost use Rattle.cm_base.specs.Outcome.{OrNoMemory};
 ghost use Rattle.cm_cli.specs.Query.{query_if};
 ghost use Rattle.cm_cli.specs.Sent.{IsSent, IsFront};
-ghost use Rattle.cm_cli.specs.Telling.{Tells, short_report, log_report, stopped_by};
+ghost use Rattle.cm_cli.specs.Telling.{TellsReport, short_report, log_report, stopped_by};
 ghost use Rattle.cm_io.specs.Sink.{WriteFaults};
 ghost use Rattle.model_run.specs.RunBack.{StateFollows};
-ghost use Rattle.model_text.specs.Report.{text_of, Credentials};
+ghost use Rattle.model_report.specs.Replay.{text_of, Credentials};
 
 use crate::answer::put_answer;
 use crate::query::Query;
-use crate::replay::replay_lines;
+use crate::log::ScriptLog;
+use crate::replay::{Replay, replay_log};
 use crate::sending::{send, send_full};
 use crate::writing::{
     put_bad_world, put_log_limit, put_not_built, put_process, put_usage, put_world_limit,
 };
 use cm_base::{NoMemory, Status};
 use cm_io::{Outside, Sink};
-use cm_machine::Machine;
 use cm_state::State;
 use cm_world::World;
 use std::alloc::Global;
@@ -33,7 +34,7 @@ pub(crate) enum Short {
 
 /// Tells a report of one piece.
 pub(crate) fn tell_short<K: Sink>(alloc: Global, short: Short, out: &mut K) -> Status
-    ensures { Tells (short_report short) result (K.written out.old) (K.written out.new) (K.faults out.old) (K.faults out.new) }
+    ensures { TellsReport (short_report short) result (K.written out.old) (K.written out.new) (K.faults out.old) (K.faults out.new) }
 {
     let mut text = Vec::new(alloc);
     match put_short(&mut text, short) {
@@ -47,7 +48,7 @@ pub(crate) fn tell_short<K: Sink>(alloc: Global, short: Short, out: &mut K) -> S
 }
 
 fn put_short(text: &mut Vec<u8>, short: Short) -> Result<(), NoMemory>
-    ensures { OnOk result (text.new.items ≡ text.old.items ++ text_of (short_report short).lines) }
+    ensures { OrNoMemory result (λ _. text.new.items ≡ text.old.items ++ text_of (short_report short).lines) }
 {
     match short {
         Short::Usage => put_usage(text),
@@ -78,10 +79,10 @@ pub(crate) fn tell_log<K: Sink>(
     out: &mut K,
 ) -> Status
     requires { w.now.more ≡ false → StateFollows w.now.start }
-    ensures { Tells (log_report (query_if query.entry) w.now log.now) result (K.written out.old) (K.written out.new) (K.faults out.old) (K.faults out.new) }
+    ensures { TellsReport (log_report (query_if query.entry) w.now log.now) result (K.written out.old) (K.written out.new) (K.faults out.old) (K.faults out.new) }
 {
-    let mut machine = match Machine::new(alloc, w) {
-        Ok(machine) => machine,
+    let mut replay = match Replay::new(alloc, w) {
+        Ok(replay) => replay,
         Err(NoMemory) => return Status::NoMemory,
     };
     let mut text = Vec::new(alloc);
@@ -89,19 +90,13 @@ pub(crate) fn tell_log<K: Sink>(
         Ok(()) => {}
         Err(why) => return stopped(why),
     }
-    let replayed = match replay_lines(alloc, w, &mut machine, log, &mut text, out) {
-        Ok(replayed) => replayed,
+    let log = ScriptLog::new(log);
+    let end = match replay_log(alloc, w, &mut replay, log, &mut text, out) {
+        Ok(end) => end,
         Err(why) => return stopped(why),
     };
-    let more = has_more(w.more, replayed.setresuids);
-    let status = match put_answer(
-        alloc,
-        &machine.state,
-        query,
-        replayed.status,
-        more,
-        &mut text,
-    ) {
+    let more = has_more(w.more, replay.setresuids);
+    let status = match put_answer(alloc, &replay.machine.state, query, end, more, &mut text) {
         Ok(status) => status,
         Err(NoMemory) => return Status::NoMemory,
     };

@@ -1,7 +1,7 @@
 // The words of the command line, and which command they name (choice).
 ghost use Rattle.std.specs.Prelude.{◌≡◌, ◌∷◌};
 ghost use Rattle.cm_cli.specs.Words.{command_view, command_in, bytes_of};
-ghost use Rattle.model_text.specs.Command.{command_of, replay_words, audit_words, later_words, drill_words, is_drill_number};
+ghost use Rattle.model_report.specs.Command.{command_of, replay_words, audit_words, later_words, drill_words, is_drill_number};
 ghost use Rattle.model_text.specs.Token.{number_token};
 
 use crate::query::Query;

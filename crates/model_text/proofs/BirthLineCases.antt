@@ -5,7 +5,7 @@ use Rattle.cm_base.specs.declared.res.Res.TheVariants.{Done, Child, Err}
 use Rattle.cm_base.specs.declared.errno.Errno.TheVariants.{EPERM, ENOMEM, EAGAIN}
 use Rattle.model_cred.specs.Call.{Fork, Exit}
 use Rattle.model_text.proofs.LineCases.{IsEvent, AreFaulty, event_of}
-use Rattle.model_text.proofs.ReportCases.{report_on_literals}
+use Rattle.model_text.proofs.PrintCases.{print_on_literals}
 use Rattle.model_text.specs.Print.{event_text}
 
 -- ---- fork, whose result is the child's pid
@@ -51,5 +51,5 @@ faults_of_exit = refl
 -- ---- printed events
 pub births_and_exits_are_printed : map (λ e. event_text e) (event_of Fork (Child 101) ∷ event_of Fork (Child 4194304) ∷ event_of Fork (Err ENOMEM) ∷ event_of Exit Done ∷ [])
     ≡ codes "100 fork = 101" ∷ codes "100 fork = 4194304" ∷ codes "100 fork = ENOMEM" ∷ codes "100 exit = 0" ∷ []
-unfolding report_on_literals
+unfolding print_on_literals
 births_and_exits_are_printed = refl

@@ -6,7 +6,7 @@ use Rattle.cm_base.specs.declared.res.Res.TheVariants.{Done, Err}
 use Rattle.cm_base.specs.declared.errno.Errno.TheVariants.{EPERM, EINVAL, EAGAIN, EINTR}
 use Rattle.model_cred.specs.Call.{CapSet, BsetDrop, AmbRaise, AmbLower, AmbClear, SecureBits, KeepCaps, NoNewPrivs}
 use Rattle.model_text.proofs.LineCases.{IsEvent, AreFaulty, event_of}
-use Rattle.model_text.proofs.ReportCases.{report_on_literals}
+use Rattle.model_text.proofs.PrintCases.{print_on_literals}
 use Rattle.model_text.specs.Print.{cap_name_or_number, event_text}
 
 -- ---- capset
@@ -114,32 +114,32 @@ faults_of_one_number = refl
 
 -- ---- printed events
 pub sets_are_printed_in_digits : event_text (event_of (CapSet 0x1ffffffffff 0x400 0) Done) ≡ codes "100 capset 000001ffffffffff 0000000000000400 0000000000000000 = 0"
-unfolding report_on_literals
+unfolding print_on_literals
 sets_are_printed_in_digits = refl
 
 pub each_digit_is_printed : event_text (event_of (CapSet 0x10123456789 0x1abcdef0000 0x19abcdef012) (Err EPERM)) ≡ codes "100 capset 0000010123456789 000001abcdef0000 0000019abcdef012 = EPERM"
-unfolding report_on_literals
+unfolding print_on_literals
 each_digit_is_printed = refl
 
 pub capabilities_are_printed_by_name : map cap_name_or_number (0 ∷ 5 ∷ 7 ∷ 8 ∷ 10 ∷ 21 ∷ 31 ∷ 32 ∷ 39 ∷ 40 ∷ [])
     ≡ codes "CAP_CHOWN" ∷ codes "CAP_KILL" ∷ codes "CAP_SETUID" ∷ codes "CAP_SETPCAP" ∷ codes "CAP_NET_BIND_SERVICE" ∷ codes "CAP_SYS_ADMIN" ∷ codes "CAP_SETFCAP" ∷ codes "CAP_MAC_OVERRIDE" ∷ codes "CAP_BPF" ∷ codes "CAP_CHECKPOINT_RESTORE" ∷ []
-unfolding report_on_literals
+unfolding print_on_literals
 capabilities_are_printed_by_name = refl
 
 pub numbers_past_them_are_printed : map cap_name_or_number (41 ∷ 64 ∷ 4294967295 ∷ []) ≡ codes "41" ∷ codes "64" ∷ codes "4294967295" ∷ []
-unfolding report_on_literals
+unfolding print_on_literals
 numbers_past_them_are_printed = refl
 
 pub each_prctl_is_printed : map (λ call. event_text (event_of call Done))
     (BsetDrop 0 ∷ AmbRaise 40 ∷ AmbLower 10 ∷ AmbClear ∷ SecureBits 47 ∷ KeepCaps 1 ∷ NoNewPrivs 1 ∷ [])
     ≡ codes "100 bset_drop CAP_CHOWN = 0" ∷ codes "100 amb_raise CAP_CHECKPOINT_RESTORE = 0" ∷ codes "100 amb_lower CAP_NET_BIND_SERVICE = 0" ∷ codes "100 amb_clear = 0" ∷ codes "100 securebits 47 = 0" ∷ codes "100 keepcaps 1 = 0"
     ∷ codes "100 no_new_privs 1 = 0" ∷ []
-unfolding report_on_literals
+unfolding print_on_literals
 each_prctl_is_printed = refl
 
 pub each_refusal_is_printed : map (λ call. event_text (event_of call (Err EINVAL)))
     (BsetDrop 41 ∷ AmbRaise 4294967295 ∷ AmbLower 41 ∷ SecureBits 4294967295 ∷ KeepCaps 4294967295 ∷ NoNewPrivs 0 ∷ [])
     ≡ codes "100 bset_drop 41 = EINVAL" ∷ codes "100 amb_raise 4294967295 = EINVAL" ∷ codes "100 amb_lower 41 = EINVAL" ∷ codes "100 securebits 4294967295 = EINVAL" ∷ codes "100 keepcaps 4294967295 = EINVAL"
     ∷ codes "100 no_new_privs 0 = EINVAL" ∷ []
-unfolding report_on_literals
+unfolding print_on_literals
 each_refusal_is_printed = refl

@@ -5,7 +5,7 @@ use Rattle.cm_base.specs.declared.res.Res.{Res}
 use Rattle.cm_base.specs.declared.res.Res.TheVariants.{Done, Id, Err}
 use Rattle.cm_base.specs.declared.errno.Errno.TheVariants.{EPERM, EINVAL, EAGAIN}
 use Rattle.model_cred.specs.Call.{Call, Event, SetUid, SetReUid, SetResUid, SetFsUid, SetGid, SetReGid, SetResGid, SetFsGid, SetGroups}
-use Rattle.model_text.proofs.ReportCases.{report_on_literals}
+use Rattle.model_text.proofs.PrintCases.{print_on_literals}
 use Rattle.model_text.specs.Line.{Tells, Faulty, Unbuilt, script_line}
 use Rattle.model_text.specs.Print.{event_text}
 
@@ -134,30 +134,30 @@ names_of_no_call = refl
 
 -- ---- printed events
 pub no_groups_are_printed : event_text (event_of (SetGroups []) Done) ≡ codes "100 setgroups = 0"
-unfolding report_on_literals
+unfolding print_on_literals
 no_groups_are_printed = refl
 
 pub groups_are_printed : event_text (event_of (SetGroups (34 ∷ 10 ∷ 34 ∷ 4294967295 ∷ [])) (Err EINVAL)) ≡ codes "100 setgroups 34 10 34 -1 = EINVAL"
-unfolding report_on_literals
+unfolding print_on_literals
 groups_are_printed = refl
 
 pub one_id_is_printed : event_text (event_of (SetUid 33) (Err EPERM)) ≡ codes "100 setuid 33 = EPERM"
-unfolding report_on_literals
+unfolding print_on_literals
 one_id_is_printed = refl
 
 pub two_ids_are_printed : event_text (event_of (SetReGid 4294967295 34) Done) ≡ codes "100 setregid -1 34 = 0"
-unfolding report_on_literals
+unfolding print_on_literals
 two_ids_are_printed = refl
 
 pub three_ids_are_printed : event_text (event_of (SetResGid 33 34 35) Done) ≡ codes "100 setresgid 33 34 35 = 0"
-unfolding report_on_literals
+unfolding print_on_literals
 three_ids_are_printed = refl
 
 pub id_before_is_printed : event_text (event_of (SetFsUid 4294967295) (Id 1000)) ≡ codes "100 setfsuid -1 = 1000"
-unfolding report_on_literals
+unfolding print_on_literals
 id_before_is_printed = refl
 
 pub each_name_is_printed : map (λ call. event_text (event_of call Done)) (SetGid 1 ∷ SetReUid 1 2 ∷ SetFsGid 3 ∷ SetResUid 4 5 6 ∷ [])
     ≡ codes "100 setgid 1 = 0" ∷ codes "100 setreuid 1 2 = 0" ∷ codes "100 setfsgid 3 = 0" ∷ codes "100 setresuid 4 5 6 = 0" ∷ []
-unfolding report_on_literals
+unfolding print_on_literals
 each_name_is_printed = refl

@@ -12,7 +12,7 @@ use Rattle.model_text.specs.WorldText.{Reads, world_text, text_says_more, are_di
 
 -- ---- each is found by its pid
 -- the process is the one that is found by its pid
-abbrev IsFound : List Process → Process → Type 0
+abbrev pub IsFound : List Process → Process → Type 0
 IsFound all p = process_at all p.pid ≡ Some p
 
 -- also after another, whose pid none of them has
@@ -27,7 +27,7 @@ found_behind p ps q free is =
         cc
 
 -- so is each, where no pid stands twice
-each_found : (ps : List Process) → are_distinct ps ≡ true → All (IsFound ps) ps
+pub each_found : (ps : List Process) → are_distinct ps ≡ true → All (IsFound ps) ps
 each_found [] distinct = All-nil (IsFound [])
 each_found (p ∷ ps) distinct =
     let free : is_alive ps p.pid ≡ false = grind (arith, distinct) in

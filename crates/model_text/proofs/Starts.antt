@@ -1,5 +1,6 @@
--- The processes at a world's start: no pid stands twice, so the credential lines at the start show each of them.
-use Rattle.std.proofs.Common.{◌≡◌, ℕ, ◌==◌, Bool, true, false, cond, ◌&&◌, ◌||◌, List, [], ◌∷◌, map, Option, Some, None, refl, sym, ◌∙◌, ap, subst, arith}
+-- The processes at a world's start: no pid stands twice, and the pids ascend.
+use Rattle.std.proofs.Common.{◌≡◌, ℕ, ◌==◌, Bool, true, false, cond, ◌&&◌, ◌||◌, List, [], ◌∷◌, map, Option, Some, None, refl, sym, ◌∙◌, ap, subst, arith, ◌≢◌, ◌<◌, inl, inr}
+use Rattle.std.proofs.lemmas.Bool.{cases_lt, lt-ltb, le-ltb}
 use Rattle.std.specs.Prelude.{codes, is_some}
 use Rattle.std.specs.Str.{is_utf8}
 use Rattle.std.specs.Option.{option_or}
@@ -7,8 +8,6 @@ use Rattle.model_cred.proofs.Lookups.{alive_cons, alive_inserted}
 use Rattle.model_cred.proofs.Orders.{insert_ascends}
 use Rattle.model_cred.specs.Process.{Process, process_at, is_alive, Ascends, insert_process}
 use Rattle.model_cred.specs.World.{World}
-use Rattle.model_text.specs.Laws.{last_credentials}
-use Rattle.model_text.specs.Report.{Credentials}
 use Rattle.model_text.specs.Toml.{has_only, is_text}
 use Rattle.model_text.specs.WorldText.{WorldText, Reads, Bad, NotBuilt, world_text, document_text, table_text, built_table, distinct_world, world_with, in_order, are_distinct, parents_stand, asks_more, processes_of, rows_have, says_more, document_says_more, text_says_more}
 use Rattle.model_text.specs.ProcessText.{further_keys}
@@ -107,20 +106,3 @@ pub start_ascends : (bytes : List ℕ) (w : World) → world_text bytes ≡ Read
 start_ascends bytes w is =
     let made : Made w (text_says_more bytes) = start_made bytes w is in
     subst (λ (x : World). Ascends x.start.processes) made.world (in_order_ascends made.processes made.distinct)
-
--- ---- the credential lines at the start
-not_found : (pid : ℕ) (ps : List Process) → is_alive ps pid ≡ false → process_at ps pid ≡ None
-not_found pid ps free = none (process_at ps pid) free
-  where
-    none : (o : Option Process) → is_some o ≡ false → o ≡ None
-    none None free = refl
-    none (Some p) there = absurd (cc)
-
-or_none : (o : Option Process) → option_or o None ≡ o
-or_none None = refl
-or_none (Some p) = refl
-
--- the last credential line of a process that has its pid alone shows it
-pub start_shows : (ps : List Process) → are_distinct ps ≡ true → (pid : ℕ) → last_credentials pid (map Credentials ps) ≡ process_at ps pid
-start_shows [] distinct pid = refl
-start_shows (p ∷ ps) distinct pid = grind (arith, distinct, start_shows ps, not_found pid ps, or_none (process_at ps pid))

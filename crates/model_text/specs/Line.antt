@@ -1,7 +1,7 @@
 -- What a line of a script log stands for: PID CALL ARGUMENTS = RESULT (choice). Built so far: the calls that set user ids,
 -- group ids and groups, those of capset and prctl, fork and exit. Of each part is said what it is and which tokens stand
 -- after it.
-use Rattle.std.specs.Prelude.{◌≡◌, ℕ, Bool, true, false, List, [], ◌∷◌, Option, Some, None, if◌then◌else◌, filter_map, option_map, option_and_then}
+use Rattle.std.specs.Prelude.{◌≡◌, ℕ, Bool, true, false, List, [], ◌∷◌, Option, Some, None, if◌then◌else◌, option_map, option_and_then}
 use Rattle.cm_base.specs.declared.res.Res.{Res}
 use Rattle.cm_base.specs.declared.res.Res.TheVariants.{Id}
 use Rattle.model_cred.specs.Call.{Call, Event, kind_of, SetUid, SetReUid, SetResUid, SetFsUid, SetGid, SetReGid, SetResGid, SetFsGid, SetGroups, CapSet, BsetDrop, AmbRaise, AmbLower, AmbClear, SecureBits, KeepCaps, NoNewPrivs, Fork, Exit}
@@ -169,12 +169,3 @@ tokens_line (first ∷ tokens) = if is_comment first then NoEvent else pid_line 
 -- the line
 abbrev pub script_line : List ℕ → Line
 script_line line = tokens_line (tokens_of line)
-
--- the event that a line tells, where it tells one
-abbrev pub told_event : Line → Option Event
-told_event (Tells e) = Some e
-told_event _ = None
-
--- the events that lines tell, in their order
-abbrev pub events_of : List (List ℕ) → List Event
-events_of lines = filter_map (λ line. told_event (script_line line)) lines

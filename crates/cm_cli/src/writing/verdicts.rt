@@ -1,11 +1,15 @@
 // The lines that end a report.
-ghost use Rattle.std.specs.Prelude.{◌≡◌, ◌++◌, [], ◌∷◌, OnOk, codes};
-ghost use Rattle.model_run.specs.Step.{Wrong, NoProcess, NoSpace, PidInUse};
-ghost use Rattle.model_text.specs.Report.{text_of, at_line, reason, Plain, ended, impossible, bad_log, not_built, limit_hit, world_limit, log_limit, usage};
+ghost use Rattle.std.specs.Prelude.{◌≡◌, ◌≢◌, ◌++◌, [], ◌∷◌, codes};
+ghost use Rattle.cm_base.specs.Outcome.{OrNoMemory};
+ghost use Rattle.cm_cli.specs.Replay.{reason_of};
+ghost use Rattle.model_report.specs.Replay.{text_of, reason, Plain, ended, impossible_text, bad_log, not_built, limit_hit};
+ghost use Rattle.model_report.specs.Report.{world_limit, log_limit, usage};
+ghost use Rattle.model_run.specs.Step.{Wrong};
 
-use super::events::put_res;
-use super::numbers::{put, put_decimal};
 use cm_base::{NoMemory, Res};
+use cm_machine::StepError;
+use cm_script::numbers::{put, put_decimal};
+use cm_script::put_res;
 
 const USAGE: &[u8] = b"usage: credaudit replay WORLD LOG
 usage: credaudit audit WORLD LOG PID RIGHT
@@ -16,60 +20,45 @@ usage: credaudit drill N
 
 /// `end` and how many events the log told.
 pub(crate) fn put_end(text: &mut Vec<u8>, count: u64) -> Result<(), NoMemory>
-    ensures { OnOk result (text.new.items ≡ text.old.items ++ text_of (ended count).lines) }
+    ensures { OrNoMemory result (λ _. text.new.items ≡ text.old.items ++ text_of (ended count).lines) }
 {
     put(text, b"end ")?;
     put_decimal(text, count)?;
     put(text, b"\n")
 }
 
-/// The event of that line has no live process.
-pub(crate) fn put_no_process(text: &mut Vec<u8>, number: u64) -> Result<(), NoMemory>
-    ensures { OnOk result (text.new.items ≡ text.old.items ++ text_of (impossible number NoProcess).lines) }
-{
-    put_impossible(text, number)?;
-    put(text, b"no process")?;
-    put(text, b"\n")
-}
-
-/// The call of that line names a space that doesn't stand.
-pub(crate) fn put_no_space(text: &mut Vec<u8>, number: u64) -> Result<(), NoMemory>
-    ensures { OnOk result (text.new.items ≡ text.old.items ++ text_of (impossible number NoSpace).lines) }
-{
-    put_impossible(text, number)?;
-    put(text, b"no space")?;
-    put(text, b"\n")
-}
-
-/// The event of that line tells a child that is alive already.
-pub(crate) fn put_pid_in_use(text: &mut Vec<u8>, number: u64) -> Result<(), NoMemory>
-    ensures { OnOk result (text.new.items ≡ text.old.items ++ text_of (impossible number PidInUse).lines) }
-{
-    put_impossible(text, number)?;
-    put(text, b"pid in use")?;
-    put(text, b"\n")
-}
-
-/// The event of that line has another result than the rules give.
-pub(crate) fn put_wrong(text: &mut Vec<u8>, number: u64, given: &Res) -> Result<(), NoMemory>
-    ensures { OnOk result (text.new.items ≡ text.old.items ++ text_of (impossible number (Wrong given.now)).lines) }
-{
-    put_impossible(text, number)?;
-    put_given(text, given)?;
-    put(text, b"\n")
-}
-
-fn put_impossible(text: &mut Vec<u8>, number: u64) -> Result<(), NoMemory>
-    ensures { OnOk result (text.new.items ≡ text.old.items
-        ++ (at_line (codes "impossible line ") number ++ codes ": ")) }
+/// The event of that line is impossible, for this reason; want of memory is none, and is handed on.
+pub(crate) fn put_impossible(
+    text: &mut Vec<u8>,
+    number: u64,
+    why: &StepError,
+) -> Result<(), NoMemory>
+    ensures line { OrNoMemory result (λ _. text.new.items ≡ text.old.items
+        ++ text_of (Plain (impossible_text number (reason_of why.now)) ∷ [])) }
+    ensures refusal { OrNoMemory result (λ _. why.now ≢ StepError.NoMemory) }
 {
     put(text, b"impossible line ")?;
     put_decimal(text, number)?;
-    put(text, b": ")
+    put(text, b": ")?;
+    put_reason(text, why)?;
+    put(text, b"\n")
+}
+
+fn put_reason(text: &mut Vec<u8>, why: &StepError) -> Result<(), NoMemory>
+    ensures reason { OrNoMemory result (λ _. text.new.items ≡ text.old.items ++ reason_of why.now) }
+    ensures refusal { OrNoMemory result (λ _. why.now ≢ StepError.NoMemory) }
+{
+    match why {
+        StepError::NoProcess => put(text, b"no process"),
+        StepError::NoSpace => put(text, b"no space"),
+        StepError::PidInUse => put(text, b"pid in use"),
+        StepError::Wrong { rules_give } => put_given(text, rules_give),
+        StepError::NoMemory => Err(NoMemory),
+    }
 }
 
 fn put_given(text: &mut Vec<u8>, given: &Res) -> Result<(), NoMemory>
-    ensures { OnOk result (text.new.items ≡ text.old.items ++ reason (Wrong given.now)) }
+    ensures { OrNoMemory result (λ _. text.new.items ≡ text.old.items ++ reason (Wrong given.now)) }
 {
     put(text, b"the rules give ")?;
     put_res(text, given)
@@ -77,7 +66,7 @@ fn put_given(text: &mut Vec<u8>, given: &Res) -> Result<(), NoMemory>
 
 /// That line of the log has a fault.
 pub(crate) fn put_bad_log(text: &mut Vec<u8>, number: u64) -> Result<(), NoMemory>
-    ensures { OnOk result (text.new.items ≡ text.old.items ++ text_of (bad_log number).lines) }
+    ensures { OrNoMemory result (λ _. text.new.items ≡ text.old.items ++ text_of (bad_log number).lines) }
 {
     put(text, b"bad log line ")?;
     put_decimal(text, number)?;
@@ -86,21 +75,21 @@ pub(crate) fn put_bad_log(text: &mut Vec<u8>, number: u64) -> Result<(), NoMemor
 
 /// What was asked for isn't built.
 pub(crate) fn put_not_built(text: &mut Vec<u8>) -> Result<(), NoMemory>
-    ensures { OnOk result (text.new.items ≡ text.old.items ++ text_of not_built.lines) }
+    ensures { OrNoMemory result (λ _. text.new.items ≡ text.old.items ++ text_of not_built.lines) }
 {
     put(text, b"not built\n")
 }
 
 /// The text of the world has a fault.
 pub(crate) fn put_bad_world(text: &mut Vec<u8>) -> Result<(), NoMemory>
-    ensures { OnOk result (text.new.items ≡ text.old.items ++ text_of (Plain (codes "bad world") ∷ [])) }
+    ensures { OrNoMemory result (λ _. text.new.items ≡ text.old.items ++ text_of (Plain (codes "bad world") ∷ [])) }
 {
     put(text, b"bad world\n")
 }
 
 /// The world is past its limit of bytes.
 pub(crate) fn put_world_limit(text: &mut Vec<u8>) -> Result<(), NoMemory>
-    ensures { OnOk result (text.new.items ≡ text.old.items ++ text_of (limit_hit (codes "world") world_limit).lines) }
+    ensures { OrNoMemory result (λ _. text.new.items ≡ text.old.items ++ text_of (limit_hit (codes "world") world_limit).lines) }
 {
     put(text, b"limit world ")?;
     put_decimal(text, 1_048_576)?;
@@ -109,7 +98,7 @@ pub(crate) fn put_world_limit(text: &mut Vec<u8>) -> Result<(), NoMemory>
 
 /// The log is past its limit of bytes.
 pub(crate) fn put_log_limit(text: &mut Vec<u8>) -> Result<(), NoMemory>
-    ensures { OnOk result (text.new.items ≡ text.old.items ++ text_of (limit_hit (codes "log") log_limit).lines) }
+    ensures { OrNoMemory result (λ _. text.new.items ≡ text.old.items ++ text_of (limit_hit (codes "log") log_limit).lines) }
 {
     put(text, b"limit log ")?;
     put_decimal(text, 67_108_864)?;
@@ -118,7 +107,7 @@ pub(crate) fn put_log_limit(text: &mut Vec<u8>) -> Result<(), NoMemory>
 
 /// The five forms of the command line.
 pub(crate) fn put_usage(text: &mut Vec<u8>) -> Result<(), NoMemory>
-    ensures { OnOk result (text.new.items ≡ text.old.items ++ text_of usage.lines) }
+    ensures { OrNoMemory result (λ _. text.new.items ≡ text.old.items ++ text_of usage.lines) }
 {
     put(text, USAGE)
 }

@@ -1,5 +1,6 @@
 use Rattle.std.proofs.Common.{ap, Err, refl}
-use Rattle.cm_cli.proofs.Replaying.{log_answers, log_read_fault, log_not_usage, short_not_usage, if_told}
+use Rattle.cm_cli.proofs.Replaying.{log_answers, log_read_fault, short_not_usage, if_told}
+use Rattle.cm_cli.proofs.Told.{log_not_usage}
 use Rattle.cm_cli.proofs.commands.run_log.Goals as goal
 use Rattle.cm_cli.specs.Query.{query_if}
 use Rattle.cm_cli.specs.Telling.{short_report, log_report}

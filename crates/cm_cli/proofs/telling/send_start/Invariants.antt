@@ -1,7 +1,7 @@
 use Rattle.std.proofs.Common.{◌≡◌, ◌++◌, map, drop}
 use Rattle.cm_cli.proofs.telling.send_start.Given as goal
 use Rattle.cm_cli.specs.Sent.{IsSent}
-use Rattle.model_text.specs.Report.{text_of, Credentials}
+use Rattle.model_report.specs.Replay.{text_of, Credentials}
 
 -- The lines of the processes that are left come after what is written and what waits.
 abbrev pub invariant-loop-p : goal.invariant-loop-p

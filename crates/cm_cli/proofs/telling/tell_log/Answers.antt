@@ -1,16 +1,16 @@
 use Rattle.std.proofs.Common.{◌≡◌, ◌∙◌, ◌||◌, not, Bool, true, false, refl, sym, ap}
-use Rattle.cm_cli.proofs.Told.{stops, wants_memory, tells_whole, log_text, log_whole, log_longer, is_answered, answered_told}
+use Rattle.cm_cli.proofs.Told.{stops, wants_memory, tells_whole, log_text, log_whole, log_longer, is_answered, answered_told, from_start}
 use Rattle.cm_cli.proofs.Waiting.{all_waits, sent_on, front_on, more_waits, front_of_longer, waits_as}
 use Rattle.cm_cli.proofs.telling.tell_log.Goals as goal
 use Rattle.cm_world.specs.World.{world_of}
+use Rattle.cm_cli.specs.Log.{left}
 use Rattle.cm_cli.specs.Query.{query_if}
 use Rattle.cm_cli.specs.Telling.{log_report, answer_to}
 use Rattle.cm_io.specs.declared.outside.Outside.TheVariants as outside
 use Rattle.model_cred.specs.Process.{State}
+use Rattle.model_report.specs.Replay.{text_of}
 use Rattle.model_run.proofs.RunsBack.{setresuids_follow}
-use Rattle.model_text.specs.Cut.{lines_of}
-use Rattle.model_text.specs.Line.{events_of}
-use Rattle.model_text.specs.Report.{text_of}
+use Rattle.model_text.specs.Reading.{Reading, events_of, script_reading}
 
 -- without memory for the machine nothing is written
 pub returns-in-Err : goal.returns-in-Err
@@ -23,22 +23,25 @@ returns-in-Err-send_start g c =
     (front_of_longer _ _ _ (log_text (query_if c.args.query) c.args.w.now c.args.log.now) front)
     c.in-Err-send_start.ensures.cause
 
-pub returns-in-Err-replay_lines : goal.returns-in-Err-replay_lines
-returns-in-Err-replay_lines g c =
+pub returns-in-Err-replay_log : goal.returns-in-Err-replay_log
+returns-in-Err-replay_log g c =
+    let same = from_start (world_of c.args.w.now) c.in-Ok.replay (left c.new-log.result) (script_reading c.args.log.now) c.in-Ok.ensures.state c.in-Ok.ensures.none.0 c.new-log.ensures.reading in
     let started = rw c.new-text.ensures.items at c.in-Ok-send_start.ensures.sent in
-    let front = front_on (more_waits started _) (rw c.in-Ok.ensures at c.in-Err-replay_lines.ensures.stopped) in
+    let front = front_on (more_waits started _) (rw same at c.in-Err-replay_log.ensures.stopped) in
     let longer = log_longer (query_if c.args.query) c.args.w.now c.args.log.now in
-    let cause = rw c.in-Ok-send_start.ensures.cause.ok at c.in-Err-replay_lines.ensures.cause in
-    stops (log_report (query_if c.args.query) c.args.w.now c.args.log.now) c.in-Err-replay_lines.why c.stopped-in-Err-replay_lines.result _ _ _ _ c.stopped-in-Err-replay_lines.ensures
+    let cause = rw c.in-Ok-send_start.ensures.cause.ok at c.in-Err-replay_log.ensures.cause in
+    stops (log_report (query_if c.args.query) c.args.w.now c.args.log.now) c.in-Err-replay_log.why c.stopped-in-Err-replay_log.result _ _ _ _ c.stopped-in-Err-replay_log.ensures
     (front_of_longer _ _ _ longer.1 front)
     cause
 
 -- after an accepted log the sets of each process follow its user ids, where the weak audit knows all
 pub put_answer-requires : goal.put_answer-requires
 put_answer-requires g c = λ accepted known.
-    let parts : (c.args.w.now.more ≡ false) × (c.in-Ok-replay_lines.replayed.setresuids ≡ true) = nothing_more c.args.w.now.more c.in-Ok-replay_lines.replayed.setresuids (sym c.has_more-more.ensures ∙ known) in
-    setresuids_follow (world_of c.args.w.now) (events_of (lines_of c.args.log.now)) c.args.w.now.start c.replay_lines.new.machine.state
-    (sym (c.in-Ok-replay_lines.ensures.setresuids accepted) ∙ parts.1) (c.requires parts.0) (rw c.in-Ok.ensures at (c.in-Ok-replay_lines.ensures.reached accepted))
+    let parts : (c.args.w.now.more ≡ false) × (c.replay_log.new.replay.setresuids ≡ true) = nothing_more c.args.w.now.more c.replay_log.new.replay.setresuids (sym c.has_more-more.ensures ∙ known) in
+    let told = rw (c.in-Ok.ensures.none.1, c.new-log.ensures.reading) at (c.in-Ok-replay_log.ensures.setresuids accepted) in
+    let run = rw (c.in-Ok.ensures.state, c.new-log.ensures.reading) at (c.in-Ok-replay_log.ensures.reached accepted) in
+    setresuids_follow (world_of c.args.w.now) (events_of (script_reading c.args.log.now).events) c.args.w.now.start c.replay_log.new.replay.machine.state
+    (sym told ∙ parts.1) (c.requires parts.0) run
   where
     nothing_more : (more setresuids : Bool) → (more || not setresuids) ≡ false → (more ≡ false) × (setresuids ≡ true)
     nothing_more false true is = (refl, refl)
@@ -47,42 +50,51 @@ put_answer-requires g c = λ accepted known.
 
 pub returns-in-Err-put_answer : goal.returns-in-Err-put_answer
 returns-in-Err-put_answer g c =
+    let same = from_start (world_of c.args.w.now) c.in-Ok.replay (left c.new-log.result) (script_reading c.args.log.now) c.in-Ok.ensures.state c.in-Ok.ensures.none.0 c.new-log.ensures.reading in
     let started = rw c.new-text.ensures.items at c.in-Ok-send_start.ensures.sent in
-    let replayed_on = sent_on (more_waits started _) (rw c.in-Ok.ensures at c.in-Ok-replay_lines.ensures.sent) in
+    let replayed_on = sent_on (more_waits started _) (rw same at c.in-Ok-replay_log.ensures.sent) in
     let longer = log_longer (query_if c.args.query) c.args.w.now c.args.log.now in
     stops (log_report (query_if c.args.query) c.args.w.now c.args.log.now) outside.NoMemory _ _ _ _ _ refl
     (front_of_longer _ _ _ longer.1 (_, replayed_on))
-    (wants_memory (c.in-Ok-replay_lines.ensures.cause.ok ∙ c.in-Ok-send_start.ensures.cause.ok))
+    (wants_memory (c.in-Ok-replay_log.ensures.cause.ok ∙ c.in-Ok-send_start.ensures.cause.ok))
 
 pub returns-in-Ok-send : goal.returns-in-Ok-send
 returns-in-Ok-send g c =
-    let after : State = c.replay_lines.new.machine.state in
+    let reading : Reading = script_reading c.args.log.now in
+    let same = from_start (world_of c.args.w.now) c.in-Ok.replay (left c.new-log.result) reading c.in-Ok.ensures.state c.in-Ok.ensures.none.0 c.new-log.ensures.reading in
+    let after : State = c.replay_log.new.replay.machine.state in
     let started = rw c.new-text.ensures.items at c.in-Ok-send_start.ensures.sent in
-    let replayed_on = sent_on (more_waits started _) (rw c.in-Ok.ensures at c.in-Ok-replay_lines.ensures.sent) in
-    let behind : Bool = c.has_more-more.result in
-    let answer = is_answered (query_if c.args.query) c.args.w.now.more (world_of c.args.w.now) (lines_of c.args.log.now) behind c.in-Ok-replay_lines.replayed.status after
-    (rw c.in-Ok.ensures at c.in-Ok-replay_lines.ensures.status) (λ accepted. rw c.in-Ok.ensures at (c.in-Ok-replay_lines.ensures.reached accepted))
-    (λ accepted. c.has_more-more.ensures ∙ ap (λ (b : Bool). c.args.w.now.more || not b) (c.in-Ok-replay_lines.ensures.setresuids accepted)) in
-    let answered_on = waits_as _ _ (sym c.in-Ok-put_answer.ensures.text) (more_waits replayed_on (text_of (answer_to (query_if c.args.query) behind c.in-Ok-replay_lines.replayed.status after).lines)) in
+    let replayed_on = sent_on (more_waits started _) (rw same at c.in-Ok-replay_log.ensures.sent) in
+    let unknown : Bool = c.has_more-more.result in
+    let answer = is_answered (query_if c.args.query) c.args.w.now.more (world_of c.args.w.now) reading unknown c.in-Ok-replay_log.end after
+    (rw same at c.in-Ok-replay_log.ensures.status) (λ accepted. rw (c.in-Ok.ensures.state, c.new-log.ensures.reading) at (c.in-Ok-replay_log.ensures.reached accepted))
+    (λ accepted.
+    c.has_more-more.ensures
+    ∙ ap (λ (b : Bool). c.args.w.now.more || not b) (rw (c.in-Ok.ensures.none.1, c.new-log.ensures.reading) at (c.in-Ok-replay_log.ensures.setresuids accepted))) in
+    let answered_on = waits_as _ _ (sym c.in-Ok-put_answer.ensures.text) (more_waits replayed_on (text_of (answer_to (query_if c.args.query) unknown c.in-Ok-replay_log.end after).lines)) in
     let sent = rw c.in-Ok-send.ensures.empty at (sent_on answered_on c.in-Ok-send.ensures.sent) in
     tells_whole (log_report (query_if c.args.query) c.args.w.now c.args.log.now) c.in-Ok-put_answer.status _ _ _ _
     (answer.status ∙ sym c.in-Ok-put_answer.ensures.status)
-    (answered_told (query_if c.args.query) c.args.w.now.more (world_of c.args.w.now) (lines_of c.args.log.now))
-    (rw (log_whole (query_if c.args.query) c.args.w.now c.args.log.now behind c.in-Ok-replay_lines.replayed.status after answer) sent)
-    (c.in-Ok-send.ensures.cause.ok ∙ c.in-Ok-replay_lines.ensures.cause.ok ∙ c.in-Ok-send_start.ensures.cause.ok)
+    (answered_told (query_if c.args.query) c.args.w.now.more (world_of c.args.w.now) reading)
+    (rw (log_whole (query_if c.args.query) c.args.w.now c.args.log.now unknown c.in-Ok-replay_log.end after answer) sent)
+    (c.in-Ok-send.ensures.cause.ok ∙ c.in-Ok-replay_log.ensures.cause.ok ∙ c.in-Ok-send_start.ensures.cause.ok)
 
 pub returns : goal.returns
 returns g c =
-    let after : State = c.replay_lines.new.machine.state in
+    let reading : Reading = script_reading c.args.log.now in
+    let same = from_start (world_of c.args.w.now) c.in-Ok.replay (left c.new-log.result) reading c.in-Ok.ensures.state c.in-Ok.ensures.none.0 c.new-log.ensures.reading in
+    let after : State = c.replay_log.new.replay.machine.state in
     let started = rw c.new-text.ensures.items at c.in-Ok-send_start.ensures.sent in
-    let replayed_on = sent_on (more_waits started _) (rw c.in-Ok.ensures at c.in-Ok-replay_lines.ensures.sent) in
-    let behind : Bool = c.has_more-more.result in
-    let answer = is_answered (query_if c.args.query) c.args.w.now.more (world_of c.args.w.now) (lines_of c.args.log.now) behind c.in-Ok-replay_lines.replayed.status after
-    (rw c.in-Ok.ensures at c.in-Ok-replay_lines.ensures.status) (λ accepted. rw c.in-Ok.ensures at (c.in-Ok-replay_lines.ensures.reached accepted))
-    (λ accepted. c.has_more-more.ensures ∙ ap (λ (b : Bool). c.args.w.now.more || not b) (c.in-Ok-replay_lines.ensures.setresuids accepted)) in
-    let answered_on = waits_as _ _ (sym c.in-Ok-put_answer.ensures.text) (more_waits replayed_on (text_of (answer_to (query_if c.args.query) behind c.in-Ok-replay_lines.replayed.status after).lines)) in
+    let replayed_on = sent_on (more_waits started _) (rw same at c.in-Ok-replay_log.ensures.sent) in
+    let unknown : Bool = c.has_more-more.result in
+    let answer = is_answered (query_if c.args.query) c.args.w.now.more (world_of c.args.w.now) reading unknown c.in-Ok-replay_log.end after
+    (rw same at c.in-Ok-replay_log.ensures.status) (λ accepted. rw (c.in-Ok.ensures.state, c.new-log.ensures.reading) at (c.in-Ok-replay_log.ensures.reached accepted))
+    (λ accepted.
+    c.has_more-more.ensures
+    ∙ ap (λ (b : Bool). c.args.w.now.more || not b) (rw (c.in-Ok.ensures.none.1, c.new-log.ensures.reading) at (c.in-Ok-replay_log.ensures.setresuids accepted))) in
+    let answered_on = waits_as _ _ (sym c.in-Ok-put_answer.ensures.text) (more_waits replayed_on (text_of (answer_to (query_if c.args.query) unknown c.in-Ok-replay_log.end after).lines)) in
     let front = front_on answered_on c.in-Err-send.ensures.front in
-    let cause = rw (c.in-Ok-replay_lines.ensures.cause.ok ∙ c.in-Ok-send_start.ensures.cause.ok) at c.in-Err-send.ensures.cause in
+    let cause = rw (c.in-Ok-replay_log.ensures.cause.ok ∙ c.in-Ok-send_start.ensures.cause.ok) at c.in-Err-send.ensures.cause in
     stops (log_report (query_if c.args.query) c.args.w.now c.args.log.now) c.in-Err-send.why c.stopped-in-Err-send.result _ _ _ _ c.stopped-in-Err-send.ensures
-    (rw (log_whole (query_if c.args.query) c.args.w.now c.args.log.now behind c.in-Ok-replay_lines.replayed.status after answer) front)
+    (rw (log_whole (query_if c.args.query) c.args.w.now c.args.log.now unknown c.in-Ok-replay_log.end after answer) front)
     cause

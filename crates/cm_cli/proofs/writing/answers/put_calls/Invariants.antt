@@ -1,9 +1,9 @@
 use Rattle.std.proofs.Common.{◌≡◌, ◌++◌, map, drop}
 use Rattle.model_text.specs.Print.{event_text}
-use Rattle.model_text.specs.Report.{text_of, Plain}
+use Rattle.model_report.specs.Replay.{text_of, Plain}
 use Rattle.cm_cli.proofs.writing.answers.put_calls.Given as goal
 
 -- The lines of the calls that are left come after what is written.
 abbrev pub invariant-loop-event : goal.invariant-loop-event
 invariant-loop-event l =
-    l.text.items ++ text_of (map (λ e. Plain (event_text e)) (drop l.event-index l.way)) ≡ l.initial.text.items ++ text_of (map (λ e. Plain (event_text e)) l.way)
+    l.text.items ++ text_of (map (λ e. Plain (event_text e)) (drop l.event-index l.run)) ≡ l.initial.text.items ++ text_of (map (λ e. Plain (event_text e)) l.run)

@@ -1,0 +1,155 @@
+// The credential line of a process, as text.
+ghost use Rattle.std.specs.Prelude.{◌≡◌, ◌++◌, ◌∷◌, None, codes, decimal, flat_map};
+ghost use Rattle.cm_base.specs.Outcome.{OrNoMemory};
+ghost use Rattle.model_text.specs.Print.{credential_line, space_token, ids_text, groups_text, all_ids_text, sets_text, bounds_text, flags_text};
+
+use cm_base::{Kgid, NoMemory, Pid, SpaceId};
+use cm_script::numbers::{put, put_decimal, put_hex2, put_hex16};
+use cm_state::{Cred, FourIds};
+use std::alloc::Global;
+
+/// The credential line of a process of that pid in that space, without LF, whatever its forebear, which the line doesn't
+/// tell. Its only error is want of memory.
+pub fn credentials(
+    alloc: Global,
+    cred: &Cred,
+    pid: Pid,
+    space: SpaceId,
+) -> Result<Vec<u8>, NoMemory>
+    ensures { OrNoMemory result (λ text. text.items ≡ credential_line (record { pid = pid; forebear = None; space = space.0; cred = cred.now })) }
+{
+    let mut text = Vec::new(alloc);
+    put_credentials(&mut text, cred, pid, space)?;
+    Ok(text)
+}
+
+/// The same at the end of a text. Where there is no memory, what the text holds isn't said.
+#[inline]
+pub fn put_credentials(
+    text: &mut Vec<u8>,
+    cred: &Cred,
+    pid: Pid,
+    space: SpaceId,
+) -> Result<(), NoMemory>
+    ensures { OrNoMemory result (λ _. text.new.items ≡ text.old.items
+        ++ credential_line (record { pid = pid; forebear = None; space = space.0; cred = cred.now })) }
+{
+    put_place(text, pid, space)?;
+    put_all_ids(text, cred)?;
+    put_sets(text, cred)?;
+    put_bounds(text, cred)?;
+    put_flags(text, cred)
+}
+
+// The pid and the token of the space.
+#[inline]
+fn put_place(text: &mut Vec<u8>, pid: Pid, space: SpaceId) -> Result<(), NoMemory>
+    ensures { OrNoMemory result (λ _. text.new.items ≡ text.old.items ++ (codes "> " ++ decimal pid ++ codes " " ++ space_token space.0)) }
+{
+    put(text, b"> ")?;
+    put_decimal(text, pid.number() as u64)?;
+    put(text, b" ")?;
+    put_space(text, space)
+}
+
+// The token of a space: `init` for the initial one, else `#` and its number.
+#[inline]
+fn put_space(text: &mut Vec<u8>, space: SpaceId) -> Result<(), NoMemory>
+    ensures { OrNoMemory result (λ _. text.new.items ≡ text.old.items ++ space_token space.0) }
+{
+    if space.0 == 0 {
+        put(text, b"init")
+    } else {
+        put(text, b"#")?;
+        put_decimal(text, space.0 as u64)
+    }
+}
+
+#[inline]
+#[tactic(auto, unfolding(model_text::specs::Print::all_ids_text))]
+fn put_all_ids(text: &mut Vec<u8>, cred: &Cred) -> Result<(), NoMemory>
+    ensures { OrNoMemory result (λ _. text.new.items ≡ text.old.items ++ all_ids_text cred.now) }
+{
+    put(text, b" uid=")?;
+    put_ids(text, cred.user_ids())?;
+    put(text, b" gid=")?;
+    put_ids(text, cred.group_ids())?;
+    put(text, b" groups=")?;
+    put_groups(text, cred.groups.items())
+}
+
+#[inline]
+#[tactic(auto, unfolding(model_text::specs::Print::ids_text))]
+fn put_ids(text: &mut Vec<u8>, ids: FourIds) -> Result<(), NoMemory>
+    ensures { OrNoMemory result (λ _. text.new.items ≡ text.old.items ++ ids_text ids) }
+{
+    put_decimal(text, ids.real as u64)?;
+    put_after_comma(text, ids.effective)?;
+    put_after_comma(text, ids.saved)?;
+    put_after_comma(text, ids.fs)
+}
+
+#[inline]
+fn put_after_comma(text: &mut Vec<u8>, id: u32) -> Result<(), NoMemory>
+    ensures { OrNoMemory result (λ _. text.new.items ≡ text.old.items ++ 44 ∷ decimal id) }
+{
+    put(text, b",")?;
+    put_decimal(text, id as u64)
+}
+
+// The groups joined by commas, `-` where there is none.
+#[inline]
+fn put_groups(text: &mut Vec<u8>, groups: &[Kgid]) -> Result<(), NoMemory>
+    ensures { OrNoMemory result (λ _. text.new.items ≡ text.old.items ++ groups_text groups.now) }
+{
+    match groups {
+        [] => put(text, b"-"),
+        [first, rest @ ..] => {
+            put_decimal(text, first.number() as u64)?;
+            put_rest(text, rest)
+        }
+    }
+}
+
+fn put_rest(text: &mut Vec<u8>, groups: &[Kgid]) -> Result<(), NoMemory>
+    ensures { OrNoMemory result (λ _. text.new.items ≡ text.old.items ++ flat_map (λ g. 44 ∷ decimal g) groups.now) }
+{
+    for group in groups {
+        put_after_comma(text, group.number())?;
+    }
+    Ok(())
+}
+
+#[inline]
+#[tactic(auto, unfolding(model_text::specs::Print::sets_text))]
+fn put_sets(text: &mut Vec<u8>, cred: &Cred) -> Result<(), NoMemory>
+    ensures { OrNoMemory result (λ _. text.new.items ≡ text.old.items ++ sets_text cred.now) }
+{
+    put(text, b" inh=")?;
+    put_hex16(text, cred.inh.bits())?;
+    put(text, b" prm=")?;
+    put_hex16(text, cred.prm.bits())?;
+    put(text, b" eff=")?;
+    put_hex16(text, cred.eff.bits())
+}
+
+#[inline]
+#[tactic(auto, unfolding(model_text::specs::Print::bounds_text))]
+fn put_bounds(text: &mut Vec<u8>, cred: &Cred) -> Result<(), NoMemory>
+    ensures { OrNoMemory result (λ _. text.new.items ≡ text.old.items ++ bounds_text cred.now) }
+{
+    put(text, b" bnd=")?;
+    put_hex16(text, cred.bnd.bits())?;
+    put(text, b" amb=")?;
+    put_hex16(text, cred.amb.bits())
+}
+
+#[inline]
+#[tactic(auto, unfolding(model_text::specs::Print::flags_text))]
+fn put_flags(text: &mut Vec<u8>, cred: &Cred) -> Result<(), NoMemory>
+    ensures { OrNoMemory result (λ _. text.new.items ≡ text.old.items ++ flags_text cred.now) }
+{
+    put(text, b" sec=")?;
+    put_hex2(text, cred.sec.bits())?;
+    put(text, if cred.nnp { b" nnp=1" } else { b" nnp=0" })
+}

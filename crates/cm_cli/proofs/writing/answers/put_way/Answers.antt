@@ -1,6 +1,0 @@
-use Rattle.std.proofs.lemmas.Result.{IfOk-equal}
-use Rattle.cm_cli.proofs.ReportText.{way_written}
-use Rattle.cm_cli.proofs.writing.answers.put_way.Goals as goal
-
-pub returns : goal.returns
-returns c = IfOk-equal _ _ _ _ c.put_holder.ensures (way_written _ _ _ c.args.pid c.args.way.now c.in_ok-put_no.ensures c.in_ok-put_calls.ensures)

@@ -1,0 +1,62 @@
+// The lines of an event that is a step: the event with the number of its line, and credential lines.
+ghost use Rattle.std.specs.Prelude.{◌≡◌, ◌++◌, [], ◌∷◌};
+ghost use Rattle.cm_base.specs.Outcome.{OrNoMemory};
+ghost use Rattle.model_cred.specs.Process.{process_at};
+ghost use Rattle.model_report.specs.Replay.{text_of, step_lines, child_lines, credentials_if, Credentials, Told};
+
+use crate::log::Placed;
+use cm_audit::put_credentials;
+use cm_base::{NoMemory, Pid, Res};
+use cm_script::numbers::{put, put_decimal};
+use cm_script::put_line;
+use cm_state::{Proc, State};
+
+/// The lines of a step to the state: the event, the caller's credentials where it lives on, and those of a child that was
+/// born.
+pub(crate) fn put_step(text: &mut Vec<u8>, state: &State, event: &Placed) -> Result<(), NoMemory>
+    ensures { OrNoMemory result (λ _. text.new.items ≡ text.old.items ++ text_of (step_lines state.now event.now)) }
+{
+    put_event(text, event)?;
+    put_living(text, state, event.event.pid)?;
+    put_child(text, state, &event.event.res)
+}
+
+// The event, with the number of its line.
+#[tactic(auto, unfolding(model_text::specs::Print::event_line))]
+fn put_event(text: &mut Vec<u8>, event: &Placed) -> Result<(), NoMemory>
+    ensures { OrNoMemory result (λ _. text.new.items ≡ text.old.items ++ text_of (Told event.now ∷ [])) }
+{
+    put_decimal(text, event.line)?;
+    put(text, b": ")?;
+    put_line(text, &event.event)?;
+    put(text, b"\n")
+}
+
+// The credential line of the live process of that pid, where there is one.
+fn put_living(text: &mut Vec<u8>, state: &State, pid: Pid) -> Result<(), NoMemory>
+    ensures { OrNoMemory result (λ _. text.new.items ≡ text.old.items ++ text_of (credentials_if (process_at state.now.processes pid))) }
+{
+    match state.procs.find(pid) {
+        Some(at) => put_process(text, &state.procs.items()[at]),
+        None => Ok(()),
+    }
+}
+
+// The credential line of the child that a result tells.
+fn put_child(text: &mut Vec<u8>, state: &State, res: &Res) -> Result<(), NoMemory>
+    ensures { OrNoMemory result (λ _. text.new.items ≡ text.old.items ++ text_of (child_lines state.now res.now)) }
+{
+    match res {
+        Res::Child(pid) => put_living(text, state, *pid),
+        _ => Ok(()),
+    }
+}
+
+/// The credential line of a process.
+#[inline]
+pub(crate) fn put_process(text: &mut Vec<u8>, p: &Proc) -> Result<(), NoMemory>
+    ensures { OrNoMemory result (λ _. text.new.items ≡ text.old.items ++ text_of (Credentials p.now ∷ [])) }
+{
+    put_credentials(text, &p.cred, p.pid, p.space)?;
+    put(text, b"\n")
+}

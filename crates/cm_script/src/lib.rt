@@ -1,0 +1,22 @@
+//! Script lines, the text form of logs: `read_line` makes an event of a line, or answers why it can't (`LineError`), and
+//! `put_line` writes an event as a line that reads as it. What a line stands for, and how an event is written, is in
+//! model_text/specs (Line, Token, Print). `numbers` writes the pieces of which other lines are made too.
+#![tactic(auto)]
+
+mod arguments;
+mod error;
+mod laws;
+pub mod numbers;
+mod reading;
+mod results;
+mod tokens;
+mod writing;
+
+pub use error::LineError;
+pub use laws::numbers_are_lines;
+pub use reading::read_line;
+pub use tokens::read_pid;
+pub use writing::{put_line, put_res, write_line};
+
+#[cfg(test)]
+mod tests;

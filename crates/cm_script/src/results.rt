@@ -1,0 +1,66 @@
+// The result of a call in a script line, which its last token tells.
+ghost use Rattle.std.specs.Prelude.{◌≡◌, option_map};
+ghost use Rattle.cm_base.specs.Names.{errno_of};
+ghost use Rattle.model_text.specs.Line.{result_of_kind};
+ghost use Rattle.model_text.specs.Token.{birth_token, done_token, number_token, result_token};
+
+use crate::tokens::read_pid;
+use cm_base::{Errno, Res, read_u32};
+use cm_filter::CallKind;
+
+/// The result of a call of that kind: setfsuid and setfsgid tell the id from before, and have no error; fork tells its
+/// child's pid; exit has no error either.
+pub(crate) fn read_result(kind: CallKind, token: &[u8]) -> Option<Res>
+    ensures { result ≡ result_of_kind kind token.now }
+{
+    match kind {
+        CallKind::SetFsUid | CallKind::SetFsGid => read_old_id(token),
+        CallKind::Fork => read_birth(token),
+        CallKind::Exit => read_done(token),
+        _ => read_outcome(token),
+    }
+}
+
+fn read_old_id(token: &[u8]) -> Option<Res>
+    ensures { result ≡ option_map Res.Id (number_token token.now) }
+{
+    match read_u32(token) {
+        Ok(id) => Some(Res::Id(id)),
+        Err(_) => None,
+    }
+}
+
+fn read_outcome(token: &[u8]) -> Option<Res>
+    ensures { result ≡ result_token token.now }
+{
+    if token == b"0".as_slice() {
+        return Some(Res::Done);
+    }
+    read_error(token)
+}
+
+fn read_birth(token: &[u8]) -> Option<Res>
+    ensures { result ≡ birth_token token.now }
+{
+    match read_pid(token) {
+        Some(pid) => Some(Res::Child(pid)),
+        None => read_error(token),
+    }
+}
+
+fn read_done(token: &[u8]) -> Option<Res>
+    ensures { result ≡ done_token token.now }
+{
+    if token == b"0".as_slice() {
+        Some(Res::Done)
+    } else {
+        None
+    }
+}
+
+fn read_error(token: &[u8]) -> Option<Res>
+    ensures { result ≡ option_map Res.Err (errno_of token.now) }
+{
+    let error = Errno::from_name(token)?;
+    Some(Res::Err(error))
+}

@@ -1,0 +1,13 @@
+pub mod StepFacts
+pub mod Replays
+pub mod Showing
+pub mod Verdicts
+pub mod Lines
+pub mod Statuses
+pub mod Endings
+pub mod CommandCases
+pub mod ReportCases
+pub mod WholeCases
+pub mod SetIdCases
+pub mod CapReportCases
+pub mod BirthReportCases

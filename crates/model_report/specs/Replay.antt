@@ -1,0 +1,125 @@
+-- The lines of a report, and the replay: what placed events, one after another from a state on, come to as lines of a report.
+-- Which form of log they were read from has no part in it.
+use Rattle.std.specs.Prelude.{ℕ, codes, decimal, ◌+◌, List, [], ◌∷◌, ◌++◌, Option, Some, None, flat_map}
+use Rattle.cm_base.specs.declared.status.Status.{Status}
+use Rattle.cm_base.specs.declared.status.Status.TheVariants as status
+use Rattle.cm_base.specs.declared.res.Res.{Res}
+use Rattle.cm_base.specs.declared.res.Res.TheVariants.{Child}
+use Rattle.model_cred.specs.Call.{Event}
+use Rattle.model_cred.specs.Process.{Process, State, process_at}
+use Rattle.model_cred.specs.World.{World}
+use Rattle.model_run.specs.Step.{Outcome, Goes, NoProcess, NoSpace, PidInUse, Wrong, outcome}
+use Rattle.model_text.specs.Print.{credential_line, event_line, res_text}
+use Rattle.model_text.specs.Reading.{Placed, Stop, Fault, Limit, NotBuilt, End, AtEnd, Stops}
+
+-- A line of the report: the credentials of a process; an event with the number of its line; any other text.
+pub data ReportLine : Type 0 where
+  Credentials : Process → ReportLine
+  Told : Placed → ReportLine
+  Plain : List ℕ → ReportLine
+
+pub record Report : Type 0 where
+  pub status : Status
+  pub lines : List ReportLine
+
+-- the text of a line
+abbrev pub line_text : ReportLine → List ℕ
+line_text (Credentials p) = credential_line p
+line_text (Told e) = event_line e.line e.event
+line_text (Plain text) = text
+
+-- each line and its LF
+abbrev pub text_of : List ReportLine → List ℕ
+text_of lines = flat_map (λ line. line_text line ++ 10 ∷ []) lines
+
+-- a report of one status and one line
+abbrev pub says : Status → List ℕ → Report
+says status text = record { status = status; lines = Plain text ∷ [] }
+
+-- the report with lines before it
+abbrev pub after : List ReportLine → Report → Report
+after lines rest = record { status = rest.status; lines = lines ++ rest.lines }
+
+-- how a numbered line begins that ends the report
+abbrev pub at_line : List ℕ → ℕ → List ℕ
+at_line words number = words ++ decimal number
+
+-- ---- how a replay ends
+-- why an event is impossible
+abbrev pub reason : Outcome → List ℕ
+reason (Wrong res) = codes "the rules give " ++ res_text res
+reason NoProcess = codes "no process"
+reason NoSpace = codes "no space"
+reason PidInUse = codes "pid in use"
+reason (Goes s) = []
+
+-- the line of an event that is no step, for this reason, with the number of its line
+abbrev pub impossible_text : ℕ → List ℕ → List ℕ
+impossible_text number why = at_line (codes "impossible line ") number ++ codes ": " ++ why
+
+-- an event that is no step
+abbrev pub impossible : ℕ → Outcome → Report
+impossible number become = says status.Impossible (impossible_text number (reason become))
+
+-- a line with a fault
+abbrev pub bad_log : ℕ → Report
+bad_log number = says status.BadLog (at_line (codes "bad log line ") number)
+
+-- what is asked for isn't built
+abbrev pub not_built : Report
+not_built = says status.NotBuilt (codes "not built")
+
+-- a limit that was exceeded
+abbrev pub limit_hit : List ℕ → ℕ → Report
+limit_hit name number = says status.Limit (codes "limit " ++ name ++ codes " " ++ decimal number)
+
+-- the end of the log, with the number of its events
+abbrev pub ended : ℕ → Report
+ended count = says status.Accepted (at_line (codes "end ") count)
+
+-- what stopped the reading
+abbrev pub stopped : Stop → Report
+stopped (Fault number) = bad_log number
+stopped (Limit name number) = limit_hit name number
+stopped NotBuilt = not_built
+
+-- how the reading ended, after so many events
+abbrev pub by_end : ℕ → End → Report
+by_end count AtEnd = ended count
+by_end count (Stops stop) = stopped stop
+
+-- ---- the replay
+-- the credential line of a process, where there is one
+abbrev pub credentials_if : Option Process → List ReportLine
+credentials_if None = []
+credentials_if (Some p) = Credentials p ∷ []
+
+-- the credential line of the child that a result tells
+abbrev pub child_lines : State → Res → List ReportLine
+child_lines s (Child pid) = credentials_if (process_at s.processes pid)
+child_lines s _ = []
+
+-- the lines of an event that is a step to the state: the event, its caller's credentials where it lives on, and those of
+-- the child at a birth
+abbrev pub step_lines : State → Placed → List ReportLine
+step_lines s e = Told e ∷ credentials_if (process_at s.processes e.event.pid) ++ child_lines s e.event.res
+
+-- the report from an event on, by what becomes of it; the rest goes on from the state that it leads to
+abbrev pub by_outcome : Placed → (State → Report) → Outcome → Report
+by_outcome e rest (Goes s) = after (step_lines s e) (rest s)
+by_outcome e rest become = impossible e.line become
+
+-- The replay of events, after which the reading ends so: from a state on, with so many events before.
+abbrev pub replayed : World → State → ℕ → List Placed → End → Report
+replayed w s count [] ending = by_end count ending
+replayed w s count (e ∷ events) ending = by_outcome e (λ s'. replayed w s' (count + 1) events ending) (outcome w s e.event)
+
+-- ---- the state after events
+-- The state that events lead to. (An event that is no step changes nothing; after an accepted log there is none.)
+abbrev pub state_or : State → Outcome → State
+state_or s (Goes s') = s'
+state_or s _ = s
+
+abbrev pub state_after : World → State → List Event → State
+state_after w s [] = s
+state_after w s (e ∷ es) = state_after w (state_or s (outcome w s e)) es
