@@ -81,6 +81,12 @@ impl Cap {
     /// securebits (capabilities(7)).
     pub const SETPCAP: Cap = Cap(8);
 
+    /// CAP_SYS_ADMIN: the administration of the system, here of a user namespace (capabilities(7)).
+    pub const SYS_ADMIN: Cap = Cap(21);
+
+    /// CAP_SETFCAP: to set capabilities on a file, and to map user id 0 in a new user namespace (capabilities(7)).
+    pub const SETFCAP: Cap = Cap(31);
+
     /// The capability of that name. None exactly where it is none of the 41 names.
     pub fn from_name(name: &[u8]) -> Option<Cap>
         ensures { result ≡ cap_of name.now }

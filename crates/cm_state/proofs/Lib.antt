@@ -1,4 +1,6 @@
 -- Lemmas of this crate, by topic.
+pub mod Climbs
 pub mod IdSets
 pub mod Places
 pub mod SpacePlaces
+pub mod SpaceWrites

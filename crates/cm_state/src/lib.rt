@@ -18,6 +18,7 @@ mod right;
 mod space;
 mod spaces;
 mod state;
+mod tree;
 
 pub use call::Call;
 pub use cm_base::Res;

@@ -1,11 +1,14 @@
 // The user namespaces of the machine, called spaces here, as a tree. Each is named by its place in the order of their
 // creation, 0 for the initial one, and the parent of each other stands before it. Spaces are added and never go.
-ghost use Rattle.std.specs.Prelude.{◌≡◌, length, option_map};
-ghost use Rattle.cm_base.specs.Outcome.{OrNoMemory};
-ghost use Rattle.model_cred.specs.Space.{first_spaces, space_at};
+ghost use Rattle.std.specs.Prelude.{◌≡◌, ◌∷◌, ◌<◌, IfSome, IsSomeAnd, Some, length, option_map};
+ghost use Rattle.cm_base.specs.Limits.{greatest_number};
+ghost use Rattle.cm_base.specs.declared.id.SpaceId.{SpaceId};
+ghost use Rattle.cm_base.specs.Outcome.{OrNoMemory, UnchangedOnErr};
+ghost use Rattle.model_cred.specs.Space.{first_spaces, space_at, space_of, put_space, chain, chain_from};
 
 use crate::Space;
 use cm_base::{NoMemory, SpaceId};
+use cm_idmap::IdMap;
 use std::alloc::Global;
 use std::marker::Model;
 
@@ -49,11 +52,66 @@ impl Spaces {
         }
     }
 
+    /// The space of a number that stands. It takes no memory.
+    pub fn standing(&self, s: SpaceId) -> &Space
+        requires { s.0 < length self.now }
+        ensures { result.now ≡ space_of self.now s.0 }
+    {
+        &self.list[s.0 as usize]
+    }
+
+    // The parent of a space that stands, which is older.
+    pub(crate) fn parent(&self, s: SpaceId) -> Option<SpaceId>
+        requires { s.0 < length self.now }
+        ensures chain { chain self.now s.0 ≡ s.0 ∷ chain_from self.now (option_map (λ (p : SpaceId). p.0) result) }
+        ensures older { IfSome result (λ p. p.0 < s.0) }
+    {
+        self.list[s.0 as usize].parent
+    }
+
     /// How many spaces stand. It takes no memory.
     pub fn count(&self) -> u32
         ensures { result ≡ length self.now }
     {
         self.list.len() as u32
+    }
+
+    /// Adds a space whose parent stands, and gives its number. Its only error is want of memory, which leaves the spaces
+    /// as they were.
+    pub fn add(&mut self, s: Space) -> Result<SpaceId, NoMemory>
+        requires parent { IsSomeAnd s.parent (λ p. p < length self.old) }
+        requires room { length self.old < greatest_number }
+        ensures number { OrNoMemory result (λ n. n.0 ≡ length self.old) }
+        ensures added { OrNoMemory result (λ _. self.new ≡ s ∷ self.old) }
+        ensures unchanged { UnchangedOnErr result self.new self.old }
+    {
+        let n = self.count();
+        self.list.push(s)?;
+        Ok(SpaceId(n))
+    }
+
+    /// Writes the map of user ids of a space that stands. It takes no memory.
+    pub fn set_uids(&mut self, s: SpaceId, m: IdMap)
+        requires { s.0 < length self.old }
+        ensures { self.new ≡ put_space s.0 (record (space_of self.old s.0) { uids = Some m }) self.old }
+    {
+        self.list[s.0 as usize].uids = Some(m);
+    }
+
+    /// Writes the map of group ids of a space that stands. It takes no memory.
+    pub fn set_gids(&mut self, s: SpaceId, m: IdMap)
+        requires { s.0 < length self.old }
+        ensures { self.new ≡ put_space s.0 (record (space_of self.old s.0) { gids = Some m }) self.old }
+    {
+        self.list[s.0 as usize].gids = Some(m);
+    }
+
+    /// Writes whether the word in the setgroups file of a space that stands is "deny". It takes no memory.
+    pub fn set_deny(&mut self, s: SpaceId, deny: bool)
+        requires { s.0 < length self.old }
+        ensures { self.new ≡ put_space s.0 (record (space_of self.old s.0) { deny = deny }) self.old }
+    {
+        self.list[s.0 as usize].deny = deny;
     }
 
     /// The same spaces. Its only error is want of memory.

@@ -1,6 +1,11 @@
 // The state of the machine: the live processes by ascending pid, each in a space that stands, and the spaces.
-use crate::{Procs, Spaces};
-use cm_base::NoMemory;
+ghost use Rattle.std.specs.Prelude.{◌≡◌, ◌==◌};
+ghost use Rattle.std.specs.List.{list_any};
+ghost use Rattle.cm_state.specs.Right.{right_of};
+ghost use Rattle.model_run.specs.Holds.{holds_right as model_holds_right, process_holds};
+
+use crate::{Proc, Procs, Right, Spaces};
+use cm_base::{Kgid, NoMemory, Pid};
 use std::alloc::Global;
 use std::marker::Model;
 
@@ -23,7 +28,6 @@ impl Model for State {
 }
 
 impl State {
-    ghost use Rattle.std.specs.Prelude.{◌≡◌};
     ghost use Rattle.cm_base.specs.Outcome.{OrNoMemory};
 
     /// The same state. Its only error is want of memory.
@@ -34,4 +38,39 @@ impl State {
         let spaces = self.spaces.copy(alloc)?;
         Ok(State { procs, spaces })
     }
+
+    /// The process of that pid is alive and holds the right. It takes no memory.
+    pub fn holds(&self, pid: Pid, right: &Right) -> bool
+        ensures { result ≡ process_holds self.now pid (right_of right.now) }
+    {
+        match self.procs.find(pid) {
+            Some(at) => holds_right(&self.spaces, &self.procs.list[at], right),
+            None => false,
+        }
+    }
+}
+
+// The process holds the right: the capability over the space, the effective user id, or the group id as its effective or a
+// supplementary one (user_namespaces(7), credentials(7)).
+fn holds_right(spaces: &Spaces, p: &Proc, right: &Right) -> bool
+    ensures { result ≡ model_holds_right spaces.now p.now.space p.now.cred (right_of right.now) }
+{
+    match right {
+        Right::Cap(c, n) => {
+            if n.0 < spaces.count() {
+                spaces.over(p.space, p.cred.eff, p.cred.euid, *c, *n)
+            } else {
+                false
+            }
+        }
+        Right::Uid(id) => p.cred.euid == *id,
+        Right::Gid(id) => p.cred.egid == *id || has_group(p.cred.groups.items(), *id),
+    }
+}
+
+// The group id is one of these.
+fn has_group(groups: &[Kgid], id: Kgid) -> bool
+    ensures { result ≡ list_any (λ group. group == id) groups.now }
+{
+    groups.iter().any(|group| *group == id)
 }

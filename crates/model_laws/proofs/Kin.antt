@@ -7,7 +7,7 @@ use Rattle.model_cred.specs.IdMap.{is_the}
 use Rattle.model_cred.specs.Process.{Process, State, process_at, put_process, insert_process, without_process, is_alive, after_exit}
 use Rattle.model_run.specs.Family.{Family, itself, child}
 use Rattle.model_laws.specs.Families.{ChainEnds, first, next, ChainsEnd}
-use Rattle.model_laws.proofs.Chains.{is_the_same, not_the, the_is}
+use Rattle.model_cred.proofs.Chains.{is_the_same, not_the, the_is}
 use Rattle.model_cred.proofs.Lookups.{at_put_same, at_put_other, at_insert_same, at_insert_other, at_without_gone, at_without_other}
 
 -- a test for something there

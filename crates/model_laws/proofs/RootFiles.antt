@@ -18,7 +18,7 @@ use Rattle.model_rules.specs.FileView.{FileView}
 use Rattle.model_rules.specs.Securebits.{has_flag, noroot}
 use Rattle.model_rules.specs.Zero.{is_zero, zero_of}
 use Rattle.model_laws.specs.Sentences.{IsRoot, IsExcepted, RootRule, RootSets, RootGainsAll, ExceptionGainsOwn}
-use Rattle.model_laws.proofs.Chains.{the_is, is_the_same}
+use Rattle.model_cred.proofs.Chains.{the_is, is_the_same}
 use Rattle.model_laws.proofs.Ids.{either}
 
 -- the sets that count, by the tests for SECBIT_NOROOT, an attribute that counts, a real and an effective root id

@@ -1,9 +1,9 @@
 -- Each call keeps the tree of spaces and what each space keeps.
-use Rattle.std.proofs.Common.{◌≡◌, ◌≢◌, ℕ, ◌+◌, ◌-◌, ◌<◌, ◌≤◌, ◌==◌, ◌&&◌, Bool, true, false, List, [], ◌∷◌}
-use Rattle.std.proofs.Common.{length, Option, Some, None, if◌then◌else◌, refl, sym, ap, ◌∙◌, inl, inr, subst, arith}
+use Rattle.std.proofs.Common.{◌≡◌, ℕ, ◌+◌, ◌-◌, ◌<◌, ◌≤◌, ◌&&◌, Bool, true, false, List, [], ◌∷◌}
+use Rattle.std.proofs.Common.{length, Option, Some, None, if◌then◌else◌, refl, sym, ◌∙◌, inl, inr, subst, arith}
 use Rattle.std.proofs.Common.{lit<}
-use Rattle.std.specs.Prelude.{IsSomeAnd, nat_le, All, option_and_then, option_map, unwrap_or}
-use Rattle.std.proofs.lemmas.Bool.{cases_Bool, cases_eq, eq-eqb, ne_eqb, leb-true, cond-true, cond-false, and_parts}
+use Rattle.std.specs.Prelude.{nat_le, All, option_and_then, option_map}
+use Rattle.std.proofs.lemmas.Bool.{cases_Bool, cases_eq, leb-true, cond-true, cond-false, and_parts}
 use Rattle.std.proofs.lemmas.List.Elements.{All-head, All-tail, All-nil, All-cons}
 use Rattle.cm_base.specs.Limits.{id_count}
 use Rattle.cm_base.specs.declared.errno.Errno.{Errno}
@@ -15,7 +15,7 @@ use Rattle.model_cred.specs.Space.{Space, Spaces, KeepsSpace, IsTree, space_of, 
 use Rattle.model_rules.specs.Maps.{MapFile, UidMap, GidMap, Written, write_done, write_refused, write_map, write_stored}
 use Rattle.model_rules.specs.Maps.{write_setgroups, map_of, with_map, parent_map, extent_down, list_down}
 use Rattle.model_rules.specs.Namespaces.{created_by}
-use Rattle.model_laws.proofs.Chains.{space_newest, space_older, tree_older}
+use Rattle.model_cred.proofs.Trees.{space_of_newest, space_of_older, put_newest, put_older, tree_put, tree_grows}
 use Rattle.model_laws.proofs.Ids.{FitsIds}
 
 -- a tree and what each of its spaces keeps
@@ -27,13 +27,6 @@ pub record KeepsTree (spaces : Spaces) : Type 0 where
 keeps_no_space : KeepsSpace no_space
 keeps_no_space = record { owner = lit< tt; uids = All-nil FitsIds; gids = All-nil FitsIds }
 
--- a space by its number
-space_of_newest : (t : Space) (older : Spaces) (n : ℕ) → n ≡ length older → space_of (t ∷ older) n ≡ t
-space_of_newest t older n same = ap (λ o. unwrap_or o no_space) (space_newest t older n same)
-
-space_of_older : (t : Space) (older : Spaces) (n : ℕ) → n ≢ length older → space_of (t ∷ older) n ≡ space_of older n
-space_of_older t older n other = ap (λ o. unwrap_or o no_space) (space_older t older n other)
-
 -- each space that is looked up keeps what a space keeps
 pub keeps_space_of : (spaces : Spaces) (n : ℕ) → All KeepsSpace spaces → KeepsSpace (space_of spaces n)
 keeps_space_of [] n each = keeps_no_space
@@ -42,13 +35,6 @@ keeps_space_of (t ∷ older) n each =
       | inl same ↦ subst KeepsSpace (sym (space_of_newest t older n same)) (All-head KeepsSpace t older each)
       | inr other ↦ subst KeepsSpace (sym (space_of_older t older n other)) (keeps_space_of older n (All-tail KeepsSpace t older each))
     ]
-
--- a space in the place of another
-put_newest : (new t : Space) (older : Spaces) (n : ℕ) → n ≡ length older → put_space n new (t ∷ older) ≡ new ∷ older
-put_newest new t older n same = cond-true (n == length older) (new ∷ older) (t ∷ put_space n new older) (eq-eqb n (length older) same)
-
-put_older : (new t : Space) (older : Spaces) (n : ℕ) → n ≢ length older → put_space n new (t ∷ older) ≡ t ∷ put_space n new older
-put_older new t older n other = cond-false (n == length older) (new ∷ older) (t ∷ put_space n new older) (ne_eqb n (length older) other)
 
 all_put : (n : ℕ) (new : Space) (spaces : Spaces) → KeepsSpace new → All KeepsSpace spaces → All KeepsSpace (put_space n new spaces)
 all_put n new [] keeps each = each
@@ -60,45 +46,10 @@ all_put n new (t ∷ older) keeps each =
           (All-cons KeepsSpace t (put_space n new older) (All-head KeepsSpace t older each) (all_put n new older keeps (All-tail KeepsSpace t older each)))
     ]
 
--- the newest space over other older ones that are as many
-tree_over : (t : Space) (xs ys : Spaces) → length xs ≡ length ys → IsTree (t ∷ ys) → IsTree xs → IsTree (t ∷ xs)
-tree_over t xs [] same tree rest = absurd (no xs same rest)
-  where
-    no : (zs : Spaces) → length zs ≡ 0 → IsTree zs → ⊥
-    no [] e wrong = wrong
-    no (z ∷ zs) e _ = omega arith
-tree_over t [] (u ∷ ys) same tree rest = absurd rest
-tree_over t (v ∷ xs) (u ∷ ys) same tree rest = (subst (λ (n : ℕ). IsSomeAnd t.parent (λ p. p < n)) (sym same) tree.0, rest)
-
--- the newest space changed, its parent kept
-tree_newest : (new t : Space) (older : Spaces) → new.parent ≡ t.parent → IsTree (t ∷ older) → IsTree (new ∷ older)
-tree_newest new t [] same tree = same ∙ tree
-tree_newest new t (u ∷ older) same tree = (subst (λ (o : Option ℕ). IsSomeAnd o (λ p. p < length (u ∷ older))) (sym same) tree.0, tree.1)
-
-tree_put : (n : ℕ) (new : Space) (spaces : Spaces) → n < length spaces → new.parent ≡ (space_of spaces n).parent
-    → IsTree spaces → IsTree (put_space n new spaces)
-tree_put n new [] there same tree = tree
-tree_put n new (t ∷ older) there same tree =
-    elim (cases_eq n (length older)) [
-      | inl at ↦
-          subst IsTree (sym (put_newest new t older n at))
-          (tree_newest new t older (same ∙ ap (λ (s : Space). s.parent) (space_of_newest t older n at)) tree)
-      | inr other ↦
-          let low : n < length older = omega arith in
-          subst IsTree (sym (put_older new t older n other))
-          (tree_over t (put_space n new older) older (length_put n new older) tree
-          (tree_put n new older low (same ∙ ap (λ (s : Space). s.parent) (space_of_older t older n other)) (tree_older t older n low tree)))
-    ]
-
 -- a space in the place of another with the same parent
 pub keeps_put : (n : ℕ) (new : Space) (spaces : Spaces) → n < length spaces → new.parent ≡ (space_of spaces n).parent → KeepsSpace new
     → KeepsTree spaces → KeepsTree (put_space n new spaces)
 keeps_put n new spaces there same keeps kept = record { tree = tree_put n new spaces there same kept.tree; each = all_put n new spaces keeps kept.each }
-
--- a new space whose parent stands
-tree_grows : (new : Space) (at : ℕ) (spaces : Spaces) → new.parent ≡ Some at → at < length spaces → IsTree spaces → IsTree (new ∷ spaces)
-tree_grows new at [] parent there tree = absurd tree
-tree_grows new at (t ∷ older) parent there tree = (subst (λ (o : Option ℕ). IsSomeAnd o (λ p. p < length (t ∷ older))) (sym parent) there, tree)
 
 pub keeps_created : (spaces : Spaces) (at : ℕ) (c : Credential) → at < length spaces → Keeps c → KeepsTree spaces → KeepsTree (created_by spaces at c ∷ spaces)
 keeps_created spaces at c there keeps kept = record {

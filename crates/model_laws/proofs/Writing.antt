@@ -20,7 +20,8 @@ use Rattle.model_rules.specs.Maps.{maps_zero, setfcap_allows, has_over_parent, i
 use Rattle.model_rules.specs.Maps.{extent_down, list_down}
 use Rattle.model_rules.specs.Power.{Over, has_over}
 use Rattle.model_laws.specs.Writers.{LiesInOne, MapsZero, MayMapZero, IsOwnLine, MayWriteMap, WhoWritesMaps}
-use Rattle.model_laws.proofs.Chains.{is_the_same, the_is, not_the, over_is, parent_older, space_there}
+use Rattle.model_cred.proofs.Chains.{is_the_same, the_is, not_the, parent_older, space_there}
+use Rattle.model_laws.proofs.Chains.{over_is}
 
 -- ---- one of a list
 any_here : {A : Type 0} (P : A → Type 0) (x : A) (xs : List A) → P x → Any P (x ∷ xs)

@@ -1,5 +1,5 @@
 use Rattle.std.proofs.Common.{arith}
-use Rattle.model_laws.proofs.Chains.{space_there}
+use Rattle.model_cred.proofs.Chains.{space_there}
 use Rattle.cm_machine.proofs.ruling.standing.Goals as goal
 
 pub unwrap-requires : goal.unwrap-requires
