@@ -1,0 +1,76 @@
+// Making a space (unshare(2) and clone(2) with CLONE_NEWUSER).
+ghost use Rattle.std.specs.Prelude.{◌≡◌, ◌<◌, length};
+ghost use Rattle.cm_base.specs.Limits.{greatest_number};
+ghost use Rattle.cm_base.specs.Outcome.{OrNoMemory, UnchangedOnErr};
+ghost use Rattle.cm_base.specs.declared.errno.Errno.{Errno};
+ghost use Rattle.cm_base.specs.declared.res.Res.TheVariants.{Done, Err};
+ghost use Rattle.model_cred.specs.Call.{Unshare};
+ghost use Rattle.model_cred.specs.IdMap.{extents_of, is_outside as model_is_outside};
+ghost use Rattle.model_rules.specs.Namespaces.{unshare, created_by as model_created_by, is_mapped_in as model_is_mapped_in};
+ghost use Rattle.model_rules.specs.Reply.{spaces_after};
+
+use crate::newcomer::come_in;
+use cm_base::{Cap, Errno, NoMemory, Res, SpaceId};
+use cm_idmap::IdMap;
+use cm_state::{Cred, Space, Spaces};
+
+// How deep spaces may be nested (user_namespaces(7); that 32 is the deepest level is a choice).
+const DEEPEST: u32 = 32;
+
+/// unshare(2) with CLONE_NEWUSER by a process in the space `at`: `Done`, and it has come into the new space, which is the
+/// last; or `ENOSPC` where its space is at the deepest level, or then `EPERM` where its effective user or group id isn't
+/// mapped in it (the order is a choice). A refusal and want of memory leave credential and spaces as they were.
+pub fn new_space(c: &mut Cred, spaces: &mut Spaces, at: SpaceId) -> Result<Res, NoMemory>
+    requires stands { at.0 < length spaces.old }
+    requires room { length spaces.old < greatest_number }
+    ensures res { OrNoMemory result (λ r. r ≡ (unshare spaces.old at.0 c.old).res) }
+    ensures cred { OrNoMemory result (λ _. c.new ≡ (unshare spaces.old at.0 c.old).cred) }
+    ensures spaces { OrNoMemory result (λ _. spaces.new ≡ spaces_after spaces.old at.0 c.old Unshare) }
+    ensures refused { OrNoMemory result (λ r. (e : Errno) → r ≡ Err e → (c.new ≡ c.old) × (spaces.new ≡ spaces.old)) }
+    ensures unchanged { UnchangedOnErr result c.new c.old }
+    ensures same_spaces { UnchangedOnErr result spaces.new spaces.old }
+{
+    if spaces.level(at) >= DEEPEST {
+        return Ok(Res::Err(Errno::ENOSPC));
+    }
+    if !is_mapped_in(spaces.standing(at), c) {
+        return Ok(Res::Err(Errno::EPERM));
+    }
+    let made = created_by(spaces, at, c);
+    spaces.add(made)?;
+    come_in(c);
+    Ok(Res::Done)
+}
+
+// The space that a process in the space `at` makes.
+fn created_by(spaces: &Spaces, at: SpaceId, c: &Cred) -> Space
+    requires { at.0 < length spaces.now }
+    ensures { result ≡ model_created_by spaces.now at.0 c.now }
+{
+    Space {
+        parent: Some(at),
+        owner: c.euid,
+        uids: None,
+        gids: None,
+        deny: spaces.standing(at).deny,
+        creator_setfcap: c.eff.holds(Cap::SETFCAP),
+    }
+}
+
+// The effective user and group id have a mapping in the space.
+fn is_mapped_in(s: &Space, c: &Cred) -> bool
+    ensures { result ≡ model_is_mapped_in s.now c.now }
+{
+    is_outside(&s.uids, c.euid.number()) && is_outside(&s.gids, c.egid.number())
+}
+
+// The id is an outside id of the map, where it is written.
+#[tactic(auto, using(crate::proofs::Outsides::up_outside))]
+fn is_outside(map: &Option<IdMap>, id: u32) -> bool
+    ensures { result ≡ model_is_outside (extents_of map.now) id }
+{
+    match map {
+        Some(map) => map.up(id).is_some(),
+        None => false,
+    }
+}
