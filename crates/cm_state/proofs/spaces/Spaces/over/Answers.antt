@@ -1,4 +1,4 @@
-use Rattle.std.proofs.Common.{◌≡◌, ◌∙◌, false, sym}
+use Rattle.std.proofs.Common.{◌∙◌, sym}
 use Rattle.cm_state.proofs.Climbs.{none_passes}
 use Rattle.cm_state.proofs.spaces.Spaces.over.Goals as goal
 use Rattle.model_rules.specs.Power.{gives_power}
