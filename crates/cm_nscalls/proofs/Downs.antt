@@ -1,12 +1,12 @@
 -- A list of extents that is a map, taken down through a map, is again a map.
-use Rattle.std.proofs.Common.{◌≡◌, ℕ, suc, ◌+◌, ◌-◌, ◌≤◌, ◌<◌, ◌==◌, ◌&&◌, ◌||◌, Bool, true, false, length, List, [], ◌∷◌}
+use Rattle.std.proofs.Common.{◌≡◌, ℕ, suc, ◌+◌, ◌-◌, ◌≤◌, ◌==◌, ◌&&◌, ◌||◌, Bool, true, false, length, List, [], ◌∷◌}
 use Rattle.std.proofs.Common.{Option, None, Some, if◌then◌else◌, refl, sym, ap, subst, ◌∙◌, inl, inr, arith}
 use Rattle.std.specs.Prelude.{nat_le, nat_lt, is_none, option_map, option_and_then}
 use Rattle.std.specs.Option.{option_or}
-use Rattle.std.proofs.lemmas.Bool.{cases_Bool, and_parts, or_parts, leb-true, ltb-false, cond-true, cond-false, and_from}
+use Rattle.std.proofs.lemmas.Bool.{cases_Bool, and_parts, or_parts, leb-true, ltb-false, cond-true, cond-false}
 use Rattle.cm_base.specs.Limits.{id_count}
 use Rattle.model_cred.specs.IdMap.{Extent}
-use Rattle.model_cred.specs.MapFault.{MapFault, Empty, TooMany, ZeroLength, PastEnd, Overlap, IsMap, map_fault, extent_fault}
+use Rattle.model_cred.specs.MapFault.{Empty, TooMany, ZeroLength, PastEnd, Overlap, IsMap, map_fault, extent_fault}
 use Rattle.model_cred.specs.MapFault.{first_extent_fault, ranges_meet, extents_meet, overlap_with, first_overlap, most_extents}
 use Rattle.model_rules.specs.Maps.{extent_down, list_down}
 

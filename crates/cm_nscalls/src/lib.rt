@@ -11,3 +11,5 @@ pub use joining::join_space;
 pub use making::new_space;
 pub use word::write_setgroups;
 
+#[cfg(test)]
+mod tests;

@@ -10,7 +10,13 @@ use cm_state::{Cred, Space, Spaces};
 /// A process in the space `at` writes the setgroups word of the target: `Done`; or `EPERM` without CAP_SYS_ADMIN over
 /// the target, for "deny" once gid_map is written, and for "allow" once the word is "deny". A refusal leaves the spaces
 /// as they were. It takes no memory.
-pub fn write_setgroups(c: &Cred, spaces: &mut Spaces, at: SpaceId, target: SpaceId, deny: bool) -> Res
+pub fn write_setgroups(
+    c: &Cred,
+    spaces: &mut Spaces,
+    at: SpaceId,
+    target: SpaceId,
+    deny: bool,
+) -> Res
     requires { target.0 < length spaces.old }
     ensures res { result ≡ (model_write_setgroups spaces.old at.0 c.now target.0 deny).res }
     ensures spaces { spaces.new ≡ (model_write_setgroups spaces.old at.0 c.now target.0 deny).spaces }
