@@ -69,7 +69,7 @@ unfolding print_on_literals world_on_literals
 third_line_is_impossible = record { status = refl; text = refl }
 
 -- with CAP_SETUID the fs id goes to 5, and the capabilities that follow it (0 to 4, 9, 27, 32: 0x10800021f) leave the
--- effective set; by the way back the permitted ones of them come again
+-- effective set; by the run back the permitted ones of them come again
 pub root_sets_its_fs_id : Replays [] (codes "100 setfsuid 5 = 0\n100 setfsuid 0 = 5\n") status.Accepted
     (root_line ∷ codes "1: 100 setfsuid 5 = 0"
     ∷ (codes "> 100 init uid=0,0,0,5 gid=0,0,0,0 groups=-"
