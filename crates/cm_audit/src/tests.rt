@@ -98,15 +98,15 @@ fn comes_back_by(
 fn runs_back(rt: HostRuntime) -> Result<(), Fail> {
     let alloc = rt.alloc();
     // The effective id is this one already.
-    is_run_back(&rt, alloc, [1000, 7, 1000], true, 7, &[])?;
+    comes_back_by(&rt, alloc, [1000, 7, 1000], true, 7, &[])?;
     // It is the real or the saved one, or the process is root.
-    is_run_back(&rt, alloc, [7, 1000, 1000], true, 7, &[7])?;
-    is_run_back(&rt, alloc, [1000, 1000, 7], true, 7, &[7])?;
-    is_run_back(&rt, alloc, [1000, 1000, 0], false, 0, &[0])?;
-    is_run_back(&rt, alloc, [0, 0, 0], true, 7, &[7])?;
+    comes_back_by(&rt, alloc, [7, 1000, 1000], true, 7, &[7])?;
+    comes_back_by(&rt, alloc, [1000, 1000, 7], true, 7, &[7])?;
+    comes_back_by(&rt, alloc, [1000, 1000, 0], false, 0, &[0])?;
+    comes_back_by(&rt, alloc, [0, 0, 0], true, 7, &[7])?;
     // A kept id 0 with a full permitted set.
-    is_run_back(&rt, alloc, [0, 1000, 1000], true, 7, &[0, 7])?;
-    is_run_back(&rt, alloc, [1000, 1000, 0], true, 7, &[0, 7])?;
+    comes_back_by(&rt, alloc, [0, 1000, 1000], true, 7, &[0, 7])?;
+    comes_back_by(&rt, alloc, [1000, 1000, 0], true, 7, &[0, 7])?;
     Ok(())
 }
 

@@ -19,21 +19,21 @@ pub fn audit_uid(alloc: Global, c: &Cred, pid: Pid, k: Kuid) -> Result<Option<Ve
     requires { SetsFollowIds c.now }
 
     // No list of calls, however long, brings the process back exactly where none is given.
-    ensures none { OrNoMemory result (λ back. (w : World) (forebear : Option ℕ) →
-        IsNone back ↔ ¬ CanComeBack w (alone pid forebear c.now) pid k) }
+    ensures none { OrNoMemory result (λ found. (w : World) (forebear : Option ℕ) →
+        IsNone found ↔ ¬ CanComeBack w (alone pid forebear c.now) pid k) }
 
     // A list that is given brings it back.
-    ensures run { OrNoMemory result (λ back. IfSome back (λ calls. (w : World) (forebear : Option ℕ) →
+    ensures run { OrNoMemory result (λ found. IfSome found (λ calls. (w : World) (forebear : Option ℕ) →
         BringsBack w (alone pid forebear c.now) pid k calls.items)) }
 
     // Which list it is: none, one or two calls.
-    ensures names { OrNoMemory result (λ back. option_map (λ calls. calls.items) back ≡ run_back c.now pid k) }
+    ensures which { OrNoMemory result (λ found. option_map (λ calls. calls.items) found ≡ run_back c.now pid k) }
 {
     calls_to(alloc, c, pid, k.number())
 }
 
 fn calls_to(alloc: Global, c: &Cred, pid: Pid, k: u32) -> Result<Option<Vec<Event>>, NoMemory>
-    ensures { OrNoMemory result (λ back. option_map (λ calls. calls.items) back ≡ run_back c.now pid k) }
+    ensures { OrNoMemory result (λ found. option_map (λ calls. calls.items) found ≡ run_back c.now pid k) }
 {
     if c.euid.number() == k {
         return Ok(Some(Vec::new(alloc)));

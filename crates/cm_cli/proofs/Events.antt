@@ -1,6 +1,5 @@
 -- What an event adds to the report, to the run and to what is counted.
 use Rattle.std.proofs.Common.{◌≡◌, ◌≢◌, ℕ, ◌+◌, ◌&&◌, Bool, true, false, List, [], ◌∷◌, ◌++◌, refl, sym, ap, ◌∙◌, subst, append_assoc}
-use Rattle.cm_base.specs.declared.status.Status.{Status}
 use Rattle.cm_base.specs.declared.status.Status.TheVariants as status
 use Rattle.cm_cli.proofs.ReportText.{text_of_append}
 use Rattle.cm_cli.specs.Replay.{report_from, event_lines, reason_of}

@@ -146,7 +146,7 @@ holder 100
 }
 
 #[test]
-fn no_way_back_is_yes(rt: HostRuntime) -> Result<(), Fail> {
+fn no_run_back_is_yes(rt: HostRuntime) -> Result<(), Fail> {
     let rows = [
         Row {
             world: ROOT,

@@ -9,8 +9,8 @@ ghost use Rattle.model_run.specs.RunBack.{StateFollows};
 ghost use Rattle.model_report.specs.Replay.{text_of, Credentials};
 
 use crate::answer::put_answer;
-use crate::query::Query;
 use crate::log::ScriptLog;
+use crate::query::Query;
 use crate::replay::{Replay, replay_log};
 use crate::sending::{send, send_full};
 use crate::writing::{

@@ -1,4 +1,4 @@
-use Rattle.std.proofs.Common.{refl, sym, ◌∙◌, arith}
+use Rattle.std.proofs.Common.{sym, ◌∙◌, arith}
 use Rattle.cm_cli.proofs.Events.{next_status, next_waits, run_on, told_on, stop_waits}
 use Rattle.cm_cli.proofs.Waiting.{sent_on, front_on, more_waits, front_of_more, waits_as}
 use Rattle.cm_cli.proofs.replay.replay_log.Goals as goal

@@ -1,4 +1,4 @@
-use Rattle.std.proofs.Common.{List, ℕ, ap, sym, ◌∙◌, ◌++◌, Err}
+use Rattle.std.proofs.Common.{List, ap, sym, ◌∙◌, ◌++◌, Err}
 use Rattle.cm_cli.proofs.Events.{refused}
 use Rattle.cm_cli.proofs.replay.take_event.Goals as goal
 use Rattle.cm_world.specs.World.{world_of}
