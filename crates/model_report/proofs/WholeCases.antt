@@ -28,7 +28,9 @@ unfolding print_on_literals world_on_literals
 user_asks_for_root = record { status = refl; text = refl }
 
 pub two_processes_by_pid : Says
-    (report replay_words (files (codes "log = \"script\"\n[[process]]\npid = 200\nuid = [0, 0, 7, 0]\n[[process]]\npid = 100\nuid = 1000\n") [])) status.Accepted
+    (report replay_words
+    (files (codes "log = \"script\"\n[[process]]\npid = 200\nuid = [0, 0, 7, 0]\n[[process]]\npid = 100\nuid = 1000\n") []))
+    status.Accepted
     (user_line
     ∷ (codes "> 200 init uid=0,0,7,0 gid=0,0,0,0 groups=-"
     ++ codes " inh=0000000000000000 prm=000001ffffffffff eff=000001ffffffffff bnd=000001ffffffffff amb=0000000000000000 sec=00 nnp=0")
