@@ -1,3 +1,3 @@
 -- Lemmas of this crate, by topic.
-pub mod Ways
+pub mod RunsBack
 pub mod GroupText

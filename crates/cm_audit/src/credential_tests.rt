@@ -33,14 +33,18 @@ fn credential_lines(rt: HostRuntime) -> Result<(), Fail> {
         nnp: false,
     };
     let alone = credentials(alloc, &root, pid, SpaceId(0))?;
-    assert_eq!(rt; alone.as_slice(),
-        b"> 100 init uid=0,0,0,0 gid=0,0,0,0 groups=- inh=0000000000000000 prm=000001ffffffffff eff=000001ffffffffff bnd=000001ffffffffff amb=0000000000000000 sec=00 nnp=0".as_slice());
+    assert_eq!(rt;
+        alone.as_slice(),
+        b"> 100 init uid=0,0,0,0 gid=0,0,0,0 groups=- inh=0000000000000000 prm=000001ffffffffff eff=000001ffffffffff bnd=000001ffffffffff amb=0000000000000000 sec=00 nnp=0".as_slice()
+    );
     root.rgid = last;
     root.groups = Groups::make(alloc, &groups)?;
     let grouped = credentials(alloc, &root, pid, SpaceId(4294967295))?;
-    assert!(rt; grouped.starts_with(
-        b"> 100 #4294967295 uid=0,0,0,0 gid=4294967294,0,0,0 groups=1,5,4294967294 inh="
-    ));
+    assert!(rt;
+        grouped.starts_with(
+            b"> 100 #4294967295 uid=0,0,0,0 gid=4294967294,0,0,0 groups=1,5,4294967294 inh="
+        )
+    );
     root.sec = SecBits(0xaf);
     root.nnp = true;
     let flagged = credentials(alloc, &root, pid, SpaceId(0))?;

@@ -43,7 +43,7 @@ fn with_ids(alloc: Global, ids: [Kuid; 3], group: Kgid, all: bool) -> Cred
     }
 }
 
-// The ids that the calls of a way make the effective one, in their order; each call is one of process 100 that is done.
+// The ids that the calls of a run make the effective one, in their order; each call is one of process 100 that is done.
 fn ids_of(rt: &impl Abort, alloc: Global, calls: &[Event]) -> Result<Vec<u32>, Fail> {
     let mut ids = Vec::new(alloc);
     for event in calls {
@@ -59,8 +59,8 @@ fn ids_of(rt: &impl Abort, alloc: Global, calls: &[Event]) -> Result<Vec<u32>, F
     Ok(ids)
 }
 
-// The way back of a process with these ids to the last one: the ids that its calls take, where there is one.
-fn way(
+// The run back of a process with these ids to the last one: the ids that its calls take, where there is one.
+fn run_back(
     rt: &impl Abort,
     alloc: Global,
     ids: [u32; 3],
@@ -81,7 +81,7 @@ fn way(
     }
 }
 
-fn is_way(
+fn comes_back_by(
     rt: &impl Abort,
     alloc: Global,
     ids: [u32; 3],
@@ -89,33 +89,33 @@ fn is_way(
     k: u32,
     taken: &[u32],
 ) -> Result<(), Fail> {
-    let found = way(rt, alloc, ids, all, k)?.ok_or("no way")?;
+    let found = run_back(rt, alloc, ids, all, k)?.ok_or("no run")?;
     assert_eq!(rt; found.as_slice(), taken);
     Ok(())
 }
 
 #[test]
-fn ways_back(rt: HostRuntime) -> Result<(), Fail> {
+fn runs_back(rt: HostRuntime) -> Result<(), Fail> {
     let alloc = rt.alloc();
     // The effective id is this one already.
-    is_way(&rt, alloc, [1000, 7, 1000], true, 7, &[])?;
+    comes_back_by(&rt, alloc, [1000, 7, 1000], true, 7, &[])?;
     // It is the real or the saved one, or the process is root.
-    is_way(&rt, alloc, [7, 1000, 1000], true, 7, &[7])?;
-    is_way(&rt, alloc, [1000, 1000, 7], true, 7, &[7])?;
-    is_way(&rt, alloc, [1000, 1000, 0], false, 0, &[0])?;
-    is_way(&rt, alloc, [0, 0, 0], true, 7, &[7])?;
+    comes_back_by(&rt, alloc, [7, 1000, 1000], true, 7, &[7])?;
+    comes_back_by(&rt, alloc, [1000, 1000, 7], true, 7, &[7])?;
+    comes_back_by(&rt, alloc, [1000, 1000, 0], false, 0, &[0])?;
+    comes_back_by(&rt, alloc, [0, 0, 0], true, 7, &[7])?;
     // A kept id 0 with a full permitted set.
-    is_way(&rt, alloc, [0, 1000, 1000], true, 7, &[0, 7])?;
-    is_way(&rt, alloc, [1000, 1000, 0], true, 7, &[0, 7])?;
+    comes_back_by(&rt, alloc, [0, 1000, 1000], true, 7, &[0, 7])?;
+    comes_back_by(&rt, alloc, [1000, 1000, 0], true, 7, &[0, 7])?;
     Ok(())
 }
 
 #[test]
-fn no_way_back(rt: HostRuntime) -> Result<(), Fail> {
+fn no_run_back(rt: HostRuntime) -> Result<(), Fail> {
     let alloc = rt.alloc();
-    assert!(rt; way(&rt, alloc, [1000, 1000, 1000], true, 0)?.is_none());
+    assert!(rt; run_back(&rt, alloc, [1000, 1000, 1000], true, 0)?.is_none());
     // A kept id 0 with an empty permitted set, and root without it.
-    assert!(rt; way(&rt, alloc, [0, 1000, 0], false, 7)?.is_none());
-    assert!(rt; way(&rt, alloc, [0, 0, 0], false, 7)?.is_none());
+    assert!(rt; run_back(&rt, alloc, [0, 1000, 0], false, 7)?.is_none());
+    assert!(rt; run_back(&rt, alloc, [0, 0, 0], false, 7)?.is_none());
     Ok(())
 }

@@ -8,12 +8,9 @@ ghost use Rattle.model_cred.specs.World.{World};
 ghost use Rattle.model_rules.specs.SetId.{cap_setuid, has_setuid};
 ghost use Rattle.model_run.specs.RunBack.{SetsFollowIds, BringsBack, CanComeBack, alone, becomes, run_back};
 
-use cm_base::{Cap, Kuid, NoMemory, Pid, Res};
+use cm_base::{Cap, Kuid, MINUS_ONE, NoMemory, Pid, Res};
 use cm_state::{Call, Cred, Event};
 use std::alloc::Global;
-
-// The argument that leaves an id as it is (setresuid(2)).
-const UNCHANGED: u32 = u32::MAX;
 
 /// The calls of setresuid(2) by which the process comes back to the user id `k` as its effective one, where it lives alone
 /// in the initial user namespace and its sets follow its user ids. None exactly where no list of such calls, of any
@@ -22,19 +19,21 @@ pub fn audit_uid(alloc: Global, c: &Cred, pid: Pid, k: Kuid) -> Result<Option<Ve
     requires { SetsFollowIds c.now }
 
     // No list of calls, however long, brings the process back exactly where none is given.
-    ensures none { OrNoMemory result (λ way. (w : World) (forebear : Option ℕ) → IsNone way ↔ ¬ CanComeBack w (alone pid forebear c.now) pid k) }
+    ensures none { OrNoMemory result (λ found. (w : World) (forebear : Option ℕ) →
+        IsNone found ↔ ¬ CanComeBack w (alone pid forebear c.now) pid k) }
 
     // A list that is given brings it back.
-    ensures run { OrNoMemory result (λ way. IfSome way (λ calls. (w : World) (forebear : Option ℕ) → BringsBack w (alone pid forebear c.now) pid k calls.items)) }
+    ensures run { OrNoMemory result (λ found. IfSome found (λ calls. (w : World) (forebear : Option ℕ) →
+        BringsBack w (alone pid forebear c.now) pid k calls.items)) }
 
     // Which list it is: none, one or two calls.
-    ensures way { OrNoMemory result (λ way. option_map (λ calls. calls.items) way ≡ run_back c.now pid k) }
+    ensures which { OrNoMemory result (λ found. option_map (λ calls. calls.items) found ≡ run_back c.now pid k) }
 {
     calls_to(alloc, c, pid, k.number())
 }
 
 fn calls_to(alloc: Global, c: &Cred, pid: Pid, k: u32) -> Result<Option<Vec<Event>>, NoMemory>
-    ensures { OrNoMemory result (λ way. option_map (λ calls. calls.items) way ≡ run_back c.now pid k) }
+    ensures { OrNoMemory result (λ found. option_map (λ calls. calls.items) found ≡ run_back c.now pid k) }
 {
     if c.euid.number() == k {
         return Ok(Some(Vec::new(alloc)));
@@ -70,7 +69,7 @@ fn becomes(pid: Pid, id: u32) -> Event
 {
     Event {
         pid,
-        call: Call::SetResUid(UNCHANGED, id, UNCHANGED),
+        call: Call::SetResUid(MINUS_ONE, id, MINUS_ONE),
         res: Res::Done,
     }
 }

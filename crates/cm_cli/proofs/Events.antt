@@ -1,6 +1,5 @@
 -- What an event adds to the report, to the run and to what is counted.
 use Rattle.std.proofs.Common.{◌≡◌, ◌≢◌, ℕ, ◌+◌, ◌&&◌, Bool, true, false, List, [], ◌∷◌, ◌++◌, refl, sym, ap, ◌∙◌, subst, append_assoc}
-use Rattle.cm_base.specs.declared.status.Status.{Status}
 use Rattle.cm_base.specs.declared.status.Status.TheVariants as status
 use Rattle.cm_cli.proofs.ReportText.{text_of_append}
 use Rattle.cm_cli.specs.Replay.{report_from, event_lines, reason_of}
@@ -16,7 +15,8 @@ use Rattle.model_report.specs.Replay.{Report, Plain, text_of, by_outcome, after,
 use Rattle.model_text.specs.Reading.{Placed, Reading, events_of, reads_on}
 
 -- the report of an event that is no step
-stops : (e : Placed) (rest : State → Report) (become : Outcome) → ((s : State) → ¬ (become ≡ Goes s)) → by_outcome e rest become ≡ record { status = status.Impossible; lines = event_lines e become }
+stops : (e : Placed) (rest : State → Report) (become : Outcome) → ((s : State) → ¬ (become ≡ Goes s))
+    → by_outcome e rest become ≡ record { status = status.Impossible; lines = event_lines e become }
 stops e rest (Goes s) none = absurd (none s refl)
 stops e rest _ none = refl
 
@@ -28,7 +28,8 @@ pub record IsRefused (e : Placed) (why : StepError) (become : Outcome) : Type 0 
 refused_as : (e : Placed) (why : StepError) (become one : Outcome) → become ≡ one → IsRefused e why one → IsRefused e why become
 refused_as e why become one is refused = subst (λ (o : Outcome). IsRefused e why o) (sym is) refused
 
-pub refused : (e : Placed) (why : StepError) (become : Outcome) → why ≢ error.NoMemory → (why ≡ error.NoProcess → become ≡ NoProcess) → (why ≡ error.NoSpace → become ≡ NoSpace)
+pub refused : (e : Placed) (why : StepError) (become : Outcome) → why ≢ error.NoMemory
+    → (why ≡ error.NoProcess → become ≡ NoProcess) → (why ≡ error.NoSpace → become ≡ NoSpace)
     → (why ≡ error.PidInUse → become ≡ PidInUse) → ((res : Res) → why ≡ error.Wrong res → become ≡ Wrong res) → IsRefused e why become
 refused e error.NoMemory become other a b c d = absurd (other refl)
 refused e error.NoProcess become other a b c d = refused_as e error.NoProcess become NoProcess (a refl) (record { none = λ s is. cc; lines = refl })
@@ -78,11 +79,14 @@ module _ (w : World) (from to : Replay) (reading rest : Reading) (e : Placed) (i
       ∙ ap (λ (t : List ℕ). t ++ others) (sym put)
 
   -- the run goes on with it
-  pub run_on : becomes ≡ Goes to.machine.state → (s : State) → Run w to.machine.state (events_of rest.events) s → Run w from.machine.state (events_of reading.events) s
+  pub run_on : becomes ≡ Goes to.machine.state → (s : State) → Run w to.machine.state (events_of rest.events) s
+      → Run w from.machine.state (events_of reading.events) s
   run_on step s run = subst (λ (r : Reading). Run w from.machine.state (events_of r.events) s) (sym is) (to.machine.state, step, run)
 
   -- and so does what is told of its call
-  pub told_on : to.setresuids ≡ (from.setresuids && is_setresuid e.event.call) → (to.setresuids && are_setresuids (events_of rest.events)) ≡ (from.setresuids && are_setresuids (events_of reading.events))
+  pub told_on : to.setresuids ≡ (from.setresuids && is_setresuid e.event.call)
+      → (to.setresuids && are_setresuids (events_of rest.events))
+      ≡ (from.setresuids && are_setresuids (events_of reading.events))
   told_on told =
       ap (λ (b : Bool). b && are_setresuids (events_of rest.events)) told
       ∙ both_and from.setresuids (is_setresuid e.event.call) (are_setresuids (events_of rest.events))
@@ -95,5 +99,6 @@ module _ (w : World) (from to : Replay) (reading rest : Reading) (e : Placed) (i
   pub stop_status : ((s : State) → ¬ (becomes ≡ Goes s)) → (report_from w from reading).status ≡ status.Impossible
   stop_status none = ap (λ (r : Report). r.status) (stops_here none)
 
-  pub stop_waits : ((s : State) → ¬ (becomes ≡ Goes s)) → (text text' : List ℕ) → text' ≡ text ++ text_of (event_lines e becomes) → text ++ text_of (report_from w from reading).lines ≡ text'
+  pub stop_waits : ((s : State) → ¬ (becomes ≡ Goes s)) → (text text' : List ℕ)
+      → text' ≡ text ++ text_of (event_lines e becomes) → text ++ text_of (report_from w from reading).lines ≡ text'
   stop_waits none text text' put = ap (λ (r : Report). text ++ text_of r.lines) (stops_here none) ∙ sym put

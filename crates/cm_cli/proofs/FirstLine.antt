@@ -8,10 +8,12 @@ longer : (b : ℕ) (bs : List ℕ) (line : List ℕ) (others : List (List ℕ)) 
 longer b bs line others plain is = grind (arith, is, plain)
 
 -- the bytes before the first LF are the first line, and the others come after the LF
-pub line_front : (text : List ℕ) (n : ℕ) → n < length text → ((k : ℕ) → k < n → get_or text k 0 ≢ 10) → get_or text n 0 ≡ 10 → lines_of text ≡ take n text ∷ lines_of (drop (suc n) text)
+pub line_front : (text : List ℕ) (n : ℕ) → n < length text → ((k : ℕ) → k < n → get_or text k 0 ≢ 10)
+    → get_or text n 0 ≡ 10 → lines_of text ≡ take n text ∷ lines_of (drop (suc n) text)
 line_front [] n within plain ends = absurd (omega arith)
 line_front (b ∷ bs) zero within plain ends = rw ends refl
-line_front (b ∷ bs) (suc n) within plain ends = longer b bs _ _ (plain 0 (omega arith)) (line_front bs n (omega arith) (λ k lt. plain (suc k) (omega arith)) ends)
+line_front (b ∷ bs) (suc n) within plain ends =
+    longer b bs _ _ (plain 0 (omega arith)) (line_front bs n (omega arith) (λ k lt. plain (suc k) (omega arith)) ends)
 
 -- a text without LF is one line
 pub line_last : (b : ℕ) (bs : List ℕ) → ((k : ℕ) → k < suc (length bs) → get_or (b ∷ bs) k 0 ≢ 10) → lines_of (b ∷ bs) ≡ (b ∷ bs) ∷ []
@@ -25,7 +27,8 @@ drop_after (suc n) [] = refl
 drop_after (suc n) (x ∷ xs) = drop_after n xs
 
 -- a text without LF, cut at its end
-pub first_line_whole : (text : List ℕ) (n : ℕ) (line rest : List ℕ) → 0 < length text → n ≤ length text → ((k : ℕ) → k < n → get_or text k 0 ≢ 10) → line ≡ take n text → rest ≡ drop n text → length rest < 1
+pub first_line_whole : (text : List ℕ) (n : ℕ) (line rest : List ℕ) → 0 < length text → n ≤ length text
+    → ((k : ℕ) → k < n → get_or text k 0 ≢ 10) → line ≡ take n text → rest ≡ drop n text → length rest < 1
     → lines_of text ≡ line ∷ lines_of rest
 first_line_whole [] n line rest some within plain front back ends = absurd (omega arith)
 first_line_whole (b ∷ bs) n line rest some within plain front back ends =
@@ -35,7 +38,8 @@ first_line_whole (b ∷ bs) n line rest some within plain front back ends =
     line_last b bs (λ k lt. plain k (omega arith)) ∙ rw (front, back, whole, none) refl
 
 -- a text with an LF, cut before the first one
-pub first_line_cut : (text : List ℕ) (n : ℕ) (line rest : List ℕ) → ((k : ℕ) → k < n → get_or text k 0 ≢ 10) → (n < length text → get_or text n 0 ≡ 10) → line ≡ take n text → rest ≡ drop n text → 1 ≤ length rest
+pub first_line_cut : (text : List ℕ) (n : ℕ) (line rest : List ℕ) → ((k : ℕ) → k < n → get_or text k 0 ≢ 10)
+    → (n < length text → get_or text n 0 ≡ 10) → line ≡ take n text → rest ≡ drop n text → 1 ≤ length rest
     → lines_of text ≡ line ∷ lines_of (take (length rest - 1) (drop 1 rest))
 first_line_cut text n line rest plain ended front back some =
     let within : n < length text = omega (arith, ap length back, length-drop n text) in

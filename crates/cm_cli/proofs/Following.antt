@@ -11,6 +11,8 @@ all_at (q ∷ ps) zero p all is = let same : q ≡ p = cc in subst (λ (x : Proc
 all_at (q ∷ ps) (suc i) p all is = all_at ps i p all.2 is
 
 -- what a state keeps of each of its processes
-pub one_follows : (s : State) (ps : List Process) (i : ℕ) (p : Process) → StateFollows s → ps ≡ s.processes → i < length s.processes → p ≡ get_or ps i p → SetsFollowIds p.cred
+pub one_follows : (s : State) (ps : List Process) (i : ℕ) (p : Process) → StateFollows s → ps ≡ s.processes
+    → i < length s.processes → p ≡ get_or ps i p → SetsFollowIds p.cred
 one_follows s ps i p all is within here =
-    all_at ps i p (subst (λ (qs : List Process). AllFollow qs) (sym is) all.processes) (slice_get_read ps (length ps) i p refl (subst (λ (qs : List Process). i < length qs) (sym is) within) here)
+    all_at ps i p (subst (λ (qs : List Process). AllFollow qs) (sym is) all.processes)
+    (slice_get_read ps (length ps) i p refl (subst (λ (qs : List Process). i < length qs) (sym is) within) here)

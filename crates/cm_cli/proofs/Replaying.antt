@@ -1,24 +1,16 @@
 -- What the replay of a log in a world answers, by how its files were read.
-use Rattle.std.proofs.Common.{◌≡◌, ◌≢◌, ◌≤◌, ◌⊎◌, ◌+◌, ◌==◌, ◌&&◌, ◌||◌, not, Bool, true, false, cond, length, ℕ, List, [], ◌∷◌, Option, None, Some, subst, refl, sym, ap, ◌∙◌}
+use Rattle.std.proofs.Common.{◌≡◌, ◌≢◌, ◌≤◌, ◌⊎◌, not, ℕ, List, Option, None, Some, subst, refl, sym, ap, ◌∙◌}
 use Rattle.std.specs.Prelude.{IfSome}
 use Rattle.cm_base.specs.declared.status.Status.{Status}
 use Rattle.cm_base.specs.declared.status.Status.TheVariants as answers
 use Rattle.cm_cli.specs.Answers.{asking, AnswersReport, CountsReads}
-use Rattle.cm_world.specs.World.{world_of}
-use Rattle.cm_world.specs.declared.world.World as code
 use Rattle.cm_cli.specs.Reading.{WorldStands}
-use Rattle.cm_cli.specs.Telling.{IsTold, TellsReport, short_report, log_report}
+use Rattle.cm_cli.specs.Telling.{IsTold, TellsReport, short_report}
 use Rattle.cm_cli.specs.declared.telling.Short.{Short}
 use Rattle.cm_cli.specs.declared.telling.Short.TheVariants as short
 use Rattle.cm_io.specs.Shelf.{Files, bytes_at, Rose}
-use Rattle.model_cred.specs.Call.{Event}
-use Rattle.model_cred.specs.Process.{Process, State}
-use Rattle.model_cred.specs.Right.{Right, Cap, Uid, Gid}
-use Rattle.model_cred.specs.World.{World}
-use Rattle.model_run.specs.RunBack.{are_setresuids, run_back}
-use Rattle.model_run.specs.Step.{Outcome, Goes, NoProcess, NoSpace, PidInUse, Wrong, outcome}
 use Rattle.model_report.specs.Command.{NoForm, files_of}
-use Rattle.model_report.specs.Query.{Query, asked_process, right_token}
+use Rattle.model_report.specs.Query.{Query}
 use Rattle.model_report.specs.Replay.{Report}
 use Rattle.model_report.specs.Report.{command_report, files_report}
 

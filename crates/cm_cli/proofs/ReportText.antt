@@ -68,7 +68,8 @@ run_text pid run =
 
 -- the same, written one after another
 pub run_written : (old one two : List ℕ) (pid : ℕ) (run : List Event) → one ≡ old ++ text_of (Plain (at_line (codes "no ") (length run)) ∷ [])
-    → two ≡ one ++ text_of (map (λ e. Plain (event_text e)) run) → two ++ text_of (Plain (at_line (codes "holder ") pid) ∷ []) ≡ old ++ text_of (run_lines pid run)
+    → two ≡ one ++ text_of (map (λ e. Plain (event_text e)) run)
+    → two ++ text_of (Plain (at_line (codes "holder ") pid) ∷ []) ≡ old ++ text_of (run_lines pid run)
 run_written old one two pid run first second =
     let no : List ℕ = text_of (Plain (at_line (codes "no ") (length run)) ∷ []) in
     let calls : List ℕ = text_of (map (λ e. Plain (event_text e)) run) in

@@ -20,11 +20,13 @@ module _ {A : Type 0} (line : A → ReportLine) where
       ∙ ap (λ (t : List ℕ). t ++ text_of (map line (drop (i + 1) xs))) (sym put)
 
 -- the line of one process, and then those of the others
-pub start_step : (ps : List Process) (i : ℕ) (p : Process) (text text' : List ℕ) → i < length ps → p ≡ get_or ps i p → text' ≡ text ++ text_of (Credentials p ∷ [])
+pub start_step : (ps : List Process) (i : ℕ) (p : Process) (text text' : List ℕ) → i < length ps → p ≡ get_or ps i p
+    → text' ≡ text ++ text_of (Credentials p ∷ [])
     → text ++ text_of (map Credentials (drop i ps)) ≡ text' ++ text_of (map Credentials (drop (i + 1) ps))
 start_step ps i p text text' within here put = step_on Credentials ps i p text text' within here put
 
 -- the line of one call, and then those of the others
-pub call_step : (es : List Event) (i : ℕ) (e : Event) (text text' : List ℕ) → i < length es → e ≡ get_or es i e → text' ≡ text ++ text_of (Plain (event_text e) ∷ [])
+pub call_step : (es : List Event) (i : ℕ) (e : Event) (text text' : List ℕ) → i < length es → e ≡ get_or es i e
+    → text' ≡ text ++ text_of (Plain (event_text e) ∷ [])
     → text ++ text_of (map (λ e. Plain (event_text e)) (drop i es)) ≡ text' ++ text_of (map (λ e. Plain (event_text e)) (drop (i + 1) es))
 call_step es i e text text' within here put = step_on (λ e. Plain (event_text e)) es i e text text' within here put

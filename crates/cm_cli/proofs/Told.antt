@@ -1,5 +1,7 @@
 -- A report that is told, or that stops.
-use Rattle.std.proofs.Common.{◌≡◌, ◌≢◌, ◌+◌, ℕ, List, [], ◌∷◌, ◌++◌, map, append-nil, append_assoc, le_of_eq, Option, None, Some, Err, ◌⊎◌, inl, inr, ◌==◌, ◌&&◌, ◌||◌, not, Bool, true, false, cond, length, subst, refl, sym, ap, ◌∙◌}
+use Rattle.std.proofs.Common.{◌≡◌, ◌≢◌, ◌+◌, ℕ, List, [], ◌∷◌, ◌++◌, map, append-nil, append_assoc, le_of_eq, Option}
+use Rattle.std.proofs.Common.{None, Some, Err, ◌⊎◌, inl, inr, ◌==◌, ◌&&◌, ◌||◌, not, Bool, true, false, cond, length}
+use Rattle.std.proofs.Common.{subst, refl, sym, ap, ◌∙◌}
 use Rattle.cm_base.specs.declared.status.Status.{Status}
 use Rattle.cm_base.specs.declared.status.Status.TheVariants as answers
 use Rattle.cm_cli.proofs.ReportText.{text_of_append}
@@ -52,11 +54,13 @@ wants_memory same = record { later = le_of_eq (sym same); ok = tt; failed = λ i
 
 -- the text of the log's report: the start lines, and what is answered
 pub log_text : (query : Option Query) (w : code.World) (log : List ℕ)
-    → text_of (log_report query w log).lines ≡ text_of (map Credentials w.start.processes) ++ text_of (answered query w.more (world_of w) (script_reading log)).lines
+    → text_of (log_report query w log).lines ≡ text_of (map Credentials w.start.processes) ++ text_of
+    (answered query w.more (world_of w) (script_reading log)).lines
 log_text query w log = text_of_append (map Credentials w.start.processes) (answered query w.more (world_of w) (script_reading log)).lines
 
 -- the rest of a report after the replay
-stopped_rest : (query : Option Query) (more : Bool) (st : Status) (s : State) → st ≢ answers.Accepted → answer_to query more st s ≡ record { status = st; lines = [] }
+stopped_rest : (query : Option Query) (more : Bool) (st : Status) (s : State) → st ≢ answers.Accepted
+    → answer_to query more st s ≡ record { status = st; lines = [] }
 stopped_rest None more st s other = refl
 stopped_rest (Some q) more answers.Accepted s other = absurd (other refl)
 stopped_rest (Some q) more _ s other = refl
@@ -70,16 +74,20 @@ pub record IsAnswered (query : Option Query) (more : Bool) (w : World) (reading 
 abbrev pub more_after : Bool → Reading → Bool
 more_after more reading = more || not (are_setresuids (events_of reading.events))
 
-accepted_answer : (q : Query) (more : Bool) (w : World) (reading : Reading) (s : State) → (replay_of w reading).status ≡ answers.Accepted → Run w w.start (events_of reading.events) s
+accepted_answer : (q : Query) (more : Bool) (w : World) (reading : Reading) (s : State)
+    → (replay_of w reading).status ≡ answers.Accepted → Run w w.start (events_of reading.events) s
     → IsAnswered (Some q) more w reading (more_after more reading) answers.Accepted s
 accepted_answer q more w reading s is run =
-    let same : answered (Some q) more w reading ≡ after (replay_of w reading).lines (verdict (more_after more reading) s q) = statuses.of_end q more w reading s is run in
+    let same : answered (Some q) more w reading ≡ after (replay_of w reading).lines
+    (verdict (more_after more reading) s q) = statuses.of_end q more w reading s is run in
     record {
       status = ap (λ (r : Report). r.status) same;
       text = ap (λ (r : Report). text_of r.lines) same ∙ text_of_append (replay_of w reading).lines (verdict (more_after more reading) s q).lines;
     }
 
-stopped_answer : (query : Option Query) (more : Bool) (w : World) (reading : Reading) (unknown : Bool) (st : Status) (s : State) → (replay_of w reading).status ≡ st → st ≢ answers.Accepted → IsAnswered query more w reading unknown st s
+stopped_answer : (query : Option Query) (more : Bool) (w : World) (reading : Reading) (unknown : Bool) (st : Status)
+    (s : State) → (replay_of w reading).status ≡ st → st ≢ answers.Accepted
+    → IsAnswered query more w reading unknown st s
 stopped_answer query more w reading unknown st s is other =
     let same : answered query more w reading ≡ replay_of w reading = statuses.of_stop query more w reading st is other in
     let rest : answer_to query unknown st s ≡ record { status = st; lines = [] } = stopped_rest query unknown st s other in
@@ -94,37 +102,51 @@ accepted_or_not : (st : Status) → (st ≡ answers.Accepted) ⊎ (st ≢ answer
 accepted_or_not answers.Accepted = inl refl
 accepted_or_not _ = inr (λ e. cc)
 
-pub is_answered : (query : Option Query) (more : Bool) (w : World) (reading : Reading) (unknown : Bool) (st : Status) (s : State) → (replay_of w reading).status ≡ st
-    → (st ≡ answers.Accepted → Run w w.start (events_of reading.events) s) → (st ≡ answers.Accepted → unknown ≡ more_after more reading) → IsAnswered query more w reading unknown st s
+pub is_answered : (query : Option Query) (more : Bool) (w : World) (reading : Reading) (unknown : Bool) (st : Status)
+    (s : State) → (replay_of w reading).status ≡ st
+    → (st ≡ answers.Accepted → Run w w.start (events_of reading.events) s)
+    → (st ≡ answers.Accepted → unknown ≡ more_after more reading) → IsAnswered query more w reading unknown st s
 is_answered None more w reading unknown st s is reached told = record { status = is; text = sym (append-nil (text_of (replay_of w reading).lines)) }
 is_answered (Some q) more w reading unknown st s is reached told =
     elim (accepted_or_not st) [
       | inl accepted ↦
           subst (λ (b : Bool). IsAnswered (Some q) more w reading b st s) (sym (told accepted))
-          (subst (λ (x : Status). IsAnswered (Some q) more w reading (more_after more reading) x s) (sym accepted) (accepted_answer q more w reading s (is ∙ accepted) (reached accepted)))
+          (subst (λ (x : Status). IsAnswered (Some q) more w reading (more_after more reading) x s) (sym accepted)
+          (accepted_answer q more w reading s (is ∙ accepted) (reached accepted)))
       | inr other ↦ stopped_answer (Some q) more w reading unknown st s is other
     ]
 
 -- the text of the log's report: the start lines, the replay, and the answer
-pub log_whole : (query : Option Query) (w : code.World) (log : List ℕ) (unknown : Bool) (st : Status) (s : State) → IsAnswered query w.more (world_of w) (script_reading log) unknown st s
-    → text_of (log_report query w log).lines ≡ (text_of (map Credentials w.start.processes) ++ text_of (replay_of (world_of w) (script_reading log)).lines) ++ text_of (answer_to query unknown st s).lines
+pub log_whole : (query : Option Query) (w : code.World) (log : List ℕ) (unknown : Bool) (st : Status) (s : State)
+    → IsAnswered query w.more (world_of w) (script_reading log) unknown st s
+    → text_of (log_report query w log).lines
+    ≡ (text_of (map Credentials w.start.processes) ++ text_of
+    (replay_of (world_of w) (script_reading log)).lines) ++ text_of (answer_to query unknown st s).lines
 log_whole query w log unknown st s is =
     log_text query w log ∙ ap (λ (t : List ℕ). text_of (map Credentials w.start.processes) ++ t) is.text
-    ∙ sym (append_assoc (text_of (map Credentials w.start.processes)) (text_of (replay_of (world_of w) (script_reading log)).lines) (text_of (answer_to query unknown st s).lines))
+    ∙ sym (append_assoc (text_of (map Credentials w.start.processes))
+    (text_of (replay_of (world_of w) (script_reading log)).lines) (text_of (answer_to query unknown st s).lines))
 
 goes_longer : (st : Status) (r next : Report) → (more : List ℕ) × (text_of (go_on st r next).lines ≡ text_of r.lines ++ more)
 goes_longer answers.Accepted r next = (text_of next.lines, text_of_append r.lines next.lines)
 goes_longer _ r next = ([], sym (append-nil (text_of r.lines)))
 
-answered_longer : (query : Option Query) (more : Bool) (w : World) (reading : Reading) → (longer : List ℕ) × (text_of (answered query more w reading).lines ≡ text_of (replay_of w reading).lines ++ longer)
+answered_longer : (query : Option Query) (more : Bool) (w : World) (reading : Reading)
+    → (longer : List ℕ) × (text_of (answered query more w reading).lines
+    ≡ text_of (replay_of w reading).lines ++ longer)
 answered_longer None more w reading = ([], sym (append-nil (text_of (replay_of w reading).lines)))
 answered_longer (Some q) more w reading = goes_longer (replay_of w reading).status (replay_of w reading) (verdict_after more w (events_of reading.events) q)
 
 -- it begins with the start lines and the replay
 pub log_longer : (query : Option Query) (w : code.World) (log : List ℕ) → (longer : List ℕ)
-    × (text_of (log_report query w log).lines ≡ (text_of (map Credentials w.start.processes) ++ text_of (replay_of (world_of w) (script_reading log)).lines) ++ longer)
+    × (text_of (log_report query w log).lines
+    ≡ (text_of (map Credentials w.start.processes) ++ text_of
+    (replay_of (world_of w) (script_reading log)).lines) ++ longer)
 log_longer query w log =
-    let longer : (rest : List ℕ) × (text_of (answered query w.more (world_of w) (script_reading log)).lines ≡ text_of (replay_of (world_of w) (script_reading log)).lines ++ rest) = answered_longer query w.more (world_of w) (script_reading log) in (
+    let longer : (rest : List ℕ) ×
+    (text_of (answered query w.more (world_of w) (script_reading log)).lines
+    ≡ text_of (replay_of (world_of w) (script_reading log)).lines ++ rest) = answered_longer query w.more
+    (world_of w) (script_reading log) in (
       longer.0,
       log_text query w log ∙ ap (λ (t : List ℕ). text_of (map Credentials w.start.processes) ++ t) longer.1
           ∙ sym (append_assoc (text_of (map Credentials w.start.processes)) (text_of (replay_of (world_of w) (script_reading log)).lines) longer.0),
@@ -135,7 +157,8 @@ all_written : (w w' : Option (List ℕ)) (whole : List ℕ) → IsSent w w' [] w
 all_written w w' whole sent = sent.written ∙ ap (then_written w) (sym (append-nil sent.front) ∙ sym sent.parts)
 
 -- a report that is told whole
-pub tells_whole : (r : Report) (answer : Status) (w w' : Option (List ℕ)) (f f' : ℕ) → r.status ≡ answer → IsTold r.status → IsSent w w' [] (text_of r.lines) → f' ≡ f → TellsReport r answer w w' f f'
+pub tells_whole : (r : Report) (answer : Status) (w w' : Option (List ℕ)) (f f' : ℕ) → r.status ≡ answer
+    → IsTold r.status → IsSent w w' [] (text_of r.lines) → f' ≡ f → TellsReport r answer w w' f f'
 tells_whole r answer w w' f f' is told sent same = record {
   status = λ _. sym is;
   text = λ _. all_written w w' (text_of r.lines) sent;

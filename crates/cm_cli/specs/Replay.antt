@@ -1,5 +1,5 @@
 -- What the events of a log come to, as the code goes over them.
-use Rattle.std.specs.Prelude.{◌≡◌, ℕ, Bool, true, false, List, [], ◌++◌}
+use Rattle.std.specs.Prelude.{◌≡◌, ℕ, Bool, true, false, List, []}
 use Rattle.cm_cli.specs.declared.replay.Replay.{Replay}
 use Rattle.cm_machine.specs.declared.error.StepError.{StepError}
 use Rattle.cm_machine.specs.declared.error.StepError.TheVariants as error

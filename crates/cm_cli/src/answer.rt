@@ -78,8 +78,10 @@ fn put_right(
 ) -> Result<Status, NoMemory>
     requires here { at < length state.now.processes }
     requires follows { more ≡ false → StateFollows state.now }
-    ensures status { OrNoMemory result (λ status. IfSome (slice_get state.now.processes at) (λ p. status ≡ (right_verdict more state.now p (right_of right)).status)) }
-    ensures text { OrNoMemory result (λ _. IfSome (slice_get state.now.processes at) (λ p. text.new.items ≡ text.old.items ++ text_of (right_verdict more state.now p (right_of right)).lines)) }
+    ensures status { OrNoMemory result (λ status. IfSome (slice_get state.now.processes at) (λ p.
+        status ≡ (right_verdict more state.now p (right_of right)).status)) }
+    ensures text { OrNoMemory result (λ _. IfSome (slice_get state.now.processes at) (λ p.
+        text.new.items ≡ text.old.items ++ text_of (right_verdict more state.now p (right_of right)).lines)) }
 {
     match right {
         Right::Uid(k) if !more && state.procs.items().len() == 1 => {

@@ -80,7 +80,7 @@ fn check(rt: &impl Abort, alloc: Global, row: &Row) -> Result<(), Fail> {
 }
 
 #[test]
-fn ways_back_are_written(rt: HostRuntime) -> Result<(), Fail> {
+fn runs_back_are_written(rt: HostRuntime) -> Result<(), Fail> {
     let rows = [
         Row {
             world: ROOT,
@@ -146,7 +146,7 @@ holder 100
 }
 
 #[test]
-fn no_way_back_is_yes(rt: HostRuntime) -> Result<(), Fail> {
+fn no_run_back_is_yes(rt: HostRuntime) -> Result<(), Fail> {
     let rows = [
         Row {
             world: ROOT,

@@ -1,5 +1,6 @@
 // Laws of the report that the top call writes.
-ghost use Rattle.model_report.specs.Laws.{EachByItsCause, AcceptedIsRun, ImpossibleIsNoStep, YesIsNever, NoIsRun, ReportTellsOfLog, EndCountsEvents, ImpossibleIsNumbered, BadLogIsNumbered, SameReadingSameReport};
+ghost use Rattle.model_report.specs.Laws.{EachByItsCause, AcceptedIsRun, ImpossibleIsNoStep, YesIsNever, NoIsRun};
+ghost use Rattle.model_report.specs.Laws.{ReportTellsOfLog, EndCountsEvents, ImpossibleIsNumbered, BadLogIsNumbered, SameReadingSameReport};
 
 /// A status comes exactly by its cause, whatever the words and the files.
 #[tactic(auto, using(model_report::proofs::Statuses::each_by_its_cause))]

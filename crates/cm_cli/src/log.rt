@@ -22,6 +22,7 @@ impl Model for Placed {
     ghost use Rattle.model_text.specs.Reading as reading;
 
     ghost Value = { reading.Placed };
+
     ghost view = { λ p. record { line = p.line; event = p.event } };
 }
 

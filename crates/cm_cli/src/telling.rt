@@ -9,8 +9,8 @@ ghost use Rattle.model_run.specs.RunBack.{StateFollows};
 ghost use Rattle.model_report.specs.Replay.{text_of, Credentials};
 
 use crate::answer::put_answer;
-use crate::query::Query;
 use crate::log::ScriptLog;
+use crate::query::Query;
 use crate::replay::{Replay, replay_log};
 use crate::sending::{send, send_full};
 use crate::writing::{
@@ -79,7 +79,8 @@ pub(crate) fn tell_log<K: Sink>(
     out: &mut K,
 ) -> Status
     requires { w.now.more ≡ false → StateFollows w.now.start }
-    ensures { TellsReport (log_report (query_if query.entry) w.now log.now) result (K.written out.old) (K.written out.new) (K.faults out.old) (K.faults out.new) }
+    ensures { TellsReport (log_report (query_if query.entry) w.now log.now) result
+        (K.written out.old) (K.written out.new) (K.faults out.old) (K.faults out.new) }
 {
     let mut replay = match Replay::new(alloc, w) {
         Ok(replay) => replay,
@@ -116,7 +117,8 @@ fn has_more(more: bool, setresuids: bool) -> bool
 
 // The credential lines at the start.
 fn send_start<K: Sink>(start: &State, text: &mut Vec<u8>, out: &mut K) -> Result<(), Outside>
-    ensures sent { OnOk result (IsSent (K.written out.old) (K.written out.new) text.new.items (text.old.items ++ text_of (map Credentials start.now.processes))) }
+    ensures sent { OnOk result (IsSent (K.written out.old) (K.written out.new) text.new.items
+        (text.old.items ++ text_of (map Credentials start.now.processes))) }
     ensures stopped { OnErr result (IsFront (K.written out.old) (K.written out.new) (text.old.items ++ text_of (map Credentials start.now.processes))) }
     ensures cause { WriteFaults (K.faults out.old) (K.faults out.new) result }
 {

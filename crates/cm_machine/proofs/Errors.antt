@@ -1,5 +1,5 @@
 -- A step whose result is an error leaves the state as it was.
-use Rattle.std.proofs.Common.{◌≡◌, ℕ, refl, ◌∙◌}
+use Rattle.std.proofs.Common.{◌≡◌}
 use Rattle.std.specs.Prelude.{Result, Ok}
 use Rattle.std.specs.declared.result.Result.TheVariants as result
 use Rattle.cm_base.specs.Outcome.{UnchangedOnErr}

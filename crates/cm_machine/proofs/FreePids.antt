@@ -6,7 +6,7 @@ use Rattle.std.proofs.lemmas.Bool.{cases_Bool, cases_order, cases_lt, cond-true,
 use Rattle.cm_machine.specs.Asking.{pid_option}
 use Rattle.cm_state.proofs.Places.{ascending, not_found}
 use Rattle.cm_state.specs.Places.{pid_at}
-use Rattle.model_cred.specs.Process.{Process, State, Ascends, process_at, is_alive, is_pid, insert_process}
+use Rattle.model_cred.specs.Process.{Process, State, Ascends, process_at, is_alive, is_pid}
 use Rattle.model_laws.proofs.Pids.{free_is_least}
 use Rattle.model_laws.specs.Owns.{IsLeastFree}
 use Rattle.model_run.specs.Ruling.{free_pid}

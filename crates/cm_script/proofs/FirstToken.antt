@@ -3,7 +3,8 @@ use Rattle.std.proofs.Common.{◌≡◌, ℕ, zero, suc, ◌<◌, ◌≤◌, tru
 use Rattle.model_text.specs.Cut.{tokens_of, is_blank, goes_on}
 
 -- a byte before a token that goes on is its first byte
-extend : (b : ℕ) (bs : List ℕ) (token : List ℕ) (others : List (List ℕ)) → is_blank b ≡ false → goes_on bs ≡ true → tokens_of bs ≡ token ∷ others → tokens_of (b ∷ bs) ≡ (b ∷ token) ∷ others
+extend : (b : ℕ) (bs : List ℕ) (token : List ℕ) (others : List (List ℕ)) → is_blank b ≡ false → goes_on bs ≡ true
+    → tokens_of bs ≡ token ∷ others → tokens_of (b ∷ bs) ≡ (b ∷ token) ∷ others
 extend b bs token others plain goes is = rw (plain, goes, is) refl
 
 -- a byte that nothing goes on with is a token
@@ -11,7 +12,8 @@ alone : (b : ℕ) (bs : List ℕ) → is_blank b ≡ false → goes_on bs ≡ fa
 alone b bs plain ends = rw (plain, ends) refl
 
 -- the bytes before the first blank are the first token
-pub token_front : (text : List ℕ) (n : ℕ) → n ≤ length text → ((k : ℕ) → k < n → is_blank (get_or text k 0) ≡ false) → (n < length text → is_blank (get_or text n 0) ≡ true) → goes_on text ≡ true
+pub token_front : (text : List ℕ) (n : ℕ) → n ≤ length text → ((k : ℕ) → k < n → is_blank (get_or text k 0) ≡ false)
+    → (n < length text → is_blank (get_or text n 0) ≡ true) → goes_on text ≡ true
     → tokens_of text ≡ take n text ∷ tokens_of (drop n text)
 token_front [] n within plain ended goes = absurd (cc)
 token_front (b ∷ bs) zero within plain ended goes = let blank : is_blank b ≡ true = ended (omega arith) in absurd (grind (arith, blank, goes))

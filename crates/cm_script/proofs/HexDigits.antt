@@ -1,5 +1,6 @@
 -- Hexadecimal digits written from the last to the first.
-use Rattle.std.proofs.Common.{◌≡◌, ℕ, ◌+◌, ◌-◌, ◌/◌, ◌%◌, ◌<◌, ◌≤◌, List, [], ◌∷◌, ◌++◌, length, drop, set, codes, refl, sym, ap, ◌∙◌, arith, append_assoc, add-one, le_of_eq}
+use Rattle.std.proofs.Common.{◌≡◌, ℕ, ◌+◌, ◌-◌, ◌/◌, ◌%◌, ◌<◌, ◌≤◌, List, [], ◌∷◌, ◌++◌, length, drop, set, codes}
+use Rattle.std.proofs.Common.{refl, sym, ap, ◌∙◌, arith, append_assoc, add-one, le_of_eq}
 use Rattle.std.proofs.lemmas.List.{drop-set, drop_all}
 use Rattle.cm_base.specs.CapSet.{full}
 use Rattle.model_text.specs.Print.{hex, hex_digit, hex_set}

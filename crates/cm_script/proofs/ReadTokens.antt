@@ -3,7 +3,8 @@ use Rattle.std.proofs.Common.{◌≡◌, ℕ, List, ◌∷◌, ◌++◌, Option,
 use Rattle.model_text.specs.Line.{Tokens, next_read}
 
 -- what the first token stands for
-pub first_read : (read : List ℕ → Option ℕ) (token : List ℕ) (rest tokens : Tokens) (found : Option ℕ) → tokens ≡ token ∷ rest → found ≡ read token → option_map (λ n. (n, rest)) found ≡ next_read read tokens
+pub first_read : (read : List ℕ → Option ℕ) (token : List ℕ) (rest tokens : Tokens) (found : Option ℕ)
+    → tokens ≡ token ∷ rest → found ≡ read token → option_map (λ n. (n, rest)) found ≡ next_read read tokens
 first_read read token rest tokens found is reads = ap (option_map (λ n. (n, rest))) reads ∙ ap (next_read read) (sym is)
 
 -- ids before those that were found

@@ -47,7 +47,12 @@ fn read_after_pid(alloc: Global, pid: Pid, text: &[u8]) -> Result<Option<Event>,
 }
 
 // What stands after the name of a call of that kind.
-fn read_after_name(alloc: Global, pid: Pid, kind: CallKind, text: &[u8]) -> Result<Option<Event>, LineError>
+fn read_after_name(
+    alloc: Global,
+    pid: Pid,
+    kind: CallKind,
+    text: &[u8],
+) -> Result<Option<Event>, LineError>
     ensures { IsRead result (kind_line pid (Some kind) (tokens_of text.now)) }
 {
     if !built(kind) {

@@ -52,7 +52,10 @@ fn events_are_read_and_written(rt: HostRuntime) -> Result<(), Fail> {
         let event = Event { pid, call, res };
         let text = write_line(alloc, &event)?;
         assert_eq!(rt; text.as_slice(), line.as_bytes());
-        let read = read_line(alloc, line.as_bytes()).ok().flatten().ok_or("event")?;
+        let read = read_line(alloc, line.as_bytes())
+            .ok()
+            .flatten()
+            .ok_or("event")?;
         let again = write_line(alloc, &read)?;
         assert_eq!(rt; again.as_slice(), line.as_bytes());
     }

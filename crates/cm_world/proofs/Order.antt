@@ -111,8 +111,12 @@ onto_no_parent : (p : Process) (so_far : List Process) (rest : Option (List Proc
     → is_among (pids_of so_far) p.forebear ≡ false → world_onto so_far (one_more (Some p) rest) ≡ Bad
 onto_no_parent p so_far None none = refl
 onto_no_parent p so_far (Some more) none =
-    rw (none, and_false (not (is_alive more p.pid) && are_distinct more), and_false
-    (not (is_alive so_far p.pid) && are_apart so_far more))
+    rw (
+      none,
+      and_false (not (is_alive more p.pid) && are_distinct more),
+      and_false
+          (not (is_alive so_far p.pid) && are_apart so_far more),
+    )
 
 -- ---- the rows so far
 -- The entries are the processes of the rows before this place, by ascending pid and in the initial space; those of the
@@ -126,8 +130,14 @@ pub record AreRead (rows : List Value) (at : ℕ) (entries : List (ℕ × Proces
 
 -- no row is read
 pub AreRead-none : (rows : List Value) → AreRead rows 0 []
-AreRead-none rows = record { processes = []; by_pid = refl; ordered = tt; initial = All-nil
-    (λ p. p.space < length first_spaces); world = onto_none (process_rows (items_view rows)) }
+AreRead-none rows = record {
+  processes = [];
+  by_pid = refl;
+  ordered = tt;
+  initial = All-nil
+      (λ p. p.space < length first_spaces);
+  world = onto_none (process_rows (items_view rows));
+}
 
 -- all are read
 module _ (rows : List Value) (at : ℕ) (entries : List (ℕ × Process)) (read : AreRead rows at entries) where

@@ -27,20 +27,23 @@ user_at pid = codes "> " ++ pid ++ codes " init uid=1000,1000,1000,1000 gid=0,0,
 -- ---- births and exits
 -- a birth shows the parent and the child, an exit nobody
 pub child_and_grandchild : Replays (codes "uid = 0\n") (codes "100 fork = 101\n101 fork = 102\n101 exit = 0\n") status.Accepted
-    (root_line ∷ codes "1: 100 fork = 101" ∷ root_line ∷ root_at (codes "101") ∷ codes "2: 101 fork = 102" ∷ root_at (codes "101") ∷ root_at (codes "102") ∷ codes "3: 101 exit = 0" ∷ codes "end 3" ∷ [])
+    (root_line ∷ codes "1: 100 fork = 101" ∷ root_line ∷ root_at (codes "101") ∷ codes "2: 101 fork = 102" ∷ root_at (codes "101")
+    ∷ root_at (codes "102") ∷ codes "3: 101 exit = 0" ∷ codes "end 3" ∷ [])
 unfolding print_on_literals world_on_literals
 child_and_grandchild = record { status = refl; text = refl }
 
 -- a pid that is alive is no child's
 pub pid_in_use : Replays (codes "uid = 0\n") (codes "100 fork = 101\n101 fork = 102\n101 exit = 0\n100 fork = 102\n") status.Impossible
-    (root_line ∷ codes "1: 100 fork = 101" ∷ root_line ∷ root_at (codes "101") ∷ codes "2: 101 fork = 102" ∷ root_at (codes "101") ∷ root_at (codes "102") ∷ codes "3: 101 exit = 0"
+    (root_line ∷ codes "1: 100 fork = 101" ∷ root_line ∷ root_at (codes "101") ∷ codes "2: 101 fork = 102" ∷ root_at (codes "101")
+    ∷ root_at (codes "102") ∷ codes "3: 101 exit = 0"
     ∷ codes "impossible line 4: pid in use" ∷ [])
 unfolding print_on_literals world_on_literals
 pid_in_use = record { status = refl; text = refl }
 
 -- one that isn't any more may be
 pub pid_used_again : Replays (codes "uid = 0\n") (codes "100 fork = 101\n101 setuid 1000 = 0\n101 exit = 0\n100 fork = 101\n") status.Accepted
-    (root_line ∷ codes "1: 100 fork = 101" ∷ root_line ∷ root_at (codes "101") ∷ codes "2: 101 setuid 1000 = 0" ∷ user_at (codes "101") ∷ codes "3: 101 exit = 0" ∷ codes "4: 100 fork = 101" ∷ root_line
+    (root_line ∷ codes "1: 100 fork = 101" ∷ root_line ∷ root_at (codes "101") ∷ codes "2: 101 setuid 1000 = 0"
+    ∷ user_at (codes "101") ∷ codes "3: 101 exit = 0" ∷ codes "4: 100 fork = 101" ∷ root_line
     ∷ root_at (codes "101") ∷ codes "end 4" ∷ [])
 unfolding print_on_literals world_on_literals
 pid_used_again = record { status = refl; text = refl }
@@ -50,25 +53,32 @@ unfolding print_on_literals world_on_literals
 nobody_is_its_own_child = record { status = refl; text = refl }
 
 -- a child inherits all credentials, and from then on each has its own
-pub child_inherits_all : Replays (codes "uid = [0, 1000, 0, 1000]\ngid = 34\ngroups = [5, 4]\npermitted = \"CAP_KILL\"\ninheritable = \"CAP_KILL\"\nambient = \"CAP_KILL\"\nbounding = \"CAP_KILL\"\nsecurebits = 32\nno_new_privs = true\n")
+pub child_inherits_all : Replays (codes "uid = [0, 1000, 0, 1000]\ngid = 34\ngroups = [5, 4]\npermitted = \"CAP_KILL\"\ninheritable = \"CAP_KILL\"\n"
+    ++ codes "ambient = \"CAP_KILL\"\nbounding = \"CAP_KILL\"\nsecurebits = 32\nno_new_privs = true\n")
     (codes "100 fork = 4194304\n4194304 amb_clear = 0\n100 exit = 0\n") status.Accepted
-    (codes "> 100 init uid=0,1000,0,1000 gid=34,34,34,34 groups=4,5 inh=0000000000000020 prm=0000000000000020 eff=0000000000000000 bnd=0000000000000020 amb=0000000000000020 sec=20 nnp=1"
+    ((codes "> 100 init uid=0,1000,0,1000 gid=34,34,34,34 groups=4,5"
+    ++ codes " inh=0000000000000020 prm=0000000000000020 eff=0000000000000000 bnd=0000000000000020 amb=0000000000000020 sec=20 nnp=1")
     ∷ codes "1: 100 fork = 4194304"
-    ∷ codes "> 100 init uid=0,1000,0,1000 gid=34,34,34,34 groups=4,5 inh=0000000000000020 prm=0000000000000020 eff=0000000000000000 bnd=0000000000000020 amb=0000000000000020 sec=20 nnp=1"
-    ∷ codes "> 4194304 init uid=0,1000,0,1000 gid=34,34,34,34 groups=4,5 inh=0000000000000020 prm=0000000000000020 eff=0000000000000000 bnd=0000000000000020 amb=0000000000000020 sec=20 nnp=1"
+    ∷ (codes "> 100 init uid=0,1000,0,1000 gid=34,34,34,34 groups=4,5"
+    ++ codes " inh=0000000000000020 prm=0000000000000020 eff=0000000000000000 bnd=0000000000000020 amb=0000000000000020 sec=20 nnp=1")
+    ∷ (codes "> 4194304 init uid=0,1000,0,1000 gid=34,34,34,34 groups=4,5"
+    ++ codes " inh=0000000000000020 prm=0000000000000020 eff=0000000000000000 bnd=0000000000000020 amb=0000000000000020 sec=20 nnp=1")
     ∷ codes "2: 4194304 amb_clear = 0"
-    ∷ codes "> 4194304 init uid=0,1000,0,1000 gid=34,34,34,34 groups=4,5 inh=0000000000000020 prm=0000000000000020 eff=0000000000000000 bnd=0000000000000020 amb=0000000000000000 sec=20 nnp=1"
+    ∷ (codes "> 4194304 init uid=0,1000,0,1000 gid=34,34,34,34 groups=4,5"
+    ++ codes " inh=0000000000000020 prm=0000000000000020 eff=0000000000000000 bnd=0000000000000020 amb=0000000000000000 sec=20 nnp=1")
     ∷ codes "3: 100 exit = 0" ∷ codes "end 3" ∷ [])
 unfolding print_on_literals world_on_literals
 child_inherits_all = record { status = refl; text = refl }
 
 -- the caller's line comes first, also where the child has the lower pid
-pub caller_before_child : Replays (codes "uid = 1000\n") (codes "100 fork = 0007\n") status.Accepted (user_line ∷ codes "1: 100 fork = 7" ∷ user_line ∷ user_at (codes "7") ∷ codes "end 1" ∷ [])
+pub caller_before_child : Replays (codes "uid = 1000\n") (codes "100 fork = 0007\n") status.Accepted (user_line
+    ∷ codes "1: 100 fork = 7" ∷ user_line ∷ user_at (codes "7") ∷ codes "end 1" ∷ [])
 unfolding print_on_literals world_on_literals
 caller_before_child = record { status = refl; text = refl }
 
 -- ---- births that fail
-pub fork_fails_from_outside : Replays [] (codes "100 fork = EAGAIN\n100 fork = ENOMEM\n") status.Accepted (root_line ∷ codes "1: 100 fork = EAGAIN" ∷ root_line ∷ codes "2: 100 fork = ENOMEM" ∷ root_line ∷ codes "end 2" ∷ [])
+pub fork_fails_from_outside : Replays [] (codes "100 fork = EAGAIN\n100 fork = ENOMEM\n") status.Accepted (root_line
+    ∷ codes "1: 100 fork = EAGAIN" ∷ root_line ∷ codes "2: 100 fork = ENOMEM" ∷ root_line ∷ codes "end 2" ∷ [])
 unfolding print_on_literals world_on_literals
 fork_fails_from_outside = record { status = refl; text = refl }
 
@@ -77,16 +87,19 @@ pub fork_is_not_refused : Replays [] (codes "100 fork = EPERM\n") status.Impossi
 unfolding print_on_literals world_on_literals
 fork_is_not_refused = record { status = refl; text = refl }
 
-pub nor_is_it_invalid : Replays [] (codes "100 fork = 1\n100 fork = EINVAL\n") status.Impossible (root_line ∷ codes "1: 100 fork = 1" ∷ root_line ∷ root_at (codes "1") ∷ codes "impossible line 2: the rules give 2" ∷ [])
+pub nor_is_it_invalid : Replays [] (codes "100 fork = 1\n100 fork = EINVAL\n") status.Impossible (root_line
+    ∷ codes "1: 100 fork = 1" ∷ root_line ∷ root_at (codes "1") ∷ codes "impossible line 2: the rules give 2" ∷ [])
 unfolding print_on_literals world_on_literals
 nor_is_it_invalid = record { status = refl; text = refl }
 
 -- ---- exits
-pub who_exited_makes_no_call : Replays [] (codes "100 exit = 0\n\n100 setuid 0 = 0\n") status.Impossible (root_line ∷ codes "1: 100 exit = 0" ∷ codes "impossible line 3: no process" ∷ [])
+pub who_exited_makes_no_call : Replays [] (codes "100 exit = 0\n\n100 setuid 0 = 0\n") status.Impossible (root_line
+    ∷ codes "1: 100 exit = 0" ∷ codes "impossible line 3: no process" ∷ [])
 unfolding print_on_literals world_on_literals
 who_exited_makes_no_call = record { status = refl; text = refl }
 
-pub nor_exits_again : Replays [] (codes "100 exit = 0\n100 exit = 0\n") status.Impossible (root_line ∷ codes "1: 100 exit = 0" ∷ codes "impossible line 2: no process" ∷ [])
+pub nor_exits_again : Replays [] (codes "100 exit = 0\n100 exit = 0\n") status.Impossible (root_line ∷ codes "1: 100 exit = 0"
+    ∷ codes "impossible line 2: no process" ∷ [])
 unfolding print_on_literals world_on_literals
 nor_exits_again = record { status = refl; text = refl }
 
@@ -94,7 +107,8 @@ pub the_last_one_exits : Replays [] (codes "100 exit = 0\n") status.Accepted (ro
 unfolding print_on_literals world_on_literals
 the_last_one_exits = record { status = refl; text = refl }
 
-pub exit_has_no_error : Replays [] (codes "100 fork = 101\n101 exit = EAGAIN\n") status.BadLog (root_line ∷ codes "1: 100 fork = 101" ∷ root_line ∷ root_at (codes "101") ∷ codes "bad log line 2" ∷ [])
+pub exit_has_no_error : Replays [] (codes "100 fork = 101\n101 exit = EAGAIN\n") status.BadLog (root_line
+    ∷ codes "1: 100 fork = 101" ∷ root_line ∷ root_at (codes "101") ∷ codes "bad log line 2" ∷ [])
 unfolding print_on_literals world_on_literals
 exit_has_no_error = record { status = refl; text = refl }
 
@@ -109,7 +123,8 @@ unfolding print_on_literals world_on_literals
 parent_of_no_row = record { status = refl; text = refl }
 
 -- ---- audits
-pub audit_of_a_child : Says (report (audit_words (codes "101") (codes "uid:0")) (files (of_row (codes "uid = 1000\n")) (codes "100 fork = 101\n"))) status.NotBuilt
+pub audit_of_a_child : Says
+    (report (audit_words (codes "101") (codes "uid:0")) (files (of_row (codes "uid = 1000\n")) (codes "100 fork = 101\n"))) status.NotBuilt
     (user_line ∷ codes "1: 100 fork = 101" ∷ user_line ∷ user_at (codes "101") ∷ codes "end 1" ∷ codes "not built" ∷ [])
 unfolding print_on_literals world_on_literals
 audit_of_a_child = record { status = refl; text = refl }
@@ -120,11 +135,13 @@ pub audit_behind_an_exit : Audits (codes "uid = 1000\n") (codes "100 fork = 101\
 unfolding print_on_literals world_on_literals
 audit_behind_an_exit = record { status = refl; text = refl }
 
-pub audit_of_one_that_exited : Audits (codes "uid = 1000\n") (codes "100 exit = 0\n") (codes "uid:0") status.BadQuery (user_line ∷ codes "1: 100 exit = 0" ∷ codes "end 1" ∷ codes "bad query: pid" ∷ [])
+pub audit_of_one_that_exited : Audits (codes "uid = 1000\n") (codes "100 exit = 0\n") (codes "uid:0") status.BadQuery (user_line
+    ∷ codes "1: 100 exit = 0" ∷ codes "end 1" ∷ codes "bad query: pid" ∷ [])
 unfolding print_on_literals world_on_literals
 audit_of_one_that_exited = record { status = refl; text = refl }
 
-pub audit_beside_a_parent : Audits (codes "[[process]]\npid = 101\nparent = 100\n") [] (codes "uid:0") status.NotBuilt (root_line ∷ root_at (codes "101") ∷ codes "end 0" ∷ codes "not built" ∷ [])
+pub audit_beside_a_parent : Audits (codes "[[process]]\npid = 101\nparent = 100\n") [] (codes "uid:0") status.NotBuilt (root_line
+    ∷ root_at (codes "101") ∷ codes "end 0" ∷ codes "not built" ∷ [])
 unfolding print_on_literals world_on_literals
 audit_beside_a_parent = record { status = refl; text = refl }
 
@@ -141,21 +158,25 @@ pub a_child_knows_its_parent : forebears (state_at_end (codes "100 fork = 102\n1
 a_child_knows_its_parent = refl
 
 -- the children of one that exits take over its forebear, also where there is none
-pub a_grandchild_comes_to_its_grandparent : forebears (state_at_end (codes "100 fork = 101\n101 fork = 102\n101 exit = 0\n")) ≡ (100, None) ∷ (102, Some 100) ∷ []
+pub a_grandchild_comes_to_its_grandparent : forebears (state_at_end (codes "100 fork = 101\n101 fork = 102\n101 exit = 0\n")) ≡ (100, None) ∷ (102, Some 100)
+    ∷ []
 a_grandchild_comes_to_its_grandparent = refl
 
 pub whose_family_it_stays_in : family (state_at_end (codes "100 fork = 101\n101 fork = 102\n101 exit = 0\n")) 100 ≡ 100 ∷ 102 ∷ []
 whose_family_it_stays_in = refl
 
-pub two_exits_in_a_row : forebears (state_at_end (codes "100 fork = 101\n101 fork = 102\n102 fork = 103\n102 fork = 104\n101 exit = 0\n102 exit = 0\n")) ≡ (100, None) ∷ (103, Some 100) ∷ (104, Some 100) ∷ []
+pub two_exits_in_a_row : forebears (state_at_end (codes "100 fork = 101\n101 fork = 102\n102 fork = 103\n102 fork = 104\n101 exit = 0\n102 exit = 0\n"))
+    ≡ (100, None) ∷ (103, Some 100) ∷ (104, Some 100) ∷ []
 two_exits_in_a_row = refl
 
-pub two_exits_the_other_way : forebears (state_at_end (codes "100 fork = 101\n101 fork = 102\n102 fork = 103\n102 fork = 104\n102 exit = 0\n101 exit = 0\n")) ≡ (100, None) ∷ (103, Some 100) ∷ (104, Some 100) ∷ []
+pub two_exits_the_other_way : forebears (state_at_end (codes "100 fork = 101\n101 fork = 102\n102 fork = 103\n102 fork = 104\n102 exit = 0\n101 exit = 0\n"))
+    ≡ (100, None) ∷ (103, Some 100) ∷ (104, Some 100) ∷ []
 two_exits_the_other_way = refl
 
 pub the_first_of_a_family_exits : forebears (state_at_end (codes "100 fork = 101\n101 fork = 102\n100 exit = 0\n")) ≡ (101, None) ∷ (102, Some 101) ∷ []
 the_first_of_a_family_exits = refl
 
 -- a pid that is used again is no parent of those before
-pub a_pid_used_again_has_no_children : forebears (state_at_end (codes "100 fork = 101\n101 fork = 102\n101 exit = 0\n102 fork = 101\n")) ≡ (100, None) ∷ (101, Some 102) ∷ (102, Some 100) ∷ []
+pub a_pid_used_again_has_no_children : forebears (state_at_end (codes "100 fork = 101\n101 fork = 102\n101 exit = 0\n102 fork = 101\n")) ≡ (100, None)
+    ∷ (101, Some 102) ∷ (102, Some 100) ∷ []
 a_pid_used_again_has_no_children = refl

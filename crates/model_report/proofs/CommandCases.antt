@@ -12,7 +12,8 @@ replay_needs_a_log = refl
 pub replay_of_three_words : command_of (codes "replay" ∷ codes "w" ∷ codes "l" ∷ codes "x" ∷ []) ≡ NoForm
 replay_of_three_words = refl
 
-pub audit_of_four_words : command_of (codes "audit" ∷ codes "w" ∷ codes "l" ∷ codes "100" ∷ codes "r" ∷ []) ≡ Audit (codes "w") (codes "l") (codes "100") (codes "r")
+pub audit_of_four_words : command_of (codes "audit" ∷ codes "w" ∷ codes "l" ∷ codes "100" ∷ codes "r"
+    ∷ []) ≡ Audit (codes "w") (codes "l") (codes "100") (codes "r")
 audit_of_four_words = refl
 
 pub audit_of_three_words : command_of (codes "audit" ∷ codes "w" ∷ codes "l" ∷ codes "100" ∷ []) ≡ NoForm

@@ -15,7 +15,8 @@ use Rattle.model_report.proofs.Statuses.{has_its_cause, over_all, of_replay, of_
 use Rattle.model_report.proofs.Verdicts.{log_verdict, no_shows}
 use Rattle.model_report.specs.Causes.{Begins, ComesTo, Cause, IsAccepted, IsStopped, IsImpossible, AfterLog, IsYes, IsNo}
 use Rattle.model_report.specs.Command.{command_of, query_of}
-use Rattle.model_report.specs.Laws.{AcceptedIsRun, ImpossibleIsNoStep, YesIsNever, NoIsRun, ShowsRun, ReportTellsOfLog, TellsOfLog, EndCountsEvents, ImpossibleIsNumbered, BadLogIsNumbered, SameReadingSameReport, LineStandsFor, told_in}
+use Rattle.model_report.specs.Laws.{AcceptedIsRun, ImpossibleIsNoStep, YesIsNever, NoIsRun, ShowsRun, ReportTellsOfLog, TellsOfLog, EndCountsEvents}
+use Rattle.model_report.specs.Laws.{ImpossibleIsNumbered, BadLogIsNumbered, SameReadingSameReport, LineStandsFor, told_in}
 use Rattle.model_report.specs.Query.{Query}
 use Rattle.model_report.specs.Replay.{Report, ReportLine, Plain, at_line, impossible_text, reason, stopped}
 use Rattle.model_report.specs.Report.{report, replay_of, log_report, start_lines, run_verdict, run_lines}
@@ -50,10 +51,12 @@ module _ (words : List (List ℕ)) (bytes : List ℕ → List ℕ) where
   abbrev passed_of : IsAccepted words bytes → List ReportLine
   passed_of is = passed_lines is.world is.world.start is.comes.events
 
-  accepted_lines : (is : IsAccepted words bytes) → (replay_of is.world (record { events = is.comes.events; ending = AtEnd })).lines ≡ passed_of is ++ Plain (end_of is) ∷ []
+  accepted_lines : (is : IsAccepted words bytes)
+      → (replay_of is.world (record { events = is.comes.events; ending = AtEnd })).lines ≡ passed_of is ++ Plain (end_of is) ∷ []
   accepted_lines is = ap (λ (r : Report). r.lines) (over_all is.world is.comes.events AtEnd is.state is.comes.run)
 
-  accepted_by_query : (is : IsAccepted words bytes) (query : Option Query) → query_of (command_of words) ≡ query → IsWritten is.world is.comes.events is.state (end_of is) (report words bytes).lines
+  accepted_by_query : (is : IsAccepted words bytes) (query : Option Query) → query_of (command_of words) ≡ query
+      → IsWritten is.world is.comes.events is.state (end_of is) (report words bytes).lines
   accepted_by_query is None asked = record {
     run = is.comes.run;
     built = begins_built words bytes is.world (record { events = is.comes.events; ending = AtEnd }) is.comes.begins;
@@ -77,7 +80,8 @@ module _ (words : List (List ℕ)) (bytes : List ℕ → List ℕ) where
   accepted_written : (is : IsAccepted words bytes) → IsWritten is.world is.comes.events is.state (end_of is) (report words bytes).lines
   accepted_written is = accepted_by_query is (query_of (command_of words)) refl
 
-  stopped_written : (stop : Stop) (text : List ℕ) → (stopped stop).lines ≡ Plain text ∷ [] → (is : IsStopped words bytes stop) → IsWritten is.world is.comes.events is.state text (report words bytes).lines
+  stopped_written : (stop : Stop) (text : List ℕ) → (stopped stop).lines ≡ Plain text ∷ [] → (is : IsStopped words bytes stop)
+      → IsWritten is.world is.comes.events is.state text (report words bytes).lines
   stopped_written stop text one is = record {
     run = is.comes.run;
     built = begins_built words bytes is.world (record { events = is.comes.events; ending = Stops stop }) is.comes.begins;
@@ -95,7 +99,12 @@ module _ (words : List (List ℕ)) (bytes : List ℕ → List ℕ) where
   impossible_written : (is : IsImpossible words bytes) → IsWritten is.world is.before is.state (why_of is) (report words bytes).lines
   impossible_written is = record {
     run = is.run;
-    built = all_front (λ e. IsBuilt e.event.call) is.before (is.event ∷ is.later) (begins_built words bytes is.world (record { events = is.before ++ is.event ∷ is.later; ending = is.ending }) is.begins);
+    built =
+        all_front (λ e. IsBuilt e.event.call) is.before (is.event ∷ is.later) (begins_built words bytes is.world (record {
+          events =
+              is.before ++ is.event ∷ is.later;
+          ending = is.ending;
+        }) is.begins);
     start = (bytes is.begins.names.world, is.begins.names.reads);
     answer = [];
     plain = tt;
@@ -131,7 +140,8 @@ module _ (words : List (List ℕ)) (bytes : List ℕ → List ℕ) where
         written = stopped_written stop line.0 line.1 (record { world = w; state = s; comes = comes });
       }
 
-  halt_written : (w : World) (reading : Reading) → Begins words bytes w reading → Halts w w.start reading.events → IsWrittenOf w reading.events (report words bytes).lines
+  halt_written : (w : World) (reading : Reading) → Begins words bytes w reading → Halts w w.start reading.events
+      → IsWrittenOf w reading.events (report words bytes).lines
   halt_written w reading begins halts =
       let is : IsImpossible words bytes = record {
         world = w;
@@ -198,7 +208,8 @@ module _ (words : List (List ℕ)) (bytes : List ℕ → List ℕ) where
 
   no_by : AfterLog words bytes IsNo → ShowsRun words bytes (report words bytes).lines
   no_by (is, q, asked, (p, k, asks, back)) =
-      let shown : (run : List Event) × BringsBack is.world is.state p.pid k run × (log_verdict words bytes is q ≡ run_verdict p.pid (Some run)) = no_shows words bytes is q p k asks back in
+      let shown : (run : List Event) × BringsBack is.world is.state p.pid k run × (log_verdict words bytes is q ≡ run_verdict p.pid (Some run))
+      = no_shows words bytes is q p k asks back in
       let replay : List ReportLine = (replay_of is.world (record { events = is.comes.events; ending = AtEnd })).lines in
       record {
         accepted = is;
@@ -256,7 +267,8 @@ impossible_is_numbered words bytes is =
 pub bad_log_is_numbered : BadLogIsNumbered
 unfolding BadLogIsNumbered stopped_written
 bad_log_is_numbered words bytes number is = (
-  written_end is.world is.comes.events is.state (at_line (codes "bad log line ") number) (report words bytes).lines (stopped_written words bytes (Fault number) (at_line (codes "bad log line ") number) refl is),
+  written_end is.world is.comes.events is.state (at_line (codes "bad log line ") number) (report words bytes).lines
+      (stopped_written words bytes (Fault number) (at_line (codes "bad log line ") number) refl is),
   ((numbers_of words bytes (bytes is.comes.begins.log)).fault number (ap (λ (r : Reading). r.ending) is.comes.begins.reads)).stands,
 )
 

@@ -1,6 +1,7 @@
 -- The lines of a report: those at the start, those of the events that are a run, one that says how the log ends, and an
 -- answer. They show the state that the run reaches, they are true, and they tell these events.
-use Rattle.std.proofs.Common.{◌≡◌, ℕ, ◌==◌, ◌&&◌, not, Bool, true, false, cond, length, List, [], ◌∷◌, ◌++◌, map, Option, None, Some, IsSomeAnd, refl, sym, ◌∙◌, ap, subst, append_assoc, append-nil, All}
+use Rattle.std.proofs.Common.{◌≡◌, ℕ, ◌==◌, ◌&&◌, not, Bool, true, false, cond, length, List, [], ◌∷◌, ◌++◌, map, Option, None, Some, IsSomeAnd}
+use Rattle.std.proofs.Common.{refl, sym, ◌∙◌, ap, subst, append_assoc, append-nil, All}
 use Rattle.std.proofs.lemmas.List.Elements.{All-head, All-tail}
 use Rattle.std.specs.Prelude.{codes}
 use Rattle.cm_base.specs.declared.res.Res.{Res}
@@ -113,13 +114,15 @@ told_passed w (e ∷ events) from to run =
     ∙ ap (λ (es : List Placed). e ∷ es) (told_passed w events run.0 to run.2)
 
 -- ---- which lines are true
-true_start : (w : World) (s : State) (ps : List Process) (rest : List ReportLine) → All (IsFound s.processes) ps → AreTrue w s rest → AreTrue w s (map Credentials ps ++ rest)
+true_start : (w : World) (s : State) (ps : List Process) (rest : List ReportLine) → All (IsFound s.processes) ps
+    → AreTrue w s rest → AreTrue w s (map Credentials ps ++ rest)
 true_start w s [] rest found true_rest = true_rest
 true_start w s (p ∷ ps) rest found true_rest =
     (All-head (IsFound s.processes) p ps found, true_start w s ps rest (All-tail (IsFound s.processes) p ps found) true_rest)
 
 -- the credential line of the process that a pid names
-true_found : (w : World) (s : State) (pid : ℕ) (found : Option Process) (rest : List ReportLine) → process_at s.processes pid ≡ found → AreTrue w s rest → AreTrue w s (credentials_if found ++ rest)
+true_found : (w : World) (s : State) (pid : ℕ) (found : Option Process) (rest : List ReportLine)
+    → process_at s.processes pid ≡ found → AreTrue w s rest → AreTrue w s (credentials_if found ++ rest)
 true_found w s pid None rest is true_rest = true_rest
 true_found w s pid (Some p) rest is true_rest =
     (ap (λ (n : ℕ). process_at s.processes n) (pid_of_found s.processes pid p is) ∙ is, true_rest)
@@ -138,7 +141,8 @@ true_step w s s' e rest goes true_rest =
           (true_found w s' e.event.pid (process_at s'.processes e.event.pid) (child ++ rest) refl (true_child w s' e.event.res rest true_rest)),
     )
 
-true_passed : (w : World) (events : List Placed) (from to : State) (rest : List ReportLine) → Run w from (events_of events) to → AreTrue w to rest → AreTrue w from (passed_lines w from events ++ rest)
+true_passed : (w : World) (events : List Placed) (from to : State) (rest : List ReportLine) → Run w from (events_of events) to
+    → AreTrue w to rest → AreTrue w from (passed_lines w from events ++ rest)
 true_passed w [] from to rest run true_rest = subst (λ (s : State). AreTrue w s rest) run true_rest
 true_passed w (e ∷ events) from to rest run true_rest =
     let later : List ReportLine = passed_lines w run.0 events in
@@ -189,7 +193,8 @@ module _ (w : World) (events : List Placed) (s : State) (end : List ℕ) (lines 
   written_shows =
       let distinct : are_distinct w.start.processes ≡ true = start_distinct is.start.0 w is.start.1 in
       let first : Shows (start_lines w) w.start = λ p found.
-      subst (λ (o : Option Process). IsSomeAnd o (λ q. (q.pid ≡ p.pid) × (q.space ≡ p.space) × (q.cred ≡ p.cred))) (sym (start_shows w.start.processes distinct p.pid ∙ found)) (refl, refl, refl) in
+      subst (λ (o : Option Process). IsSomeAnd o (λ q. (q.pid ≡ p.pid) × (q.space ≡ p.space) × (q.cred ≡ p.cred)))
+      (sym (start_shows w.start.processes distinct p.pid ∙ found)) (refl, refl, refl) in
       subst (λ (ls : List ReportLine). Shows ls s) (sym cut_there)
       (silent_shown before (Plain end ∷ is.answer) s (plain_silent is.answer is.plain) (run_shows w events w.start s is.built is.run (start_lines w) first))
 

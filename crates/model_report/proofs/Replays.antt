@@ -21,7 +21,8 @@ passed_lines w s [] = []
 passed_lines w s (e ∷ events) = step_lines (state_or s (outcome w s e.event)) e ++ passed_lines w (state_or s (outcome w s e.event)) events
 
 -- the lines of the first of them, and those of the others
-pub passed_step : (w : World) (s mid : State) (e : Placed) (events : List Placed) → Step w s e.event mid → passed_lines w s (e ∷ events) ≡ step_lines mid e ++ passed_lines w mid events
+pub passed_step : (w : World) (s mid : State) (e : Placed) (events : List Placed) → Step w s e.event mid
+    → passed_lines w s (e ∷ events) ≡ step_lines mid e ++ passed_lines w mid events
 passed_step w s mid e events goes = ap (λ (o : Outcome). step_lines (state_or s o) e ++ passed_lines w (state_or s o) events) goes
 
 -- ---- the replay over a run
@@ -36,7 +37,8 @@ run_passes w (e ∷ before) rest ending from to run count =
     let counted : count + 1 + length before ≡ count + suc (length before) = omega arith in
     ap (λ (o : Outcome). by_outcome e next o) run.1
     ∙ ap (λ (r : Report). after (step_lines run.0 e) r) (run_passes w before rest ending run.0 to run.2 (count + 1))
-    ∙ ap (λ (ls : List ReportLine). record { status = later.status; lines = ls }) (sym (append_assoc (step_lines run.0 e) (passed_lines w run.0 before) later.lines))
+    ∙ ap (λ (ls : List ReportLine). record { status = later.status; lines = ls })
+    (sym (append_assoc (step_lines run.0 e) (passed_lines w run.0 before) later.lines))
     ∙ ap (λ (ls : List ReportLine). after ls later) (sym (passed_step w from run.0 e before run.1))
     ∙ ap (λ (n : ℕ). after (passed_lines w from (e ∷ before)) (replayed w to n rest ending)) counted
 
@@ -76,7 +78,8 @@ runs_or_halts w from (e ∷ events) =
     ]
 
 -- what is no step is impossible
-pub no_step_ends : (e : Placed) (next : State → Report) (become : Outcome) → ((s : State) → ¬ (become ≡ Goes s)) → by_outcome e next become ≡ impossible e.line become
+pub no_step_ends : (e : Placed) (next : State → Report) (become : Outcome) → ((s : State) → ¬ (become ≡ Goes s))
+    → by_outcome e next become ≡ impossible e.line become
 no_step_ends e next (Goes s) none = absurd (none s refl)
 no_step_ends e next _ none = refl
 

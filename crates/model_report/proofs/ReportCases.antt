@@ -23,10 +23,14 @@ pub record Says (report : Report) (st : Status) (lines : List (List ℕ)) : Type
   pub text : text_of report.lines ≡ written lines
 
 abbrev pub root_line : List ℕ
-root_line = codes "> 100 init uid=0,0,0,0 gid=0,0,0,0 groups=- inh=0000000000000000 prm=000001ffffffffff eff=000001ffffffffff bnd=000001ffffffffff amb=0000000000000000 sec=00 nnp=0"
+root_line =
+    (codes "> 100 init uid=0,0,0,0 gid=0,0,0,0 groups=-"
+    ++ codes " inh=0000000000000000 prm=000001ffffffffff eff=000001ffffffffff bnd=000001ffffffffff amb=0000000000000000 sec=00 nnp=0")
 
 abbrev pub user_line : List ℕ
-user_line = codes "> 100 init uid=1000,1000,1000,1000 gid=0,0,0,0 groups=- inh=0000000000000000 prm=0000000000000000 eff=0000000000000000 bnd=000001ffffffffff amb=0000000000000000 sec=00 nnp=0"
+user_line =
+    (codes "> 100 init uid=1000,1000,1000,1000 gid=0,0,0,0 groups=-"
+    ++ codes " inh=0000000000000000 prm=0000000000000000 eff=0000000000000000 bnd=000001ffffffffff amb=0000000000000000 sec=00 nnp=0")
 
 pub empty_log_ends : Says (world_report None false (world_of_100 0) []) status.Accepted (root_line ∷ codes "end 0" ∷ [])
 unfolding print_on_literals
@@ -42,7 +46,8 @@ pub user_stays_a_user : Says (world_report None false (world_of_100 1000) (codes
 unfolding print_on_literals
 user_stays_a_user = record { status = refl; text = refl }
 
-pub blank_lines_and_comments_are_no_events : Says (world_report None false (world_of_100 1000) (codes "\n; nothing\n100 setresuid 1000 -1 -1 = 0")) status.Accepted
+pub blank_lines_and_comments_are_no_events : Says
+    (world_report None false (world_of_100 1000) (codes "\n; nothing\n100 setresuid 1000 -1 -1 = 0")) status.Accepted
     (user_line ∷ codes "3: 100 setresuid 1000 -1 -1 = 0" ∷ user_line ∷ codes "end 1" ∷ [])
 unfolding print_on_literals
 blank_lines_and_comments_are_no_events = record { status = refl; text = refl }

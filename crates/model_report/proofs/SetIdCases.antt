@@ -32,13 +32,15 @@ all_sets = codes " inh=0000000000000000 prm=000001ffffffffff eff=000001fffffffff
 -- ---- user ids
 -- a real id that is given makes the effective one also the saved one
 pub setreuid_saves_the_effective_id : Replays (codes "uid = [0, 0, 7, 0]\n") (codes "100 setreuid 1000 -1 = 0\n") status.Accepted
-    ((codes "> 100 init uid=0,0,7,0 gid=0,0,0,0 groups=-" ++ all_sets) ∷ codes "1: 100 setreuid 1000 -1 = 0" ∷ (codes "> 100 init uid=1000,0,0,0 gid=0,0,0,0 groups=-" ++ all_sets) ∷ codes "end 1" ∷ [])
+    ((codes "> 100 init uid=0,0,7,0 gid=0,0,0,0 groups=-" ++ all_sets) ∷ codes "1: 100 setreuid 1000 -1 = 0"
+    ∷ (codes "> 100 init uid=1000,0,0,0 gid=0,0,0,0 groups=-" ++ all_sets) ∷ codes "end 1" ∷ [])
 unfolding print_on_literals world_on_literals
 setreuid_saves_the_effective_id = record { status = refl; text = refl }
 
 -- without CAP_SETUID setuid goes to the real or the saved id alone, and not to the effective one
 pub setuid_to_the_effective_id_is_refused : Replays (codes "uid = [1000, 33, 44, 33]\n") (codes "100 setuid 33 = EPERM\n") status.Accepted
-    ((codes "> 100 init uid=1000,33,44,33 gid=0,0,0,0 groups=-" ++ no_sets) ∷ codes "1: 100 setuid 33 = EPERM" ∷ (codes "> 100 init uid=1000,33,44,33 gid=0,0,0,0 groups=-" ++ no_sets) ∷ codes "end 1" ∷ [])
+    ((codes "> 100 init uid=1000,33,44,33 gid=0,0,0,0 groups=-" ++ no_sets) ∷ codes "1: 100 setuid 33 = EPERM"
+    ∷ (codes "> 100 init uid=1000,33,44,33 gid=0,0,0,0 groups=-" ++ no_sets) ∷ codes "end 1" ∷ [])
 unfolding print_on_literals world_on_literals
 setuid_to_the_effective_id_is_refused = record { status = refl; text = refl }
 
@@ -53,21 +55,25 @@ pub setfsuid_that_may_not_changes_nothing : Replays (codes "uid = 1000\n") (code
 unfolding print_on_literals world_on_literals
 setfsuid_that_may_not_changes_nothing = record { status = refl; text = refl }
 
-pub setfsuid_gives_the_id_before : Replays (codes "uid = 1000\n") (codes "100 setfsuid 5 = 5\n") status.Impossible (user_line ∷ codes "impossible line 1: the rules give 1000" ∷ [])
+pub setfsuid_gives_the_id_before : Replays (codes "uid = 1000\n") (codes "100 setfsuid 5 = 5\n") status.Impossible (user_line
+    ∷ codes "impossible line 1: the rules give 1000" ∷ [])
 unfolding print_on_literals world_on_literals
 setfsuid_gives_the_id_before = record { status = refl; text = refl }
 
 -- what is possible is printed up to the line that isn't
-pub third_line_is_impossible : Replays (codes "uid = 1000\n") (codes "100 setresuid -1 -1 -1 = 0\n100 setfsuid 5 = 1000\n100 setresuid 0 0 0 = 0\n") status.Impossible
-    (user_line ∷ codes "1: 100 setresuid -1 -1 -1 = 0" ∷ user_line ∷ codes "2: 100 setfsuid 5 = 1000" ∷ user_line ∷ codes "impossible line 3: the rules give EPERM" ∷ [])
+pub third_line_is_impossible : Replays (codes "uid = 1000\n")
+    (codes "100 setresuid -1 -1 -1 = 0\n100 setfsuid 5 = 1000\n100 setresuid 0 0 0 = 0\n") status.Impossible
+    (user_line ∷ codes "1: 100 setresuid -1 -1 -1 = 0" ∷ user_line ∷ codes "2: 100 setfsuid 5 = 1000" ∷ user_line
+    ∷ codes "impossible line 3: the rules give EPERM" ∷ [])
 unfolding print_on_literals world_on_literals
 third_line_is_impossible = record { status = refl; text = refl }
 
 -- with CAP_SETUID the fs id goes to 5, and the capabilities that follow it (0 to 4, 9, 27, 32: 0x10800021f) leave the
--- effective set; by the way back the permitted ones of them come again
+-- effective set; by the run back the permitted ones of them come again
 pub root_sets_its_fs_id : Replays [] (codes "100 setfsuid 5 = 0\n100 setfsuid 0 = 5\n") status.Accepted
     (root_line ∷ codes "1: 100 setfsuid 5 = 0"
-    ∷ codes "> 100 init uid=0,0,0,5 gid=0,0,0,0 groups=- inh=0000000000000000 prm=000001ffffffffff eff=000001fef7fffde0 bnd=000001ffffffffff amb=0000000000000000 sec=00 nnp=0"
+    ∷ (codes "> 100 init uid=0,0,0,5 gid=0,0,0,0 groups=-"
+    ++ codes " inh=0000000000000000 prm=000001ffffffffff eff=000001fef7fffde0 bnd=000001ffffffffff amb=0000000000000000 sec=00 nnp=0")
     ∷ codes "2: 100 setfsuid 0 = 5" ∷ root_line ∷ codes "end 2" ∷ [])
 unfolding print_on_literals world_on_literals
 root_sets_its_fs_id = record { status = refl; text = refl }
@@ -75,57 +81,77 @@ root_sets_its_fs_id = record { status = refl; text = refl }
 -- ---- securebits
 -- under SECBIT_KEEP_CAPS the permitted set stays where root ids are given up; the effective id wasn't root before, so the
 -- effective set stays too
-pub kept_caps_stay_effective : Replays (codes "uid = [0, 1000, 0, 1000]\npermitted = \"CAP_KILL\"\neffective = \"CAP_KILL\"\nsecurebits = 16\n") (codes "100 setresuid 1000 1000 1000 = 0\n") status.Accepted
-    (codes "> 100 init uid=0,1000,0,1000 gid=0,0,0,0 groups=- inh=0000000000000000 prm=0000000000000020 eff=0000000000000020 bnd=000001ffffffffff amb=0000000000000000 sec=10 nnp=0"
+pub kept_caps_stay_effective : Replays
+    (codes "uid = [0, 1000, 0, 1000]\npermitted = \"CAP_KILL\"\neffective = \"CAP_KILL\"\nsecurebits = 16\n")
+    (codes "100 setresuid 1000 1000 1000 = 0\n") status.Accepted
+    ((codes "> 100 init uid=0,1000,0,1000 gid=0,0,0,0 groups=-"
+    ++ codes " inh=0000000000000000 prm=0000000000000020 eff=0000000000000020 bnd=000001ffffffffff amb=0000000000000000 sec=10 nnp=0")
     ∷ codes "1: 100 setresuid 1000 1000 1000 = 0"
-    ∷ codes "> 100 init uid=1000,1000,1000,1000 gid=0,0,0,0 groups=- inh=0000000000000000 prm=0000000000000020 eff=0000000000000020 bnd=000001ffffffffff amb=0000000000000000 sec=10 nnp=0"
+    ∷ (codes "> 100 init uid=1000,1000,1000,1000 gid=0,0,0,0 groups=-"
+    ++ codes " inh=0000000000000000 prm=0000000000000020 eff=0000000000000020 bnd=000001ffffffffff amb=0000000000000000 sec=10 nnp=0")
     ∷ codes "end 1" ∷ [])
 unfolding print_on_literals world_on_literals
 kept_caps_stay_effective = record { status = refl; text = refl }
 
 -- the ambient set goes then, and the effective set of one whose effective id was root
-pub kept_caps_leave_the_ambient_set : Replays (codes "uid = 0\ninheritable = \"CAP_NET_BIND_SERVICE\"\nambient = \"CAP_NET_BIND_SERVICE\"\nsecurebits = 16\n") (codes "100 setresuid 1000 1000 1000 = 0\n") status.Accepted
-    (codes "> 100 init uid=0,0,0,0 gid=0,0,0,0 groups=- inh=0000000000000400 prm=000001ffffffffff eff=000001ffffffffff bnd=000001ffffffffff amb=0000000000000400 sec=10 nnp=0"
+pub kept_caps_leave_the_ambient_set : Replays
+    (codes "uid = 0\ninheritable = \"CAP_NET_BIND_SERVICE\"\nambient = \"CAP_NET_BIND_SERVICE\"\nsecurebits = 16\n")
+    (codes "100 setresuid 1000 1000 1000 = 0\n") status.Accepted
+    ((codes "> 100 init uid=0,0,0,0 gid=0,0,0,0 groups=-"
+    ++ codes " inh=0000000000000400 prm=000001ffffffffff eff=000001ffffffffff bnd=000001ffffffffff amb=0000000000000400 sec=10 nnp=0")
     ∷ codes "1: 100 setresuid 1000 1000 1000 = 0"
-    ∷ codes "> 100 init uid=1000,1000,1000,1000 gid=0,0,0,0 groups=- inh=0000000000000400 prm=000001ffffffffff eff=0000000000000000 bnd=000001ffffffffff amb=0000000000000000 sec=10 nnp=0"
+    ∷ (codes "> 100 init uid=1000,1000,1000,1000 gid=0,0,0,0 groups=-"
+    ++ codes " inh=0000000000000400 prm=000001ffffffffff eff=0000000000000000 bnd=000001ffffffffff amb=0000000000000000 sec=10 nnp=0")
     ∷ codes "end 1" ∷ [])
 unfolding print_on_literals world_on_literals
 kept_caps_leave_the_ambient_set = record { status = refl; text = refl }
 
 -- ---- group ids and groups
 -- a service gives up its groups, its group ids and its user ids, in this order
-pub service_gives_up_root : Replays (codes "groups = [0, 4]\n") (codes "100 setgroups 34 33 34 = 0\n100 setresgid 33 33 33 = 0\n100 setuid 33 = 0\n100 setgroups = EPERM\n100 setgid 0 = EPERM\n") status.Accepted
-    ((codes "> 100 init uid=0,0,0,0 gid=0,0,0,0 groups=0,4" ++ all_sets) ∷ codes "1: 100 setgroups 34 33 34 = 0" ∷ (codes "> 100 init uid=0,0,0,0 gid=0,0,0,0 groups=33,34" ++ all_sets) ∷ codes "2: 100 setresgid 33 33 33 = 0"
-    ∷ (codes "> 100 init uid=0,0,0,0 gid=33,33,33,33 groups=33,34" ++ all_sets) ∷ codes "3: 100 setuid 33 = 0" ∷ (codes "> 100 init uid=33,33,33,33 gid=33,33,33,33 groups=33,34" ++ no_sets) ∷ codes "4: 100 setgroups = EPERM"
-    ∷ (codes "> 100 init uid=33,33,33,33 gid=33,33,33,33 groups=33,34" ++ no_sets) ∷ codes "5: 100 setgid 0 = EPERM" ∷ (codes "> 100 init uid=33,33,33,33 gid=33,33,33,33 groups=33,34" ++ no_sets) ∷ codes "end 5" ∷ [])
+pub service_gives_up_root : Replays (codes "groups = [0, 4]\n")
+    (codes "100 setgroups 34 33 34 = 0\n100 setresgid 33 33 33 = 0\n100 setuid 33 = 0\n100 setgroups = EPERM\n100 setgid 0 = EPERM\n") status.Accepted
+    ((codes "> 100 init uid=0,0,0,0 gid=0,0,0,0 groups=0,4" ++ all_sets) ∷ codes "1: 100 setgroups 34 33 34 = 0"
+    ∷ (codes "> 100 init uid=0,0,0,0 gid=0,0,0,0 groups=33,34" ++ all_sets) ∷ codes "2: 100 setresgid 33 33 33 = 0"
+    ∷ (codes "> 100 init uid=0,0,0,0 gid=33,33,33,33 groups=33,34" ++ all_sets) ∷ codes "3: 100 setuid 33 = 0"
+    ∷ (codes "> 100 init uid=33,33,33,33 gid=33,33,33,33 groups=33,34" ++ no_sets) ∷ codes "4: 100 setgroups = EPERM"
+    ∷ (codes "> 100 init uid=33,33,33,33 gid=33,33,33,33 groups=33,34" ++ no_sets) ∷ codes "5: 100 setgid 0 = EPERM"
+    ∷ (codes "> 100 init uid=33,33,33,33 gid=33,33,33,33 groups=33,34" ++ no_sets) ∷ codes "end 5" ∷ [])
 unfolding print_on_literals world_on_literals
 service_gives_up_root = record { status = refl; text = refl }
 
 -- one that drops its user ids first can't drop its groups any more
 pub groups_are_given_up_too_late : Replays (codes "groups = [0]\n") (codes "100 setuid 33 = 0\n100 setgroups = 0\n") status.Impossible
-    ((codes "> 100 init uid=0,0,0,0 gid=0,0,0,0 groups=0" ++ all_sets) ∷ codes "1: 100 setuid 33 = 0" ∷ (codes "> 100 init uid=33,33,33,33 gid=0,0,0,0 groups=0" ++ no_sets) ∷ codes "impossible line 2: the rules give EPERM" ∷ [])
+    ((codes "> 100 init uid=0,0,0,0 gid=0,0,0,0 groups=0" ++ all_sets) ∷ codes "1: 100 setuid 33 = 0"
+    ∷ (codes "> 100 init uid=33,33,33,33 gid=0,0,0,0 groups=0" ++ no_sets) ∷ codes "impossible line 2: the rules give EPERM" ∷ [])
 unfolding print_on_literals world_on_literals
 groups_are_given_up_too_late = record { status = refl; text = refl }
 
-pub group_ids_of_a_user : Replays (codes "uid = 1000\ngid = [10, 11, 12, 13]\n") (codes "100 setregid 11 12 = 0\n100 setfsgid 11 = 12\n100 setresgid -1 -1 13 = EPERM\n") status.Accepted
-    ((codes "> 100 init uid=1000,1000,1000,1000 gid=10,11,12,13 groups=-" ++ no_sets) ∷ codes "1: 100 setregid 11 12 = 0" ∷ (codes "> 100 init uid=1000,1000,1000,1000 gid=11,12,12,12 groups=-" ++ no_sets) ∷ codes "2: 100 setfsgid 11 = 12"
-    ∷ (codes "> 100 init uid=1000,1000,1000,1000 gid=11,12,12,11 groups=-" ++ no_sets) ∷ codes "3: 100 setresgid -1 -1 13 = EPERM" ∷ (codes "> 100 init uid=1000,1000,1000,1000 gid=11,12,12,11 groups=-" ++ no_sets) ∷ codes "end 3" ∷ [])
+pub group_ids_of_a_user : Replays (codes "uid = 1000\ngid = [10, 11, 12, 13]\n")
+    (codes "100 setregid 11 12 = 0\n100 setfsgid 11 = 12\n100 setresgid -1 -1 13 = EPERM\n") status.Accepted
+    ((codes "> 100 init uid=1000,1000,1000,1000 gid=10,11,12,13 groups=-" ++ no_sets) ∷ codes "1: 100 setregid 11 12 = 0"
+    ∷ (codes "> 100 init uid=1000,1000,1000,1000 gid=11,12,12,12 groups=-" ++ no_sets) ∷ codes "2: 100 setfsgid 11 = 12"
+    ∷ (codes "> 100 init uid=1000,1000,1000,1000 gid=11,12,12,11 groups=-" ++ no_sets) ∷ codes "3: 100 setresgid -1 -1 13 = EPERM"
+    ∷ (codes "> 100 init uid=1000,1000,1000,1000 gid=11,12,12,11 groups=-" ++ no_sets) ∷ codes "end 3" ∷ [])
 unfolding print_on_literals world_on_literals
 group_ids_of_a_user = record { status = refl; text = refl }
 
 -- ---- the largest and the smallest id, and those that aren't any
-pub minus_one_is_no_id : Replays [] (codes "100 setuid -1 = EINVAL\n100 setgid 4294967295 = EINVAL\n100 setgroups 5 -1 = EINVAL\n100 setfsuid -1 = 0\n100 setreuid -1 -1 = 0\n") status.Accepted
-    (root_line ∷ codes "1: 100 setuid -1 = EINVAL" ∷ root_line ∷ codes "2: 100 setgid -1 = EINVAL" ∷ root_line ∷ codes "3: 100 setgroups 5 -1 = EINVAL" ∷ root_line ∷ codes "4: 100 setfsuid -1 = 0" ∷ root_line
+pub minus_one_is_no_id : Replays []
+    (codes "100 setuid -1 = EINVAL\n100 setgid 4294967295 = EINVAL\n100 setgroups 5 -1 = EINVAL\n100 setfsuid -1 = 0\n100 setreuid -1 -1 = 0\n") status.Accepted
+    (root_line ∷ codes "1: 100 setuid -1 = EINVAL" ∷ root_line ∷ codes "2: 100 setgid -1 = EINVAL" ∷ root_line
+    ∷ codes "3: 100 setgroups 5 -1 = EINVAL" ∷ root_line ∷ codes "4: 100 setfsuid -1 = 0" ∷ root_line
     ∷ codes "5: 100 setreuid -1 -1 = 0" ∷ root_line ∷ codes "end 5" ∷ [])
 unfolding print_on_literals world_on_literals
 minus_one_is_no_id = record { status = refl; text = refl }
 
 -- ---- the ends of a log
-pub fault_of_setgroups : Replays [] (codes "100 setgroups = 0\n100 setgroups 5\n") status.BadLog (root_line ∷ codes "1: 100 setgroups = 0" ∷ root_line ∷ codes "bad log line 2" ∷ [])
+pub fault_of_setgroups : Replays [] (codes "100 setgroups = 0\n100 setgroups 5\n") status.BadLog (root_line
+    ∷ codes "1: 100 setgroups = 0" ∷ root_line ∷ codes "bad log line 2" ∷ [])
 unfolding print_on_literals world_on_literals
 fault_of_setgroups = record { status = refl; text = refl }
 
-pub unshare_is_not_built : Replays [] (codes "100 setgroups = 0\n7 unshare x\n") status.NotBuilt (root_line ∷ codes "1: 100 setgroups = 0" ∷ root_line ∷ codes "not built" ∷ [])
+pub unshare_is_not_built : Replays [] (codes "100 setgroups = 0\n7 unshare x\n") status.NotBuilt (root_line
+    ∷ codes "1: 100 setgroups = 0" ∷ root_line ∷ codes "not built" ∷ [])
 unfolding print_on_literals world_on_literals
 unshare_is_not_built = record { status = refl; text = refl }
 
@@ -152,15 +178,18 @@ unfolding print_on_literals world_on_literals
 log_of_setresuid_alone = record { status = refl; text = refl }
 
 -- a bad query comes first
-pub text_of_no_right_comes_first : Audits (codes "gid = 0\n") (codes "100 setgroups = 0\n") (codes "uid:x") status.BadQuery (root_line ∷ codes "1: 100 setgroups = 0" ∷ root_line ∷ codes "end 1" ∷ codes "bad query: right" ∷ [])
+pub text_of_no_right_comes_first : Audits (codes "gid = 0\n") (codes "100 setgroups = 0\n") (codes "uid:x") status.BadQuery (root_line
+    ∷ codes "1: 100 setgroups = 0" ∷ root_line ∷ codes "end 1" ∷ codes "bad query: right" ∷ [])
 unfolding print_on_literals world_on_literals
 text_of_no_right_comes_first = record { status = refl; text = refl }
 
-pub pid_of_no_process_comes_first : Says (report (audit_words (codes "101") (codes "uid:x")) (files (of_row (codes "gid = 0\n")) [])) status.BadQuery (root_line ∷ codes "end 0" ∷ codes "bad query: pid" ∷ [])
+pub pid_of_no_process_comes_first : Says (report (audit_words (codes "101") (codes "uid:x")) (files (of_row (codes "gid = 0\n")) [])) status.BadQuery (root_line
+    ∷ codes "end 0" ∷ codes "bad query: pid" ∷ [])
 unfolding print_on_literals world_on_literals
 pid_of_no_process_comes_first = record { status = refl; text = refl }
 
 -- and so does a log that isn't accepted
-pub impossible_line_comes_first : Audits (codes "uid = 1000\ngid = 0\n") (codes "100 setuid 0 = 0\n") (codes "uid:x") status.Impossible (user_line ∷ codes "impossible line 1: the rules give EPERM" ∷ [])
+pub impossible_line_comes_first : Audits (codes "uid = 1000\ngid = 0\n") (codes "100 setuid 0 = 0\n") (codes "uid:x") status.Impossible (user_line
+    ∷ codes "impossible line 1: the rules give EPERM" ∷ [])
 unfolding print_on_literals world_on_literals
 impossible_line_comes_first = record { status = refl; text = refl }

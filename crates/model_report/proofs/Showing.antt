@@ -1,5 +1,6 @@
 -- What the lines of a report show: after lines that show a state, the lines of a step show the state that it leads to.
-use Rattle.std.proofs.Common.{◌≡◌, ◌≢◌, ℕ, ◌==◌, ◌⊎◌, cond, inl, inr, List, [], ◌∷◌, ◌++◌, Option, Some, None, IsSomeAnd, refl, sym, ◌∙◌, ap, subst, arith, append_assoc, append-nil, map, false, true}
+use Rattle.std.proofs.Common.{◌≡◌, ◌≢◌, ℕ, ◌==◌, ◌⊎◌, cond, inl, inr, List, [], ◌∷◌, ◌++◌, Option, Some, None, IsSomeAnd, refl, sym, ◌∙◌, ap, subst}
+use Rattle.std.proofs.Common.{arith, append_assoc, append-nil, map, false, true}
 use Rattle.std.proofs.lemmas.List.Elements.{All-head, All-tail}
 use Rattle.std.proofs.lemmas.Bool.{cases_eq}
 use Rattle.std.specs.Prelude.{is_some}
@@ -25,7 +26,8 @@ or_assoc None b c = refl
 or_assoc (Some p) b c = refl
 
 -- the last credential line of two lists of lines is that of the second, where there is one
-pub last_append : (pid : ℕ) (first second : List ReportLine) → last_credentials pid (first ++ second) ≡ option_or (last_credentials pid second) (last_credentials pid first)
+pub last_append : (pid : ℕ) (first second : List ReportLine)
+    → last_credentials pid (first ++ second) ≡ option_or (last_credentials pid second) (last_credentials pid first)
 last_append pid [] second = elim (last_credentials pid second) as (λ o. o ≡ option_or o None) [ None ↦ refl | Some p ↦ refl ]
 last_append pid (Credentials p ∷ first) second =
     ap (λ (o : Option Process). option_or o (cond (p.pid == pid) (Some p) None)) (last_append pid first second)
@@ -45,15 +47,19 @@ same_shown one other s same shows p found = subst (λ (o : Option Process). IsSo
 -- and so do lines after which none is a credential line
 pub silent_shown : (lines silent : List ReportLine) (s : State) → ((pid : ℕ) → last_credentials pid silent ≡ None) → Shows lines s → Shows (lines ++ silent) s
 silent_shown lines silent s none shows =
-    same_shown (lines ++ silent) lines s (λ pid. last_append pid lines silent ∙ ap (λ (o : Option Process). option_or o (last_credentials pid lines)) (none pid)) shows
+    same_shown (lines ++ silent) lines s
+    (λ pid. last_append pid lines silent ∙ ap (λ (o : Option Process). option_or o (last_credentials pid lines)) (none pid)) shows
 
 -- ---- the credential lines of a step
 -- that of the pid of a process tells it
-own_line : (ps : List Process) (pid : ℕ) (p : Process) → process_at ps p.pid ≡ Some p → p.pid ≡ pid → last_credentials p.pid (credentials_if (process_at ps pid)) ≡ Some p
+own_line : (ps : List Process) (pid : ℕ) (p : Process) → process_at ps p.pid ≡ Some p → p.pid ≡ pid
+    → last_credentials p.pid (credentials_if (process_at ps pid)) ≡ Some p
 own_line ps pid p found same =
-    ap (λ (n : ℕ). last_credentials p.pid (credentials_if (process_at ps n))) (sym same) ∙ ap (λ (o : Option Process). last_credentials p.pid (credentials_if o)) found ∙ grind (arith)
+    ap (λ (n : ℕ). last_credentials p.pid (credentials_if (process_at ps n))) (sym same)
+    ∙ ap (λ (o : Option Process). last_credentials p.pid (credentials_if o)) found ∙ grind (arith)
 
-line_of_other : (pid : ℕ) (p : Process) (found : Option Process) → ((q : Process) → found ≡ Some q → q.pid ≡ pid) → p.pid ≢ pid → last_credentials p.pid (credentials_if found) ≡ None
+line_of_other : (pid : ℕ) (p : Process) (found : Option Process) → ((q : Process) → found ≡ Some q → q.pid ≡ pid) → p.pid ≢ pid
+    → last_credentials p.pid (credentials_if found) ≡ None
 line_of_other pid p None has other = refl
 line_of_other pid p (Some q) has other = let own : q.pid ≡ pid = has q refl in grind (arith, own, other)
 
@@ -63,7 +69,8 @@ other_line ps pid p other = line_of_other pid p (process_at ps pid) (pid_of_foun
 
 -- the lines of the child that a result tells show a process, or it isn't that child
 child_line : (s : State) (res : Res) (p : Process) → process_at s.processes p.pid ≡ Some p
-    → (last_credentials p.pid (child_lines s res) ≡ Some p) ⊎ ((last_credentials p.pid (child_lines s res) ≡ None) × ((pid : ℕ) → res ≡ Child pid → p.pid ≢ pid))
+    → (last_credentials p.pid (child_lines s res) ≡ Some p) ⊎
+    ((last_credentials p.pid (child_lines s res) ≡ None) × ((pid : ℕ) → res ≡ Child pid → p.pid ≢ pid))
 child_line s (Child pid) p found =
     elim (cases_eq p.pid pid) [
       | inl same ↦ inl (own_line s.processes pid p found same)
@@ -83,16 +90,20 @@ shown_before before s shows p was =
     (subst (λ (n : ℕ). IsSomeAnd (last_credentials n before) (IsShown was.process)) was.like.pid (shows was.process found))
 
 -- the lines of a step show the state that it leads to, after lines that show the state before
-pub step_shows : (w : World) (s : State) (e : Placed) (s' : State) → IsBuilt e.event.call → Step w s e.event s' → (before : List ReportLine) → Shows before s → Shows (before ++ step_lines s' e) s'
+pub step_shows : (w : World) (s : State) (e : Placed) (s' : State) → IsBuilt e.event.call → Step w s e.event s'
+    → (before : List ReportLine) → Shows before s → Shows (before ++ step_lines s' e) s'
 step_shows w s e s' built goes before shows p found =
     let child : Option Process = last_credentials p.pid (child_lines s' e.event.res) in
     let caller : Option Process = last_credentials p.pid (credentials_if (process_at s'.processes e.event.pid)) in
     let earlier : Option Process = last_credentials p.pid before in
     let last : last_credentials p.pid (before ++ step_lines s' e) ≡ option_or (option_or child caller) earlier
     = last_append p.pid before (step_lines s' e)
-    ∙ ap (λ (o : Option Process). option_or o earlier) (last_append p.pid (credentials_if (process_at s'.processes e.event.pid)) (child_lines s' e.event.res)) in
-    let by_child : (o : Option Process) → child ≡ o → IsSomeAnd (option_or (option_or o caller) earlier) (IsShown p) → IsSomeAnd (last_credentials p.pid (before ++ step_lines s' e)) (IsShown p)
-    = λ o is shown. subst (λ (x : Option Process). IsSomeAnd x (IsShown p)) (sym (last ∙ ap (λ (x : Option Process). option_or (option_or x caller) earlier) is)) shown in
+    ∙ ap (λ (o : Option Process). option_or o earlier)
+    (last_append p.pid (credentials_if (process_at s'.processes e.event.pid)) (child_lines s' e.event.res)) in
+    let by_child : (o : Option Process) → child ≡ o → IsSomeAnd (option_or (option_or o caller) earlier) (IsShown p)
+    → IsSomeAnd (last_credentials p.pid (before ++ step_lines s' e)) (IsShown p)
+    = λ o is shown. subst (λ (x : Option Process). IsSomeAnd x (IsShown p))
+    (sym (last ∙ ap (λ (x : Option Process). option_or (option_or x caller) earlier) is)) shown in
     let by_caller : (o : Option Process) → caller ≡ o → IsSomeAnd (option_or o earlier) (IsShown p) → IsSomeAnd (option_or caller earlier) (IsShown p)
     = λ o is shown. subst (λ (x : Option Process). IsSomeAnd (option_or x earlier) (IsShown p)) (sym is) shown in
     elim (child_line s' e.event.res p found) [
@@ -100,12 +111,14 @@ step_shows w s e s' built goes before shows p found =
       | inr none ↦
           by_child None none.0 (elim (cases_eq p.pid e.event.pid) [
             | inl same ↦ by_caller (Some p) (own_line s'.processes e.event.pid p found same) (refl, refl, refl)
-            | inr other ↦ by_caller None (other_line s'.processes e.event.pid p other) (shown_before before s shows p (others_were_there w s e.event s' built goes p found other none.1))
+            | inr other ↦ by_caller None (other_line s'.processes e.event.pid p other)
+                (shown_before before s shows p (others_were_there w s e.event s' built goes p found other none.1))
           ])
     ]
 
 -- and so do the lines of a run of events of built calls
-pub run_shows : (w : World) (events : List Placed) (from to : State) → AreBuilt events → Run w from (events_of events) to → (before : List ReportLine) → Shows before from
+pub run_shows : (w : World) (events : List Placed) (from to : State) → AreBuilt events → Run w from (events_of events) to
+    → (before : List ReportLine) → Shows before from
     → Shows (before ++ passed_lines w from events) to
 run_shows w [] from to built run before shows =
     subst (λ (ls : List ReportLine). Shows ls to) (sym (append-nil before)) (subst (λ (s : State). Shows before s) (sym run) shows)
@@ -114,7 +127,8 @@ run_shows w (e ∷ events) from to built run before shows =
     let rest : List ReportLine = passed_lines w run.0 events in
     let own : IsBuilt e.event.call = All-head (λ (e : Placed). IsBuilt e.event.call) e events built in
     let others : AreBuilt events = All-tail (λ (e : Placed). IsBuilt e.event.call) e events built in
-    let shown : Shows ((before ++ step) ++ rest) to = run_shows w events run.0 to others run.2 (before ++ step) (step_shows w from e run.0 own run.1 before shows) in
+    let shown : Shows ((before ++ step) ++ rest) to
+    = run_shows w events run.0 to others run.2 (before ++ step) (step_shows w from e run.0 own run.1 before shows) in
     subst (λ (ls : List ReportLine). Shows ls to)
     (append_assoc before step rest ∙ ap (λ (ls : List ReportLine). before ++ ls) (sym (passed_step w from run.0 e events run.1))) shown
 

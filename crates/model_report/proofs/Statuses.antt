@@ -1,5 +1,6 @@
 -- Each status comes exactly by its cause.
-use Rattle.std.proofs.Common.{◌≡◌, ◌≢◌, Option, None, Some, ℕ, ◌+◌, ◌<◌, ◌≤◌, ◌||◌, not, inl, inr, Bool, true, false, cond, nat_lt, length, List, [], ◌∷◌, ◌++◌, refl, sym, ◌∙◌, ap, subst, arith, append-nil}
+use Rattle.std.proofs.Common.{◌≡◌, ◌≢◌, Option, None, Some, ℕ, ◌+◌, ◌<◌, ◌≤◌, ◌||◌, not, inl, inr, Bool, true, false, cond, nat_lt, length, List, []}
+use Rattle.std.proofs.Common.{◌∷◌, ◌++◌, refl, sym, ◌∙◌, ap, subst, arith, append-nil}
 use Rattle.std.specs.Prelude.{codes}
 use Rattle.cm_base.specs.declared.status.Status.{Status}
 use Rattle.cm_base.specs.declared.status.Status.TheVariants as status
@@ -15,7 +16,8 @@ use Rattle.model_report.specs.Command.{Command, Replay, Audit, Later, NoForm, co
 use Rattle.model_report.specs.Laws.{EachByItsCause}
 use Rattle.model_report.specs.Query.{Query}
 use Rattle.model_report.specs.Replay.{Report, replayed, by_end, stopped, impossible, limit_hit, after}
-use Rattle.model_report.specs.Report.{report, command_report, files_report, by_world, world_report, log_report, replay_of, answered, go_on, verdict, verdict_after, start_lines, world_limit, log_limit}
+use Rattle.model_report.specs.Report.{report, command_report, files_report, by_world, world_report, log_report, replay_of, answered, go_on, verdict}
+use Rattle.model_report.specs.Report.{verdict_after, start_lines, world_limit, log_limit}
 use Rattle.model_text.specs.Reading.{Placed, Stop, Fault, Limit, NotBuilt, End, AtEnd, Stops, Reading, events_of, script_reading}
 use Rattle.model_text.specs.WorldText.{WorldText, Reads, Bad, world_text, text_says_more}
 use Rattle.model_text.specs.WorldText as texts
@@ -50,12 +52,14 @@ stops_there status.Accepted replay next other = absurd (other refl)
 stops_there _ replay next other = refl
 
 -- where the replay ends before the log's end, that is all
-pub of_stop : (query : Option Query) (more : Bool) (w : World) (reading : Reading) (st : Status) → (replay_of w reading).status ≡ st → st ≢ status.Accepted → answered query more w reading ≡ replay_of w reading
+pub of_stop : (query : Option Query) (more : Bool) (w : World) (reading : Reading) (st : Status)
+    → (replay_of w reading).status ≡ st → st ≢ status.Accepted → answered query more w reading ≡ replay_of w reading
 of_stop None more w reading st is other = refl
 of_stop (Some q) more w reading st is other = stops_there (replay_of w reading).status (replay_of w reading) _ (λ accepted. other (sym is ∙ accepted))
 
 -- where it is accepted, the answer comes after it, in the state that its events lead to
-pub of_end : (q : Query) (more : Bool) (w : World) (reading : Reading) (s : State) → (replay_of w reading).status ≡ status.Accepted → Run w w.start (events_of reading.events) s
+pub of_end : (q : Query) (more : Bool) (w : World) (reading : Reading) (s : State)
+    → (replay_of w reading).status ≡ status.Accepted → Run w w.start (events_of reading.events) s
     → answered (Some q) more w reading ≡ after (replay_of w reading).lines (verdict (more || not (are_setresuids (events_of reading.events))) s q)
 of_end q more w reading s is run =
     let es : List Event = events_of reading.events in
@@ -76,7 +80,8 @@ cause_of_stop words bytes (Limit name most) is = inr (inr (name, most, is))
 cause_of_stop words bytes NotBuilt is = inl (inr (inr is))
 
 -- the cause of an answer after an accepted log is that of the status
-cause_of_verdict : (words : List (List ℕ)) (bytes : List ℕ → List ℕ) (is : IsAccepted words bytes) (q : Query) (st : Status) → query_of (command_of words) ≡ Some q → VerdictCause words bytes is q st → Cause words bytes st
+cause_of_verdict : (words : List (List ℕ)) (bytes : List ℕ → List ℕ) (is : IsAccepted words bytes) (q : Query) (st : Status)
+    → query_of (command_of words) ≡ Some q → VerdictCause words bytes is q st → Cause words bytes st
 cause_of_verdict words bytes is q status.Accepted asked h = inr (is, q, asked, h)
 cause_of_verdict words bytes is q status.No asked h = (is, q, asked, h)
 cause_of_verdict words bytes is q status.BadQuery asked h = (is, q, asked, h)
@@ -88,7 +93,15 @@ module _ (words : List (List ℕ)) (bytes : List ℕ → List ℕ) (w : World) w
   caused_at_end : (s : State) (query : Option Query) → query_of (command_of words) ≡ query → (comes : ComesTo words bytes w s AtEnd)
       → Cause words bytes (answered query (text_says_more (bytes comes.begins.names.world)) w (record { events = comes.events; ending = AtEnd })).status
   caused_at_end s None asked comes =
-      subst (λ (r : Report). Cause words bytes r.status) (sym (over_all w comes.events AtEnd s comes.run)) (inl (asked, record { world = w; state = s; comes = comes }))
+      subst (λ (r : Report). Cause words bytes r.status) (sym (over_all w comes.events AtEnd s comes.run)) (inl (
+        asked,
+        record {
+          world =
+              w;
+          state = s;
+          comes = comes;
+        },
+      ))
   caused_at_end s (Some q) asked comes =
       let is : IsAccepted words bytes = record { world = w; state = s; comes = comes } in
       let reading : Reading = record { events = comes.events; ending = AtEnd } in
@@ -103,7 +116,8 @@ module _ (words : List (List ℕ)) (bytes : List ℕ → List ℕ) (w : World) w
       let reading : Reading = record { events = comes.events; ending = Stops stop } in
       let replay : replay_of w reading ≡ after (passed_lines w w.start comes.events) (stopped stop) = over_all w comes.events (Stops stop) s comes.run in
       let is : (replay_of w reading).status ≡ (stopped stop).status = status_of (replay_of w reading) _ replay in
-      subst (λ (r : Report). Cause words bytes r.status) (sym (of_stop query (text_says_more (bytes comes.begins.names.world)) w reading (stopped stop).status is (stop_is_other stop) ∙ replay))
+      subst (λ (r : Report). Cause words bytes r.status)
+      (sym (of_stop query (text_says_more (bytes comes.begins.names.world)) w reading (stopped stop).status is (stop_is_other stop) ∙ replay))
       (cause_of_stop words bytes stop (record { world = w; state = s; comes = comes }))
 
   caused_by_run : (s : State) (query : Option Query) (ending : End) → query_of (command_of words) ≡ query → (comes : ComesTo words bytes w s ending)
@@ -115,9 +129,11 @@ module _ (words : List (List ℕ)) (bytes : List ℕ → List ℕ) (w : World) w
   caused_by_halt : (reading : Reading) (query : Option Query) (begins : Begins words bytes w reading) → Halts w w.start reading.events
       → Cause words bytes (answered query (text_says_more (bytes begins.names.world)) w reading).status
   caused_by_halt reading query begins halts =
-      let replay : replay_of w reading ≡ after (passed_lines w w.start halts.before) (impossible halts.event.line (outcome w halts.state halts.event.event)) = over_halt w reading.events reading.ending halts in
+      let replay : replay_of w reading ≡ after (passed_lines w w.start halts.before) (impossible halts.event.line (outcome w halts.state halts.event.event))
+      = over_halt w reading.events reading.ending halts in
       let is : (replay_of w reading).status ≡ status.Impossible = status_of (replay_of w reading) _ replay in
-      subst (λ (r : Report). Cause words bytes r.status) (sym (of_stop query (text_says_more (bytes begins.names.world)) w reading status.Impossible is (λ e. cc) ∙ replay))
+      subst (λ (r : Report). Cause words bytes r.status)
+      (sym (of_stop query (text_says_more (bytes begins.names.world)) w reading status.Impossible is (λ e. cc) ∙ replay))
       (record {
         world = w;
         state = halts.state;
@@ -138,32 +154,44 @@ module _ (words : List (List ℕ)) (bytes : List ℕ → List ℕ) (w : World) w
         | inr halts ↦ caused_by_halt reading query begins halts
       ]
 
-caused_by_log : (words : List (List ℕ)) (bytes : List ℕ → List ℕ) (log : List ℕ) (w : World) (query : Option Query) → query_of (command_of words) ≡ query → (names : Names words bytes (Reads w) log)
-    → (over : Bool) → nat_lt log_limit (length (bytes log)) ≡ over → Cause words bytes (world_report query (text_says_more (bytes names.world)) w (bytes log)).status
+caused_by_log : (words : List (List ℕ)) (bytes : List ℕ → List ℕ) (log : List ℕ) (w : World) (query : Option Query)
+    → query_of (command_of words) ≡ query → (names : Names words bytes (Reads w) log)
+    → (over : Bool) → nat_lt log_limit (length (bytes log)) ≡ over
+    → Cause words bytes (world_report query (text_says_more (bytes names.world)) w (bytes log)).status
 caused_by_log words bytes log w query asked names true is = rw is (inr (inl (w, log, names, above_limit log_limit (length (bytes log)) is)))
 caused_by_log words bytes log w query asked names false is =
-    let begins : Begins words bytes w (script_reading (bytes log)) = record { log = log; names = names; size = below_limit log_limit (length (bytes log)) is; reads = refl } in
+    let begins : Begins words bytes w (script_reading (bytes log))
+    = record { log = log; names = names; size = below_limit log_limit (length (bytes log)) is; reads = refl } in
     rw is (caused_by_answer words bytes w (script_reading (bytes log)) query asked begins)
 
-caused_by_world : (words : List (List ℕ)) (bytes : List ℕ → List ℕ) (log : List ℕ) (query : Option Query) (text : WorldText) → query_of (command_of words) ≡ query → (names : Names words bytes text log)
+caused_by_world : (words : List (List ℕ)) (bytes : List ℕ → List ℕ) (log : List ℕ) (query : Option Query) (text : WorldText)
+    → query_of (command_of words) ≡ query → (names : Names words bytes text log)
     → Cause words bytes (by_world query (text_says_more (bytes names.world)) text (bytes log)).status
 caused_by_world words bytes log query Bad asked names = (log, names)
 caused_by_world words bytes log query texts.NotBuilt asked names = inl (inr (inl (log, names)))
 caused_by_world words bytes log query (Reads w) asked names = caused_by_log words bytes log w query asked names (nat_lt log_limit (length (bytes log))) refl
 
-caused_by_size : (words : List (List ℕ)) (bytes : List ℕ → List ℕ) (world log : List ℕ) (query : Option Query) → files_of (command_of words) ≡ Some (world, log) → query_of (command_of words) ≡ query
+caused_by_size : (words : List (List ℕ)) (bytes : List ℕ → List ℕ) (world log : List ℕ) (query : Option Query)
+    → files_of (command_of words) ≡ Some (world, log) → query_of (command_of words) ≡ query
     → (over : Bool) → nat_lt world_limit (length (bytes world)) ≡ over → Cause words bytes (files_report query (bytes world) (bytes log)).status
 caused_by_size words bytes world log query command asked true is = rw is (inl (world, log, command, above_limit world_limit (length (bytes world)) is))
 caused_by_size words bytes world log query command asked false is =
-    let names : Names words bytes (world_text (bytes world)) log = record { world = world; command = command; size = below_limit world_limit (length (bytes world)) is; reads = refl } in
+    let names : Names words bytes (world_text (bytes world)) log
+    = record { world = world; command = command; size = below_limit world_limit (length (bytes world)) is; reads = refl } in
     rw is (caused_by_world words bytes log query (world_text (bytes world)) asked names)
 
-caused_by_command : (words : List (List ℕ)) (bytes : List ℕ → List ℕ) (command : Command) → command_of words ≡ command → Cause words bytes (command_report command bytes).status
+caused_by_command : (words : List (List ℕ)) (bytes : List ℕ → List ℕ) (command : Command) → command_of words ≡ command
+    → Cause words bytes (command_report command bytes).status
 caused_by_command words bytes NoForm is = is
 caused_by_command words bytes Later is = inl (inl is)
-caused_by_command words bytes (Replay world log) is = caused_by_size words bytes world log None (ap files_of is) (ap query_of is) (nat_lt world_limit (length (bytes world))) refl
+caused_by_command words bytes (Replay world log) is =
+    caused_by_size words bytes world log None (ap files_of is) (ap query_of is) (nat_lt world_limit (length (bytes world))) refl
 caused_by_command words bytes (Audit world log pid right) is =
-    caused_by_size words bytes world log (Some (record { pid = pid; right = right })) (ap files_of is) (ap query_of is) (nat_lt world_limit (length (bytes world))) refl
+    caused_by_size words bytes world log (Some (record {
+      pid =
+          pid;
+      right = right;
+    })) (ap files_of is) (ap query_of is) (nat_lt world_limit (length (bytes world))) refl
 
 -- the cause of the status that the report has holds
 pub has_its_cause : (words : List (List ℕ)) (bytes : List ℕ → List ℕ) → Cause words bytes (report words bytes).status
@@ -176,10 +204,12 @@ not_above limit size within = grind (arith, within)
 is_above : (limit size : ℕ) → limit < size → nat_lt limit size ≡ true
 is_above limit size over = grind (arith, over)
 
-of_command : (words : List (List ℕ)) (bytes : List ℕ → List ℕ) (command : Command) → command_of words ≡ command → report words bytes ≡ command_report command bytes
+of_command : (words : List (List ℕ)) (bytes : List ℕ → List ℕ) (command : Command) → command_of words ≡ command
+    → report words bytes ≡ command_report command bytes
 of_command words bytes command is = ap (λ (c : Command). command_report c bytes) is
 
-of_files : (command : Command) (bytes : List ℕ → List ℕ) (world log : List ℕ) → files_of command ≡ Some (world, log) → command_report command bytes ≡ files_report (query_of command) (bytes world) (bytes log)
+of_files : (command : Command) (bytes : List ℕ → List ℕ) (world log : List ℕ) → files_of command ≡ Some (world, log)
+    → command_report command bytes ≡ files_report (query_of command) (bytes world) (bytes log)
 of_files NoForm bytes world log is = absurd (cc)
 of_files Later bytes world log is = absurd (cc)
 of_files (Replay world' log') bytes world log is =
@@ -189,9 +219,11 @@ of_files (Audit world' log' pid right) bytes world log is =
     let same : (world', log') ≡ (world, log) = cc in
     ap (λ (names : List ℕ × List ℕ). files_report (Some (record { pid = pid; right = right })) (bytes names.0) (bytes names.1)) same
 
-of_size : (query : Option Query) (world log : List ℕ) → length world ≤ world_limit → files_report query world log ≡ by_world query (text_says_more world) (world_text world) log
+of_size : (query : Option Query) (world log : List ℕ) → length world ≤ world_limit
+    → files_report query world log ≡ by_world query (text_says_more world) (world_text world) log
 of_size query world log within =
-    ap (λ (over : Bool). cond over (limit_hit (codes "world") world_limit) (by_world query (text_says_more world) (world_text world) log)) (not_above world_limit (length world) within)
+    ap (λ (over : Bool). cond over (limit_hit (codes "world") world_limit) (by_world query (text_says_more world) (world_text world) log))
+    (not_above world_limit (length world) within)
 
 -- the report where the words name a world and a log
 of_names : (words : List (List ℕ)) (bytes : List ℕ → List ℕ) (text : WorldText) (log : List ℕ) → (names : Names words bytes text log)
@@ -206,14 +238,16 @@ pub of_begins : (words : List (List ℕ)) (bytes : List ℕ → List ℕ) (w : W
 of_begins words bytes w reading begins =
     let answer : Reading → Report = λ r. log_report (query_of (command_of words)) (text_says_more (bytes begins.names.world)) w r in
     of_names words bytes (Reads w) begins.log begins.names
-    ∙ ap (λ (over : Bool). cond over (limit_hit (codes "log") log_limit) (answer (script_reading (bytes begins.log)))) (not_above log_limit (length (bytes begins.log)) begins.size)
+    ∙ ap (λ (over : Bool). cond over (limit_hit (codes "log") log_limit) (answer (script_reading (bytes begins.log))))
+    (not_above log_limit (length (bytes begins.log)) begins.size)
     ∙ ap answer begins.reads
 
 -- ---- the report of a log that begins, by how its replay ends
 module _ (words : List (List ℕ)) (bytes : List ℕ → List ℕ) where
   -- the replay of an accepted log has that status
   pub replay_accepted : (is : IsAccepted words bytes) → (replay_of is.world (record { events = is.comes.events; ending = AtEnd })).status ≡ status.Accepted
-  replay_accepted is = status_of (replay_of is.world (record { events = is.comes.events; ending = AtEnd })) _ (over_all is.world is.comes.events AtEnd is.state is.comes.run)
+  replay_accepted is =
+      status_of (replay_of is.world (record { events = is.comes.events; ending = AtEnd })) _ (over_all is.world is.comes.events AtEnd is.state is.comes.run)
 
   -- where nothing is asked after it
   pub of_replay : (is : IsAccepted words bytes) → query_of (command_of words) ≡ None
@@ -225,7 +259,8 @@ module _ (words : List (List ℕ)) (bytes : List ℕ → List ℕ) where
 
   -- where an audit asks
   pub of_asked : (is : IsAccepted words bytes) (q : Query) → query_of (command_of words) ≡ Some q
-      → report words bytes ≡ after (start_lines is.world) (after (replay_of is.world (record { events = is.comes.events; ending = AtEnd })).lines (log_verdict words bytes is q))
+      → report words bytes ≡ after (start_lines is.world)
+      (after (replay_of is.world (record { events = is.comes.events; ending = AtEnd })).lines (log_verdict words bytes is q))
   of_asked is q asked =
       let reading : Reading = record { events = is.comes.events; ending = AtEnd } in
       let more : Bool = text_says_more (bytes is.comes.begins.names.world) in
@@ -239,26 +274,32 @@ module _ (words : List (List ℕ)) (bytes : List ℕ → List ℕ) where
   of_stopped stop is =
       let reading : Reading = record { events = is.comes.events; ending = Stops stop } in
       let more : Bool = text_says_more (bytes is.comes.begins.names.world) in
-      let replay : replay_of is.world reading ≡ after (passed_lines is.world is.world.start is.comes.events) (stopped stop) = over_all is.world is.comes.events (Stops stop) is.state is.comes.run in
+      let replay : replay_of is.world reading ≡ after (passed_lines is.world is.world.start is.comes.events) (stopped stop)
+      = over_all is.world is.comes.events (Stops stop) is.state is.comes.run in
       of_begins words bytes is.world reading is.comes.begins
       ∙ ap (λ (r : Report). after (start_lines is.world) r)
-      (of_stop (query_of (command_of words)) more is.world reading (stopped stop).status (status_of (replay_of is.world reading) _ replay) (stop_is_other stop) ∙ replay)
+      (of_stop (query_of (command_of words)) more is.world reading (stopped stop).status (status_of (replay_of is.world reading) _ replay)
+      (stop_is_other stop) ∙ replay)
 
   -- where an event is no step
   pub of_impossible : (is : IsImpossible words bytes)
       → report words bytes
-      ≡ after (start_lines is.world) (after (passed_lines is.world is.world.start is.before) (impossible is.event.line (outcome is.world is.state is.event.event)))
+      ≡ after (start_lines is.world)
+      (after (passed_lines is.world is.world.start is.before) (impossible is.event.line (outcome is.world is.state is.event.event)))
   of_impossible is =
       let reading : Reading = record { events = is.before ++ is.event ∷ is.later; ending = is.ending } in
       let more : Bool = text_says_more (bytes is.begins.names.world) in
-      let halts : Halts is.world is.world.start reading.events = record { before = is.before; event = is.event; later = is.later; state = is.state; cut = refl; run = is.run; no_step = is.no_step } in
-      let replay : replay_of is.world reading ≡ after (passed_lines is.world is.world.start is.before) (impossible is.event.line (outcome is.world is.state is.event.event))
+      let halts : Halts is.world is.world.start reading.events
+      = record { before = is.before; event = is.event; later = is.later; state = is.state; cut = refl; run = is.run; no_step = is.no_step } in
+      let replay : replay_of is.world reading ≡ after (passed_lines is.world is.world.start is.before)
+      (impossible is.event.line (outcome is.world is.state is.event.event))
       = over_halt is.world reading.events is.ending halts in
       of_begins words bytes is.world reading is.begins
       ∙ ap (λ (r : Report). after (start_lines is.world) r)
       (of_stop (query_of (command_of words)) more is.world reading status.Impossible (status_of (replay_of is.world reading) _ replay) (λ e. cc) ∙ replay)
 
-  by_verdict : (is : IsAccepted words bytes) (q : Query) (st : Status) → query_of (command_of words) ≡ Some q → VerdictCause words bytes is q st → (report words bytes).status ≡ st
+  by_verdict : (is : IsAccepted words bytes) (q : Query) (st : Status) → query_of (command_of words) ≡ Some q
+      → VerdictCause words bytes is q st → (report words bytes).status ≡ st
   by_verdict is q st asked h = status_of (report words bytes) _ (of_asked is q asked) ∙ verdict_by words bytes is q st h
 
   by_stop : (stop : Stop) → IsStopped words bytes stop → (report words bytes).status ≡ (stopped stop).status
@@ -298,4 +339,5 @@ module _ (words : List (List ℕ)) (bytes : List ℕ → List ℕ) where
 -- A status comes exactly by its cause, whatever the words and the files.
 pub each_by_its_cause : EachByItsCause
 unfolding EachByItsCause
-each_by_its_cause words bytes st = (λ is. subst (λ (x : Status). Cause words bytes x) is (has_its_cause words bytes), λ cause. by_its_cause words bytes st cause)
+each_by_its_cause words bytes st =
+    (λ is. subst (λ (x : Status). Cause words bytes x) is (has_its_cause words bytes), λ cause. by_its_cause words bytes st cause)

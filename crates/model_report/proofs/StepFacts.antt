@@ -5,7 +5,8 @@ use Rattle.std.proofs.Common.{◌≡◌, ◌≢◌, ℕ, ◌⊎◌, inl, inr, Bo
 use Rattle.cm_base.specs.declared.errno.Errno.TheVariants.{EAGAIN}
 use Rattle.cm_base.specs.declared.res.Res.{Res}
 use Rattle.cm_base.specs.declared.res.Res.TheVariants.{Done, Id, Child, Err}
-use Rattle.model_cred.specs.Call.{Call, Event, SetUid, SetReUid, SetResUid, SetFsUid, SetGid, SetReGid, SetResGid, SetFsGid, SetGroups, CapSet, BsetDrop, AmbRaise, AmbLower, AmbClear, SecureBits, KeepCaps, NoNewPrivs, Fork, Exit}
+use Rattle.model_cred.specs.Call.{Call, Event, SetUid, SetReUid, SetResUid, SetFsUid, SetGid, SetReGid, SetResGid, SetFsGid, SetGroups, CapSet}
+use Rattle.model_cred.specs.Call.{BsetDrop, AmbRaise, AmbLower, AmbClear, SecureBits, KeepCaps, NoNewPrivs, Fork, Exit}
 use Rattle.model_cred.specs.Credential.{Credential}
 use Rattle.model_cred.specs.Process.{Process, State, process_at, is_pid, insert_process, after_exit}
 use Rattle.model_cred.specs.World.{World}
@@ -30,7 +31,8 @@ with_child s p pid = record s { processes = insert_process (fork_child p pid) s.
 -- What a call with a result leaves of a state: it stays, or the process has another credential, or the child that the result
 -- tells comes, or the process goes.
 Changes : State → Process → Res → State → Type 0
-Changes s p res s' = (s' ≡ s) ⊎ ((c : Credential) × (s' ≡ with_cred s p c)) ⊎ ((pid : ℕ) × (res ≡ Child pid) × (s' ≡ with_child s p pid)) ⊎ (s' ≡ state_without s p)
+Changes s p res s' =
+    (s' ≡ s) ⊎ ((c : Credential) × (s' ≡ with_cred s p c)) ⊎ ((pid : ℕ) × (res ≡ Child pid) × (s' ≡ with_child s p pid)) ⊎ (s' ≡ state_without s p)
 
 -- The rules leave this by a call of the process, whatever pid a child has, and the call names no space that doesn't stand.
 record IsRuled (w : World) (s : State) (p : Process) (call : Call) : Type 0 where
@@ -40,7 +42,8 @@ record IsRuled (w : World) (s : State) (p : Process) (call : Call) : Type 0 wher
 fork_leaves : (w : World) (s : State) (p : Process) (pid : ℕ) → Changes s p (ruling w s p Fork pid).res (ruling w s p Fork pid).state
 unfolding Changes
 fork_leaves w s p pid =
-    elim (is_pid pid) as (λ (b : Bool). let r : Ruling = cond b (record { res = Child pid; state = with_child s p pid }) (record { res = Err EAGAIN; state = s }) in Changes s p r.res r.state) [
+    elim (is_pid pid) as (λ (b : Bool). let r : Ruling =
+    cond b (record { res = Child pid; state = with_child s p pid }) (record { res = Err EAGAIN; state = s }) in Changes s p r.res r.state) [
       | true ↦ inr (inr (inl (pid, refl, refl)))
       | false ↦ inl refl
     ]
@@ -91,27 +94,34 @@ changes_told s p told given s' same (inr (inr (inr goes))) = inr (inr (inr goes)
 goes_to : (s s' : State) → Goes s ≡ Goes s' → s ≡ s'
 goes_to s s' is = cc
 
-changes_by : (s : State) (p : Process) (told own : Res) (given : Ruling) (s' : State) (living outside same : Bool) → same_res told given.res ≡ same → Changes s p given.res given.state
+changes_by : (s : State) (p : Process) (told own : Res) (given : Ruling) (s' : State) (living outside same : Bool)
+    → same_res told given.res ≡ same → Changes s p given.res given.state
     → cond living PidInUse (cond outside (Goes s) (cond same (Goes given.state) (Wrong own))) ≡ Goes s' → Changes s p told s'
 unfolding Changes
 changes_by s p told own given s' true outside same is leaves goes = absurd (cc)
 changes_by s p told own given s' false true same is leaves goes = inl (sym (goes_to s s' goes))
-changes_by s p told own given s' false false true is leaves goes = changes_told s p told given.res s' is (subst (λ (x : State). Changes s p given.res x) (goes_to given.state s' goes) leaves)
+changes_by s p told own given s' false false true is leaves goes =
+    changes_told s p told given.res s' is (subst (λ (x : State). Changes s p given.res x) (goes_to given.state s' goes) leaves)
 changes_by s p told own given s' false false false is leaves goes = absurd (cc)
 
 -- the caller is found, and its step changes the state so
 Made : State → Event → State → Type 0
 Made s e s' = (p : Process) × (process_at s.processes e.pid ≡ Some p) × Changes s p e.res s'
 
-made_by : (w : World) (s : State) (e : Event) (s' : State) (found : Option Process) → IsBuilt e.call → process_at s.processes e.pid ≡ found → outcome_for w s found e ≡ Goes s' → Made s e s'
+made_by : (w : World) (s : State) (e : Event) (s' : State) (found : Option Process) → IsBuilt e.call
+    → process_at s.processes e.pid ≡ found → outcome_for w s found e ≡ Goes s' → Made s e s'
 unfolding Made
 made_by w s e s' None built is goes = absurd (cc)
 made_by w s e s' (Some p) built is goes =
     let ruled : IsRuled w s p e.call = built_is_ruled w s p e.call built in
     let given : Ruling = ruling w s p e.call (told_child e.res) in
     let living : Bool = is_living_child s.processes e.res in
-    let after : Bool → Outcome = λ outside. cond outside NoSpace (cond living PidInUse (told_call w s p e.call e.res)) in
-    (p, is, changes_by s p e.res (own w s p e.call).res given s' living (comes_from_outside e.call e.res) (same_res e.res given.res) refl (ruled.leaves (told_child e.res)) (sym (ap after ruled.place) ∙ goes))
+    let after : Bool → Outcome = λ outside. cond outside NoSpace (cond living PidInUse (told_call w s p e.call e.res)) in (
+      p,
+      is,
+      changes_by s p e.res (own w s p e.call).res given s' living (comes_from_outside e.call e.res) (same_res e.res given.res) refl
+          (ruled.leaves (told_child e.res)) (sym (ap after ruled.place) ∙ goes),
+    )
 
 made : (w : World) (s : State) (e : Event) (s' : State) → IsBuilt e.call → Step w s e s' → Made s e s'
 made w s e s' built goes = made_by w s e s' (process_at s.processes e.pid) built refl goes
@@ -126,23 +136,32 @@ pub record WasThere (s : State) (p : Process) : Type 0 where
 there_as_it_was : (s : State) (p : Process) → process_at s.processes p.pid ≡ Some p → WasThere s p
 there_as_it_was s p found = record { process = p; found = found; like = record { pid = refl; space = refl; cred = refl } }
 
-left_by_exit : (s : State) (gone p : Process) (found : Option Process) → process_at s.processes p.pid ≡ found → option_map (after_exit gone) found ≡ Some p → WasThere s p
+left_by_exit : (s : State) (gone p : Process) (found : Option Process) → process_at s.processes p.pid ≡ found
+    → option_map (after_exit gone) found ≡ Some p → WasThere s p
 left_by_exit s gone p None is left = absurd (cc)
-left_by_exit s gone p (Some q) is left = let same : after_exit gone q ≡ p = cc in record { process = q; found = is; like = subst (λ (x : Process). IsLike q x) same (like_after_exit gone q) }
+left_by_exit s gone p (Some q) is left =
+    let same : after_exit gone q ≡ p = cc in record { process = q; found = is; like = subst (λ (x : Process). IsLike q x) same (like_after_exit gone q) }
 
-was_found : (s : State) (caller : Process) (res : Res) (s' : State) → Changes s caller res s' → (p : Process) → process_at s'.processes p.pid ≡ Some p → p.pid ≢ caller.pid → ((pid : ℕ) → res ≡ Child pid → p.pid ≢ pid)
+was_found : (s : State) (caller : Process) (res : Res) (s' : State) → Changes s caller res s' → (p : Process)
+    → process_at s'.processes p.pid ≡ Some p → p.pid ≢ caller.pid → ((pid : ℕ) → res ≡ Child pid → p.pid ≢ pid)
     → WasThere s p
 unfolding Changes
 was_found s caller res s' (inl same) p found other untold = there_as_it_was s p (ap (λ (x : State). process_at x.processes p.pid) (sym same) ∙ found)
 was_found s caller res s' (inr (inl (c, put))) p found other untold =
-    there_as_it_was s p (sym (at_put_other (record caller { cred = c }) s.processes p.pid other) ∙ ap (λ (x : State). process_at x.processes p.pid) (sym put) ∙ found)
+    there_as_it_was s p (sym (at_put_other (record caller {
+      cred =
+          c;
+    }) s.processes p.pid other) ∙ ap (λ (x : State). process_at x.processes p.pid) (sym put) ∙ found)
 was_found s caller res s' (inr (inr (inl (pid, told, comes)))) p found other untold =
-    there_as_it_was s p (sym (at_insert_other (fork_child caller pid) s.processes p.pid (untold pid told)) ∙ ap (λ (x : State). process_at x.processes p.pid) (sym comes) ∙ found)
+    there_as_it_was s p (sym (at_insert_other (fork_child caller pid) s.processes p.pid (untold pid told)) ∙ ap
+    (λ (x : State). process_at x.processes p.pid) (sym comes) ∙ found)
 was_found s caller res s' (inr (inr (inr goes))) p found other untold =
-    left_by_exit s caller p (process_at s.processes p.pid) refl (sym (at_without_other caller s.processes p.pid other) ∙ ap (λ (x : State). process_at x.processes p.pid) (sym goes) ∙ found)
+    left_by_exit s caller p (process_at s.processes p.pid) refl
+    (sym (at_without_other caller s.processes p.pid other) ∙ ap (λ (x : State). process_at x.processes p.pid) (sym goes) ∙ found)
 
 -- each process after it but the caller and the child that it tells was there before
-pub others_were_there : (w : World) (s : State) (e : Event) (s' : State) → IsBuilt e.call → Step w s e s' → (p : Process) → process_at s'.processes p.pid ≡ Some p → p.pid ≢ e.pid
+pub others_were_there : (w : World) (s : State) (e : Event) (s' : State) → IsBuilt e.call → Step w s e s' → (p : Process)
+    → process_at s'.processes p.pid ≡ Some p → p.pid ≢ e.pid
     → ((pid : ℕ) → e.res ≡ Child pid → p.pid ≢ pid) → WasThere s p
 unfolding Made
 others_were_there w s e s' built goes p found other untold =

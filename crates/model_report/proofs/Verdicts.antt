@@ -1,5 +1,6 @@
 -- The answer to an audit: each of its statuses comes by its cause, in the state that an accepted log leads to.
-use Rattle.std.proofs.Common.{◌≡◌, ℕ, ◌<◌, ◌⊎◌, inl, inr, ◌==◌, ◌||◌, ◌&&◌, not, Bool, true, false, cond, nat_lt, length, List, [], ◌∷◌, Option, Some, None, refl, sym, ◌∙◌, ap, subst, arith, eq-eqb}
+use Rattle.std.proofs.Common.{◌≡◌, ℕ, ◌<◌, ◌⊎◌, inl, inr, ◌==◌, ◌||◌, ◌&&◌, not, Bool, true, false, cond, nat_lt, length, List, [], ◌∷◌, Option}
+use Rattle.std.proofs.Common.{Some, None, refl, sym, ◌∙◌, ap, subst, arith, eq-eqb}
 use Rattle.std.specs.Prelude.{codes, option_map, option_and_then, position}
 use Rattle.cm_base.specs.declared.status.Status.{Status}
 use Rattle.cm_base.specs.declared.status.Status.TheVariants as status
@@ -22,7 +23,8 @@ use Rattle.model_text.specs.WorldText.{Reads, world_text, text_says_more}
 
 -- Where a world's text says no more of a process than its pid and its user ids, and each event is a call of setresuid,
 -- the sets of each process follow its user ids in the state that a run leads to.
-pub reached_follows : (bytes : List ℕ) (w : World) (es : List Event) (s : State) → world_text bytes ≡ Reads w → text_says_more bytes ≡ false → are_setresuids es ≡ true → Run w w.start es s
+pub reached_follows : (bytes : List ℕ) (w : World) (es : List Event) (s : State) → world_text bytes ≡ Reads w
+    → text_says_more bytes ≡ false → are_setresuids es ≡ true → Run w w.start es s
     → StateFollows s
 reached_follows bytes w es s reads plain calls run = setresuids_follow w es w.start s calls (start_follows bytes w reads plain) run
 
@@ -57,12 +59,14 @@ is_known words bytes is none =
     record { world = both.0; events = both.1 }
 
 known_is : (words : List (List ℕ)) (bytes : List ℕ → List ℕ) (is : IsAccepted words bytes) → IsKnown words bytes is → has_more words bytes is ≡ false
-known_is words bytes is known = by_no_more (text_says_more (bytes is.comes.begins.names.world)) (are_setresuids (events_of is.comes.events)) known.world known.events
+known_is words bytes is known =
+    by_no_more (text_says_more (bytes is.comes.begins.names.world)) (are_setresuids (events_of is.comes.events)) known.world known.events
 
 -- after a log of which it knows all, the sets of each process follow its user ids
 pub accepted_follows : (words : List (List ℕ)) (bytes : List ℕ → List ℕ) (is : IsAccepted words bytes) → IsKnown words bytes is → StateFollows is.state
 accepted_follows words bytes is known =
-    reached_follows (bytes is.comes.begins.names.world) is.world (events_of is.comes.events) is.state is.comes.begins.names.reads known.world known.events is.comes.run
+    reached_follows (bytes is.comes.begins.names.world) is.world
+    (events_of is.comes.events) is.state is.comes.begins.names.reads known.world known.events is.comes.run
 
 -- ---- the ids of rights
 id_is_id : (n : Option ℕ) (k : ℕ) → option_map Uid (option_and_then as_id n) ≡ Some (Uid k) → k < 4294967295
@@ -124,22 +128,26 @@ RunIs : World → State → Process → ℕ → Option (List Event) → Type 0
 RunIs w s p k None = (run : List Event) → ¬ BringsBack w s p.pid k run
 RunIs w s p k (Some run) = BringsBack w s p.pid k run
 
-run_is_by : (w : World) (s : State) (p : Process) (k : ℕ) (found : Option (List Event)) → alone p.pid p.forebear p.cred ≡ s → IsRunBack w p.pid p.forebear p.cred k found → RunIs w s p k found
+run_is_by : (w : World) (s : State) (p : Process) (k : ℕ) (found : Option (List Event)) → alone p.pid p.forebear p.cred ≡ s
+    → IsRunBack w p.pid p.forebear p.cred k found → RunIs w s p k found
 unfolding RunIs
 run_is_by w s p k None same never = λ run back. never (run, subst (λ (x : State). BringsBack w x p.pid k run) (sym same) back)
 run_is_by w s p k (Some run) same back = subst (λ (x : State). BringsBack w x p.pid k run) same back
 
-run_is : (w : World) (s : State) (q : Query) (p : Process) (k : ℕ) → StateFollows s → Asks q s p (Uid k) → length s.processes ≡ 1 → RunIs w s p k (run_back p.cred p.pid k)
+run_is : (w : World) (s : State) (q : Query) (p : Process) (k : ℕ) → StateFollows s → Asks q s p (Uid k) → length s.processes ≡ 1
+    → RunIs w s p k (run_back p.cred p.pid k)
 run_is w s q p k follow asks one =
     let found : (n : ℕ) × (process_at s.processes n ≡ Some p) = found_pid s (pid_token q.pid) p asks.process in
     let only : (s.processes ≡ p ∷ []) × (p.pid ≡ found.0) = one_of_one s.processes found.0 p one found.1 in
     let all : AllFollow (p ∷ []) = subst (λ (ps : List Process). AllFollow ps) only.0 follow.processes in
-    run_is_by w s p k (run_back p.cred p.pid k) (alone_is s p follow.spaces only.0 all.0) (run_back_is w p.pid p.forebear p.cred k all.1 (asked_id q.right k asks.asked))
+    run_is_by w s p k (run_back p.cred p.pid k) (alone_is s p follow.spaces only.0 all.0)
+    (run_back_is w p.pid p.forebear p.cred k all.1 (asked_id q.right k asks.asked))
 
 -- ---- the answer by what is asked
 of_asks : (more : Bool) (s : State) (q : Query) (p : Process) (right : Right) → Asks q s p right → verdict more s q ≡ right_verdict more s p right
 of_asks more s q p right asks =
-    ap (λ (o : Option Process). asked_verdict more s o (right_token q.right)) asks.process ∙ ap (λ (o : Option Right). asked_verdict more s (Some p) o) asks.asked
+    ap (λ (o : Option Process). asked_verdict more s o (right_token q.right)) asks.process
+    ∙ ap (λ (o : Option Right). asked_verdict more s (Some p) o) asks.asked
 
 several : (ps : List Process) (n : ℕ) (p : Process) → process_at ps n ≡ Some p → (length ps == 1) ≡ false → 1 < length ps
 several [] n p is none = absurd (cc)
@@ -153,8 +161,10 @@ beyond_uid more s p (Uid k) other = absurd (other k refl)
 beyond_uid more s p (Gid k) other = refl
 beyond_uid more s p (Cap cap n) other = refl
 
-beyond_one : (more one : Bool) (s : State) (p : Process) (right : Right) → (length s.processes == 1) ≡ one → (not more && one) ≡ false → (right_verdict more s p right).status ≡ status.NotBuilt
-beyond_one more one s p (Uid k) is beyond = ap (λ (b : Bool). (cond b (run_verdict p.pid (run_back p.cred p.pid k)) not_built).status) (ap (λ (b : Bool). not more && b) is ∙ beyond)
+beyond_one : (more one : Bool) (s : State) (p : Process) (right : Right) → (length s.processes == 1) ≡ one
+    → (not more && one) ≡ false → (right_verdict more s p right).status ≡ status.NotBuilt
+beyond_one more one s p (Uid k) is beyond =
+    ap (λ (b : Bool). (cond b (run_verdict p.pid (run_back p.cred p.pid k)) not_built).status) (ap (λ (b : Bool). not more && b) is ∙ beyond)
 beyond_one more one s p (Gid k) is beyond = refl
 beyond_one more one s p (Cap cap n) is beyond = refl
 
@@ -176,7 +186,8 @@ module _ (words : List (List ℕ)) (bytes : List ℕ → List ℕ) (is : IsAccep
   abbrev pub log_verdict : Report
   log_verdict = verdict (has_more words bytes is) is.state q
 
-  run_cause : (p : Process) (k : ℕ) → AsksAlone words bytes is q p k → (found : Option (List Event)) → RunIs is.world is.state p k found → VerdictCause words bytes is q (run_verdict p.pid found).status
+  run_cause : (p : Process) (k : ℕ) → AsksAlone words bytes is q p k → (found : Option (List Event))
+      → RunIs is.world is.state p k found → VerdictCause words bytes is q (run_verdict p.pid found).status
   unfolding RunIs
   run_cause p k asks None never = (p, k, asks, never)
   run_cause p k asks (Some run) back = (p, k, asks, (run, back))
@@ -186,20 +197,24 @@ module _ (words : List (List ℕ)) (bytes : List ℕ → List ℕ) (is : IsAccep
 
   uid_cause : (p : Process) (k : ℕ) → Asks q is.state p (Uid k) → (more one : Bool) → has_more words bytes is ≡ more → (length is.state.processes == 1) ≡ one
       → VerdictCause words bytes is q (cond (not more && one) (run_verdict p.pid (run_back p.cred p.pid k)) not_built).status
-  uid_cause p k asks true one is_more is_one = (p, Uid k, asks, inr (inr (some_more (text_says_more (bytes is.comes.begins.names.world)) (are_setresuids (events_of is.comes.events)) is_more)))
+  uid_cause p k asks true one is_more is_one =
+      (p, Uid k, asks, inr (inr (some_more (text_says_more (bytes is.comes.begins.names.world)) (are_setresuids (events_of is.comes.events)) is_more)))
   uid_cause p k asks false true is_more is_one =
-      let only : AsksAlone words bytes is q p k = record { asks = asks; alone = same_number (length is.state.processes) 1 is_one; known = is_known words bytes is is_more } in
+      let only : AsksAlone words bytes is q p k
+      = record { asks = asks; alone = same_number (length is.state.processes) 1 is_one; known = is_known words bytes is is_more } in
       run_cause p k only (run_back p.cred p.pid k) (run_of_alone p k only)
   uid_cause p k asks false false is_more is_one =
       let found : (n : ℕ) × (process_at is.state.processes n ≡ Some p) = found_pid is.state (pid_token q.pid) p asks.process in
       (p, Uid k, asks, inr (inl (several is.state.processes found.0 p found.1 is_one)))
 
-  right_cause : (p : Process) (right : Right) → Asks q is.state p right → VerdictCause words bytes is q (right_verdict (has_more words bytes is) is.state p right).status
+  right_cause : (p : Process) (right : Right) → Asks q is.state p right
+      → VerdictCause words bytes is q (right_verdict (has_more words bytes is) is.state p right).status
   right_cause p (Uid k) asks = uid_cause p k asks (has_more words bytes is) (length is.state.processes == 1) refl refl
   right_cause p (Gid k) asks = (p, Gid k, asks, inl (λ j same. cc))
   right_cause p (Cap cap n) asks = (p, Cap cap n, asks, inl (λ j same. cc))
 
-  asked_cause : (p : Option Process) (right : Option Right) → asked_process is.state q.pid ≡ p → right_token q.right ≡ right → VerdictCause words bytes is q (asked_verdict (has_more words bytes is) is.state p right).status
+  asked_cause : (p : Option Process) (right : Option Right) → asked_process is.state q.pid ≡ p → right_token q.right ≡ right
+      → VerdictCause words bytes is q (asked_verdict (has_more words bytes is) is.state p right).status
   asked_cause None right a b = inl a
   asked_cause (Some p) None a b = inr (p, a, b)
   asked_cause (Some p) (Some right) a b = right_cause p right (record { process = a; asked = b })
@@ -213,15 +228,18 @@ module _ (words : List (List ℕ)) (bytes : List ℕ → List ℕ) (is : IsAccep
   pub of_alone : (p : Process) (k : ℕ) → AsksAlone words bytes is q p k → log_verdict ≡ run_verdict p.pid (run_back p.cred p.pid k)
   of_alone p k asks =
       of_asks (has_more words bytes is) is.state q p (Uid k) asks.asks
-      ∙ ap (λ (more : Bool). cond (not more && length is.state.processes == 1) (run_verdict p.pid (run_back p.cred p.pid k)) not_built) (known_is words bytes is asks.known)
+      ∙ ap (λ (more : Bool). cond (not more && length is.state.processes == 1) (run_verdict p.pid (run_back p.cred p.pid k)) not_built)
+      (known_is words bytes is asks.known)
       ∙ ap (λ (one : Bool). cond one (run_verdict p.pid (run_back p.cred p.pid k)) not_built) (eq-eqb (length is.state.processes) 1 asks.alone)
 
-  yes_status : (p : Process) (k : ℕ) (found : Option (List Event)) → RunIs is.world is.state p k found → ((run : List Event) → ¬ BringsBack is.world is.state p.pid k run) → (run_verdict p.pid found).status ≡ status.Accepted
+  yes_status : (p : Process) (k : ℕ) (found : Option (List Event)) → RunIs is.world is.state p k found
+      → ((run : List Event) → ¬ BringsBack is.world is.state p.pid k run) → (run_verdict p.pid found).status ≡ status.Accepted
   unfolding RunIs
   yes_status p k None found never = refl
   yes_status p k (Some run) back never = absurd (never run back)
 
-  no_status : (p : Process) (k : ℕ) (found : Option (List Event)) → RunIs is.world is.state p k found → CanComeBack is.world is.state p.pid k → (run_verdict p.pid found).status ≡ status.No
+  no_status : (p : Process) (k : ℕ) (found : Option (List Event)) → RunIs is.world is.state p k found
+      → CanComeBack is.world is.state p.pid k → (run_verdict p.pid found).status ≡ status.No
   unfolding RunIs
   no_status p k None never (run, back) = absurd (never run back)
   no_status p k (Some run) found back = refl
@@ -229,21 +247,29 @@ module _ (words : List (List ℕ)) (bytes : List ℕ → List ℕ) (is : IsAccep
   beyond_known : (p : Process) (right : Right) → HasMore words bytes is → (right_verdict (has_more words bytes is) is.state p right).status ≡ status.NotBuilt
   beyond_known p right more =
       beyond_one (has_more words bytes is) (length is.state.processes == 1) is.state p right refl
-      (ap (λ (b : Bool). not b && length is.state.processes == 1) (by_more (text_says_more (bytes is.comes.begins.names.world)) (are_setresuids (events_of is.comes.events)) more))
+      (ap (λ (b : Bool). not b && length is.state.processes == 1)
+      (by_more (text_says_more (bytes is.comes.begins.names.world)) (are_setresuids (events_of is.comes.events)) more))
 
-  beyond_several : (p : Process) (right : Right) → 1 < length is.state.processes → (right_verdict (has_more words bytes is) is.state p right).status ≡ status.NotBuilt
-  beyond_several p right more = beyond_one (has_more words bytes is) false is.state p right (not_one (length is.state.processes) more) (never (has_more words bytes is))
+  beyond_several : (p : Process) (right : Right) → 1 < length is.state.processes
+      → (right_verdict (has_more words bytes is) is.state p right).status ≡ status.NotBuilt
+  beyond_several p right more =
+      beyond_one (has_more words bytes is) false is.state p right (not_one (length is.state.processes) more) (never (has_more words bytes is))
 
   pub verdict_by : (st : Status) → VerdictCause words bytes is q st → log_verdict.status ≡ st
-  verdict_by status.Accepted (p, k, asks, never) = ap (λ (r : Report). r.status) (of_alone p k asks) ∙ yes_status p k (run_back p.cred p.pid k) (run_of_alone p k asks) never
-  verdict_by status.No (p, k, asks, back) = ap (λ (r : Report). r.status) (of_alone p k asks) ∙ no_status p k (run_back p.cred p.pid k) (run_of_alone p k asks) back
+  verdict_by status.Accepted (p, k, asks, never) =
+      ap (λ (r : Report). r.status) (of_alone p k asks) ∙ yes_status p k (run_back p.cred p.pid k) (run_of_alone p k asks) never
+  verdict_by status.No (p, k, asks, back) =
+      ap (λ (r : Report). r.status) (of_alone p k asks) ∙ no_status p k (run_back p.cred p.pid k) (run_of_alone p k asks) back
   verdict_by status.BadQuery (inl none) = ap (λ (o : Option Process). (asked_verdict (has_more words bytes is) is.state o (right_token q.right)).status) none
   verdict_by status.BadQuery (inr (p, found, none)) =
       ap (λ (o : Option Process). (asked_verdict (has_more words bytes is) is.state o (right_token q.right)).status) found
       ∙ ap (λ (o : Option Right). (asked_verdict (has_more words bytes is) is.state (Some p) o).status) none
-  verdict_by status.NotBuilt (p, right, asks, inl other) = ap (λ (r : Report). r.status) (of_asks (has_more words bytes is) is.state q p right asks) ∙ beyond_uid (has_more words bytes is) is.state p right other
-  verdict_by status.NotBuilt (p, right, asks, inr (inl more)) = ap (λ (r : Report). r.status) (of_asks (has_more words bytes is) is.state q p right asks) ∙ beyond_several p right more
-  verdict_by status.NotBuilt (p, right, asks, inr (inr more)) = ap (λ (r : Report). r.status) (of_asks (has_more words bytes is) is.state q p right asks) ∙ beyond_known p right more
+  verdict_by status.NotBuilt (p, right, asks, inl other) =
+      ap (λ (r : Report). r.status) (of_asks (has_more words bytes is) is.state q p right asks) ∙ beyond_uid (has_more words bytes is) is.state p right other
+  verdict_by status.NotBuilt (p, right, asks, inr (inl more)) =
+      ap (λ (r : Report). r.status) (of_asks (has_more words bytes is) is.state q p right asks) ∙ beyond_several p right more
+  verdict_by status.NotBuilt (p, right, asks, inr (inr more)) =
+      ap (λ (r : Report). r.status) (of_asks (has_more words bytes is) is.state q p right asks) ∙ beyond_known p right more
   verdict_by _ h = absurd h
 
   -- an answer no shows a run, which leads the process there

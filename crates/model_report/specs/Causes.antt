@@ -112,7 +112,8 @@ IsBeyond words bytes is q =
     × (((k : ℕ) → ¬ (right ≡ Uid k)) ⊎ (1 < length is.state.processes) ⊎ HasMore words bytes is)
 
 -- The words ask a query, and after the accepted log this holds of it.
-abbrev pub AfterLog : (words : List (List ℕ)) (bytes : List ℕ → List ℕ) → ((words : List (List ℕ)) (bytes : List ℕ → List ℕ) → IsAccepted words bytes → Query → Type 0) → Type 0
+abbrev pub AfterLog : (words : List (List ℕ)) (bytes : List ℕ → List ℕ)
+    → ((words : List (List ℕ)) (bytes : List ℕ → List ℕ) → IsAccepted words bytes → Query → Type 0) → Type 0
 AfterLog words bytes Answer = (is : IsAccepted words bytes) × (q : Query) × (query_of (command_of words) ≡ Some q) × Answer words bytes is q
 
 -- ---- the causes

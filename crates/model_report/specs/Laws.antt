@@ -32,17 +32,23 @@ last_credentials pid (Plain text ∷ lines) = last_credentials pid lines
 -- The last credential line of each live process in the state shows it as it is there but for its forebear, which the line
 -- doesn't tell and which an exit may change.
 abbrev pub Shows : List ReportLine → State → Type 0
-Shows lines s = (p : Process) → process_at s.processes p.pid ≡ Some p → IsSomeAnd (last_credentials p.pid lines) (λ q. (q.pid ≡ p.pid) × (q.space ≡ p.space) × (q.cred ≡ p.cred))
+Shows lines s =
+    (p : Process) → process_at s.processes p.pid ≡ Some p
+    → IsSomeAnd (last_credentials p.pid lines) (λ q. (q.pid ≡ p.pid) × (q.space ≡ p.space) × (q.cred ≡ p.cred))
 
 -- Where the status is 0, the events of the log are a run from the world's state, and the report shows the state
 -- that the run reaches.
 unfoldable pub AcceptedIsRun : Type 0
-AcceptedIsRun = (words : List (List ℕ)) (bytes : List ℕ → List ℕ) → (report words bytes).status ≡ status.Accepted → (is : IsAccepted words bytes) × Shows (report words bytes).lines is.state
+AcceptedIsRun =
+    (words : List (List ℕ)) (bytes : List ℕ → List ℕ) → (report words bytes).status ≡ status.Accepted
+    → (is : IsAccepted words bytes) × Shows (report words bytes).lines is.state
 
 -- Where it is impossible, the events before one are a run, no state follows by that event, and the report shows the state
 -- that the run reaches.
 unfoldable pub ImpossibleIsNoStep : Type 0
-ImpossibleIsNoStep = (words : List (List ℕ)) (bytes : List ℕ → List ℕ) → (report words bytes).status ≡ status.Impossible → (is : IsImpossible words bytes) × Shows (report words bytes).lines is.state
+ImpossibleIsNoStep =
+    (words : List (List ℕ)) (bytes : List ℕ → List ℕ) → (report words bytes).status ≡ status.Impossible
+    → (is : IsImpossible words bytes) × Shows (report words bytes).lines is.state
 
 -- ---- the lines of a report, one by one
 -- the events that lines tell, each with its number
@@ -113,7 +119,8 @@ SameReadingSameReport = (query : Option Query) (more : Bool) (w : World) (one ot
 -- Where an audit's status is 0, it writes yes: one process lives after the log, and no list of later setresuid calls of
 -- it, of any length, ends where it holds the user id that is asked for.
 unfoldable pub YesIsNever : Type 0
-YesIsNever = (words : List (List ℕ)) (bytes : List ℕ → List ℕ) (q : Query) → query_of (command_of words) ≡ Some q → (report words bytes).status ≡ status.Accepted
+YesIsNever =
+    (words : List (List ℕ)) (bytes : List ℕ → List ℕ) (q : Query) → query_of (command_of words) ≡ Some q → (report words bytes).status ≡ status.Accepted
     → (is : IsAccepted words bytes) × IsYes words bytes is q
 
 -- An answer no shows a list of later setresuid calls that does: its last lines are the run, which leads the one process

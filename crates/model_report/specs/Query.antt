@@ -1,5 +1,6 @@
 -- What an audit asks for: the text of a pid, and the text of a right (choice).
-use Rattle.std.specs.Prelude.{ℕ, ◌+◌, ◌==◌, nat_lt, codes, bytes_eq, length, take, drop, position, List, Option, Some, None, if◌then◌else◌, option_and_then, option_map}
+use Rattle.std.specs.Prelude.{ℕ, ◌+◌, ◌==◌, nat_lt, codes, bytes_eq, length, take, drop, position, List, Option, Some, None, if◌then◌else◌}
+use Rattle.std.specs.Prelude.{option_and_then, option_map}
 use Rattle.cm_base.specs.Limits.{id_count}
 use Rattle.cm_base.specs.Names.{cap_of}
 use Rattle.model_cred.specs.Process.{Process, State, process_at}

@@ -33,9 +33,12 @@ pub error_that_fork_has_not : IsEvent (codes "100 fork = EPERM") Fork (Err EPERM
 error_that_fork_has_not = refl
 
 pub faults_of_fork : AreFaulty
-    (codes "100 fork" ∷ codes "100 fork =" ∷ codes "100 fork 101" ∷ codes "100 fork = 0" ∷ codes "100 fork = 00" ∷ codes "100 fork = 4194305" ∷ codes "100 fork = 4294967295" ∷ codes "100 fork = 4294967296" ∷ codes "100 fork = -1"
-    ∷ codes "100 fork = +101" ∷ codes "100 fork = 101x" ∷ codes "100 fork = 0x65" ∷ codes "100 fork = 101 102" ∷ codes "100 fork = = 101" ∷ codes "100 fork == 101" ∷ codes "100 fork=101" ∷ codes "100 fork x = 101"
-    ∷ codes "100 fork 101 = 0" ∷ codes "100 fork 0 = 101" ∷ codes "100 fork = EFOO" ∷ codes "100 fork = eagain" ∷ codes "100 fork = EAGAIN 101" ∷ codes "100 vfork = 101" ∷ codes "100 clone = 101" ∷ codes "0 fork = 101"
+    (codes "100 fork" ∷ codes "100 fork =" ∷ codes "100 fork 101" ∷ codes "100 fork = 0" ∷ codes "100 fork = 00"
+    ∷ codes "100 fork = 4194305" ∷ codes "100 fork = 4294967295" ∷ codes "100 fork = 4294967296" ∷ codes "100 fork = -1"
+    ∷ codes "100 fork = +101" ∷ codes "100 fork = 101x" ∷ codes "100 fork = 0x65" ∷ codes "100 fork = 101 102"
+    ∷ codes "100 fork = = 101" ∷ codes "100 fork == 101" ∷ codes "100 fork=101" ∷ codes "100 fork x = 101"
+    ∷ codes "100 fork 101 = 0" ∷ codes "100 fork 0 = 101" ∷ codes "100 fork = EFOO" ∷ codes "100 fork = eagain"
+    ∷ codes "100 fork = EAGAIN 101" ∷ codes "100 vfork = 101" ∷ codes "100 clone = 101" ∷ codes "0 fork = 101"
     ∷ codes "4194305 fork = 101" ∷ [])
 faults_of_fork = refl
 
@@ -44,12 +47,15 @@ pub exit_is_done : IsEvent (codes "100 exit = 0") Exit Done
 exit_is_done = refl
 
 pub faults_of_exit : AreFaulty
-    (codes "100 exit" ∷ codes "100 exit =" ∷ codes "100 exit 0" ∷ codes "100 exit = 00" ∷ codes "100 exit = 1" ∷ codes "100 exit = 101" ∷ codes "100 exit = -1" ∷ codes "100 exit = EPERM" ∷ codes "100 exit = EAGAIN"
-    ∷ codes "100 exit = EINTR" ∷ codes "100 exit 0 = 0" ∷ codes "100 exit = 0 0" ∷ codes "100 exit = = 0" ∷ codes "100 exit_group = 0" ∷ codes "100 _exit = 0" ∷ [])
+    (codes "100 exit" ∷ codes "100 exit =" ∷ codes "100 exit 0" ∷ codes "100 exit = 00" ∷ codes "100 exit = 1"
+    ∷ codes "100 exit = 101" ∷ codes "100 exit = -1" ∷ codes "100 exit = EPERM" ∷ codes "100 exit = EAGAIN"
+    ∷ codes "100 exit = EINTR" ∷ codes "100 exit 0 = 0" ∷ codes "100 exit = 0 0" ∷ codes "100 exit = = 0"
+    ∷ codes "100 exit_group = 0" ∷ codes "100 _exit = 0" ∷ [])
 faults_of_exit = refl
 
 -- ---- printed events
-pub births_and_exits_are_printed : map (λ e. event_text e) (event_of Fork (Child 101) ∷ event_of Fork (Child 4194304) ∷ event_of Fork (Err ENOMEM) ∷ event_of Exit Done ∷ [])
+pub births_and_exits_are_printed : map (λ e. event_text e) (event_of Fork (Child 101) ∷ event_of Fork (Child 4194304)
+    ∷ event_of Fork (Err ENOMEM) ∷ event_of Exit Done ∷ [])
     ≡ codes "100 fork = 101" ∷ codes "100 fork = 4194304" ∷ codes "100 fork = ENOMEM" ∷ codes "100 exit = 0" ∷ []
 unfolding print_on_literals
 births_and_exits_are_printed = refl

@@ -10,9 +10,11 @@ use Rattle.model_text.specs.Reading.{Placed, Reading, from_line, lines_reading, 
 abbrev pub AreBuilt : List Placed → Type 0
 AreBuilt events = All (λ e. IsBuilt e.event.call) events
 
-built_from : (number : ℕ) (line : List ℕ) (rest : Reading) → AreBuilt rest.events → (meaning : Line) → script_line line ≡ meaning → AreBuilt (from_line number meaning rest).events
+built_from : (number : ℕ) (line : List ℕ) (rest : Reading) → AreBuilt rest.events → (meaning : Line) → script_line line ≡ meaning
+    → AreBuilt (from_line number meaning rest).events
 built_from number line rest all NoEvent is = all
-built_from number line rest all (Tells e) is = All-cons (λ e. IsBuilt e.event.call) (record { line = number; event = e }) rest.events (tells_built line e is) all
+built_from number line rest all (Tells e) is =
+    All-cons (λ e. IsBuilt e.event.call) (record { line = number; event = e }) rest.events (tells_built line e is) all
 built_from number line rest all Faulty is = All-nil (λ e. IsBuilt e.event.call)
 built_from number line rest all Unbuilt is = All-nil (λ e. IsBuilt e.event.call)
 

@@ -18,7 +18,8 @@ all_is_each_capability = refl
 pub none_is_none : set_of_text (codes "none") ≡ Some 0
 none_is_none = refl
 
-pub words_are_lower_case_and_stand_alone : AreNone (codes "All" ∷ codes "ALL" ∷ codes "None" ∷ codes " all" ∷ codes "all " ∷ codes "all,none" ∷ codes "all,CAP_KILL" ∷ codes "CAP_KILL,none" ∷ codes "al" ∷ codes "alls" ∷ [])
+pub words_are_lower_case_and_stand_alone : AreNone (codes "All" ∷ codes "ALL" ∷ codes "None" ∷ codes " all" ∷ codes "all "
+    ∷ codes "all,none" ∷ codes "all,CAP_KILL" ∷ codes "CAP_KILL,none" ∷ codes "al" ∷ codes "alls" ∷ [])
 words_are_lower_case_and_stand_alone = refl
 
 -- ---- digits
@@ -53,11 +54,13 @@ pub the_highest_bit_goes : set_of_text (codes "8000000000000001") ≡ Some 1
 the_highest_bit_goes = refl
 
 pub other_lengths_are_none : AreNone
-    (codes "000000000000400" ∷ codes "00000000000000400" ∷ codes "0" ∷ codes "400" ∷ codes "000001ffffffffff0" ∷ codes "00001ffffffffff" ∷ codes "00000000000000000000000000000400" ∷ [])
+    (codes "000000000000400" ∷ codes "00000000000000400" ∷ codes "0" ∷ codes "400" ∷ codes "000001ffffffffff0"
+    ∷ codes "00001ffffffffff" ∷ codes "00000000000000000000000000000400" ∷ [])
 other_lengths_are_none = refl
 
 pub other_bytes_are_none : AreNone
-    (codes "000000000000040g" ∷ codes "000000000000040G" ∷ codes "0x00000000000400" ∷ codes " 00000000000400 " ∷ codes "-000000000000400" ∷ codes "000000000000040/" ∷ codes "000000000000040:" ∷ codes "000000000000040@" ∷ codes "000000000000040`"
+    (codes "000000000000040g" ∷ codes "000000000000040G" ∷ codes "0x00000000000400" ∷ codes " 00000000000400 "
+    ∷ codes "-000000000000400" ∷ codes "000000000000040/" ∷ codes "000000000000040:" ∷ codes "000000000000040@" ∷ codes "000000000000040`"
     ∷ [])
 other_bytes_are_none = refl
 
@@ -83,6 +86,8 @@ pub name_of_sixteen_bytes : set_of_text (codes "CAP_DAC_OVERRIDE") ≡ Some 2
 name_of_sixteen_bytes = refl
 
 pub no_names : AreNone
-    (codes "" ∷ codes "," ∷ codes "CAP_KILL," ∷ codes ",CAP_KILL" ∷ codes "CAP_KILL,,CAP_CHOWN" ∷ codes "CAP_KILL, CAP_CHOWN" ∷ codes "CAP_KILL CAP_CHOWN" ∷ codes "CAP_KILL|CAP_CHOWN" ∷ codes "CAP_FOO" ∷ codes "CAP_KILL,CAP_FOO"
-    ∷ codes "cap_kill" ∷ codes "Cap_Kill" ∷ codes "KILL" ∷ codes "CAP_" ∷ codes "CAP_KILLS" ∷ codes "CAP_41" ∷ codes "5" ∷ codes "CAP_KILL,0000000000000400" ∷ [])
+    (codes "" ∷ codes "," ∷ codes "CAP_KILL," ∷ codes ",CAP_KILL" ∷ codes "CAP_KILL,,CAP_CHOWN" ∷ codes "CAP_KILL, CAP_CHOWN"
+    ∷ codes "CAP_KILL CAP_CHOWN" ∷ codes "CAP_KILL|CAP_CHOWN" ∷ codes "CAP_FOO" ∷ codes "CAP_KILL,CAP_FOO"
+    ∷ codes "cap_kill" ∷ codes "Cap_Kill" ∷ codes "KILL" ∷ codes "CAP_" ∷ codes "CAP_KILLS" ∷ codes "CAP_41" ∷ codes "5"
+    ∷ codes "CAP_KILL,0000000000000400" ∷ [])
 no_names = refl

@@ -27,11 +27,16 @@ pub capset_is_interrupted : IsEvent (codes "00100\tcapset  all\tall none =  EINT
 capset_is_interrupted = refl
 
 pub faults_of_capset : AreFaulty
-    (codes "100 capset" ∷ codes "100 capset = 0" ∷ codes "100 capset all = 0" ∷ codes "100 capset all all = 0" ∷ codes "100 capset all all none none = 0" ∷ codes "100 capset all all none" ∷ codes "100 capset all all none ="
-    ∷ codes "100 capset all all none 0" ∷ codes "100 capset all all none = 0 0" ∷ codes "100 capset all all none = = 0" ∷ codes "100 capset all all = none = 0" ∷ codes "100 capset = all all none = 0" ∷ codes "100 capset 0 0 0 = 0"
-    ∷ codes "100 capset -1 -1 -1 = 0" ∷ codes "100 capset - - - = 0" ∷ codes "100 capset All all none = 0" ∷ codes "100 capset all ALL none = 0" ∷ codes "100 capset all all cap_kill = 0" ∷ codes "100 capset KILL all none = 0"
-    ∷ codes "100 capset CAP_KILL, all none = 0" ∷ codes "100 capset ,CAP_KILL all none = 0" ∷ codes "100 capset all,CAP_KILL all none = 0" ∷ codes "100 capset CAP_FOO all none = 0" ∷ codes "100 capset 000001fffffffff all none = 0"
-    ∷ codes "100 capset all 000001ffffffffff0 none = 0" ∷ codes "100 capset all all 0x00000000000020 = 0" ∷ codes "100 capset all all 000000000000002g = 0" ∷ codes "100 capset all all none = 00" ∷ codes "100 capset all all none = 1"
+    (codes "100 capset" ∷ codes "100 capset = 0" ∷ codes "100 capset all = 0" ∷ codes "100 capset all all = 0"
+    ∷ codes "100 capset all all none none = 0" ∷ codes "100 capset all all none" ∷ codes "100 capset all all none ="
+    ∷ codes "100 capset all all none 0" ∷ codes "100 capset all all none = 0 0" ∷ codes "100 capset all all none = = 0"
+    ∷ codes "100 capset all all = none = 0" ∷ codes "100 capset = all all none = 0" ∷ codes "100 capset 0 0 0 = 0"
+    ∷ codes "100 capset -1 -1 -1 = 0" ∷ codes "100 capset - - - = 0" ∷ codes "100 capset All all none = 0"
+    ∷ codes "100 capset all ALL none = 0" ∷ codes "100 capset all all cap_kill = 0" ∷ codes "100 capset KILL all none = 0"
+    ∷ codes "100 capset CAP_KILL, all none = 0" ∷ codes "100 capset ,CAP_KILL all none = 0"
+    ∷ codes "100 capset all,CAP_KILL all none = 0" ∷ codes "100 capset CAP_FOO all none = 0" ∷ codes "100 capset 000001fffffffff all none = 0"
+    ∷ codes "100 capset all 000001ffffffffff0 none = 0" ∷ codes "100 capset all all 0x00000000000020 = 0"
+    ∷ codes "100 capset all all 000000000000002g = 0" ∷ codes "100 capset all all none = 00" ∷ codes "100 capset all all none = 1"
     ∷ codes "100 capset all all none = -1" ∷ codes "100 capset all all none = EFOO" ∷ codes "0 capset all all none = 0" ∷ [])
 faults_of_capset = refl
 
@@ -64,10 +69,14 @@ pub amb_lower_of_no_capability : IsEvent (codes "100 amb_lower 64 = EINVAL") (Am
 amb_lower_of_no_capability = refl
 
 pub faults_of_one_capability : AreFaulty
-    (codes "100 bset_drop" ∷ codes "100 bset_drop = 0" ∷ codes "100 bset_drop 7" ∷ codes "100 bset_drop 7 =" ∷ codes "100 bset_drop 7 8 = 0" ∷ codes "100 bset_drop 7 = 0 0" ∷ codes "100 bset_drop 7 = = 0" ∷ codes "100 bset_drop = 7 = 0"
-    ∷ codes "100 bset_drop -1 = 0" ∷ codes "100 bset_drop +7 = 0" ∷ codes "100 bset_drop 4294967296 = 0" ∷ codes "100 bset_drop 0x7 = 0" ∷ codes "100 bset_drop CAP_FOO = 0" ∷ codes "100 bset_drop SETUID = 0"
-    ∷ codes "100 bset_drop cap_setuid = 0" ∷ codes "100 bset_drop CAP_SETUID,CAP_KILL = 0" ∷ codes "100 bset_drop CAP_SETUID, = 0" ∷ codes "100 bset_drop all = 0" ∷ codes "100 bset_drop none = 0" ∷ codes "100 bset_drop 7 = 7"
-    ∷ codes "100 bset_drop 7 = 00" ∷ codes "100 bset_drop 7 = einval" ∷ codes "100 amb_raise = 0" ∷ codes "100 amb_raise -1 = 0" ∷ codes "100 amb_raise CAP_KILL CAP_CHOWN = 0" ∷ codes "100 amb_raise CAP_ = 0"
+    (codes "100 bset_drop" ∷ codes "100 bset_drop = 0" ∷ codes "100 bset_drop 7" ∷ codes "100 bset_drop 7 ="
+    ∷ codes "100 bset_drop 7 8 = 0" ∷ codes "100 bset_drop 7 = 0 0" ∷ codes "100 bset_drop 7 = = 0" ∷ codes "100 bset_drop = 7 = 0"
+    ∷ codes "100 bset_drop -1 = 0" ∷ codes "100 bset_drop +7 = 0" ∷ codes "100 bset_drop 4294967296 = 0"
+    ∷ codes "100 bset_drop 0x7 = 0" ∷ codes "100 bset_drop CAP_FOO = 0" ∷ codes "100 bset_drop SETUID = 0"
+    ∷ codes "100 bset_drop cap_setuid = 0" ∷ codes "100 bset_drop CAP_SETUID,CAP_KILL = 0" ∷ codes "100 bset_drop CAP_SETUID, = 0"
+    ∷ codes "100 bset_drop all = 0" ∷ codes "100 bset_drop none = 0" ∷ codes "100 bset_drop 7 = 7"
+    ∷ codes "100 bset_drop 7 = 00" ∷ codes "100 bset_drop 7 = einval" ∷ codes "100 amb_raise = 0" ∷ codes "100 amb_raise -1 = 0"
+    ∷ codes "100 amb_raise CAP_KILL CAP_CHOWN = 0" ∷ codes "100 amb_raise CAP_ = 0"
     ∷ codes "100 amb_lower = 0" ∷ codes "100 amb_lower none = 0" ∷ codes "100 amb_lower 5 = 1" ∷ [])
 faults_of_one_capability = refl
 
@@ -79,7 +88,8 @@ pub amb_clear_fails : IsEvent (codes "100 amb_clear = EAGAIN") AmbClear (Err EAG
 amb_clear_fails = refl
 
 pub faults_of_amb_clear : AreFaulty
-    (codes "100 amb_clear" ∷ codes "100 amb_clear 0" ∷ codes "100 amb_clear =" ∷ codes "100 amb_clear 0 = 0" ∷ codes "100 amb_clear CAP_KILL = 0" ∷ codes "100 amb_clear all = 0" ∷ codes "100 amb_clear = = 0" ∷ codes "100 amb_clear = 0 0"
+    (codes "100 amb_clear" ∷ codes "100 amb_clear 0" ∷ codes "100 amb_clear =" ∷ codes "100 amb_clear 0 = 0"
+    ∷ codes "100 amb_clear CAP_KILL = 0" ∷ codes "100 amb_clear all = 0" ∷ codes "100 amb_clear = = 0" ∷ codes "100 amb_clear = 0 0"
     ∷ codes "100 amb_clear = 00" ∷ codes "100 amb_clear = 1" ∷ [])
 faults_of_amb_clear = refl
 
@@ -106,23 +116,29 @@ pub no_new_privs_of_zero_is_read : IsEvent (codes "100 no_new_privs 0 = EINVAL")
 no_new_privs_of_zero_is_read = refl
 
 pub faults_of_one_number : AreFaulty
-    (codes "100 securebits" ∷ codes "100 securebits = 0" ∷ codes "100 securebits 16" ∷ codes "100 securebits 16 =" ∷ codes "100 securebits 16 0" ∷ codes "100 securebits 1 2 = 0" ∷ codes "100 securebits 16 = = 0"
-    ∷ codes "100 securebits -1 = 0" ∷ codes "100 securebits 0x10 = 0" ∷ codes "100 securebits SECBIT_KEEP_CAPS = 0" ∷ codes "100 securebits 4294967296 = 0" ∷ codes "100 securebits 16 = 16" ∷ codes "100 keepcaps -1 = 0"
-    ∷ codes "100 keepcaps = 0" ∷ codes "100 keepcaps true = 0" ∷ codes "100 keepcaps x y z" ∷ codes "100 keepcaps 1 = 1" ∷ codes "100 no_new_privs = 0" ∷ codes "100 no_new_privs -1 = 0" ∷ codes "100 no_new_privs 1 0 0 0 = 0"
+    (codes "100 securebits" ∷ codes "100 securebits = 0" ∷ codes "100 securebits 16" ∷ codes "100 securebits 16 ="
+    ∷ codes "100 securebits 16 0" ∷ codes "100 securebits 1 2 = 0" ∷ codes "100 securebits 16 = = 0"
+    ∷ codes "100 securebits -1 = 0" ∷ codes "100 securebits 0x10 = 0" ∷ codes "100 securebits SECBIT_KEEP_CAPS = 0"
+    ∷ codes "100 securebits 4294967296 = 0" ∷ codes "100 securebits 16 = 16" ∷ codes "100 keepcaps -1 = 0"
+    ∷ codes "100 keepcaps = 0" ∷ codes "100 keepcaps true = 0" ∷ codes "100 keepcaps x y z" ∷ codes "100 keepcaps 1 = 1"
+    ∷ codes "100 no_new_privs = 0" ∷ codes "100 no_new_privs -1 = 0" ∷ codes "100 no_new_privs 1 0 0 0 = 0"
     ∷ codes "100 no_new_privs 1 = 00" ∷ codes "100 prctl 1 = 0" ∷ codes "100 Keepcaps 1 = 0" ∷ [])
 faults_of_one_number = refl
 
 -- ---- printed events
-pub sets_are_printed_in_digits : event_text (event_of (CapSet 0x1ffffffffff 0x400 0) Done) ≡ codes "100 capset 000001ffffffffff 0000000000000400 0000000000000000 = 0"
+pub sets_are_printed_in_digits : event_text (event_of (CapSet 0x1ffffffffff 0x400 0) Done)
+    ≡ codes "100 capset 000001ffffffffff 0000000000000400 0000000000000000 = 0"
 unfolding print_on_literals
 sets_are_printed_in_digits = refl
 
-pub each_digit_is_printed : event_text (event_of (CapSet 0x10123456789 0x1abcdef0000 0x19abcdef012) (Err EPERM)) ≡ codes "100 capset 0000010123456789 000001abcdef0000 0000019abcdef012 = EPERM"
+pub each_digit_is_printed : event_text (event_of (CapSet 0x10123456789 0x1abcdef0000 0x19abcdef012) (Err EPERM))
+    ≡ codes "100 capset 0000010123456789 000001abcdef0000 0000019abcdef012 = EPERM"
 unfolding print_on_literals
 each_digit_is_printed = refl
 
 pub capabilities_are_printed_by_name : map cap_name_or_number (0 ∷ 5 ∷ 7 ∷ 8 ∷ 10 ∷ 21 ∷ 31 ∷ 32 ∷ 39 ∷ 40 ∷ [])
-    ≡ codes "CAP_CHOWN" ∷ codes "CAP_KILL" ∷ codes "CAP_SETUID" ∷ codes "CAP_SETPCAP" ∷ codes "CAP_NET_BIND_SERVICE" ∷ codes "CAP_SYS_ADMIN" ∷ codes "CAP_SETFCAP" ∷ codes "CAP_MAC_OVERRIDE" ∷ codes "CAP_BPF" ∷ codes "CAP_CHECKPOINT_RESTORE" ∷ []
+    ≡ codes "CAP_CHOWN" ∷ codes "CAP_KILL" ∷ codes "CAP_SETUID" ∷ codes "CAP_SETPCAP" ∷ codes "CAP_NET_BIND_SERVICE" ∷ codes "CAP_SYS_ADMIN"
+    ∷ codes "CAP_SETFCAP" ∷ codes "CAP_MAC_OVERRIDE" ∷ codes "CAP_BPF" ∷ codes "CAP_CHECKPOINT_RESTORE" ∷ []
 unfolding print_on_literals
 capabilities_are_printed_by_name = refl
 
@@ -132,14 +148,16 @@ numbers_past_them_are_printed = refl
 
 pub each_prctl_is_printed : map (λ call. event_text (event_of call Done))
     (BsetDrop 0 ∷ AmbRaise 40 ∷ AmbLower 10 ∷ AmbClear ∷ SecureBits 47 ∷ KeepCaps 1 ∷ NoNewPrivs 1 ∷ [])
-    ≡ codes "100 bset_drop CAP_CHOWN = 0" ∷ codes "100 amb_raise CAP_CHECKPOINT_RESTORE = 0" ∷ codes "100 amb_lower CAP_NET_BIND_SERVICE = 0" ∷ codes "100 amb_clear = 0" ∷ codes "100 securebits 47 = 0" ∷ codes "100 keepcaps 1 = 0"
+    ≡ codes "100 bset_drop CAP_CHOWN = 0" ∷ codes "100 amb_raise CAP_CHECKPOINT_RESTORE = 0" ∷ codes "100 amb_lower CAP_NET_BIND_SERVICE = 0"
+    ∷ codes "100 amb_clear = 0" ∷ codes "100 securebits 47 = 0" ∷ codes "100 keepcaps 1 = 0"
     ∷ codes "100 no_new_privs 1 = 0" ∷ []
 unfolding print_on_literals
 each_prctl_is_printed = refl
 
 pub each_refusal_is_printed : map (λ call. event_text (event_of call (Err EINVAL)))
     (BsetDrop 41 ∷ AmbRaise 4294967295 ∷ AmbLower 41 ∷ SecureBits 4294967295 ∷ KeepCaps 4294967295 ∷ NoNewPrivs 0 ∷ [])
-    ≡ codes "100 bset_drop 41 = EINVAL" ∷ codes "100 amb_raise 4294967295 = EINVAL" ∷ codes "100 amb_lower 41 = EINVAL" ∷ codes "100 securebits 4294967295 = EINVAL" ∷ codes "100 keepcaps 4294967295 = EINVAL"
+    ≡ codes "100 bset_drop 41 = EINVAL" ∷ codes "100 amb_raise 4294967295 = EINVAL" ∷ codes "100 amb_lower 41 = EINVAL"
+    ∷ codes "100 securebits 4294967295 = EINVAL" ∷ codes "100 keepcaps 4294967295 = EINVAL"
     ∷ codes "100 no_new_privs 0 = EINVAL" ∷ []
 unfolding print_on_literals
 each_refusal_is_printed = refl

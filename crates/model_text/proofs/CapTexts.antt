@@ -1,5 +1,6 @@
 -- The texts of sets of capabilities: what a text stands for is a set of capabilities, of those that there are.
-use Rattle.std.proofs.Common.{◌≡◌, ℕ, ◌<◌, ◌==◌, List, [], ◌∷◌, length, Option, Some, None, if◌then◌else◌, IfSome, option_map, option_and_then, bytes_eq, codes, refl, lit<, arith}
+use Rattle.std.proofs.Common.{◌≡◌, ℕ, ◌<◌, ◌==◌, List, [], ◌∷◌, length, Option, Some, None, if◌then◌else◌, IfSome, option_map, option_and_then}
+use Rattle.std.proofs.Common.{bytes_eq, codes, refl, lit<, arith}
 use Rattle.std.proofs.lemmas.Bool.{cond_both}
 use Rattle.std.proofs.lemmas.List.Quantifiers.{position-Some}
 use Rattle.std.proofs.lemmas.Nat.{and_le_r}

@@ -6,7 +6,9 @@ use Rattle.cm_base.specs.CapSet.{full, none, is_within, IsCapSet}
 use Rattle.model_cred.specs.Credential.{FourIds, AreIds, IsId, AscendFrom, Keeps, all_four, id_set}
 use Rattle.model_cred.proofs.IdSets.{set_ascends}
 use Rattle.model_text.proofs.CapTexts.{none_is, full_is, if_then, if_mapped, text_is}
-use Rattle.model_text.specs.ProcessText.{FiveSets, id_value, four_ids, ids_in_array, ids_value, id_before, ids_listed, groups_value, set_value, five_sets, are_included, included, held_by_default, sets_declared, securebits_value, flag_value, credential_of, credential_declared}
+use Rattle.model_text.specs.ProcessText.{FiveSets, id_value, four_ids, ids_in_array, ids_value, id_before, ids_listed, groups_value, set_value}
+use Rattle.model_text.specs.ProcessText.{five_sets, are_included, included, held_by_default, sets_declared, securebits_value, flag_value}
+use Rattle.model_text.specs.ProcessText.{credential_of, credential_declared}
 use Rattle.model_text.specs.Toml.{number_below}
 use Rattle.toml.specs.Data.{Data, integer, string, array, Items, no_items, item, Members, get_member}
 

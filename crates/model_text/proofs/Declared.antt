@@ -12,7 +12,8 @@ use Rattle.model_cred.specs.World.{World}
 use Rattle.model_run.specs.RunBack.{has_root, SetsFollowIds, AllFollow, StateFollows}
 use Rattle.model_text.proofs.Starts.{Made, start_made}
 use Rattle.model_text.specs.Places.{IsInitial}
-use Rattle.model_text.specs.ProcessText.{held_by_default, included, credential_of, credential_with, credential_declared, ids_value, pid_value, parent_value, process_with, process_keys, process_row, further_keys}
+use Rattle.model_text.specs.ProcessText.{held_by_default, included, credential_of, credential_with, credential_declared, ids_value, pid_value}
+use Rattle.model_text.specs.ProcessText.{parent_value, process_with, process_keys, process_row, further_keys}
 use Rattle.model_text.specs.Toml.{has_key, has_key_of, has_only}
 use Rattle.model_text.specs.WorldText.{Reads, world_text, text_says_more, in_order, process_rows, one_more, processes_of, row_has, some_row_has, rows_have}
 use Rattle.toml.specs.Data.{Data, array, table, Items, no_items, item, Members, get_member}
@@ -57,7 +58,8 @@ all_absent (key ∷ keys) row is =
 -- the sets that are held by default are included as they ought to be
 default_included : (ids : FourIds) (root : Bool)
     → credential_of (Some ids) (Some (all_four 0)) (Some [])
-    (included (record { permitted = cond root full none; effective = cond root full none; inheritable = none; ambient = none; bounding = full })) (Some 0) (Some false)
+    (included (record { permitted = cond root full none; effective = cond root full none; inheritable = none; ambient = none; bounding = full })) (Some 0)
+    (Some false)
     ≡ Some (record (default_cred ids) { permitted = cond root full none; effective = cond root full none })
 default_included ids true = refl
 default_included ids false = refl
@@ -68,7 +70,17 @@ unfolding AllAbsent
 plain_cred row None plain = refl
 plain_cred row (Some ids) plain =
     let absent : AllAbsent further_keys row = all_absent further_keys row plain in
-    rw (absent.1.0, absent.1.1.0, absent.1.1.1.0, absent.1.1.1.1.0, absent.1.1.1.1.1.0, absent.1.1.1.1.1.1.0, absent.1.1.1.1.1.1.1.0, absent.1.1.1.1.1.1.1.1.0, absent.1.1.1.1.1.1.1.1.1.0) (default_included ids (ids.effective == 0))
+    rw (
+      absent.1.0,
+      absent.1.1.0,
+      absent.1.1.1.0,
+      absent.1.1.1.1.0,
+      absent.1.1.1.1.1.0,
+      absent.1.1.1.1.1.1.0,
+      absent.1.1.1.1.1.1.1.0,
+      absent.1.1.1.1.1.1.1.1.0,
+      absent.1.1.1.1.1.1.1.1.1.0,
+    ) (default_included ids (ids.effective == 0))
 
 -- ---- whose sets follow
 root_by_effective : (ids : FourIds) → has_root ids ≡ false → (ids.effective == 0) ≡ false
@@ -91,7 +103,8 @@ pub record IsDeclared (more : Bool) (p : Process) : Type 0 where
   pub space : p.space ≡ 0
   pub follows : more ≡ false → SetsFollowIds p.cred
 
-declared_with : (pid : Option ℕ) (parent : Option (Option ℕ)) (cred : Option Credential) (more : Bool) (p : Process) → ((c : Credential) → cred ≡ Some c → more ≡ false → SetsFollowIds c)
+declared_with : (pid : Option ℕ) (parent : Option (Option ℕ)) (cred : Option Credential) (more : Bool) (p : Process)
+    → ((c : Credential) → cred ≡ Some c → more ≡ false → SetsFollowIds c)
     → process_with pid parent cred ≡ Some p → IsDeclared more p
 declared_with None parent cred more p follow is = absurd (cc)
 declared_with (Some pid) None cred more p follow is = absurd (cc)
@@ -101,7 +114,8 @@ declared_with (Some pid) (Some forebear) (Some c) more p follow is =
     let same : made ≡ p = cc in
     subst (λ (x : Process). IsDeclared more x) same (record { space = refl; follows = λ plain. follow c refl plain })
 
-declared_if : (test : Bool) (pid : Option ℕ) (parent : Option (Option ℕ)) (cred : Option Credential) (more : Bool) (p : Process) → ((c : Credential) → cred ≡ Some c → more ≡ false → SetsFollowIds c)
+declared_if : (test : Bool) (pid : Option ℕ) (parent : Option (Option ℕ)) (cred : Option Credential) (more : Bool) (p : Process)
+    → ((c : Credential) → cred ≡ Some c → more ≡ false → SetsFollowIds c)
     → cond test (process_with pid parent cred) None ≡ Some p → IsDeclared more p
 declared_if true pid parent cred more p follow is = declared_with pid parent cred more p follow is
 declared_if false pid parent cred more p follow is = absurd (cc)
@@ -110,7 +124,8 @@ declared_if false pid parent cred more p follow is = absurd (cc)
 row_declared : (row : Data) (p : Process) → process_row row ≡ Some p → IsDeclared (row_has further_keys row) p
 row_declared (table row) p is =
     let uid : Option FourIds = ids_value (get_member (codes "uid") row) in
-    declared_if (has_only process_keys row) (pid_value (get_member (codes "pid") row)) (parent_value (get_member (codes "parent") row)) (credential_declared row) (has_key_of further_keys row) p
+    declared_if (has_only process_keys row) (pid_value (get_member (codes "pid") row)) (parent_value (get_member (codes "parent") row))
+    (credential_declared row) (has_key_of further_keys row) p
     (λ c read plain. plain_follows uid c (sym (plain_cred row uid plain) ∙ read)) is
 row_declared _ p is = absurd (cc)
 
@@ -121,19 +136,22 @@ said_by_first more others p is = record { space = is.space; follows = λ plain. 
 said_by_others : (more : Bool) (others : Bool) (p : Process) → IsDeclared others p → IsDeclared (more || others) p
 said_by_others more others p is = record { space = is.space; follows = λ plain. is.follows (either_false more others plain).1 }
 
-one_more_declared : (one : Option Process) (others : Option (List Process)) (ps : List Process) (more rest : Bool) → ((p : Process) → one ≡ Some p → IsDeclared more p) → ((qs : List Process) → others ≡ Some qs → All (IsDeclared rest) qs)
+one_more_declared : (one : Option Process) (others : Option (List Process)) (ps : List Process) (more rest : Bool)
+    → ((p : Process) → one ≡ Some p → IsDeclared more p) → ((qs : List Process) → others ≡ Some qs → All (IsDeclared rest) qs)
     → one_more one others ≡ Some ps → All (IsDeclared (more || rest)) ps
 one_more_declared None others ps more rest first later is = absurd (cc)
 one_more_declared (Some p) None ps more rest first later is = absurd (cc)
 one_more_declared (Some p) (Some qs) ps more rest first later is =
     let same : (p ∷ qs) ≡ ps = cc in
     subst (λ (xs : List Process). All (IsDeclared (more || rest)) xs) same
-    (All-cons (IsDeclared (more || rest)) p qs (said_by_first more rest p (first p refl)) (All-weaker (IsDeclared rest) (IsDeclared (more || rest)) (said_by_others more rest) qs (later qs refl)))
+    (All-cons (IsDeclared (more || rest)) p qs (said_by_first more rest p (first p refl))
+    (All-weaker (IsDeclared rest) (IsDeclared (more || rest)) (said_by_others more rest) qs (later qs refl)))
 
 rows_declared : (rows : Items) (ps : List Process) → process_rows rows ≡ Some ps → All (IsDeclared (some_row_has further_keys rows)) ps
 rows_declared no_items ps is = let same : [] ≡ ps = cc in subst (λ (xs : List Process). All (IsDeclared false) xs) same (All-nil (IsDeclared false))
 rows_declared (item row rows) ps is =
-    one_more_declared (process_row row) (process_rows rows) ps (row_has further_keys row) (some_row_has further_keys rows) (row_declared row) (rows_declared rows) is
+    one_more_declared (process_row row) (process_rows rows) ps (row_has further_keys row) (some_row_has further_keys rows)
+    (row_declared row) (rows_declared rows) is
 
 value_declared : (value : Option Data) (ps : List Process) → processes_of value ≡ Some ps → All (IsDeclared (rows_have further_keys value)) ps
 value_declared None ps is = let same : [] ≡ ps = cc in subst (λ (xs : List Process). All (IsDeclared false) xs) same (All-nil (IsDeclared false))

@@ -46,9 +46,12 @@ pub setgid_is_interrupted : IsEvent (codes "100 setgid 34 = EAGAIN") (SetGid 34)
 setgid_is_interrupted = refl
 
 pub faults_of_one_id : AreFaulty
-    (codes "100 setuid" ∷ codes "100 setuid = 0" ∷ codes "100 setuid 1" ∷ codes "100 setuid 1 =" ∷ codes "100 setuid 1 0" ∷ codes "100 setuid 1 2 = 0" ∷ codes "100 setuid 1 = 0 0" ∷ codes "100 setuid 1 = = 0" ∷ codes "100 setuid 1 == 0"
-    ∷ codes "100 setuid 1=0" ∷ codes "100 setuid 1 = 00" ∷ codes "100 setuid 1 = 1" ∷ codes "100 setuid 1 = -1" ∷ codes "100 setuid 1 = EFOO" ∷ codes "100 setuid 1 = eperm" ∷ codes "100 setuid -2 = 0" ∷ codes "100 setuid +1 = 0"
-    ∷ codes "100 setuid 4294967296 = 0" ∷ codes "100 setuid root = 0" ∷ codes "100 setuid 0x1 = 0" ∷ codes "100 setuid = = 0" ∷ codes "100 setgid = 0" ∷ codes "100 setgid 1 2 = 0" ∷ codes "100 setgid 1 = 0 ; done" ∷ [])
+    (codes "100 setuid" ∷ codes "100 setuid = 0" ∷ codes "100 setuid 1" ∷ codes "100 setuid 1 =" ∷ codes "100 setuid 1 0"
+    ∷ codes "100 setuid 1 2 = 0" ∷ codes "100 setuid 1 = 0 0" ∷ codes "100 setuid 1 = = 0" ∷ codes "100 setuid 1 == 0"
+    ∷ codes "100 setuid 1=0" ∷ codes "100 setuid 1 = 00" ∷ codes "100 setuid 1 = 1" ∷ codes "100 setuid 1 = -1"
+    ∷ codes "100 setuid 1 = EFOO" ∷ codes "100 setuid 1 = eperm" ∷ codes "100 setuid -2 = 0" ∷ codes "100 setuid +1 = 0"
+    ∷ codes "100 setuid 4294967296 = 0" ∷ codes "100 setuid root = 0" ∷ codes "100 setuid 0x1 = 0" ∷ codes "100 setuid = = 0"
+    ∷ codes "100 setgid = 0" ∷ codes "100 setgid 1 2 = 0" ∷ codes "100 setgid 1 = 0 ; done" ∷ [])
 faults_of_one_id = refl
 
 -- ---- two ids
@@ -59,7 +62,8 @@ pub setregid_is_refused : IsEvent (codes "100 setregid -1 4294967294 = EPERM") (
 setregid_is_refused = refl
 
 pub faults_of_two_ids : AreFaulty
-    (codes "100 setreuid = 0" ∷ codes "100 setreuid 1 = 0" ∷ codes "100 setreuid 1 2 3 = 0" ∷ codes "100 setreuid 1 2" ∷ codes "100 setreuid 1 = 2 = 0" ∷ codes "100 setreuid 1 x = 0" ∷ codes "100 setregid 1 = 0" ∷ codes "100 setregid x 1 = 0"
+    (codes "100 setreuid = 0" ∷ codes "100 setreuid 1 = 0" ∷ codes "100 setreuid 1 2 3 = 0" ∷ codes "100 setreuid 1 2"
+    ∷ codes "100 setreuid 1 = 2 = 0" ∷ codes "100 setreuid 1 x = 0" ∷ codes "100 setregid 1 = 0" ∷ codes "100 setregid x 1 = 0"
     ∷ codes "100 setregid 1 2 = done" ∷ [])
 faults_of_two_ids = refl
 
@@ -71,7 +75,8 @@ pub setresgid_is_done : IsEvent (codes "100 setresgid 33 34 35 = 0") (SetResGid 
 setresgid_is_done = refl
 
 pub faults_of_three_ids : AreFaulty
-    (codes "100 setresgid = 0" ∷ codes "100 setresgid 1 2 = 0" ∷ codes "100 setresgid 1 2 3 4 = 0" ∷ codes "100 setresgid 1 2 3" ∷ codes "100 setresgid 1 2 = 3 = 0" ∷ codes "100 setresgid 1 2 x = 0" ∷ codes "100 setresuid 1 2 = 0" ∷ [])
+    (codes "100 setresgid = 0" ∷ codes "100 setresgid 1 2 = 0" ∷ codes "100 setresgid 1 2 3 4 = 0" ∷ codes "100 setresgid 1 2 3"
+    ∷ codes "100 setresgid 1 2 = 3 = 0" ∷ codes "100 setresgid 1 2 x = 0" ∷ codes "100 setresuid 1 2 = 0" ∷ [])
 faults_of_three_ids = refl
 
 -- ---- the file system ids, whose result is the id from before
@@ -94,7 +99,8 @@ pub largest_id_before : IsEvent (codes "100 setfsgid 34 = 4294967295") (SetFsGid
 largest_id_before = refl
 
 pub faults_of_file_system_ids : AreFaulty
-    (codes "100 setfsuid 5 = EPERM" ∷ codes "100 setfsuid 5 = EAGAIN" ∷ codes "100 setfsuid 5 = -1" ∷ codes "100 setfsuid 5 = 4294967296" ∷ codes "100 setfsuid = 0" ∷ codes "100 setfsuid 5 6 = 0" ∷ codes "100 setfsuid 5" ∷ codes "100 setfsuid 5 ="
+    (codes "100 setfsuid 5 = EPERM" ∷ codes "100 setfsuid 5 = EAGAIN" ∷ codes "100 setfsuid 5 = -1"
+    ∷ codes "100 setfsuid 5 = 4294967296" ∷ codes "100 setfsuid = 0" ∷ codes "100 setfsuid 5 6 = 0" ∷ codes "100 setfsuid 5" ∷ codes "100 setfsuid 5 ="
     ∷ codes "100 setfsgid 5 = EINVAL" ∷ codes "100 setfsgid 5 = 0 0" ∷ codes "100 setfsgid x = 0" ∷ [])
 faults_of_file_system_ids = refl
 
@@ -115,20 +121,24 @@ pub setgroups_is_refused : IsEvent (codes "100 setgroups = EPERM") (SetGroups []
 setgroups_is_refused = refl
 
 pub faults_of_groups : AreFaulty
-    (codes "100 setgroups" ∷ codes "100 setgroups 10" ∷ codes "100 setgroups =" ∷ codes "100 setgroups 10 =" ∷ codes "100 setgroups 10 = = 0" ∷ codes "100 setgroups = = 0" ∷ codes "100 setgroups = =" ∷ codes "100 setgroups = 10 = 0"
-    ∷ codes "100 setgroups = 0 0" ∷ codes "100 setgroups 10 0" ∷ codes "100 setgroups 10 x = 0" ∷ codes "100 setgroups x = 0" ∷ codes "100 setgroups 4294967296 = 0" ∷ codes "100 setgroups 10,11 = 0" ∷ codes "100 setgroups - = 0"
+    (codes "100 setgroups" ∷ codes "100 setgroups 10" ∷ codes "100 setgroups =" ∷ codes "100 setgroups 10 ="
+    ∷ codes "100 setgroups 10 = = 0" ∷ codes "100 setgroups = = 0" ∷ codes "100 setgroups = =" ∷ codes "100 setgroups = 10 = 0"
+    ∷ codes "100 setgroups = 0 0" ∷ codes "100 setgroups 10 0" ∷ codes "100 setgroups 10 x = 0" ∷ codes "100 setgroups x = 0"
+    ∷ codes "100 setgroups 4294967296 = 0" ∷ codes "100 setgroups 10,11 = 0" ∷ codes "100 setgroups - = 0"
     ∷ codes "100 setgroups 10 = 10" ∷ [])
 faults_of_groups = refl
 
 -- ---- the other calls
 -- each call that isn't built, whatever stands after its name
 pub calls_that_are_not_built : AreUnbuilt
-    (codes "100 clone_user = 101" ∷ codes "100 unshare = 0" ∷ codes "100 setns #1 = 0" ∷ codes "100 write_uid_map #1 0 0 1 = 0" ∷ codes "100 write_gid_map #1 0 0 1 = 0" ∷ codes "100 write_setgroups #1 deny = 0" ∷ codes "100 execve - = 0"
+    (codes "100 clone_user = 101" ∷ codes "100 unshare = 0" ∷ codes "100 setns #1 = 0" ∷ codes "100 write_uid_map #1 0 0 1 = 0"
+    ∷ codes "100 write_gid_map #1 0 0 1 = 0" ∷ codes "100 write_setgroups #1 deny = 0" ∷ codes "100 execve - = 0"
     ∷ codes "100 unshare" ∷ codes "100 setns x y z" ∷ codes "100 execve = =" ∷ [])
 calls_that_are_not_built = refl
 
 pub names_of_no_call : AreFaulty
-    (codes "100 getuid = 0" ∷ codes "100 SETUID 1 = 0" ∷ codes "100 setuid32 1 = 0" ∷ codes "100 set_uid 1 = 0" ∷ codes "100 setgroup 1 = 0" ∷ codes "100 prctl 1 = 0" ∷ codes "100 =" ∷ codes "100 = 0" ∷ codes "0 capset 0 0 0 = 0"
+    (codes "100 getuid = 0" ∷ codes "100 SETUID 1 = 0" ∷ codes "100 setuid32 1 = 0" ∷ codes "100 set_uid 1 = 0"
+    ∷ codes "100 setgroup 1 = 0" ∷ codes "100 prctl 1 = 0" ∷ codes "100 =" ∷ codes "100 = 0" ∷ codes "0 capset 0 0 0 = 0"
     ∷ codes "x setuid 1 = 0" ∷ codes "setuid 1 = 0" ∷ codes "= 0" ∷ [])
 names_of_no_call = refl
 

@@ -13,7 +13,8 @@ abbrev here : (from : ℕ) (line : List ℕ) (lines : List (List ℕ)) (meaning 
 here from line lines meaning is = record { before = []; line = line; later = lines; cut = refl; place = omega arith; means = is }
 
 -- a line after the first one
-abbrev later : (from : ℕ) (line : List ℕ) (lines : List (List ℕ)) (number : ℕ) (meaning : Line) → StandsFor (from + 1) lines number meaning → StandsFor from (line ∷ lines) number meaning
+abbrev later : (from : ℕ) (line : List ℕ) (lines : List (List ℕ)) (number : ℕ) (meaning : Line)
+    → StandsFor (from + 1) lines number meaning → StandsFor from (line ∷ lines) number meaning
 later from line lines number meaning stands = record {
   before = line ∷ stands.before;
   line = stands.line;
@@ -29,7 +30,8 @@ from_before from [] up = tt
 from_before from (e ∷ events) up = (let next : from + 1 ≤ e.line = up.0 in omega (arith, next), up.1)
 
 -- the events of lines with one line more in front, which tells none or one
-told_past_none : (line : List ℕ) (lines : List (List ℕ)) (events : List Placed) → script_line line ≡ NoEvent → AreTold lines events → AreTold (line ∷ lines) events
+told_past_none : (line : List ℕ) (lines : List (List ℕ)) (events : List Placed) → script_line line ≡ NoEvent
+    → AreTold lines events → AreTold (line ∷ lines) events
 told_past_none line lines events is all = record {
   whole = All-cons IsWhole line lines (inl is) all.whole;
   told = all.told ∙ sym (ap (λ (l : Line). cons_option (told_event l) (told_events lines)) is);
@@ -51,7 +53,8 @@ breaks_past_none from line lines events number meaning is breaks = record {
   before = told_past_none line breaks.stands.before events is breaks.before;
 }
 
-breaks_past_one : (from : ℕ) (line : List ℕ) (lines : List (List ℕ)) (e : Event) (events : List Placed) (number : ℕ) (meaning : Line) → script_line line ≡ Tells e
+breaks_past_one : (from : ℕ) (line : List ℕ) (lines : List (List ℕ)) (e : Event) (events : List Placed) (number : ℕ) (meaning : Line)
+    → script_line line ≡ Tells e
     → BreaksAt (from + 1) lines events number meaning → BreaksAt from (line ∷ lines) (record { line = from; event = e } ∷ events) number meaning
 breaks_past_one from line lines e events number meaning is breaks = record {
   stands = later from line lines number meaning breaks.stands;
@@ -72,7 +75,8 @@ told_later from line lines events all =
     (λ e stands. later from line lines e.line (Tells e.event) stands) events all
 
 -- one line more, by what it stands for
-one_more : (from : ℕ) (line : List ℕ) (lines : List (List ℕ)) (rest : Reading) → ReadsLines (from + 1) lines rest → (meaning : Line) → script_line line ≡ meaning
+one_more : (from : ℕ) (line : List ℕ) (lines : List (List ℕ)) (rest : Reading) → ReadsLines (from + 1) lines rest
+    → (meaning : Line) → script_line line ≡ meaning
     → ReadsLines from (line ∷ lines) (from_line from meaning rest)
 one_more from line lines rest reads NoEvent is = record {
   events = told_later from line lines rest.events reads.events;

@@ -25,7 +25,8 @@ pub a_child_has_its_own_credential : ReadsWith (codes "[[process]]\npid = 101\nu
 unfolding world_on_literals
 a_child_has_its_own_credential = refl
 
-pub a_child_of_a_child : ReadsWith (codes "[[process]]\npid = 102\nparent = 100\n[[process]]\npid = 101\nparent = 102\n") (of_forebear 101 (Some 102) root ∷ of_forebear 102 (Some 100) root ∷ [])
+pub a_child_of_a_child : ReadsWith (codes "[[process]]\npid = 102\nparent = 100\n[[process]]\npid = 101\nparent = 102\n") (of_forebear 101 (Some 102) root
+    ∷ of_forebear 102 (Some 100) root ∷ [])
 unfolding world_on_literals
 a_child_of_a_child = refl
 
@@ -35,7 +36,8 @@ unfolding world_on_literals
 two_children = refl
 
 -- earlier is said of rows, and not of pids
-pub a_child_with_a_lower_pid : world_text (of_row (codes "[[process]]\npid = 1\nparent = 100\n")) ≡ Reads (world_with (of_forebear 1 (Some 100) root ∷ of_forebear 100 None root ∷ []))
+pub a_child_with_a_lower_pid : world_text (of_row (codes "[[process]]\npid = 1\nparent = 100\n"))
+    ≡ Reads (world_with (of_forebear 1 (Some 100) root ∷ of_forebear 100 None root ∷ []))
 unfolding world_on_literals
 a_child_with_a_lower_pid = refl
 
@@ -47,20 +49,25 @@ largest_pid_of_a_parent = refl
 -- ---- faults
 -- no process, a later row, the row itself, each other's
 pub parents_of_no_earlier_row : AreBad
-    (codes "parent = 99\n" ∷ codes "parent = 101\n[[process]]\npid = 101\n" ∷ codes "parent = 100\n" ∷ codes "parent = 101\n[[process]]\npid = 101\nparent = 100\n" ∷ codes "[[process]]\npid = 101\nparent = 101\n"
+    (codes "parent = 99\n" ∷ codes "parent = 101\n[[process]]\npid = 101\n" ∷ codes "parent = 100\n"
+    ∷ codes "parent = 101\n[[process]]\npid = 101\nparent = 100\n" ∷ codes "[[process]]\npid = 101\nparent = 101\n"
     ∷ codes "[[process]]\npid = 101\nparent = 102\n[[process]]\npid = 102\nparent = 100\n" ∷ codes "[[process]]\npid = 101\nparent = 1\n" ∷ [])
 unfolding world_on_literals
 parents_of_no_earlier_row = refl
 
 pub faults_of_parents : AreBad
-    (codes "[[process]]\npid = 101\nparent = 0\n" ∷ codes "[[process]]\npid = 101\nparent = -100\n" ∷ codes "[[process]]\npid = 101\nparent = 4194305\n" ∷ codes "[[process]]\npid = 101\nparent = \"100\"\n"
-    ∷ codes "[[process]]\npid = 101\nparent = \"init\"\n" ∷ codes "[[process]]\npid = 101\nparent = [100]\n" ∷ codes "[[process]]\npid = 101\nparent = 100.0\n" ∷ codes "[[process]]\npid = 101\nparent = true\n"
-    ∷ codes "[[process]]\npid = 101\nparent = {}\n" ∷ codes "[[process]]\npid = 101\nparent = 100\nparent = 100\n" ∷ codes "[[process]]\npid = 101\nppid = 100\n" ∷ codes "[[process]]\nparent = 100\n" ∷ [])
+    (codes "[[process]]\npid = 101\nparent = 0\n" ∷ codes "[[process]]\npid = 101\nparent = -100\n"
+    ∷ codes "[[process]]\npid = 101\nparent = 4194305\n" ∷ codes "[[process]]\npid = 101\nparent = \"100\"\n"
+    ∷ codes "[[process]]\npid = 101\nparent = \"init\"\n" ∷ codes "[[process]]\npid = 101\nparent = [100]\n"
+    ∷ codes "[[process]]\npid = 101\nparent = 100.0\n" ∷ codes "[[process]]\npid = 101\nparent = true\n"
+    ∷ codes "[[process]]\npid = 101\nparent = {}\n" ∷ codes "[[process]]\npid = 101\nparent = 100\nparent = 100\n"
+    ∷ codes "[[process]]\npid = 101\nppid = 100\n" ∷ codes "[[process]]\nparent = 100\n" ∷ [])
 unfolding world_on_literals
 faults_of_parents = refl
 
 -- a pid that stands twice is one whatever the parents are
-pub one_pid_twice : AreBad (codes "[[process]]\npid = 100\nparent = 100\n" ∷ codes "[[process]]\npid = 101\nparent = 100\n[[process]]\npid = 101\nparent = 100\n" ∷ [])
+pub one_pid_twice : AreBad (codes "[[process]]\npid = 100\nparent = 100\n"
+    ∷ codes "[[process]]\npid = 101\nparent = 100\n[[process]]\npid = 101\nparent = 100\n" ∷ [])
 unfolding world_on_literals
 one_pid_twice = refl
 
@@ -69,6 +76,7 @@ pub a_space_beside_a_parent : world_text (of_row (codes "parent = 0\nspace = \"i
 unfolding world_on_literals
 a_space_beside_a_parent = refl
 
-pub a_parent_says_more : map (λ rest. text_says_more (of_row rest)) (codes "[[process]]\npid = 101\nparent = 100\n" ∷ codes "parent = 100\n" ∷ []) ≡ true ∷ true ∷ []
+pub a_parent_says_more : map (λ rest. text_says_more (of_row rest)) (codes "[[process]]\npid = 101\nparent = 100\n"
+    ∷ codes "parent = 100\n" ∷ []) ≡ true ∷ true ∷ []
 unfolding world_on_literals
 a_parent_says_more = refl

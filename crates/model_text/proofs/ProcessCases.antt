@@ -46,7 +46,8 @@ unfolding world_on_literals
 a_user_is_declared = refl
 
 -- the effective id decides what is held by default
-pub effective_root_holds_all : Declares (codes "uid = [1000, 0, 1001, 1002]\n") (record root { uid = record { real = 1000; effective = 0; saved = 1001; fs = 1002 } })
+pub effective_root_holds_all : Declares (codes "uid = [1000, 0, 1001, 1002]\n")
+    (record root { uid = record { real = 1000; effective = 0; saved = 1001; fs = 1002 } })
 unfolding world_on_literals
 effective_root_holds_all = refl
 
@@ -56,7 +57,8 @@ real_root_holds_none = refl
 
 -- the same, written out
 pub defaults_written_out : Declares
-    (codes "uid = 0\ngid = 0\ngroups = []\npermitted = \"all\"\neffective = \"all\"\ninheritable = \"none\"\nambient = \"none\"\nbounding = \"all\"\nsecurebits = 0\nno_new_privs = false\n") root
+    (codes "uid = 0\ngid = 0\ngroups = []\npermitted = \"all\"\neffective = \"all\"\ninheritable = \"none\"\n"
+    ++ codes "ambient = \"none\"\nbounding = \"all\"\nsecurebits = 0\nno_new_privs = false\n") root
 unfolding world_on_literals
 defaults_written_out = refl
 
@@ -74,7 +76,8 @@ unfolding world_on_literals
 largest_group_id = refl
 
 pub faults_of_group_ids : AreBad
-    (codes "gid = 4294967295\n" ∷ codes "gid = -1\n" ∷ codes "gid = \"0\"\n" ∷ codes "gid = 0.0\n" ∷ codes "gid = true\n" ∷ codes "gid = {}\n" ∷ codes "gid = []\n" ∷ codes "gid = [0, 0, 0]\n" ∷ codes "gid = [0, 0, 0, 0, 0]\n"
+    (codes "gid = 4294967295\n" ∷ codes "gid = -1\n" ∷ codes "gid = \"0\"\n" ∷ codes "gid = 0.0\n" ∷ codes "gid = true\n"
+    ∷ codes "gid = {}\n" ∷ codes "gid = []\n" ∷ codes "gid = [0, 0, 0]\n" ∷ codes "gid = [0, 0, 0, 0, 0]\n"
     ∷ codes "gid = [0, 0, 0, 4294967295]\n" ∷ codes "gid = [0, 0, 0, \"0\"]\n" ∷ codes "gid = [[0, 0, 0, 0]]\n" ∷ [])
 unfolding world_on_literals
 faults_of_group_ids = refl
@@ -96,7 +99,8 @@ pub lowest_and_largest_group : Declares (codes "groups = [4294967294, 0]\n") (re
 unfolding world_on_literals
 lowest_and_largest_group = refl
 
-pub faults_of_groups : AreBad (codes "groups = 34\n" ∷ codes "groups = \"34\"\n" ∷ codes "groups = [34, 4294967295]\n" ∷ codes "groups = [-1]\n" ∷ codes "groups = [\"34\"]\n" ∷ codes "groups = [[34]]\n" ∷ codes "groups = {}\n" ∷ [])
+pub faults_of_groups : AreBad (codes "groups = 34\n" ∷ codes "groups = \"34\"\n" ∷ codes "groups = [34, 4294967295]\n"
+    ∷ codes "groups = [-1]\n" ∷ codes "groups = [\"34\"]\n" ∷ codes "groups = [[34]]\n" ∷ codes "groups = {}\n" ∷ [])
 unfolding world_on_literals
 faults_of_groups = refl
 
@@ -106,7 +110,8 @@ pub each_has_its_default_for_itself : Declares (codes "uid = 1000\npermitted = \
 unfolding world_on_literals
 each_has_its_default_for_itself = refl
 
-pub both_are_declared : Declares (codes "uid = 1000\npermitted = \"CAP_KILL,CAP_NET_BIND_SERVICE\"\neffective = \"0000000000000400\"\n") (record user { permitted = 1056; effective = 1024 })
+pub both_are_declared : Declares
+    (codes "uid = 1000\npermitted = \"CAP_KILL,CAP_NET_BIND_SERVICE\"\neffective = \"0000000000000400\"\n") (record user { permitted = 1056; effective = 1024 })
 unfolding world_on_literals
 both_are_declared = refl
 
@@ -119,7 +124,8 @@ unfolding world_on_literals
 root_with_none = refl
 
 pub effective_beyond_permitted : AreBad
-    (codes "uid = 1000\neffective = \"CAP_KILL\"\n" ∷ codes "permitted = \"CAP_KILL\"\n" ∷ codes "permitted = \"none\"\n" ∷ codes "uid = 1000\npermitted = \"CAP_KILL\"\neffective = \"CAP_CHOWN\"\n"
+    (codes "uid = 1000\neffective = \"CAP_KILL\"\n" ∷ codes "permitted = \"CAP_KILL\"\n" ∷ codes "permitted = \"none\"\n"
+    ∷ codes "uid = 1000\npermitted = \"CAP_KILL\"\neffective = \"CAP_CHOWN\"\n"
     ∷ codes "uid = 1000\npermitted = \"CAP_KILL\"\neffective = \"CAP_KILL,CAP_CHOWN\"\n" ∷ [])
 unfolding world_on_literals
 effective_beyond_permitted = refl
@@ -129,11 +135,14 @@ pub inheritable_alone : Declares (codes "uid = 1000\ninheritable = \"CAP_KILL\"\
 unfolding world_on_literals
 inheritable_alone = refl
 
-pub inheritable_beyond_the_bounding_set : Declares (codes "uid = 1000\ninheritable = \"all\"\nbounding = \"none\"\n") (record user { inheritable = 0x1ffffffffff; bounding = 0 })
+pub inheritable_beyond_the_bounding_set : Declares (codes "uid = 1000\ninheritable = \"all\"\nbounding = \"none\"\n")
+    (record user { inheritable = 0x1ffffffffff; bounding = 0 })
 unfolding world_on_literals
 inheritable_beyond_the_bounding_set = refl
 
-pub ambient_within_both : Declares (codes "uid = 1000\npermitted = \"CAP_KILL\"\ninheritable = \"CAP_KILL\"\nambient = \"CAP_KILL\"\n") (record user { permitted = 32; inheritable = 32; ambient = 32 })
+pub ambient_within_both : Declares
+    (codes "uid = 1000\npermitted = \"CAP_KILL\"\ninheritable = \"CAP_KILL\"\nambient = \"CAP_KILL\"\n")
+    (record user { permitted = 32; inheritable = 32; ambient = 32 })
 unfolding world_on_literals
 ambient_within_both = refl
 
@@ -142,13 +151,15 @@ unfolding world_on_literals
 bounding_set_of_one = refl
 
 pub ambient_beyond_the_others : AreBad
-    (codes "ambient = \"CAP_KILL\"\n" ∷ codes "uid = 1000\ninheritable = \"CAP_KILL\"\nambient = \"CAP_KILL\"\n" ∷ codes "uid = 1000\npermitted = \"CAP_KILL\"\nambient = \"CAP_KILL\"\n"
+    (codes "ambient = \"CAP_KILL\"\n" ∷ codes "uid = 1000\ninheritable = \"CAP_KILL\"\nambient = \"CAP_KILL\"\n"
+    ∷ codes "uid = 1000\npermitted = \"CAP_KILL\"\nambient = \"CAP_KILL\"\n"
     ∷ codes "inheritable = \"CAP_KILL\"\nambient = \"CAP_KILL,CAP_CHOWN\"\n" ∷ [])
 unfolding world_on_literals
 ambient_beyond_the_others = refl
 
 pub faults_of_sets : AreBad
-    (codes "permitted = \"CAP_FOO\"\n" ∷ codes "effective = \"\"\n" ∷ codes "inheritable = \"CAP_KILL,\"\n" ∷ codes "ambient = \"cap_kill\"\n" ∷ codes "bounding = \"000001fffffffff\"\n" ∷ codes "bounding = 0\n" ∷ codes "permitted = []\n"
+    (codes "permitted = \"CAP_FOO\"\n" ∷ codes "effective = \"\"\n" ∷ codes "inheritable = \"CAP_KILL,\"\n"
+    ∷ codes "ambient = \"cap_kill\"\n" ∷ codes "bounding = \"000001fffffffff\"\n" ∷ codes "bounding = 0\n" ∷ codes "permitted = []\n"
     ∷ codes "effective = [\"CAP_KILL\"]\n" ∷ codes "inheritable = true\n" ∷ codes "ambient = {}\n" ∷ [])
 unfolding world_on_literals
 faults_of_sets = refl
@@ -158,7 +169,8 @@ pub largest_securebits : Declares (codes "securebits = 255\n") (record root { se
 unfolding world_on_literals
 largest_securebits = refl
 
-pub faults_of_securebits : AreBad (codes "securebits = 256\n" ∷ codes "securebits = -1\n" ∷ codes "securebits = \"16\"\n" ∷ codes "securebits = [16]\n" ∷ codes "securebits = true\n" ∷ codes "securebits = 16.0\n" ∷ [])
+pub faults_of_securebits : AreBad (codes "securebits = 256\n" ∷ codes "securebits = -1\n" ∷ codes "securebits = \"16\"\n"
+    ∷ codes "securebits = [16]\n" ∷ codes "securebits = true\n" ∷ codes "securebits = 16.0\n" ∷ [])
 unfolding world_on_literals
 faults_of_securebits = refl
 
@@ -166,24 +178,28 @@ pub no_new_privs_is_set : Declares (codes "no_new_privs = true\n") (record root 
 unfolding world_on_literals
 no_new_privs_is_set = refl
 
-pub faults_of_no_new_privs : AreBad (codes "no_new_privs = 1\n" ∷ codes "no_new_privs = 0\n" ∷ codes "no_new_privs = \"true\"\n" ∷ codes "no_new_privs = [true]\n" ∷ [])
+pub faults_of_no_new_privs : AreBad (codes "no_new_privs = 1\n" ∷ codes "no_new_privs = 0\n" ∷ codes "no_new_privs = \"true\"\n"
+    ∷ codes "no_new_privs = [true]\n" ∷ [])
 unfolding world_on_literals
 faults_of_no_new_privs = refl
 
 -- ---- other keys
-pub unknown_keys : AreBad (codes "cap = \"all\"\n" ∷ codes "Gid = 0\n" ∷ codes "group = 0\n" ∷ codes "nnp = true\n" ∷ codes "\"gid \" = 0\n" ∷ codes "gid.real = 0\n" ∷ codes "gid = 0\ngid = 0\n" ∷ [])
+pub unknown_keys : AreBad (codes "cap = \"all\"\n" ∷ codes "Gid = 0\n" ∷ codes "group = 0\n" ∷ codes "nnp = true\n"
+    ∷ codes "\"gid \" = 0\n" ∷ codes "gid.real = 0\n" ∷ codes "gid = 0\ngid = 0\n" ∷ [])
 unfolding world_on_literals
 unknown_keys = refl
 
 -- ---- whether more is said than pids and user ids
 pub each_further_key_says_more : map (λ rest. text_says_more (of_row rest))
-    (codes "gid = 0\n" ∷ codes "groups = []\n" ∷ codes "permitted = \"all\"\n" ∷ codes "effective = \"all\"\n" ∷ codes "inheritable = \"none\"\n" ∷ codes "ambient = \"none\"\n" ∷ codes "bounding = \"all\"\n" ∷ codes "securebits = 0\n"
+    (codes "gid = 0\n" ∷ codes "groups = []\n" ∷ codes "permitted = \"all\"\n" ∷ codes "effective = \"all\"\n"
+    ∷ codes "inheritable = \"none\"\n" ∷ codes "ambient = \"none\"\n" ∷ codes "bounding = \"all\"\n" ∷ codes "securebits = 0\n"
     ∷ codes "no_new_privs = false\n" ∷ [])
     ≡ true ∷ true ∷ true ∷ true ∷ true ∷ true ∷ true ∷ true ∷ true ∷ []
 unfolding world_on_literals
 each_further_key_says_more = refl
 
-pub user_ids_say_no_more : map (λ rest. text_says_more (of_row rest)) ([] ∷ codes "uid = 1000\n" ∷ codes "uid = [0, 0, 7, 0]\n[[process]]\npid = 101\n" ∷ []) ≡ false ∷ false ∷ false ∷ []
+pub user_ids_say_no_more : map (λ rest. text_says_more (of_row rest)) ([] ∷ codes "uid = 1000\n"
+    ∷ codes "uid = [0, 0, 7, 0]\n[[process]]\npid = 101\n" ∷ []) ≡ false ∷ false ∷ false ∷ []
 unfolding world_on_literals
 user_ids_say_no_more = refl
 

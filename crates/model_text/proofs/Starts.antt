@@ -1,5 +1,6 @@
 -- The processes at a world's start: no pid stands twice, and the pids ascend.
-use Rattle.std.proofs.Common.{◌≡◌, ℕ, ◌==◌, Bool, true, false, cond, ◌&&◌, ◌||◌, List, [], ◌∷◌, map, Option, Some, None, refl, sym, ◌∙◌, ap, subst, arith, ◌≢◌, ◌<◌, inl, inr}
+use Rattle.std.proofs.Common.{◌≡◌, ℕ, ◌==◌, Bool, true, false, cond, ◌&&◌, ◌||◌, List, [], ◌∷◌, map, Option, Some, None, refl, sym, ◌∙◌, ap, subst}
+use Rattle.std.proofs.Common.{arith, ◌≢◌, ◌<◌, inl, inr}
 use Rattle.std.proofs.lemmas.Bool.{cases_lt, lt-ltb, le-ltb}
 use Rattle.std.specs.Prelude.{codes, is_some}
 use Rattle.std.specs.Str.{is_utf8}
@@ -9,7 +10,9 @@ use Rattle.model_cred.proofs.Orders.{insert_ascends}
 use Rattle.model_cred.specs.Process.{Process, process_at, is_alive, Ascends, insert_process}
 use Rattle.model_cred.specs.World.{World}
 use Rattle.model_text.specs.Toml.{has_only, is_text}
-use Rattle.model_text.specs.WorldText.{WorldText, Reads, Bad, NotBuilt, world_text, document_text, table_text, built_table, distinct_world, world_with, in_order, are_distinct, parents_stand, asks_more, processes_of, rows_have, says_more, document_says_more, text_says_more}
+use Rattle.model_text.specs.WorldText.{WorldText, Reads, Bad, NotBuilt, world_text, document_text, table_text, built_table, distinct_world}
+use Rattle.model_text.specs.WorldText.{world_with, in_order, are_distinct, parents_stand, asks_more, processes_of, rows_have, says_more}
+use Rattle.model_text.specs.WorldText.{document_says_more, text_says_more}
 use Rattle.model_text.specs.ProcessText.{further_keys}
 use Rattle.toml.specs.Data.{Data, Members, get_member}
 use Rattle.toml.specs.Parse.{parse_document}
@@ -72,10 +75,12 @@ pub both_true : (a b : Bool) → (a && b) ≡ true → (a ≡ true) × (b ≡ tr
 both_true true b is = (refl, is)
 both_true false b is = absurd (cc)
 
-read_processes : (value : Option Data) (read : Option (List Process)) (w : World) → processes_of value ≡ read → distinct_world read ≡ Reads w → Made w (rows_have further_keys value)
+read_processes : (value : Option Data) (read : Option (List Process)) (w : World) → processes_of value ≡ read
+    → distinct_world read ≡ Reads w → Made w (rows_have further_keys value)
 read_processes value None w rows is = absurd (cc)
 read_processes value (Some ps) w rows is =
-    let parts : ((are_distinct ps && parents_stand [] ps) ≡ true) × (Reads (world_with ps) ≡ Reads w) = where_true (are_distinct ps && parents_stand [] ps) (Reads (world_with ps)) w is in
+    let parts : ((are_distinct ps && parents_stand [] ps) ≡ true) × (Reads (world_with ps) ≡ Reads w)
+    = where_true (are_distinct ps && parents_stand [] ps) (Reads (world_with ps)) w is in
     let same : Reads (world_with ps) ≡ Reads w = parts.1 in
     let tests : (are_distinct ps ≡ true) × (parents_stand [] ps ≡ true) = both_true (are_distinct ps) (parents_stand [] ps) parts.0 in
     record { processes = ps; distinct = tests.0; parents = tests.1; world = cc; value = value; rows = rows; says_more = refl }
@@ -92,7 +97,8 @@ read_document (Some top) w is = read_table top w is
 
 pub start_made : (bytes : List ℕ) (w : World) → world_text bytes ≡ Reads w → Made w (text_says_more bytes)
 start_made bytes w is =
-    let parts : (is_utf8 bytes ≡ true) × (document_text (parse_document bytes) ≡ Reads w) = where_true (is_utf8 bytes) (document_text (parse_document bytes)) w is in
+    let parts : (is_utf8 bytes ≡ true) × (document_text (parse_document bytes) ≡ Reads w)
+    = where_true (is_utf8 bytes) (document_text (parse_document bytes)) w is in
     subst (λ (utf8 : Bool). Made w (utf8 && document_says_more (parse_document bytes))) (sym parts.0) (read_document (parse_document bytes) w parts.1)
 
 -- no pid stands twice in the world of a text

@@ -2,13 +2,16 @@
 use Rattle.std.proofs.Common.{◌≡◌, ℕ, Bool, true, false, cond, List, [], ◌∷◌, Option, Some, None, refl, sym, ◌∙◌, ap}
 use Rattle.std.specs.Prelude.{option_map, option_and_then}
 use Rattle.cm_base.specs.declared.res.Res.{Res}
-use Rattle.model_cred.specs.Call.{Call, Event, kind_of, SetUid, SetReUid, SetResUid, SetFsUid, SetGid, SetReGid, SetResGid, SetFsGid, SetGroups, CapSet, BsetDrop, AmbRaise, AmbLower, SecureBits, KeepCaps, NoNewPrivs}
+use Rattle.model_cred.specs.Call.{Call, Event, kind_of, SetUid, SetReUid, SetResUid, SetFsUid, SetGid, SetReGid, SetResGid, SetFsGid, SetGroups}
+use Rattle.model_cred.specs.Call.{CapSet, BsetDrop, AmbRaise, AmbLower, SecureBits, KeepCaps, NoNewPrivs}
 use Rattle.cm_filter.specs.declared.kind.CallKind.{CallKind}
 use Rattle.cm_filter.specs.declared.kind.CallKind.TheVariants as kind
 use Rattle.cm_filter.specs.Kinds.{kind_named}
 use Rattle.model_text.specs.CapText.{set_of_text}
 use Rattle.model_text.specs.Cut.{tokens_of}
-use Rattle.model_text.specs.Line.{Line, NoEvent, Tells, Faulty, Unbuilt, Tokens, next_read, next_id, with_one, with_two, with_three, ids_before, with_all, with_read, with_sets, call_of_kind, ending, event_told, is_built, IsBuilt, tells, kind_line, call_line, pid_line, tokens_line, script_line}
+use Rattle.model_text.specs.Line.{Line, NoEvent, Tells, Faulty, Unbuilt, Tokens, next_read, next_id, with_one, with_two, with_three, ids_before}
+use Rattle.model_text.specs.Line.{with_all, with_read, with_sets, call_of_kind, ending, event_told, is_built, IsBuilt, tells, kind_line, call_line}
+use Rattle.model_text.specs.Line.{pid_line, tokens_line, script_line}
 use Rattle.model_text.specs.Token.{number_token, pid_token, cap_token, is_comment}
 
 -- ---- the call that arguments give
@@ -21,7 +24,8 @@ IsOf kind (Some read) = kind_of read.0 ≡ kind
 one_of : (kind : CallKind) (make : ℕ → Call) → ((a : ℕ) → kind_of (make a) ≡ kind) → (tokens : Tokens) → IsOf kind (with_one make tokens)
 unfolding IsOf
 one_of kind make of tokens =
-    elim (next_id tokens) as (λ (read : Option (ℕ × Tokens)). IsOf kind (option_map (λ first. (make first.0, first.1)) read)) [ None ↦ tt | Some first ↦ of first.0 ]
+    elim (next_id tokens) as (λ (read : Option (ℕ × Tokens)). IsOf kind
+    (option_map (λ first. (make first.0, first.1)) read)) [ None ↦ tt | Some first ↦ of first.0 ]
 
 two_of : (kind : CallKind) (make : ℕ → ℕ → Call) → ((a b : ℕ) → kind_of (make a b) ≡ kind) → (tokens : Tokens) → IsOf kind (with_two make tokens)
 unfolding IsOf
@@ -42,12 +46,15 @@ three_of kind make of tokens =
 all_of : (kind : CallKind) (make : List ℕ → Call) → ((ids : List ℕ) → kind_of (make ids) ≡ kind) → (tokens : Tokens) → IsOf kind (with_all make tokens)
 unfolding IsOf
 all_of kind make of tokens =
-    elim (ids_before tokens) as (λ (read : Option (List ℕ × Tokens)). IsOf kind (option_map (λ all. (make all.0, all.1)) read)) [ None ↦ tt | Some all ↦ of all.0 ]
+    elim (ids_before tokens) as
+    (λ (read : Option (List ℕ × Tokens)). IsOf kind (option_map (λ all. (make all.0, all.1)) read)) [ None ↦ tt | Some all ↦ of all.0 ]
 
-read_of : (kind : CallKind) (read : List ℕ → Option ℕ) (make : ℕ → Call) → ((a : ℕ) → kind_of (make a) ≡ kind) → (tokens : Tokens) → IsOf kind (with_read read make tokens)
+read_of : (kind : CallKind) (read : List ℕ → Option ℕ) (make : ℕ → Call) → ((a : ℕ) → kind_of (make a) ≡ kind) → (tokens : Tokens)
+    → IsOf kind (with_read read make tokens)
 unfolding IsOf
 read_of kind read make of tokens =
-    elim (next_read read tokens) as (λ (first : Option (ℕ × Tokens)). IsOf kind (option_map (λ first. (make first.0, first.1)) first)) [ None ↦ tt | Some first ↦ of first.0 ]
+    elim (next_read read tokens) as
+    (λ (first : Option (ℕ × Tokens)). IsOf kind (option_map (λ first. (make first.0, first.1)) first)) [ None ↦ tt | Some first ↦ of first.0 ]
 
 sets_of : (tokens : Tokens) → IsOf kind.CapSet (with_sets tokens)
 unfolding IsOf
@@ -58,7 +65,8 @@ sets_of tokens = by_effective (next_read set_of_text tokens)
     by_inheritable e p (Some read) = refl
 
     by_permitted : (e : ℕ) (read : Option (ℕ × Tokens))
-        → IsOf kind.CapSet (option_and_then (λ permitted. option_map (λ inheritable. (CapSet e permitted.0 inheritable.0, inheritable.1)) (next_read set_of_text permitted.1)) read)
+        → IsOf kind.CapSet (option_and_then
+        (λ permitted. option_map (λ inheritable. (CapSet e permitted.0 inheritable.0, inheritable.1)) (next_read set_of_text permitted.1)) read)
     by_permitted e None = tt
     by_permitted e (Some read) = by_inheritable e read.0 (next_read set_of_text read.1)
 
@@ -66,7 +74,8 @@ sets_of tokens = by_effective (next_read set_of_text tokens)
         → IsOf kind.CapSet
         (option_and_then (λ effective.
         option_and_then (λ permitted.
-        option_map (λ inheritable. (CapSet effective.0 permitted.0 inheritable.0, inheritable.1)) (next_read set_of_text permitted.1)) (next_read set_of_text effective.1)) read)
+        option_map (λ inheritable. (CapSet effective.0 permitted.0 inheritable.0, inheritable.1)) (next_read set_of_text permitted.1))
+        (next_read set_of_text effective.1)) read)
     by_effective None = tt
     by_effective (Some read) = by_permitted read.0 (next_read set_of_text read.1)
 
@@ -99,7 +108,8 @@ call_of _ tokens = tt
 TellsKind : CallKind → Line → Type 0
 TellsKind kind line = (e : Event) → line ≡ Tells e → kind_of e.call ≡ kind
 
-told_by : (pid : ℕ) (kind : CallKind) (call : Call) (res : Option Res) → kind_of call ≡ kind → TellsKind kind (tells (option_map (λ res. record { pid = pid; call = call; res = res }) res))
+told_by : (pid : ℕ) (kind : CallKind) (call : Call) (res : Option Res) → kind_of call ≡ kind
+    → TellsKind kind (tells (option_map (λ res. record { pid = pid; call = call; res = res }) res))
 unfolding TellsKind
 told_by pid kind call None of e is = absurd (cc)
 told_by pid kind call (Some res) of e is = let same : call ≡ e.call = cc in ap kind_of (sym same) ∙ of
@@ -134,7 +144,8 @@ of_kind : (pid : ℕ) (kind : Option CallKind) (tokens : Tokens) → TellsBuilt 
 unfolding TellsBuilt
 of_kind pid None tokens = faulty
 of_kind pid (Some kind) tokens =
-    either (is_built kind) (tells (event_told pid kind tokens)) Unbuilt (λ built e is. ap is_built (tells_kind pid kind tokens e is) ∙ built) (silent Unbuilt (λ e is. absurd (cc)))
+    either (is_built kind) (tells (event_told pid kind tokens)) Unbuilt
+    (λ built e is. ap is_built (tells_kind pid kind tokens e is) ∙ built) (silent Unbuilt (λ e is. absurd (cc)))
 
 of_call : (pid : ℕ) (tokens : Tokens) → TellsBuilt (call_line pid tokens)
 of_call pid [] = faulty
@@ -146,7 +157,8 @@ of_pid (Some pid) tokens = of_call pid tokens
 
 of_tokens : (tokens : Tokens) → TellsBuilt (tokens_line tokens)
 of_tokens [] = silent NoEvent (λ e is. absurd (cc))
-of_tokens (first ∷ tokens) = either (is_comment first) NoEvent (pid_line (pid_token first) tokens) (λ _. silent NoEvent (λ e is. absurd (cc))) (of_pid (pid_token first) tokens)
+of_tokens (first ∷ tokens) =
+    either (is_comment first) NoEvent (pid_line (pid_token first) tokens) (λ _. silent NoEvent (λ e is. absurd (cc))) (of_pid (pid_token first) tokens)
 
 -- a script line tells events of built calls only
 pub tells_built : (line : List ℕ) (e : Event) → script_line line ≡ Tells e → IsBuilt e.call

@@ -25,7 +25,8 @@ pub user_id_by_default : world_text (codes "log = \"script\"\n[[process]]\npid =
 unfolding world_on_literals
 user_id_by_default = refl
 
-pub four_user_ids : world_text (codes "log = \"script\"\n[[process]]\npid = 100\nuid = [0, 0, 7, 0]\n") ≡ Reads (world_with (process_of 100 (record { real = 0; effective = 0; saved = 7; fs = 0 }) ∷ []))
+pub four_user_ids : world_text (codes "log = \"script\"\n[[process]]\npid = 100\nuid = [0, 0, 7, 0]\n")
+    ≡ Reads (world_with (process_of 100 (record { real = 0; effective = 0; saved = 7; fs = 0 }) ∷ []))
 unfolding world_on_literals
 four_user_ids = refl
 
@@ -33,7 +34,8 @@ pub no_process : world_text (codes "log = \"script\"\n") ≡ Reads (world_with [
 unfolding world_on_literals
 no_process = refl
 
-pub rows_in_any_order : world_text (codes "log = \"script\"\n[[process]]\npid = 200\n[[process]]\npid = 100\n") ≡ Reads (world_with (process_of 100 (all_four 0) ∷ process_of 200 (all_four 0) ∷ []))
+pub rows_in_any_order : world_text (codes "log = \"script\"\n[[process]]\npid = 200\n[[process]]\npid = 100\n")
+    ≡ Reads (world_with (process_of 100 (all_four 0) ∷ process_of 200 (all_four 0) ∷ []))
 unfolding world_on_literals
 rows_in_any_order = refl
 

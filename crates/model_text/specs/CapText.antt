@@ -1,6 +1,7 @@
 -- The texts of sets of capabilities: `all`, `none`, 16 hexadecimal digits of either case (bits above 40 are dropped), or
 -- names joined by commas (choice; the names are those of capabilities(7)).
-use Rattle.std.specs.Prelude.{ℕ, codes, ◌+◌, ◌-◌, ◌*◌, ◌==◌, ◌&&◌, nat_le, bytes_eq, length, List, [], ◌∷◌, Option, Some, None, if◌then◌else◌, option_map, option_and_then}
+use Rattle.std.specs.Prelude.{ℕ, codes, ◌+◌, ◌-◌, ◌*◌, ◌==◌, ◌&&◌, nat_le, bytes_eq, length, List, [], ◌∷◌, Option, Some, None, if◌then◌else◌}
+use Rattle.std.specs.Prelude.{option_map, option_and_then}
 use Rattle.std.specs.Option.{option_or}
 use Rattle.std.specs.List.{slice_split}
 use Rattle.cm_base.specs.CapSet.{full, none, meet, with}

@@ -4,7 +4,8 @@
 use Rattle.std.specs.Prelude.{◌≡◌, ℕ, Bool, true, false, List, [], ◌∷◌, Option, Some, None, if◌then◌else◌, option_map, option_and_then}
 use Rattle.cm_base.specs.declared.res.Res.{Res}
 use Rattle.cm_base.specs.declared.res.Res.TheVariants.{Id}
-use Rattle.model_cred.specs.Call.{Call, Event, kind_of, SetUid, SetReUid, SetResUid, SetFsUid, SetGid, SetReGid, SetResGid, SetFsGid, SetGroups, CapSet, BsetDrop, AmbRaise, AmbLower, AmbClear, SecureBits, KeepCaps, NoNewPrivs, Fork, Exit}
+use Rattle.model_cred.specs.Call.{Call, Event, kind_of, SetUid, SetReUid, SetResUid, SetFsUid, SetGid, SetReGid, SetResGid, SetFsGid, SetGroups}
+use Rattle.model_cred.specs.Call.{CapSet, BsetDrop, AmbRaise, AmbLower, AmbClear, SecureBits, KeepCaps, NoNewPrivs, Fork, Exit}
 use Rattle.cm_filter.specs.declared.kind.CallKind.{CallKind}
 use Rattle.cm_filter.specs.declared.kind.CallKind.TheVariants as kind
 use Rattle.cm_filter.specs.Kinds.{kind_named}
@@ -67,7 +68,8 @@ abbrev pub with_sets : Tokens → Option (Call × Tokens)
 with_sets tokens =
     option_and_then (λ effective.
     option_and_then (λ permitted.
-    option_map (λ inheritable. (CapSet effective.0 permitted.0 inheritable.0, inheritable.1)) (next_read set_of_text permitted.1)) (next_read set_of_text effective.1))
+    option_map (λ inheritable. (CapSet effective.0 permitted.0 inheritable.0, inheritable.1)) (next_read set_of_text permitted.1))
+    (next_read set_of_text effective.1))
     (next_read set_of_text tokens)
 
 -- a call of that kind with its arguments, and the tokens after them; none for a kind that isn't built

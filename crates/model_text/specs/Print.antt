@@ -6,7 +6,8 @@ use Rattle.cm_base.specs.declared.res.Res.{Res}
 use Rattle.cm_base.specs.declared.res.Res.TheVariants.{Done, Id, Child, Err}
 use Rattle.model_cred.specs.Credential.{Credential, FourIds}
 use Rattle.model_cred.specs.Process.{Process}
-use Rattle.model_cred.specs.Call.{Call, Event, kind_of, SetUid, SetReUid, SetResUid, SetFsUid, SetGid, SetReGid, SetResGid, SetFsGid, SetGroups, CapSet, BsetDrop, AmbRaise, AmbLower, SecureBits, KeepCaps, NoNewPrivs}
+use Rattle.model_cred.specs.Call.{Call, Event, kind_of, SetUid, SetReUid, SetResUid, SetFsUid, SetGid, SetReGid, SetResGid, SetFsGid, SetGroups}
+use Rattle.model_cred.specs.Call.{CapSet, BsetDrop, AmbRaise, AmbLower, SecureBits, KeepCaps, NoNewPrivs}
 use Rattle.cm_filter.specs.Kinds.{call_name}
 
 -- a hexadecimal digit in lower case

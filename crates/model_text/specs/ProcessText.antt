@@ -149,7 +149,9 @@ process_with _ _ _ = None
 
 -- the keys of a process that are built, beside its pid and its user ids
 abbrev pub further_keys : List (List ℕ)
-further_keys = codes "parent" ∷ codes "gid" ∷ codes "groups" ∷ codes "permitted" ∷ codes "effective" ∷ codes "inheritable" ∷ codes "ambient" ∷ codes "bounding" ∷ codes "securebits" ∷ codes "no_new_privs" ∷ []
+further_keys =
+    codes "parent" ∷ codes "gid" ∷ codes "groups" ∷ codes "permitted" ∷ codes "effective" ∷ codes "inheritable" ∷ codes "ambient"
+    ∷ codes "bounding" ∷ codes "securebits" ∷ codes "no_new_privs" ∷ []
 
 -- the keys of a process
 abbrev pub process_keys : List (List ℕ)
@@ -157,5 +159,7 @@ process_keys = codes "pid" ∷ codes "uid" ∷ further_keys
 
 -- a row of the processes
 abbrev pub process_row : Data → Option Process
-process_row (table row) = if has_only process_keys row then process_with (pid_value (get_member (codes "pid") row)) (parent_value (get_member (codes "parent") row)) (credential_declared row) else None
+process_row (table row) =
+    if has_only process_keys row then process_with (pid_value (get_member (codes "pid") row))
+    (parent_value (get_member (codes "parent") row)) (credential_declared row) else None
 process_row _ = None

@@ -44,7 +44,8 @@ later_keys = codes "space" ∷ []
 
 -- the whole table asks for what isn't built
 abbrev pub asks_more : Members → Bool
-asks_more top = has_key_of later_tables top || is_text (codes "strace") (get_member (codes "log") top) || rows_have later_keys (get_member (codes "process") top)
+asks_more top =
+    has_key_of later_tables top || is_text (codes "strace") (get_member (codes "log") top) || rows_have later_keys (get_member (codes "process") top)
 
 -- ---- the processes
 -- one process more before the others, where it and they are there

@@ -1,4 +1,4 @@
-use Rattle.std.proofs.Common.{refl, sym, ◌∙◌, arith}
+use Rattle.std.proofs.Common.{sym, ◌∙◌, arith}
 use Rattle.cm_cli.proofs.Events.{next_status, next_waits, run_on, told_on, stop_waits}
 use Rattle.cm_cli.proofs.Waiting.{sent_on, front_on, more_waits, front_of_more, waits_as}
 use Rattle.cm_cli.proofs.replay.replay_log.Goals as goal
@@ -8,14 +8,16 @@ use Rattle.cm_world.specs.World.{world_of}
 pub returns-in-Ok-false-clause-sent : goal.returns-in-Ok-false-clause-sent
 returns-in-Ok-false-clause-sent g c =
     let none = rw c.in-Ok-false.field-0-test at c.in-Ok-false.ensures.step in
-    let waits = stop_waits (world_of c.args.w.now) c.loop-event.replay c.loop-event.replay (left c.loop-event.log) (left c.in-Ok-Event.after) c.in-Ok-Event.event (rw c.in-Ok-Event.field-0-is at c.in-Ok-Event.ensures.next)
+    let waits = stop_waits (world_of c.args.w.now) c.loop-event.replay c.loop-event.replay (left c.loop-event.log)
+    (left c.in-Ok-Event.after) c.in-Ok-Event.event (rw c.in-Ok-Event.field-0-is at c.in-Ok-Event.ensures.next)
     none c.loop-event.text.items c.take_event.new.text.items c.in-Ok-false.ensures.lines in
     waits_as _ _ waits c.loop-event.invariant.sent
 
 pub returns-in-Err-send_full-clause-stopped : goal.returns-in-Err-send_full-clause-stopped
 returns-in-Err-send_full-clause-stopped g c =
     let step = rw c.in-Ok-true.field-0-test at c.in-Ok-true.ensures.step in
-    let waits = next_waits (world_of c.args.w.now) c.loop-event.replay c.take_event.new.replay (left c.loop-event.log) (left c.in-Ok-Event.after) c.in-Ok-Event.event (rw c.in-Ok-Event.field-0-is at c.in-Ok-Event.ensures.next)
+    let waits = next_waits (world_of c.args.w.now) c.loop-event.replay c.take_event.new.replay (left c.loop-event.log)
+    (left c.in-Ok-Event.after) c.in-Ok-Event.event (rw c.in-Ok-Event.field-0-is at c.in-Ok-Event.ensures.next)
     step (c.in-Ok-true.ensures.events c.in-Ok-true.field-0-test) c.loop-event.text.items c.take_event.new.text.items c.in-Ok-true.ensures.lines in
     front_on (waits_as _ _ waits c.loop-event.invariant.sent) (front_of_more c.in-Err-send_full.ensures.front _)
 
@@ -30,7 +32,8 @@ loop-event-preserved-in-Ok g c =
     let e = c.in-Ok-Event.event in
     let step = rw c.in-Ok-true.field-0-test at c.in-Ok-true.ensures.step in
     let events = c.in-Ok-true.ensures.events c.in-Ok-true.field-0-test in
-    let waits = next_waits w from to (left c.loop-event.log) (left c.in-Ok-Event.after) e is step events c.loop-event.text.items c.take_event.new.text.items c.in-Ok-true.ensures.lines in
+    let waits = next_waits w from to (left c.loop-event.log)
+    (left c.in-Ok-Event.after) e is step events c.loop-event.text.items c.take_event.new.text.items c.in-Ok-true.ensures.lines in
     record {
       status = sym (next_status w from to (left c.loop-event.log) (left c.in-Ok-Event.after) e is step events) ∙ c.loop-event.invariant.status;
       sent = sent_on (waits_as _ _ waits c.loop-event.invariant.sent) (more_waits c.in-Ok.ensures.sent _);
@@ -53,7 +56,8 @@ loop-event-preserved g c =
     let e = c.in-Ok-Event.event in
     let step = rw c.in-Ok-true.field-0-test at c.in-Ok-true.ensures.step in
     let events = c.in-Ok-true.ensures.events c.in-Ok-true.field-0-test in
-    let waits = next_waits w from to (left c.loop-event.log) (left c.in-Ok-Event.after) e is step events c.loop-event.text.items c.take_event.new.text.items c.in-Ok-true.ensures.lines in
+    let waits = next_waits w from to (left c.loop-event.log)
+    (left c.in-Ok-Event.after) e is step events c.loop-event.text.items c.take_event.new.text.items c.in-Ok-true.ensures.lines in
     record {
       status = sym (next_status w from to (left c.loop-event.log) (left c.in-Ok-Event.after) e is step events) ∙ c.loop-event.invariant.status;
       sent = sent_on (waits_as _ _ waits c.loop-event.invariant.sent) (more_waits c.in-Ok.ensures.sent _);

@@ -17,8 +17,10 @@ invariant-loop-event g l = record {
   sent : IsSent (g.K.Sink.written l.initial.out) (g.K.Sink.written l.out) (l.text.items ++ text_of (report_from (world_of l.fn.w) l.replay (left l.log)).lines)
       (l.initial.text.items ++ text_of (report_from (world_of l.fn.w) l.initial.replay (left l.fn.log)).lines);
   faults : g.K.Sink.faults l.out ≡ g.K.Sink.faults l.initial.out;
-  told : (l.replay.setresuids && are_setresuids (events_of (left l.log).events)) ≡ (l.initial.replay.setresuids && are_setresuids (events_of (left l.fn.log).events));
-  reached : (s : State) → Run (world_of l.fn.w) l.replay.machine.state (events_of (left l.log).events) s → Run (world_of l.fn.w) l.initial.replay.machine.state (events_of (left l.fn.log).events) s;
+  told : (l.replay.setresuids && are_setresuids (events_of (left l.log).events))
+      ≡ (l.initial.replay.setresuids && are_setresuids (events_of (left l.fn.log).events));
+  reached : (s : State) → Run (world_of l.fn.w) l.replay.machine.state (events_of (left l.log).events) s
+      → Run (world_of l.fn.w) l.initial.replay.machine.state (events_of (left l.fn.log).events) s;
   lines : l.log.number + length l.log.rest.now < 2 ^ 64;
   events : l.replay.events + length l.log.rest.now < 2 ^ 64;
 }

@@ -1,4 +1,4 @@
-use Rattle.std.proofs.Common.{List, ℕ, ap, sym, ◌∙◌, ◌++◌, Err}
+use Rattle.std.proofs.Common.{List, ap, sym, ◌∙◌, ◌++◌, Err}
 use Rattle.cm_cli.proofs.Events.{refused}
 use Rattle.cm_cli.proofs.replay.take_event.Goals as goal
 use Rattle.cm_world.specs.World.{world_of}
@@ -11,7 +11,9 @@ returns-in_ok-put_impossible-in-Err c =
     let e : Placed = record { line = c.event.inside.line; event = c.event.inside.event } in
     let become = outcome (world_of c.args.w.now) c.args.replay.now.machine.state e.event in
     let says = c.in-Err.ensures in
-    let is = refused e c.in-Err.why become c.in_ok-put_impossible-in-Err.ensures.refusal (λ same. says.no_process (ap Err same)) (λ same. says.no_space (ap Err same)) (λ same. says.pid_in_use (ap Err same))
+    let is = refused e c.in-Err.why become c.in_ok-put_impossible-in-Err.ensures.refusal
+    (λ same. says.no_process (ap Err same)) (λ same. says.no_space (ap Err same))
+    (λ same. says.pid_in_use (ap Err same))
     (λ res same. says.wrong res (ap Err same)) in
     rw (sym c.event.view_is) (record {
       step = is.none;

@@ -6,13 +6,15 @@ use Rattle.std.proofs.Common.{sym}
 
 pub returns-in-Err-send_full-clause-stopped : goal.returns-in-Err-send_full-clause-stopped
 returns-in-Err-send_full-clause-stopped g c =
-    let waits = start_step c.items-p-items.result.now c.loop-p.p-index c.p-item.result c.loop-p.text.items c.put_process.new.text.items c.loop-p-test.true c.p-item.is c.in-Ok.ensures in
+    let waits = start_step c.items-p-items.result.now c.loop-p.p-index c.p-item.result c.loop-p.text.items
+    c.put_process.new.text.items c.loop-p-test.true c.p-item.is c.in-Ok.ensures in
     let front = front_on (waits_as _ _ waits c.loop-p.invariant.sent) (front_of_more c.in-Err-send_full.ensures.front _) in
     rw (sym c.start.view_is, sym c.items-p-items.ensures) front
 
 pub loop-p-preserved : goal.loop-p-preserved
 loop-p-preserved g c =
-    let waits = start_step c.items-p-items.result.now c.loop-p.p-index c.p-item.result c.loop-p.text.items c.put_process.new.text.items c.loop-p-test.true c.p-item.is c.in-Ok.ensures in
+    let waits = start_step c.items-p-items.result.now c.loop-p.p-index c.p-item.result c.loop-p.text.items
+    c.put_process.new.text.items c.loop-p-test.true c.p-item.is c.in-Ok.ensures in
     record {
       sent = sent_on (waits_as _ _ waits c.loop-p.invariant.sent) (more_waits c.in-Ok-send_full.ensures.sent _);
       faults = c.in-Ok-send_full.ensures.cause.ok ∙ c.loop-p.invariant.faults;

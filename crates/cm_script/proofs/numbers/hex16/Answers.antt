@@ -10,7 +10,8 @@ pub loop-at-preserved : goal.loop-at-preserved
 loop-at-preserved c = record {
   within = omega (arith, c.loop-at.invariant.within);
   long = length-set _ _ _ ∙ c.loop-at.invariant.long;
-  text = rw c.digit.ensures (digits_upto-down c.loop-at.at c.loop-at.left c.loop-at.digits c.loop-at-test.true (omega (arith, c.loop-at.invariant.within, c.loop-at.invariant.long)) ∙ c.loop-at.invariant.text);
+  text = rw c.digit.ensures (digits_upto-down c.loop-at.at c.loop-at.left c.loop-at.digits c.loop-at-test.true
+      (omega (arith, c.loop-at.invariant.within, c.loop-at.invariant.long)) ∙ c.loop-at.invariant.text);
 }
 
 pub returns : goal.returns

@@ -7,5 +7,6 @@ pub returns : goal.returns
 returns c =
     let goes : goes_on c.skip_blanks-text.result.now ≡ true = grind (arith, c.skip_blanks-text.ensures.begins, c.is_empty.ensures, c.if-is_empty.false) in
     sym c.skip_blanks-text.ensures.same
-    ∙ token_front c.skip_blanks-text.result.now c.token_len-end.result c.token_len-end.ensures.within c.token_len-end.ensures.token c.token_len-end.ensures.ended goes
+    ∙ token_front c.skip_blanks-text.result.now c.token_len-end.result
+    c.token_len-end.ensures.within c.token_len-end.ensures.token c.token_len-end.ensures.ended goes
     ∙ rw (sym c.split_at.ensures.front, sym c.split_at.ensures.back) refl

@@ -4,5 +4,6 @@ use Rattle.cm_cli.proofs.writing.answers.put_calls.Goals as goal
 
 pub loop-event-preserved : goal.loop-event-preserved
 loop-event-preserved c =
-    sym (call_step c.args.run.now c.loop-event.event-index c.event-item.result c.loop-event.text.items c.put_call_line.new.text.items c.loop-event-test.true c.event-item.is c.in_ok-put_call_line.ensures)
+    sym (call_step c.args.run.now c.loop-event.event-index c.event-item.result c.loop-event.text.items
+    c.put_call_line.new.text.items c.loop-event-test.true c.event-item.is c.in_ok-put_call_line.ensures)
     ∙ c.loop-event.invariant
