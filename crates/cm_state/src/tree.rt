@@ -1,12 +1,11 @@
 // The spaces as a tree: how deep a space is nested, which spaces are above it, and the power of a member over it. Each
 // walks up the chain of a space once, from parent to parent.
-ghost use Rattle.std.specs.Prelude.{◌≡◌, ◌<◌, length, option_map};
-ghost use Rattle.cm_base.specs.declared.id.SpaceId.{SpaceId};
+ghost use Rattle.std.specs.Prelude.{◌≡◌, ◌<◌, length};
 ghost use Rattle.model_cred.specs.Space.{is_at_or_above, level as nested};
 ghost use Rattle.model_cred.specs.IdMap.{is_the};
 ghost use Rattle.model_rules.specs.Power.{gives_power, over as has_power};
 
-use crate::Spaces;
+use crate::{Space, Spaces};
 use cm_base::{Cap, CapWord, Kuid, SpaceId};
 
 impl Spaces {
@@ -74,18 +73,20 @@ impl Spaces {
             return true;
         }
         match self.get(at) {
-            Some(space) => is_parent(space.parent, member) && space.owner == euid,
+            Some(space) => space.has_parent(member) && space.owner == euid,
             None => false,
         }
     }
 }
 
-// The parent is there and is that space.
-fn is_parent(parent: Option<SpaceId>, of: SpaceId) -> bool
-    ensures { result ≡ is_the (option_map (λ (p : SpaceId). p.0) parent) of.0 }
-{
-    match parent {
-        Some(p) => p.0 == of.0,
-        None => false,
+impl Space {
+    /// The space has a parent, and it is that one. It takes no memory.
+    pub fn has_parent(&self, of: SpaceId) -> bool
+        ensures { result ≡ is_the self.now.parent of.0 }
+    {
+        match self.parent {
+            Some(p) => p.0 == of.0,
+            None => false,
+        }
     }
 }
