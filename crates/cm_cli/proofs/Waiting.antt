@@ -33,7 +33,7 @@ sent_on {w0} {w1} {w2} {whole} {p} {q} a b = record {
 pub front_on : {w0 w1 w2 : Option (List ℕ)} {whole p : List ℕ} → IsSent w0 w1 p whole → IsFront w1 w2 p → IsFront w0 w2 whole
 front_on a b = (b.0, sent_on a b.1)
 
--- more text waits after
+-- more text waits after what waits
 pub more_waits : {w0 w1 : Option (List ℕ)} {whole p : List ℕ} → IsSent w0 w1 p whole → (more : List ℕ) → IsSent w0 w1 (p ++ more) (whole ++ more)
 more_waits {w0} {w1} {whole} {p} a more = record {
   front = a.front;
