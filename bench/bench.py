@@ -17,7 +17,7 @@ KIND is what the logs of ratio, linear and memory have (left out: ratio is measu
 
   setresuid   one process of root, whose effective id goes to another and back
   setuid      three processes; half of the lines are done, half are refused (EPERM, EINVAL)
-  mixed       children of root that drop their user ids, are refused a way back, and exit
+  mixed       children of root that drop their user ids, are refused a return to root, and exit
 
 The logs are made in FOLDER (a new one below /tmp where it is left out, removed at the end), 90 MB for a kind.
 """

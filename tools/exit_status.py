@@ -1,5 +1,6 @@
 #!/usr/bin/env python3
-"""Runs the built program once for each status but 0, and compares status and bytes with what docs/FORMATS.md tells.
+"""Runs the built program once for each status that it can end with but 0 and 10, and compares status and bytes with what
+docs/FORMATS.md tells.
 
   exit_status.py [PROGRAM]
 

@@ -3,6 +3,7 @@ ghost use Rattle.std.specs.Prelude.{◌≡◌, ◌<◌, SomeIff, IfSome, positio
 ghost use Rattle.cm_base.specs.CapSet.{cap_count};
 ghost use Rattle.cm_base.specs.Names.{cap_name, cap_of};
 
+use crate::limits::CAP_COUNT;
 use std::marker::Model;
 
 // The names in the order of their numbers (linux/capability.h).
@@ -49,9 +50,6 @@ const NAMES: [&str; 41] = [
     "CAP_BPF",
     "CAP_CHECKPOINT_RESTORE",
 ];
-
-// How many capabilities there are.
-const CAP_COUNT: u8 = 41;
 
 /// A capability: 0 (CAP_CHOWN) to 40 (CAP_CHECKPOINT_RESTORE).
 #[derive(Clone, Copy, Debug, PartialEq, Eq, PartialOrd, Ord)]

@@ -2,8 +2,9 @@
 ghost use Rattle.std.specs.Prelude.{◌≡◌};
 ghost use Rattle.cm_base.specs.Names.{errno_name, errno_of};
 
-/// An error that a call in a log answers (errno(3)). EPERM, EINVAL and ENOSPC come by the rules of the calls; the other
-/// fourteen come from outside the rules, as for want of memory or a file that can't be read.
+/// An error that a call in a log answers (errno(3)). EPERM and ENOSPC come by the rules of the calls alone; EINVAL, EACCES
+/// of execve and EAGAIN of births by the rules and from outside them; the other twelve from outside alone, as for want of
+/// memory or a file that can't be read.
 #[derive(Clone, Copy, Debug, PartialEq, Eq)]
 pub enum Errno {
     EPERM,

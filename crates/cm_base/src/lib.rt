@@ -21,7 +21,7 @@ pub use laws::{
     cap_sets_kept, equality_by_members, inclusion_by_members, inclusion_order, membership,
     names_read_back,
 };
-pub use limits::MINUS_ONE;
+pub use limits::{ALL_CAPS, CAP_COUNT, MINUS_ONE};
 pub use memory::NoMemory;
 pub use number::{BadNumber, read_octal, read_u32};
 pub use res::{FileRef, Res};

@@ -1,7 +1,8 @@
 // Want of memory, the one answer that any call which takes memory may give.
 use std::alloc::{AllocError, AllocFailed};
 
-/// There was no memory. The call that answers it leaves its objects as they were.
+/// The answer for want of memory. No clause ties it to memory that was refused; the call that answers it leaves its
+/// objects as they were.
 #[derive(Clone, Copy, Debug, PartialEq, Eq)]
 pub struct NoMemory;
 

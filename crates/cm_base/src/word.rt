@@ -3,10 +3,8 @@ ghost use Rattle.std.specs.Prelude.{◌≡◌, ◌≢◌, bit_and, IsTrue, ◌�
 ghost use Rattle.cm_base.specs.CapSet.{IsCapSet, holds, union, meet, is_within, with as with_cap, without as without_cap, none, full, minus as less};
 
 use crate::Cap;
+use crate::limits::ALL_CAPS;
 use std::marker::Model;
-
-// The set of all capabilities.
-const FULL: u64 = 0x1ff_ffff_ffff;
 
 /// A set of capabilities (capabilities(7), "Thread capability sets"), of which only 0 to 40 are ever held.
 #[derive(Clone, Copy, Debug, PartialEq, Eq)]
@@ -31,7 +29,7 @@ impl CapWord {
     pub fn from_bits(bits: u64) -> CapWord
         ensures { result ≡ meet bits full }
     {
-        CapWord(bits & FULL)
+        CapWord(bits & ALL_CAPS)
     }
 
     /// The set as a word, bit k for capability k.
@@ -53,7 +51,7 @@ impl CapWord {
     pub fn full() -> CapWord
         ensures { result ≡ full }
     {
-        CapWord(FULL)
+        CapWord(ALL_CAPS)
     }
 
     /// What is in both.

@@ -102,8 +102,3 @@ pub says_no : (words : List (List ℕ)) (files : Files) (answer : Status) → (I
 unfolding NoIsRun
 says_no words files answer is said =
     no_is_run words (bytes_at files) (sym (is (subst IsTold (sym said) (told answers.No (λ e. cc) (λ e. cc) (λ e. cc)))) ∙ said)
-
--- a count that is always 0 never rises
-pub never_rises : ¬ Rose 0 0
-never_rises (inl below) = omega (arith, below)
-never_rises (inr last) = omega (arith, last)

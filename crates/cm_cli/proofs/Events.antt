@@ -41,10 +41,6 @@ both_and : (a b c : Bool) → ((a && b) && c) ≡ (a && (b && c))
 both_and true b c = refl
 both_and false b c = refl
 
-pub and_true : (a : Bool) → (a && true) ≡ a
-and_true true = refl
-and_true false = refl
-
 -- An event is read where a replay stands, and after it there is the rest.
 module _ (w : World) (from to : Replay) (reading rest : Reading) (e : Placed) (is : reading ≡ reads_on e rest) where
   -- what becomes of it

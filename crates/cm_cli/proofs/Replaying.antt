@@ -19,11 +19,6 @@ pub if_told : {T : Type 0} {P Q : T → Type 0} (o : Option T) → IfSome o P �
 if_told None h f = h
 if_told (Some x) h f = f x h
 
--- a fact of whatever is told
-pub if_any : {T : Type 0} {Q : T → Type 0} (o : Option T) → ((x : T) → Q x) → IfSome o Q
-if_any None f = tt
-if_any (Some x) f = f x
-
 -- no report of one piece but the usage has its status
 pub short_not_usage : (why : Short) → why ≢ short.Usage → (short_report why).status ≢ answers.Usage
 short_not_usage short.Usage not is = not refl

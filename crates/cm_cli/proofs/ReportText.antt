@@ -20,18 +20,6 @@ text_of_cons l ls = text_of_append (l ∷ []) ls
 pub text_of_one : (l : ReportLine) → text_of (l ∷ []) ≡ line_text l ++ 10 ∷ []
 text_of_one l = append-nil (line_text l ++ 10 ∷ [])
 
--- A loop's step: what is written and the text of the lines that are left, after one line more.
-pub text_of_step : (now new all : List ℕ) (l : ReportLine) (ls : List ReportLine)
-    → new ≡ now ++ text_of (l ∷ []) → now ++ text_of (l ∷ ls) ≡ all → new ++ text_of ls ≡ all
-text_of_step now new all l ls wrote whole =
-    rw wrote (append_assoc now (text_of (l ∷ [])) (text_of ls) ∙ ap (λ t. now ++ t) (sym (text_of_cons l ls)) ∙ whole)
-
--- The same for several lines.
-pub text_of_steps : (now new all : List ℕ) (ls more : List ReportLine)
-    → new ≡ now ++ text_of ls → now ++ text_of (ls ++ more) ≡ all → new ++ text_of more ≡ all
-text_of_steps now new all ls more wrote whole =
-    rw wrote (append_assoc now (text_of ls) (text_of more) ∙ ap (λ t. now ++ t) (sym (text_of_append ls more)) ∙ whole)
-
 -- two pieces and a last one
 pub joined : (old one two a b c : List ℕ) → one ≡ old ++ a → two ≡ one ++ b → two ++ c ≡ old ++ (a ++ b ++ c)
 joined old one two a b c first second = rw (second, first) (simp append_assoc)

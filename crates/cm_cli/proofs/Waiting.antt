@@ -2,12 +2,8 @@
 use Rattle.std.proofs.Common.{◌≡◌, ℕ, List, [], ◌++◌, take, drop, Option, None, Some, refl, sym, ◌∙◌, ap, append_assoc, append-nil}
 use Rattle.std.proofs.lemmas.List.{take-append-drop}
 use Rattle.cm_cli.specs.Sent.{IsSent, IsFront}
+use Rattle.cm_io.proofs.Written.{then_written_twice}
 use Rattle.cm_io.specs.Sink.{then_written}
-
--- what is written one after another
-pub written_twice : (w : Option (List ℕ)) (a b : List ℕ) → then_written (then_written w a) b ≡ then_written w (a ++ b)
-written_twice None a b = refl
-written_twice (Some old) a b = ap Some (append_assoc old a b)
 
 pub written_nothing : (w : Option (List ℕ)) → then_written w [] ≡ w
 written_nothing None = refl
@@ -26,14 +22,14 @@ pub sent_on : {w0 w1 w2 : Option (List ℕ)} {whole p q : List ℕ} → IsSent w
 sent_on {w0} {w1} {w2} {whole} {p} {q} a b = record {
   front = a.front ++ b.front;
   parts = a.parts ∙ ap (λ t. a.front ++ t) b.parts ∙ sym (append_assoc a.front b.front q);
-  written = b.written ∙ ap (λ w. then_written w b.front) a.written ∙ written_twice w0 a.front b.front;
+  written = b.written ∙ ap (λ w. then_written w b.front) a.written ∙ then_written_twice w0 a.front b.front;
 }
 
 -- or a front of it is
 pub front_on : {w0 w1 w2 : Option (List ℕ)} {whole p : List ℕ} → IsSent w0 w1 p whole → IsFront w1 w2 p → IsFront w0 w2 whole
 front_on a b = (b.0, sent_on a b.1)
 
--- more text waits after
+-- more text waits after what waits
 pub more_waits : {w0 w1 : Option (List ℕ)} {whole p : List ℕ} → IsSent w0 w1 p whole → (more : List ℕ) → IsSent w0 w1 (p ++ more) (whole ++ more)
 more_waits {w0} {w1} {whole} {p} a more = record {
   front = a.front;

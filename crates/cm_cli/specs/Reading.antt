@@ -62,7 +62,7 @@ pub record FileFaults {T : Type 0} (before now : List ℕ → ℕ) (name : List 
   pub fault : r ≡ Err unready.ReadFault → Rose (before name) (now name)
   pub others : r ≢ Err unready.ReadFault → (n : List ℕ) → now n ≡ before n
 
--- the same of a world and a log: a fault of the log comes only where the world is read and refuses nothing
+-- the same of a world and a log
 pub record FilesFaults {T : Type 0} (before now : List ℕ → ℕ) (world log : List ℕ) (r : Result T Unready) : Type 0 where
   pub later : (n : List ℕ) → before n ≤ now n
   pub fault : r ≡ Err unready.ReadFault → Rose (before world) (now world) ⊎ Rose (before log) (now log)

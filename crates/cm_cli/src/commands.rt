@@ -55,7 +55,7 @@ pub fn run<H: Shelf, K: Sink>(
     ensures no { IfSome (H.held shelf.old) (λ files. result ≡ Status.No → SaysNo (bytes_of words.now.items) files) }
 
     // Where nothing in the input is refused and no fault was counted, a replay is accepted, and an audit answers yes,
-    // no or not built; or there was no memory.
+    // no or not built; or the answer is `NoMemory`, which is free.
     ensures complete { IfSome (H.held shelf.old) (λ files. IsValid (bytes_of words.now.items) files →
         NoneRose (H.faults shelf.old) (H.faults shelf.new) (K.faults out.old) (K.faults out.new) →
         IsCompleted (query_of (command_in words.now.items)) result) }
@@ -64,7 +64,7 @@ pub fn run<H: Shelf, K: Sink>(
 }
 
 /// `run` over a shelf and a sink that never fail: no fault is answered. Where nothing in the input is refused, a replay
-/// is accepted, and an audit answers yes, no or not built; or there was no memory.
+/// is accepted, and an audit answers yes, no or not built; or the answer is `NoMemory`, which is free.
 pub fn run_surely(
     alloc: Global,
     words: &Vec<String>,

@@ -60,8 +60,8 @@ pub fn bad_log_is_numbered()
     ensures { BadLogIsNumbered }
 {}
 
-/// Logs that read as the same events in the same places, and whose readings end alike, have the same report, whatever form
-/// they have.
+/// Logs within the limit of size that read as the same events in the same places, and whose readings end alike, have the
+/// same report, whatever form they have.
 #[tactic(auto, using(model_report::proofs::Endings::same_reading_same_report))]
 pub fn same_reading_same_report()
     ensures { SameReadingSameReport }

@@ -11,9 +11,11 @@ use cm_io::{Shelf, WholeError, read_whole};
 use cm_world::{World, WorldError, read_world};
 use std::alloc::Global;
 
-const WORLD_LIMIT: usize = 1_048_576;
+/// The most bytes of a world.
+pub(crate) const WORLD_LIMIT: usize = 1_048_576;
 
-const LOG_LIMIT: usize = 67_108_864;
+/// The most bytes of a log.
+pub(crate) const LOG_LIMIT: usize = 67_108_864;
 
 /// Why there is nothing to replay: a report of one piece tells it, a read failed, or there was no memory.
 #[derive(Clone, Copy, Debug)]

@@ -12,7 +12,8 @@ pub trait Shelf {
     /// How often a read of each name has failed. A count stays at 2^64 - 1.
     ghost faults: { Self → List ℕ → ℕ };
 
-    /// The names whose reads it counts. They stay the same. The counts of any other name stay at 0.
+    /// The names whose reads it counts. They stay the same. The counts of reads and bytes of any other name stay
+    /// at 0.
     ghost counted: { Self → List ℕ → Bool };
 
     /// How often each name was read, whatever came of it. A count stays at 2^64 - 1.

@@ -61,9 +61,8 @@ pub fn write_all<K: Sink>(out: &mut K, piece: &[u8]) -> Result<(), Outside>
 /// also after an error.
 ///
 /// `TooMuch` comes where the file has more bytes than `limit`: then `text` has the first `limit` + 1 of
-/// them. `Read` comes only where a read failed and the count of the name rose, and `NoMemory` where
-/// there was no memory for the text or in the shelf. At most `limit` + 1 bytes of the file are taken;
-/// at most 65,536 are asked for at once.
+/// them. `Read` comes only where a read failed and the count of the name rose; `NoMemory` raises no
+/// count of faults. At most `limit` + 1 bytes of the file are taken.
 pub fn read_whole<H: Shelf>(
     alloc: Global,
     shelf: &mut H,

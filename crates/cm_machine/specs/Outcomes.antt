@@ -28,7 +28,7 @@ pub record IsOwn (w : World) (s : State) (pid : ℕ) (call : Call) (answer : Res
   pub answers : answer ≡ (own w s caller call).res
   pub leads : after ≡ (own w s caller call).state
 
--- the reason why a call isn't answered is none of those why an event is no step
+-- the reason why a call isn't answered: no such process, no such space, or want of memory
 abbrev pub IsNoAnswer : StepError → Type 0
 IsNoAnswer error.NoProcess = Unit {0}
 IsNoAnswer error.NoSpace = Unit {0}

@@ -1,5 +1,5 @@
 //! Script lines, the text form of logs: `read_line` makes an event of a line, or answers why it can't (`LineError`), and
-//! `put_line` writes an event as a line that reads as it. What a line stands for, and how an event is written, is in
+//! `put_line` writes an event as a line. What a line stands for, and how an event is written, is in
 //! model_text/specs (Line, Token, Print). `numbers` writes the pieces of which other lines are made too.
 #![tactic(auto)]
 

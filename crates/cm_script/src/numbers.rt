@@ -4,11 +4,8 @@ ghost use Rattle.std.specs.Prelude.{◌≡◌, ◌<◌, ◌++◌, decimal};
 ghost use Rattle.cm_base.specs.Outcome.{OrNoMemory};
 ghost use Rattle.model_text.specs.Print.{hex_digit, hex_set, hex_bits, id_text};
 
-use cm_base::NoMemory;
+use cm_base::{ALL_CAPS, MINUS_ONE, NoMemory};
 use itoa::Buffer;
-
-// The set of all 41 capabilities.
-const FULL: u64 = 2_199_023_255_551;
 
 const DIGITS: [u8; 16] = *b"0123456789abcdef";
 
@@ -39,7 +36,7 @@ pub fn put_decimal(text: &mut Vec<u8>, n: u64) -> Result<(), NoMemory>
 pub fn put_id(text: &mut Vec<u8>, id: u32) -> Result<(), NoMemory>
     ensures { OrNoMemory result (λ _. text.new.items ≡ text.old.items ++ id_text id) }
 {
-    if id == u32::MAX {
+    if id == MINUS_ONE {
         put(text, b"-1")
     } else {
         put_decimal(text, id as u64)
@@ -54,7 +51,7 @@ pub fn put_hex16(text: &mut Vec<u8>, n: u64) -> Result<(), NoMemory>
 {
     match n {
         0 => put(text, b"0000000000000000"),
-        FULL => put(text, b"000001ffffffffff"),
+        ALL_CAPS => put(text, b"000001ffffffffff"),
         _ => put(text, &hex16(n)),
     }
 }

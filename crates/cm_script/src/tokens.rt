@@ -5,7 +5,7 @@ ghost use Rattle.model_text.specs.CapText.{set_of_text};
 ghost use Rattle.model_text.specs.Line.{next_id, next_read};
 ghost use Rattle.model_text.specs.Token.{number_token, pid_token, id_token, cap_token, is_comment, is_equals};
 
-use cm_base::{Cap, CapWord, Pid, read_u32};
+use cm_base::{Cap, CapWord, MINUS_ONE, Pid, read_u32};
 use cm_world::read_cap_text;
 
 /// The first token of a text, and what follows it. None exactly where the text has no token.
@@ -84,7 +84,7 @@ pub(crate) fn read_id(token: &[u8]) -> Option<u32>
     ensures { result ≡ id_token token.now }
 {
     if token == b"-1".as_slice() {
-        return Some(u32::MAX);
+        return Some(MINUS_ONE);
     }
     read_u32(token).ok()
 }

@@ -5,7 +5,7 @@ ghost use Rattle.cm_state.specs.Call.{call_of};
 ghost use Rattle.model_text.specs.Print.{arguments_of, arguments_text, call_text, cap_name_or_number, event_text, hex_set, id_text, res_text};
 
 use crate::numbers::{put, put_decimal, put_hex16, put_id};
-use cm_base::{Cap, CapWord, NoMemory, Res};
+use cm_base::{CAP_COUNT, Cap, CapWord, NoMemory, Res};
 use cm_state::{Call, Event};
 use std::alloc::Global;
 
@@ -93,7 +93,11 @@ fn put_cap(text: &mut Vec<u8>, cap: u32) -> Result<(), NoMemory>
 fn named_cap(n: u32) -> Option<Cap>
     ensures { SomeIff result (n < 41) n }
 {
-    if n < 41 { Cap::new(n as u8) } else { None }
+    if n < CAP_COUNT as u32 {
+        Cap::new(n as u8)
+    } else {
+        None
+    }
 }
 
 fn put_number(text: &mut Vec<u8>, n: u32) -> Result<(), NoMemory>

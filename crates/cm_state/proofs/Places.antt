@@ -126,8 +126,8 @@ none_at ps pid at up place absent = not_found ps pid apart
         elim (cases_order k at) [
           | inl same ↦ absent (omega arith) (rw (sym same) here)
           | inr (inl before) ↦ let lower : pid_at ps k < pid = place.below k before in absurd (omega arith)
-          | inr (inr behind) ↦
-              let rises : pid_at ps at < pid_at ps k = ascending ps up at k behind lt in
+          | inr (inr later) ↦
+              let rises : pid_at ps at < pid_at ps k = ascending ps up at k later lt in
               let above : pid ≤ pid_at ps at = place.rest at (omega arith) (omega arith) in
               absurd (omega arith)
         ]

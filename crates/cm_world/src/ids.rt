@@ -8,7 +8,7 @@ ghost use Rattle.model_text.specs.ProcessText.{id_value, ids_in_array, ids_value
 
 use crate::WorldError;
 use crate::table::{number_below, value_at};
-use cm_base::Kgid;
+use cm_base::{Kgid, MINUS_ONE};
 use cm_state::{FourIds, Groups};
 use std::alloc::Global;
 use toml::{Table, Value};
@@ -81,5 +81,5 @@ fn id_value(value: &Value) -> Option<u32>
     ensures value { result ≡ id_value (view value.now) }
     ensures range { IfSome result (λ id. id < 4294967295) }
 {
-    number_below(value, u32::MAX)
+    number_below(value, MINUS_ONE)
 }

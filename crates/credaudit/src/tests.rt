@@ -1,7 +1,7 @@
 // The number that each answer ends the program with.
 use super::*;
 
-// As the README tells them.
+// As docs/FORMATS.md tells them, with those that no command built so far answers.
 const NUMBERS: [(Status, u8); 14] = [
     (Status::Accepted, 0),
     (Status::No, 1),

@@ -1,5 +1,5 @@
--- What is proved of bounds. A law that a contract cites can range over tests; the lemmas after it range over all
--- bounds.
+-- What is proved of bounds. A law that a contract cites can range over tests; the lemmas on which it rests range over
+-- all bounds.
 use Rattle.std.specs.Prelude.{◌≡◌, ◌⊎◌, ℕ, ◌&&◌, Bool, false, IsTrue, List}
 use Rattle.model_cred.specs.Call.{Event}
 use Rattle.cm_filter.specs.declared.kind.CallKind.{CallKind}

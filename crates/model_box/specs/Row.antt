@@ -48,10 +48,6 @@ row_number (Fresh n) = 2 * n + 1
 abbrev pub row_at : ℕ → Row
 row_at y = if y % 2 == 0 then Standing (y / 2) else Fresh (y / 2)
 
--- bounds that go by the numbers of rows
-abbrev pub by_number : (ℕ → Part → ℕ → Type 0) → Row → Part → ℕ → Type 0
-by_number bounds row part x = bounds (row_number row) part x
-
 -- What a credential puts into the row of its space.
 abbrev pub CredHas : Credential → Part → ℕ → Type 0
 CredHas c Uids x = IsTrue (is_one_of_three c.uid x)

@@ -205,9 +205,6 @@ IsPlain (Id n) = ⊥
 IsPlain (Child n) = ⊥
 IsPlain (Err e) = Unit {0}
 
-abbrev pub IsPlainAnswer : Answer → Type 0
-IsPlainAnswer a = IsPlain a.res
-
 clone_plain : (spaces : Spaces) (at : ℕ) (c : Credential) → IsPlain (clone_user spaces at c)
 clone_plain spaces at c = plain _ _ tt tt
   where

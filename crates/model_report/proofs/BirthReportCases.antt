@@ -130,10 +130,10 @@ unfolding print_on_literals world_on_literals
 audit_of_a_child = record { status = refl; text = refl }
 
 -- one that lives alone again has still another call after it
-pub audit_behind_an_exit : Audits (codes "uid = 1000\n") (codes "100 fork = 101\n101 exit = 0\n") (codes "uid:0") status.NotBuilt
+pub audit_after_an_exit : Audits (codes "uid = 1000\n") (codes "100 fork = 101\n101 exit = 0\n") (codes "uid:0") status.NotBuilt
     (user_line ∷ codes "1: 100 fork = 101" ∷ user_line ∷ user_at (codes "101") ∷ codes "2: 101 exit = 0" ∷ codes "end 2" ∷ codes "not built" ∷ [])
 unfolding print_on_literals world_on_literals
-audit_behind_an_exit = record { status = refl; text = refl }
+audit_after_an_exit = record { status = refl; text = refl }
 
 pub audit_of_one_that_exited : Audits (codes "uid = 1000\n") (codes "100 exit = 0\n") (codes "uid:0") status.BadQuery (user_line
     ∷ codes "1: 100 exit = 0" ∷ codes "end 1" ∷ codes "bad query: pid" ∷ [])

@@ -160,7 +160,7 @@ unfolding print_on_literals world_on_literals
 fault_of_capset = record { status = refl; text = refl }
 
 -- the weak audit knows no other call than setresuid, whatever it does
-pub audit_behind_a_capset : Audits (codes "uid = 1000\n") (codes "100 capset none none none = 0\n") (codes "uid:0") status.NotBuilt
+pub audit_after_a_capset : Audits (codes "uid = 1000\n") (codes "100 capset none none none = 0\n") (codes "uid:0") status.NotBuilt
     (user_line ∷ codes "1: 100 capset 0000000000000000 0000000000000000 0000000000000000 = 0" ∷ user_line ∷ codes "end 1" ∷ codes "not built" ∷ [])
 unfolding print_on_literals world_on_literals
-audit_behind_a_capset = record { status = refl; text = refl }
+audit_after_a_capset = record { status = refl; text = refl }

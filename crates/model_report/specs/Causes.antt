@@ -77,7 +77,7 @@ pub record Asks (q : Query) (s : State) (p : Process) (right : Right) : Type 0 w
   pub process : asked_process s q.pid ≡ Some p
   pub asked : right_token q.right ≡ Some right
 
--- The weak audit knows what is after the log: the world's text says no more of a process than its pid and its user ids,
+-- The weak audit knows the world and the log: the world's text says no more of a process than its pid and its user ids,
 -- and each event is a call of setresuid.
 pub record IsKnown (words : List (List ℕ)) (bytes : List ℕ → List ℕ) (is : IsAccepted words bytes) : Type 0 where
   pub world : text_says_more (bytes is.comes.begins.names.world) ≡ false
@@ -87,7 +87,7 @@ pub record IsKnown (words : List (List ℕ)) (bytes : List ℕ → List ℕ) (is
 abbrev pub HasMore : (words : List (List ℕ)) (bytes : List ℕ → List ℕ) → IsAccepted words bytes → Type 0
 HasMore words bytes is = (text_says_more (bytes is.comes.begins.names.world) ≡ true) ⊎ (are_setresuids (events_of is.comes.events) ≡ false)
 
--- one process lives, the query asks for a user id of it, and the weak audit knows what is after the log
+-- one process lives, the query asks for a user id of it, and the weak audit knows the world and the log
 pub record AsksAlone (words : List (List ℕ)) (bytes : List ℕ → List ℕ) (is : IsAccepted words bytes) (q : Query) (p : Process) (k : ℕ) : Type 0 where
   pub asks : Asks q is.state p (Uid k)
   pub alone : length is.state.processes ≡ 1

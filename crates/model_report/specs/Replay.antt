@@ -40,7 +40,7 @@ says status text = record { status = status; lines = Plain text ∷ [] }
 abbrev pub after : List ReportLine → Report → Report
 after lines rest = record { status = rest.status; lines = lines ++ rest.lines }
 
--- how a numbered line begins that ends the report
+-- words with a number after them, as a line of the report has them
 abbrev pub at_line : List ℕ → ℕ → List ℕ
 at_line words number = words ++ decimal number
 

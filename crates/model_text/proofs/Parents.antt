@@ -17,8 +17,8 @@ abbrev pub IsFound : List Process → Process → Type 0
 IsFound all p = process_at all p.pid ≡ Some p
 
 -- also after another, whose pid none of them has
-found_behind : (p : Process) (ps : List Process) (q : Process) → is_alive ps p.pid ≡ false → IsFound ps q → IsFound (p ∷ ps) q
-found_behind p ps q free is =
+found_after : (p : Process) (ps : List Process) (q : Process) → is_alive ps p.pid ≡ false → IsFound ps q → IsFound (p ∷ ps) q
+found_after p ps q free is =
     cond-false (p.pid == q.pid) (Some p) (process_at ps q.pid) (ne_eqb p.pid q.pid other) ∙ is
   where
     other : p.pid ≢ q.pid
@@ -35,7 +35,7 @@ each_found (p ∷ ps) distinct =
     let others : All (IsFound ps) ps = each_found ps (grind (arith, distinct)) in
     All-cons (IsFound (p ∷ ps)) p ps
     (cond-true (p.pid == p.pid) (Some p) (process_at ps p.pid) (eq-eqb p.pid p.pid refl))
-    (All-weaker (IsFound ps) (IsFound (p ∷ ps)) (λ q is. found_behind p ps q free is) ps others)
+    (All-weaker (IsFound ps) (IsFound (p ∷ ps)) (λ q is. found_after p ps q free is) ps others)
 
 -- ---- from the forebear to the process
 -- It holds of a process where it holds of its forebear, if it has one.
@@ -67,8 +67,8 @@ module _ (P : ℕ → Type 0) where
       let own : P p.pid = follows p (All-head (IsFound all) p ps found) (forebear_holds pids p.forebear holds among) in
       elim (or_cases (p.pid == pid) (is_alive ps pid) (sym (alive_cons p ps pid) ∙ has)) [
         | inl same ↦ subst P (eqb-true p.pid pid same) own
-        | inr behind ↦
-            rows_hold all (p.pid ∷ pids) ps follows (one_more_holds pids p.pid own holds) (All-tail (IsFound all) p ps found) later pid behind
+        | inr among_rest ↦
+            rows_hold all (p.pid ∷ pids) ps follows (one_more_holds pids p.pid own holds) (All-tail (IsFound all) p ps found) later pid among_rest
       ]
 
   -- it holds of each process that lives at the begin of the world of a text

@@ -106,9 +106,3 @@ pub start_distinct : (bytes : List ℕ) (w : World) → world_text bytes ≡ Rea
 start_distinct bytes w is =
     let made : Made w (text_says_more bytes) = start_made bytes w is in
     subst (λ (x : World). are_distinct x.start.processes ≡ true) made.world (distinct_in_order made.processes made.distinct)
-
--- and the pids ascend
-pub start_ascends : (bytes : List ℕ) (w : World) → world_text bytes ≡ Reads w → Ascends w.start.processes
-start_ascends bytes w is =
-    let made : Made w (text_says_more bytes) = start_made bytes w is in
-    subst (λ (x : World). Ascends x.start.processes) made.world (in_order_ascends made.processes made.distinct)

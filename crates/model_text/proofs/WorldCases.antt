@@ -116,9 +116,9 @@ pub row_that_is_no_table : world_text (codes "log = \"script\"\nprocess = [5, {p
 unfolding world_on_literals
 row_that_is_no_table = refl
 
-pub later_key_behind_a_row_that_is_no_table : world_text (codes "log = \"script\"\nprocess = [5, {space = 1}]\n") ≡ NotBuilt
+pub later_key_after_a_row_that_is_no_table : world_text (codes "log = \"script\"\nprocess = [5, {space = 1}]\n") ≡ NotBuilt
 unfolding world_on_literals
-later_key_behind_a_row_that_is_no_table = refl
+later_key_after_a_row_that_is_no_table = refl
 
 pub later_key_of_a_process_that_is_no_row : world_text (codes "log = \"script\"\nprocess = {space = 1}\n") ≡ Bad
 unfolding world_on_literals

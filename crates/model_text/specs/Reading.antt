@@ -1,5 +1,5 @@
 -- The reading of a log: the events that it tells, each with the number of its line, and how it ends. No more of a log has a
--- part in what is answered. A form of logs is a function from texts to readings.
+-- part in what is answered, but its size. A form of logs is a function from texts to readings.
 use Rattle.std.specs.Prelude.{ℕ, ◌+◌, List, [], ◌∷◌, map}
 use Rattle.model_cred.specs.Call.{Event}
 use Rattle.model_text.specs.Cut.{lines_of}

@@ -6,6 +6,7 @@ ghost use Rattle.model_report.specs.Replay.{text_of, reason, Plain, ended, impos
 ghost use Rattle.model_report.specs.Report.{world_limit, log_limit, usage};
 ghost use Rattle.model_run.specs.Step.{Wrong};
 
+use crate::reading::{LOG_LIMIT, WORLD_LIMIT};
 use cm_base::{NoMemory, Res};
 use cm_machine::StepError;
 use cm_script::numbers::{put, put_decimal};
@@ -92,7 +93,7 @@ pub(crate) fn put_world_limit(text: &mut Vec<u8>) -> Result<(), NoMemory>
     ensures { OrNoMemory result (λ _. text.new.items ≡ text.old.items ++ text_of (limit_hit (codes "world") world_limit).lines) }
 {
     put(text, b"limit world ")?;
-    put_decimal(text, 1_048_576)?;
+    put_decimal(text, WORLD_LIMIT as u64)?;
     put(text, b"\n")
 }
 
@@ -101,7 +102,7 @@ pub(crate) fn put_log_limit(text: &mut Vec<u8>) -> Result<(), NoMemory>
     ensures { OrNoMemory result (λ _. text.new.items ≡ text.old.items ++ text_of (limit_hit (codes "log") log_limit).lines) }
 {
     put(text, b"limit log ")?;
-    put_decimal(text, 67_108_864)?;
+    put_decimal(text, LOG_LIMIT as u64)?;
     put(text, b"\n")
 }
 
