@@ -4,7 +4,7 @@ ghost use Rattle.std.specs.declared.result.Result.TheVariants.{Err};
 ghost use Rattle.cm_base.specs.Limits.{id_count};
 ghost use Rattle.cm_base.specs.Outcome.{OrNoMemory};
 ghost use Rattle.model_cred.specs.IdMap.{down, up, initial_map, Maps};
-ghost use Rattle.model_cred.specs.MapFault.{map_fault};
+ghost use Rattle.model_cred.specs.MapFault.{IsMap, map_fault};
 ghost use Rattle.cm_idmap.specs.Fault.{fault_of};
 ghost use Rattle.cm_idmap.specs.declared.fault.BadMap.{BadMap};
 ghost use Rattle.cm_idmap.specs.declared.fault.BadMap.TheVariants as answer;
@@ -95,9 +95,10 @@ impl IdMap {
         None
     }
 
-    /// The extents, in the order in which they were handed in.
+    /// The extents, in the order in which they were handed in. They are a map.
     pub fn extents(&self) -> &[Extent]
-        ensures { result.now ≡ self.now }
+        ensures value { result.now ≡ self.now }
+        ensures map { IsMap result.now }
     {
         &self.list
     }
