@@ -1,0 +1,74 @@
+// Writing the maps of a space (user_namespaces(7), "Defining user and group ID mappings: writing to uid_map and gid_map").
+// What is alike for the two maps is said once.
+ghost use Rattle.std.specs.Prelude.{◌≡◌, ◌<◌, length};
+ghost use Rattle.cm_base.specs.Outcome.{OrNoMemory, UnchangedOnErr};
+ghost use Rattle.cm_base.specs.declared.errno.Errno.{Errno};
+ghost use Rattle.cm_base.specs.declared.res.Res.TheVariants.{Err};
+ghost use Rattle.cm_nscalls.specs.File.{file_of};
+ghost use Rattle.model_rules.specs.Maps as model;
+
+use crate::file::{MapFile, set_map};
+use crate::stored::{map_from, stored_map};
+use crate::writer::{Write, may_map, may_write, parent_map, setfcap_allows};
+use cm_base::{Errno, NoMemory, Res, SpaceId};
+use cm_idmap::Extent;
+use cm_state::{Cred, Spaces};
+use std::alloc::Global;
+
+/// A process in the space `at` writes the uid_map of the target: `Done`; or `EPERM` where it may not write to it, `EINVAL`
+/// for a list that is no map, `EPERM` where it may not map these ids (the order is a choice). A refusal and want of memory
+/// leave the spaces as they were.
+pub fn write_uid_map(alloc: Global, c: &Cred, spaces: &mut Spaces, at: SpaceId, target: SpaceId, list: &[Extent]) -> Result<Res, NoMemory>
+    requires { target.0 < length spaces.old }
+    ensures res { OrNoMemory result (λ r. r ≡ (model.write_uid_map spaces.old at.0 c.now target.0 list.now).res) }
+    ensures spaces { OrNoMemory result (λ _. spaces.new ≡ (model.write_uid_map spaces.old at.0 c.now target.0 list.now).spaces) }
+    ensures refused { OrNoMemory result (λ r. (e : Errno) → r ≡ Err e → spaces.new ≡ spaces.old) }
+    ensures unchanged { UnchangedOnErr result spaces.new spaces.old }
+{
+    let w = Write {
+        file: MapFile::UidMap,
+        at,
+        target,
+    };
+    write_map(alloc, w, c, spaces, list)
+}
+
+/// A process in the space `at` writes the gid_map of the target: as `write_uid_map`, with CAP_SETGID and its group id.
+pub fn write_gid_map(alloc: Global, c: &Cred, spaces: &mut Spaces, at: SpaceId, target: SpaceId, list: &[Extent]) -> Result<Res, NoMemory>
+    requires { target.0 < length spaces.old }
+    ensures res { OrNoMemory result (λ r. r ≡ (model.write_gid_map spaces.old at.0 c.now target.0 list.now).res) }
+    ensures spaces { OrNoMemory result (λ _. spaces.new ≡ (model.write_gid_map spaces.old at.0 c.now target.0 list.now).spaces) }
+    ensures refused { OrNoMemory result (λ r. (e : Errno) → r ≡ Err e → spaces.new ≡ spaces.old) }
+    ensures unchanged { UnchangedOnErr result spaces.new spaces.old }
+{
+    let w = Write {
+        file: MapFile::GidMap,
+        at,
+        target,
+    };
+    write_map(alloc, w, c, spaces, list)
+}
+
+// The write of either map.
+fn write_map(alloc: Global, w: Write, c: &Cred, spaces: &mut Spaces, list: &[Extent]) -> Result<Res, NoMemory>
+    requires { w.target.0 < length spaces.old }
+    ensures res { OrNoMemory result (λ r. r ≡ (model.write_map (file_of w.file) spaces.old w.at.0 c.now w.target.0 list.now).res) }
+    ensures spaces { OrNoMemory result (λ _. spaces.new ≡ (model.write_map (file_of w.file) spaces.old w.at.0 c.now w.target.0 list.now).spaces) }
+    ensures refused { OrNoMemory result (λ r. (e : Errno) → r ≡ Err e → spaces.new ≡ spaces.old) }
+    ensures unchanged { UnchangedOnErr result spaces.new spaces.old }
+{
+    if !may_write(w, c, spaces) {
+        return Ok(Res::Err(Errno::EPERM));
+    }
+    let Some(given) = map_from(alloc, list)? else {
+        return Ok(Res::Err(Errno::EINVAL));
+    };
+    let Some(map) = stored_map(alloc, parent_map(w, spaces), &given)? else {
+        return Ok(Res::Err(Errno::EPERM));
+    };
+    if !setfcap_allows(w, c, spaces, list) || !may_map(w, c, spaces, map.extents()) {
+        return Ok(Res::Err(Errno::EPERM));
+    }
+    set_map(w.file, spaces, w.target, map);
+    Ok(Res::Done)
+}
