@@ -10,7 +10,11 @@ use cm_idmap::Extent;
 use std::alloc::Global;
 
 // The list, where each outside range lies in one extent of the map.
-pub(crate) fn list_down(alloc: Global, map: &[Extent], given: &[Extent]) -> Result<Option<Vec<Extent>>, NoMemory>
+pub(crate) fn list_down(
+    alloc: Global,
+    map: &[Extent],
+    given: &[Extent],
+) -> Result<Option<Vec<Extent>>, NoMemory>
     requires { HasIds map.now }
     ensures { OrNoMemory result (λ all. option_map (λ (v : Vec Extent Global). v.items) all ≡ model_list_down map.now given.now) }
 {
@@ -32,7 +36,11 @@ fn extent_down(map: &[Extent], e: &Extent) -> Option<Extent>
     for p in map {
         if p.inside <= e.outside && end(e.outside, e.length) <= end(p.inside, p.length) {
             let outside = p.outside + (e.outside - p.inside);
-            return Some(Extent { inside: e.inside, outside, length: e.length });
+            return Some(Extent {
+                inside: e.inside,
+                outside,
+                length: e.length,
+            });
         }
     }
     None

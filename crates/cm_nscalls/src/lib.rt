@@ -18,4 +18,6 @@ pub use maps::{write_gid_map, write_uid_map};
 pub use word::write_setgroups;
 
 #[cfg(test)]
+mod map_tests;
+#[cfg(test)]
 mod tests;

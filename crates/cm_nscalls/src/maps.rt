@@ -18,7 +18,14 @@ use std::alloc::Global;
 /// A process in the space `at` writes the uid_map of the target: `Done`; or `EPERM` where it may not write to it, `EINVAL`
 /// for a list that is no map, `EPERM` where it may not map these ids (the order is a choice). A refusal and want of memory
 /// leave the spaces as they were.
-pub fn write_uid_map(alloc: Global, c: &Cred, spaces: &mut Spaces, at: SpaceId, target: SpaceId, list: &[Extent]) -> Result<Res, NoMemory>
+pub fn write_uid_map(
+    alloc: Global,
+    c: &Cred,
+    spaces: &mut Spaces,
+    at: SpaceId,
+    target: SpaceId,
+    list: &[Extent],
+) -> Result<Res, NoMemory>
     requires { target.0 < length spaces.old }
     ensures res { OrNoMemory result (λ r. r ≡ (model.write_uid_map spaces.old at.0 c.now target.0 list.now).res) }
     ensures spaces { OrNoMemory result (λ _. spaces.new ≡ (model.write_uid_map spaces.old at.0 c.now target.0 list.now).spaces) }
@@ -34,7 +41,14 @@ pub fn write_uid_map(alloc: Global, c: &Cred, spaces: &mut Spaces, at: SpaceId, 
 }
 
 /// A process in the space `at` writes the gid_map of the target: as `write_uid_map`, with CAP_SETGID and its group id.
-pub fn write_gid_map(alloc: Global, c: &Cred, spaces: &mut Spaces, at: SpaceId, target: SpaceId, list: &[Extent]) -> Result<Res, NoMemory>
+pub fn write_gid_map(
+    alloc: Global,
+    c: &Cred,
+    spaces: &mut Spaces,
+    at: SpaceId,
+    target: SpaceId,
+    list: &[Extent],
+) -> Result<Res, NoMemory>
     requires { target.0 < length spaces.old }
     ensures res { OrNoMemory result (λ r. r ≡ (model.write_gid_map spaces.old at.0 c.now target.0 list.now).res) }
     ensures spaces { OrNoMemory result (λ _. spaces.new ≡ (model.write_gid_map spaces.old at.0 c.now target.0 list.now).spaces) }
@@ -50,7 +64,13 @@ pub fn write_gid_map(alloc: Global, c: &Cred, spaces: &mut Spaces, at: SpaceId, 
 }
 
 // The write of either map.
-fn write_map(alloc: Global, w: Write, c: &Cred, spaces: &mut Spaces, list: &[Extent]) -> Result<Res, NoMemory>
+fn write_map(
+    alloc: Global,
+    w: Write,
+    c: &Cred,
+    spaces: &mut Spaces,
+    list: &[Extent],
+) -> Result<Res, NoMemory>
     requires { w.target.0 < length spaces.old }
     ensures res { OrNoMemory result (λ r. r ≡ (model.write_map (file_of w.file) spaces.old w.at.0 c.now w.target.0 list.now).res) }
     ensures spaces { OrNoMemory result (λ _. spaces.new ≡ (model.write_map (file_of w.file) spaces.old w.at.0 c.now w.target.0 list.now).spaces) }

@@ -26,7 +26,11 @@ pub(crate) fn map_from(alloc: Global, list: &[Extent]) -> Result<Option<IdMap>, 
 
 // The map with its outside ids taken down through the parent's one, None where an outside range doesn't lie in one of its
 // extents.
-pub(crate) fn stored_map(alloc: Global, parent: Option<&IdMap>, given: &IdMap) -> Result<Option<IdMap>, NoMemory>
+pub(crate) fn stored_map(
+    alloc: Global,
+    parent: Option<&IdMap>,
+    given: &IdMap,
+) -> Result<Option<IdMap>, NoMemory>
     ensures { OrNoMemory result (λ s. s ≡ model_list_down (extents_of (option_map (λ m. m.now) parent.entry)) given.now) }
 {
     let list = given.extents();

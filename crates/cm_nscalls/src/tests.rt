@@ -6,7 +6,7 @@ use std::alloc::Global;
 use std::test::Fail;
 
 // A credential with that user id, group id 1000, no capability, and every securebit.
-fn cred(alloc: Global, uid: Kuid) -> Cred {
+pub(crate) fn cred(alloc: Global, uid: Kuid) -> Cred {
     let gid = Kgid::new(1000).unwrap();
     Cred {
         ruid: uid,
@@ -29,7 +29,7 @@ fn cred(alloc: Global, uid: Kuid) -> Cred {
 }
 
 // User id 0 with all capabilities.
-fn root(alloc: Global) -> Cred {
+pub(crate) fn root(alloc: Global) -> Cred {
     let mut c = cred(alloc, Kuid::of(0));
     c.prm = CapWord::full();
     c.eff = CapWord::full();

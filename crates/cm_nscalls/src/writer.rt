@@ -66,7 +66,8 @@ pub(crate) fn may_map(w: Write, c: &Cred, spaces: &Spaces, stored: &[Extent]) ->
     requires { w.target.0 < length spaces.now }
     ensures { result ≡ model.may_map (file_of w.file) spaces.now w.at.0 c.now (space_of spaces.now w.target.0) stored.now }
 {
-    over_parent(w, c, spaces, cap_for(w.file)) || is_own_map(w.file, c, spaces.standing(w.target), stored)
+    over_parent(w, c, spaces, cap_for(w.file))
+        || is_own_map(w.file, c, spaces.standing(w.target), stored)
 }
 
 // The writer has the capability over the target's parent.

@@ -1,11 +1,12 @@
 // The parts of a state, its processes and its spaces, by hand: each call once, and copies.
-ghost use Rattle.std.specs.Prelude.{◌≡◌};
+ghost use Rattle.std.specs.Prelude.{◌≡◌, ◌<◌, length};
 ghost use Rattle.cm_base.specs.Outcome.{OrNoMemory};
 ghost use Rattle.model_cred.specs.Process.{Ascends};
 
-use crate::{Cred, FourIds, Groups, Proc, Procs, Space, Spaces, State};
-use cm_base::{CapWord, Kgid, Kuid, NoMemory, Pid, SecBits, SpaceId};
+use crate::{Cred, FourIds, Groups, Proc, Procs, Right, Space, Spaces, State};
+use cm_base::{Cap, CapWord, Kgid, Kuid, NoMemory, Pid, SecBits, SpaceId};
 use std::alloc::Global;
+use std::process::Abort;
 use std::test::Fail;
 
 fn pid(n: u32) -> Pid {
@@ -72,11 +73,32 @@ fn three(alloc: Global) -> Result<Procs, NoMemory>
 
 // One process of pid 100 in the initial space, which stands alone.
 fn alone(alloc: Global) -> Result<State, NoMemory> {
+    let spaces = Spaces::first(alloc)?;
+    one_process(alloc, spaces)
+}
+
+// One process of pid 100 in the initial space.
+fn one_process(alloc: Global, spaces: Spaces) -> Result<State, NoMemory>
+    requires { 0 < length spaces }
+{
     let p = process(alloc, 100)?;
     let list = vec![in alloc; p]?;
-    let spaces = Spaces::first(alloc)?;
     let procs = Procs::from_vec(list);
     Ok(State { procs, spaces })
+}
+
+// Adds a space without maps below one that stands.
+fn add(rt: &impl Abort, spaces: &mut Spaces, parent: u32, owner: Kuid) -> Result<(), NoMemory> {
+    assert!(rt; parent < spaces.count() && spaces.count() < 4_294_967_295);
+    spaces.add(Space {
+        parent: Some(SpaceId(parent)),
+        owner,
+        uids: None,
+        gids: None,
+        deny: false,
+        creator_setfcap: false,
+    })?;
+    Ok(())
 }
 
 // The pids of the processes are these, in this order.
@@ -168,5 +190,40 @@ fn a_copy_of_a_state_has_its_processes_and_spaces(rt: HostRuntime) -> Result<(),
     assert!(rt; are(&copy.procs, &[100]));
     assert_eq!(rt; copy.spaces.count(), 1);
     assert!(rt; are(&state.procs, &[100]));
+    Ok(())
+}
+
+// Effective user id 2, real 1; effective group id 6, real 5, and the groups 4 and 27; no effective capability.
+#[test]
+fn a_process_holds_its_effective_ids_its_groups_and_what_it_owns(
+    rt: HostRuntime,
+) -> Result<(), Fail> {
+    let mut spaces = Spaces::first(rt.alloc())?;
+    add(&rt, &mut spaces, 0, Kuid::of(2))?;
+    add(&rt, &mut spaces, 1, Kuid::of(9))?;
+    add(&rt, &mut spaces, 0, Kuid::of(9))?;
+    add(&rt, &mut spaces, 3, Kuid::of(2))?;
+    assert!(rt; 0 < spaces.count());
+    let state = one_process(rt.alloc(), spaces)?;
+    let held = [
+        (Right::Uid(Kuid::of(2)), true),
+        (Right::Uid(Kuid::of(1)), false),
+        (Right::Gid(Kgid::of(6)), true),
+        (Right::Gid(Kgid::of(27)), true),
+        (Right::Gid(Kgid::of(5)), false),
+        // Without capabilities it has none over its own space, all over a child that it owns and over that one's child.
+        (Right::Cap(Cap::SETUID, SpaceId(0)), false),
+        (Right::Cap(Cap::SETUID, SpaceId(1)), true),
+        (Right::Cap(Cap::SETUID, SpaceId(2)), true),
+        // A child of another owner gives it none, nor does that one's child, which it owns from too far above.
+        (Right::Cap(Cap::SETUID, SpaceId(3)), false),
+        (Right::Cap(Cap::SETUID, SpaceId(4)), false),
+        // No such space stands.
+        (Right::Cap(Cap::SETUID, SpaceId(5)), false),
+    ];
+    for (right, want) in held {
+        assert_eq!(rt; state.holds(pid(100), &right), want, "{right:?}");
+        assert!(rt; !state.holds(pid(101), &right));
+    }
     Ok(())
 }

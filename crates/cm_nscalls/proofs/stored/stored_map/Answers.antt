@@ -21,5 +21,6 @@ returns-in-Some-2 c =
     let is : IsMap c.deref.result.now =
     ap is_none (down_is_map c.extents.result.now c.extents-list.result.now _ c.extents.ensures.map c.extents-list.ensures.map down) in
     let same =
-    stored_through (λ m. m.now) c.args.parent c.in-Some.parent _ _ c.args.given.now c.in-Some.is c.extents.ensures.value c.extents-list.ensures.value in
+    stored_through (λ m. m.now) c.args.parent c.in-Some.parent _ _ c.args.given.now c.in-Some.is
+    c.extents.ensures.value c.extents-list.ensures.value in
     made_ok c.map_from.result c.deref.result.now _ (sym down ∙ same) is c.map_from.ensures.map c.map_from.ensures.some
