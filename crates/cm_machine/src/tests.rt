@@ -16,6 +16,11 @@ fn pid(n: u32) -> Pid {
     Pid::new(n).unwrap_or(Pid::new(1).unwrap())
 }
 
+fn event(n: u32, call: Call, res: Res) -> Event {
+    let pid = pid(n);
+    Event { pid, call, res }
+}
+
 fn child(n: u32) -> Res {
     Res::Child(pid(n))
 }
@@ -81,8 +86,7 @@ fn start(alloc: Global, text: &[u8]) -> Result<Setup, Fail> {
 
 impl Setup {
     fn step(&mut self, alloc: Global, n: u32, call: Call, res: Res) -> Result<(), StepError> {
-        let pid = pid(n);
-        self.m.step(alloc, &self.w, &Event { pid, call, res })
+        self.m.step(alloc, &self.w, &event(n, call, res))
     }
 
     // The step is none, and the machine stays as it was.
@@ -90,13 +94,11 @@ impl Setup {
         &mut self,
         rt: &impl Abort,
         alloc: Global,
-        n: u32,
-        call: Call,
-        res: Res,
+        event: Event,
         why: StepError,
     ) -> Result<(), Fail> {
         let before = shown(alloc, &self.m)?;
-        assert_eq!(rt; self.step(alloc, n, call, res), Err(why));
+        assert_eq!(rt; self.m.step(alloc, &self.w, &event), Err(why));
         self.shows(rt, alloc, before.as_str())
     }
 
@@ -110,7 +112,7 @@ impl Setup {
         gives: Res,
     ) -> Result<(), Fail> {
         let why = StepError::Wrong { rules_give: gives };
-        self.refuses(rt, alloc, 100, call, told, why)
+        self.refuses(rt, alloc, event(100, call, told), why)
     }
 
     fn answers(&mut self, rt: &impl Abort, alloc: Global, n: u32, call: Call, res: Res) {
@@ -162,8 +164,18 @@ fn a_child_outlives_its_parent_and_stays_of_the_family(rt: HostRuntime) -> Resul
     for (n, family) in [(100, "100 102 "), (101, ""), (102, "102 ")] {
         setup.has_family(&rt, alloc, n, family)?;
     }
-    setup.refuses(&rt, alloc, 100, Call::Fork, child(102), StepError::PidInUse)?;
-    setup.refuses(&rt, alloc, 101, Call::Exit, Res::Done, StepError::NoProcess)
+    setup.refuses(
+        &rt,
+        alloc,
+        event(100, Call::Fork, child(102)),
+        StepError::PidInUse,
+    )?;
+    setup.refuses(
+        &rt,
+        alloc,
+        event(101, Call::Exit, Res::Done),
+        StepError::NoProcess,
+    )
 }
 
 #[test]
