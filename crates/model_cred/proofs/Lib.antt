@@ -1,4 +1,5 @@
 -- Lemmas of these definitions, by topic.
+pub mod AttributeCases
 pub mod Chains
 pub mod IdSets
 pub mod Lookups

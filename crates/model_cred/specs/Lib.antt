@@ -5,6 +5,7 @@ pub mod Credential
 pub mod Space
 pub mod Process
 pub mod Files
+pub mod Attribute
 pub mod Call
 pub mod Right
 pub mod World
