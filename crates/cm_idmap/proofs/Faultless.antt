@@ -5,7 +5,7 @@ use Rattle.std.specs.Option.{option_or}
 use Rattle.std.proofs.lemmas.Bool.{or_parts, ltb-false}
 use Rattle.std.proofs.lemmas.List.Elements.{All-cons}
 use Rattle.cm_base.specs.Limits.{id_count}
-use Rattle.model_cred.specs.IdMap.{Extent}
+use Rattle.model_cred.specs.IdMap.{Extent, HasIds}
 use Rattle.model_cred.specs.MapFault.{Empty, TooMany, ZeroLength, PastEnd, Overlap, IsMap, map_fault, extent_fault}
 use Rattle.model_cred.specs.MapFault.{first_extent_fault, ranges_meet, extents_meet, overlap_with, first_overlap}
 use Rattle.cm_idmap.proofs.Sides.{AllApart}
@@ -69,3 +69,7 @@ map_fits map is = all_fit 0 map (faults_of map (none_is _ is)).0
 -- no two extents of a map have an inside id in common, and none an outside id
 pub map_apart : (map : List Extent) → IsMap map → AllApart (λ e. e.inside) map × AllApart (λ e. e.outside) map
 map_apart map is = all_apart 0 map (faults_of map (none_is _ is)).1
+
+-- the outside ids of a map are ids
+pub map_has_ids : (map : List Extent) → IsMap map → HasIds map
+map_has_ids map is k d below = (map_fits map is k d below).outside

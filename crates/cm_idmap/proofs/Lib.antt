@@ -1,3 +1,3 @@
-mod Faultless
+pub mod Faultless
 mod Sides
 pub mod Taken

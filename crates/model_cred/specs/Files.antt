@@ -1,5 +1,8 @@
 -- Declared mounts and files.
-use Rattle.std.specs.Prelude.{◌≡◌, ℕ, ◌<◌, Bool, false, length, slice_get, List, Option, None, IfSome, IsSomeAnd, All}
+use Rattle.std.specs.Prelude.{◌≡◌, ℕ, ◌<◌, Bool, false, length, slice_get, List, Option, None, Some, IfSome, IsSomeAnd, All}
+use Rattle.std.specs.Prelude.{bytes_eq, position}
+use Rattle.cm_base.specs.declared.res.FileRef.{FileRef}
+use Rattle.cm_base.specs.declared.res.FileRef.TheVariants.{Row, Plain}
 use Rattle.cm_base.specs.CapSet.{IsCapSet}
 use Rattle.model_cred.specs.Credential.{IsId}
 use Rattle.model_cred.specs.IdMap.{HasIds, Extent, initial_map}
@@ -86,3 +89,21 @@ pub record KeepsFiles (files : FileTable) : Type 0 where
   pub rows : All KeepsRow files.rows
   pub mounted : All (λ row. row.mount < length files.mounts) files.rows
   pub interpreters : All (λ row. IfSome row.interpreter (IsProgram files.rows)) files.rows
+
+-- the first row of that path
+abbrev pub row_named : List FileRow → List ℕ → Option ℕ
+row_named rows path = position (λ row. bytes_eq row.path path) rows
+
+-- the row of that number, or the plain file where there is none
+abbrev pub ref_of : Option ℕ → FileRef
+ref_of None = Plain
+ref_of (Some n) = Row n
+
+-- What a path names: its row, or the plain file where no row has it (choice).
+abbrev pub file_named : FileTable → List ℕ → FileRef
+file_named files path = ref_of (row_named files.rows path)
+
+-- What is named is in the table; the plain file always is.
+abbrev pub IsDeclared : FileTable → FileRef → Type 0
+IsDeclared files Plain = Unit {0}
+IsDeclared files (Row n) = n < length files.rows

@@ -1,0 +1,4 @@
+-- Lemmas of this crate, by topic.
+pub mod Indexes
+pub mod Paths
+pub mod Faultless

@@ -1,0 +1,3 @@
+pub mod Fault
+pub mod Index
+pub mod Table

@@ -1,0 +1,19 @@
+//! Declared mounts and files: a table of them, in which a path finds its row by halves, and each row as its mount shows it
+//! (mount_setattr(2), capabilities(7)). Contracts see the table as the record of the definitions in model_cred.
+#![tactic(auto)]
+
+mod fault;
+mod filling;
+mod index;
+mod mount;
+mod row;
+mod table;
+mod text;
+mod view;
+
+pub use fault::BadFiles;
+pub use mount::{MapPair, Mount};
+pub use row::FileRow;
+pub use table::FileTable;
+pub use text::Text;
+pub use view::FileView;
