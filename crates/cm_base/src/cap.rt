@@ -69,6 +69,9 @@ impl Model for Cap {
 }
 
 impl Cap {
+    /// CAP_DAC_OVERRIDE: to pass over the permissions of files (capabilities(7)).
+    pub const DAC_OVERRIDE: Cap = Cap(1);
+
     /// CAP_SETGID: to make arbitrary changes of group ids and the group list (capabilities(7)).
     pub const SETGID: Cap = Cap(6);
 

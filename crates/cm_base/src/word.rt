@@ -109,6 +109,9 @@ impl CapWord {
 pub struct SecBits(pub u8);
 
 impl SecBits {
+    /// SECBIT_NOROOT (capabilities(7), "The securebits flags").
+    pub const NOROOT: u8 = 0x01;
+
     /// SECBIT_NO_SETUID_FIXUP (capabilities(7), "The securebits flags").
     pub const NO_SETUID_FIXUP: u8 = 0x04;
 

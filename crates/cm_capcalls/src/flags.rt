@@ -3,7 +3,7 @@
 ghost use Rattle.std.specs.Prelude.{◌≡◌};
 ghost use Rattle.cm_base.specs.declared.errno.Errno.{Errno};
 ghost use Rattle.cm_base.specs.declared.res.Res.TheVariants.{Err};
-ghost use Rattle.model_rules.specs.CapCalls.{with_keep_caps, without_keep_caps, set_keep_caps, set_no_new_privs};
+ghost use Rattle.model_rules.specs.CapCalls.{with_keep_caps, set_keep_caps, set_no_new_privs};
 
 use cm_base::{Errno, Res, SecBits};
 use cm_state::Cred;
@@ -23,7 +23,7 @@ pub fn keep_caps(c: &mut Cred, v: u32) -> Res
         return Res::Err(Errno::EPERM);
     }
     if v == 0 {
-        clear_keep_caps(c)
+        c.clear_keep_caps()
     } else {
         put_keep_caps(c)
     }
@@ -42,13 +42,6 @@ pub fn no_new_privs(c: &mut Cred, v: u32) -> Res
     }
     c.nnp = true;
     Res::Done
-}
-
-fn clear_keep_caps(c: &mut Cred)
-    ensures { c.new ≡ without_keep_caps c.old }
-{
-    let old = c.sec.bits();
-    c.sec = SecBits(old ^ (old & SecBits::KEEP_CAPS));
 }
 
 fn put_keep_caps(c: &mut Cred)

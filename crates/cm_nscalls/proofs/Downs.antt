@@ -3,10 +3,9 @@ use Rattle.std.proofs.Common.{◌≡◌, ℕ, suc, ◌+◌, ◌-◌, ◌≤◌, 
 use Rattle.std.proofs.Common.{Option, None, Some, if◌then◌else◌, refl, sym, ap, subst, ◌∙◌, inl, inr, arith}
 use Rattle.std.specs.Prelude.{nat_le, nat_lt, is_none, option_map, option_and_then}
 use Rattle.std.specs.Option.{option_or}
-use Rattle.std.proofs.lemmas.List.Elements.{All-nil, All-cons}
 use Rattle.std.proofs.lemmas.Bool.{cases_Bool, and_parts, or_parts, leb-true, ltb-false, cond-true, cond-false}
 use Rattle.cm_base.specs.Limits.{id_count}
-use Rattle.model_cred.specs.IdMap.{Extent, HasIds}
+use Rattle.model_cred.specs.IdMap.{Extent}
 use Rattle.model_cred.specs.MapFault.{Empty, TooMany, ZeroLength, PastEnd, Overlap, IsMap, map_fault, extent_fault}
 use Rattle.model_cred.specs.MapFault.{first_extent_fault, ranges_meet, extents_meet, overlap_with, first_overlap, most_extents}
 use Rattle.model_rules.specs.Maps.{extent_down, list_down}
@@ -64,12 +63,6 @@ outside_ends i p is =
     let rest = not_some (p.length == 0) (ZeroLength i) _ is in
     let ends = not_some (nat_lt id_count (p.inside + p.length) || nat_lt id_count (p.outside + p.length)) (PastEnd i) None rest.1 in
     ltb-false id_count (p.outside + p.length) (or_parts _ _ ends.0).1
-
-ends_within : (i : ℕ) (map : List Extent) → first_extent_fault i map ≡ None → HasIds map
-ends_within i [] fine = All-nil (λ (p : Extent). p.outside + p.length ≤ id_count)
-ends_within i (p ∷ map) fine =
-    let parts = or_none (extent_fault i p) (first_extent_fault (i + 1) map) fine in
-    All-cons (λ (p : Extent). p.outside + p.length ≤ id_count) p map (outside_ends i p parts.0) (ends_within (i + 1) map parts.1)
 
 down_ends : (i : ℕ) (map : List Extent) (e d : Extent) → first_extent_fault i map ≡ None → extent_down map e ≡ Some d → d.outside + d.length ≤ id_count
 down_ends i [] e d fine is = absurd (cc)
@@ -245,10 +238,6 @@ is_faultless list f =
     cond-false (length list == 0) (Some Empty) _ f.some
     ∙ cond-false (nat_lt most_extents (length list)) (Some TooMany) (option_or (first_extent_fault 0 list) (first_overlap 0 list)) f.few
     ∙ ap (λ o. option_or o (first_overlap 0 list)) f.fine ∙ f.apart
-
--- the outside ids of a map are ids
-pub map_has_ids : (map : List Extent) → IsMap map → HasIds map
-map_has_ids map is = ends_within 0 map (faultless map is).fine
 
 -- what is stored of a map that is written is a map
 pub down_is_map : (map given out : List Extent) → IsMap map → IsMap given → list_down map given ≡ Some out → map_fault out ≡ None

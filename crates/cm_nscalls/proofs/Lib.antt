@@ -1,4 +1,3 @@
 -- Lemmas of this crate, by topic.
 pub mod Downs
 pub mod MapsMade
-pub mod Outsides

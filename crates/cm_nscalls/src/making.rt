@@ -5,13 +5,11 @@ ghost use Rattle.cm_base.specs.Outcome.{OrNoMemory, UnchangedOnErr};
 ghost use Rattle.cm_base.specs.declared.errno.Errno.{Errno};
 ghost use Rattle.cm_base.specs.declared.res.Res.TheVariants.{Done, Err};
 ghost use Rattle.model_cred.specs.Call.{Unshare};
-ghost use Rattle.model_cred.specs.IdMap.{extents_of, is_outside as model_is_outside};
 ghost use Rattle.model_rules.specs.Namespaces.{unshare, created_by as model_created_by, is_mapped_in as model_is_mapped_in};
 ghost use Rattle.model_rules.specs.Reply.{spaces_after};
 
 use crate::newcomer::come_in;
 use cm_base::{Cap, Errno, NoMemory, Res, SpaceId};
-use cm_idmap::IdMap;
 use cm_state::{Cred, Space, Spaces};
 
 // How deep spaces may be nested (user_namespaces(7); that 32 is the deepest level is a choice).
@@ -61,16 +59,5 @@ fn created_by(spaces: &Spaces, at: SpaceId, c: &Cred) -> Space
 fn is_mapped_in(s: &Space, c: &Cred) -> bool
     ensures { result ≡ model_is_mapped_in s.now c.now }
 {
-    is_outside(&s.uids, c.euid.number()) && is_outside(&s.gids, c.egid.number())
-}
-
-// The id is an outside id of the map, where it is written.
-#[tactic(auto, using(crate::proofs::Outsides::up_outside))]
-fn is_outside(map: &Option<IdMap>, id: u32) -> bool
-    ensures { result ≡ model_is_outside (extents_of map.now) id }
-{
-    match map {
-        Some(map) => map.up(id).is_some(),
-        None => false,
-    }
+    s.maps_uid(c.euid) && s.maps_gid(c.egid)
 }

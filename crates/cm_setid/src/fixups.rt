@@ -7,7 +7,6 @@ ghost use Rattle.model_rules.specs.Caps.{fs_caps};
 ghost use Rattle.model_rules.specs.Fixups.{without_root, after_losing_root, following_effective, fixed_up, following_fs, fs_fixed_up};
 ghost use Rattle.model_rules.specs.Zero.{zero_of, is_zero, has_zero};
 
-use crate::mapped::down_in;
 use cm_base::{CapWord, SecBits};
 use cm_state::{Cred, FourIds, Space};
 
@@ -22,17 +21,9 @@ pub(crate) fn fix_up(c: &mut Cred, s: &Space, old: FourIds)
     if c.sec.has(SecBits::NO_SETUID_FIXUP) {
         return;
     }
-    let root = root_of(s);
+    let root = s.zero();
     clear_without_root(c, root, old);
     follow_effective(c, root, old);
-}
-
-// The id of inside 0, None where it isn't mapped.
-#[inline]
-fn root_of(s: &Space) -> Option<u32>
-    ensures { result ≡ zero_of s.now }
-{
-    down_in(&s.uids, 0)
 }
 
 // The id is root's.
@@ -94,7 +85,7 @@ pub(crate) fn fix_up_fs(c: &mut Cred, s: &Space, old: u32)
     ensures { c.new ≡ fs_fixed_up s.now old c.old }
 {
     if !c.sec.has(SecBits::NO_SETUID_FIXUP) {
-        follow_fs(c, root_of(s), old);
+        follow_fs(c, s.zero(), old);
     }
 }
 

@@ -53,6 +53,7 @@ impl Model for Cred {
 impl Cred {
     ghost use Rattle.std.specs.Prelude.{◌≡◌, []};
     ghost use Rattle.cm_base.specs.Outcome.{OrNoMemory};
+    ghost use Rattle.model_rules.specs.CapCalls.{without_keep_caps};
 
     /// The same credentials. Its only error is want of memory.
     pub fn copy(&self, alloc: Global) -> Result<Cred, NoMemory>
@@ -87,5 +88,13 @@ impl Cred {
             sec: self.sec,
             nnp: self.nnp,
         }
+    }
+
+    /// Clears SECBIT_KEEP_CAPS; all else stays. It takes no memory.
+    pub fn clear_keep_caps(&mut self)
+        ensures { self.new ≡ without_keep_caps self.old }
+    {
+        let old = self.sec.bits();
+        self.sec = SecBits(old ^ (old & SecBits::KEEP_CAPS));
     }
 }

@@ -12,6 +12,7 @@ mod extents;
 mod four_ids;
 mod groups;
 mod ids;
+mod mapped;
 mod proc;
 mod procs;
 mod right;

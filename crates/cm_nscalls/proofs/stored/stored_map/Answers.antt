@@ -1,6 +1,7 @@
 use Rattle.std.proofs.Common.{◌≡◌, Some, ◌∙◌, ap, subst, sym}
 use Rattle.std.specs.Prelude.{is_none, option_map}
-use Rattle.cm_nscalls.proofs.Downs.{map_has_ids, down_is_map}
+use Rattle.cm_idmap.proofs.Faultless.{map_has_ids}
+use Rattle.cm_nscalls.proofs.Downs.{down_is_map}
 use Rattle.cm_nscalls.proofs.MapsMade.{made_ok, nothing_stored, stored_through}
 use Rattle.cm_nscalls.proofs.stored.stored_map.Goals as goal
 use Rattle.model_cred.specs.MapFault.{IsMap}
