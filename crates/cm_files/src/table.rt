@@ -1,8 +1,9 @@
 // The table of declared mounts and files.
-ghost use Rattle.std.specs.Prelude.{◌≡◌, ◌<◌, ◌^◌, None, IfErr, IfOk, OnOk, length};
+ghost use Rattle.std.specs.Prelude.{◌≡◌, ◌<◌, ◌^◌, None, IfErr, IfOk, OnOk, length, unwrap_or};
 ghost use Rattle.cm_files.specs.Fault.{Tells, files_fault};
 ghost use Rattle.cm_files.specs.Table.{PathsDiffer};
 ghost use Rattle.model_cred.specs.Files.{FileTable, IsDeclared, KeepsFiles, file_named};
+ghost use Rattle.model_rules.specs.Exec.{interpreter_of};
 ghost use Rattle.model_rules.specs.FileView.{view as view_of};
 
 use crate::filling::{Filled, fill};
@@ -91,6 +92,21 @@ impl FileTable {
         ensures keeps { KeepsFiles self.now }
     {
         &self.mounts
+    }
+
+    /// The row that runs where the given one is run: for a script that of its interpreter, else the row itself (execve(2),
+    /// "Interpreter scripts"). It takes no memory.
+    pub fn program(&self, row: u32) -> u32
+        requires { row < length self.now.rows }
+        ensures program { result ≡ unwrap_or (interpreter_of self.now row) row }
+        ensures within { result < length self.now.rows }
+        ensures none { interpreter_of self.now result ≡ None }
+    {
+        let declared = &self.rows[row as usize];
+        match declared.interpreter {
+            Some(n) => n,
+            None => row,
+        }
     }
 
     /// A row of the table as its mount shows it. It takes no memory.

@@ -53,6 +53,31 @@ impl Model for FileView {
     } };
 }
 
+impl FileView {
+    /// A file that isn't declared: no owner, no set-id bit, no attribute, executable by everyone (choice).
+    pub fn plain() -> FileView
+        ensures { result ≡ model.plain_view }
+    {
+        FileView {
+            owner: None,
+            group: None,
+            root: None,
+            mode: 0o111,
+            caps: None,
+            nosuid: false,
+            noexec: false,
+            space: SpaceId(0),
+        }
+    }
+
+    /// One of these mode bits is set; of several, it needn't be all (inode(7)).
+    pub fn has_bit(&self, bits: u32) -> bool
+        ensures { result ≡ model.has_bit self.now bits }
+    {
+        self.mode & bits != 0
+    }
+}
+
 // The row as its mount shows it.
 pub(crate) fn view_on(m: &Mount, row: &FileRow) -> FileView
     ensures view { result ≡ model.view_on m.now row.now }
