@@ -1,9 +1,11 @@
 // What of a file counts for a caller: its set-id bits and its attribute (execve(2); user_namespaces(7), "Set-user-ID and
 // set-group-ID programs"; capabilities(7), "Namespaced file capabilities").
-ghost use Rattle.std.specs.Prelude.{◌≡◌, ◌<◌, length};
+ghost use Rattle.std.specs.Prelude.{◌≡◌, ◌<◌, ℕ, length};
 ghost use Rattle.std.specs.List.{list_any};
 ghost use Rattle.cm_exec.specs.Counts.{AreCounts};
-ghost use Rattle.model_cred.specs.Space.{chain, space_of};
+ghost use Rattle.model_cred.specs.Credential.{Credential};
+ghost use Rattle.model_cred.specs.Space.{Spaces as ModelSpaces, chain, space_of};
+ghost use Rattle.model_rules.specs.Exec.{is_privileged as model_is_privileged};
 ghost use Rattle.model_rules.specs.FileView as model;
 ghost use Rattle.model_rules.specs.Zero.{zero_of};
 
@@ -32,6 +34,15 @@ pub(crate) fn counts_of(spaces: &Spaces, at: SpaceId, c: &Cred, file: &FileView)
         setgid: set_id && file.has_bit(0o2000) && file.has_bit(0o010),
         attribute: !c.nnp && takes_attribute(spaces, at, file),
     }
+}
+
+// The file is privileged: its attribute takes effect, or a set-id bit counts (that bits which don't count don't matter is a
+// choice).
+pub(crate) fn is_privileged(counts: Counts) -> bool
+    ensures { (spaces : ModelSpaces) (at : ℕ) (c : Credential) (file : model.FileView) → AreCounts spaces at c file counts
+        → result ≡ model_is_privileged spaces at c file }
+{
+    counts.attribute || counts.setuid || counts.setgid
 }
 
 // Programs of the file's mount may raise privilege in the space: the mount isn't nosuid, and the space is the mount's or

@@ -4,6 +4,7 @@
 
 mod counts;
 mod execve;
+mod ids;
 mod permission;
 mod program;
 mod sets;

@@ -1,11 +1,11 @@
 // The sets of a program: those of its file, and what the process gets of them (capabilities(7), "Transformation of
 // capabilities during execve()").
-ghost use Rattle.std.specs.Prelude.{◌≡◌, ◌||◌, ℕ, true, if◌then◌else◌};
+ghost use Rattle.std.specs.Prelude.{◌≡◌, ℕ, true};
 ghost use Rattle.cm_base.specs.CapSet.{is_within};
 ghost use Rattle.cm_exec.specs.Counts.{AreCounts};
 ghost use Rattle.model_cred.specs.Credential.{Credential};
 ghost use Rattle.model_cred.specs.Space.{Spaces as ModelSpaces, space_of};
-ghost use Rattle.model_rules.specs.Securebits.{has_flag as model_has_flag, noroot};
+ghost use Rattle.model_rules.specs.FileView.{FileView};
 ghost use Rattle.model_rules.specs.Exec as model;
 
 use crate::counts::Counts;
@@ -65,7 +65,8 @@ pub(crate) fn would_lack(c: &Cred, sets: FileSets) -> bool
 // The file's sets that count, by the user ids after their change: its own under SECBIT_NOROOT or by the exception, else
 // those that root gets.
 pub(crate) fn sets_for(s: &Space, c: &Cred, ids: FourIds, own: FileSets, counts: Counts) -> FileSets
-    ensures { result ≡ (if model_has_flag c.now noroot || model.is_excepted s.now ids counts.attribute then own else model.raised_sets s.now ids own) }
+    ensures { (spaces : ModelSpaces) (at : ℕ) (file : FileView) → s.now ≡ space_of spaces at → AreCounts spaces at c.now file counts
+        → ids ≡ model.uids_after spaces at c.now file → own ≡ model.own_sets spaces at c.now file → result ≡ model.sets_for spaces at c.now file }
 {
     if c.sec.has(SecBits::NOROOT) || is_excepted(s, ids, counts.attribute) {
         own
