@@ -11,3 +11,6 @@ mod sets;
 
 pub use execve::exec;
 pub use permission::may_exec;
+
+#[cfg(test)]
+mod tests;

@@ -17,3 +17,6 @@ pub use row::FileRow;
 pub use table::FileTable;
 pub use text::Text;
 pub use view::FileView;
+
+#[cfg(test)]
+mod tests;
