@@ -3,9 +3,8 @@
 use Rattle.std.proofs.Common.{◌≡◌, ℕ, ◌==◌, not, Bool, true, false, List, [], ◌∷◌, Option, None, Some, if◌then◌else◌}
 use Rattle.std.proofs.Common.{refl, sym, ap, ◌∙◌, inl, inr, subst}
 use Rattle.std.proofs.lemmas.Bool.{cases_Bool, cond-true, cond-false}
-use Rattle.std.specs.Prelude.{find, IsTrue}
+use Rattle.std.specs.Prelude.{find}
 use Rattle.cm_base.specs.declared.res.FileRef.{FileRef}
-use Rattle.cm_filter.specs.declared.kind.CallKind.{CallKind}
 use Rattle.model_cred.specs.Call.{Call, CapSet, SetNs, Exec, kind_of}
 use Rattle.model_cred.specs.Credential.{Credential}
 use Rattle.model_cred.specs.IdMap.{Extent, up, extents_of}
@@ -23,15 +22,15 @@ Each P [] = Unit {0}
 Each P (call ∷ calls) = P call × Each P calls
 
 -- it holds of the calls of moves, but maybe not of setns
-record OfCalls (P : Call → Type 0) : Type 0 where
-  raise : (e p i : ℕ) → P (CapSet e p i)
-  uid : (id : ℕ) → Each P (uid_calls id)
-  gid : (id : ℕ) → Each P (gid_calls id)
-  group : (id : ℕ) → Each P (group_calls id)
-  exec : (file : FileRef) → P (Exec file)
+pub record OfCalls (P : Call → Type 0) : Type 0 where
+  pub raise : (e p i : ℕ) → P (CapSet e p i)
+  pub uid : (id : ℕ) → Each P (uid_calls id)
+  pub gid : (id : ℕ) → Each P (gid_calls id)
+  pub group : (id : ℕ) → Each P (group_calls id)
+  pub exec : (file : FileRef) → P (Exec file)
 
 -- it holds of setns, where the move is to join a space
-abbrev OfJoin : (Call → Type 0) → Move → Type 0
+abbrev pub OfJoin : (Call → Type 0) → Move → Type 0
 OfJoin P (JoinSpace n) = P (SetNs n)
 OfJoin P _ = Unit {0}
 
@@ -84,7 +83,7 @@ found_call P test (c ∷ calls) call each is =
       | inr fails ↦ found_call P test calls call each.1 (sym (cond-false (test c) (Some c) (find test calls) fails) ∙ is)
     ]
 
-call_has : (P : Call → Type 0) (q : Setting) (seat : Seat) (move : Move) (call : Call) → OfCalls P → OfJoin P move → call_of q seat move ≡ Some call
+pub call_has : (P : Call → Type 0) (q : Setting) (seat : Seat) (move : Move) (call : Call) → OfCalls P → OfJoin P move → call_of q seat move ≡ Some call
     → P call × (q.permitted (kind_of call) ≡ true)
 call_has P q seat move call of join is =
     found_call P (λ c. q.permitted (kind_of c)) (calls_of q seat move) call (each_call P q seat move of join) is

@@ -1,13 +1,13 @@
 -- What is found: by which plan, and that it is a later run after which its holder has the right.
-use Rattle.std.proofs.Common.{◌≡◌, ◌↔◌, ℕ, Bool, true, false, List, [], ◌∷◌, ◌++◌, Option, None, Some, option_map, refl, sym, ap, ◌∙◌, subst}
-use Rattle.std.specs.Prelude.{All, IsTrue}
+use Rattle.std.proofs.Common.{◌≡◌, ℕ, Bool, List, Option, None, Some, option_map, sym, ap, ◌∙◌, subst}
+use Rattle.std.specs.Prelude.{All}
 use Rattle.std.proofs.lemmas.List.Elements.{All-weaker}
 use Rattle.cm_filter.specs.declared.kind.CallKind.{CallKind}
 use Rattle.model_cred.specs.Call.{Event}
-use Rattle.model_cred.specs.Process.{Process, State}
+use Rattle.model_cred.specs.Process.{State}
 use Rattle.model_cred.specs.Right.{Right}
 use Rattle.model_cred.specs.World.{World}
-use Rattle.model_run.specs.Later.{Later, is_member}
+use Rattle.model_run.specs.Later.{Later}
 use Rattle.model_plans.specs.Plan.{Plan, plans}
 use Rattle.model_plans.specs.PlanRun.{PlanRun, plan_run, holder, Found, found_by, first_found}
 use Rattle.model_plans.specs.Firsts.{NoHolder, NoneHolds, NoneHoldsAfter, NothingFound, IsFirst, FoundIsFirst, EndsHolding, FoundIsLater}
@@ -44,6 +44,7 @@ module _ (permitted : ℕ → CallKind → Bool) (w : World) (s : State) (member
 
   -- ---- what the list finds
   is_first : (found : Found) → first_found permitted w s members right ≡ Some found → IsFirst permitted w s members right found
+  unfolding first_found
   is_first found is =
       let at : FirstAt Plan Found tried (plans w s members right) found = first_at tried (plans w s members right) found is in
       let (pid, holds, same)
@@ -59,6 +60,7 @@ module _ (permitted : ℕ → CallKind → Bool) (w : World) (s : State) (member
       }
 
   first_is : (found : Found) → IsFirst permitted w s members right found → first_found permitted w s members right ≡ Some found
+  unfolding first_found
   first_is found is =
       at_first tried (plans w s members right) found (record {
         before = is.before;
@@ -86,7 +88,7 @@ module _ (permitted : ℕ → CallKind → Bool) (w : World) (s : State) (member
       }
 
 pub nothing_found : NothingFound
-unfolding NothingFound
+unfolding NothingFound first_found
 nothing_found permitted w s members right = (
   λ none. none_after permitted w s members right (plans w s members right)
       (all_none (tried permitted w s members right) (plans w s members right) none),

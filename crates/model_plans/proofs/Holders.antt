@@ -1,23 +1,22 @@
 -- Who holds the right among the members.
-use Rattle.std.proofs.Common.{◌≡◌, ◌≢◌, ◌↔◌, ℕ, suc, ◌<◌, ◌≤◌, ◌==◌, ◌||◌, Bool, true, false, List, [], ◌∷◌, map, filter}
+use Rattle.std.proofs.Common.{◌≡◌, ◌≢◌, ℕ, suc, ◌<◌, ◌≤◌, ◌==◌, Bool, true, false, List, [], ◌∷◌, map, filter}
 use Rattle.std.proofs.Common.{Option, None, Some, if◌then◌else◌, refl, sym, ap, ◌∙◌, inl, inr, subst, arith}
-use Rattle.std.specs.Prelude.{find, IsTrue, All}
-use Rattle.std.proofs.lemmas.Bool.{cases_Bool, cases_eq, cond-true, cond-false, eqb-true, eq-eqb, or_cases, or_left, or_right, or_parts}
+use Rattle.std.specs.Prelude.{find, All}
+use Rattle.std.proofs.lemmas.Bool.{cases_Bool, cases_eq, cond-true, cond-false, eqb-true, eq-eqb, or_cases, or_left, or_right}
 use Rattle.std.proofs.lemmas.List.Elements.{All-head, All-tail, All-cons, All-nil, All-filter, All-weaker}
 use Rattle.cm_filter.specs.declared.kind.CallKind.{CallKind}
 use Rattle.model_cred.proofs.Orders.{AscendsFrom, ascends_forth}
 use Rattle.model_cred.specs.Process.{Process, State, process_at, is_alive}
 use Rattle.model_cred.specs.Right.{Right}
-use Rattle.model_cred.specs.Space.{Spaces}
 use Rattle.model_cred.specs.World.{World}
-use Rattle.model_run.specs.Family.{family, reaches}
+use Rattle.model_run.specs.Family.{reaches}
 use Rattle.model_run.specs.Holds.{process_holds, holds_for}
 use Rattle.model_run.specs.Later.{is_member}
-use Rattle.model_plans.specs.Move.{Seat, seat_of, Setting, Move}
+use Rattle.model_plans.specs.Move.{Seat, seat_of, Move}
 use Rattle.model_plans.specs.PlanRun.{PlanRun, setting_in, moves_made, holder}
 use Rattle.model_plans.specs.Walk.{after_moves, seat_holds}
 use Rattle.model_plans.specs.Changes.{moved, with_seat}
-use Rattle.model_plans.specs.Firsts.{NoHolder, PidsAscend, FamilyAscends, IsLeastHolder, HolderIsLeast, MoverDecides}
+use Rattle.model_plans.specs.Firsts.{NoHolder, PidsAscend, FamilyAscends, HolderIsLeast, MoverDecides}
 use Rattle.model_plans.proofs.Walks.{found_seated, walk_run}
 use Rattle.model_plans.proofs.Others.{other_seated}
 
@@ -67,7 +66,7 @@ none_found test (m ∷ pids) fails =
     ∙ none_found test pids (λ pid member. fails pid (tail_member m pids pid member))
 
 -- who is found is a member and passes
-found_passes : (test : ℕ → Bool) (pids : List ℕ) (pid : ℕ) → find test pids ≡ Some pid → (is_member pids pid ≡ true) × (test pid ≡ true)
+pub found_passes : (test : ℕ → Bool) (pids : List ℕ) (pid : ℕ) → find test pids ≡ Some pid → (is_member pids pid ≡ true) × (test pid ≡ true)
 found_passes test [] pid is = absurd (cc)
 found_passes test (m ∷ pids) pid is =
     elim (cases_Bool (test m)) [
@@ -132,7 +131,7 @@ pids_ascend low (p ∷ processes) ascends =
     let rest = pids_ascend (suc p.pid) processes ascends.1 in
     let above : low ≤ p.pid = ascends.0 in (
       All-cons (λ n. low ≤ n) p.pid (map (λ r. r.pid) processes) above
-      (All-weaker (λ n. suc p.pid ≤ n) (λ n. low ≤ n) (λ n higher. omega arith) (map (λ r. r.pid) processes) rest.0),
+          (All-weaker (λ n. suc p.pid ≤ n) (λ n. low ≤ n) (λ n higher. omega arith) (map (λ r. r.pid) processes) rest.0),
       (rest.0, rest.1),
     )
 

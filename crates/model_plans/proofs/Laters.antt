@@ -1,13 +1,13 @@
 -- The runs of plans are later runs of the members.
-use Rattle.std.proofs.Common.{◌≡◌, ℕ, ◌+◌, ◌<◌, ◌≤◌, ◌==◌, not, Bool, true, false, List, [], ◌∷◌, ◌++◌, map, filter, length, take}
-use Rattle.std.proofs.Common.{Option, None, Some, if◌then◌else◌, refl, sym, ap, ◌∙◌, inl, inr, subst, arith, zero, suc}
-use Rattle.std.specs.Prelude.{All, IsTrue}
+use Rattle.std.proofs.Common.{◌≡◌, ℕ, ◌==◌, not, Bool, true, false, List, [], ◌∷◌, ◌++◌, map, filter, length}
+use Rattle.std.proofs.Common.{Option, None, Some, refl, sym, ap, subst, arith}
+use Rattle.std.specs.Prelude.{All}
 use Rattle.std.proofs.lemmas.Bool.{lt-ltb}
-use Rattle.std.specs.List.{flat_map, range_with_len}
-use Rattle.std.proofs.lemmas.List.Elements.{All-head, All-tail, All-cons, All-nil, All-append, All-map, All-filter, All-weaker}
+use Rattle.std.specs.List.{flat_map}
+use Rattle.std.proofs.lemmas.List.Elements.{All-cons, All-nil, All-append, All-map, All-filter, All-weaker}
 use Rattle.cm_base.specs.declared.res.Res.{Res}
 use Rattle.cm_base.specs.declared.res.Res.TheVariants.{Done, Id, Child, Err}
-use Rattle.cm_base.specs.declared.res.FileRef.TheVariants.{Row, Plain}
+use Rattle.cm_base.specs.declared.res.FileRef.TheVariants.{Plain}
 use Rattle.cm_filter.specs.declared.kind.CallKind.{CallKind}
 use Rattle.model_cred.specs.Call.{Call, Event, Exit, kind_of}
 use Rattle.model_cred.specs.Files.{FileTable}
@@ -16,17 +16,17 @@ use Rattle.model_cred.specs.Right.{Right, Cap, Uid, Gid}
 use Rattle.model_cred.specs.Space.{Spaces, stands}
 use Rattle.model_cred.specs.World.{World}
 use Rattle.model_run.specs.Later.{Later, is_member, members_after, members_with}
-use Rattle.model_run.specs.Ruling.{Ruling, own, reply_to}
+use Rattle.model_run.specs.Ruling.{Ruling, own}
 use Rattle.model_run.specs.Step.{Step, names_no_space}
 use Rattle.model_laws.specs.Owns.{OwnIsStep}
 use Rattle.model_laws.proofs.Owning.{own_is_step}
 use Rattle.model_laws.proofs.Results.{IsRuled, reply_plain}
-use Rattle.model_plans.specs.Move.{Seat, seat_of, Setting, Move, Raise, BecomeZero, BecomeSought, BecomeGroup, TakeGroup}
+use Rattle.model_plans.specs.Move.{seat_of, Setting, Move, Raise, BecomeZero, BecomeSought, BecomeGroup, TakeGroup}
 use Rattle.model_plans.specs.Move.{RunFile, JoinSpace, call_of}
 use Rattle.model_plans.specs.Plan.{Choice, Plan, numbers, special_rows, run_row, run_two, pairs, joins, first_choices}
 use Rattle.model_plans.specs.Plan.{middle_choices, group_choices, last_choices, then_raise, moves_of, plans_in, plans_for, plans}
 use Rattle.model_plans.specs.PlanRun.{PlanRun, setting_in, call_made, move_made, moves_made, plan_run}
-use Rattle.model_plans.specs.Changes.{changes_caller_alone, with_seat, RunsAreLater}
+use Rattle.model_plans.specs.Changes.{changes_caller_alone, RunsAreLater}
 use Rattle.model_plans.proofs.Lists.{all_flat_map, all_of, all_range}
 use Rattle.model_plans.proofs.Calls.{JoinStands, call_plain, call_named}
 use Rattle.model_plans.proofs.Walks.{own_alone, then_made}
@@ -82,8 +82,8 @@ later_call permitted w s right members pid p moves (Some call) lives member plai
       is.1,
       own_goes w s e p lives is.2 refl,
       subst (λ (ms : List ℕ). Later (permitted pid) w r.state ms made.events made.state members)
-      (sym (alone_members members pid call r.res is.0 ruled))
-      (rest r.state (ap (λ (x : Ruling). x.state.spaces) alone)),
+          (sym (alone_members members pid call r.res is.0 ruled))
+          (rest r.state (ap (λ (x : Ruling). x.state.spaces) alone)),
     )
 
 -- a move of an optional process, and more moves, of which this is known already

@@ -9,4 +9,9 @@ pub mod Laters
 pub mod Finds
 pub mod Shared
 pub mod Nested
+pub mod Skips
+pub mod Isolated
+pub mod Owners
+pub mod Raises
 pub mod Cases
+pub mod ListCases

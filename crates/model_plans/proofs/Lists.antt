@@ -1,6 +1,6 @@
 -- The first answer over a list: over joined, nested and mapped lists, and without an item that adds nothing.
-use Rattle.std.proofs.Common.{◌≡◌, ◌↔◌, ℕ, zero, suc, ◌+◌, ◌<◌, ◌≤◌, arith, Bool, true, false, List, [], ◌∷◌, ◌++◌, map, Option, None, Some, option_map}
-use Rattle.std.proofs.Common.{if◌then◌else◌, refl, sym, ap, ◌∙◌}
+use Rattle.std.proofs.Common.{◌≡◌, ℕ, zero, suc, ◌+◌, ◌<◌, ◌≤◌, arith, Bool, true, false, List, [], ◌∷◌, ◌++◌, map, Option, None, Some, option_map}
+use Rattle.std.proofs.Common.{if◌then◌else◌, refl, sym, ap, ◌∙◌, subst}
 use Rattle.std.specs.Prelude.{find, All, Any}
 use Rattle.std.specs.List.{flat_map, range_with_len}
 use Rattle.std.specs.Option.{option_or}
@@ -157,3 +157,16 @@ at_first f xs y at =
     ∙ first_append f at.before (at.item ∷ at.after)
     ∙ ap (λ o. option_or o (first_some f (at.item ∷ at.after))) (none_of f at.before at.earlier)
     ∙ ap (λ o. option_or o (first_some f at.after)) at.answer
+
+-- ---- without an item like an earlier one
+pub any_of_all : {A : Type 0} (P Q : A → Type 0) (xs : List A) → All Q xs → Any P xs → (x : A) × P x × Q x
+any_of_all P Q xs all any = (any.1, any.4, subst Q any.3 (all any.0 any.1 any.2))
+
+-- an item may be left out where one before it is like it, and so has no answer where this one has one
+pub skip_like : {A B : Type 0} (f : A → Option B) (Like : A → Type 0) (earlier later : List A) (x : A)
+    → ((y : A) → Like y → f y ≡ None → f x ≡ None) → Any Like earlier
+    → first_some f (earlier ++ x ∷ later) ≡ first_some f (earlier ++ later)
+skip_like f Like earlier later x alike any =
+    first_skip f earlier later x (λ none.
+    let before : (y : _) × Like y × (f y ≡ None) = any_of_all Like (λ y. f y ≡ None) earlier (all_none f earlier none) any in
+    alike before.0 before.1 before.2)

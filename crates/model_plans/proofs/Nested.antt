@@ -1,7 +1,6 @@
 -- The walk on seats finds what the list of plans and the machine's runs do.
 use Rattle.std.proofs.Common.{◌≡◌, ℕ, Bool, true, false, List, [], ◌∷◌, ◌++◌, map, Option, None, Some, option_map}
 use Rattle.std.proofs.Common.{if◌then◌else◌, refl, sym, ap, ◌∙◌}
-use Rattle.std.specs.Prelude.{find, All}
 use Rattle.std.specs.List.{flat_map}
 use Rattle.std.specs.Option.{option_or}
 use Rattle.std.proofs.lemmas.List.Elements.{All-weaker}
@@ -13,13 +12,13 @@ use Rattle.model_cred.specs.Space.{Spaces}
 use Rattle.model_cred.specs.World.{World}
 use Rattle.model_run.specs.Later.{is_member}
 use Rattle.model_plans.specs.Move.{Seat, seat_of, Setting, Move, Raise}
-use Rattle.model_plans.specs.Plan.{Choice, Plan, first_choices, middle_choices, last_choices, then_raise, moves_of, plans_in, plans_for, plans}
-use Rattle.model_plans.specs.PlanRun.{PlanRun, setting_in, moves_made, plan_run, holder, Found, found_by, first_some, first_found}
-use Rattle.model_plans.specs.Walk.{after_moves, events_of, seat_holds, last_found, middle_found, moves_from, moves_found, found_at, found_for}
+use Rattle.model_plans.specs.Plan.{Choice, Plan, first_choices, middle_choices, last_choices, then_raise, moves_of, plans_in, plans_for}
+use Rattle.model_plans.specs.PlanRun.{setting_in, moves_made, plan_run, holder, Found, found_by, first_some, first_found}
+use Rattle.model_plans.specs.Walk.{after_moves, events_of, seat_holds, last_found, middle_found, moves_from, moves_found, found_for}
 use Rattle.model_plans.specs.Walk.{found_among, found_now, walked}
 use Rattle.model_plans.specs.Firsts.{WalkFindsTheSame}
 use Rattle.model_plans.proofs.Lists.{first_flat_map, first_map, first_same, first_everywhere, map_first, map_twice, value_if, map_find}
-use Rattle.model_plans.proofs.Walks.{walk_run, walked_run}
+use Rattle.model_plans.proofs.Walks.{walk_run}
 use Rattle.model_plans.proofs.Holders.{all_members, mover_decides_seated}
 use Rattle.model_plans.proofs.Shared.{after_append}
 
@@ -43,6 +42,7 @@ module _ (q : Setting) (pid : ℕ) (seat : Seat) where
   last_by_one : (first middle : Choice)
       → option_map (λ last. found_with (moves_of first middle last)) (last_found q (after_moves q (after_moves q seat (Raise ∷ first)) (then_raise middle)))
       ≡ first_some (λ last. found_if (moves_of first middle last)) (last_choices q.right)
+  unfolding last_found
   last_by_one first middle =
       let here : Seat = after_moves q (after_moves q seat (Raise ∷ first)) (then_raise middle) in
       map_find (λ last. found_with (moves_of first middle last)) (λ last. seat_holds q (after_moves q here (then_raise last))) (last_choices q.right)
@@ -128,6 +128,7 @@ module _ (permitted : ℕ → CallKind → Bool) (w : World) (s : State) (member
   -- so its plans find what the walk from its seat does
   member_finds : (pid : ℕ) (o : Option Process) → process_at s.processes pid ≡ o → is_member members pid ≡ true → holder s members right ≡ None
       → first_some tried (plans_for w.files s.spaces right pid o) ≡ found_for permitted w s right pid o
+  unfolding moves_found
   member_finds pid None lives member none = refl
   member_finds pid (Some p) lives member none =
       let q : Setting = setting_in permitted w s right pid in
@@ -158,6 +159,7 @@ module _ (permitted : ℕ → CallKind → Bool) (w : World) (s : State) (member
       (λ pid member. member_finds pid (process_at s.processes pid) refl member none) members (all_members members))
 
   walk_finds : (o : Option ℕ) → holder s members right ≡ o → first_found permitted w s members right ≡ walked permitted w s members right
+  unfolding first_found walked
   walk_finds None none = ap (option_or (found_now s members right)) (members_find none)
   walk_finds (Some pid) some =
       let now : found_now s members right ≡ Some (record { run = []; holder = pid }) = ap (option_map (λ n. record { run = []; holder = n })) some in

@@ -1,6 +1,6 @@
 -- What a run of moves leaves of all but the one who moves.
-use Rattle.std.proofs.Common.{◌≡◌, ◌≢◌, ℕ, zero, suc, ◌==◌, ◌||◌, Bool, true, false, List, [], ◌∷◌, length, map, filter}
-use Rattle.std.proofs.Common.{Option, None, Some, if◌then◌else◌, refl, sym, ap, ◌∙◌, inl, inr, subst, arith}
+use Rattle.std.proofs.Common.{◌≡◌, ◌≢◌, ℕ, zero, suc, ◌==◌, ◌||◌, Bool, List, [], ◌∷◌, length, map, filter}
+use Rattle.std.proofs.Common.{Option, None, Some, if◌then◌else◌, refl, sym, ap, ◌∙◌, inl, inr, subst}
 use Rattle.std.specs.Prelude.{is_some}
 use Rattle.std.proofs.lemmas.Bool.{cases_Bool, cases_eq, cond-true, cond-false, eqb-true}
 use Rattle.std.proofs.lemmas.List.{length-map}
@@ -10,8 +10,8 @@ use Rattle.model_cred.specs.Process.{Process, State, process_at, put_process, is
 use Rattle.model_cred.specs.Right.{Right}
 use Rattle.model_cred.specs.World.{World}
 use Rattle.model_run.specs.Family.{family, forebear_in, forebear_of, reaches, reaches_within}
-use Rattle.model_plans.specs.Move.{Seat, seat_of, Setting, Move}
-use Rattle.model_plans.specs.PlanRun.{PlanRun, setting_in, moves_made, nothing_made}
+use Rattle.model_plans.specs.Move.{Seat, seat_of, Move}
+use Rattle.model_plans.specs.PlanRun.{PlanRun, setting_in, moves_made}
 use Rattle.model_plans.specs.Walk.{after_moves}
 use Rattle.model_plans.specs.Changes.{moved, with_seat, Leaves, OthersStay}
 use Rattle.model_plans.proofs.Walks.{found_seated, walk_run, dead_run}
@@ -75,7 +75,7 @@ family_seated s pid p seat root lives =
     let fore : (n : ℕ) → forebear_of t n ≡ forebear_of s n = λ n. seated_alike forebear_in s pid p seat n lives refl in
     let reach : (n : ℕ) → reaches t root n ≡ reaches s root n
     = λ n. ap (λ (k : ℕ). reaches_within k t root (Some n)) (put_length (moved p seat) s.processes)
-        ∙ reach_alike (length s.processes) t s root (Some n) fore in
+    ∙ reach_alike (length s.processes) t s root (Some n) fore in
     ap (λ (b : Bool). if b then filter (reaches t root) (map (λ r. r.pid) t.processes) else []) (seated_alike is_some s pid p seat root lives refl)
     ∙ ap (λ (members : List ℕ). if is_alive s.processes root then members else [])
     (filter_alike (reaches t root) (reaches s root) (map (λ r. r.pid) t.processes) reach

@@ -1,21 +1,19 @@
 -- The walk on a seat is the machine's run.
-use Rattle.std.proofs.Common.{◌≡◌, ◌≢◌, ℕ, ◌==◌, Bool, true, false, List, [], ◌∷◌, ◌++◌, Option, None, Some, if◌then◌else◌}
-use Rattle.std.proofs.Common.{refl, sym, ap, ◌∙◌, inl, inr, subst, arith, append_assoc}
-use Rattle.std.proofs.lemmas.Bool.{cases_Bool, cond-true, cond-false}
+use Rattle.std.proofs.Common.{◌≡◌, ℕ, Bool, true, List, [], ◌∷◌, ◌++◌, Option, None, Some}
+use Rattle.std.proofs.Common.{refl, sym, ap, ◌∙◌, subst, arith}
 use Rattle.cm_filter.specs.declared.kind.CallKind.{CallKind}
 use Rattle.model_cred.proofs.Lookups.{pid_of_found, at_put_same}
-use Rattle.model_cred.specs.Call.{Call, Event, SetUid, SetReUid, SetResUid, SetFsUid, SetGid, SetReGid, SetResGid, SetFsGid}
-use Rattle.model_cred.specs.Call.{SetGroups, CapSet, BsetDrop, AmbRaise, AmbLower, AmbClear, SecureBits, KeepCaps}
-use Rattle.model_cred.specs.Call.{NoNewPrivs, Fork, CloneUser, Unshare, SetNs, WriteUidMap, WriteGidMap, WriteSetgroups}
-use Rattle.model_cred.specs.Call.{Exec, Exit}
+use Rattle.model_cred.specs.Call.{Call, Event}
+use Rattle.model_cred.specs.Call.{Fork, CloneUser, Unshare, WriteUidMap, WriteGidMap, WriteSetgroups}
+use Rattle.model_cred.specs.Call.{Exit}
 use Rattle.model_cred.specs.Process.{Process, State, process_at, put_process}
 use Rattle.model_cred.specs.Right.{Right}
 use Rattle.model_cred.specs.World.{World}
-use Rattle.model_run.specs.Ruling.{Ruling, own, reply_to, state_left}
+use Rattle.model_run.specs.Ruling.{Ruling, own, reply_to}
 use Rattle.model_laws.proofs.Refusals.{put_same}
 use Rattle.model_plans.specs.Move.{Seat, seat_of, Setting, Move, call_of}
 use Rattle.model_plans.specs.PlanRun.{PlanRun, setting_in, call_made, move_made, moves_made, nothing_made}
-use Rattle.model_plans.specs.Walk.{reply_at, seat_after, event_of, after, after_moves, events_of}
+use Rattle.model_plans.specs.Walk.{reply_at, seat_after, event_of, after_moves, events_of}
 use Rattle.model_plans.specs.Changes.{changes_caller_alone, moved, with_seat, WalkIsRun}
 use Rattle.model_plans.proofs.Calls.{call_plain}
 

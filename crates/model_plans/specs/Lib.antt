@@ -7,3 +7,4 @@ pub mod Walk
 pub mod Changes
 pub mod Firsts
 pub mod Shortcuts
+pub mod Sought

@@ -8,7 +8,7 @@ use Rattle.model_cred.specs.Right.{Right}
 use Rattle.model_cred.specs.World.{World}
 use Rattle.model_run.specs.Holds.{process_holds}
 use Rattle.model_run.specs.Ruling.{Ruling, own}
-use Rattle.model_plans.specs.Move.{Seat, seat_of, Setting, Move, call_of}
+use Rattle.model_plans.specs.Move.{seat_of, Setting, Move, call_of}
 use Rattle.model_plans.specs.Plan.{Plan, plans}
 
 -- What is made: the events, refusals among them, and the state after them.
@@ -68,6 +68,6 @@ first_some answer [] = None
 first_some answer (x ∷ xs) = option_or (answer x) (first_some answer xs)
 
 -- What is found by the first plan whose run ends with a member that holds the right; a plan is looked at at its end alone.
-abbrev pub first_found : (ℕ → CallKind → Bool) → World → State → List ℕ → Right → Option Found
+unfoldable pub first_found : (ℕ → CallKind → Bool) → World → State → List ℕ → Right → Option Found
 first_found permitted w s members right =
     first_some (λ plan. found_by members right (plan_run permitted w s right plan)) (plans w s members right)

@@ -46,7 +46,7 @@ abbrev pub seat_holds : Setting → Seat → Bool
 seat_holds q seat = holds_right q.spaces seat.space seat.cred q.right
 
 -- the first of the last choices after which, once the effective set is raised, the member holds the right
-abbrev pub last_found : Setting → Seat → Option Choice
+unfoldable pub last_found : Setting → Seat → Option Choice
 last_found q seat = find (λ last. seat_holds q (after_moves q seat (then_raise last))) (last_choices q.right)
 
 -- the first of these middle choices after which there is such a last one: the moves from the middle choice on
@@ -61,7 +61,7 @@ moves_from q seat middles firsts =
     first_some (λ first. option_map (λ rest. (Raise ∷ first) ++ rest) (middle_found q (after_moves q seat (Raise ∷ first)) middles)) firsts
 
 -- the moves of the first plan of a member at that seat after which it holds the right
-abbrev pub moves_found : Setting → Seat → Option (List Move)
+unfoldable pub moves_found : Setting → Seat → Option (List Move)
 moves_found q seat = moves_from q seat (middle_choices q.files q.spaces seat.space) first_choices
 
 -- what is found by a member at that seat
@@ -82,5 +82,5 @@ abbrev pub found_now : State → List ℕ → Right → Option Found
 found_now s members right = option_map (λ pid. record { run = []; holder = pid }) (holder s members right)
 
 -- What is found on seats: without a move, else by the first member, and the first of its choices.
-abbrev pub walked : (ℕ → CallKind → Bool) → World → State → List ℕ → Right → Option Found
+unfoldable pub walked : (ℕ → CallKind → Bool) → World → State → List ℕ → Right → Option Found
 walked permitted w s members right = option_or (found_now s members right) (found_among permitted w s right members)
