@@ -1,22 +1,24 @@
 -- What is found: by which plan, and that it is a later run after which its holder has the right.
-use Rattle.std.proofs.Common.{◌≡◌, ℕ, Bool, List, Option, None, Some, option_map, sym, ap, ◌∙◌, subst}
+use Rattle.std.proofs.Common.{◌≡◌, ℕ, List, Option, None, Some, option_map, sym, ap, ◌∙◌, subst}
 use Rattle.std.specs.Prelude.{All}
 use Rattle.std.proofs.lemmas.List.Elements.{All-weaker}
-use Rattle.cm_filter.specs.declared.kind.CallKind.{CallKind}
 use Rattle.model_cred.specs.Call.{Event}
 use Rattle.model_cred.specs.Process.{State}
 use Rattle.model_cred.specs.Right.{Right}
 use Rattle.model_cred.specs.World.{World}
 use Rattle.model_run.specs.Later.{Later}
+use Rattle.model_plans.specs.Move.{MayCall}
 use Rattle.model_plans.specs.Plan.{Plan, plans}
 use Rattle.model_plans.specs.PlanRun.{PlanRun, plan_run, holder, Found, found_by, first_found}
+use Rattle.model_plans.specs.Changes.{OthersStay}
 use Rattle.model_plans.specs.Firsts.{NoHolder, NoneHolds, NoneHoldsAfter, NothingFound, IsFirst, FoundIsFirst, EndsHolding, FoundIsLater}
 use Rattle.model_plans.proofs.Lists.{all_none, none_of, all_at, unmap_none, unmap_some, FirstAt, first_at, at_first}
+use Rattle.model_plans.proofs.Others.{others_stay}
 use Rattle.model_plans.proofs.Holders.{no_holder, holder_holds}
 use Rattle.model_plans.proofs.Laters.{runs_later}
 
 -- ---- what a run finds
-module _ (permitted : ℕ → CallKind → Bool) (w : World) (s : State) (members : List ℕ) (right : Right) where
+module _ (permitted : MayCall) (w : World) (s : State) (members : List ℕ) (right : Right) where
   abbrev made_by : Plan → PlanRun
   made_by plan = plan_run permitted w s right plan
 
@@ -73,6 +75,7 @@ module _ (permitted : ℕ → CallKind → Bool) (w : World) (s : State) (member
       })
 
   ends_holding : (found : Found) → IsFirst permitted w s members right found → EndsHolding permitted w s members right found
+  unfolding OthersStay
   ends_holding found is =
       let later_of : Plan → Type 0
       = λ plan. Later (permitted plan.pid) w s members (made_by plan).events (made_by plan).state members in
@@ -83,6 +86,7 @@ module _ (permitted : ℕ → CallKind → Bool) (w : World) (s : State) (member
         mover = is.plan.pid;
         state = (made_by is.plan).state;
         later = subst (λ (es : List Event). Later (permitted is.plan.pid) w s members es (made_by is.plan).state members) (sym is.run) later;
+        leaves = others_stay permitted w s right is.plan.pid is.plan.moves;
         member = holds.0;
         holds = holds.1;
       }

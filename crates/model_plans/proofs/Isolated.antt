@@ -10,7 +10,7 @@ use Rattle.model_cred.specs.Space.{Spaces}
 use Rattle.model_cred.specs.World.{World}
 use Rattle.model_run.specs.Holds.{process_holds, holds_right, holds_for}
 use Rattle.model_run.specs.Later.{is_member}
-use Rattle.model_plans.specs.Move.{Seat, seat_of, Setting}
+use Rattle.model_plans.specs.Move.{MayCall, Seat, seat_of, Setting}
 use Rattle.model_plans.specs.PlanRun.{setting_in, Found}
 use Rattle.model_plans.specs.Walk.{found_at, found_for, found_among, found_now, walked}
 use Rattle.model_plans.specs.Firsts.{WalkFindsTheSame}
@@ -42,13 +42,13 @@ found_seat : Setting → ℕ → Option Seat → Option Found
 found_seat q pid None = None
 found_seat q pid (Some seat) = found_at q pid seat
 
-found_by_seat : (permitted : ℕ → CallKind → Bool) (w : World) (s : State) (right : Right) (pid : ℕ) (o : Option Process)
+found_by_seat : (permitted : MayCall) (w : World) (s : State) (right : Right) (pid : ℕ) (o : Option Process)
     → found_for permitted w s right pid o ≡ found_seat (setting_in permitted w s right pid) pid (option_map seat_of o)
 unfolding found_seat
 found_by_seat permitted w s right pid None = refl
 found_by_seat permitted w s right pid (Some p) = refl
 
-module _ (permitted other : ℕ → CallKind → Bool) (w : World) (s t : State) (members : List ℕ) (right : Right) (same : s.spaces ≡ t.spaces)
+module _ (permitted other : MayCall) (w : World) (s t : State) (members : List ℕ) (right : Right) (same : s.spaces ≡ t.spaces)
     (alike : AreSeatedAlike permitted other s t members) where
   holds_alike : (pid : ℕ) → is_member members pid ≡ true → process_holds s pid right ≡ process_holds t pid right
   holds_alike pid member =

@@ -1,5 +1,5 @@
 -- The runs of plans are later runs of the members.
-use Rattle.std.proofs.Common.{◌≡◌, ℕ, ◌==◌, not, Bool, true, false, List, [], ◌∷◌, ◌++◌, map, filter, length}
+use Rattle.std.proofs.Common.{◌≡◌, ℕ, ◌==◌, not, true, false, List, [], ◌∷◌, ◌++◌, map, filter, length}
 use Rattle.std.proofs.Common.{Option, None, Some, refl, sym, ap, subst, arith}
 use Rattle.std.specs.Prelude.{All}
 use Rattle.std.proofs.lemmas.Bool.{lt-ltb}
@@ -8,7 +8,6 @@ use Rattle.std.proofs.lemmas.List.Elements.{All-cons, All-nil, All-append, All-m
 use Rattle.cm_base.specs.declared.res.Res.{Res}
 use Rattle.cm_base.specs.declared.res.Res.TheVariants.{Done, Id, Child, Err}
 use Rattle.cm_base.specs.declared.res.FileRef.TheVariants.{Plain}
-use Rattle.cm_filter.specs.declared.kind.CallKind.{CallKind}
 use Rattle.model_cred.specs.Call.{Call, Event, Exit, kind_of}
 use Rattle.model_cred.specs.Files.{FileTable}
 use Rattle.model_cred.specs.Process.{Process, State, process_at}
@@ -21,15 +20,16 @@ use Rattle.model_run.specs.Step.{Step, names_no_space}
 use Rattle.model_laws.specs.Owns.{OwnIsStep}
 use Rattle.model_laws.proofs.Owning.{own_is_step}
 use Rattle.model_laws.proofs.Results.{IsRuled, reply_plain}
-use Rattle.model_plans.specs.Move.{seat_of, Setting, Move, Raise, BecomeZero, BecomeSought, BecomeGroup, TakeGroup}
+use Rattle.model_plans.specs.Move.{MayCall, seat_of, Setting, Move, Raise, BecomeZero, BecomeSought, BecomeGroup, TakeGroup}
 use Rattle.model_plans.specs.Move.{RunFile, JoinSpace, call_of}
 use Rattle.model_plans.specs.Plan.{Choice, Plan, numbers, special_rows, run_row, run_two, pairs, joins, first_choices}
 use Rattle.model_plans.specs.Plan.{middle_choices, group_choices, last_choices, then_raise, moves_of, plans_in, plans_for, plans}
 use Rattle.model_plans.specs.PlanRun.{PlanRun, setting_in, call_made, move_made, moves_made, plan_run}
-use Rattle.model_plans.specs.Changes.{changes_caller_alone, RunsAreLater}
+use Rattle.model_plans.specs.Changes.{changes_caller_alone, IsLater, RunsAreLater}
+use Rattle.model_plans.specs.Shortcuts.{then_made}
 use Rattle.model_plans.proofs.Lists.{all_flat_map, all_of, all_range}
 use Rattle.model_plans.proofs.Calls.{JoinStands, call_plain, call_named}
-use Rattle.model_plans.proofs.Walks.{own_alone, then_made}
+use Rattle.model_plans.proofs.Walks.{own_alone}
 use Rattle.model_plans.proofs.Holders.{all_members}
 
 -- ---- one call
@@ -57,12 +57,8 @@ abbrev JoinsStand : Spaces → List Move → Type 0
 JoinsStand spaces [] = Unit {0}
 JoinsStand spaces (move ∷ moves) = JoinStands spaces move × JoinsStand spaces moves
 
--- what is made is a later run of the members, after which they are the same
-abbrev IsLater : (ℕ → CallKind → Bool) → World → State → List ℕ → ℕ → PlanRun → Type 0
-IsLater permitted w s members pid made = Later (permitted pid) w s members made.events made.state members
-
 -- an optional call, and more moves, of which this is known already
-later_call : (permitted : ℕ → CallKind → Bool) (w : World) (s : State) (right : Right) (members : List ℕ) (pid : ℕ) (p : Process) (moves : List Move)
+later_call : (permitted : MayCall) (w : World) (s : State) (right : Right) (members : List ℕ) (pid : ℕ) (p : Process) (moves : List Move)
     (o : Option Call) → process_at s.processes pid ≡ Some p → is_member members pid ≡ true
     → ((call : Call) → o ≡ Some call
     → (changes_caller_alone call ≡ true) × (permitted pid (kind_of call) ≡ true) × (names_no_space s.spaces call ≡ false))
@@ -87,7 +83,7 @@ later_call permitted w s right members pid p moves (Some call) lives member plai
     )
 
 -- a move of an optional process, and more moves, of which this is known already
-later_move : (permitted : ℕ → CallKind → Bool) (w : World) (s : State) (right : Right) (members : List ℕ) (pid : ℕ) (o : Option Process) (move : Move)
+later_move : (permitted : MayCall) (w : World) (s : State) (right : Right) (members : List ℕ) (pid : ℕ) (o : Option Process) (move : Move)
     (moves : List Move) → process_at s.processes pid ≡ o → is_member members pid ≡ true → JoinStands s.spaces move
     → ((t : State) → t.spaces ≡ s.spaces → IsLater permitted w t members pid (moves_made permitted w t right pid moves))
     → IsLater permitted w s members pid (then_made permitted w right pid (move_made permitted w s right pid o move) moves)
@@ -99,7 +95,7 @@ later_move permitted w s right members pid (Some p) move moves lives member ther
     let plain : (changes_caller_alone call ≡ true) × (permitted pid (kind_of call) ≡ true) = call_plain q (seat_of p) move call is in
     (plain.0, plain.1, call_named q (seat_of p) move call there is)) rest
 
-later_moves : (permitted : ℕ → CallKind → Bool) (w : World) (s : State) (right : Right) (members : List ℕ) (pid : ℕ) (moves : List Move)
+later_moves : (permitted : MayCall) (w : World) (s : State) (right : Right) (members : List ℕ) (pid : ℕ) (moves : List Move)
     → is_member members pid ≡ true → JoinsStand s.spaces moves
     → IsLater permitted w s members pid (moves_made permitted w s right pid moves)
 later_moves permitted w s right members pid [] member joins = (refl, refl)
@@ -175,7 +171,7 @@ all_plans_in P files spaces right pid at holds =
     (middle_choices files spaces at) (joins_middle files spaces at)))
     first_choices (joins_first spaces))
 
-pub runs_later : (permitted : ℕ → CallKind → Bool) (w : World) (s : State) (members : List ℕ) (right : Right)
+pub runs_later : (permitted : MayCall) (w : World) (s : State) (members : List ℕ) (right : Right)
     → All (λ plan. IsLater permitted w s members plan.pid (plan_run permitted w s right plan)) (plans w s members right)
 runs_later permitted w s members right =
     let P : Plan → Type 0 = λ plan. IsLater permitted w s members plan.pid (plan_run permitted w s right plan) in

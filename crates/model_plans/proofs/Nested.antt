@@ -4,15 +4,14 @@ use Rattle.std.proofs.Common.{if◌then◌else◌, refl, sym, ap, ◌∙◌}
 use Rattle.std.specs.List.{flat_map}
 use Rattle.std.specs.Option.{option_or}
 use Rattle.std.proofs.lemmas.List.Elements.{All-weaker}
-use Rattle.cm_filter.specs.declared.kind.CallKind.{CallKind}
 use Rattle.model_cred.specs.Files.{FileTable}
 use Rattle.model_cred.specs.Process.{Process, State, process_at}
 use Rattle.model_cred.specs.Right.{Right}
 use Rattle.model_cred.specs.Space.{Spaces}
 use Rattle.model_cred.specs.World.{World}
 use Rattle.model_run.specs.Later.{is_member}
-use Rattle.model_plans.specs.Move.{Seat, seat_of, Setting, Move, Raise}
-use Rattle.model_plans.specs.Plan.{Choice, Plan, first_choices, middle_choices, last_choices, then_raise, moves_of, plans_in, plans_for}
+use Rattle.model_plans.specs.Move.{MayCall, Seat, seat_of, Setting, Move, Raise}
+use Rattle.model_plans.specs.Plan.{Choice, Plan, first_choices, middle_choices, last_choices, then_raise, moves_of, plan_of, plans_in, plans_for}
 use Rattle.model_plans.specs.PlanRun.{setting_in, moves_made, plan_run, holder, Found, found_by, first_some, first_found}
 use Rattle.model_plans.specs.Walk.{after_moves, events_of, seat_holds, last_found, middle_found, moves_from, moves_found, found_for}
 use Rattle.model_plans.specs.Walk.{found_among, found_now, walked}
@@ -81,10 +80,6 @@ module _ (q : Setting) (pid : ℕ) (seat : Seat) where
       ∙ middle_by_one first middles)
 
 -- ---- over the flat list
--- the plan of three choices
-abbrev plan_of : ℕ → Choice → Choice → Choice → Plan
-plan_of pid first middle last = record { pid = pid; moves = moves_of first middle last }
-
 -- the first answer over a member's plans is the first over its choices, one by one
 flat_choices : {B : Type 0} (answer : Plan → Option B) (files : FileTable) (spaces : Spaces) (right : Right) (pid at : ℕ)
     → first_some answer (plans_in files spaces right pid at)
@@ -108,7 +103,7 @@ map_if : {A B : Type 0} (h : A → B) (b : Bool) (x : A) → option_map h (if b 
 map_if h true x = refl
 map_if h false x = refl
 
-module _ (permitted : ℕ → CallKind → Bool) (w : World) (s : State) (members : List ℕ) (right : Right) where
+module _ (permitted : MayCall) (w : World) (s : State) (members : List ℕ) (right : Right) where
   -- what a plan finds
   abbrev tried : Plan → Option Found
   tried plan = found_by members right (plan_run permitted w s right plan)

@@ -88,7 +88,10 @@ module _ (spaces : Spaces) (tree : IsTree spaces) (at : ℕ) where
               ∙ ap (λ (k : ℕ). Some k) (elim (cases m it) [
                 | inl same ↦ same
                 | inr later ↦
-                    absurd (let le : m ≤ p = parent.low m later in let below : at < m = child_below m child in let same : at ≡ p = of_parent first in omega arith)
+                    let le : m ≤ p = parent.low m later in
+                    let below : at < m = child_below m child in
+                    let same : at ≡ p = of_parent first in
+                    absurd (omega arith)
               ])
           | inr not_it ↦
               cond-false (tests n) (Some n) (find tests (chain spaces p)) not_it

@@ -1,7 +1,6 @@
 -- The walk on a seat is the machine's run.
-use Rattle.std.proofs.Common.{◌≡◌, ℕ, Bool, true, List, [], ◌∷◌, ◌++◌, Option, None, Some}
+use Rattle.std.proofs.Common.{◌≡◌, ℕ, true, List, [], ◌∷◌, ◌++◌, Option, None, Some}
 use Rattle.std.proofs.Common.{refl, sym, ap, ◌∙◌, subst, arith}
-use Rattle.cm_filter.specs.declared.kind.CallKind.{CallKind}
 use Rattle.model_cred.proofs.Lookups.{pid_of_found, at_put_same}
 use Rattle.model_cred.specs.Call.{Call, Event}
 use Rattle.model_cred.specs.Call.{Fork, CloneUser, Unshare, WriteUidMap, WriteGidMap, WriteSetgroups}
@@ -11,10 +10,11 @@ use Rattle.model_cred.specs.Right.{Right}
 use Rattle.model_cred.specs.World.{World}
 use Rattle.model_run.specs.Ruling.{Ruling, own, reply_to}
 use Rattle.model_laws.proofs.Refusals.{put_same}
-use Rattle.model_plans.specs.Move.{Seat, seat_of, Setting, Move, call_of}
+use Rattle.model_plans.specs.Move.{MayCall, Seat, seat_of, Setting, Move, call_of}
 use Rattle.model_plans.specs.PlanRun.{PlanRun, setting_in, call_made, move_made, moves_made, nothing_made}
 use Rattle.model_plans.specs.Walk.{reply_at, seat_after, event_of, after_moves, events_of}
-use Rattle.model_plans.specs.Changes.{changes_caller_alone, moved, with_seat, WalkIsRun}
+use Rattle.model_plans.specs.Changes.{changes_caller_alone, moved, with_seat, walked_run, WalkIsRun}
+use Rattle.model_plans.specs.Shortcuts.{then_made}
 use Rattle.model_plans.proofs.Calls.{call_plain}
 
 -- ---- one process in the place of another
@@ -57,18 +57,8 @@ own_alone w s p Exit alone = absurd (cc)
 own_alone w s p _ alone = refl
 
 -- ---- moves
--- what is made with what more moves make after it
-abbrev pub then_made : (ℕ → CallKind → Bool) → World → Right → ℕ → PlanRun → List Move → PlanRun
-then_made permitted w right pid one moves =
-    let rest : PlanRun = moves_made permitted w one.state right pid moves in
-    record { events = one.events ++ rest.events; state = rest.state }
-
--- what the walk says of moves of a process
-abbrev pub walked_run : Setting → ℕ → State → Process → List Move → PlanRun
-walked_run q pid s p moves = record { events = events_of q pid (seat_of p) moves; state = with_seat s p (after_moves q (seat_of p) moves) }
-
 -- an optional call that changes its caller alone, and more moves, of which this is known already
-walk_call : (permitted : ℕ → CallKind → Bool) (w : World) (s : State) (right : Right) (pid : ℕ) (p : Process) (moves : List Move) (o : Option Call)
+walk_call : (permitted : MayCall) (w : World) (s : State) (right : Right) (pid : ℕ) (p : Process) (moves : List Move) (o : Option Call)
     → process_at s.processes pid ≡ Some p → ((call : Call) → o ≡ Some call → changes_caller_alone call ≡ true)
     → ((t : State) (r : Process) → process_at t.processes pid ≡ Some r
     → moves_made permitted w t right pid moves ≡ walked_run (setting_in permitted w t right pid) pid t r moves)
@@ -90,7 +80,7 @@ walk_call permitted w s right pid p moves (Some call) lives alone rest =
     (rest (with_seat s p seat) (moved p seat) (found_seated s pid p seat lives))
     ∙ ap (λ (t : State). record { events = event ∷ events_of q pid seat moves; state = t }) (seated_twice s p seat (after_moves q seat moves))
 
-pub walk_run : (permitted : ℕ → CallKind → Bool) (w : World) (s : State) (right : Right) (pid : ℕ) (p : Process) (moves : List Move)
+pub walk_run : (permitted : MayCall) (w : World) (s : State) (right : Right) (pid : ℕ) (p : Process) (moves : List Move)
     → process_at s.processes pid ≡ Some p
     → moves_made permitted w s right pid moves ≡ walked_run (setting_in permitted w s right pid) pid s p moves
 walk_run permitted w s right pid p [] lives = ap (λ (t : State). record { events = []; state = t }) (sym (seated_same s pid p lives))
@@ -105,7 +95,7 @@ unfolding WalkIsRun
 walk_is_run = walk_run
 
 -- who isn't alive makes nothing
-pub dead_run : (permitted : ℕ → CallKind → Bool) (w : World) (s : State) (right : Right) (pid : ℕ) (moves : List Move)
+pub dead_run : (permitted : MayCall) (w : World) (s : State) (right : Right) (pid : ℕ) (moves : List Move)
     → process_at s.processes pid ≡ None → moves_made permitted w s right pid moves ≡ nothing_made s
 dead_run permitted w s right pid [] dead = refl
 dead_run permitted w s right pid (move ∷ moves) dead =

@@ -1,17 +1,17 @@
 -- What plans change: the space and the credential of the one who moves, and nothing else.
 use Rattle.std.specs.Prelude.{◌≡◌, ◌≢◌, ℕ, Bool, true, false, List, ◌∷◌, Some, All}
-use Rattle.cm_filter.specs.declared.kind.CallKind.{CallKind}
 use Rattle.cm_filter.specs.declared.kind.CallKind.TheVariants as kind
-use Rattle.model_cred.specs.Call.{Call, Fork, CloneUser, Unshare, WriteUidMap, WriteGidMap, WriteSetgroups, Exit, kind_of}
+use Rattle.model_cred.specs.Call.{Call, Fork, CloneUser, Unshare, WriteUidMap, WriteGidMap, WriteSetgroups, Exit}
+use Rattle.model_cred.specs.Call.{kind_of}
 use Rattle.model_cred.specs.Credential.{Included}
 use Rattle.model_cred.specs.Process.{Process, State, process_at, put_process}
 use Rattle.model_cred.specs.Right.{Right}
 use Rattle.model_cred.specs.World.{World}
 use Rattle.model_run.specs.Family.{family}
 use Rattle.model_run.specs.Later.{Later}
-use Rattle.model_plans.specs.Move.{Seat, seat_of, Setting, Move, Raise, call_of}
+use Rattle.model_plans.specs.Move.{Seat, seat_of, MayCall, Setting, Move, Raise, call_of}
 use Rattle.model_plans.specs.Plan.{plans, first_choices}
-use Rattle.model_plans.specs.PlanRun.{setting_in, moves_made, plan_run}
+use Rattle.model_plans.specs.PlanRun.{PlanRun, setting_in, moves_made, plan_run}
 use Rattle.model_plans.specs.Walk.{after, after_moves, events_of}
 
 -- the call makes no process and no space, ends no process, and writes to no space
@@ -38,15 +38,20 @@ moved p seat = record p { space = seat.space; cred = seat.cred }
 abbrev pub with_seat : State → Process → Seat → State
 with_seat s p seat = record s { processes = put_process (moved p seat) s.processes }
 
--- The walk on a seat is the machine's run: it has its events, and the state after it is the one before with the member at the
--- seat where the walk ends. So the spaces stay, and so do all other processes.
+-- what the walk on its seat says of moves of a process
+abbrev pub walked_run : Setting → ℕ → State → Process → List Move → PlanRun
+walked_run q pid s p moves = record {
+  events = events_of q pid (seat_of p) moves;
+  state = with_seat s p (after_moves q (seat_of p) moves);
+}
+
+-- The walk on a seat is the machine's run: it has its events, and the state after it is the one before, with the member
+-- at the seat where the walk ends. So the spaces stay, and so do all other processes.
 unfoldable pub WalkIsRun : Type 0
-WalkIsRun = (permitted : ℕ → CallKind → Bool) (w : World) (s : State) (right : Right) (pid : ℕ) (p : Process) (moves : List Move)
+WalkIsRun =
+    (permitted : MayCall) (w : World) (s : State) (right : Right) (pid : ℕ) (p : Process) (moves : List Move)
     → process_at s.processes pid ≡ Some p
-    → moves_made permitted w s right pid moves ≡ record {
-      events = events_of (setting_in permitted w s right pid) pid (seat_of p) moves;
-      state = with_seat s p (after_moves (setting_in permitted w s right pid) (seat_of p) moves);
-    }
+    → moves_made permitted w s right pid moves ≡ walked_run (setting_in permitted w s right pid) pid s p moves
 
 -- what a run of moves leaves of all but the one who moves
 pub record Leaves (s : State) (pid : ℕ) (after : State) : Type 0 where
@@ -56,23 +61,27 @@ pub record Leaves (s : State) (pid : ℕ) (after : State) : Type 0 where
 
 -- The spaces, all other processes, and all families are as before, also where the one who is to move isn't alive.
 unfoldable pub OthersStay : Type 0
-OthersStay = (permitted : ℕ → CallKind → Bool) (w : World) (s : State) (right : Right) (pid : ℕ) (moves : List Move)
+OthersStay = (permitted : MayCall) (w : World) (s : State) (right : Right) (pid : ℕ) (moves : List Move)
     → Leaves s pid (moves_made permitted w s right pid moves).state
 
--- The run of each plan of the list is a later run of the members, after which they are the same, under what is permitted to
--- the one who moves.
+-- what is made is a later run of the members, after which they are the same, under what is permitted to the process
+abbrev pub IsLater : MayCall → World → State → List ℕ → ℕ → PlanRun → Type 0
+IsLater permitted w s members pid made = Later (permitted pid) w s members made.events made.state members
+
+-- The run of each plan of the list is such a run, under what is permitted to the one who moves.
 unfoldable pub RunsAreLater : Type 0
-RunsAreLater = (permitted : ℕ → CallKind → Bool) (w : World) (s : State) (members : List ℕ) (right : Right)
-    → All (λ plan. Later (permitted plan.pid) w s members
-    (plan_run permitted w s right plan).events (plan_run permitted w s right plan).state members) (plans w s members right)
+RunsAreLater = (permitted : MayCall) (w : World) (s : State) (members : List ℕ) (right : Right)
+    → All (λ plan. IsLater permitted w s members plan.pid (plan_run permitted w s right plan)) (plans w s members right)
 
 -- The first raise and a first choice leave the member in its space: so the spaces that it may join next are those other
 -- than its own at the start.
 unfoldable pub FirstMovesStay : Type 0
-FirstMovesStay = (q : Setting) (seat : Seat) → All (λ first. (after_moves q seat (Raise ∷ first)).space ≡ seat.space) first_choices
+FirstMovesStay = (q : Setting) (seat : Seat)
+    → All (λ first. (after_moves q seat (Raise ∷ first)).space ≡ seat.space) first_choices
 
--- A raise is never refused: where capset(2) is permitted, it leaves the effective set as the permitted one, and all else as
--- it was, of each credential whose ambient set is within the permitted and inheritable ones.
+-- A raise is never refused: where capset(2) is permitted, it leaves the effective set as the permitted one, and all
+-- else as it was, of each credential whose ambient set is within the permitted and inheritable ones.
 unfoldable pub RaisesAreDone : Type 0
 RaisesAreDone = (q : Setting) (seat : Seat) → Included seat.cred → q.permitted kind.CapSet ≡ true
-    → after q seat Raise ≡ record { space = seat.space; cred = record seat.cred { effective = seat.cred.permitted } }
+    → after q seat Raise
+    ≡ record { space = seat.space; cred = record seat.cred { effective = seat.cred.permitted } }

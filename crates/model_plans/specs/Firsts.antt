@@ -1,16 +1,17 @@
 -- What is found, and how: by the machine's runs, or on seats.
-use Rattle.std.specs.Prelude.{◌≡◌, ◌↔◌, ◌≤◌, ◌<◌, ℕ, Bool, false, IsTrue, List, [], ◌∷◌, ◌++◌, None, Some, All, if◌then◌else◌}
-use Rattle.cm_filter.specs.declared.kind.CallKind.{CallKind}
+use Rattle.std.specs.Prelude.{◌≡◌, ◌↔◌, ◌≤◌, ◌<◌, ℕ, false, IsTrue, List, [], ◌∷◌, ◌++◌, None, Some, All}
+use Rattle.std.specs.Prelude.{if◌then◌else◌}
 use Rattle.model_cred.specs.Process.{Process, State, Ascends, process_at}
 use Rattle.model_cred.specs.Right.{Right}
 use Rattle.model_cred.specs.World.{World}
 use Rattle.model_run.specs.Family.{family}
 use Rattle.model_run.specs.Holds.{process_holds}
 use Rattle.model_run.specs.Later.{Later, is_member}
-use Rattle.model_plans.specs.Move.{seat_of, Move}
+use Rattle.model_plans.specs.Move.{Seat, seat_of, MayCall, Move}
 use Rattle.model_plans.specs.Plan.{Plan, plans}
 use Rattle.model_plans.specs.PlanRun.{setting_in, moves_made, plan_run, holder, Found, first_found}
 use Rattle.model_plans.specs.Walk.{after_moves, seat_holds, walked}
+use Rattle.model_plans.specs.Changes.{Leaves}
 
 -- no member holds the right
 abbrev pub NoneHolds : State → List ℕ → Right → Type 0
@@ -18,7 +19,8 @@ NoneHolds s members right = (pid : ℕ) → IsTrue (is_member members pid) → p
 
 -- There is no holder exactly where no member holds the right.
 unfoldable pub NoHolder : Type 0
-NoHolder = (s : State) (members : List ℕ) (right : Right) → (holder s members right ≡ None) ↔ NoneHolds s members right
+NoHolder = (s : State) (members : List ℕ) (right : Right)
+    → (holder s members right ≡ None) ↔ NoneHolds s members right
 
 -- the pids ascend, each once
 abbrev pub PidsAscend : List ℕ → Type 0
@@ -40,17 +42,20 @@ unfoldable pub HolderIsLeast : Type 0
 HolderIsLeast = (s : State) (members : List ℕ) (right : Right) (pid : ℕ) → PidsAscend members
     → (holder s members right ≡ Some pid) ↔ IsLeastHolder s members right pid
 
--- the plans of the list after whose runs no member holds the right
-abbrev pub NoneHoldsAfter : (ℕ → CallKind → Bool) → World → State → List ℕ → Right → List Plan → Type 0
-NoneHoldsAfter permitted w s members right = All (λ plan. NoneHolds (plan_run permitted w s right plan).state members right)
+-- after the run of each of the plans no member holds the right
+abbrev pub NoneHoldsAfter : MayCall → World → State → List ℕ → Right → List Plan → Type 0
+NoneHoldsAfter permitted w s members right plans =
+    All (λ plan. NoneHolds (plan_run permitted w s right plan).state members right) plans
 
 -- Nothing is found exactly where after the run of each plan no member holds the right.
 unfoldable pub NothingFound : Type 0
-NothingFound = (permitted : ℕ → CallKind → Bool) (w : World) (s : State) (members : List ℕ) (right : Right)
-    → (first_found permitted w s members right ≡ None) ↔ NoneHoldsAfter permitted w s members right (plans w s members right)
+NothingFound = (permitted : MayCall) (w : World) (s : State) (members : List ℕ) (right : Right)
+    → (first_found permitted w s members right ≡ None)
+    ↔ NoneHoldsAfter permitted w s members right (plans w s members right)
 
 -- what is found is the run of the first plan after which a member holds the right, and that member
-pub record IsFirst (permitted : ℕ → CallKind → Bool) (w : World) (s : State) (members : List ℕ) (right : Right) (found : Found) : Type 0 where
+pub record IsFirst (permitted : MayCall) (w : World) (s : State) (members : List ℕ) (right : Right) (found : Found)
+    : Type 0 where
   pub before : List Plan
   pub plan : Plan
   pub after : List Plan
@@ -61,33 +66,42 @@ pub record IsFirst (permitted : ℕ → CallKind → Bool) (w : World) (s : Stat
 
 -- What is found is of the first such plan.
 unfoldable pub FoundIsFirst : Type 0
-FoundIsFirst = (permitted : ℕ → CallKind → Bool) (w : World) (s : State) (members : List ℕ) (right : Right) (found : Found)
+FoundIsFirst = (permitted : MayCall) (w : World) (s : State) (members : List ℕ) (right : Right) (found : Found)
     → (first_found permitted w s members right ≡ Some found) ↔ IsFirst permitted w s members right found
 
--- a later run of the members, made by one of them, after which the members are the same, and one of them holds the right
-pub record EndsHolding (permitted : ℕ → CallKind → Bool) (w : World) (s : State) (members : List ℕ) (right : Right) (found : Found) : Type 0 where
+-- what is found is a later run of the members, after which they are the same, all but one process is as it was, and the
+-- holder, a member, holds the right
+pub record EndsHolding (permitted : MayCall) (w : World) (s : State) (members : List ℕ) (right : Right) (found : Found)
+    : Type 0 where
   pub mover : ℕ
   pub state : State
   pub later : Later (permitted mover) w s members found.run state members
+  pub leaves : Leaves s mover state
   pub member : IsTrue (is_member members found.holder)
   pub holds : IsTrue (process_holds state found.holder right)
 
--- What is found is a later run of the members after which the holder has the right.
+-- What is found is such a run.
 unfoldable pub FoundIsLater : Type 0
-FoundIsLater = (permitted : ℕ → CallKind → Bool) (w : World) (s : State) (members : List ℕ) (right : Right) (found : Found)
+FoundIsLater = (permitted : MayCall) (w : World) (s : State) (members : List ℕ) (right : Right) (found : Found)
     → first_found permitted w s members right ≡ Some found → EndsHolding permitted w s members right found
+
+-- the seat of a process after moves
+abbrev pub seat_then : MayCall → World → State → Right → ℕ → Process → List Move → Seat
+seat_then permitted w s right pid p moves = after_moves (setting_in permitted w s right pid) (seat_of p) moves
 
 -- Where no member held the right, one holds it after moves exactly where the one who moved does, at the seat where it
 -- then is.
 unfoldable pub MoverDecides : Type 0
-MoverDecides = (permitted : ℕ → CallKind → Bool) (w : World) (s : State) (members : List ℕ) (right : Right) (pid : ℕ) (p : Process)
+MoverDecides =
+    (permitted : MayCall) (w : World) (s : State) (members : List ℕ) (right : Right) (pid : ℕ) (p : Process)
     (moves : List Move)
     → process_at s.processes pid ≡ Some p → IsTrue (is_member members pid) → holder s members right ≡ None
     → holder (moves_made permitted w s right pid moves).state members right
-    ≡ (if seat_holds (setting_in permitted w s right pid) (after_moves (setting_in permitted w s right pid) (seat_of p) moves)
+    ≡ (if seat_holds (setting_in permitted w s right pid) (seat_then permitted w s right pid p moves)
     then Some pid else None)
 
--- The walk on seats, by members, first, middle and last choices, finds what the list of plans and the machine's runs do.
+-- The walk on seats, by members, first, middle and last choices, finds what the list of plans and the machine's runs
+-- do.
 unfoldable pub WalkFindsTheSame : Type 0
-WalkFindsTheSame = (permitted : ℕ → CallKind → Bool) (w : World) (s : State) (members : List ℕ) (right : Right)
+WalkFindsTheSame = (permitted : MayCall) (w : World) (s : State) (members : List ℕ) (right : Right)
     → first_found permitted w s members right ≡ walked permitted w s members right

@@ -1,9 +1,10 @@
--- The moves of plans. A move is what a member may try next: at most one call, which is found at the moment at which it is
--- made, from where the member then stands.
+-- The moves of plans. A move is what a member may try next: at most one call, which is found at the moment at which it
+-- is made, from where the member then stands.
 use Rattle.std.specs.Prelude.{ℕ, ◌==◌, Bool, find, List, [], ◌∷◌, Option, None, Some, option_map, if◌then◌else◌}
 use Rattle.cm_base.specs.declared.res.FileRef.{FileRef}
 use Rattle.cm_filter.specs.declared.kind.CallKind.{CallKind}
-use Rattle.model_cred.specs.Call.{Call, SetUid, SetReUid, SetResUid, SetGid, SetReGid, SetResGid, SetGroups, CapSet, SetNs, Exec, kind_of}
+use Rattle.model_cred.specs.Call.{Call, SetUid, SetReUid, SetResUid, SetGid, SetReGid, SetResGid, SetGroups, CapSet}
+use Rattle.model_cred.specs.Call.{SetNs, Exec, kind_of}
 use Rattle.model_cred.specs.Credential.{Credential}
 use Rattle.model_cred.specs.Files.{FileTable}
 use Rattle.model_cred.specs.IdMap.{Extent, up, extents_of}
@@ -22,17 +23,21 @@ pub record Seat : Type 0 where
 abbrev pub seat_of : Process → Seat
 seat_of p = record { space = p.space; cred = p.cred }
 
--- What the moves of a member rest on and leave as it is: the declared files, the spaces, the kinds of calls that the
--- member may make, and the right that is sought.
+-- which kinds of calls are permitted to which process
+abbrev pub MayCall : Type 0
+MayCall = ℕ → CallKind → Bool
+
+-- What the moves of a member rest on and leave as it is: the declared files, the spaces, the kinds of calls that are
+-- permitted to the member, and the right that is sought.
 pub record Setting : Type 0 where
   pub files : FileTable
   pub spaces : Spaces
   pub permitted : CallKind → Bool
   pub right : Right
 
--- The moves: to raise the effective set to the permitted one; to make inside 0, the user id that is sought, or the group
--- id that is sought the effective one; to take the group that is sought as the only supplementary one; to run a file; to
--- join a space.
+-- The moves: to raise the effective set to the permitted one; to make inside 0, the user id that is sought, or the
+-- group id that is sought the effective one; to take the group that is sought as the only supplementary one; to run a
+-- file; to join a space.
 pub data Move : Type 0 where
   Raise : Move
   BecomeZero : Move
@@ -73,8 +78,8 @@ abbrev pub calls_with : (ℕ → List Call) → Option ℕ → List Call
 calls_with calls None = []
 calls_with calls (Some id) = calls id
 
--- the calls that make an optional id the effective one of a space's map: none where there is no id, where it is the
--- effective one already, or where it has no inside id
+-- The calls that make an optional id the effective one, by the map of such ids and the id that is effective so far:
+-- none where there is no id, where it is the effective one already, or where it has no inside id.
 abbrev pub becoming : (ℕ → List Call) → List Extent → ℕ → Option ℕ → List Call
 becoming calls map effective None = []
 becoming calls map effective (Some id) = if effective == id then [] else calls_with calls (up map id)
@@ -87,7 +92,8 @@ becoming_uid s c id = becoming uid_calls (extents_of s.uids) c.uid.effective id
 abbrev pub becoming_gid : Space → Credential → Option ℕ → List Call
 becoming_gid s c id = becoming gid_calls (extents_of s.gids) c.gid.effective id
 
--- the call that makes an optional group the only supplementary one: none where there is no group, or it has no inside id
+-- the call that makes an optional group the only supplementary one: none where there is no group, or where it has no
+-- inside id
 abbrev pub taking_group : Space → Option ℕ → List Call
 taking_group s None = []
 taking_group s (Some id) = calls_with group_calls (up (extents_of s.gids) id)
@@ -96,14 +102,18 @@ taking_group s (Some id) = calls_with group_calls (up (extents_of s.gids) id)
 abbrev pub raising : Credential → List Call
 raising c = if c.effective == c.permitted then [] else CapSet c.permitted c.permitted c.inheritable ∷ []
 
+-- the space of a seat
+abbrev pub space_at_seat : Setting → Seat → Space
+space_at_seat q seat = space_of q.spaces seat.space
+
 -- The calls by which a member can make the move from its seat, in the order in which they are preferred; none where the
 -- move has no meaning there, or would change nothing.
 abbrev pub calls_of : Setting → Seat → Move → List Call
 calls_of q seat Raise = raising seat.cred
-calls_of q seat BecomeZero = becoming_uid (space_of q.spaces seat.space) seat.cred (zero_of (space_of q.spaces seat.space))
-calls_of q seat BecomeSought = becoming_uid (space_of q.spaces seat.space) seat.cred (sought_uid q.spaces seat.space q.right)
-calls_of q seat BecomeGroup = becoming_gid (space_of q.spaces seat.space) seat.cred (sought_gid q.right)
-calls_of q seat TakeGroup = taking_group (space_of q.spaces seat.space) (sought_gid q.right)
+calls_of q seat BecomeZero = becoming_uid (space_at_seat q seat) seat.cred (zero_of (space_at_seat q seat))
+calls_of q seat BecomeSought = becoming_uid (space_at_seat q seat) seat.cred (sought_uid q.spaces seat.space q.right)
+calls_of q seat BecomeGroup = becoming_gid (space_at_seat q seat) seat.cred (sought_gid q.right)
+calls_of q seat TakeGroup = taking_group (space_at_seat q seat) (sought_gid q.right)
 calls_of q seat (RunFile file) = Exec file ∷ []
 calls_of q seat (JoinSpace n) = SetNs n ∷ []
 

@@ -19,20 +19,20 @@ pub record Plan : Type 0 where
   pub pid : ℕ
   pub moves : List Move
 
+-- the numbers of the items of a list, from 0 on
+abbrev pub numbers : {A : Type 0} → List A → List ℕ
+numbers items = range_with_len 0 (length items)
+
 -- the row has a set-id bit or an attribute
 abbrev pub is_special : Option FileRow → Bool
 is_special None = false
 is_special (Some row) = not (bit_and row.mode 0o6000 == 0) || is_some row.caps
 
--- the numbers from 0 on, as many as the list has items
-abbrev pub numbers : {A : Type 0} → List A → List ℕ
-numbers items = range_with_len 0 (length items)
-
--- how many such rows are tried in pairs
+-- how many rows are tried in pairs
 abbrev pub most_special : ℕ
 most_special = 64
 
--- the first of the rows that have a set-id bit or an attribute, as many as are tried in pairs
+-- the rows that are tried in pairs: the first of those that have a set-id bit or an attribute
 abbrev pub special_rows : List FileRow → List ℕ
 special_rows rows = take most_special (filter (λ n. is_special (slice_get rows n)) (numbers rows))
 
@@ -56,11 +56,13 @@ joins spaces at = map (λ n. JoinSpace n ∷ []) (filter (λ n. not (n == at)) (
 abbrev pub first_choices : List Choice
 first_choices = [] ∷ (BecomeZero ∷ []) ∷ (BecomeSought ∷ []) ∷ []
 
--- What is tried in the middle by a member in the space `at`: nothing; to run each row, or a file that isn't declared; to
--- join each other space; to run two special rows.
+-- What is tried in the middle by a member in the space `at`: nothing; to run each row; to run a file that isn't
+-- declared; to join each other space; to run two rows, one after the other.
 abbrev pub middle_choices : FileTable → Spaces → ℕ → List Choice
 middle_choices files spaces at =
-    ([] ∷ map run_row (numbers files.rows)) ++ ((RunFile Plain ∷ []) ∷ joins spaces at) ++ pairs (special_rows files.rows)
+    ([] ∷ map run_row (numbers files.rows))
+    ++ ((RunFile Plain ∷ []) ∷ joins spaces at)
+    ++ pairs (special_rows files.rows)
 
 -- what is tried at last for a group id besides: the effective group id, or the only supplementary group
 abbrev pub group_choices : Right → List Choice
@@ -80,19 +82,26 @@ then_raise choice = choice ++ Raise ∷ []
 abbrev pub moves_of : Choice → Choice → Choice → List Move
 moves_of first middle last = (Raise ∷ first) ++ (then_raise middle ++ then_raise last)
 
--- the plans of a member in the space `at`: each first choice with each middle one with each last one, the last one
--- turning fastest
+-- the plan of three choices of a member
+abbrev pub plan_of : ℕ → Choice → Choice → Choice → Plan
+plan_of pid first middle last = record { pid = pid; moves = moves_of first middle last }
+
+-- The plans of a member in the space `at`: each first choice, with each middle one, with each last one. The last choice
+-- turns fastest.
 abbrev pub plans_in : FileTable → Spaces → Right → ℕ → ℕ → List Plan
 plans_in files spaces right pid at =
-    flat_map (λ first. flat_map (λ middle. map (λ last. record { pid = pid; moves = moves_of first middle last })
-    (last_choices right)) (middle_choices files spaces at)) first_choices
+    flat_map (λ first.
+    flat_map (λ middle.
+    map (plan_of pid first middle) (last_choices right))
+    (middle_choices files spaces at))
+    first_choices
 
 -- the plans of a member that lives
 abbrev pub plans_for : FileTable → Spaces → Right → ℕ → Option Process → List Plan
 plans_for files spaces right pid None = []
 plans_for files spaces right pid (Some p) = plans_in files spaces right pid p.space
 
--- The list of plans: first the one without a move, then those of each member. Members ascend.
+-- The list of plans: first the one without a move, then those of each member in turn.
 abbrev pub plans : World → State → List ℕ → Right → List Plan
 plans w s members right =
     record { pid = 0; moves = [] }

@@ -1,27 +1,31 @@
 -- What a walk may share, and what it may leave out.
-use Rattle.std.specs.Prelude.{◌≡◌, ℕ, Bool, IsTrue, List, ◌∷◌, ◌++◌, Some, option_map, Any}
+use Rattle.std.specs.Prelude.{◌≡◌, ℕ, IsTrue, List, ◌∷◌, ◌++◌, Some, option_map, Any}
 use Rattle.cm_filter.specs.declared.kind.CallKind.{CallKind}
 use Rattle.model_cred.specs.Process.{Process, State, process_at}
 use Rattle.model_cred.specs.Right.{Right}
 use Rattle.model_cred.specs.World.{World}
 use Rattle.model_run.specs.Later.{is_member}
-use Rattle.model_plans.specs.Move.{Seat, seat_of, Setting, Move, Raise}
+use Rattle.model_plans.specs.Move.{Seat, seat_of, MayCall, Setting, Move, Raise}
 use Rattle.model_plans.specs.Plan.{Choice, then_raise}
-use Rattle.model_plans.specs.PlanRun.{moves_made, first_found}
+use Rattle.model_plans.specs.PlanRun.{PlanRun, moves_made, first_found}
 use Rattle.model_plans.specs.Walk.{after_moves, events_of, middle_found, moves_from, found_among}
 
--- First moves are shared: the run of moves after others goes on from where those end, by the machine and on a seat.
+-- what is made, and what more moves make after it
+abbrev pub then_made : MayCall → World → Right → ℕ → PlanRun → List Move → PlanRun
+then_made permitted w right pid made moves =
+    let more : PlanRun = moves_made permitted w made.state right pid moves in
+    record { events = made.events ++ more.events; state = more.state }
+
+-- First moves are shared: moves after others go on from where those end, by the machine and on a seat.
 pub record FirstMovesAreShared : Type 0 where
-  pub run : (permitted : ℕ → CallKind → Bool) (w : World) (s : State) (right : Right) (pid : ℕ) (moves more : List Move)
-      → moves_made permitted w s right pid (moves ++ more) ≡ record {
-        events = (moves_made permitted w s right pid moves).events
-            ++ (moves_made permitted w (moves_made permitted w s right pid moves).state right pid more).events;
-        state = (moves_made permitted w (moves_made permitted w s right pid moves).state right pid more).state;
-      }
+  pub run : (permitted : MayCall) (w : World) (s : State) (right : Right) (pid : ℕ) (moves more : List Move)
+      → moves_made permitted w s right pid (moves ++ more)
+      ≡ then_made permitted w right pid (moves_made permitted w s right pid moves) more
   pub seat : (q : Setting) (seat : Seat) (moves more : List Move)
       → after_moves q seat (moves ++ more) ≡ after_moves q (after_moves q seat moves) more
   pub events : (q : Setting) (pid : ℕ) (seat : Seat) (moves more : List Move)
-      → events_of q pid seat (moves ++ more) ≡ events_of q pid seat moves ++ events_of q pid (after_moves q seat moves) more
+      → events_of q pid seat (moves ++ more)
+      ≡ events_of q pid seat moves ++ events_of q pid (after_moves q seat moves) more
 
 -- A first choice that leaves the seat where an earlier one left it may be skipped.
 unfoldable pub FirstChoicesTriedBefore : Type 0
@@ -36,7 +40,7 @@ MiddleChoicesTriedBefore = (q : Setting) (seat : Seat) (earlier later : List Cho
     → middle_found q seat (earlier ++ middle ∷ later) ≡ middle_found q seat (earlier ++ later)
 
 -- the two processes live at one seat, and the same kinds of calls are permitted to them
-pub record AreAlike (permitted : ℕ → CallKind → Bool) (s : State) (pid other : ℕ) : Type 0 where
+pub record AreAlike (permitted : MayCall) (s : State) (pid other : ℕ) : Type 0 where
   pub one : Process
   pub two : Process
   pub first_lives : process_at s.processes pid ≡ Some one
@@ -46,18 +50,20 @@ pub record AreAlike (permitted : ℕ → CallKind → Bool) (s : State) (pid oth
 
 -- A member that is like an earlier one may be skipped.
 unfoldable pub MembersTriedBefore : Type 0
-MembersTriedBefore = (permitted : ℕ → CallKind → Bool) (w : World) (s : State) (right : Right) (earlier later : List ℕ) (pid : ℕ)
+MembersTriedBefore =
+    (permitted : MayCall) (w : World) (s : State) (right : Right) (earlier later : List ℕ) (pid : ℕ)
     → Any (λ other. AreAlike permitted s other pid) earlier
     → found_among permitted w s right (earlier ++ pid ∷ later) ≡ found_among permitted w s right (earlier ++ later)
 
 -- the members are at the same seats in both states, if they live, and the same kinds of calls are permitted to them
-abbrev pub AreSeatedAlike : (permitted other : ℕ → CallKind → Bool) → (s t : State) → List ℕ → Type 0
+abbrev pub AreSeatedAlike : MayCall → MayCall → State → State → List ℕ → Type 0
 AreSeatedAlike permitted other s t members = (pid : ℕ) → IsTrue (is_member members pid)
     → (option_map seat_of (process_at s.processes pid) ≡ option_map seat_of (process_at t.processes pid))
     × ((kind : CallKind) → permitted pid kind ≡ other pid kind)
 
 -- What is found depends on the spaces and on the members' own seats alone, whatever other processes hold.
 unfoldable pub MembersSeatsDecide : Type 0
-MembersSeatsDecide = (permitted other : ℕ → CallKind → Bool) (w : World) (s t : State) (members : List ℕ) (right : Right)
+MembersSeatsDecide =
+    (permitted other : MayCall) (w : World) (s t : State) (members : List ℕ) (right : Right)
     → s.spaces ≡ t.spaces → AreSeatedAlike permitted other s t members
     → first_found permitted w s members right ≡ first_found other w t members right

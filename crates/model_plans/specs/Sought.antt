@@ -8,10 +8,11 @@ use Rattle.model_plans.specs.Move.{sought_uid}
 abbrev pub IsOnTheWay : Spaces → ℕ → ℕ → ℕ → Type 0
 IsOnTheWay spaces at n next = IsTrue (is_at_or_above spaces next n) × ((space_of spaces next).parent ≡ Some at)
 
--- Where a member is in a space above the one of the right, the owner of the next space on the way down is sought; there is
--- one such space. Elsewhere no user id is.
+-- Where a member is in a space above that of the right, the owner of the next space on the way down is sought; there is
+-- such a space. Elsewhere no user id is sought.
 pub record SoughtOwner (spaces : Spaces) (at cap n : ℕ) : Type 0 where
-  pub owner : (next : ℕ) → IsOnTheWay spaces at n next → sought_uid spaces at (Cap cap n) ≡ Some (space_of spaces next).owner
+  pub owner : (next : ℕ) → IsOnTheWay spaces at n next
+      → sought_uid spaces at (Cap cap n) ≡ Some (space_of spaces next).owner
   pub one : IsTrue (is_at_or_above spaces at n) → at ≢ n → (next : ℕ) × IsOnTheWay spaces at n next
   pub above : (next : ℕ) → IsOnTheWay spaces at n next → IsTrue (is_at_or_above spaces at n) × (at ≢ n)
   pub none : ((next : ℕ) → IsOnTheWay spaces at n next → ⊥) → sought_uid spaces at (Cap cap n) ≡ None

@@ -1,5 +1,6 @@
 // What plans change.
-ghost use Rattle.model_plans.specs.Changes.{CallsOfMoves, WalkIsRun, OthersStay, RunsAreLater, FirstMovesStay, RaisesAreDone};
+ghost use Rattle.model_plans.specs.Changes.{CallsOfMoves, WalkIsRun, OthersStay, RunsAreLater, FirstMovesStay};
+ghost use Rattle.model_plans.specs.Changes.{RaisesAreDone};
 
 /// The call of a move changes its caller alone, and is of a kind that is permitted.
 #[tactic(auto, using(crate::proofs::Calls::calls_of_moves))]

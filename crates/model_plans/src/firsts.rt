@@ -1,6 +1,6 @@
 // What is found, and by which plan.
-ghost use Rattle.model_plans.specs.Firsts.{NoHolder, FamilyAscends, HolderIsLeast, NothingFound, FoundIsFirst, FoundIsLater};
-ghost use Rattle.model_plans.specs.Firsts.{MoverDecides, WalkFindsTheSame};
+ghost use Rattle.model_plans.specs.Firsts.{NoHolder, FamilyAscends, HolderIsLeast, NothingFound, FoundIsFirst};
+ghost use Rattle.model_plans.specs.Firsts.{FoundIsLater, MoverDecides, WalkFindsTheSame};
 
 /// There is no holder exactly where no member holds the right.
 #[tactic(auto, using(crate::proofs::Holders::no_holder))]

@@ -1,5 +1,5 @@
-//! Definitions: the list of plans that a family may try, and their laws. No code but functions that do nothing and carry
-//! a law each.
+//! Definitions: the list of plans that the members of a family may try, and its laws. No code but functions that do
+//! nothing and carry a law each.
 #![tactic(auto)]
 
 mod changes;
