@@ -3,7 +3,7 @@ use Rattle.std.proofs.Common.{◌≡◌, ℕ, ◌==◌, not, true, List, [], ◌
 use Rattle.cm_base.specs.CapSet.{none, full}
 use Rattle.cm_base.specs.declared.res.FileRef.TheVariants.{Row}
 use Rattle.cm_filter.specs.Filters.{permits}
-use Rattle.model_cred.specs.Call.{SetUid, SetReUid, SetResUid, SetResGid, SetGroups, CapSet, SetNs, Exec}
+use Rattle.model_cred.specs.Call.{SetUid, SetReUid, SetResUid, SetResGid, SetReGid, SetGid, SetGroups, CapSet, SetNs, Exec}
 use Rattle.model_cred.specs.Credential.{Credential, all_four}
 use Rattle.model_cred.specs.Files.{FileRow}
 use Rattle.model_cred.specs.Process.{State}
@@ -181,7 +181,18 @@ pub setgid_brings_each_group : found_alone world with_setgid (Gid 34)
 unfolding first_found
 setgid_brings_each_group = refl
 
--- where the calls that set group ids (4, 5, 6) are excluded, as the only supplementary one
+-- by the second and the third call where those before them (setresgid 6, setregid 5) are excluded
+pub setregid_does_where_setresgid_is_excluded : found_alone (filtered 0x40) with_setgid (Gid 34)
+    ≡ Some (record { run = done 100 (SetReGid minus_one 34) ∷ []; holder = 100 })
+unfolding first_found
+setregid_does_where_setresgid_is_excluded = refl
+
+pub setgid_does_where_both_are_excluded : found_alone (filtered 0x60) with_setgid (Gid 34)
+    ≡ Some (record { run = done 100 (SetGid 34) ∷ []; holder = 100 })
+unfolding first_found
+setgid_does_where_both_are_excluded = refl
+
+-- where setgid (4) is excluded too, as the only supplementary one
 pub setgroups_brings_each_group : found_alone (filtered 0x70) with_setgid (Gid 34)
     ≡ Some (record { run = done 100 (SetGroups (34 ∷ [])) ∷ []; holder = 100 })
 unfolding first_found

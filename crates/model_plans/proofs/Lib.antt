@@ -13,5 +13,6 @@ pub mod Skips
 pub mod Isolated
 pub mod Owners
 pub mod Raises
+pub mod Becomes
 pub mod Cases
 pub mod ListCases

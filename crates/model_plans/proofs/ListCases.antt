@@ -146,7 +146,14 @@ pub a_group_becomes_the_only_one : made world (record (user 0) { groups = 5 ∷ 
     ≡ record { events = done 100 (SetGroups (34 ∷ [])) ∷ []; state = one (record (user 0) { groups = 34 ∷ [] }) }
 a_group_becomes_the_only_one = refl
 
--- ---- the user id that is sought for a capability over a space
+-- ---- the user id that is sought
+pub for_a_user_id_it_is_that_one : sought_uid three_spaces 1 (Uid 7) ≡ Some 7
+for_a_user_id_it_is_that_one = refl
+
+pub for_a_group_id_there_is_none : sought_uid three_spaces 1 (Gid 7) ≡ None
+for_a_group_id_there_is_none = refl
+
+-- for a capability over a space it is the owner of the next space on the way down
 -- space 3 is in 2, 2 in 1, 1 in the initial one; their owners are 30, 20, 10
 abbrev chain_of_spaces : Spaces
 chain_of_spaces = space 2 30 [] ∷ space 1 20 [] ∷ space 0 10 [] ∷ initial_space ∷ []

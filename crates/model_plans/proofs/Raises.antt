@@ -13,7 +13,7 @@ use Rattle.model_rules.specs.CapCalls.{capset, may_capset, with_capset, has_setp
 use Rattle.cm_base.specs.declared.errno.Errno.TheVariants.{EPERM}
 use Rattle.model_plans.specs.Move.{Seat}
 use Rattle.model_plans.specs.Walk.{seat_after}
-use Rattle.model_plans.specs.Changes.{RaisesAreDone}
+use Rattle.model_plans.specs.Effects.{RaisesAreDone}
 
 -- the call of a raise is allowed
 may_raise_all : (c : Credential) → may_capset c c.permitted c.permitted c.inheritable ≡ true

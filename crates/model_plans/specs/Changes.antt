@@ -1,9 +1,7 @@
 -- What plans change: the space and the credential of the one who moves, and nothing else.
 use Rattle.std.specs.Prelude.{◌≡◌, ◌≢◌, ℕ, Bool, true, false, List, ◌∷◌, Some, All}
-use Rattle.cm_filter.specs.declared.kind.CallKind.TheVariants as kind
 use Rattle.model_cred.specs.Call.{Call, Fork, CloneUser, Unshare, WriteUidMap, WriteGidMap, WriteSetgroups, Exit}
 use Rattle.model_cred.specs.Call.{kind_of}
-use Rattle.model_cred.specs.Credential.{Included}
 use Rattle.model_cred.specs.Process.{Process, State, process_at, put_process}
 use Rattle.model_cred.specs.Right.{Right}
 use Rattle.model_cred.specs.World.{World}
@@ -12,7 +10,7 @@ use Rattle.model_run.specs.Later.{Later}
 use Rattle.model_plans.specs.Move.{Seat, seat_of, MayCall, Setting, Move, Raise, call_of}
 use Rattle.model_plans.specs.Plan.{plans, first_choices}
 use Rattle.model_plans.specs.PlanRun.{PlanRun, setting_in, moves_made, plan_run}
-use Rattle.model_plans.specs.Walk.{after, after_moves, events_of}
+use Rattle.model_plans.specs.Walk.{after_moves, events_of}
 
 -- the call makes no process and no space, ends no process, and writes to no space
 abbrev pub changes_caller_alone : Call → Bool
@@ -78,10 +76,3 @@ RunsAreLater = (permitted : MayCall) (w : World) (s : State) (members : List ℕ
 unfoldable pub FirstMovesStay : Type 0
 FirstMovesStay = (q : Setting) (seat : Seat)
     → All (λ first. (after_moves q seat (Raise ∷ first)).space ≡ seat.space) first_choices
-
--- A raise is never refused: where capset(2) is permitted, it leaves the effective set as the permitted one, and all
--- else as it was, of each credential whose ambient set is within the permitted and inheritable ones.
-unfoldable pub RaisesAreDone : Type 0
-RaisesAreDone = (q : Setting) (seat : Seat) → Included seat.cred → q.permitted kind.CapSet ≡ true
-    → after q seat Raise
-    ≡ record { space = seat.space; cred = record seat.cred { effective = seat.cred.permitted } }

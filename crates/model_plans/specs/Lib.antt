@@ -5,6 +5,7 @@ pub mod Plan
 pub mod PlanRun
 pub mod Walk
 pub mod Changes
+pub mod Effects
 pub mod Firsts
 pub mod Shortcuts
 pub mod Sought

@@ -1,6 +1,5 @@
 // What plans change.
 ghost use Rattle.model_plans.specs.Changes.{CallsOfMoves, WalkIsRun, OthersStay, RunsAreLater, FirstMovesStay};
-ghost use Rattle.model_plans.specs.Changes.{RaisesAreDone};
 
 /// The call of a move changes its caller alone, and is of a kind that is permitted.
 #[tactic(auto, using(crate::proofs::Calls::calls_of_moves))]
@@ -30,10 +29,4 @@ pub fn runs_are_later()
 #[tactic(auto, using(crate::proofs::Skips::first_moves_stay))]
 pub fn first_moves_stay()
     ensures { FirstMovesStay }
-{}
-
-/// A raise is never refused.
-#[tactic(auto, using(crate::proofs::Raises::raises_are_done))]
-pub fn raises_are_done()
-    ensures { RaisesAreDone }
 {}

@@ -3,14 +3,15 @@
 #![tactic(auto)]
 
 mod changes;
+mod effects;
 mod firsts;
 mod shortcuts;
 mod sought;
 
 pub use changes::{
-    first_moves_stay, moves_change_their_caller_alone, others_stay, raises_are_done,
-    runs_are_later, walk_is_run,
+    first_moves_stay, moves_change_their_caller_alone, others_stay, runs_are_later, walk_is_run,
 };
+pub use effects::{becomes_are_done, raises_are_done};
 pub use firsts::{
     family_ascends, found_is_first, found_is_later, holder_is_least, mover_decides, no_holder,
     nothing_found, walk_finds_the_same,
