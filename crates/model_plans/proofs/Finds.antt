@@ -6,11 +6,10 @@ use Rattle.model_cred.specs.Call.{Event}
 use Rattle.model_cred.specs.Process.{State}
 use Rattle.model_cred.specs.Right.{Right}
 use Rattle.model_cred.specs.World.{World}
-use Rattle.model_run.specs.Later.{Later}
 use Rattle.model_plans.specs.Move.{MayCall}
 use Rattle.model_plans.specs.Plan.{Plan, plans}
 use Rattle.model_plans.specs.PlanRun.{PlanRun, plan_run, holder, Found, found_by, first_found}
-use Rattle.model_plans.specs.Changes.{OthersStay}
+use Rattle.model_plans.specs.Changes.{OthersStay, IsLater}
 use Rattle.model_plans.specs.Firsts.{NoHolder, NoneHolds, NoneHoldsAfter, NothingFound, IsFirst, FoundIsFirst, EndsHolding, FoundIsLater}
 use Rattle.model_plans.proofs.Lists.{all_none, none_of, all_at, unmap_none, unmap_some, FirstAt, first_at, at_first}
 use Rattle.model_plans.proofs.Others.{others_stay}
@@ -77,15 +76,15 @@ module _ (permitted : MayCall) (w : World) (s : State) (members : List ℕ) (rig
   ends_holding : (found : Found) → IsFirst permitted w s members right found → EndsHolding permitted w s members right found
   unfolding OthersStay
   ends_holding found is =
-      let later_of : Plan → Type 0
-      = λ plan. Later (permitted plan.pid) w s members (made_by plan).events (made_by plan).state members in
+      let later_of : Plan → Type 0 = λ plan. IsLater permitted w s members plan.pid (made_by plan) in
       let later : later_of is.plan
       = all_at later_of is.before is.after is.plan (subst (All later_of) is.listed (runs_later permitted w s members right)) in
       let holds = holder_holds (made_by is.plan).state members right found.holder is.holds in
       record {
         mover = is.plan.pid;
         state = (made_by is.plan).state;
-        later = subst (λ (es : List Event). Later (permitted is.plan.pid) w s members es (made_by is.plan).state members) (sym is.run) later;
+        later = subst (λ (es : List Event). IsLater permitted w s members is.plan.pid (record { events = es; state = (made_by is.plan).state })) (sym is.run)
+            later;
         leaves = others_stay permitted w s right is.plan.pid is.plan.moves;
         member = holds.0;
         holds = holds.1;

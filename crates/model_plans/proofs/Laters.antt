@@ -57,13 +57,17 @@ abbrev JoinsStand : Spaces → List Move → Type 0
 JoinsStand spaces [] = Unit {0}
 JoinsStand spaces (move ∷ moves) = JoinStands spaces move × JoinsStand spaces moves
 
+-- what is made is a later run of the members, after which they are the same
+abbrev Goes : MayCall → World → State → List ℕ → ℕ → PlanRun → Type 0
+Goes permitted w s members pid made = Later (permitted pid) w s members made.events made.state members
+
 -- an optional call, and more moves, of which this is known already
 later_call : (permitted : MayCall) (w : World) (s : State) (right : Right) (members : List ℕ) (pid : ℕ) (p : Process) (moves : List Move)
     (o : Option Call) → process_at s.processes pid ≡ Some p → is_member members pid ≡ true
     → ((call : Call) → o ≡ Some call
     → (changes_caller_alone call ≡ true) × (permitted pid (kind_of call) ≡ true) × (names_no_space s.spaces call ≡ false))
-    → ((t : State) → t.spaces ≡ s.spaces → IsLater permitted w t members pid (moves_made permitted w t right pid moves))
-    → IsLater permitted w s members pid (then_made permitted w right pid (call_made w s pid p o) moves)
+    → ((t : State) → t.spaces ≡ s.spaces → Goes permitted w t members pid (moves_made permitted w t right pid moves))
+    → Goes permitted w s members pid (then_made permitted w right pid (call_made w s pid p o) moves)
 later_call permitted w s right members pid p moves None lives member plain rest = rest s refl
 later_call permitted w s right members pid p moves (Some call) lives member plain rest =
     let is : (changes_caller_alone call ≡ true) × (permitted pid (kind_of call) ≡ true) × (names_no_space s.spaces call ≡ false) = plain call refl in
@@ -85,8 +89,8 @@ later_call permitted w s right members pid p moves (Some call) lives member plai
 -- a move of an optional process, and more moves, of which this is known already
 later_move : (permitted : MayCall) (w : World) (s : State) (right : Right) (members : List ℕ) (pid : ℕ) (o : Option Process) (move : Move)
     (moves : List Move) → process_at s.processes pid ≡ o → is_member members pid ≡ true → JoinStands s.spaces move
-    → ((t : State) → t.spaces ≡ s.spaces → IsLater permitted w t members pid (moves_made permitted w t right pid moves))
-    → IsLater permitted w s members pid (then_made permitted w right pid (move_made permitted w s right pid o move) moves)
+    → ((t : State) → t.spaces ≡ s.spaces → Goes permitted w t members pid (moves_made permitted w t right pid moves))
+    → Goes permitted w s members pid (then_made permitted w right pid (move_made permitted w s right pid o move) moves)
 later_move permitted w s right members pid None move moves lives member there rest = rest s refl
 later_move permitted w s right members pid (Some p) move moves lives member there rest =
     let q : Setting = setting_in permitted w s right pid in
@@ -97,11 +101,39 @@ later_move permitted w s right members pid (Some p) move moves lives member ther
 
 later_moves : (permitted : MayCall) (w : World) (s : State) (right : Right) (members : List ℕ) (pid : ℕ) (moves : List Move)
     → is_member members pid ≡ true → JoinsStand s.spaces moves
-    → IsLater permitted w s members pid (moves_made permitted w s right pid moves)
+    → Goes permitted w s members pid (moves_made permitted w s right pid moves)
 later_moves permitted w s right members pid [] member joins = (refl, refl)
 later_moves permitted w s right members pid (move ∷ moves) member joins =
     later_move permitted w s right members pid (process_at s.processes pid) move moves refl member joins.0
     (λ t same. later_moves permitted w t right members pid moves member (subst (λ (spaces : Spaces). JoinsStand spaces moves) (sym same) joins.1))
+
+-- each event is of the one who moves
+made_by : (permitted : MayCall) (w : World) (s : State) (right : Right) (pid : ℕ) (moves : List Move)
+    → All (λ (e : Event). e.pid ≡ pid) (moves_made permitted w s right pid moves).events
+made_by permitted w s right pid [] = All-nil (λ (e : Event). e.pid ≡ pid)
+made_by permitted w s right pid (move ∷ moves) =
+    let one : PlanRun = move_made permitted w s right pid (process_at s.processes pid) move in
+    All-append (λ (e : Event). e.pid ≡ pid) one.events (moves_made permitted w one.state right pid moves).events
+    (by_process (process_at s.processes pid))
+    (made_by permitted w one.state right pid moves)
+  where
+    by_call : (p : Process) (o : Option Call) → All (λ (e : Event). e.pid ≡ pid) (call_made w s pid p o).events
+    by_call p None = All-nil (λ (e : Event). e.pid ≡ pid)
+    by_call p (Some call) =
+        All-cons (λ (e : Event). e.pid ≡ pid) (record { pid = pid; call = call; res = (own w s p call).res }) [] refl
+        (All-nil (λ (e : Event). e.pid ≡ pid))
+
+    by_process : (o : Option Process) → All (λ (e : Event). e.pid ≡ pid) (move_made permitted w s right pid o move).events
+    by_process None = All-nil (λ (e : Event). e.pid ≡ pid)
+    by_process (Some p) = by_call p (call_of (setting_in permitted w s right pid) (seat_of p) move)
+
+later_run : (permitted : MayCall) (w : World) (s : State) (right : Right) (members : List ℕ) (pid : ℕ) (moves : List Move)
+    → is_member members pid ≡ true → JoinsStand s.spaces moves
+    → IsLater permitted w s members pid (moves_made permitted w s right pid moves)
+later_run permitted w s right members pid moves member joins = record {
+  later = later_moves permitted w s right members pid moves member joins;
+  callers = made_by permitted w s right pid moves;
+}
 
 -- ---- plans
 joins_append : (spaces : Spaces) (moves more : List Move) → JoinsStand spaces moves → JoinsStand spaces more → JoinsStand spaces (moves ++ more)
@@ -180,9 +212,9 @@ runs_later permitted w s members right =
     = λ pid member. elim [
       | None ↦ All-nil P
       | Some p ↦
-          all_plans_in P w.files s.spaces right pid p.space (λ moves joins. later_moves permitted w s right members pid moves member joins)
+          all_plans_in P w.files s.spaces right pid p.space (λ moves joins. later_run permitted w s right members pid moves member joins)
     ] in
-    All-cons P (record { pid = 0; moves = [] }) (flat_map of_member members) (refl, refl)
+    All-cons P (record { pid = 0; moves = [] }) (flat_map of_member members) (record { later = (refl, refl); callers = All-nil (λ (e : Event). e.pid ≡ 0) })
     (all_flat_map P of_member members
     (All-weaker (λ pid. is_member members pid ≡ true) (λ pid. All P (of_member pid)) (λ pid member. by_process pid member (process_at s.processes pid))
     members (all_members members)))

@@ -62,11 +62,14 @@ unfoldable pub OthersStay : Type 0
 OthersStay = (permitted : MayCall) (w : World) (s : State) (right : Right) (pid : ℕ) (moves : List Move)
     → Leaves s pid (moves_made permitted w s right pid moves).state
 
--- what is made is a later run of the members, after which they are the same, under what is permitted to the process
-abbrev pub IsLater : MayCall → World → State → List ℕ → ℕ → PlanRun → Type 0
-IsLater permitted w s members pid made = Later (permitted pid) w s members made.events made.state members
+-- What is made is a later run of the members by calls of the one process alone, of kinds that are permitted to it. The
+-- members are the same after it.
+pub record IsLater (permitted : MayCall) (w : World) (s : State) (members : List ℕ) (pid : ℕ) (made : PlanRun)
+    : Type 0 where
+  pub later : Later (permitted pid) w s members made.events made.state members
+  pub callers : All (λ e. e.pid ≡ pid) made.events
 
--- The run of each plan of the list is such a run, under what is permitted to the one who moves.
+-- The run of each plan of the list is such a run of the one who moves.
 unfoldable pub RunsAreLater : Type 0
 RunsAreLater = (permitted : MayCall) (w : World) (s : State) (members : List ℕ) (right : Right)
     → All (λ plan. IsLater permitted w s members plan.pid (plan_run permitted w s right plan)) (plans w s members right)

@@ -6,12 +6,12 @@ use Rattle.model_cred.specs.Right.{Right}
 use Rattle.model_cred.specs.World.{World}
 use Rattle.model_run.specs.Family.{family}
 use Rattle.model_run.specs.Holds.{process_holds}
-use Rattle.model_run.specs.Later.{Later, is_member}
+use Rattle.model_run.specs.Later.{is_member}
 use Rattle.model_plans.specs.Move.{Seat, seat_of, MayCall, Move}
 use Rattle.model_plans.specs.Plan.{Plan, plans}
 use Rattle.model_plans.specs.PlanRun.{setting_in, moves_made, plan_run, holder, Found, first_found}
 use Rattle.model_plans.specs.Walk.{after_moves, seat_holds, walked}
-use Rattle.model_plans.specs.Changes.{Leaves}
+use Rattle.model_plans.specs.Changes.{Leaves, IsLater}
 
 -- no member holds the right
 abbrev pub NoneHolds : State → List ℕ → Right → Type 0
@@ -69,13 +69,13 @@ unfoldable pub FoundIsFirst : Type 0
 FoundIsFirst = (permitted : MayCall) (w : World) (s : State) (members : List ℕ) (right : Right) (found : Found)
     → (first_found permitted w s members right ≡ Some found) ↔ IsFirst permitted w s members right found
 
--- what is found is a later run of the members, after which they are the same, all but one process is as it was, and the
--- holder, a member, holds the right
+-- What is found is a later run of the members, by calls of one of them. After it the members are the same, all but the
+-- one who moved is as it was, and the holder, a member, holds the right.
 pub record EndsHolding (permitted : MayCall) (w : World) (s : State) (members : List ℕ) (right : Right) (found : Found)
     : Type 0 where
   pub mover : ℕ
   pub state : State
-  pub later : Later (permitted mover) w s members found.run state members
+  pub later : IsLater permitted w s members mover (record { events = found.run; state = state })
   pub leaves : Leaves s mover state
   pub member : IsTrue (is_member members found.holder)
   pub holds : IsTrue (process_holds state found.holder right)
