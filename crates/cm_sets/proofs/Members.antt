@@ -1,14 +1,14 @@
 -- Sets of capabilities by their members: what the tests and the operations on words come to, with a member where a test
 -- fails.
-use Rattle.std.proofs.Common.{◌≡◌, ◌≢◌, ℕ, zero, suc, ◌^◌, ◌<◌, ◌≤◌, ◌⊎◌, Bool, true, false, not, ◌&&◌, ◌||◌, eqb, refl, sym, ap, ◌∙◌, inl, inr, arith, lit<}
+use Rattle.std.proofs.Common.{◌≡◌, ◌≢◌, ℕ, zero, suc, ◌^◌, ◌<◌, ◌≤◌, ◌⊎◌, Bool, false, not, ◌&&◌, ◌||◌, eqb, sym, ap, ◌∙◌, inl, inr, arith, lit<}
 use Rattle.std.specs.Prelude.{IsTrue}
 use Rattle.std.specs.Int.{bit_at}
 use Rattle.std.proofs.Math.Nat.{two-pow-succ}
-use Rattle.std.proofs.lemmas.Bool.{cases_Bool, cases_lt, eqb-true, eqb-false, and_parts, and_from, or_cases, or_left, or_right, true_from_ne_false}
+use Rattle.std.proofs.lemmas.Bool.{cases_Bool, cases_lt, eqb-true, and_parts, and_from, or_cases, or_left, or_right, true_from_ne_false}
 use Rattle.std.proofs.lemmas.Nat.Bits.{bit_at_above}
 use Rattle.cm_base.specs.CapSet.{cap_count, none, holds, union, meet, minus, is_within, IsCapSet}
 use Rattle.cm_base.proofs.CapSets.{holds_none, holds_union, holds_meet, holds_minus, same_members, member_of_wider, within_from_members}
-use Rattle.cm_sets.specs.Sets.{InEither, InBoth, AreSame, IsWithin, Exceeds, HoldsNone, HoldsSome, IsBelow}
+use Rattle.cm_sets.specs.Sets.{InEither, InBoth, AreSame, Exceeds, HoldsNone, HoldsSome, IsBelow}
 
 -- what a word holds
 abbrev pub In : ℕ → ℕ → Type 0
@@ -80,3 +80,23 @@ below_count a small c held = elim (cases_lt c cap_count) [
   | inl low ↦ low
   | inr high ↦ absurd (let out : bit_at a c ≡ 0 = bit_at_above a cap_count c small high in let one : bit_at a c ≡ 1 = eqb-true (bit_at a c) 1 held in cc)
 ]
+
+-- ---- as the answers of the tests state it
+-- where what both hold isn't within a bound, both hold a number that the bound doesn't
+pub common_outside : (a b both bound : ℕ) → both ≡ meet a b → is_within both bound ≡ false → Exceeds (InBoth (In a) (In b)) (In bound)
+common_outside a b both bound is fails =
+    let out : Exceeds (In both) (In bound) = one_outside both bound fails in
+    (out.0, (in_meet a b both is out.0).0 out.1, out.2)
+
+-- where what both hold is a word other than 0, both hold a number
+pub common_held : (a b both : ℕ) → both ≡ meet a b → both ≢ 0 → HoldsSome (InBoth (In a) (In b))
+common_held a b both is some =
+    let found : HoldsSome (In both) = some_held both some in
+    (found.0, (in_meet a b both is found.0).0 found.1)
+
+-- where it is 0, both hold none
+pub none_common : (a b both : ℕ) → both ≡ meet a b → both ≡ 0 → HoldsNone (InBoth (In a) (In b))
+none_common a b both is empty n held = none_held both empty n ((in_meet a b both is n).1 held)
+
+-- what the tests of sets of capabilities stand on
+pub ruleset cap_sets = (in_meet, one_outside, some_held, below_count, member_of_wider)

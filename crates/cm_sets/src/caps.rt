@@ -11,6 +11,7 @@ use std::alloc::Global;
 #[derive(Clone, Copy, Debug, PartialEq, Eq)]
 pub struct CapSet(pub CapWord);
 
+#[tactic(auto, using(crate::proofs::Members::cap_sets))]
 impl SetLike for CapSet {
     type Item = Cap;
 
