@@ -1,6 +1,7 @@
 -- Lemmas of these definitions, by topic.
 pub mod Chains
 pub mod IdSets
+pub mod Intervals
 pub mod Lookups
 pub mod Orders
 pub mod Spaces
