@@ -4,7 +4,7 @@ use Rattle.std.specs.Prelude.{IsTrue, nat_le, nat_lt}
 use Rattle.std.proofs.lemmas.Bool.{cases_lt, false_from_ne_true, and_parts, or_cases, or_left, leb-true, ltb-true}
 use Rattle.std.proofs.lemmas.Bool.Decides.{nat_tests}
 use Rattle.cm_base.specs.Limits.{id_count}
-use Rattle.model_cred.specs.Intervals.{Interval, is_between, ids_hold, ascend_from}
+use Rattle.model_cred.specs.Intervals.{Interval, is_between, ids_hold, ascend_from, IsCanonical}
 
 -- The intervals, of which this one is the first, ascend from a number on.
 pub record Ascends (low : ℕ) (i : Interval) (list : List Interval) : Type 0 where
@@ -51,6 +51,28 @@ held_above low id (i ∷ list) is held =
 pub none_below : (low id : ℕ) (list : List Interval) → IsTrue (ascend_from low list) → id < low → ids_hold list id ≡ false
 none_below low id list is below = false_from_ne_true (ids_hold list id) (λ held. let above = held_above low id list is held in omega (arith, above.0))
 
+-- the first interval's ids are held
+pub first_held : (low : ℕ) (i : Interval) (list : List Interval) → Ascends low i list → (id : ℕ) → i.first ≤ id → id ≤ i.last → IsTrue (ids_hold (i ∷ list) id)
+first_held low i list is id from to = or_left (is_between i id) (ids_hold list id) (between_from i id from to)
+
+-- an interval holds nothing after its last id
+pub none_after : (i : Interval) (id : ℕ) → i.last < id → is_between i id ≡ false
+none_after i id after = grind (arith, nat_tests)
+
+-- what lies after the first interval is held by the rest, or not at all
+pub rest_holds : (i : Interval) (list : List Interval) (id : ℕ) → i.last < id → ids_hold (i ∷ list) id ≡ ids_hold list id
+rest_holds i list id after = grind (arith, nat_tests)
+
+-- intervals that ascend do so from where the first of them begins
+pub from_first : (low : ℕ) (i : Interval) (list : List Interval) → IsTrue (ascend_from low (i ∷ list)) → IsTrue (ascend_from i.first (i ∷ list))
+from_first low i list is =
+    let a : Ascends low i list = ascend_parts low i list is in
+    ascend_made i.first i list (record { above = omega arith; full = a.full; ids = a.ids; rest = a.rest })
+
+-- what is left of a canonical list without its first interval is canonical
+pub rest_canonical : (i : Interval) (list : List Interval) → IsCanonical (i ∷ list) → IsCanonical list
+rest_canonical i list is = ascend_lower 0 (i.last + 2) list (omega arith) (ascend_parts 0 i list is).rest
+
 -- ---- a canonical list is told by what it holds
 abbrev of_ends : ℕ → ℕ → Interval
 of_ends first last = record { first = first; last = last }
@@ -62,18 +84,11 @@ same_ends i j first last = ap (λ (n : ℕ). of_ends n i.last) first ∙ ap (λ 
 abbrev Within : List Interval → List Interval → Type 0
 Within a b = (id : ℕ) → IsTrue (ids_hold a id) → IsTrue (ids_hold b id)
 
-first_held : (low : ℕ) (i : Interval) (list : List Interval) → Ascends low i list → (id : ℕ) → i.first ≤ id → id ≤ i.last → IsTrue (ids_hold (i ∷ list) id)
-first_held low i list is id from to = or_left (is_between i id) (ids_hold list id) (between_from i id from to)
-
--- what the first interval doesn't hold is held by the rest
-rest_holds : (i : Interval) (list : List Interval) (id : ℕ) → i.last < id → ids_hold (i ∷ list) id ≡ ids_hold list id
-rest_holds i list id after = grind (arith, nat_tests)
-
 -- what is held by intervals begins where the first of them does
 begins : (i j : Interval) (a b : List Interval) (low high : ℕ) → Ascends low i a → Ascends high j b → Within (i ∷ a) (j ∷ b) → j.first ≤ i.first
 begins i j a b low high is are within =
     let held : IsTrue (ids_hold (j ∷ b) i.first) = within i.first (first_held low i a is i.first (omega arith) is.full) in
-    (held_above j.first i.first (j ∷ b) (ascend_made j.first j b (record { above = omega arith; full = are.full; ids = are.ids; rest = are.rest })) held).0
+    (held_above j.first i.first (j ∷ b) (from_first high j b (ascend_made high j b are)) held).0
 
 -- and the first of them ends where the other does, at the latest
 ends : (i j : Interval) (a b : List Interval) (low high : ℕ) → Ascends low i a → Ascends high j b → Within (i ∷ a) (j ∷ b) → i.first ≡ j.first → i.last ≤ j.last

@@ -1,0 +1,7 @@
+-- Sets of ids by what they hold.
+use Rattle.std.specs.Prelude.{ℕ, IsTrue, List}
+use Rattle.model_cred.specs.Intervals.{Interval, ids_hold}
+
+-- The intervals hold the id.
+abbrev pub Held : List Interval → ℕ → Type 0
+Held list id = IsTrue (ids_hold list id)

@@ -1,0 +1,3 @@
+-- The words of the contracts on sets of ids.
+pub mod Held
+pub mod Pairs

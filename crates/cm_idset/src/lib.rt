@@ -1,0 +1,7 @@
+//! Sets of ids as intervals. Contracts see a set as the list of its intervals, and say by `ids_hold` what it holds.
+#![tactic(auto)]
+
+mod common;
+mod interval;
+
+pub use interval::Interval;
