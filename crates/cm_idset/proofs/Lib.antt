@@ -1,3 +1,4 @@
 -- Lemmas on sets of ids, by topic.
 pub mod Growth
+pub mod Merging
 pub mod Walks

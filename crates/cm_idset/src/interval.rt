@@ -1,6 +1,7 @@
 // A range of ids, both ends in it, and how two of them lie to each other.
-ghost use Rattle.std.specs.Prelude.{◌≡◌, nat_lt, nat_le, ◌&&◌, ◌+◌};
-ghost use Rattle.cm_idset.specs.Pairs.{in_common};
+ghost use Rattle.std.specs.Prelude.{◌≡◌, nat_lt, nat_le, ◌&&◌, ◌<◌};
+ghost use Rattle.cm_base.specs.Limits.{id_count};
+ghost use Rattle.cm_idset.specs.Pairs.{in_common, reaches, joined};
 
 use std::cmp::{max, min};
 use std::marker::Model;
@@ -63,6 +64,23 @@ impl Interval {
             Some(ids)
         } else {
             None
+        }
+    }
+
+    // No id lies between its end and where the next begins.
+    pub(crate) fn reaches(&self, next: &Interval) -> bool
+        ensures { result ≡ reaches self.now next.now }
+    {
+        u64::from(next.first) <= u64::from(self.last) + 1
+    }
+
+    // It goes on to where the next ends, if that is later.
+    pub(crate) fn joined(&self, next: &Interval) -> Interval
+        ensures { result ≡ joined self.now next.now }
+    {
+        Interval {
+            first: self.first,
+            last: max(self.last, next.last),
         }
     }
 }

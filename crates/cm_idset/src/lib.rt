@@ -2,6 +2,8 @@
 #![tactic(auto)]
 
 mod common;
+mod growing;
 mod interval;
+mod merge;
 
 pub use interval::Interval;

@@ -11,4 +11,9 @@ loop-a-preserved-then-ends_first c =
     c.in_ok-put_common.ensures (leb-true _ _ (sym c.if-ends_first.ensures)) c.loop-a.invariant
 
 pub loop-a-preserved : goal.loop-a-preserved
-loop-a-preserved c = ?
+loop-a-preserved c =
+    let a_is = first_and_rest c.loop-a.a.now c.x-item.result (grind arith) c.x-item.is in
+    let b_is = first_and_rest c.loop-a.b.now c.y-item.result (grind arith) c.y-item.is in
+    let less = leb-false _ _ (sym c.if-ends_first.ensures) in
+    met_other c.args.one.now c.args.other.now c.loop-a.out.items _ _ _ _ _ _ _ a_is b_is
+    c.in_ok-put_common.ensures (omega (arith, less)) c.loop-a.invariant
