@@ -183,7 +183,3 @@ put_next old more list new left rest next is p taken =
       continues = continues_on list new rest next here.continues taken.begun;
       same = λ id. ap (λ (b : Bool). b || ids_hold rest id) (taken.holds id) ∙ or_assoc (ids_hold list id) (is_between next id) (ids_hold rest id) ∙ here.same id;
     }
-
--- what is left of a list from a place on, as the element there and the rest
-pub next_of : (list : List Interval) (k : ℕ) (i : Interval) → k < length list → i ≡ get_or list k i → drop k list ≡ i ∷ drop (k + 1) list
-next_of list k i below is = drop_more list k i below ∙ ap (λ (head : Interval). head ∷ drop (k + 1) list) (sym is)

@@ -5,7 +5,6 @@ use Rattle.std.proofs.lemmas.Bool.{cases_Bool, cases_lt, cond-true, cond-false, 
 use Rattle.std.proofs.lemmas.Bool.Decides.{nat_tests}
 use Rattle.std.proofs.Math.Nat.{max_comm, min_comm}
 use Rattle.std.proofs.lemmas.List.{append-nil}
-use Rattle.std.proofs.lemmas.Slice.{first_rest}
 use Rattle.cm_sets.specs.Sets.{InBoth, HoldsSome}
 use Rattle.model_cred.specs.Intervals.{Interval, is_between, ids_hold, IsCanonical}
 use Rattle.model_cred.proofs.Intervals.{none_below, rest_holds, from_first, rest_canonical, ascend_parts, none_after, first_held, held_above}
@@ -13,13 +12,6 @@ use Rattle.std.specs.Option.{option_to_list}
 use Rattle.cm_idset.specs.Held.{Held}
 use Rattle.cm_idset.specs.Pairs.{in_common}
 use Rattle.cm_idset.proofs.Growth.{AllBefore, held_appended, before_later, before_pushed, canonical_pushed}
-
--- ---- a list that isn't empty, as a pattern of its first element and the rest gives it
-abbrev pub rest_of : List Interval → List Interval
-rest_of list = take (length list - 1) (drop 1 list)
-
-pub first_and_rest : (list : List Interval) (i : Interval) → 0 < length list → i ≡ get_or list 0 i → list ≡ i ∷ rest_of list
-first_and_rest list i some is = first_rest list i some ∙ ap (λ (head : Interval). head ∷ rest_of list) (sym is)
 
 -- ---- steps
 and_or : (p q r s : Bool) → s ≡ false → ((p || q) && (r || s)) ≡ ((p && r) || (q && (r || s)))

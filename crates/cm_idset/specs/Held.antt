@@ -1,7 +1,11 @@
 -- Sets of ids by what they hold.
 use Rattle.std.specs.Prelude.{ℕ, IsTrue, List}
-use Rattle.model_cred.specs.Intervals.{Interval, ids_hold}
+use Rattle.model_cred.specs.Intervals.{Interval, is_between, ids_hold}
 
 -- The intervals hold the id.
 abbrev pub Held : List Interval → ℕ → Type 0
 Held list id = IsTrue (ids_hold list id)
+
+-- The id is one of the interval.
+abbrev pub Between : Interval → ℕ → Type 0
+Between i id = IsTrue (is_between i id)

@@ -1,4 +1,5 @@
 -- The words of the contracts on sets of ids.
+pub mod Cover
 pub mod Held
 pub mod Order
 pub mod Pairs

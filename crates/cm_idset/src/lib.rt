@@ -2,6 +2,7 @@
 #![tactic(auto)]
 
 mod common;
+mod cover;
 mod growing;
 mod interval;
 mod merge;

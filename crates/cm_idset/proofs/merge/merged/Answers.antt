@@ -1,7 +1,7 @@
 use Rattle.std.proofs.Common.{arith, rules, sym}
 use Rattle.std.proofs.lemmas.Bool.{leb-true, leb-false}
 use Rattle.cm_idset.proofs.Merging.{joining_start, join_one, join_other}
-use Rattle.cm_idset.proofs.Walks.{first_and_rest}
+use Rattle.cm_idset.proofs.Rests.{first_and_rest}
 use Rattle.cm_idset.proofs.merge.merged.Goals as goal
 
 pub loop-a-init : goal.loop-a-init
