@@ -1,5 +1,6 @@
 -- The words of the contracts on sets of ids.
 pub mod Cover
 pub mod Held
+pub mod Image
 pub mod Order
 pub mod Pairs

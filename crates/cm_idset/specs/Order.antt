@@ -1,5 +1,5 @@
 -- Lists of intervals in the order in which they begin.
-use Rattle.std.specs.Prelude.{◌≡◌, ℕ, ◌-◌, ◌<◌, ◌≤◌, ◌||◌, Bool, false, List, [], ◌∷◌, length, slice_get}
+use Rattle.std.specs.Prelude.{◌≡◌, ℕ, ◌-◌, ◌<◌, ◌≤◌, ◌||◌, Bool, false, List, [], ◌∷◌, length, slice_get, All}
 use Rattle.std.specs.Option.{option_map_or}
 use Rattle.cm_base.specs.Limits.{id_count}
 use Rattle.model_cred.specs.Intervals.{Interval, is_between, ids_hold, IsCanonical}
@@ -36,3 +36,12 @@ pub record Taken (list : List Interval) (next : Interval) (new : List Interval) 
   pub canonical : IsCanonical new
   pub begun : AllBegun next.first new
   pub holds : (id : ℕ) → ids_hold new id ≡ (ids_hold list id || is_between next id)
+
+-- The interval has an id, and all of it are ids.
+pub record IsOfIds (i : Interval) : Type 0 where
+  pub full : i.first ≤ i.last
+  pub ids : i.last < id_count
+
+-- Each interval does, and is.
+abbrev pub AreIds : List Interval → Type 0
+AreIds list = All IsOfIds list

@@ -4,6 +4,7 @@
 mod common;
 mod cover;
 mod growing;
+mod image;
 mod interval;
 mod merge;
 
