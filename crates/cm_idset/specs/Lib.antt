@@ -4,3 +4,4 @@ pub mod Held
 pub mod Image
 pub mod Order
 pub mod Pairs
+pub mod Size

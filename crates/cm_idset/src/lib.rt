@@ -1,11 +1,15 @@
-//! Sets of ids as intervals. Contracts see a set as the list of its intervals, and say by `ids_hold` what it holds.
+//! Sets of ids as intervals: `IdSet`, a lawful set, with what an id map makes of it. Contracts see a set as the list of
+//! its intervals, and say by `ids_hold` what it holds.
 #![tactic(auto)]
 
 mod common;
 mod cover;
 mod growing;
+mod ids;
 mod image;
 mod interval;
+mod lookup;
 mod merge;
 
+pub use ids::IdSet;
 pub use interval::Interval;
