@@ -20,16 +20,6 @@ use Rattle.cm_idset.specs.Image.{InImage, image_of, images, all_images}
 use Rattle.cm_idset.specs.Order.{IsOfIds, AreIds}
 use Rattle.cm_idset.proofs.Growth.{held_appended}
 
--- ---- the intervals of a canonical list
-all_of_ids : (low : ℕ) (list : List Interval) → IsTrue (ascend_from low list) → AreIds list
-all_of_ids low [] is = All-nil IsOfIds
-all_of_ids low (i ∷ list) is =
-    let a = ascend_parts low i list is in
-    All-cons IsOfIds i list (record { full = a.full; ids = a.ids }) (all_of_ids (i.last + 2) list a.rest)
-
-pub ids_at : (list : List Interval) (k : ℕ) (i : Interval) → IsCanonical list → k < length list → i ≡ get_or list k i → i.last < id_count
-ids_at list k i is below at = (subst IsOfIds (sym at) (all_of_ids 0 list is k i below)).ids
-
 -- ---- one line and one interval
 -- what the line makes of the interval, where it makes something of it
 abbrev moved : Extent → Interval → Interval

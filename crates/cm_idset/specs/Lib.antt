@@ -2,6 +2,7 @@
 pub mod Cover
 pub mod Held
 pub mod Image
+pub mod Laws
 pub mod Order
 pub mod Pairs
 pub mod Size

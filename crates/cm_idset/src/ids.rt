@@ -11,6 +11,7 @@ ghost use Rattle.cm_idset.specs.Size.{ids_count, count_below};
 
 use crate::Interval;
 use crate::common::{apart, common};
+use crate::counting;
 use crate::cover::{common_is_within, cover, is_within};
 use crate::image;
 use crate::lookup;
@@ -72,7 +73,7 @@ impl IdSet {
     pub fn image(&self, alloc: Global, m: &IdMap) -> Result<IdSet, NoMemory>
         ensures { OrNoMemory result (λ s. AreSame (Held s) (InImage m.now self.now)) }
     {
-        let list = image::image(alloc, m.extents(), &self.list)?;
+        let list = image::image(alloc, m.extents(), self.intervals())?;
         Ok(IdSet { list })
     }
 
@@ -81,11 +82,7 @@ impl IdSet {
         ensures list { result ≡ ids_count self.now }
         ensures members { result ≡ count_below (ids_hold self.now) id_count }
     {
-        let mut count = 0;
-        for ids in &self.list {
-            count += u64::from(ids.last - ids.first) + 1;
-        }
-        count
+        counting::count(self.intervals())
     }
 
     /// Each id from the first to the last, both of them too, is held.
@@ -95,7 +92,7 @@ impl IdSet {
         ensures yes { IsTrue result → IsWithin (Span first last) (Held self.now) }
         ensures no { result ≡ false → Exceeds (Span first last) (Held self.now) }
     {
-        cover(&self.list, &Interval { first, last }).is_some()
+        cover(self.intervals(), &Interval { first, last }).is_some()
     }
 
     /// The intervals, ascending. No two of them touch.
@@ -117,33 +114,33 @@ impl SetLike for IdSet {
     ghost has = { λ s id. IsTrue (ids_hold s id) };
 
     fn holds(&self, x: &u32) -> bool {
-        lookup::holds(&self.list, *x)
+        lookup::holds(self.intervals(), *x)
     }
 
     fn join(&self, alloc: Global, other: &IdSet) -> Result<IdSet, NoMemory> {
-        let list = merged(alloc, &self.list, &other.list)?;
+        let list = merged(alloc, self.intervals(), other.intervals())?;
         Ok(IdSet { list })
     }
 
     fn meet(&self, alloc: Global, other: &IdSet) -> Result<IdSet, NoMemory> {
-        let list = common(alloc, &self.list, &other.list)?;
+        let list = common(alloc, self.intervals(), other.intervals())?;
         Ok(IdSet { list })
     }
 
     fn within(&self, other: &IdSet) -> bool {
-        is_within(&self.list, &other.list)
+        is_within(self.intervals(), other.intervals())
     }
 
     fn is_empty(&self) -> bool {
-        self.list.is_empty()
+        self.intervals().is_empty()
     }
 
     fn meet_within(&self, other: &IdSet, bound: &IdSet) -> bool {
-        common_is_within(&self.list, &other.list, &bound.list)
+        common_is_within(self.intervals(), other.intervals(), bound.intervals())
     }
 
     fn disjoint(&self, other: &IdSet) -> bool {
-        apart(&self.list, &other.list)
+        apart(self.intervals(), other.intervals())
     }
 
     ghost decides = { λ s id. test_decides (ids_hold s id) };

@@ -1,6 +1,5 @@
 // A range of ids, both ends in it, and how two of them lie to each other.
-ghost use Rattle.std.specs.Prelude.{◌≡◌, nat_lt, nat_le, ◌&&◌, ◌<◌};
-ghost use Rattle.cm_base.specs.Limits.{id_count};
+ghost use Rattle.std.specs.Prelude.{◌≡◌, nat_lt, nat_le, ◌&&◌, ◌+◌, ◌-◌, ◌≤◌};
 ghost use Rattle.cm_idset.specs.Pairs.{in_common, reaches, joined};
 
 use std::cmp::{max, min};
@@ -82,5 +81,13 @@ impl Interval {
             first: self.first,
             last: max(self.last, next.last),
         }
+    }
+
+    // How many ids it has.
+    pub(crate) fn count(&self) -> u64
+        requires { self.now.first ≤ self.now.last }
+        ensures { result ≡ self.now.last - self.now.first + 1 }
+    {
+        u64::from(self.last - self.first) + 1
     }
 }

@@ -3,13 +3,16 @@
 #![tactic(auto)]
 
 mod common;
+mod counting;
 mod cover;
 mod growing;
 mod ids;
 mod image;
 mod interval;
+mod laws;
 mod lookup;
 mod merge;
 
 pub use ids::IdSet;
 pub use interval::Interval;
+pub use laws::one_meaning_one_list;
