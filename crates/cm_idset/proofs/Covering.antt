@@ -54,11 +54,11 @@ inside_more one other a xs rest from x is covers i =
     let here : Inside one other (x ∷ xs) rest = subst (λ (l : List Interval). Inside one other l rest) is i in
     let parts = ascend_parts 0 x xs here.one_is in
     let after : (id : ℕ) → Held xs id → ids_hold from id ≡ ids_hold rest id = λ id held.
-      let above = held_above (x.last + 2) id xs parts.rest held in covers.same id (omega (arith, above.0, parts.full)) in
+    let above = held_above (x.last + 2) id xs parts.rest held in covers.same id (omega (arith, above.0, parts.full)) in
     let within : IsWithin (Held xs) (Held from) → IsWithin (Held (x ∷ xs)) (Held rest) = λ is id held.
-      elim (or_cases (is_between x id) (ids_hold xs id) held) [ inl first ↦ covers.all id first | inr later ↦ sym (after id later) ∙ is id later ] in
+    elim (or_cases (is_between x id) (ids_hold xs id) held) [ inl first ↦ covers.all id first | inr later ↦ sym (after id later) ∙ is id later ] in
     let exceeds : Exceeds (Held xs) (Held from) → Exceeds (Held (x ∷ xs)) (Held rest) = λ more.
-      (more.0, or_right (is_between x more.0) (ids_hold xs more.0) more.1, λ held. more.2 (after more.0 more.1 ∙ held)) in
+    (more.0, or_right (is_between x more.0) (ids_hold xs more.0) more.1, λ held. more.2 (after more.0 more.1 ∙ held)) in
     record {
       one_is = rest_canonical x xs here.one_is;
       other_is = covers.canonical;
@@ -72,20 +72,20 @@ pub common_one : (one other bound a b xs ys rest from : List Interval) (x y : In
     → CoversCommon rest from x y → CommonInside one other bound a b rest → CommonInside one other bound xs b from
 common_one one other bound a b xs ys rest from x y a_is b_is ends covers i =
     let here : CommonInside one other bound (x ∷ xs) (y ∷ ys) rest =
-      subst (λ (l : List Interval). CommonInside one other bound (x ∷ xs) l rest) b_is (subst (λ (l : List Interval). CommonInside one other bound l b rest) a_is i) in
+    subst (λ (l : List Interval). CommonInside one other bound (x ∷ xs) l rest) b_is (subst (λ (l : List Interval). CommonInside one other bound l b rest) a_is i) in
     let parts = ascend_parts 0 x xs here.one_is in
     let after : (id : ℕ) → Held xs id → Held (y ∷ ys) id → ids_hold from id ≡ ids_hold rest id = λ id in_one in_other.
-      let above = held_above (x.last + 2) id xs parts.rest in_one in
-      let from_y = held_above y.first id (y ∷ ys) (from_first 0 y ys here.other_is) in_other in
-      covers.same id (omega (arith, above.0, parts.full)) from_y.0 in
+    let above = held_above (x.last + 2) id xs parts.rest in_one in
+    let from_y = held_above y.first id (y ∷ ys) (from_first 0 y ys here.other_is) in_other in
+    covers.same id (omega (arith, above.0, parts.full)) from_y.0 in
     let within : IsWithin (InBoth (Held xs) (Held (y ∷ ys))) (Held from) → IsWithin (InBoth (Held (x ∷ xs)) (Held (y ∷ ys))) (Held rest) = λ is id both.
-      let held = sym (step x y xs ys here.other_is ends id) ∙ and_from (ids_hold (x ∷ xs) id) (ids_hold (y ∷ ys) id) both.0 both.1 in
-      elim (or_cases (is_between x id && is_between y id) (ids_hold xs id && ids_hold (y ∷ ys) id) held) [
-        | inl firsts ↦ let p = and_parts (is_between x id) (is_between y id) firsts in covers.all id p.0 p.1
-        | inr later ↦ let p = and_parts (ids_hold xs id) (ids_hold (y ∷ ys) id) later in sym (after id p.0 p.1) ∙ is id p
-      ] in
+    let held = sym (step x y xs ys here.other_is ends id) ∙ and_from (ids_hold (x ∷ xs) id) (ids_hold (y ∷ ys) id) both.0 both.1 in
+    elim (or_cases (is_between x id && is_between y id) (ids_hold xs id && ids_hold (y ∷ ys) id) held) [
+      | inl firsts ↦ let p = and_parts (is_between x id) (is_between y id) firsts in covers.all id p.0 p.1
+      | inr later ↦ let p = and_parts (ids_hold xs id) (ids_hold (y ∷ ys) id) later in sym (after id p.0 p.1) ∙ is id p
+    ] in
     let exceeds : Exceeds (InBoth (Held xs) (Held (y ∷ ys))) (Held from) → Exceeds (InBoth (Held (x ∷ xs)) (Held (y ∷ ys))) (Held rest) = λ more.
-      (more.0, (or_right (is_between x more.0) (ids_hold xs more.0) more.1.0, more.1.1), λ held. more.2 (after more.0 more.1.0 more.1.1 ∙ held)) in
+    (more.0, (or_right (is_between x more.0) (ids_hold xs more.0) more.1.0, more.1.1), λ held. more.2 (after more.0 more.1.0 more.1.1 ∙ held)) in
     subst (λ (l : List Interval). CommonInside one other bound xs l from) (sym b_is) (record {
       one_is = rest_canonical x xs here.one_is;
       other_is = here.other_is;

@@ -25,16 +25,20 @@ use Rattle.cm_idset.proofs.Growth.{held_appended}
 abbrev moved : Extent → Interval → Interval
 moved e i = record {
   first = e.outside + (max e.inside i.first - e.inside);
-  last = e.outside + (min (e.inside + e.length) (i.last + 1) - 1 - e.inside)
+  last = e.outside + (min (e.inside + e.length) (i.last + 1) - 1 - e.inside);
 }
 
 image_cases : (e : Extent) (i : Interval) → ((image_of e i ≡ Some (moved e i)) × (max e.inside i.first < min (e.inside + e.length) (i.last + 1)))
     ⊎ ((image_of e i ≡ None) × (min (e.inside + e.length) (i.last + 1) ≤ max e.inside i.first))
 image_cases e i = elim (cases_Bool (nat_lt (max e.inside i.first) (min (e.inside + e.length) (i.last + 1)))) [
-  | inl some ↦ inl (cond-true (nat_lt (max e.inside i.first) (min (e.inside + e.length) (i.last + 1))) (Some (moved e i)) None some,
-      ltb-true (max e.inside i.first) (min (e.inside + e.length) (i.last + 1)) some)
-  | inr none ↦ inr (cond-false (nat_lt (max e.inside i.first) (min (e.inside + e.length) (i.last + 1))) (Some (moved e i)) None none,
-      ltb-false (max e.inside i.first) (min (e.inside + e.length) (i.last + 1)) none)
+  | inl some ↦ inl (
+    cond-true (nat_lt (max e.inside i.first) (min (e.inside + e.length) (i.last + 1))) (Some (moved e i)) None some,
+    ltb-true (max e.inside i.first) (min (e.inside + e.length) (i.last + 1)) some,
+  )
+  | inr none ↦ inr (
+    cond-false (nat_lt (max e.inside i.first) (min (e.inside + e.length) (i.last + 1))) (Some (moved e i)) None none,
+    ltb-false (max e.inside i.first) (min (e.inside + e.length) (i.last + 1)) none,
+  )
 ]
 
 -- the id is one of the line's outside, and what stands for it inside is one of the interval
@@ -116,7 +120,7 @@ goes (e ∷ map) list id out held (zero, x, below, is, takes) =
     let same : e.inside + (out - e.outside) ≡ id = omega (arith, here.to, here.from_first) in
     let lies : IsTrue (lies_in e.outside e.length out) = lies_from e.outside e.length out (omega (arith, here.to)) (omega (arith, here.to, here.from_first, here.before_end)) in
     let made : Held (images e list) out =
-      images_hold e list out ∙ and_from (lies_in e.outside e.length out) (ids_hold list (e.inside + (out - e.outside))) lies (ap (λ (n : ℕ). ids_hold list n) same ∙ held) in
+    images_hold e list out ∙ and_from (lies_in e.outside e.length out) (ids_hold list (e.inside + (out - e.outside))) lies (ap (λ (n : ℕ). ids_hold list n) same ∙ held) in
     held_appended (images e list) (all_images map list) out ∙ or_left (ids_hold (images e list) out) (ids_hold (all_images map list) out) made
 goes (e ∷ map) list id out held (suc k, x, below, is, takes) =
     held_appended (images e list) (all_images map list) out
@@ -146,7 +150,7 @@ all_found map list found k past is =
 pub found_of_ids : (map : List Extent) (list found : List Interval) → IsMap map → found ≡ all_images map list → AreIds found
 found_of_ids map list found is found_is =
     let fits : All (λ e. e.outside + e.length ≤ id_count) map =
-      λ k d below. (fits_at map k (get_or map k d) is below (get_or_default map k (get_or map k d) d below)).outside in
+    λ k d below. (fits_at map k (get_or map k d) is below (get_or_default map k (get_or map k d) d below)).outside in
     subst AreIds (sym found_is) (made_of_ids map list fits)
 
 -- and so is what they make once it is put in order and into a canonical list
@@ -155,7 +159,7 @@ pub put_are_image : (map : List Extent) (list found sorted taken none ids : List
     → ((id : ℕ) → ids_hold ids id ≡ (ids_hold none id || ids_hold taken id)) → AreSame (Held ids) (InImage map list)
 put_are_image map list found sorted taken none ids is found_is same taken_is empty holds out =
     let made : ids_hold ids out ≡ ids_hold (all_images map list) out =
-      holds out ∙ ap (λ (l : List Interval). ids_hold l out || ids_hold taken out) empty ∙ ap (λ (l : List Interval). ids_hold l out) taken_is
-      ∙ same out ∙ ap (λ (l : List Interval). ids_hold l out) found_is in
+    holds out ∙ ap (λ (l : List Interval). ids_hold l out || ids_hold taken out) empty ∙ ap (λ (l : List Interval). ids_hold l out) taken_is
+    ∙ same out ∙ ap (λ (l : List Interval). ids_hold l out) found_is in
     let image = images_are_image map list is out in
     (λ held. image.0 (sym made ∙ held), λ goes. made ∙ image.1 goes)

@@ -53,7 +53,7 @@ pub join_one : (one other out new a b : List Interval) (x y : Interval) (xs ys :
     → Taken out x new → Joining one other out a b → Joining one other new xs b
 join_one one other out new a b x y xs ys a_is b_is begins taken j =
     let here : Joining one other out (x ∷ xs) (y ∷ ys) =
-      subst (λ (l : List Interval). Joining one other out (x ∷ xs) l) b_is (subst (λ (l : List Interval). Joining one other out l b) a_is j) in
+    subst (λ (l : List Interval). Joining one other out (x ∷ xs) l) b_is (subst (λ (l : List Interval). Joining one other out l b) a_is j) in
     subst (λ (l : List Interval). Joining one other new xs l) (sym b_is) (record {
       made = taken.canonical;
       one_is = rest_canonical x xs here.one_is;

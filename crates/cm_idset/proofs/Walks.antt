@@ -171,7 +171,7 @@ met_here : (one other out : List Interval) (x y : Interval) (xs ys : List Interv
 met_here one other out x y xs ys ends m =
     let a = ascend_parts 0 x xs m.one_is in
     let before : (id : ℕ) → IsTrue (ids_hold xs id) → IsTrue (ids_hold (y ∷ ys) id) → AllBefore id (out ++ option_to_list (in_common x y)) = λ id in_one in_other.
-      before_more x y out id (m.before id (or_right (is_between x id) (ids_hold xs id) in_one) in_other) (held_above (x.last + 2) id xs a.rest in_one).0 in
+    before_more x y out id (m.before id (or_right (is_between x id) (ids_hold xs id) in_one) in_other) (held_above (x.last + 2) id xs a.rest in_one).0 in
     record {
       made = made_more x y out xs ys m.made m.one_is m.other_is m.before;
       one_is = rest_canonical x xs m.one_is;
@@ -197,7 +197,7 @@ pub met_one : (one other out more a b : List Interval) (x y : Interval) (xs ys :
     → more ≡ out ++ option_to_list (in_common x y) → x.last ≤ y.last → Meeting one other out a b → Meeting one other more xs b
 met_one one other out more a b x y xs ys a_is b_is more_is ends m =
     let here : Meeting one other out (x ∷ xs) (y ∷ ys) =
-      subst (λ (list : List Interval). Meeting one other out (x ∷ xs) list) b_is (subst (λ (list : List Interval). Meeting one other out list b) a_is m) in
+    subst (λ (list : List Interval). Meeting one other out (x ∷ xs) list) b_is (subst (λ (list : List Interval). Meeting one other out list b) a_is m) in
     subst (λ (list : List Interval). Meeting one other more xs list) (sym b_is)
     (subst (λ (list : List Interval). Meeting one other list xs (y ∷ ys)) (sym more_is) (met_here one other out x y xs ys ends here))
 

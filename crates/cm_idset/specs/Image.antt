@@ -14,7 +14,7 @@ abbrev pub image_of : Extent → Interval → Option Interval
 image_of e i =
     if nat_lt (max e.inside i.first) (min (e.inside + e.length) (i.last + 1)) then Some (record {
       first = e.outside + (max e.inside i.first - e.inside);
-      last = e.outside + (min (e.inside + e.length) (i.last + 1) - 1 - e.inside)
+      last = e.outside + (min (e.inside + e.length) (i.last + 1) - 1 - e.inside);
     })
     else None
 

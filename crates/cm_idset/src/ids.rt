@@ -9,13 +9,10 @@ ghost use Rattle.cm_idset.specs.Held.{Held, Span};
 ghost use Rattle.cm_idset.specs.Image.{InImage};
 ghost use Rattle.cm_idset.specs.Size.{ids_count, count_below};
 
-use crate::Interval;
 use crate::common::{apart, common};
-use crate::counting;
 use crate::cover::{common_is_within, cover, is_within};
-use crate::image;
-use crate::lookup;
 use crate::merge::merged;
+use crate::{Interval, counting, image, lookup};
 use cm_base::NoMemory;
 use cm_idmap::IdMap;
 use cm_sets::SetLike;

@@ -40,11 +40,7 @@ pub(crate) fn image(
 }
 
 // Puts what a line of a map makes of each interval at the end of the list.
-fn put_images(
-    found: &mut Vec<Interval>,
-    e: &Extent,
-    list: &[Interval],
-) -> Result<(), NoMemory>
+fn put_images(found: &mut Vec<Interval>, e: &Extent, list: &[Interval]) -> Result<(), NoMemory>
     requires inside { e.now.inside + e.now.length ≤ id_count }
     requires outside { e.now.outside + e.now.length ≤ id_count }
     requires canonical { IsCanonical list.now }

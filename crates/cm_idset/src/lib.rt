@@ -16,3 +16,6 @@ mod merge;
 pub use ids::IdSet;
 pub use interval::Interval;
 pub use laws::one_meaning_one_list;
+
+#[cfg(test)]
+mod tests;
