@@ -2,6 +2,7 @@
 pub mod AttributeCases
 pub mod Chains
 pub mod IdSets
+pub mod Intervals
 pub mod Lookups
 pub mod Orders
 pub mod Spaces

@@ -1,6 +1,7 @@
 -- What the machine speaks of: plain records of numbers and lists.
 pub mod IdMap
 pub mod MapFault
+pub mod Intervals
 pub mod Credential
 pub mod Space
 pub mod Process

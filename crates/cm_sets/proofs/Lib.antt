@@ -1,0 +1,2 @@
+-- Lemmas on sets, by topic.
+pub mod Members
