@@ -1,55 +1,68 @@
 -- Files in memory, by the places of their names.
-use Rattle.std.proofs.Common.{◌≡◌, ◌+◌, ◌<◌, ◌≤◌, ℕ, List, [], ◌∷◌, length, get_or, ◌||◌, true, false, cond}
-use Rattle.std.proofs.Common.{refl, ap, ◌∙◌, arith, add-one, Vec, String, string_bytes}
+use Rattle.std.proofs.Common.{◌≡◌, ◌<◌, ◌≤◌, ℕ, List, [], ◌∷◌, ◌++◌, length, get_or, Vec}
+use Rattle.std.proofs.Common.{refl, ap, inl, inr, arith, add-one, Bool, false, true, if◌then◌else◌}
 use Rattle.std.specs.Str.{bytes_eq}
 use Rattle.std.specs.declared.alloc.Global.{Global}
 use Rattle.cm_io.specs.Shelf.{bytes_at}
 use Rattle.cm_io.specs.Names.{place_of, is_among}
-use Rattle.cm_io.specs.Memory.{files_of}
+use Rattle.cm_io.specs.Counts.{noted}
+use Rattle.cm_io.specs.Held.{files_of, is_held}
+use Rattle.cm_io.proofs.Places.{true_or_false}
 
--- a name with a place among the names is one of them
-pub among_below : (names : List (String Global)) (name : List ℕ) → place_of names name < length names
-    → true ≡ is_among names name
-among_below [] name below = absurd (omega arith)
-among_below (first ∷ names) name below = elim (bytes_eq (string_bytes first) name) as
-    (λ b. cond b 0 (place_of names name + 1) < length (first ∷ names) → true ≡ (b || is_among names name)) [
-      | true ↦ λ _. refl
-      | false ↦ λ (l : place_of names name + 1 < length (first ∷ names)). among_below names name (omega arith)
-    ] below
+-- a name at whose place a text stands is that of a file
+pub held_below : (names : List (List ℕ)) (texts : List (Vec ℕ Global)) (name : List ℕ) → length texts ≤ length names
+    → place_of names name < length texts → true ≡ is_held (files_of names texts) name
+held_below [] texts name fits below = absurd (omega arith)
+held_below (first ∷ names) [] name fits below = absurd (omega arith)
+held_below (first ∷ names) (text ∷ texts) name fits below = elim (true_or_false (bytes_eq first name)) [
+  | inl is ↦ rw is
+  | inr isnt ↦ let rest = rw isnt at below in rw isnt (held_below names texts name (omega arith) (omega arith))
+]
 
--- a name with no place among the names is none of them
-pub among_past : (names : List (String Global)) (name : List ℕ) → length names ≤ place_of names name
-    → false ≡ is_among names name
-among_past [] name past = refl
-among_past (first ∷ names) name past = elim (bytes_eq (string_bytes first) name) as
-    (λ b. length (first ∷ names) ≤ cond b 0 (place_of names name + 1) → false ≡ (b || is_among names name)) [
-      | true ↦ λ (l : length (first ∷ names) ≤ 0). absurd (omega arith)
-      | false ↦ λ (l : length (first ∷ names) ≤ place_of names name + 1). among_past names name (omega arith)
-    ] past
+-- a name at whose place none stands is that of no file
+pub held_past : (names : List (List ℕ)) (texts : List (Vec ℕ Global)) (name : List ℕ) → length texts ≤ place_of names name
+    → false ≡ is_held (files_of names texts) name
+held_past [] texts name past = refl
+held_past (first ∷ names) [] name past = refl
+held_past (first ∷ names) (text ∷ texts) name past = elim (true_or_false (bytes_eq first name)) [
+  | inl is ↦ absurd (let none = rw is at past in omega arith)
+  | inr isnt ↦ let rest = rw isnt at past in rw isnt (held_past names texts name (omega arith))
+]
 
 -- the text at the place of a name is what the files have under it
-pub text_at : (names : List (String Global)) (texts : List (Vec ℕ Global)) (name : List ℕ) (d : Vec ℕ Global)
-    → length names ≡ length texts → place_of names name < length texts
-    → (get_or texts (place_of names name) d).items ≡ bytes_at (files_of names texts) name
-text_at [] [] name d same below = absurd (omega arith)
-text_at [] (text ∷ texts) name d same below = absurd (omega arith)
-text_at (first ∷ names) [] name d same below = absurd (omega arith)
-text_at (first ∷ names) (text ∷ texts) name d same below = elim (bytes_eq (string_bytes first) name) as
-    (λ b. cond b 0 (place_of names name + 1) < length (text ∷ texts)
-    → (get_or (text ∷ texts) (cond b 0 (place_of names name + 1)) d).items ≡ cond b text.items (bytes_at (files_of names texts) name)) [
-      | true ↦ λ _. refl
-      | false ↦ λ (l : place_of names name + 1 < length (text ∷ texts)).
-          let step : get_or (text ∷ texts) (place_of names name + 1) d ≡ get_or texts (place_of names name) d = rw add-one in
-          ap (λ v. v.items) step ∙ text_at names texts name d (omega arith) (omega arith)
-    ] below
+pub text_at : (names : List (List ℕ)) (texts : List (Vec ℕ Global)) (name : List ℕ) (d : Vec ℕ Global) → length texts ≤ length names
+    → place_of names name < length texts → (get_or texts (place_of names name) d).items ≡ bytes_at (files_of names texts) name
+text_at [] texts name d fits below = absurd (omega arith)
+text_at (first ∷ names) [] name d fits below = absurd (omega arith)
+text_at (first ∷ names) (text ∷ texts) name d fits below = elim (true_or_false (bytes_eq first name)) [
+  | inl is ↦ rw is
+  | inr isnt ↦ let rest = rw isnt at below in rw (isnt, add-one) (text_at names texts name d (omega arith) (omega arith))
+]
 
--- a name with no place among the names has no bytes
-pub text_past : (names : List (String Global)) (texts : List (Vec ℕ Global)) (name : List ℕ)
-    → length names ≡ length texts → length texts ≤ place_of names name → bytes_at (files_of names texts) name ≡ []
-text_past [] texts name same past = refl
-text_past (first ∷ names) [] name same past = refl
-text_past (first ∷ names) (text ∷ texts) name same past = elim (bytes_eq (string_bytes first) name) as
-    (λ b. length (text ∷ texts) ≤ cond b 0 (place_of names name + 1) → cond b text.items (bytes_at (files_of names texts) name) ≡ []) [
-      | true ↦ λ (l : length (text ∷ texts) ≤ 0). absurd (omega arith)
-      | false ↦ λ (l : length (text ∷ texts) ≤ place_of names name + 1). text_past names texts name (omega arith) (omega arith)
-    ] past
+-- a name at whose place no text stands has no bytes
+pub text_past : (names : List (List ℕ)) (texts : List (Vec ℕ Global)) (name : List ℕ) → length texts ≤ place_of names name
+    → bytes_at (files_of names texts) name ≡ []
+text_past [] texts name past = refl
+text_past (first ∷ names) [] name past = refl
+text_past (first ∷ names) (text ∷ texts) name past = elim (true_or_false (bytes_eq first name)) [
+  | inl is ↦ absurd (let none = rw is at past in omega arith)
+  | inr isnt ↦ let rest = rw isnt at past in rw isnt (text_past names texts name (omega arith))
+]
+
+-- names after those of the texts change no file
+pub files-append : (names more : List (List ℕ)) (texts : List (Vec ℕ Global)) → length texts ≤ length names
+    → files_of (names ++ more) texts ≡ files_of names texts
+files-append [] [] [] fits = refl
+files-append [] (name ∷ more) [] fits = refl
+files-append [] more (text ∷ texts) fits = absurd (omega arith)
+files-append (first ∷ names) more [] fits = refl
+files-append (first ∷ names) more (text ∷ texts) fits = ap (λ files. (first, text.items) ∷ files) (files-append names more texts (omega arith))
+
+-- nor does a name that is noted, or isn't for want of memory
+pub files-if_noted : (names now : List (List ℕ)) (name : List ℕ) (texts : List (Vec ℕ Global)) (done : Bool) → length texts ≤ length names
+    → now ≡ (if done then noted names name else names) → files_of now texts ≡ files_of names texts
+files-if_noted names now name texts false fits is = rw is
+files-if_noted names now name texts true fits is = elim (true_or_false (is_among names name)) [
+  | inl known ↦ rw (is, known)
+  | inr new ↦ rw (is, new) (files-append names (name ∷ []) texts fits)
+]

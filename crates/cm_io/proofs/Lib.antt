@@ -1,3 +1,4 @@
+pub mod Counting
 pub mod Files
 pub mod Front
 pub mod Places

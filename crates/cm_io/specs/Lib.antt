@@ -4,5 +4,7 @@ pub mod Whole
 pub mod Names
 pub mod Counts
 pub mod Turns
+pub mod Held
 pub mod Memory
+pub mod Sure
 pub mod Real

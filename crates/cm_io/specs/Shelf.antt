@@ -35,14 +35,22 @@ pub record ReadFaults {T : Type 0} (before now : List ℕ → ℕ) (name : List 
   pub failed : r ≡ Err Failed → Rose (before name) (now name)
   pub no_memory : r ≡ Err NoMemory → (n : List ℕ) → now n ≡ before n
 
+-- how many reads a read counts: none where there was no memory to count it, else one, whatever came of it
+abbrev pub reads_made : Result ℕ Outside → ℕ
+reads_made (Ok n) = 1
+reads_made (Err Failed) = 1
+reads_made (Err NoMemory) = 0
+
 -- how many bytes a read gave: at an error none
 abbrev pub bytes_given : Result ℕ Outside → ℕ
 bytes_given (Ok n) = n
 bytes_given (Err e) = 0
 
 -- The counts of names before and after so many more are counted under one of them. That of a name that is counted rises by
--- as many, or to the last value that a count can have; that of one that isn't stays at 0; no other name's changes.
+-- as many, or to the last value that a count can have; that of one that isn't stays at 0; none falls, and no other name's
+-- changes.
 pub record CountsOn (counted : List ℕ → Bool) (before now : List ℕ → ℕ) (name : List ℕ) (more : ℕ) : Type 0 where
+  pub later : before name ≤ now name
   pub most : now name ≤ before name + more
   pub all : IsTrue (counted name) → min (before name + more) (2 ^ 64 - 1) ≤ now name
   pub uncounted : IsTrue (not (counted name)) → now name ≡ 0

@@ -1,86 +1,115 @@
 // What a shelf counts under the names of files: how often a read failed, how many reads there were, and how
 // many bytes they gave.
-ghost use Rattle.std.specs.Prelude.{◌≡◌, ◌+◌, vec_len, length, IfOk};
-ghost use Rattle.cm_io.specs.Names.{is_among, own_count};
-ghost use Rattle.cm_io.specs.Shelf.{ReadFaults, CountsOn, bytes_given};
+ghost use Rattle.std.specs.Prelude.{◌≡◌, ◌≤◌, length, map, string_bytes, is_ok, IfOk};
+ghost use Rattle.cm_io.specs.Names.{place_of};
 
-use crate::names::place_of;
 use crate::{NoMemory, Outside};
 use std::alloc::Global;
 
-/// Counts for each of some names, of which the first serves where a name stands twice. Faults of all other
-/// names have one count, the last.
+/// A name, and what is counted under it. A count stays at its last value, 2^64 - 1.
 #[derive(Drop)]
-pub(crate) struct Counts {
-    names: Vec<String>,
-    faults: Vec<u64>,
-    reads: Vec<u64>,
-    taken: Vec<u64>,
-    ghost one_for_others: { vec_len faults ≡ vec_len names + 1 },
-    ghost reads_each: { vec_len reads ≡ vec_len names },
-    ghost taken_each: { vec_len taken ≡ vec_len names },
+pub(crate) struct Count {
+    pub(crate) name: String,
+    pub(crate) faults: u64,
+    pub(crate) reads: u64,
+    pub(crate) taken: u64,
 }
 
-impl Counts {
-    ghost use Rattle.cm_io.specs.Counts.{faults_of, reads_of, taken_of, counts_name, OthersStay, StartsCounts};
+impl Count {
+    ghost use Rattle.cm_io.specs.Counts.{with_read, NoneFalls};
 
-    /// All counts are 0.
-    pub(crate) fn new(alloc: Global, names: Vec<String>) -> Result<Counts, NoMemory>
-        ensures names { IfOk result (λ c. c.names ≡ names) }
-        ensures zero { IfOk result (λ c. StartsCounts c) }
+    // Nothing is counted yet.
+    fn new(name: String) -> Count
+        ensures { result ≡ record { name = name; faults = 0; reads = 0; taken = 0 } }
     {
-        let count = names.len();
-        Ok(Counts {
-            names,
-            faults: vec![in alloc; 0; count + 1]?,
-            reads: vec![in alloc; 0; count]?,
-            taken: vec![in alloc; 0; count]?,
-        })
+        Count {
+            name,
+            faults: 0,
+            reads: 0,
+            taken: 0,
+        }
     }
 
-    /// The names that have counts of their own.
-    pub(crate) fn names(&self) -> &[String]
-        ensures { result.now ≡ self.now.names.items }
+    // Counts a read by what came of it: the read itself, the bytes that it gave, and the fault where it failed.
+    // Want of memory counts nothing.
+    fn count(&mut self, read: &Result<usize, Outside>)
+        ensures counts { self.new ≡ with_read self.old read.now }
+        ensures later { NoneFalls self.old self.new }
     {
-        &self.names
-    }
-
-    /// Counts a read of this name by what came of it: the read itself, the bytes that it gave, and the fault
-    /// where it failed. A count stays at its last value, 2^64 - 1.
-    pub(crate) fn count(&mut self, name: &str, read: &Result<usize, Outside>)
-        ensures reads { CountsOn (counts_name self.old) (reads_of self.old) (reads_of self.new) name.now 1 }
-        ensures taken { CountsOn (counts_name self.old) (taken_of self.old) (taken_of self.new)
-            name.now (bytes_given read.now) }
-        ensures cause { ReadFaults (faults_of self.old) (faults_of self.new) name.now read.now }
-        ensures others { OthersStay self.old self.new name.now }
-    {
-        count_on(&self.names, &mut self.reads, name, 1);
-        count_on(&self.names, &mut self.taken, name, given(read) as u64);
-        if *read == Err(Outside::Failed) {
-            let place = place_of(&self.names, name);
-            self.faults[place] = self.faults[place].saturating_add(1);
+        match read {
+            Ok(n) => {
+                self.reads = self.reads.saturating_add(1);
+                self.taken = self.taken.saturating_add(*n as u64);
+            }
+            Err(Outside::Failed) => {
+                self.reads = self.reads.saturating_add(1);
+                self.faults = self.faults.saturating_add(1);
+            }
+            Err(Outside::NoMemory) => {}
         }
     }
 }
 
-// How many bytes a read gave.
-fn given(read: &Result<usize, Outside>) -> usize
-    ensures { result ≡ bytes_given read.now }
-{
-    match read {
-        Ok(n) => *n,
-        Err(_) => 0,
-    }
+/// Names with their counts. Where a name stands twice, the first serves.
+#[derive(Drop)]
+pub(crate) struct Counts {
+    pub(crate) rows: Vec<Count>,
 }
 
-// Counts on by `more` at a name that is one of the names.
-fn count_on(names: &[String], counts: &mut [u64], name: &str, more: u64)
-    requires { length counts.old ≡ length names.now }
-    ensures { CountsOn (is_among names.now) (own_count names.now counts.old)
-        (own_count names.now counts.new) name.now more }
-{
-    let own = place_of(names, name);
-    if own < counts.len() {
-        counts[own] = counts[own].saturating_add(more);
+impl Counts {
+    ghost use Rattle.cm_io.specs.Counts.{names_of, StartsCounts, NotesName, CountsRead};
+
+    /// All counts of these names are 0.
+    pub(crate) fn new(alloc: Global, names: Vec<String>) -> Result<Counts, NoMemory>
+        ensures names { IfOk result (λ c. names_of c ≡ map string_bytes names.items) }
+        ensures zero { IfOk result (λ c. StartsCounts c) }
+    {
+        let mut rows = Vec::new(alloc);
+        for name in names {
+            rows.push(Count::new(name))?;
+        }
+        Ok(Counts { rows })
+    }
+
+    /// How many names have counts.
+    pub(crate) fn len(&self) -> usize
+        ensures { result ≡ length (names_of self.now) }
+    {
+        self.rows.len()
+    }
+
+    /// The place of the first of the names that is equal to `name`, and their number where none is.
+    pub(crate) fn place_of(&self, name: &str) -> usize
+        ensures place { result ≡ place_of (names_of self.now) name.now }
+        ensures within { result ≤ length (names_of self.now) }
+    {
+        for (i, row) in self.rows.iter().enumerate() {
+            if row.name.as_str() == name {
+                return i;
+            }
+        }
+        self.rows.len()
+    }
+
+    /// Gives a name that has no counts yet counts of its own, after all others. Want of memory changes nothing.
+    pub(crate) fn note(&mut self, alloc: Global, name: &str) -> Result<(), NoMemory>
+        ensures { NotesName self.old self.new name.now (is_ok result) }
+    {
+        if self.place_of(name) < self.len() {
+            return Ok(());
+        }
+        let name = String::from_str(alloc, name)?;
+        self.rows.push(Count::new(name))?;
+        Ok(())
+    }
+
+    /// Counts a read under its name, where that has counts.
+    pub(crate) fn count(&mut self, name: &str, read: &Result<usize, Outside>)
+        ensures { CountsRead self.old self.new name.now read.now }
+    {
+        let place = self.place_of(name);
+        if place < self.rows.len() {
+            self.rows[place].count(read);
+        }
     }
 }

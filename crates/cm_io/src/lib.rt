@@ -1,13 +1,14 @@
 //! How the program meets the outside: files that are read, a sink that is written, and what fails there.
 //!
 //! `Shelf` and `Sink` say what each call gives, and have counts of faults, so that an error always has its
-//! cause; a shelf also counts the reads of its names, and the bytes that they gave. `MemShelf` and `MemSink`
+//! cause; a shelf also counts the reads of names, and the bytes that they gave. `MemShelf` and `MemSink`
 //! stand in memory and fail at chosen calls, the devices of `SureShelf` and `SureSink` never fail, and
 //! `RealShelf` and `RealSink` are files and a writer of the system. `read_whole` and `write_all` go on until
 //! all is read or written.
 #![tactic(auto)]
 
 mod counts;
+mod held;
 mod memory;
 mod names;
 mod outside;
@@ -15,7 +16,6 @@ mod real;
 mod shelf;
 mod sink;
 mod sure;
-mod texts;
 mod turns;
 mod whole;
 

@@ -2,8 +2,7 @@
 // one can try what a program does when the outside fails.
 ghost use Rattle.std.specs.Prelude.{◌≡◌, vec_len};
 
-use crate::counts::Counts;
-use crate::texts::{copy_part, text_of};
+use crate::held::{Held, copy_part};
 use crate::turns::Turns;
 use crate::{NoMemory, Outside, Shelf, Sink};
 use std::alloc::Global;
@@ -11,23 +10,24 @@ use std::alloc::Global;
 /// Files in memory. Reads are counted from 1, and those with given numbers fail; so does each read
 /// of a name that isn't held. The number of reads stays at 2^64 - 1.
 ///
-/// It counts the reads of each name that it holds, and the bytes. No other name has any bytes.
+/// It counts the reads of every name, and the bytes. A name that isn't held is noted at its first read.
 #[derive(Drop)]
 pub struct MemShelf {
-    counts: Counts,
-    texts: Vec<Vec<u8>>,
+    pub(crate) files: Held,
     turns: Turns,
-    ghost one_text_each: { vec_len texts ≡ vec_len counts.names },
 }
 
 impl MemShelf {
-    ghost use Rattle.std.specs.Prelude.{ℕ, List, Some, IfOk, IsTrue, length};
-    ghost use Rattle.cm_io.specs.Names.{are_distinct, is_among};
+    ghost use Rattle.std.specs.Prelude.{ℕ, List, Some, IfOk, IsTrue, true, map, string_bytes};
+    ghost use Rattle.cm_io.specs.Names.{are_distinct};
+    ghost use Rattle.cm_io.specs.Held.{files_of};
+    ghost use Rattle.cm_io.specs.Counts.{names_of};
     ghost use Rattle.cm_io.specs.Turns.{StartsTurns};
-    ghost use Rattle.cm_io.specs.Memory.{files_of, shelf_turns};
+    ghost use Rattle.cm_io.specs.Memory.{shelf_turns, shelf_counts};
 
     /// A shelf that holds `texts` under `names`, of which the reads with the numbers `fail` fail. No
-    /// read was made yet, and all counts are 0. `NoMemory` is want of memory for the counts.
+    /// read was made yet, all counts are 0, and the held names are noted. `NoMemory` is want of memory for the
+    /// counts.
     pub fn new(
         alloc: Global,
         names: Vec<String>,
@@ -37,42 +37,44 @@ impl MemShelf {
         requires distinct { IsTrue (are_distinct names.items) }
         requires one_text_each { vec_len texts ≡ vec_len names }
         ensures held { IfOk result (λ s.
-            ⟦<MemShelf as Shelf>⟧.held s ≡ Some (files_of names.items texts.items)) }
+            ⟦<MemShelf as Shelf>⟧.held s ≡ Some (files_of (map string_bytes names.items) texts.items)) }
+        ensures noted { IfOk result (λ s. names_of (shelf_counts s) ≡ map string_bytes names.items) }
         ensures faults { IfOk result (λ s. (n : List ℕ) → ⟦<MemShelf as Shelf>⟧.faults s n ≡ 0) }
-        ensures counted { IfOk result (λ s.
-            (n : List ℕ) → ⟦<MemShelf as Shelf>⟧.counted s n ≡ is_among names.items n) }
+        ensures counted { IfOk result (λ s. (n : List ℕ) → ⟦<MemShelf as Shelf>⟧.counted s n ≡ true) }
         ensures reads { IfOk result (λ s. (n : List ℕ) → ⟦<MemShelf as Shelf>⟧.reads s n ≡ 0) }
         ensures taken { IfOk result (λ s. (n : List ℕ) → ⟦<MemShelf as Shelf>⟧.taken s n ≡ 0) }
         ensures turns { IfOk result (λ s. StartsTurns (shelf_turns s) fail.items) }
     {
         Ok(MemShelf {
-            counts: Counts::new(alloc, names)?,
-            texts,
+            files: Held::new(alloc, names, texts)?,
             turns: Turns::new(fail),
         })
     }
 }
 
 impl Shelf for MemShelf {
-    ghost use Rattle.std.specs.Prelude.{◌≢◌, ◌≤◌, ◌↔◌, ℕ, List, length, Some, IsTrue, IfOk};
-    ghost use Rattle.cm_io.specs.Shelf.{ReadsHeld, ReadFaults, CountsOn, bytes_given};
-    ghost use Rattle.cm_io.specs.Counts.{faults_of, reads_of, taken_of, counts_name, OthersStay};
+    ghost use Rattle.std.specs.Prelude.{◌≢◌, ◌≤◌, ◌↔◌, ℕ, List, length, Some, IsTrue, true, IfOk};
+    ghost use Rattle.cm_io.specs.Shelf.{ReadsHeld, ReadFaults, CountsOn, reads_made, bytes_given};
+    ghost use Rattle.cm_io.specs.Counts.{faults_of, reads_of, taken_of, counts_name, names_of, noted, SameCounts};
+    ghost use Rattle.cm_io.specs.Held.{held_files, GivesAll};
     ghost use Rattle.cm_io.specs.Turns.{TakesTurn};
-    ghost use Rattle.cm_io.specs.Memory.{files_of, read_fails, shelf_turns, shelf_counts, GivesAll};
+    ghost use Rattle.cm_io.specs.Memory.{read_fails, shelf_turns, shelf_counts};
 
-    ghost held = { λ s. Some (files_of s.counts.names.items s.texts.items) };
+    ghost held = { λ s. Some (held_files s.files) };
 
-    ghost faults = { λ s name. faults_of s.counts name };
+    ghost faults = { λ s name. faults_of s.files.counts name };
 
-    ghost counted = { λ s name. counts_name s.counts name };
+    ghost counted = { λ _ _. true };
 
-    ghost reads = { λ s name. reads_of s.counts name };
+    ghost reads = { λ s name. reads_of s.files.counts name };
 
-    ghost taken = { λ s name. taken_of s.counts name };
+    ghost taken = { λ s name. taken_of s.files.counts name };
 
     /// Fails where this read is one of those that are to fail, and where no file has the name; else it
-    /// gives as much as there is and fits. It never wants memory, and a failure changes nothing but the
-    /// counts; names that aren't held share one count of faults.
+    /// gives as much as there is and fits. A failure changes nothing but the counts.
+    ///
+    /// `NoMemory` is want of memory to note a name that is neither held nor was read before. Then the read wasn't
+    /// made, and nothing changed.
     fn read_at(&mut self, name: &str, at: u64, buf: &mut [u8]) -> Result<usize, Outside>
         ensures count { IfOk result (λ n. n ≤ length buf.new) }
         ensures read { ReadsHeld (⟦<MemShelf as Shelf>⟧.held self.old) name.now at buf.new result }
@@ -82,24 +84,34 @@ impl Shelf for MemShelf {
         ensures counted { (n : List ℕ) →
             ⟦<MemShelf as Shelf>⟧.counted self.new n ≡ ⟦<MemShelf as Shelf>⟧.counted self.old n }
         ensures reads { CountsOn (⟦<MemShelf as Shelf>⟧.counted self.old) (⟦<MemShelf as Shelf>⟧.reads self.old)
-            (⟦<MemShelf as Shelf>⟧.reads self.new) name.now 1 }
+            (⟦<MemShelf as Shelf>⟧.reads self.new) name.now (reads_made result) }
         ensures taken { CountsOn (⟦<MemShelf as Shelf>⟧.counted self.old) (⟦<MemShelf as Shelf>⟧.taken self.old)
             (⟦<MemShelf as Shelf>⟧.taken self.new) name.now (bytes_given result) }
+        ensures others { (n : List ℕ) → n ≢ name.now →
+            ⟦<MemShelf as Shelf>⟧.faults self.new n ≡ ⟦<MemShelf as Shelf>⟧.faults self.old n }
 
-        // It fails at its turns and at names that aren't held, and at nothing else; else it gives all that fits.
-        ensures fails { (result ≡ Err Outside.Failed) ↔ IsTrue (read_fails self.old name.now) }
-        ensures no_want { result ≢ Err Outside.NoMemory }
+        // Where it has memory, it fails at its turns and at names that aren't held, and at nothing else; else it gives
+        // all that fits.
+        ensures fails { result ≢ Err Outside.NoMemory →
+            (result ≡ Err Outside.Failed) ↔ IsTrue (read_fails self.old name.now) }
         ensures gives { GivesAll (⟦<MemShelf as Shelf>⟧.held self.old) name.now at buf.new result }
-        ensures turn { TakesTurn (shelf_turns self.old) (shelf_turns self.new) }
-        ensures others { OthersStay (shelf_counts self.old) (shelf_counts self.new) name.now }
+        ensures turn { result ≢ Err Outside.NoMemory → TakesTurn (shelf_turns self.old) (shelf_turns self.new) }
+        ensures noted { result ≢ Err Outside.NoMemory →
+            names_of (shelf_counts self.new) ≡ noted (names_of (shelf_counts self.old)) name.now }
+
+        // It wants memory for a name alone that has no counts yet, and then changes nothing: it takes no turn.
+        ensures no_want { IsTrue (counts_name (shelf_counts self.old) name.now) → result ≢ Err Outside.NoMemory }
+        ensures no_turn { result ≡ Err Outside.NoMemory → shelf_turns self.new ≡ shelf_turns self.old }
+        ensures same { result ≡ Err Outside.NoMemory → SameCounts (shelf_counts self.old) (shelf_counts self.new) }
     {
+        self.files.note(name)?;
         let fails = self.turns.is_due();
         self.turns.count();
-        let read = match text_of(self.counts.names(), &self.texts, name) {
+        let read = match self.files.text(name) {
             Some(text) if !fails => Ok(copy_part(text, at, buf)),
             _ => Err(Outside::Failed),
         };
-        self.counts.count(name, &read);
+        self.files.count(name, &read);
         read
     }
 }

@@ -1,6 +1,6 @@
 // The real outside: the files of the system, and a writer such as standard output. No contract can
 // say what they hold.
-ghost use Rattle.std.specs.Prelude.{◌≡◌, ◌≤◌, ℕ, List, None, length, map, IfOk, string_bytes};
+ghost use Rattle.std.specs.Prelude.{◌≡◌, ◌≢◌, ◌≤◌, ℕ, List, None, length, map, IfOk, IfSome, is_some, string_bytes};
 
 use crate::counts::Counts;
 use crate::{NoMemory, Outside, Shelf, Sink};
@@ -17,49 +17,84 @@ const TRIES: u32 = 1_000_000;
 /// It keeps counts for each name that was handed to `new`, of which the first equal one serves: of faults, of
 /// reads, and of the bytes taken. All other names have one count of faults, and no others. Each error of
 /// opening, moving or reading raises its name's count of faults: at a file that is missing, one that may not be
-/// read, a directory.
+/// read, a directory. No read takes memory.
 ///
-/// The file that was read last stays open, and a read that goes on where the last one ended is a plain
-/// read: so a pipe can be read from its front to its end. A read at the place 0 opens the file anew,
-/// and one at another place opens it and moves there.
+/// Of the names that were handed to `new`, the file that was read last stays open, and a read that goes on where the
+/// last one ended is a plain read: so a pipe can be read from its front to its end. A read at the place 0 opens the
+/// file anew, and one at another place opens it and moves there.
 #[derive(Drop)]
 pub struct RealShelf<R: Files> {
     files: R,
-    alloc: Global,
-    counts: Counts,
+    tally: Tally,
     kept: Option<Kept<R::File>>,
 }
 
-// An open file, by which name it was opened, and the place that the next read is from.
+// Counts for some names, and one count of the faults of all others.
+#[derive(Drop)]
+struct Tally {
+    counts: Counts,
+    others: u64,
+}
+
+impl Tally {
+    ghost use Rattle.cm_io.specs.Counts.{counts_name};
+    ghost use Rattle.cm_io.specs.Real.{TalliesRead};
+
+    // The place of a name's own counts; none where it has none.
+    #[tactic(auto, using(crate::proofs::Places::among_below, crate::proofs::Places::among_past))]
+    fn own_place(&self, name: &str) -> Option<usize>
+        ensures { is_some result ≡ counts_name self.now.counts name.now }
+    {
+        let place = self.counts.place_of(name);
+        if place < self.counts.len() {
+            Some(place)
+        } else {
+            None
+        }
+    }
+
+    // Counts a read by what came of it.
+    fn count(&mut self, name: &str, read: &Result<usize, Outside>)
+        ensures { TalliesRead self.old self.new name.now read.now }
+    {
+        self.counts.count(name, read);
+        if *read == Err(Outside::Failed) && self.own_place(name).is_none() {
+            self.others = self.others.saturating_add(1);
+        }
+    }
+}
+
+// An open file, where its name's own counts stand, and the place in it that the next read is from.
 #[derive(Drop)]
 struct Kept<F> {
-    name: String,
+    own: usize,
     place: u64,
     file: F,
 }
 
 impl<R: Files + Drop> RealShelf<R> {
     ghost use Rattle.cm_io.specs.Names.{is_among};
-    ghost use Rattle.cm_io.specs.Real.{real_counts};
+    ghost use Rattle.cm_io.specs.Counts.{names_of};
+    ghost use Rattle.cm_io.specs.Real.{real_tally};
 
     /// A shelf over these files, with counts for each of the names. All counts are 0, and no file is opened
     /// yet. `NoMemory` is want of memory for the names and counts.
-    #[tactic(auto, using(crate::proofs::Places::among_copies))]
     pub fn new(files: R, alloc: Global, names: &Vec<String>) -> Result<RealShelf<R>, NoMemory>
         ensures held { IfOk result (λ s. ⟦<RealShelf<R> as Shelf>⟧.held s ≡ None) }
-        ensures names { IfOk result (λ s.
-            map string_bytes (real_counts s).names.items ≡ map string_bytes names.now.items) }
+        ensures names { IfOk result (λ s. names_of (real_tally s).counts ≡ map string_bytes names.now.items) }
         ensures faults { IfOk result (λ s. (n : List ℕ) → ⟦<RealShelf<R> as Shelf>⟧.faults s n ≡ 0) }
         ensures counted { IfOk result (λ s.
-            (n : List ℕ) → ⟦<RealShelf<R> as Shelf>⟧.counted s n ≡ is_among names.now.items n) }
+            (n : List ℕ) → ⟦<RealShelf<R> as Shelf>⟧.counted s n ≡ is_among (map string_bytes names.now.items) n) }
         ensures reads { IfOk result (λ s. (n : List ℕ) → ⟦<RealShelf<R> as Shelf>⟧.reads s n ≡ 0) }
         ensures taken { IfOk result (λ s. (n : List ℕ) → ⟦<RealShelf<R> as Shelf>⟧.taken s n ≡ 0) }
     {
         let names = copies_of(alloc, names)?;
         Ok(RealShelf {
             files,
-            alloc,
-            counts: Counts::new(alloc, names)?,
+            tally: Tally {
+                counts: Counts::new(alloc, names)?,
+                others: 0,
+            },
             kept: None,
         })
     }
@@ -76,23 +111,22 @@ fn copies_of(alloc: Global, names: &Vec<String>) -> Result<Vec<String>, NoMemory
 }
 
 impl<R: Files> Shelf for RealShelf<R> {
-    ghost use Rattle.cm_io.specs.Shelf.{ReadsHeld, ReadFaults, CountsOn, bytes_given};
-    ghost use Rattle.cm_io.specs.Counts.{faults_of, reads_of, taken_of, counts_name, OthersStay};
-    ghost use Rattle.cm_io.specs.Real.{real_counts};
+    ghost use Rattle.cm_io.specs.Shelf.{ReadsHeld, ReadFaults, CountsOn, reads_made, bytes_given};
+    ghost use Rattle.cm_io.specs.Counts.{reads_of, taken_of, counts_name};
+    ghost use Rattle.cm_io.specs.Real.{tally_faults, real_tally, OthersStay};
 
     ghost held = { λ _. None };
 
-    ghost faults = { λ s name. faults_of s.counts name };
+    ghost faults = { λ s name. tally_faults s.tally name };
 
-    ghost counted = { λ s name. counts_name s.counts name };
+    ghost counted = { λ s name. counts_name s.tally.counts name };
 
-    ghost reads = { λ s name. reads_of s.counts name };
+    ghost reads = { λ s name. reads_of s.tally.counts name };
 
-    ghost taken = { λ s name. taken_of s.counts name };
+    ghost taken = { λ s name. taken_of s.tally.counts name };
 
     /// A read that a signal interrupts is tried again, up to a million times; after that it failed.
-    /// `NoMemory` is want of memory for the name of a file that is opened. After an error no file stays
-    /// open.
+    /// It never wants memory. After an error no file stays open.
     fn read_at(&mut self, name: &str, at: u64, buf: &mut [u8]) -> Result<usize, Outside>
         ensures count { IfOk result (λ n. n ≤ length buf.new) }
         ensures read { ReadsHeld None name.now at buf.new result }
@@ -102,85 +136,86 @@ impl<R: Files> Shelf for RealShelf<R> {
         ensures counted { (n : List ℕ) →
             ⟦<RealShelf<R> as Shelf>⟧.counted self.new n ≡ ⟦<RealShelf<R> as Shelf>⟧.counted self.old n }
         ensures reads { CountsOn (⟦<RealShelf<R> as Shelf>⟧.counted self.old) (⟦<RealShelf<R> as Shelf>⟧.reads self.old)
-            (⟦<RealShelf<R> as Shelf>⟧.reads self.new) name.now 1 }
+            (⟦<RealShelf<R> as Shelf>⟧.reads self.new) name.now (reads_made result) }
         ensures taken { CountsOn (⟦<RealShelf<R> as Shelf>⟧.counted self.old) (⟦<RealShelf<R> as Shelf>⟧.taken self.old)
             (⟦<RealShelf<R> as Shelf>⟧.taken self.new) name.now (bytes_given result) }
-        ensures others { OthersStay (real_counts self.old) (real_counts self.new) name.now }
+        ensures others { OthersStay (real_tally self.old) (real_tally self.new) name.now }
+
+        // It never wants memory, so each read of a name that it counts is counted, whatever came of it.
+        ensures no_want { result ≢ Err Outside.NoMemory }
+        ensures all_reads { CountsOn (⟦<RealShelf<R> as Shelf>⟧.counted self.old)
+            (⟦<RealShelf<R> as Shelf>⟧.reads self.old) (⟦<RealShelf<R> as Shelf>⟧.reads self.new) name.now 1 }
     {
-        let kept = self.kept.take();
-        let read = match read_from(&self.files, self.alloc, kept, name, at, buf) {
-            Ok((n, kept)) => {
-                self.kept = Some(kept);
+        let own = self.tally.own_place(name);
+        let kept = kept_at(self.kept.take(), own, at);
+        let read = match read_from(&self.files, kept, name, at, buf) {
+            Some((n, file)) => {
+                self.kept = keep(own, at.saturating_add(n as u64), file);
                 Ok(n)
             }
-            Err(why) => Err(why),
+            None => Err(Outside::Failed),
         };
-        self.counts.count(name, &read);
+        self.tally.count(name, &read);
         read
     }
 }
 
-// Reads once, and gives the file back that was read.
+// Reads once, and gives the file back that was read; nothing where that failed.
 fn read_from<R: Files>(
     files: &R,
-    alloc: Global,
-    kept: Option<Kept<R::File>>,
+    kept: Option<R::File>,
     name: &str,
     at: u64,
     buf: &mut [u8],
-) -> Result<(usize, Kept<R::File>), Outside>
-    ensures { IfOk result (λ read. read.0 ≤ length buf.new) }
+) -> Option<(usize, R::File)>
+    ensures { IfSome result (λ read. read.0 ≤ length buf.new) }
 {
-    let mut kept = match kept_at(kept, name, at) {
-        Some(kept) => kept,
-        None => open_at(files, alloc, name, at)?,
+    let mut file = match kept {
+        Some(file) => file,
+        None => open_at(files, name, at)?,
     };
-    let n = read_once(&mut kept.file, buf)?;
-    kept.place = at.saturating_add(n as u64);
-    Ok((n, kept))
+    let n = read_once(&mut file, buf)?;
+    Some((n, file))
+}
+
+// A file that stays open where its name has counts of its own.
+fn keep<F: Drop>(own: Option<usize>, place: u64, file: F) -> Option<Kept<F>> {
+    Some(Kept {
+        own: own?,
+        place,
+        file,
+    })
 }
 
 // The kept file where it has this name and stands at this place, which isn't the front.
-fn kept_at<F: Drop>(kept: Option<Kept<F>>, name: &str, at: u64) -> Option<Kept<F>> {
+fn kept_at<F: Drop>(kept: Option<Kept<F>>, own: Option<usize>, at: u64) -> Option<F> {
     let kept = kept?;
-    if at != 0 && kept.place == at && kept.name.as_str() == name {
-        Some(kept)
+    if at != 0 && kept.place == at && own == Some(kept.own) {
+        Some(kept.file)
     } else {
         None
     }
 }
 
-fn open_at<R: Files>(
-    files: &R,
-    alloc: Global,
-    name: &str,
-    at: u64,
-) -> Result<Kept<R::File>, Outside> {
-    let owned = String::from_str(alloc, name)?;
-    let Ok(mut file) = fs::open(files, name) else {
-        return Err(Outside::Failed);
-    };
-    if at != 0 && file.seek(SeekFrom::Start(at)).is_err() {
-        return Err(Outside::Failed);
+fn open_at<R: Files>(files: &R, name: &str, at: u64) -> Option<R::File> {
+    let mut file = fs::open(files, name).ok()?;
+    if at != 0 {
+        file.seek(SeekFrom::Start(at)).ok()?;
     }
-    Ok(Kept {
-        name: owned,
-        place: at,
-        file,
-    })
+    Some(file)
 }
 
-fn read_once<F: Read>(file: &mut F, buf: &mut [u8]) -> Result<usize, Outside>
-    ensures { IfOk result (λ n. n ≤ length buf.new) }
+fn read_once<F: Read>(file: &mut F, buf: &mut [u8]) -> Option<usize>
+    ensures { IfSome result (λ n. n ≤ length buf.new) }
 {
     for _ in 0..TRIES {
         match file.read(buf) {
-            Ok(n) => return Ok(n),
+            Ok(n) => return Some(n),
             Err(why) if why.kind() == ErrorKind::Interrupted => {}
-            Err(_) => return Err(Outside::Failed),
+            Err(_) => return None,
         }
     }
-    Err(Outside::Failed)
+    None
 }
 
 /// A writer such as standard output. It tells nothing of what was written.

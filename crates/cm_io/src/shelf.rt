@@ -1,6 +1,6 @@
 // Files as the program sees them: bytes under names, read from a place on.
 ghost use Rattle.std.specs.Prelude.{◌≡◌, ◌≤◌, List, ℕ, Bool, Option, length, IfOk};
-ghost use Rattle.cm_io.specs.Shelf.{Files, ReadsHeld, ReadFaults, CountsOn, bytes_given};
+ghost use Rattle.cm_io.specs.Shelf.{Files, ReadsHeld, ReadFaults, CountsOn, reads_made, bytes_given};
 
 use crate::Outside;
 
@@ -16,7 +16,8 @@ pub trait Shelf {
     /// at 0.
     ghost counted: { Self → List ℕ → Bool };
 
-    /// How often each name was read, whatever came of it. A count stays at 2^64 - 1.
+    /// How often each name was read, whatever came of it but want of memory: that is no read. A count stays at
+    /// 2^64 - 1.
     ghost reads: { Self → List ℕ → ℕ };
 
     /// How many bytes were taken under each name: those that reads gave, again where they gave them
@@ -28,7 +29,7 @@ pub trait Shelf {
     /// end of the file or for an empty `buf`, and a name that isn't held has no bytes.
     ///
     /// `Failed` comes only where the name's count of faults rose, and `NoMemory` where the shelf itself
-    /// wanted memory: then no count of faults rose. What is held stays the same. After an error `buf`
+    /// wanted memory: then no count rose. What is held stays the same. After an error `buf`
     /// may have any bytes, and none count as taken.
     fn read_at(&mut self, name: &str, at: u64, buf: &mut [u8]) -> Result<usize, Outside>
         ensures count { IfOk result (λ n. n ≤ length buf.new) }
@@ -36,6 +37,6 @@ pub trait Shelf {
         ensures held { held self.new ≡ held self.old }
         ensures cause { ReadFaults (faults self.old) (faults self.new) name.now result }
         ensures counted { (n : List ℕ) → counted self.new n ≡ counted self.old n }
-        ensures reads { CountsOn (counted self.old) (reads self.old) (reads self.new) name.now 1 }
+        ensures reads { CountsOn (counted self.old) (reads self.old) (reads self.new) name.now (reads_made result) }
         ensures taken { CountsOn (counted self.old) (taken self.old) (taken self.new) name.now (bytes_given result) };
 }

@@ -1,24 +1,23 @@
 // A shelf and a sink in memory whose device never fails.
 ghost use Rattle.std.specs.Prelude.{◌≡◌, vec_len};
 
-use crate::counts::Counts;
-use crate::texts::{copy_part, text_of};
+use crate::held::{Held, copy_part};
 use crate::{NoMemory, Outside, Shelf, Sink};
 use std::alloc::Global;
 
-/// Files in memory, of which each read gives what is there. It counts the reads of each name that it
-/// holds, and the bytes; no other name has any bytes.
+/// Files in memory, of which each read gives what is there. It counts the reads of every name, and the bytes. A name
+/// that isn't held is noted at its first read.
 #[derive(Drop)]
 pub struct SureShelf {
-    counts: Counts,
-    texts: Vec<Vec<u8>>,
-    ghost one_text_each: { vec_len texts ≡ vec_len counts.names },
+    pub(crate) files: Held,
 }
 
 impl SureShelf {
-    ghost use Rattle.std.specs.Prelude.{ℕ, List, Some, IfOk, IsTrue};
-    ghost use Rattle.cm_io.specs.Names.{are_distinct, is_among};
-    ghost use Rattle.cm_io.specs.Memory.{files_of};
+    ghost use Rattle.std.specs.Prelude.{ℕ, List, Some, IfOk, IsTrue, true, map, string_bytes};
+    ghost use Rattle.cm_io.specs.Names.{are_distinct};
+    ghost use Rattle.cm_io.specs.Held.{files_of};
+    ghost use Rattle.cm_io.specs.Counts.{names_of};
+    ghost use Rattle.cm_io.specs.Sure.{sure_counts};
 
     /// A shelf that holds `texts` under `names`. It takes and gives what `MemShelf::new` does, but for the
     /// reads that are to fail.
@@ -30,39 +29,47 @@ impl SureShelf {
         requires distinct { IsTrue (are_distinct names.items) }
         requires one_text_each { vec_len texts ≡ vec_len names }
         ensures held { IfOk result (λ s.
-            ⟦<SureShelf as Shelf>⟧.held s ≡ Some (files_of names.items texts.items)) }
-        ensures counted { IfOk result (λ s.
-            (n : List ℕ) → ⟦<SureShelf as Shelf>⟧.counted s n ≡ is_among names.items n) }
+            ⟦<SureShelf as Shelf>⟧.held s ≡ Some (files_of (map string_bytes names.items) texts.items)) }
+        ensures noted { IfOk result (λ s. names_of (sure_counts s) ≡ map string_bytes names.items) }
+        ensures counted { IfOk result (λ s. (n : List ℕ) → ⟦<SureShelf as Shelf>⟧.counted s n ≡ true) }
         ensures reads { IfOk result (λ s. (n : List ℕ) → ⟦<SureShelf as Shelf>⟧.reads s n ≡ 0) }
         ensures taken { IfOk result (λ s. (n : List ℕ) → ⟦<SureShelf as Shelf>⟧.taken s n ≡ 0) }
     {
         Ok(SureShelf {
-            counts: Counts::new(alloc, names)?,
-            texts,
+            files: Held::new(alloc, names, texts)?,
         })
     }
 }
 
 impl Shelf for SureShelf {
-    ghost use Rattle.std.specs.Prelude.{◌≤◌, ℕ, List, length, Some, IfOk, IsOk};
-    ghost use Rattle.cm_io.specs.Shelf.{ReadsHeld, ReadFaults, CountsOn, bytes_given};
-    ghost use Rattle.cm_io.specs.Counts.{reads_of, taken_of, counts_name};
-    ghost use Rattle.cm_io.specs.Memory.{files_of, GivesAll};
+    ghost use Rattle.std.specs.Prelude.{◌≢◌, ◌≤◌, ℕ, List, length, Some, IfOk, IsTrue, true};
+    ghost use Rattle.cm_io.specs.Shelf.{ReadsHeld, ReadFaults, CountsOn, reads_made, bytes_given};
+    ghost use Rattle.cm_io.specs.Counts.{reads_of, taken_of, counts_name, names_of, noted, SameCounts};
+    ghost use Rattle.cm_io.specs.Held.{held_files, GivesAll};
+    ghost use Rattle.cm_io.specs.Sure.{sure_counts};
 
-    ghost held = { λ s. Some (files_of s.counts.names.items s.texts.items) };
+    ghost held = { λ s. Some (held_files s.files) };
 
     ghost faults = { λ _ _. 0 };
 
-    ghost counted = { λ s name. counts_name s.counts name };
+    ghost counted = { λ _ _. true };
 
-    ghost reads = { λ s name. reads_of s.counts name };
+    ghost reads = { λ s name. reads_of s.files.counts name };
 
-    ghost taken = { λ s name. taken_of s.counts name };
+    ghost taken = { λ s name. taken_of s.files.counts name };
 
     /// Gives as much as there is and fits, and 0 where no file has the name. It never fails.
+    ///
+    /// `NoMemory` is want of memory to note a name that is neither held nor was read before. Then the read wasn't
+    /// made, and nothing changed.
     fn read_at(&mut self, name: &str, at: u64, buf: &mut [u8]) -> Result<usize, Outside>
-        ensures sure { IsOk result }
+        ensures sure { result ≢ Err Outside.Failed }
+        ensures no_want { IsTrue (counts_name (sure_counts self.old) name.now) → result ≢ Err Outside.NoMemory }
         ensures gives { GivesAll (⟦<SureShelf as Shelf>⟧.held self.old) name.now at buf.new result }
+        ensures noted { result ≢ Err Outside.NoMemory →
+            names_of (sure_counts self.new) ≡ noted (names_of (sure_counts self.old)) name.now }
+        ensures same { result ≡ Err Outside.NoMemory → SameCounts (sure_counts self.old) (sure_counts self.new) }
+
         ensures count { IfOk result (λ n. n ≤ length buf.new) }
         ensures read { ReadsHeld (⟦<SureShelf as Shelf>⟧.held self.old) name.now at buf.new result }
         ensures held { ⟦<SureShelf as Shelf>⟧.held self.new ≡ ⟦<SureShelf as Shelf>⟧.held self.old }
@@ -71,15 +78,16 @@ impl Shelf for SureShelf {
         ensures counted { (n : List ℕ) →
             ⟦<SureShelf as Shelf>⟧.counted self.new n ≡ ⟦<SureShelf as Shelf>⟧.counted self.old n }
         ensures reads { CountsOn (⟦<SureShelf as Shelf>⟧.counted self.old) (⟦<SureShelf as Shelf>⟧.reads self.old)
-            (⟦<SureShelf as Shelf>⟧.reads self.new) name.now 1 }
+            (⟦<SureShelf as Shelf>⟧.reads self.new) name.now (reads_made result) }
         ensures taken { CountsOn (⟦<SureShelf as Shelf>⟧.counted self.old) (⟦<SureShelf as Shelf>⟧.taken self.old)
             (⟦<SureShelf as Shelf>⟧.taken self.new) name.now (bytes_given result) }
     {
-        let n = match text_of(self.counts.names(), &self.texts, name) {
+        self.files.note(name)?;
+        let n = match self.files.text(name) {
             Some(text) => copy_part(text, at, buf),
             None => 0,
         };
-        self.counts.count(name, &Ok(n));
+        self.files.count(name, &Ok(n));
         Ok(n)
     }
 }

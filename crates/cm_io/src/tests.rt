@@ -1,5 +1,6 @@
 // What the devices answer, call by call.
 use super::*;
+use crate::held::Held;
 use std::alloc::{AllocError, Global};
 use std::process::Abort;
 use std::test::Fail;
@@ -83,6 +84,49 @@ fn reads_fail_at_their_turns(rt: HostRuntime) -> Result<(), Fail> {
     ] {
         assert_eq!(rt; shelf.read_at(name, 0, &mut buf), want, "{name}");
     }
+    Ok(())
+}
+
+// The faults, reads and bytes that are counted under a name; none where it wasn't noted.
+fn counts_of(files: &Held, name: &str) -> Option<[u64; 3]> {
+    for row in &files.counts.rows {
+        if row.name.as_str() == name {
+            return Some([row.faults, row.reads, row.taken]);
+        }
+    }
+    None
+}
+
+// Reads a name that isn't held. Where an allocation is refused, nothing changes, and the next try is the read.
+fn read_unheld(shelf: &mut impl Shelf, name: &str) -> Result<usize, Outside> {
+    match shelf.read_at(name, 0, &mut [0; 4]) {
+        Err(Outside::NoMemory) => shelf.read_at(name, 0, &mut [0; 4]),
+        read => read,
+    }
+}
+
+#[test]
+fn reads_of_each_name_are_counted(rt: HostRuntime) -> Result<(), Fail> {
+    let mut shelf = mem_shelf(&rt, rt.alloc(), &[2])?;
+    let mut sure = sure_shelf(&rt, rt.alloc())?;
+    let mut buf = [0u8; 4];
+    assert_eq!(rt; shelf.read_at("world", 0, &mut buf), Ok(4));
+    assert_eq!(rt; sure.read_at("world", 0, &mut buf), Ok(4));
+    // More names than the shelves have room for at first.
+    for name in ["plan", "memo", "note"] {
+        assert_eq!(rt; counts_of(&shelf.files, name), None);
+        for reads in [1, 2] {
+            assert_eq!(rt; read_unheld(&mut shelf, name), Err(Outside::Failed));
+            assert_eq!(rt; counts_of(&shelf.files, name), Some([reads, reads, 0]));
+            assert_eq!(rt; read_unheld(&mut sure, name), Ok(0));
+            assert_eq!(rt; counts_of(&sure.files, name), Some([0, reads, 0]));
+        }
+    }
+    // The first read of `plan` took the turn that was to fail, so this one is made.
+    assert_eq!(rt; shelf.read_at("world", 4, &mut buf), Ok(2));
+    assert_eq!(rt; counts_of(&shelf.files, "world"), Some([0, 2, 6]));
+    assert_eq!(rt; counts_of(&sure.files, "world"), Some([0, 1, 4]));
+    assert_eq!(rt; counts_of(&sure.files, "log"), Some([0, 0, 0]));
     Ok(())
 }
 
