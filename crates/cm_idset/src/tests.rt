@@ -213,3 +213,33 @@ fn images_by_maps(rt: HostRuntime) -> Result<(), Fail> {
     }
     Ok(())
 }
+
+// With each allocation refused in turn, a call gives its whole set or says that there was no memory, and the sets that
+// it was asked of stay.
+#[test]
+fn whole_sets_or_no_memory(rt: HostRuntime) -> Result<(), Fail> {
+    let ranges = [
+        ids(0, 1),
+        ids(10, 11),
+        ids(20, 21),
+        ids(30, 31),
+        ids(40, 41),
+        ids(50, 51),
+    ];
+    let one = set(rt.alloc(), &ranges)?;
+    let other = IdSet::range(rt.alloc(), 11, 45)?;
+    let map = IdMap::initial(rt.alloc())?;
+    if let Ok(union) = one.join(rt.alloc(), &other) {
+        assert!(rt; union.intervals() == [ids(0, 1), ids(10, 45), ids(50, 51)].as_slice());
+    }
+    if let Ok(common) = one.meet(rt.alloc(), &other) {
+        let want = [ids(11, 11), ids(20, 21), ids(30, 31), ids(40, 41)];
+        assert!(rt; common.intervals() == want.as_slice());
+    }
+    if let Ok(image) = one.image(rt.alloc(), &map) {
+        assert!(rt; image.intervals() == ranges.as_slice());
+    }
+    assert!(rt; one.intervals() == ranges.as_slice());
+    assert!(rt; other.intervals() == [ids(11, 45)].as_slice());
+    Ok(())
+}
