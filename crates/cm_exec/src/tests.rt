@@ -161,84 +161,82 @@ fn run(
     exec(c, spaces, SpaceId(at), files, files.find(path.as_bytes()))
 }
 
-// A set-user-ID-root program with an attribute, as ping was installed; a plain program is run by a path that isn't declared.
+// The table of one set-user-ID-root program with an attribute, as ping was installed.
+fn ping(rt: &impl Abort, alloc: Global) -> Result<FileTable, Fail> {
+    let mut ping = program(alloc, "/bin/ping", 0o4755)?;
+    ping.caps = Some(read(&NET_RAW).expect(rt, "an attribute"));
+    let mounts = vec![in alloc; mount(rt, alloc, "root")?]?;
+    let rows = vec![in alloc; ping]?;
+    Ok(table(rt, alloc, mounts, rows))
+}
+
+// What is so after a call: its answer, the user ids, and the sets.
+type After = (Res, [u32; 4], [u64; 5]);
+
+// What a caller in the initial space has after it ran the file of that path. SECBIT_KEEP_CAPS is cleared, but by a refused
+// call.
+fn after(rt: &impl Abort, alloc: Global, who: Caller, path: &str) -> Result<After, Fail> {
+    let spaces = Spaces::first(alloc)?;
+    let files = ping(rt, alloc)?;
+    let mut c = cred(alloc, who);
+    let res = run(rt, &mut c, &spaces, 0, &files, path);
+    assert_eq!(rt; c.sec.bits(), if res == Res::Done { 0 } else { 0x10 });
+    Ok((res, uids(&c), sets(&c)))
+}
+
 #[test]
-fn programs_give_what_their_files_permit(rt: HostRuntime) -> Result<(), Fail> {
-    let spaces = Spaces::first(rt.alloc())?;
-    let mut ping = program(rt.alloc(), "/bin/ping", 0o4755)?;
-    ping.caps = Some(read(&NET_RAW).expect(&rt, "an attribute"));
-    let mounts = vec![in rt.alloc(); mount(&rt, rt.alloc(), "root")?]?;
-    let rows = vec![in rt.alloc(); ping]?;
-    let files = table(&rt, rt.alloc(), mounts, rows);
+fn a_program_gives_what_its_file_permits(rt: HostRuntime) -> Result<(), Fail> {
+    // The attribute alone counts, and the ids go to the owner.
+    let plain = after(&rt, rt.alloc(), user(1000), "/bin/ping")?;
+    assert!(rt; plain == (Res::Done, [1000, 0, 0, 0], [0, 0x2000, 0x2000, FULL, 0]));
+    // A program that would lack what it permits isn't run, and nothing changes.
     let bounded = Caller {
         bounding: 0x1ff_ffff_dfff,
         ..user(1000)
     };
+    let refused = after(&rt, rt.alloc(), bounded, "/bin/ping")?;
+    assert!(rt;
+        refused
+            == (
+                Res::Err(Errno::EPERM),
+                [1000; 4],
+                [0, 0, 0, 0x1ff_ffff_dfff, 0]
+            )
+    );
+    Ok(())
+}
+
+// Neither bit nor attribute counts, and ambient capabilities stay; root gains nothing.
+#[test]
+fn nothing_is_gained_under_no_new_privs(rt: HostRuntime) -> Result<(), Fail> {
     let pinned = Caller {
         permitted: 0x400,
         ambient: 0x400,
         nnp: true,
         ..user(1000)
     };
+    let kept = after(&rt, rt.alloc(), pinned, "/bin/ping")?;
+    assert!(rt; kept == (Res::Done, [1000; 4], [0x400, 0x400, 0x400, FULL, 0x400]));
     let root = Caller {
         nnp: true,
         ..user(0)
     };
-    let lost = Caller {
+    let none = after(&rt, rt.alloc(), root, "-")?;
+    assert!(rt; none == (Res::Done, [0; 4], [0, 0, 0, FULL, 0]));
+    Ok(())
+}
+
+// By a plain program, run by a path that isn't declared.
+#[test]
+fn root_gains_all_and_a_user_loses_all(rt: HostRuntime) -> Result<(), Fail> {
+    let all = after(&rt, rt.alloc(), user(0), "-")?;
+    assert!(rt; all == (Res::Done, [0; 4], [0, FULL, FULL, FULL, 0]));
+    let full = Caller {
         permitted: FULL,
         ..user(1000)
     };
-    let cases = [
-        // The attribute alone counts, and the ids go to the owner.
-        (
-            user(1000),
-            "/bin/ping",
-            Res::Done,
-            [1000, 0, 0, 0],
-            [0, 0x2000, 0x2000, FULL, 0],
-        ),
-        // A program that would lack what it permits isn't run, and nothing changes.
-        (
-            bounded,
-            "/bin/ping",
-            Res::Err(Errno::EPERM),
-            [1000, 1000, 1000, 1000],
-            [0, 0, 0, 0x1ff_ffff_dfff, 0],
-        ),
-        // Under no_new_privs neither bit nor attribute counts, and ambient capabilities stay.
-        (
-            pinned,
-            "/bin/ping",
-            Res::Done,
-            [1000, 1000, 1000, 1000],
-            [0x400, 0x400, 0x400, FULL, 0x400],
-        ),
-        // Root gains nothing under no_new_privs, and all without.
-        (root, "-", Res::Done, [0, 0, 0, 0], [0, 0, 0, FULL, 0]),
-        (
-            user(0),
-            "-",
-            Res::Done,
-            [0, 0, 0, 0],
-            [0, FULL, FULL, FULL, 0],
-        ),
-        // A user loses all by a plain program.
-        (
-            lost,
-            "-",
-            Res::Done,
-            [1000, 1000, 1000, 1000],
-            [0, 0, 0, FULL, 0],
-        ),
-    ];
-    for (who, path, res, ids, left) in cases {
-        let mut c = cred(rt.alloc(), who);
-        assert_eq!(rt; run(&rt, &mut c, &spaces, 0, &files, path), res);
-        assert_eq!(rt; uids(&c), ids);
-        assert_eq!(rt; sets(&c), left);
-        // SECBIT_KEEP_CAPS is cleared, but by a refused call.
-        assert_eq!(rt; c.sec.bits(), if res == Res::Done { 0 } else { 0x10 });
-    }
+    let lost = after(&rt, rt.alloc(), full, "-")?;
+    assert!(rt; lost == (Res::Done, [1000; 4], [0, 0, 0, FULL, 0]));
     Ok(())
 }
 
@@ -321,11 +319,50 @@ fn an_owner_is_the_one_that_the_mount_shows(rt: HostRuntime) -> Result<(), Fail>
     Ok(())
 }
 
+// The table of a file of user 7 and group 34 with that mode, and of a script that it interprets.
+fn opt(rt: &impl Abort, alloc: Global, mode: u32) -> Result<FileTable, Fail> {
+    let mut file = program(alloc, "/opt/x", mode)?;
+    file.uid = Kuid::of(7);
+    file.gid = Kgid::of(34);
+    let mut script = program(alloc, "/opt/script", 0o755)?;
+    script.interpreter = Some(0);
+    let mounts = vec![in alloc; mount(rt, alloc, "root")?]?;
+    let rows = vec![in alloc; file, script]?;
+    Ok(table(rt, alloc, mounts, rows))
+}
+
+// Whether the file of that mode, and the script, may be run by that caller, a member of the groups 33 and 34 if so told.
+fn may(
+    rt: &impl Abort,
+    alloc: Global,
+    mode: u32,
+    who: Caller,
+    member: bool,
+) -> Result<[bool; 2], Fail> {
+    let spaces = Spaces::first(alloc)?;
+    let files = opt(rt, alloc, mode)?;
+    let mut c = cred(alloc, who);
+    if member {
+        c.groups = Groups::make(alloc, &[kgid(34), kgid(33)])?;
+    }
+    assert!(rt; spaces.count() > 0);
+    let file = may_exec(&c, &spaces, SpaceId(0), &files, files.find(b"/opt/x"));
+    let script = may_exec(&c, &spaces, SpaceId(0), &files, files.find(b"/opt/script"));
+    assert_eq!(rt;
+        run(rt, &mut c, &spaces, 0, &files, "/opt/x") == Res::Err(Errno::EACCES),
+        !file
+    );
+    Ok([file, script])
+}
+
 // Who may run a file of user 7 and group 34: by the owner's bits alone for the owner, by the group's for a member, else by
 // those of the others, or by CAP_DAC_OVERRIDE where there is some execute bit.
 #[test]
 fn permission_goes_by_the_first_class_that_fits(rt: HostRuntime) -> Result<(), Fail> {
-    let spaces = Spaces::first(rt.alloc())?;
+    let overriding = Caller {
+        permitted: 0x2,
+        ..user(1000)
+    };
     let cases = [
         (0o100, [true, false, false, true]),
         (0o011, [false, true, true, true]),
@@ -333,38 +370,23 @@ fn permission_goes_by_the_first_class_that_fits(rt: HostRuntime) -> Result<(), F
         (0o701, [true, false, true, true]),
         (0o666, [false, false, false, false]),
     ];
-    for (mode, want) in cases {
-        let mut file = program(rt.alloc(), "/opt/x", mode)?;
-        file.uid = Kuid::of(7);
-        file.gid = Kgid::of(34);
-        let mut script = program(rt.alloc(), "/opt/script", 0o755)?;
-        script.interpreter = Some(0);
-        let mounts = vec![in rt.alloc(); mount(&rt, rt.alloc(), "root")?]?;
-        let rows = vec![in rt.alloc(); file, script]?;
-        let files = table(&rt, rt.alloc(), mounts, rows);
-        let owner = cred(rt.alloc(), user(7));
-        let mut member = cred(rt.alloc(), user(1000));
-        member.groups = Groups::make(rt.alloc(), &[kgid(34), kgid(33)])?;
-        let other = cred(rt.alloc(), user(1000));
-        let overriding = Caller {
-            permitted: 0x2,
-            ..user(1000)
-        };
-        let overriding = cred(rt.alloc(), overriding);
-        assert!(rt; spaces.count() > 0);
-        for path in ["/opt/x", "/opt/script"] {
-            let f = files.find(path.as_bytes());
-            let may = [
-                may_exec(&owner, &spaces, SpaceId(0), &files, f),
-                may_exec(&member, &spaces, SpaceId(0), &files, f),
-                may_exec(&other, &spaces, SpaceId(0), &files, f),
-                may_exec(&overriding, &spaces, SpaceId(0), &files, f),
-            ];
-            assert_eq!(rt; may, want, "{mode:o} {path}");
-        }
-        let mut c = other;
-        let res = run(&rt, &mut c, &spaces, 0, &files, "/opt/x");
-        assert_eq!(rt; res == Res::Err(Errno::EACCES), !want[2]);
+    for (mode, [owner, member, other, by_override]) in cases {
+        assert!(rt;
+            may(&rt, rt.alloc(), mode, user(7), false)? == [owner; 2],
+            "{mode:o}"
+        );
+        assert!(rt;
+            may(&rt, rt.alloc(), mode, user(1000), true)? == [member; 2],
+            "{mode:o}"
+        );
+        assert!(rt;
+            may(&rt, rt.alloc(), mode, user(1000), false)? == [other; 2],
+            "{mode:o}"
+        );
+        assert!(rt;
+            may(&rt, rt.alloc(), mode, overriding, false)? == [by_override; 2],
+            "{mode:o}"
+        );
     }
     Ok(())
 }
