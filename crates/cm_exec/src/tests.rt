@@ -1,5 +1,5 @@
-// Runs of programs with what execve(2), capabilities(7) and path_resolution(7) say of them: over the initial space and over
-// a tree of spaces, on a plain mount and on an idmapped one.
+// Runs of programs with what execve(2), capabilities(7) and path_resolution(7) say of them: over the initial space and
+// over a tree of spaces, on a plain mount and on an idmapped one.
 use crate::{exec, may_exec};
 use cm_base::{CapWord, Errno, FileRef, Kgid, Kuid, Res, SecBits, SpaceId};
 use cm_files::{FileRow, FileTable, MapPair, Mount, Text};
@@ -25,8 +25,8 @@ const NET_RAW_BOX: [u8; 24] = [
     1, 0, 0, 3, 0, 0x20, 0, 0, 0, 0, 0, 0, 0, 0, 0, 0, 0, 0, 0, 0, 0xa0, 0x86, 1, 0,
 ];
 
-// A caller of one user id and group id 0: its permitted and effective set, its inheritable and ambient set, its bounding
-// set, and no_new_privs.
+// A caller of one user id and group id 0: its permitted and effective set, its inheritable and ambient set, its
+// bounding set, and no_new_privs.
 #[derive(Clone, Copy)]
 struct Caller {
     uid: u32,
@@ -173,8 +173,8 @@ fn ping(rt: &impl Abort, alloc: Global) -> Result<FileTable, Fail> {
 // What is so after a call: its answer, the user ids, and the sets.
 type After = (Res, [u32; 4], [u64; 5]);
 
-// What a caller in the initial space has after it ran the file of that path. SECBIT_KEEP_CAPS is cleared, but by a refused
-// call.
+// What a caller in the initial space has after it ran the file of that path. SECBIT_KEEP_CAPS is cleared, but by a
+// refused call.
 fn after(rt: &impl Abort, alloc: Global, who: Caller, path: &str) -> Result<After, Fail> {
     let spaces = Spaces::first(alloc)?;
     let files = ping(rt, alloc)?;
@@ -331,7 +331,7 @@ fn opt(rt: &impl Abort, alloc: Global, mode: u32) -> Result<FileTable, Fail> {
     Ok(table(rt, alloc, mounts, rows))
 }
 
-// Whether the file of that mode, and the script, may be run by that caller, a member of the groups 33 and 34 if so told.
+// Whether the file of that mode, and the script, may be run by that caller, a member of groups 33 and 34 if so told.
 fn may(
     rt: &impl Abort,
     alloc: Global,
@@ -355,8 +355,8 @@ fn may(
     Ok([file, script])
 }
 
-// Who may run a file of user 7 and group 34: by the owner's bits alone for the owner, by the group's for a member, else by
-// those of the others, or by CAP_DAC_OVERRIDE where there is some execute bit.
+// Who may run a file of user 7 and group 34: by the owner's bits alone for the owner, by the group's for a member, else
+// by those of the others, or by CAP_DAC_OVERRIDE where there is some execute bit.
 #[test]
 fn permission_goes_by_the_first_class_that_fits(rt: HostRuntime) -> Result<(), Fail> {
     let overriding = Caller {
