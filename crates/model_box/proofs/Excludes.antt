@@ -7,8 +7,8 @@ use Rattle.cm_base.specs.CapSet.{holds}
 use Rattle.cm_base.proofs.CapSets.{member_of_wider}
 use Rattle.model_cred.specs.Call.{Event}
 use Rattle.cm_filter.specs.declared.kind.CallKind.{CallKind}
-use Rattle.model_cred.specs.Credential.{Keeps}
-use Rattle.model_cred.specs.Process.{Process, State, KeepsState, process_at}
+use Rattle.model_cred.specs.Credential.{Included}
+use Rattle.model_cred.specs.Process.{Process, State, process_at}
 use Rattle.model_cred.specs.Right.{Right, Cap, Uid, Gid}
 use Rattle.model_cred.specs.Space.{Space, Spaces, IsTree, space_of, is_at_or_above}
 use Rattle.model_cred.specs.World.{World}
@@ -17,9 +17,9 @@ use Rattle.model_run.specs.Later.{is_member, Later}
 use Rattle.model_box.specs.Row.{Part, EffectiveUids, EffectiveGids, Groups, PermittedCaps, Row, Standing, space_under}
 use Rattle.model_box.specs.Files.{FilesFit}
 use Rattle.model_box.specs.Closed.{Closed}
-use Rattle.model_box.specs.Covers.{RowOf, Covers}
+use Rattle.model_box.specs.Covers.{RowOf, Covers, StateFits}
 use Rattle.model_box.specs.Covers as rows
-use Rattle.model_box.specs.Meets.{Meets, MeetsCap, IsOverStanding}
+use Rattle.model_box.specs.Meets.{Meets, IsOverStanding}
 use Rattle.model_box.proofs.Trees.{Earlier, space_of_newest, space_of_older, at_or_above_low, power_cases}
 use Rattle.model_box.proofs.Fits.{MemberFits, at_or_above_stays, next_stays}
 use Rattle.model_box.proofs.Steps.{row_for}
@@ -54,42 +54,46 @@ all_named P (x ∷ ps) all q p at = go (eqb x.pid q) at (λ rest. all_named P ps
   go false same rest = rest same
 
 -- what the query keeps, as a run keeps it
-pub kept_at_start : (s : State) (members : List ℕ) (bounds : Row → Part → ℕ → Type 0) → KeepsState s
+pub kept_at_start : (s : State) (members : List ℕ) (bounds : Row → Part → ℕ → Type 0) → StateFits s
     → Covers s s members bounds → Kept s.spaces s members bounds
-kept_at_start s members bounds keeps covers = record {
+kept_at_start s members bounds fits covers = record {
   spaces = record {
-    before = tree_earlier s.spaces keeps.tree;
-    earlier = tree_earlier s.spaces keeps.tree;
-    grown = covers.grown;
-    stay = covers.stay;
-    mapped = covers.mapped;
-    later = covers.later;
+    before = tree_earlier s.spaces fits.tree;
+    earlier = tree_earlier s.spaces fits.tree;
+    grown = covers.spaces_stay.grown;
+    stay = covers.spaces_stay.stay;
+    deny = covers.spaces_stay.deny;
+    mapped = covers.maps_in;
+    parents = covers.parents;
+    owners = covers.owners;
+    filled = covers.filled;
   };
   members_fit = λ pid p member at. record {
-    here = all_named (λ (q : Process). q.space < length s.spaces) s.processes keeps.stands pid p at;
-    held = λ row is part x has. covers.creds pid p row member at is part x has;
-    included = (all_named (λ (q : Process). Keeps q.cred) s.processes keeps.credentials pid p at).included;
+    here = all_named (λ (q : Process). q.space < length s.spaces) s.processes fits.stands pid p at;
+    held = λ row is part x has. covers.members_in pid p row member at is part x has;
+    included = all_named (λ (q : Process). Included q.cred) s.processes fits.included pid p at;
   };
 }
 
 pub covers_kept : (old s : State) (members : List ℕ) (bounds : Row → Part → ℕ → Type 0) → Kept old.spaces s members bounds → Covers old s members bounds
 covers_kept old s members bounds kept = record {
-  creds = λ pid p row member at is part x has. (kept.members_fit pid p member at).held row is part x has;
-  grown = kept.spaces.grown;
-  stay = kept.spaces.stay;
-  mapped = kept.spaces.mapped;
-  later = kept.spaces.later;
+  members_in = λ pid p row member at is part x has. (kept.members_fit pid p member at).held row is part x has;
+  spaces_stay = record { grown = kept.spaces.grown; stay = kept.spaces.stay; deny = kept.spaces.deny };
+  maps_in = kept.spaces.mapped;
+  parents = kept.spaces.parents;
+  owners = kept.spaces.owners;
+  filled = kept.spaces.filled;
 }
 
 module _ (permitted : CallKind → Bool) (w : World) (s : State) (members : List ℕ) (bounds : Row → Part → ℕ → Type 0)
-    (keeps : KeepsState s) (files_fit : FilesFit w.files s.spaces) (covers : Covers s s members bounds)
+    (fits_now : StateFits s) (files_fit : FilesFit w.files s.spaces) (covers : Covers s s members bounds)
     (closed : Closed permitted w.files s.spaces bounds) where
   -- Bounds that cover the members at the query and are closed cover them after every later run.
   pub soundness : (events : List Event) (later : State) (members_then : List ℕ) → Later permitted w s members events later members_then
       → Covers s later members_then bounds
   soundness events later members_then run =
       covers_kept s later members_then bounds
-      (later_kept permitted w s.spaces bounds closed files_fit s members events later members_then (kept_at_start s members bounds keeps covers) run)
+      (later_kept permitted w s.spaces bounds closed files_fit s members events later members_then (kept_at_start s members bounds fits_now covers) run)
 
   module _ (later : State) (members_then : List ℕ) (kept : Kept s.spaces later members_then bounds) (p : Process)
       (fits : MemberFits s.spaces later.spaces bounds p.space p.cred) where
@@ -111,29 +115,33 @@ module _ (permitted : CallKind → Bool) (w : World) (s : State) (members : List
       by : (((found.0 ≡ p.space) × IsTrue (holds p.cred.effective capability))
           ⊎ (((space_of later.spaces found.0).parent ≡ Some p.space)
           × ((space_of later.spaces found.0).owner ≡ p.cred.uid.effective)))
-          → MeetsCap s.spaces bounds capability n
+          → Meets s.spaces bounds (Cap capability n)
       by (inl here) =
           let standing_low : n < length s.spaces = low in
           let below : found.0 ≤ n = m_low in
           let same : found.0 ≡ p.space = here.0 in
-          let at : RowOf (length s.spaces) later.spaces p.space (Standing p.space) = rows.own p.space (omega arith) in
-          inl (
-            p.space,
-            at_or_above_stays s.spaces later.spaces bounds kept.spaces p.space n low (rw here.0 at found.1),
-            (p.cred.uid.effective, fits.held (Standing p.space) at EffectiveUids p.cred.uid.effective refl),
-            fits.held (Standing p.space) at PermittedCaps capability
-                (member_of_wider p.cred.effective p.cred.permitted fits.included.effective capability here.1),
+          let at : RowOf (length s.spaces) later.spaces p.space (Standing p.space) = rows.own p.space (omega arith) in (
+            Standing p.space,
+            lt-ltb p.space (length s.spaces) (omega arith),
+            inl (
+              at_or_above_stays s.spaces later.spaces bounds kept.spaces p.space n low (rw here.0 at found.1),
+              (p.cred.uid.effective, fits.held (Standing p.space) at EffectiveUids p.cred.uid.effective refl),
+              fits.held (Standing p.space) at PermittedCaps capability
+                  (member_of_wider p.cred.effective p.cred.permitted fits.included.effective capability here.1),
+            ),
           )
       by (inr owned) =
           let standing_low : n < length s.spaces = low in
           let below : found.0 ≤ n = m_low in
           let up : p.space < found.0 = kept.spaces.earlier found.0 p.space owned.0 in
-          let at : RowOf (length s.spaces) later.spaces p.space (Standing p.space) = rows.own p.space (omega arith) in
-          inr (
-            p.space,
-            found.0,
-            next_stays s.spaces later.spaces bounds kept.spaces p.space n found.0 low found.1 owned.0,
-            fits.held (Standing p.space) at EffectiveUids (space_of s.spaces found.0).owner (sym (kept.spaces.stay found.0 (omega arith)).owner ∙ owned.1),
+          let at : RowOf (length s.spaces) later.spaces p.space (Standing p.space) = rows.own p.space (omega arith) in (
+            Standing p.space,
+            lt-ltb p.space (length s.spaces) (omega arith),
+            inr (
+              found.0,
+              next_stays s.spaces later.spaces bounds kept.spaces p.space n found.0 low found.1 owned.0,
+              fits.held (Standing p.space) at EffectiveUids (space_of s.spaces found.0).owner (sym (kept.spaces.stay found.0 (omega arith)).owner ∙ owned.1),
+            ),
           )
     holder_meets (Uid id) standing holds_it =
         let some = row_for s.spaces later.spaces bounds kept.spaces (suc p.space) p.space (omega arith) fits.here in (
@@ -157,7 +165,7 @@ module _ (permitted : CallKind → Bool) (w : World) (s : State) (members : List
       → Later permitted w s members events later members_then → (pid : ℕ) → IsTrue (is_member members_then pid) → process_holds later pid right ≡ false
   exclusion right standing apart events later members_then run pid member = at (process_at later.processes pid) refl where
     kept : Kept s.spaces later members_then bounds
-    kept = later_kept permitted w s.spaces bounds closed files_fit s members events later members_then (kept_at_start s members bounds keeps covers) run
+    kept = later_kept permitted w s.spaces bounds closed files_fit s members events later members_then (kept_at_start s members bounds fits_now covers) run
 
     never : (p : Process) → process_at later.processes pid ≡ Some p → (b : Bool) → holds_right later.spaces p.space p.cred right ≡ b → b ≡ false
     never p named true holds_it = absurd (apart (holder_meets later members_then kept p (kept.members_fit pid p member named) right standing holds_it))

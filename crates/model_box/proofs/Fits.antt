@@ -1,14 +1,14 @@
 -- What every step keeps, in parts: of the spaces, and of one member. Beside what covering bounds say, the spaces are a
 -- tree, a member's space stands, and its sets are within one another.
-use Rattle.std.proofs.Common.{◌≡◌, ℕ, suc, ◌<◌, ◌≤◌, Some, length, arith}
+use Rattle.std.proofs.Common.{◌≡◌, ℕ, suc, ◌<◌, ◌≤◌, true, Some, length, arith}
 use Rattle.std.specs.Prelude.{IsTrue}
 use Rattle.std.specs.List.{list_any}
 use Rattle.std.proofs.Common.{◌∙◌, sym, ap, eqb}
 use Rattle.std.proofs.lemmas.Bool.{lt-ltb}
 use Rattle.model_cred.specs.Credential.{Credential, Included}
 use Rattle.model_cred.specs.Space.{Spaces, space_of, is_at_or_above, chain, stands}
-use Rattle.model_box.specs.Row.{Part, Row, CredHas}
-use Rattle.model_box.specs.Covers.{RowOf, Stays, MapsIn, IsLater}
+use Rattle.model_box.specs.Row.{Part, Row, Fresh, CredHas}
+use Rattle.model_box.specs.Covers.{RowOf, Stays, MapsAreIn, ParentsEarlier, OwnersIn, FreshFilled}
 use Rattle.model_box.specs.Spread.{IsNext}
 use Rattle.model_box.proofs.Trees.{Earlier, same_chain, at_or_above_low}
 
@@ -17,8 +17,11 @@ pub record SpacesFit (old new : Spaces) (bounds : Row → Part → ℕ → Type 
   pub earlier : Earlier new
   pub grown : length old ≤ length new
   pub stay : (n : ℕ) → n < length old → Stays (space_of old n) (space_of new n)
-  pub mapped : (n : ℕ) (row : Row) → RowOf (length old) new n row → MapsIn (space_of new n) (bounds row)
-  pub later : (n : ℕ) → length old ≤ n → n < length new → IsLater (length old) old new n bounds
+  pub deny : (n a : ℕ) → RowOf (length old) new n (Fresh a) → (space_of old a).deny ≡ true → (space_of new n).deny ≡ true
+  pub mapped : MapsAreIn old new bounds
+  pub parents : ParentsEarlier old new
+  pub owners : OwnersIn old new bounds
+  pub filled : FreshFilled old new bounds
 
 -- a credential is within a row
 abbrev pub InRow : (Part → ℕ → Type 0) → Credential → Type 0

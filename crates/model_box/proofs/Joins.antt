@@ -141,9 +141,9 @@ module _ (permitted : CallKind → Bool) (files : FileTable) (old new : Spaces) 
 
   -- A later target. Who joins it from above its standing space has the same power over that one, so what joining and then
   -- making a space add holds this joiner too.
-  join_later : (t a : ℕ) → t < length new → RowOf (length old) new t (Fresh a) → IsTrue (has_over new at c cap_sys_admin t)
+  join_later : (t a : ℕ) → RowOf (length old) new t (Fresh a) → IsTrue (has_over new at c cap_sys_admin t)
       → InRow (bounds (Fresh a)) (as_newcomer c)
-  join_later t a low row power part x has = by found.2 (split_chain fit.earlier found.0 row found.1) where
+  join_later t a row power part x has = by found.2 (split_chain fit.earlier found.0 row found.1) where
     found : (m : ℕ) × IsTrue (is_at_or_above new m t)
         × (((m ≡ at) × IsTrue (holds c.effective cap_sys_admin)) ⊎ (((space_of new m).parent ≡ Some at) × ((space_of new m).owner ≡ c.uid.effective)))
     found = power_cases new at c.effective c.uid.effective cap_sys_admin t power
@@ -152,7 +152,7 @@ module _ (permitted : CallKind → Bool) (files : FileTable) (old new : Spaces) 
     a_low = (row_stands row).0
 
     filled : (part : Part) (x : ℕ) → Brings (bounds (Standing a)) part x → bounds (Fresh a) part x
-    filled = (fit.later t (row_stands row).1 low).filled a row
+    filled = fit.filled t a row
 
     inside : RowOf (length old) new at (Fresh a) → bounds (Fresh a) part x
     inside row_at = filled_again (bounds (Standing a)) (bounds (Fresh a)) filled part x (brought (bounds (Fresh a)) c (member.held (Fresh a) row_at) part x has)
@@ -179,17 +179,17 @@ module _ (permitted : CallKind → Bool) (files : FileTable) (old new : Spaces) 
     by (inr owned) (inl row_m) = parent (row_parent row_m at owned.0)
     by (inr owned) (inr up) = above (joins_from_above a found.0 a_low up owned.0 (inr owned.1))
 
-  in_row : (t : ℕ) → t < length new → (t ≡ at → ⊥) → IsTrue (has_over new at c cap_sys_admin t)
+  in_row : (t : ℕ) → (t ≡ at → ⊥) → IsTrue (has_over new at c cap_sys_admin t)
       → (row : Row) → RowOf (length old) new t row → InRow (bounds row) (as_newcomer c)
-  in_row t low other power (Standing n) row_t =
+  in_row t other power (Standing n) row_t =
       let two = row_standing row_t in
       join_standing n (rw two.0 at two.1) (λ same. other (two.0 ∙ same)) (rw two.0 at power)
-  in_row t low other power (Fresh a) row_t = join_later t a low row_t power
+  in_row t other power (Fresh a) row_t = join_later t a row_t power
 
   -- Joining a space keeps a member covered.
   pub join_fits : (t : ℕ) → t < length new → (t ≡ at → ⊥) → IsTrue (has_over new at c cap_sys_admin t) → MemberFits old new bounds t (as_newcomer c)
   join_fits t low other power = record {
     here = low;
-    held = in_row t low other power;
+    held = in_row t other power;
     included = newcomer_included c;
   }

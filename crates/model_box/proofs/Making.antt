@@ -13,8 +13,8 @@ use Rattle.model_box.specs.Row.{Part, EffectiveUids, EffectiveGids, Row, Standin
 use Rattle.model_box.specs.Rule.{Create}
 use Rattle.model_box.specs.Spread.{Brings}
 use Rattle.model_box.specs.Closed.{Closed}
-use Rattle.model_box.specs.Covers.{RowOf, own, child, deeper, MapsIn, IsLater}
-use Rattle.model_box.proofs.Trees.{Earlier, space_of_newest, space_of_older, has_parent_stands, row_standing, row_stands, row_older}
+use Rattle.model_box.specs.Covers.{RowOf, own, child, deeper, MapsIn, ParentsEarlier, OwnersIn, FreshFilled}
+use Rattle.model_box.proofs.Trees.{Earlier, space_of_newest, space_of_older, has_parent_stands, row_standing, row_older}
 use Rattle.model_box.proofs.Fits.{SpacesFit, MemberFits, InRow, chain_stays, it_stands}
 use Rattle.model_box.proofs.Joins.{brought, filled_again, newcomer_included}
 
@@ -82,8 +82,8 @@ module _ (permitted : CallKind → Bool) (files : FileTable) (old new : Spaces) 
                 (and_parts (is_outside (extents_of (space_of new at).uids) c.uid.effective)
                 (is_outside (extents_of (space_of new at).gids) c.gid.effective) mapped).1,
           ),
-          brings,
         ),
+        brings,
       ) where
         low : a < length old
         low = rw (← (row_standing row).0) (row_standing row).1
@@ -94,35 +94,55 @@ module _ (permitted : CallKind → Bool) (files : FileTable) (old new : Spaces) 
   filled_made : (a : ℕ) → RowOf (length old) new at (Standing a) ⊎ RowOf (length old) new at (Fresh a)
       → (part : Part) (x : ℕ) → Brings (bounds (Standing a)) part x → bounds (Fresh a) part x
   filled_made a (inl row) = filled_from a row
-  filled_made a (inr row) = (fit.later at (row_stands row).1 member.here).filled a row
+  filled_made a (inr row) = fit.filled at a row
 
   -- the new space has its word from the maker's
   denied_made : (a : ℕ) → RowOf (length old) new at (Standing a) ⊎ RowOf (length old) new at (Fresh a)
       → (space_of old a).deny ≡ true → (space_of new at).deny ≡ true
   denied_made a (inl row) word = let two = row_standing row in (fit.stay at two.1).deny (rw two.0 word)
-  denied_made a (inr row) word = (fit.later at (row_stands row).1 member.here).deny a row word
+  denied_made a (inr row) word = fit.deny at a row word
 
-  made_later : IsLater (length old) old (created_by new at c ∷ new) (length new) bounds
-  made_later = record {
-    parent = (at, ap (λ (s : Space). s.parent) newest_is, member.here);
-    owner =
-        λ p row parent row_p.
-        rw newest_is (member.held row
-        (older_row at row member.here (rw (the_parent p parent) at row_p)) EffectiveUids c.uid.effective refl);
-    deny = λ a row word. ap (λ (s : Space). s.deny) newest_is ∙ denied_made a (made_row a row) word;
-    filled = λ a row. filled_made a (made_row a row);
-  }
+  -- a space is the new one or an older one
+  new_or_older : (n : ℕ) → n < suc (length new) → (n ≡ length new) ⊎ (n < length new)
+  new_or_older n here = elim (cases_eq n (length new)) [ inl same ↦ inl same | inr other ↦ inr (omega arith) ]
 
-  older_later : (n : ℕ) → n < length new → IsLater (length old) old new n bounds → IsLater (length old) old (created_by new at c ∷ new) n bounds
-  older_later n low later = record {
-    parent = (later.parent.0, ap (λ (s : Space). s.parent) (older_is n low) ∙ later.parent.1, later.parent.2);
-    owner = λ p row parent row_p.
-        let up : (space_of new n).parent ≡ Some p = sym (ap (λ (s : Space). s.parent) (older_is n low)) ∙ parent in
-        let p_low : p < n = fit.earlier n p up in
-        rw (older_is n low) (later.owner p row up (older_row p row (omega arith) row_p));
-    deny = λ a row word. ap (λ (s : Space). s.deny) (older_is n low) ∙ later.deny a (older_row n (Fresh a) low row) word;
-    filled = λ a row. later.filled a (older_row n (Fresh a) low row);
-  }
+  made_parents : ParentsEarlier old (created_by new at c ∷ new)
+  made_parents n late here =
+      elim (new_or_older n here) [
+        | inl same ↦ rw same (at, ap (λ (s : Space). s.parent) newest_is, member.here)
+        | inr low ↦ let up = fit.parents n late low in (up.0, ap (λ (s : Space). s.parent) (older_is n low) ∙ up.1, up.2)
+      ]
+
+  made_owners : OwnersIn old (created_by new at c ∷ new) bounds
+  made_owners n p row late parent row_p =
+      elim (new_or_older n (has_parent_stands (created_by new at c ∷ new) n p parent)) [
+        | inl same ↦
+            let up : p ≡ at = the_parent p (rw same at parent) in
+            rw (same, newest_is) (member.held row (older_row at row member.here (rw up at row_p)) EffectiveUids c.uid.effective refl)
+        | inr low ↦
+            let up : (space_of new n).parent ≡ Some p = sym (ap (λ (s : Space). s.parent) (older_is n low)) ∙ parent in
+            let p_low : p < n = fit.earlier n p up in
+            rw (older_is n low) (fit.owners n p row late up (older_row p row (omega arith) row_p))
+      ]
+
+  -- a later space with a row stands
+  fresh_here : (n a : ℕ) → RowOf (length old) (created_by new at c ∷ new) n (Fresh a) → n < suc (length new)
+  fresh_here n a row = let grown : length old ≤ length new = fit.grown in row_here (omega arith) row
+
+  made_deny : (n a : ℕ) → RowOf (length old) (created_by new at c ∷ new) n (Fresh a) → (space_of old a).deny ≡ true
+      → (space_of (created_by new at c ∷ new) n).deny ≡ true
+  made_deny n a row word =
+      elim (new_or_older n (fresh_here n a row)) [
+        | inl same ↦ rw same (ap (λ (s : Space). s.deny) newest_is ∙ denied_made a (made_row a (rw same at row)) word)
+        | inr low ↦ ap (λ (s : Space). s.deny) (older_is n low) ∙ fit.deny n a (older_row n (Fresh a) low row) word
+      ]
+
+  made_filled : FreshFilled old (created_by new at c ∷ new) bounds
+  made_filled n a row =
+      elim (new_or_older n (fresh_here n a row)) [
+        | inl same ↦ filled_made a (made_row a (rw same at row))
+        | inr low ↦ fit.filled n a (older_row n (Fresh a) low row)
+      ]
 
   no_maps : (row : Row) → MapsIn (created_by new at c) (bounds row)
   no_maps row = record { uids = λ x wrong. absurd (false≢true wrong); gids = λ x wrong. absurd (false≢true wrong) }
@@ -141,11 +161,10 @@ module _ (permitted : CallKind → Bool) (files : FileTable) (old new : Spaces) 
           | inl same ↦ rw (same, newest_is) (no_maps row)
           | inr other ↦ rw (older_is n (omega arith)) (fit.mapped n row (older_row n row (omega arith) row_n))
         ];
-    later = λ n late here.
-        elim (cases_eq n (length new)) [
-          | inl same ↦ rw same made_later
-          | inr other ↦ older_later n (omega arith) (fit.later n late (omega arith))
-        ];
+    deny = made_deny;
+    parents = made_parents;
+    owners = made_owners;
+    filled = made_filled;
   }
 
   made_in : (row : Row) → RowOf (length old) (created_by new at c ∷ new) (length new) row → InRow (bounds row) (as_newcomer c)

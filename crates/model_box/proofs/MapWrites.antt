@@ -23,7 +23,7 @@ use Rattle.model_box.specs.Row.{Part, EffectiveUids, EffectiveGids, MappedUids, 
 use Rattle.model_box.specs.Rule.{Maps}
 use Rattle.model_box.specs.Closed.{Closed}
 use Rattle.model_box.specs.Covers.{RowOf, own, child, deeper, Stays, MapsIn}
-use Rattle.model_box.proofs.Trees.{Earlier, has_parent_stands, at_or_above_low, power_cases, row_standing}
+use Rattle.model_box.proofs.Trees.{Earlier, at_or_above_low, power_cases, row_standing}
 use Rattle.model_box.proofs.Fits.{SpacesFit, MemberFits, InRow, it_stands}
 use Rattle.model_box.proofs.Writing.{choose, put_fits, put_members}
 
@@ -229,11 +229,8 @@ module _ (permitted : CallKind → Bool) (files : FileTable) (old new : Spaces) 
   fresh_members : (q a : ℕ) → length old ≤ t → (space_of new t).parent ≡ Some q → RowOf (length old) new t (Fresh a)
       → RowOf (length old) new q (Standing a) ⊎ RowOf (length old) new q (Fresh a) → HasMembers (bounds (Fresh a))
   fresh_members q a late parent row (inl row_q) =
-      let later = fit.later t late (has_parent_stands new t q parent) in
-      ((space_of new t).owner, later.filled a row EffectiveUids (space_of new t).owner (later.owner q (Standing a) parent row_q))
-  fresh_members q a late parent row (inr row_q) =
-      let later = fit.later t late (has_parent_stands new t q parent) in
-      ((space_of new t).owner, later.owner q (Fresh a) parent row_q)
+      ((space_of new t).owner, fit.filled t a row EffectiveUids (space_of new t).owner (fit.owners t q (Standing a) late parent row_q))
+  fresh_members q a late parent row (inr row_q) = ((space_of new t).owner, fit.owners t q (Fresh a) late parent row_q)
 
   -- what the writer has is in the row of the space that it sits in
   held_at : (n : ℕ) (row : Row) → at ≡ n → RowOf (length old) new n row → InRow (bounds row) c
@@ -312,8 +309,7 @@ module _ (permitted : CallKind → Bool) (files : FileTable) (old new : Spaces) 
     uid_child : IsTrue (permitted kind.WriteUidMap) → (a : ℕ) → length old ≤ t → (space_of new t).parent ≡ Some q → RowOf (length old) new q (Standing a)
         → Cause UidMap new at c t q x → bounds (Fresh a) MappedUids x
     uid_child allowed a late parent is_q cause_ =
-        let owner_in : bounds (Standing a) EffectiveUids (space_of new t).owner
-        = (fit.later t late (has_parent_stands new t q parent)).owner q (Standing a) parent is_q in
+        let owner_in : bounds (Standing a) EffectiveUids (space_of new t).owner = fit.owners t q (Standing a) late parent is_q in
         closed Maps (Fresh a) (it_stands old new bounds fit a (rw (← (row_standing is_q).0) (row_standing is_q).1)) MappedUids x (
           allowed,
           fresh_members q a late parent (child t q a late parent is_q) (inl is_q),

@@ -1,19 +1,25 @@
--- To larger bounds each rule adds at least as much.
+-- To larger bounds each rule adds at least as much, and they meet at least as much; where more calls are permitted each
+-- rule adds at least as much.
 use Rattle.std.proofs.Common.{ℕ, Bool, Option, None, Some, inl, inr, arith}
 use Rattle.std.specs.Prelude.{List}
+use Rattle.std.specs.Prelude.{IsTrue, ◌||◌, true, false, refl}
+use Rattle.std.proofs.lemmas.Bool.{or_left, or_right}
 use Rattle.cm_filter.specs.declared.kind.CallKind.{CallKind}
+use Rattle.cm_filter.specs.declared.kind.CallKind.TheVariants as kind
 use Rattle.model_cred.specs.Files.{FileTable}
 use Rattle.model_cred.specs.IdMap.{Extent}
+use Rattle.model_cred.specs.Right.{Right, Cap, Uid, Gid}
 use Rattle.model_cred.specs.Space.{Spaces, space_of}
 use Rattle.model_rules.specs.FileView.{FileView, view}
-use Rattle.model_box.specs.Row.{Part, EffectiveUids, EffectiveGids, MappedUids, MappedGids, PermittedCaps, NewPrivs}
+use Rattle.model_box.specs.Row.{Part, EffectiveUids, EffectiveGids, Groups, MappedUids, MappedGids, PermittedCaps, NewPrivs}
 use Rattle.model_box.specs.Row.{Row, Standing, Fresh, space_under, IsWithin, HasMembers}
 use Rattle.model_box.specs.Rule.{Rule, SetUid, SetFsUid, SetGid, SetFsGid, SetGroups, CapSet, SecureBits, ExecUid}
 use Rattle.model_box.specs.Rule.{ExecGid, ExecCaps, ExecRoot, Create, Join, Maps}
 use Rattle.model_box.specs.Gains.{SettableUid, SettableGid, SpreadsUid, SpreadsGid, GainsFsUid, GainsFsGid, GainsGroups, GainsInheritable, GainsRoot}
 use Rattle.model_box.specs.Files.{IdIn, HasOther, CanRun, SetIdCan, TakesCan, MayBeZero, ZeroIn, ZeroAbove, RootCan, FileGives}
-use Rattle.model_box.specs.Spread.{Brings, CanJoin, NewUid, NewGid, FreshUid, FreshGid}
-use Rattle.model_box.specs.Closed.{Adds, OwnerByFile, GroupByFile, CapByFile, CapByRoot, OnlyCaps, ByMaking, ByJoining, ByMaps}
+use Rattle.model_box.specs.Spread.{Brings, CanMake, CanJoin, NewUid, NewGid, FreshUid, FreshGid}
+use Rattle.model_box.specs.Closed.{Adds, OwnerByFile, GroupByFile, CapByFile, CapByRoot, OnlyCaps, ByJoining, ByMaps, Closed}
+use Rattle.model_box.specs.Meets.{Meets, MeetsAt}
 
 in_more : (id : Option ℕ) (One Other : ℕ → Type 0) → ((x : ℕ) → One x → Other x) → IdIn id One → IdIn id Other
 in_more None One Other more held = held
@@ -109,12 +115,11 @@ module _ (bounds wider : Row → Part → ℕ → Type 0) (within : IsWithin bou
   cap_by_root_more : (spaces : Spaces) (row : Row) (x : ℕ) → CapByRoot spaces bounds row x → CapByRoot spaces wider row x
   cap_by_root_more spaces row x held = grind (arith, within, zero_in_more)
 
-  making_more : (spaces : Spaces) (n : ℕ) (part : Part) (x : ℕ) → ByMaking spaces bounds n part x → ByMaking spaces wider n part x
-  making_more spaces n part x (level, (u, eu, mu), (g, eg, mg), brings) = (
+  can_make_more : (spaces : Spaces) (n : ℕ) → CanMake spaces bounds n → CanMake spaces wider n
+  can_make_more spaces n (level, (u, eu, mu), (g, eg, mg)) = (
     level,
     (u, within (Standing n) EffectiveUids u eu, within (Standing n) MappedUids u mu),
     (g, within (Standing n) EffectiveGids g eg, within (Standing n) MappedGids g mg),
-    brings_more (bounds (Standing n)) (wider (Standing n)) (within (Standing n)) part x brings,
   )
 
   members_more : (row : Row) → HasMembers (bounds row) → HasMembers (wider row)
@@ -192,7 +197,8 @@ module _ (bounds wider : Row → Part → ℕ → Type 0) (within : IsWithin bou
   adds_more_here permitted files spaces ExecRoot row part x (p, m, added) =
       (p, members_more row m, only_caps_more (CapByRoot spaces bounds row) (CapByRoot spaces wider row) (cap_by_root_more spaces row) part x added)
   adds_more_here permitted files spaces Create (Standing n) part x added = added
-  adds_more_here permitted files spaces Create (Fresh n) part x (p, added) = (p, making_more spaces n part x added)
+  adds_more_here permitted files spaces Create (Fresh n) part x (p, makes, brings) =
+      (p, can_make_more spaces n makes, brings_more (bounds (Standing n)) (wider (Standing n)) (within (Standing n)) part x brings)
   adds_more_here permitted files spaces Join (Standing n) part x (p, added) = (p, joining_more spaces n part x added)
   adds_more_here permitted files spaces Join (Fresh n) part x added = added
   adds_more_here permitted files spaces Maps row part x added = maps_more permitted spaces row part x added
@@ -203,3 +209,71 @@ pub adds_more : (permitted : CallKind → Bool) (files : FileTable) (spaces : Sp
     → Adds permitted files spaces bounds rule row part x → Adds permitted files spaces wider rule row part x
 adds_more permitted files spaces bounds wider within rule row part x added =
     adds_more_here bounds wider within permitted files spaces rule row part x added
+
+-- ---- what they meet
+meets_at_more : (spaces : Spaces) (bounds wider : Row → Part → ℕ → Type 0) → IsWithin bounds wider → (right : Right) (row : Row)
+    → MeetsAt spaces bounds right row → MeetsAt spaces wider right row
+meets_at_more spaces bounds wider within (Cap cap n) (Standing a) (inl (above, members, held)) =
+    inl (above, members_more bounds wider within (Standing a) members, within (Standing a) PermittedCaps cap held)
+meets_at_more spaces bounds wider within (Cap cap n) (Standing a) (inr (m, next, owner)) = inr (m, next, within (Standing a) EffectiveUids _ owner)
+meets_at_more spaces bounds wider within (Cap cap n) (Fresh a) wrong = wrong
+meets_at_more spaces bounds wider within (Uid id) row held = within row EffectiveUids id held
+meets_at_more spaces bounds wider within (Gid id) row (inl held) = inl (within row EffectiveGids id held)
+meets_at_more spaces bounds wider within (Gid id) row (inr held) = inr (within row Groups id held)
+
+-- Larger bounds meet at least as much.
+pub meets_more : (spaces : Spaces) (bounds wider : Row → Part → ℕ → Type 0) → IsWithin bounds wider → (right : Right)
+    → Meets spaces bounds right → Meets spaces wider right
+meets_more spaces bounds wider within right (row, standing, held) = (row, standing, meets_at_more spaces bounds wider within right row held)
+
+-- ---- what is permitted
+three_more : (a b d a' b' d' : Bool) → (IsTrue a → IsTrue a') → (IsTrue b → IsTrue b') → (IsTrue d → IsTrue d')
+    → IsTrue (a || b || d) → IsTrue (a' || b' || d')
+three_more true b d a' b' d' first second third held = or_left (a' || b') d' (or_left a' b' (first refl))
+three_more false true d a' b' d' first second third held = or_left (a' || b') d' (or_right a' b' (second refl))
+three_more false false d a' b' d' first second third held = or_right (a' || b') d' (third held)
+
+two_more : (a b a' b' : Bool) → (IsTrue a → IsTrue a') → (IsTrue b → IsTrue b') → IsTrue (a || b) → IsTrue (a' || b')
+two_more true b a' b' first second held = or_left a' b' (first refl)
+two_more false b a' b' first second held = or_right a' b' (second held)
+
+module _ (permitted wider : CallKind → Bool) (more : (k : CallKind) → IsTrue (permitted k) → IsTrue (wider k))
+    (files : FileTable) (spaces : Spaces) (bounds : Row → Part → ℕ → Type 0) where
+  -- one of the calls on which a rule rests
+  one_of_two : (a b : CallKind) → IsTrue (permitted a || permitted b) → IsTrue (wider a || wider b)
+  one_of_two a b held = two_more (permitted a) (permitted b) (wider a) (wider b) (more a) (more b) held
+
+  one_of_three : (a b d : CallKind) → IsTrue (permitted a || permitted b || permitted d) → IsTrue (wider a || wider b || wider d)
+  one_of_three a b d held = three_more (permitted a) (permitted b) (permitted d) (wider a) (wider b) (wider d) (more a) (more b) (more d) held
+
+  maps_permit_more : (row : Row) (part : Part) (x : ℕ) → ByMaps permitted spaces bounds row part x → ByMaps wider spaces bounds row part x
+  maps_permit_more (Standing n) MappedUids x (p, one, added) = (more kind.WriteUidMap p, one, added)
+  maps_permit_more (Standing n) MappedGids x (p, one, added) = (more kind.WriteGidMap p, one, added)
+  maps_permit_more (Fresh n) MappedUids x (p, one, added) = (more kind.WriteUidMap p, one, added)
+  maps_permit_more (Fresh n) MappedGids x (p, one, added) = (more kind.WriteGidMap p, one, added)
+  maps_permit_more (Standing n) _ x added = added
+  maps_permit_more (Fresh n) _ x added = added
+
+  -- Where more calls are permitted each rule adds at least as much.
+  pub permits_more : (rule : Rule) (row : Row) (part : Part) (x : ℕ)
+      → Adds permitted files spaces bounds rule row part x → Adds wider files spaces bounds rule row part x
+  permits_more SetUid row part x (p, m, added) = (one_of_three kind.SetUid kind.SetReUid kind.SetResUid p, m, added)
+  permits_more SetFsUid row part x (p, m, added) = (more kind.SetFsUid p, m, added)
+  permits_more SetGid row part x (p, m, added) = (one_of_three kind.SetGid kind.SetReGid kind.SetResGid p, m, added)
+  permits_more SetFsGid row part x (p, m, added) = (more kind.SetFsGid p, m, added)
+  permits_more SetGroups row part x (p, m, word, added) = (more kind.SetGroups p, m, word, added)
+  permits_more CapSet row part x (p, m, added) = (more kind.CapSet p, m, added)
+  permits_more SecureBits row part x (p, m, added) = (more kind.SecureBits p, m, added)
+  permits_more ExecUid row part x (p, m, added) = (more kind.Exec p, m, added)
+  permits_more ExecGid row part x (p, m, added) = (more kind.Exec p, m, added)
+  permits_more ExecCaps row part x (p, m, added) = (more kind.Exec p, m, added)
+  permits_more ExecRoot row part x (p, m, added) = (more kind.Exec p, m, added)
+  permits_more Create (Standing n) part x added = added
+  permits_more Create (Fresh n) part x (p, makes, brings) = (one_of_two kind.Unshare kind.CloneUser p, makes, brings)
+  permits_more Join (Standing n) part x (p, added) = (more kind.SetNs p, added)
+  permits_more Join (Fresh n) part x added = added
+  permits_more Maps row part x added = maps_permit_more row part x added
+
+  -- So bounds that are closed under a filter are closed under each that excludes more.
+  pub closed_for_fewer : Closed wider files spaces bounds → Closed permitted files spaces bounds
+  closed_for_fewer closed rule row standing part x added = closed rule row standing part x (permits_more rule row part x added)

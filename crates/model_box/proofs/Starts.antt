@@ -1,61 +1,71 @@
 -- The start bounds, the rows by number, and what the rules read.
 use Rattle.std.proofs.Common.{◌≡◌, ℕ, zero, suc, ◌+◌, ◌*◌, ◌/◌, ◌%◌, ◌<◌, Bool, false, ◌||◌, Some, List, length, refl, sym, ◌∙◌, inl, inr, arith}
 use Rattle.std.specs.Prelude.{IsTrue}
-use Rattle.std.proofs.lemmas.Bool.{false≢true, ltb-true}
+use Rattle.std.proofs.lemmas.Bool.{false≢true, ltb-true, lt-ltb}
 use Rattle.cm_filter.specs.declared.kind.CallKind.{CallKind}
 use Rattle.cm_filter.specs.declared.kind.CallKind.TheVariants as kind
 use Rattle.model_cred.specs.Files.{FileTable}
-use Rattle.model_cred.specs.Process.{Process, State, KeepsState, process_at}
+use Rattle.model_cred.specs.Process.{Process, State, process_at}
 use Rattle.model_cred.specs.Space.{Spaces, space_of, stands}
 use Rattle.model_run.specs.Later.{is_member}
-use Rattle.model_box.specs.Row.{Part, MappedUids, MappedGids, Row, Standing, Fresh, space_under, row_number, row_at, IsWithin, CredHas}
+use Rattle.model_box.specs.Row.{Part, MappedUids, MappedGids, Row, Standing, Fresh, row_number, row_at, IsWithin, CredHas}
 use Rattle.model_box.specs.Rule.{Rule, SetUid, SetFsUid, SetGid, SetFsGid, SetGroups, CapSet, SecureBits, ExecUid}
 use Rattle.model_box.specs.Rule.{ExecGid, ExecCaps, ExecRoot, Create, Join, Maps}
 use Rattle.model_box.specs.Closed.{Adds, ByMaps}
-use Rattle.model_box.specs.Covers.{RowOf, Covers, MapsIn, child, deeper}
+use Rattle.model_box.specs.Covers.{RowOf, Covers, StateFits, MapsIn, child, deeper}
 use Rattle.model_box.specs.Covers as rows
-use Rattle.model_box.specs.Start.{StartHas, SpaceMaps}
+use Rattle.model_box.specs.Start.{HoldsStart, SpaceMaps}
 use Rattle.model_box.specs.Laws.{RestsOn}
-use Rattle.model_box.proofs.Trees.{has_parent_stands}
+use Rattle.model_box.proofs.Trees.{has_parent_stands, row_standing}
 use Rattle.model_box.proofs.Excludes.{all_named}
 use Rattle.model_box.proofs.Monotone.{adds_more}
 
 -- ---- the start bounds
 module _ (s : State) (members : List ℕ) (bounds : Row → Part → ℕ → Type 0) where
+  -- At the query there is no later space.
+  none_later : (n a : ℕ) → RowOf (length s.spaces) s.spaces n (Fresh a) → ⊥
+  none_later n a (child _ p _ late parent up) = let here : n < length s.spaces = has_parent_stands s.spaces n p parent in omega arith
+  none_later n a (deeper _ p _ late parent up) = let here : n < length s.spaces = has_parent_stands s.spaces n p parent in omega arith
+
   -- Bounds that hold the start bounds cover the members at the query.
-  pub covers_start : KeepsState s → IsWithin (StartHas s members) bounds → Covers s s members bounds
-  covers_start keeps within = record {
-    creds =
+  pub covers_start : StateFits s → HoldsStart s members bounds → Covers s s members bounds
+  covers_start fits within = record {
+    members_in =
         λ pid p row member at is part x has.
-        creds pid p row member at is
-        (all_named (λ (q : Process). q.space < length s.spaces) s.processes keeps.stands pid p at) part x has;
-    grown = omega arith;
-    stay = λ n low. record { parent = refl; owner = refl; uids = λ map written. written; gids = λ map written. written; deny = λ word. word };
-    mapped = λ n row is. mapped is;
-    later = λ n late low. absurd (omega arith);
+        members_in pid p row member at is
+        (all_named (λ (q : Process). q.space < length s.spaces) s.processes fits.stands pid p at) part x has;
+    spaces_stay = record {
+      grown = omega arith;
+      stay = λ n low. record { parent = refl; owner = refl; uids = λ map written. written; gids = λ map written. written; deny = λ word. word };
+      deny = λ n a row. absurd (none_later n a row);
+    };
+    maps_in = λ n row is. maps_in n row is;
+    parents = λ n late low. absurd (omega arith);
+    owners = λ n p row late parent row_p. absurd (let here : n < length s.spaces = has_parent_stands s.spaces n p parent in omega arith);
+    filled = λ n a row. absurd (none_later n a row);
   } where
-    creds : (pid : ℕ) (p : Process) (row : Row) → IsTrue (is_member members pid) → process_at s.processes pid ≡ Some p
+    members_in : (pid : ℕ) (p : Process) (row : Row) → IsTrue (is_member members pid) → process_at s.processes pid ≡ Some p
         → RowOf (length s.spaces) s.spaces p.space row
         → p.space < length s.spaces → (part : Part) (x : ℕ) → CredHas p.cred part x → bounds row part x
-    creds pid p row member at is here part x has = by is refl where
-      by : {n : ℕ} {row : Row} → RowOf (length s.spaces) s.spaces n row → p.space ≡ n → bounds row part x
-      by (rows.own n low) same = within (Standing n) part x (inl (pid, p, member, at, same, has))
-      by (child n q a late parent up) same = absurd (omega arith)
-      by (deeper n q a late parent up) same = absurd (omega arith)
+    members_in pid p (Standing n) member at is here part x has =
+        let two = row_standing is in
+        within (Standing n) (lt-ltb n (length s.spaces) (rw two.0 at two.1)) part x (inl (pid, p, member, at, two.0, has))
+    members_in pid p (Fresh a) member at is here part x has = absurd (none_later p.space a is)
 
-    mapped : {n : ℕ} {row : Row} → RowOf (length s.spaces) s.spaces n row → MapsIn (space_of s.spaces n) (bounds row)
-    mapped (rows.own n low) = record { uids = λ x out. within (Standing n) MappedUids x (inr out); gids = λ x out. within (Standing n) MappedGids x (inr out) }
-    mapped (child n q a late parent up) = absurd (let here : n < length s.spaces = has_parent_stands s.spaces n q parent in omega arith)
-    mapped (deeper n q a late parent up) = absurd (let here : n < length s.spaces = has_parent_stands s.spaces n q parent in omega arith)
+    maps_in : (n : ℕ) (row : Row) → RowOf (length s.spaces) s.spaces n row → MapsIn (space_of s.spaces n) (bounds row)
+    maps_in n (Standing a) is =
+        let two = row_standing is in
+        let low : IsTrue (stands s.spaces a) = lt-ltb a (length s.spaces) (rw two.0 at two.1) in
+        rw two.0 (record { uids = λ x out. within (Standing a) low MappedUids x (inr out); gids = λ x out. within (Standing a) low MappedGids x (inr out) })
+    maps_in n (Fresh a) is = absurd (none_later n a is)
 
   -- And the other way: they hold the start bounds.
-  pub holds_start : Covers s s members bounds → (row : Row) → IsTrue (stands s.spaces (space_under row))
-      → (part : Part) (x : ℕ) → StartHas s members row part x → bounds row part x
+  pub holds_start : Covers s s members bounds → HoldsStart s members bounds
   holds_start covers (Standing n) standing part x (inl (pid, p, member, at, same, has)) =
-      covers.creds pid p (Standing n) member at (rw same (rows.own n (ltb-true n (length s.spaces) standing))) part x has
+      covers.members_in pid p (Standing n) member at (rw same (rows.own n (ltb-true n (length s.spaces) standing))) part x has
   holds_start covers (Standing n) standing part x (inr maps) = by part maps where
     inside : MapsIn (space_of s.spaces n) (bounds (Standing n))
-    inside = covers.mapped n (Standing n) (rows.own n (ltb-true n (length s.spaces) standing))
+    inside = covers.maps_in n (Standing n) (rows.own n (ltb-true n (length s.spaces) standing))
 
     by : (part : Part) → SpaceMaps (space_of s.spaces n) part x → bounds (Standing n) part x
     by MappedUids out = inside.uids x out

@@ -1,27 +1,42 @@
 -- The laws as the contracts of `laws` state them, over bounds that tests give.
-use Rattle.model_box.specs.Laws.{tested, Soundness, Exclusion, CoversAtStart, Monotone, StandingApart}
-use Rattle.model_box.specs.Laws.{ExcludedRulesAddNothing, FilesOfWorldsFit, RowsByNumber, common, ClosedInCommon}
+use Rattle.std.proofs.Common.{refl}
+use Rattle.model_box.specs.Laws.{tested, Soundness, Exclusion, CoversAtStart, Monotone, MeetsMore, PermitsMore, ClosedForFewer}
+use Rattle.model_box.specs.Laws.{common, ClosedInCommon, StandingApart, ExcludedRulesAddNothing, KeptStatesFit, KeptFilesFit}
+use Rattle.model_box.specs.Laws.{FilesOfWorldsFit, RowsByNumber, RulesByNumber}
 use Rattle.std.proofs.lemmas.Bool.{and_parts, and_from}
 use Rattle.model_box.specs.Row.{row_number}
+use Rattle.model_box.specs.Rule.{SetUid, SetFsUid, SetGid, SetFsGid, SetGroups, CapSet, SecureBits, ExecUid, ExecGid}
+use Rattle.model_box.specs.Rule.{ExecCaps, ExecRoot, Create, Join, Maps}
 use Rattle.model_box.proofs.Excludes as ends
+use Rattle.model_box.proofs.Monotone as more
 use Rattle.model_box.proofs.Monotone.{adds_more}
 use Rattle.model_box.proofs.Starts as starts
-use Rattle.model_box.proofs.Worlds.{run_fits}
+use Rattle.model_box.proofs.Worlds.{files_fit, run_fits, state_fits}
 
 pub soundness : Soundness
-soundness permitted w s members bounds keeps files covers closed events later members_then run =
-    ends.soundness permitted w s members (tested bounds) keeps files covers closed events later members_then run
+soundness permitted w s members bounds fits files covers closed events later members_then run =
+    ends.soundness permitted w s members (tested bounds) fits files covers closed events later members_then run
 
 pub exclusion : Exclusion
-exclusion permitted w s members bounds right keeps files standing covers closed apart events later members_then run pid member =
-    ends.exclusion permitted w s members (tested bounds) keeps files covers closed right standing apart events later members_then run pid member
+exclusion permitted w s members bounds right fits files standing covers closed apart events later members_then run pid member =
+    ends.exclusion permitted w s members (tested bounds) fits files covers closed right standing apart events later members_then run pid member
 
 pub covers_at_start : CoversAtStart
-covers_at_start s members bounds keeps = (starts.covers_start s members (tested bounds) keeps, starts.holds_start s members (tested bounds))
+covers_at_start s members bounds fits = (starts.covers_start s members (tested bounds) fits, starts.holds_start s members (tested bounds))
 
 pub monotone : Monotone
 monotone permitted files spaces bounds wider within rule row part x added =
     adds_more permitted files spaces (tested bounds) (tested wider) within rule row part x added
+
+pub meets_more : MeetsMore
+meets_more spaces bounds wider within right met = more.meets_more spaces (tested bounds) (tested wider) within right met
+
+pub permits_more : PermitsMore
+permits_more permitted wider within files spaces bounds rule row part x added =
+    more.permits_more permitted wider within files spaces (tested bounds) rule row part x added
+
+pub closed_for_fewer : ClosedForFewer
+closed_for_fewer permitted wider within files spaces bounds closed = more.closed_for_fewer permitted wider within files spaces (tested bounds) closed
 
 pub standing_apart : StandingApart
 standing_apart permitted files spaces bounds other within rule n part x added =
@@ -33,6 +48,28 @@ excluded_rules_add_nothing permitted files spaces bounds rule none row part x ad
 
 pub rows_by_number : RowsByNumber
 rows_by_number = record { row = starts.row_back; number = starts.number_back }
+
+pub rules_by_number : RulesByNumber
+rules_by_number SetUid = refl
+rules_by_number SetFsUid = refl
+rules_by_number SetGid = refl
+rules_by_number SetFsGid = refl
+rules_by_number SetGroups = refl
+rules_by_number CapSet = refl
+rules_by_number SecureBits = refl
+rules_by_number ExecUid = refl
+rules_by_number ExecGid = refl
+rules_by_number ExecCaps = refl
+rules_by_number ExecRoot = refl
+rules_by_number Create = refl
+rules_by_number Join = refl
+rules_by_number Maps = refl
+
+pub kept_states_fit : KeptStatesFit
+kept_states_fit s keeps = state_fits s keeps
+
+pub kept_files_fit : KeptFilesFit
+kept_files_fit files spaces keeps standing = files_fit files spaces keeps standing
 
 pub files_of_worlds_fit : FilesOfWorldsFit
 files_of_worlds_fit w keeps events later run = run_fits w keeps events later run

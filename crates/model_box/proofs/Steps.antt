@@ -49,7 +49,7 @@ row_for old new bounds fit (suc fuel) n low here =
     elim (cases_lt n (length old)) [
       | inl standing ↦ record { row = Standing n; is = rows.own n standing; stands = standing }
       | inr late ↦
-          let above = (fit.later n late here).parent in
+          let above = fit.parents n late here in
           let p_low : above.0 < n = above.2 in
           below late above.0 above.1 (row_for old new bounds fit fuel above.0 (omega arith) (omega arith))
     ] where
@@ -112,7 +112,7 @@ module _ (permitted : CallKind → Bool) (files : FileTable) (old new : Spaces) 
   -- the setgroups word of the query
   word_stays : (row : Row) → RowOf (length old) new at row → (space_of old (space_under row)).deny ≡ true → (space_of new at).deny ≡ true
   word_stays (Standing n) is word = let two = row_standing is in (fit.stay at two.1).deny (rw two.0 word)
-  word_stays (Fresh a) is word = (fit.later at (row_stands is).1 member.here).deny a is word
+  word_stays (Fresh a) is word = fit.deny at a is word
 
   -- unshare(2)
   unshare_call : IsTrue (permitted kind.Unshare || permitted kind.CloneUser)

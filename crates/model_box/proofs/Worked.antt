@@ -1,26 +1,27 @@
 -- The worked case: its bounds are closed, cover it, and meet neither right.
-use Rattle.std.proofs.Common.{◌≡◌, ℕ, zero, suc, ◌+◌, ◌<◌, ◌≤◌, Bool, true, false, ◌||◌, Some, None, [], ◌∷◌, refl, sym}
-use Rattle.std.proofs.Common.{ap, ◌∙◌, inl, inr, arith, eqb, ltb, leb, lit<, lit≤}
+use Rattle.std.proofs.Common.{◌≡◌, ℕ, zero, suc, ◌<◌, Bool, true, false, ◌||◌, Some, None, [], ◌∷◌, refl, sym}
+use Rattle.std.proofs.Common.{ap, ◌∙◌, inl, inr, arith, eqb, ltb, leb, lit<}
 use Rattle.std.specs.Prelude.{◌⊎◌, IsTrue, All, is_none, if◌then◌else◌}
 use Rattle.std.proofs.lemmas.Bool.{false≢true, or_cases, and_parts, eqb-true, ltb-true, cases_eq}
 use Rattle.cm_base.proofs.CapSets.{holds_none}
 use Rattle.cm_base.specs.Limits.{id_count}
-use Rattle.model_cred.specs.Credential.{Keeps, all_four, is_one_of_three}
+use Rattle.model_cred.specs.Credential.{Included, all_four, is_one_of_three}
 use Rattle.model_cred.specs.Files.{FileTable}
-use Rattle.model_cred.specs.IdMap.{Extent, extents_of, is_outside, lies_in}
-use Rattle.model_cred.specs.Process.{Process, KeepsState, process_at}
+use Rattle.model_cred.specs.IdMap.{extents_of, is_outside, lies_in}
+use Rattle.model_cred.specs.Process.{Process, process_at}
 use Rattle.model_cred.specs.Right.{Right, Cap, Uid}
-use Rattle.model_cred.specs.Space.{Space, KeepsSpace, initial_space, first_spaces, space_of, stands}
+use Rattle.model_cred.specs.Space.{initial_space, first_spaces, space_of, stands}
 use Rattle.model_run.specs.Holds.{process_holds}
 use Rattle.model_box.specs.Row.{Part, Uids, EffectiveUids, FsUids, Gids, EffectiveGids, FsGids, Groups, MappedUids}
 use Rattle.model_box.specs.Row.{MappedGids, PermittedCaps, InheritableCaps, BoundingCaps, NewPrivs, RootCounts}
-use Rattle.model_box.specs.Row.{LockClear, Row, Standing, Fresh, space_under, IsWithin, CredHas}
+use Rattle.model_box.specs.Row.{LockClear, Row, Standing, Fresh, space_under, CredHas}
 use Rattle.model_box.specs.Rule.{SetUid, SetFsUid, SetGid, SetFsGid, SetGroups, CapSet, SecureBits, ExecUid, ExecGid, ExecCaps, ExecRoot, Create, Join, Maps}
 use Rattle.model_box.specs.Gains.{SettableUid, SettableGid, SpreadsUid, SpreadsGid, GainsFsUid, GainsFsGid, GainsGroups, GainsInheritable, GainsRoot}
 use Rattle.model_box.specs.Spread.{Brings, IsNext}
 use Rattle.model_box.specs.Closed.{Closed, OwnerByFile, GroupByFile, CapByFile, CapByRoot, OnlyCaps, ByMaps}
 use Rattle.model_box.specs.Meets.{Meets, IsOverStanding}
-use Rattle.model_box.specs.Start.{StartHas, SpaceMaps}
+use Rattle.model_box.specs.Covers.{StateFits}
+use Rattle.model_box.specs.Start.{HoldsStart, SpaceMaps}
 use Rattle.model_box.specs.Example.{plain_cred, plain_process, plain_state, all_permitted, plain_bounds, PlainStaysPlain}
 use Rattle.model_box.proofs.Excludes.{exclusion}
 use Rattle.model_box.proofs.Starts.{covers_start}
@@ -137,7 +138,7 @@ module _ (files : FileTable) where
   plain_closed ExecRoot (Fresh n) here part x (allowed, members, added) =
       caps_in (Fresh n) (CapByRoot first_spaces plain_bounds (Fresh n)) (λ y held. held.1) part x added
   plain_closed Create (Standing n) here part x added = absurd added
-  plain_closed Create (Fresh n) here part x (allowed, (level, uids, gids, brings)) = brings_in n n part x brings
+  plain_closed Create (Fresh n) here part x (allowed, makes, brings) = brings_in n n part x brings
   plain_closed Join (Standing n) here part x (allowed, (a, joins, brings)) = absurd (nothing_above a joins.0 (rw (only_one n here) at joins.1))
   plain_closed Join (Fresh n) here part x added = absurd added
   plain_closed Maps row here part x added = maps_in row here part x added
@@ -191,52 +192,27 @@ maps_of n MappedGids x out =
     ]
 maps_of n _ x out = absurd out
 
-start_within : IsWithin (StartHas plain_state (100 ∷ [])) plain_bounds
-start_within (Standing n) part x (inl (pid, p, member, at, space, has)) =
+start_within : HoldsStart plain_state (100 ∷ []) plain_bounds
+start_within (Standing n) here part x (inl (pid, p, member, at, space, has)) =
     member_in n part x (rw (ap (λ (q : Process). q.cred) (sym (is_it pid p at))) at has) where
       is_it : (pid : ℕ) (p : Process) → process_at (plain_process ∷ []) pid ≡ Some p → plain_process ≡ p
       is_it pid p at = go (eqb 100 pid) at where
         go : (b : Bool) → (if b then Some plain_process else None) ≡ Some p → plain_process ≡ p
         go true same = cc
         go false same = absurd (cc)
-start_within (Standing n) part x (inr maps) = maps_of n part x maps
-start_within (Fresh n) part x wrong = absurd wrong
+start_within (Standing n) here part x (inr maps) = maps_of n part x maps
+start_within (Fresh n) here part x wrong = absurd wrong
 
 -- ---- what the state keeps
 one_process : (P : Process → Type 0) → P plain_process → All P (plain_process ∷ [])
 one_process P held zero d low = held
 one_process P held (suc k) d low = absurd (omega arith)
 
-one_space : (P : Space → Type 0) → P initial_space → All P first_spaces
-one_space P held zero d low = held
-one_space P held (suc k) d low = absurd (omega arith)
-
-one_extent : (P : Extent → Type 0) → P (record { inside = 0; outside = 0; length = id_count })
-    → All P (record { inside = 0; outside = 0; length = id_count } ∷ [])
-one_extent P held zero d low = held
-one_extent P held (suc k) d low = absurd (omega arith)
-
-plain_keeps : KeepsState plain_state
-plain_keeps = record {
-  ascends = tt;
-  stands = one_process (λ p. p.space < 1) (lit< tt);
-  credentials = one_process (λ p. Keeps p.cred) (record {
-    included = record { effective = refl; ambient_permitted = refl; ambient_inheritable = refl };
-    uid = record { real = lit< tt; effective = lit< tt; saved = lit< tt; fs = lit< tt };
-    gid = record { real = lit< tt; effective = lit< tt; saved = lit< tt; fs = lit< tt };
-    groups = tt;
-    inheritable = lit< tt;
-    permitted = lit< tt;
-    bounding = lit< tt;
-    securebits = lit< tt;
-  });
+plain_fits : StateFits plain_state
+plain_fits = record {
   tree = refl;
-  spaces =
-      one_space KeepsSpace (record {
-        owner = lit< tt;
-        uids = one_extent (λ e. e.outside + e.length ≤ id_count) (lit≤ tt);
-        gids = one_extent (λ e. e.outside + e.length ≤ id_count) (lit≤ tt);
-      });
+  stands = one_process (λ p. p.space < 1) (lit< tt);
+  included = one_process (λ p. Included p.cred) (record { effective = refl; ambient_permitted = refl; ambient_inheritable = refl });
 }
 
 -- ---- the case
@@ -245,8 +221,8 @@ plain_stays_plain w files events later members run pid member =
     (λ id other. never (Uid id) tt (no_uid id other), λ capability. never (Cap capability 0) refl (no_cap capability)) where
       never : (right : Right) → IsOverStanding first_spaces right → (Meets first_spaces plain_bounds right → ⊥) → process_holds later pid right ≡ false
       never right standing apart =
-          exclusion all_permitted w plain_state (100 ∷ []) plain_bounds plain_keeps files
-          (covers_start plain_state (100 ∷ []) plain_bounds plain_keeps start_within) (plain_closed w.files)
+          exclusion all_permitted w plain_state (100 ∷ []) plain_bounds plain_fits files
+          (covers_start plain_state (100 ∷ []) plain_bounds plain_fits start_within) (plain_closed w.files)
           right standing apart events later members run pid member
 
       no_uid : (id : ℕ) → (id ≡ 1000 → ⊥) → Meets first_spaces plain_bounds (Uid id) → ⊥
@@ -254,5 +230,6 @@ plain_stays_plain w files events later members run pid member =
       no_uid id other (Fresh n, here, same) = other same
 
       no_cap : (capability : ℕ) → Meets first_spaces plain_bounds (Cap capability 0) → ⊥
-      no_cap capability (inl (a, above, members', held)) = held
-      no_cap capability (inr (a, m, next, owner)) = nothing_above a m next
+      no_cap capability (Standing a, here, inl (above, members', held)) = held
+      no_cap capability (Standing a, here, inr (m, next, owner)) = nothing_above a m next
+      no_cap capability (Fresh a, here, wrong) = wrong

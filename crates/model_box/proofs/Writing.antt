@@ -7,7 +7,7 @@ use Rattle.model_cred.specs.Credential.{Credential}
 use Rattle.model_cred.specs.IdMap.{Extent}
 use Rattle.model_cred.specs.Space.{Space, Spaces, space_of, put_space}
 use Rattle.model_box.specs.Row.{Part, Row, Fresh}
-use Rattle.model_box.specs.Covers.{RowOf, Stays, MapsIn, IsLater}
+use Rattle.model_box.specs.Covers.{RowOf, Stays, MapsIn}
 use Rattle.model_box.proofs.Trees.{space_of_newest, space_of_older, row_same}
 use Rattle.model_box.proofs.Fits.{SpacesFit, MemberFits}
 
@@ -90,14 +90,6 @@ module _ (old new : Spaces) (bounds : Row → Part → ℕ → Type 0) (fit : Sp
   put_row : (n : ℕ) (row : Row) → RowOf (length old) (put_space t s new) n row → RowOf (length old) new n row
   put_row n row row_n = row_same (put_space t s new) new put_parent row_n
 
-  put_later : (n : ℕ) → IsLater (length old) old new n bounds → IsLater (length old) old (put_space t s new) n bounds
-  put_later n later = record {
-    parent = (later.parent.0, put_parent n ∙ later.parent.1, later.parent.2);
-    owner = λ p row parent row_p. rw (put_owner n) (later.owner p row (sym (put_parent n) ∙ parent) (put_row p row row_p));
-    deny = λ a row word. put_deny n (later.deny a (put_row n (Fresh a) row) word);
-    filled = λ a row. later.filled a (put_row n (Fresh a) row);
-  }
-
   pub put_fits : SpacesFit old (put_space t s new) bounds
   put_fits = record {
     before = fit.before;
@@ -115,7 +107,10 @@ module _ (old new : Spaces) (bounds : Row → Part → ℕ → Type 0) (fit : Sp
           | inl at ↦ rw at.1 (inside row (rw at.0 at (put_row n row row_n)))
           | inr same ↦ rw same (fit.mapped n row (put_row n row row_n))
         ];
-    later = λ n late here. put_later n (fit.later n late (rw (length_put t s new) at here));
+    deny = λ n a row word. put_deny n (fit.deny n a (put_row n (Fresh a) row) word);
+    parents = λ n late here. let up = fit.parents n late (rw (length_put t s new) at here) in (up.0, put_parent n ∙ up.1, up.2);
+    owners = λ n p row late parent row_p. rw (put_owner n) (fit.owners n p row late (sym (put_parent n) ∙ parent) (put_row p row row_p));
+    filled = λ n a row. fit.filled n a (put_row n (Fresh a) row);
   }
 
   pub put_members : (at : ℕ) (c : Credential) → MemberFits old new bounds at c → MemberFits old (put_space t s new) bounds at c

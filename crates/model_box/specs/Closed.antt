@@ -1,19 +1,18 @@
 -- What each closure rule adds to a row of bounds, and closed bounds.
-use Rattle.std.specs.Prelude.{◌≡◌, ◌⊎◌, ℕ, ◌||◌, Bool, not, nat_lt, IsTrue, is_none, Some}
+use Rattle.std.specs.Prelude.{◌≡◌, ◌⊎◌, ℕ, ◌||◌, Bool, not, IsTrue, is_none, Some}
 use Rattle.cm_filter.specs.declared.kind.CallKind.{CallKind}
 use Rattle.cm_filter.specs.declared.kind.CallKind.TheVariants as kind
 use Rattle.model_cred.specs.Files.{FileTable}
-use Rattle.model_cred.specs.Space.{Spaces, level, stands, space_of}
+use Rattle.model_cred.specs.Space.{Spaces, stands, space_of}
 use Rattle.model_rules.specs.FileView.{view, has_bit}
-use Rattle.model_rules.specs.Namespaces.{deepest}
-use Rattle.model_box.specs.Row.{Part, Uids, EffectiveUids, EffectiveGids, MappedUids, MappedGids, PermittedCaps}
+use Rattle.model_box.specs.Row.{Part, Uids, MappedUids, MappedGids, PermittedCaps}
 use Rattle.model_box.specs.Row.{InheritableCaps, BoundingCaps, NewPrivs, RootCounts, Row, Standing, Fresh, space_under}
 use Rattle.model_box.specs.Row.{HasMembers}
 use Rattle.model_box.specs.Rule.{Rule, SetUid, SetFsUid, SetGid, SetFsGid, SetGroups, CapSet, SecureBits, ExecUid}
 use Rattle.model_box.specs.Rule.{ExecGid, ExecCaps, ExecRoot, Create, Join, Maps}
 use Rattle.model_box.specs.Gains.{SettableUid, SettableGid, SpreadsUid, SpreadsGid, GainsFsUid, GainsFsGid, GainsGroups, GainsInheritable, GainsRoot}
 use Rattle.model_box.specs.Files.{CanRun, SetIdCan, TakesCan, ZeroIn, FileGives, is_program}
-use Rattle.model_box.specs.Spread.{Brings, Meet, CanJoin, NewUid, NewGid, FreshUid, FreshGid}
+use Rattle.model_box.specs.Spread.{Brings, Meet, CanMake, CanJoin, NewUid, NewGid, FreshUid, FreshGid}
 
 -- the owners of the programs whose set-user-ID bit can count for a member of the row
 abbrev pub OwnerByFile : FileTable → Spaces → ℕ → (Part → ℕ → Type 0) → ℕ → Type 0
@@ -43,14 +42,6 @@ CapByRoot spaces bounds row x =
 abbrev pub OnlyCaps : (ℕ → Type 0) → Part → ℕ → Type 0
 OnlyCaps Set PermittedCaps x = Set x
 OnlyCaps Set _ x = ⊥
-
--- What comes to the fresh row of a space once a member there can make a space.
-abbrev pub ByMaking : Spaces → (Row → Part → ℕ → Type 0) → ℕ → Part → ℕ → Type 0
-ByMaking spaces bounds n part x =
-    IsTrue (nat_lt (level spaces n) deepest)
-    × Meet (bounds (Standing n) EffectiveUids) (bounds (Standing n) MappedUids)
-    × Meet (bounds (Standing n) EffectiveGids) (bounds (Standing n) MappedGids)
-    × Brings (bounds (Standing n)) part x
 
 -- What comes to a standing row from members above it that can join the space.
 abbrev pub ByJoining : Spaces → (Row → Part → ℕ → Type 0) → ℕ → Part → ℕ → Type 0
@@ -102,7 +93,8 @@ Adds permitted files spaces bounds ExecRoot row part x =
     IsTrue (permitted kind.Exec) × HasMembers (bounds row) × OnlyCaps (CapByRoot spaces bounds row) part x
 Adds permitted files spaces bounds Create (Standing n) part x = ⊥
 Adds permitted files spaces bounds Create (Fresh n) part x =
-    IsTrue (permitted kind.Unshare || permitted kind.CloneUser) × ByMaking spaces bounds n part x
+    IsTrue (permitted kind.Unshare || permitted kind.CloneUser) × CanMake spaces bounds n
+    × Brings (bounds (Standing n)) part x
 Adds permitted files spaces bounds Join (Standing n) part x =
     IsTrue (permitted kind.SetNs) × ByJoining spaces bounds n part x
 Adds permitted files spaces bounds Join (Fresh n) part x = ⊥

@@ -1,8 +1,9 @@
 -- Bounds that cover the members of a family in a state.
-use Rattle.std.specs.Prelude.{◌≡◌, ℕ, ◌<◌, ◌≤◌, true, IsTrue, length, List, Some}
+use Rattle.std.specs.Prelude.{◌≡◌, ℕ, ◌<◌, ◌≤◌, true, IsTrue, length, List, Some, All}
+use Rattle.model_cred.specs.Credential.{Included}
 use Rattle.model_cred.specs.IdMap.{Extent, extents_of, is_outside}
 use Rattle.model_cred.specs.Process.{Process, State, process_at}
-use Rattle.model_cred.specs.Space.{Space, Spaces, space_of}
+use Rattle.model_cred.specs.Space.{Space, Spaces, IsTree, space_of}
 use Rattle.model_run.specs.Later.{is_member}
 use Rattle.model_box.specs.Row.{Part, EffectiveUids, MappedUids, MappedGids, Row, Standing, Fresh, CredHas}
 use Rattle.model_box.specs.Spread.{Brings}
@@ -29,23 +30,52 @@ pub record MapsIn (space : Space) (row : Part → ℕ → Type 0) : Type 0 where
   pub uids : (x : ℕ) → IsTrue (is_outside (extents_of space.uids) x) → row MappedUids x
   pub gids : (x : ℕ) → IsTrue (is_outside (extents_of space.gids) x) → row MappedGids x
 
--- What holds of a later space: its parent is earlier, its owner is an effective user id in its parent's row, it has the
--- word "deny" where the standing space of its row had it, and its row holds what the members of that space bring.
-pub record IsLater (standing : ℕ) (old new : Spaces) (n : ℕ) (bounds : Row → Part → ℕ → Type 0) : Type 0 where
-  pub parent : (p : ℕ) × ((space_of new n).parent ≡ Some p) × (p < n)
-  pub owner : (p : ℕ) (row : Row) → (space_of new n).parent ≡ Some p → RowOf standing new p row
-      → bounds row EffectiveUids (space_of new n).owner
-  pub deny : (a : ℕ) → RowOf standing new n (Fresh a) → (space_of old a).deny ≡ true → (space_of new n).deny ≡ true
-  pub filled : (a : ℕ) → RowOf standing new n (Fresh a) → (part : Part) (x : ℕ) → Brings (bounds (Standing a)) part x
-      → bounds (Fresh a) part x
+-- What a member has is in the row of its space.
+abbrev pub MembersIn : ℕ → State → List ℕ → (Row → Part → ℕ → Type 0) → Type 0
+MembersIn standing s members bounds =
+    (pid : ℕ) (p : Process) (row : Row) → IsTrue (is_member members pid) → process_at s.processes pid ≡ Some p
+    → RowOf standing s.spaces p.space row → (part : Part) (x : ℕ) → CredHas p.cred part x → bounds row part x
 
--- The bounds cover the members in the second state, the first being that of the query. What a member has is in the row of
--- its space; the standing spaces stay; the maps of a space are in its row; and the later spaces are as said above.
+-- The standing spaces stay, and a later space has the word "deny" where the standing space of its row had it.
+pub record SpacesStay (old new : Spaces) : Type 0 where
+  pub grown : length old ≤ length new
+  pub stay : (n : ℕ) → n < length old → Stays (space_of old n) (space_of new n)
+  pub deny : (n a : ℕ) → RowOf (length old) new n (Fresh a) → (space_of old a).deny ≡ true
+      → (space_of new n).deny ≡ true
+
+-- The maps of each space are in its row.
+abbrev pub MapsAreIn : Spaces → Spaces → (Row → Part → ℕ → Type 0) → Type 0
+MapsAreIn old new bounds = (n : ℕ) (row : Row) → RowOf (length old) new n row → MapsIn (space_of new n) (bounds row)
+
+-- A later space has a parent, which is earlier.
+abbrev pub ParentsEarlier : Spaces → Spaces → Type 0
+ParentsEarlier old new =
+    (n : ℕ) → length old ≤ n → n < length new → (p : ℕ) × ((space_of new n).parent ≡ Some p) × (p < n)
+
+-- The owner of a later space is an effective user id in its parent's row.
+abbrev pub OwnersIn : Spaces → Spaces → (Row → Part → ℕ → Type 0) → Type 0
+OwnersIn old new bounds =
+    (n p : ℕ) (row : Row) → length old ≤ n → (space_of new n).parent ≡ Some p → RowOf (length old) new p row
+    → bounds row EffectiveUids (space_of new n).owner
+
+-- The row of a later space holds what the members of the standing space above it bring.
+abbrev pub FreshFilled : Spaces → Spaces → (Row → Part → ℕ → Type 0) → Type 0
+FreshFilled old new bounds =
+    (n a : ℕ) → RowOf (length old) new n (Fresh a) → (part : Part) (x : ℕ) → Brings (bounds (Standing a)) part x
+    → bounds (Fresh a) part x
+
+-- The bounds cover the members in the second state, the first being that of the query.
 pub record Covers (old new : State) (members : List ℕ) (bounds : Row → Part → ℕ → Type 0) : Type 0 where
-  pub creds : (pid : ℕ) (p : Process) (row : Row) → IsTrue (is_member members pid) → process_at new.processes pid ≡ Some p
-      → RowOf (length old.spaces) new.spaces p.space row → (part : Part) (x : ℕ) → CredHas p.cred part x → bounds row part x
-  pub grown : length old.spaces ≤ length new.spaces
-  pub stay : (n : ℕ) → n < length old.spaces → Stays (space_of old.spaces n) (space_of new.spaces n)
-  pub mapped : (n : ℕ) (row : Row) → RowOf (length old.spaces) new.spaces n row → MapsIn (space_of new.spaces n) (bounds row)
-  pub later : (n : ℕ) → length old.spaces ≤ n → n < length new.spaces
-      → IsLater (length old.spaces) old.spaces new.spaces n bounds
+  pub members_in : MembersIn (length old.spaces) new members bounds
+  pub spaces_stay : SpacesStay old.spaces new.spaces
+  pub maps_in : MapsAreIn old.spaces new.spaces bounds
+  pub parents : ParentsEarlier old.spaces new.spaces
+  pub owners : OwnersIn old.spaces new.spaces bounds
+  pub filled : FreshFilled old.spaces new.spaces bounds
+
+-- What the laws ask of the state of the query: the spaces form a tree, each process is in one that stands, and the sets
+-- of each credential are within one another.
+pub record StateFits (s : State) : Type 0 where
+  pub tree : IsTree s.spaces
+  pub stands : All (λ p. p.space < length s.spaces) s.processes
+  pub included : All (λ p. Included p.cred) s.processes

@@ -1,8 +1,9 @@
 -- What comes to a row from another: by making spaces, by joining them, and by writing their maps.
-use Rattle.std.specs.Prelude.{◌≡◌, ◌⊎◌, ℕ, IsTrue, Some}
+use Rattle.std.specs.Prelude.{◌≡◌, ◌⊎◌, ℕ, nat_lt, IsTrue, Some}
 use Rattle.cm_base.specs.CapSet.{holds, full}
-use Rattle.model_cred.specs.Space.{Spaces, is_at_or_above, space_of}
+use Rattle.model_cred.specs.Space.{Spaces, is_at_or_above, level, space_of}
 use Rattle.model_rules.specs.Caps.{cap_setuid, cap_setgid, cap_sys_admin}
+use Rattle.model_rules.specs.Namespaces.{deepest}
 use Rattle.model_box.specs.Row.{Part, EffectiveUids, EffectiveGids, MappedUids, MappedGids, PermittedCaps}
 use Rattle.model_box.specs.Row.{InheritableCaps, BoundingCaps, RootCounts, LockClear, Row, Standing, Fresh, HasMembers}
 
@@ -21,6 +22,14 @@ Brings row part x = row part x
 -- the two sets have a number in common
 abbrev pub Meet : (ℕ → Type 0) → (ℕ → Type 0) → Type 0
 Meet One Other = (x : ℕ) × One x × Other x
+
+-- A member that stands in the space can make a space: the depth allows it, and an effective user id and an effective
+-- group id can be mapped.
+abbrev pub CanMake : Spaces → (Row → Part → ℕ → Type 0) → ℕ → Type 0
+CanMake spaces bounds n =
+    IsTrue (nat_lt (level spaces n) deepest)
+    × Meet (bounds (Standing n) EffectiveUids) (bounds (Standing n) MappedUids)
+    × Meet (bounds (Standing n) EffectiveGids) (bounds (Standing n) MappedGids)
 
 -- The third space is on the chain from the second to the initial one, and its parent is the first: so the first is above
 -- the second.

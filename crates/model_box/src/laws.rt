@@ -1,7 +1,8 @@
 // The laws of bounds. Each function does nothing: its contract is the law, which the check proves, and which proofs above
 // cite by its lemmas in proofs/. A contract ranges over bounds that tests give; the lemmas range over any.
-ghost use Rattle.model_box.specs.Laws.{Soundness, Exclusion, CoversAtStart, Monotone, StandingApart};
-ghost use Rattle.model_box.specs.Laws.{ExcludedRulesAddNothing, FilesOfWorldsFit, RowsByNumber, ClosedInCommon};
+ghost use Rattle.model_box.specs.Laws.{Soundness, Exclusion, CoversAtStart, Monotone, MeetsMore, PermitsMore};
+ghost use Rattle.model_box.specs.Laws.{ClosedForFewer, ClosedInCommon, StandingApart, ExcludedRulesAddNothing};
+ghost use Rattle.model_box.specs.Laws.{KeptStatesFit, KeptFilesFit, FilesOfWorldsFit, RowsByNumber, RulesByNumber};
 ghost use Rattle.model_box.specs.Example.{PlainStaysPlain};
 
 /// Bounds that cover the members at the query, and are closed, cover them after every later run.
@@ -28,6 +29,24 @@ pub fn rules_are_monotone()
     ensures { Monotone }
 {}
 
+/// Larger bounds meet at least as much.
+#[tactic(auto, using(crate::proofs::Stated::meets_more))]
+pub fn larger_bounds_meet_more()
+    ensures { MeetsMore }
+{}
+
+/// Where more calls are permitted each rule adds at least as much.
+#[tactic(auto, using(crate::proofs::Stated::permits_more))]
+pub fn rules_add_more_where_more_is_permitted()
+    ensures { PermitsMore }
+{}
+
+/// Bounds that are closed under a filter are closed under each that excludes more.
+#[tactic(auto, using(crate::proofs::Stated::closed_for_fewer))]
+pub fn closed_bounds_stay_closed_under_stricter_filters()
+    ensures { ClosedForFewer }
+{}
+
 /// What two closed bounds have in common is closed.
 #[tactic(auto, using(crate::proofs::Stated::closed_in_common))]
 pub fn closed_bounds_have_closed_in_common()
@@ -46,6 +65,18 @@ pub fn rules_rest_on_their_calls()
     ensures { ExcludedRulesAddNothing }
 {}
 
+/// What the laws ask of a state holds of each that keeps what every state keeps.
+#[tactic(auto, using(crate::proofs::Stated::kept_states_fit))]
+pub fn kept_states_fit()
+    ensures { KeptStatesFit }
+{}
+
+/// What the laws ask of declared files holds beside all spaces among which those of the mounts stand.
+#[tactic(auto, using(crate::proofs::Stated::kept_files_fit))]
+pub fn kept_files_fit()
+    ensures { KeptFilesFit }
+{}
+
 /// What the laws ask of declared files holds of each world, at the log's begin and after each run.
 #[tactic(auto, using(crate::proofs::Stated::files_of_worlds_fit))]
 pub fn files_of_worlds_fit()
@@ -56,6 +87,12 @@ pub fn files_of_worlds_fit()
 #[tactic(auto, using(crate::proofs::Stated::rows_by_number))]
 pub fn rows_go_by_number()
     ensures { RowsByNumber }
+{}
+
+/// The number of a rule is its place among the rules.
+#[tactic(auto, using(crate::proofs::Stated::rules_by_number))]
+pub fn rules_go_by_number()
+    ensures { RulesByNumber }
 {}
 
 /// A worked case: a process without capabilities, alone in the initial space under no_new_privs, stays so, whatever spaces
