@@ -46,9 +46,9 @@ abbrev pub bytes_given : Result ℕ Outside → ℕ
 bytes_given (Ok n) = n
 bytes_given (Err e) = 0
 
--- The counts of names before and after so many more are counted under one of them. That of a name that is counted rises
--- by as many, or to the last value that a count can have; that of one that isn't stays at 0; none falls, and no other
--- name's changes.
+-- The counts of names before and after so many more are counted under one of them. That of a name that is counted rises by
+-- as many, or to the last value that a count can have; that of one that isn't stays at 0; none falls, and no other name's
+-- changes.
 pub record CountsOn (counted : List ℕ → Bool) (before now : List ℕ → ℕ) (name : List ℕ) (more : ℕ) : Type 0 where
   pub later : before name ≤ now name
   pub most : now name ≤ before name + more
