@@ -7,3 +7,4 @@ pub mod Lookups
 pub mod Orders
 pub mod Spaces
 pub mod Trees
+pub mod Finds

@@ -1,9 +1,10 @@
 -- User namespaces (user_namespaces(7)), called spaces here.
 use Rattle.std.specs.Prelude.{◌≡◌, ℕ, ◌-◌, ◌==◌, ◌<◌, Bool, false, nat_lt, length, List, [], ◌∷◌, ◌++◌, Option, Some}
-use Rattle.std.specs.Prelude.{None, find, unwrap_or, if◌then◌else◌, IsSomeAnd}
+use Rattle.std.specs.Prelude.{None, find, unwrap_or, if◌then◌else◌, IfSome, IsSomeAnd}
 use Rattle.std.specs.List.{list_any}
 use Rattle.model_cred.specs.Credential.{IsId}
 use Rattle.model_cred.specs.IdMap.{Extent, HasIds, extents_of, initial_map, is_the}
+use Rattle.model_cred.specs.MapFault.{IsMap}
 
 -- A space: its parent, its owner (the effective user id of the process that made it), its two maps where they are
 -- written (their outside ids as the initial space sees them), whether the word in its setgroups file is "deny", and
@@ -16,11 +17,13 @@ pub record Space : Type 0 where
   pub deny : Bool
   pub creator_setfcap : Bool
 
--- What every space keeps: its owner is an id, and so is each outside id of its maps.
+-- What every space keeps: its owner is an id, and so is each outside id of its maps; each map that is written is a map.
 pub record KeepsSpace (s : Space) : Type 0 where
   pub owner : IsId s.owner
   pub uids : HasIds (extents_of s.uids)
   pub gids : HasIds (extents_of s.gids)
+  pub uid_map : IfSome s.uids IsMap
+  pub gid_map : IfSome s.gids IsMap
 
 -- The spaces, the newest first: space n is the one with n spaces after it, so that the last of the list is the initial
 -- one (the numbers are a choice).

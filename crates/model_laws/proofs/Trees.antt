@@ -2,8 +2,8 @@
 use Rattle.std.proofs.Common.{◌≡◌, ℕ, ◌+◌, ◌-◌, ◌<◌, ◌≤◌, ◌&&◌, Bool, true, false, List, [], ◌∷◌}
 use Rattle.std.proofs.Common.{length, Option, Some, None, if◌then◌else◌, refl, sym, ◌∙◌, inl, inr, subst, arith}
 use Rattle.std.proofs.Common.{lit<}
-use Rattle.std.specs.Prelude.{nat_le, All, option_and_then, option_map}
-use Rattle.std.proofs.lemmas.Bool.{cases_Bool, cases_eq, leb-true, cond-true, cond-false, and_parts}
+use Rattle.std.specs.Prelude.{nat_le, not, All, IfSome, option_and_then, option_map}
+use Rattle.std.proofs.lemmas.Bool.{cases_Bool, cases_eq, leb-true, not-false, cond_both, cond-true, cond-false, and_parts}
 use Rattle.std.proofs.lemmas.List.Elements.{All-head, All-tail, All-nil, All-cons}
 use Rattle.cm_base.specs.Limits.{id_count}
 use Rattle.cm_base.specs.declared.errno.Errno.{Errno}
@@ -11,6 +11,8 @@ use Rattle.cm_base.specs.declared.errno.Errno.TheVariants.{EPERM, EINVAL}
 use Rattle.model_cred.proofs.Spaces.{length_put}
 use Rattle.model_cred.specs.Credential.{Credential, Keeps}
 use Rattle.model_cred.specs.IdMap.{Extent, HasIds, extents_of}
+use Rattle.model_cred.specs.MapFault.{IsMap, is_map}
+use Rattle.model_rules.proofs.Downs.{stored_is_map}
 use Rattle.model_cred.specs.Space.{Space, Spaces, KeepsSpace, IsTree, space_of, no_space, put_space}
 use Rattle.model_rules.specs.Maps.{MapFile, UidMap, GidMap, Written, write_done, write_refused, write_map, write_stored}
 use Rattle.model_rules.specs.Maps.{write_setgroups, map_of, with_map, parent_map, extent_down, list_down}
@@ -25,7 +27,7 @@ pub record KeepsTree (spaces : Spaces) : Type 0 where
 
 -- what stands in the place of a space keeps it too
 keeps_no_space : KeepsSpace no_space
-keeps_no_space = record { owner = lit< tt; uids = All-nil FitsIds; gids = All-nil FitsIds }
+keeps_no_space = record { owner = lit< tt; uids = All-nil FitsIds; gids = All-nil FitsIds; uid_map = tt; gid_map = tt }
 
 -- each space that is looked up keeps what a space keeps
 pub keeps_space_of : (spaces : Spaces) (n : ℕ) → All KeepsSpace spaces → KeepsSpace (space_of spaces n)
@@ -54,7 +56,9 @@ keeps_put n new spaces there same keeps kept = record { tree = tree_put n new sp
 pub keeps_created : (spaces : Spaces) (at : ℕ) (c : Credential) → at < length spaces → Keeps c → KeepsTree spaces → KeepsTree (created_by spaces at c ∷ spaces)
 keeps_created spaces at c there keeps kept = record {
   tree = tree_grows (created_by spaces at c) at spaces refl there kept.tree;
-  each = All-cons KeepsSpace (created_by spaces at c) spaces (record { owner = keeps.uid.effective; uids = All-nil FitsIds; gids = All-nil FitsIds }) kept.each;
+  each =
+      All-cons KeepsSpace (created_by spaces at c) spaces
+      (record { owner = keeps.uid.effective; uids = All-nil FitsIds; gids = All-nil FitsIds; uid_map = tt; gid_map = tt }) kept.each;
 }
 
 -- ---- writes
@@ -103,9 +107,21 @@ parent_fits file spaces t each = by_parent t.parent
     by_parent None = All-nil FitsIds
     by_parent (Some p) = keeps_map_of file (space_of spaces p) (keeps_space_of spaces p each)
 
-keeps_with_map : (file : MapFile) (t : Space) (list : List Extent) → KeepsSpace t → HasIds list → KeepsSpace (with_map file t list)
-keeps_with_map UidMap t list keeps ids = record { owner = keeps.owner; uids = ids; gids = keeps.gids }
-keeps_with_map GidMap t list keeps ids = record { owner = keeps.owner; uids = keeps.uids; gids = ids }
+-- the parent's map is a map, where it is written
+map_is_map : (file : MapFile) (t : Space) → KeepsSpace t → IfSome (map_of file t) IsMap
+map_is_map UidMap t keeps = keeps.uid_map
+map_is_map GidMap t keeps = keeps.gid_map
+
+parent_is_map : (file : MapFile) (spaces : Spaces) (parent : Option ℕ) → All KeepsSpace spaces
+    → IfSome (option_and_then (λ p. map_of file (space_of spaces p)) parent) IsMap
+parent_is_map file spaces None each = tt
+parent_is_map file spaces (Some p) each = map_is_map file (space_of spaces p) (keeps_space_of spaces p each)
+
+keeps_with_map : (file : MapFile) (t : Space) (list : List Extent) → KeepsSpace t → HasIds list → IsMap list → KeepsSpace (with_map file t list)
+keeps_with_map UidMap t list keeps ids map =
+    record { owner = keeps.owner; uids = ids; gids = keeps.gids; uid_map = map; gid_map = keeps.gid_map }
+keeps_with_map GidMap t list keeps ids map =
+    record { owner = keeps.owner; uids = keeps.uids; gids = ids; uid_map = keeps.uid_map; gid_map = map }
 
 same_parent : (file : MapFile) (t : Space) (list : List Extent) → (with_map file t list).parent ≡ t.parent
 same_parent UidMap t list = refl
@@ -128,26 +144,32 @@ good_done : (spaces : Spaces) (n : ℕ) (new : Space) → n < length spaces → 
 good_done spaces n new there same keeps kept = record { keeps = keeps_put n new spaces there same keeps kept; count = length_put n new spaces }
 
 good_mapped : (file : MapFile) (spaces : Spaces) (at : ℕ) (c : Credential) (n : ℕ) (list : List Extent) (o : Option (List Extent)) → n < length spaces
-    → ((mapped : List Extent) → o ≡ Some mapped → HasIds mapped) → KeepsTree spaces → GoodWrite spaces (write_stored file spaces at c n list o)
+    → ((mapped : List Extent) → o ≡ Some mapped → HasIds mapped × IsMap mapped) → KeepsTree spaces → GoodWrite spaces (write_stored file spaces at c n list o)
 good_mapped file spaces at c n list None there ids kept = good_refused EPERM spaces kept
 good_mapped file spaces at c n list (Some mapped) there ids kept =
     write_either spaces _ _ _
     (good_done spaces n (with_map file (space_of spaces n) mapped) there (same_parent file (space_of spaces n) mapped)
-    (keeps_with_map file (space_of spaces n) mapped (keeps_space_of spaces n kept.each) (ids mapped refl)) kept)
+    (keeps_with_map file (space_of spaces n) mapped (keeps_space_of spaces n kept.each) (ids mapped refl).0 (ids mapped refl).1) kept)
     (good_refused EPERM spaces kept)
 
 pub good_map : (file : MapFile) (spaces : Spaces) (at : ℕ) (c : Credential) (n : ℕ) (list : List Extent) → n < length spaces → KeepsTree spaces
     → GoodWrite spaces (write_map file spaces at c n list)
 good_map file spaces at c n list there kept =
     write_either spaces _ _ _ (good_refused EPERM spaces kept)
-    (write_either spaces _ _ _ (good_refused EINVAL spaces kept)
-    (good_mapped file spaces at c n list (list_down (parent_map file spaces (space_of spaces n)) list) there
-    (λ mapped is. list_fits (parent_map file spaces (space_of spaces n)) list mapped (parent_fits file spaces (space_of spaces n) kept.each) is) kept))
+    (cond_both (not (is_map list)) (write_refused EINVAL spaces) (write_stored file spaces at c n list (list_down (parent_map file spaces (space_of spaces n)) list))
+    (GoodWrite spaces) (λ _. good_refused EINVAL spaces kept)
+    (λ is. good_mapped file spaces at c n list (list_down (parent_map file spaces (space_of spaces n)) list) there
+    (λ mapped stored. (
+      list_fits (parent_map file spaces (space_of spaces n)) list mapped (parent_fits file spaces (space_of spaces n) kept.each) stored,
+      stored_is_map (option_and_then (λ p. map_of file (space_of spaces p)) (space_of spaces n).parent) list mapped
+          (parent_is_map file spaces (space_of spaces n).parent kept.each) (not-false (is_map list) is) stored,
+    )) kept))
 
 pub good_word : (spaces : Spaces) (at : ℕ) (c : Credential) (n : ℕ) (deny : Bool) → n < length spaces → KeepsTree spaces
     → GoodWrite spaces (write_setgroups spaces at c n deny)
 good_word spaces at c n deny there kept =
     let old : KeepsSpace (space_of spaces n) = keeps_space_of spaces n kept.each in
     write_either spaces _ _ _
-    (good_done spaces n (record (space_of spaces n) { deny = deny }) there refl (record { owner = old.owner; uids = old.uids; gids = old.gids }) kept)
+    (good_done spaces n (record (space_of spaces n) { deny = deny }) there refl
+    (record { owner = old.owner; uids = old.uids; gids = old.gids; uid_map = old.uid_map; gid_map = old.gid_map }) kept)
     (good_refused EPERM spaces kept)

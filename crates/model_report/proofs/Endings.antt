@@ -2,6 +2,7 @@
 use Rattle.std.proofs.Common.{◌≡◌, ℕ, inl, inr, length, List, [], ◌∷◌, ◌++◌, Option, None, Some, refl, sym, ◌∙◌, ap, subst, append_assoc, append-nil, All}
 use Rattle.std.proofs.lemmas.List.Elements.{All-nil, All-cons, All-head, All-tail}
 use Rattle.std.specs.Prelude.{codes}
+use Rattle.cm_base.specs.declared.limited.Limited.{Limited}
 use Rattle.cm_base.specs.declared.status.Status.{Status}
 use Rattle.cm_base.specs.declared.status.Status.TheVariants as status
 use Rattle.model_cred.specs.Call.{Event}
@@ -10,37 +11,32 @@ use Rattle.model_cred.specs.World.{World}
 use Rattle.model_run.specs.Step.{outcome}
 use Rattle.model_run.specs.RunBack.{BringsBack}
 use Rattle.model_report.proofs.Lines.{IsWritten, plain_verdict, written_end, written_told, written_shows, written_true}
-use Rattle.model_report.proofs.Replays.{Halts, passed_lines, runs_or_halts}
-use Rattle.model_report.proofs.Statuses.{has_its_cause, over_all, of_replay, of_asked, of_stopped, of_impossible}
+use Rattle.model_report.proofs.Replays.{Breaks, Break, no_step, crowds, run_of_within, passed_lines, runs_or_breaks}
+use Rattle.model_report.proofs.Statuses.{of_begins, has_its_cause, over_all, of_replay, of_asked, of_stopped, of_impossible, of_crowded}
 use Rattle.model_report.proofs.Verdicts.{log_verdict, no_shows}
-use Rattle.model_report.specs.Causes.{Begins, ComesTo, Cause, IsAccepted, IsStopped, IsImpossible, AfterLog, IsYes, IsNo}
+use Rattle.model_report.specs.Causes.{Begins, ComesTo, Cause, IsAccepted, IsStopped, IsImpossible, IsCrowded, AfterLog, IsYes, IsNo}
 use Rattle.model_report.specs.Command.{command_of, query_of}
 use Rattle.model_report.specs.Laws.{AcceptedIsRun, ImpossibleIsNoStep, YesIsNever, NoIsRun, ShowsRun, ReportTellsOfLog, TellsOfLog, EndCountsEvents}
-use Rattle.model_report.specs.Laws.{ImpossibleIsNumbered, BadLogIsNumbered, SameReadingSameReport, LineStandsFor, told_in}
+use Rattle.model_report.specs.Laws.{ImpossibleIsNumbered, BadLogIsNumbered, SameReadingSameReport, SameLogsSameReport, LineStandsFor, told_in}
 use Rattle.model_report.specs.Query.{Query}
-use Rattle.model_report.specs.Replay.{Report, ReportLine, Plain, at_line, impossible_text, reason, stopped}
+use Rattle.model_report.specs.Replay.{Report, ReportLine, Plain, at_line, bad_log_text, limit_text, impossible_text, reason, stopped}
 use Rattle.model_report.specs.Report.{report, replay_of, log_report, start_lines, run_verdict, run_lines}
-use Rattle.model_text.proofs.Built.{AreBuilt, script_built}
 use Rattle.model_text.proofs.Numbers.{numbers_are_lines}
 use Rattle.model_text.specs.Cut.{lines_of}
-use Rattle.model_text.specs.Line.{Tells, IsBuilt}
+use Rattle.model_text.specs.Line.{Tells}
 use Rattle.model_text.specs.Numbers.{ReadsLines, NumbersAreLines}
-use Rattle.model_text.specs.Reading.{Placed, Stop, Fault, Limit, NotBuilt, End, AtEnd, Stops, Reading, script_reading}
+use Rattle.model_text.specs.Reading.{Placed, Stop, Fault, Limit, End, AtEnd, Stops, Reading, events_of, script_reading}
+use Rattle.model_text.specs.WorldText.{text_says_more}
 
 -- what holds of all holds of the first ones
 all_front : (P : Placed → Type 0) (events later : List Placed) → All P (events ++ later) → All P events
 all_front P [] later all = All-nil P
 all_front P (e ∷ events) later all = All-cons P e events (All-head P e (events ++ later) all) (all_front P events later (All-tail P e (events ++ later) all))
 
--- the events of a log are of built calls
-begins_built : (words : List (List ℕ)) (bytes : List ℕ → List ℕ) (w : World) (reading : Reading) → Begins words bytes w reading → AreBuilt reading.events
-begins_built words bytes w reading begins = subst (λ (r : Reading). AreBuilt r.events) begins.reads (script_built (bytes begins.log))
-
 -- the line that tells of a stop
 stop_line : (stop : Stop) → (text : List ℕ) × ((stopped stop).lines ≡ Plain text ∷ [])
-stop_line (Fault number) = (_, refl)
-stop_line (Limit name most) = (_, refl)
-stop_line NotBuilt = (_, refl)
+stop_line (Fault number why) = (_, refl)
+stop_line (Limit l) = (_, refl)
 
 module _ (words : List (List ℕ)) (bytes : List ℕ → List ℕ) where
   -- ---- the lines of a report, by how the log ends
@@ -58,19 +54,17 @@ module _ (words : List (List ℕ)) (bytes : List ℕ → List ℕ) where
   accepted_by_query : (is : IsAccepted words bytes) (query : Option Query) → query_of (command_of words) ≡ query
       → IsWritten is.world is.comes.events is.state (end_of is) (report words bytes).lines
   accepted_by_query is None asked = record {
-    run = is.comes.run;
-    built = begins_built words bytes is.world (record { events = is.comes.events; ending = AtEnd }) is.comes.begins;
+    run = run_of_within is.world is.world.start (events_of is.comes.events) is.state is.comes.run;
     start = (bytes is.comes.begins.names.world, is.comes.begins.names.reads);
     answer = [];
     plain = tt;
     cut = ap (λ (r : Report). r.lines) (of_replay words bytes is asked) ∙ ap (λ (ls : List ReportLine). start_lines is.world ++ ls) (accepted_lines is);
   }
   accepted_by_query is (Some q) asked = record {
-    run = is.comes.run;
-    built = begins_built words bytes is.world (record { events = is.comes.events; ending = AtEnd }) is.comes.begins;
+    run = run_of_within is.world is.world.start (events_of is.comes.events) is.state is.comes.run;
     start = (bytes is.comes.begins.names.world, is.comes.begins.names.reads);
     answer = (log_verdict words bytes is q).lines;
-    plain = plain_verdict _ is.state q;
+    plain = plain_verdict _ is.world is.state q;
     cut =
         ap (λ (r : Report). r.lines) (of_asked words bytes is q asked)
         ∙ ap (λ (ls : List ReportLine). start_lines is.world ++ (ls ++ (log_verdict words bytes is q).lines)) (accepted_lines is)
@@ -83,8 +77,7 @@ module _ (words : List (List ℕ)) (bytes : List ℕ → List ℕ) where
   stopped_written : (stop : Stop) (text : List ℕ) → (stopped stop).lines ≡ Plain text ∷ [] → (is : IsStopped words bytes stop)
       → IsWritten is.world is.comes.events is.state text (report words bytes).lines
   stopped_written stop text one is = record {
-    run = is.comes.run;
-    built = begins_built words bytes is.world (record { events = is.comes.events; ending = Stops stop }) is.comes.begins;
+    run = run_of_within is.world is.world.start (events_of is.comes.events) is.state is.comes.run;
     start = (bytes is.comes.begins.names.world, is.comes.begins.names.reads);
     answer = [];
     plain = tt;
@@ -98,17 +91,21 @@ module _ (words : List (List ℕ)) (bytes : List ℕ → List ℕ) where
 
   impossible_written : (is : IsImpossible words bytes) → IsWritten is.world is.before is.state (why_of is) (report words bytes).lines
   impossible_written is = record {
-    run = is.run;
-    built =
-        all_front (λ e. IsBuilt e.event.call) is.before (is.event ∷ is.later) (begins_built words bytes is.world (record {
-          events =
-              is.before ++ is.event ∷ is.later;
-          ending = is.ending;
-        }) is.begins);
+    run = run_of_within is.world is.world.start (events_of is.before) is.state is.run;
     start = (bytes is.begins.names.world, is.begins.names.reads);
     answer = [];
     plain = tt;
     cut = ap (λ (r : Report). r.lines) (of_impossible words bytes is);
+  }
+
+  crowded_written : (l : Limited) (is : IsCrowded words bytes l)
+      → IsWritten is.world is.before is.state (limit_text l) (report words bytes).lines
+  crowded_written l is = record {
+    run = run_of_within is.world is.world.start (events_of is.before) is.state is.run;
+    start = (bytes is.begins.names.world, is.begins.names.reads);
+    answer = [];
+    plain = tt;
+    cut = ap (λ (r : Report). r.lines) (of_crowded words bytes l is);
   }
 
   -- the report of a log that begins has such lines, of all its events or of the first ones
@@ -140,55 +137,75 @@ module _ (words : List (List ℕ)) (bytes : List ℕ → List ℕ) where
         written = stopped_written stop line.0 line.1 (record { world = w; state = s; comes = comes });
       }
 
-  halt_written : (w : World) (reading : Reading) → Begins words bytes w reading → Halts w w.start reading.events
-      → IsWrittenOf w reading.events (report words bytes).lines
-  halt_written w reading begins halts =
-      let is : IsImpossible words bytes = record {
-        world = w;
-        state = halts.state;
-        before = halts.before;
-        event = halts.event;
-        later = halts.later;
-        ending = reading.ending;
-        begins = subst (λ (es : List Placed). Begins words bytes w (record { events = es; ending = reading.ending })) halts.cut begins;
-        run = halts.run;
-        no_step = halts.no_step;
-      } in
-      record {
-        told = halts.before;
-        untold = halts.event ∷ halts.later;
-        order = halts.cut;
-        state = halts.state;
-        end = _;
-        written = impossible_written is;
-      }
+  break_written : (w : World) (reading : Reading) → Begins words bytes w reading → (breaks : Breaks w w.start reading.events)
+      → Break w breaks.state breaks.event.event → IsWrittenOf w reading.events (report words bytes).lines
+  break_written w reading begins breaks (no_step none) = record {
+    told = breaks.before;
+    untold = breaks.event ∷ breaks.later;
+    order = breaks.cut;
+    state = breaks.state;
+    end = _;
+    written =
+        impossible_written (record {
+          world = w;
+          state = breaks.state;
+          before = breaks.before;
+          event = breaks.event;
+          later = breaks.later;
+          ending = reading.ending;
+          begins = subst (λ (es : List Placed). Begins words bytes w (record { events = es; ending = reading.ending })) breaks.cut begins;
+          run = breaks.run;
+          no_step = none;
+        });
+  }
+  break_written w reading begins breaks (crowds s' l goes over) = record {
+    told = breaks.before;
+    untold = breaks.event ∷ breaks.later;
+    order = breaks.cut;
+    state = breaks.state;
+    end = _;
+    written =
+        crowded_written l (record {
+          world = w;
+          state = breaks.state;
+          before = breaks.before;
+          event = breaks.event;
+          later = breaks.later;
+          ending = reading.ending;
+          begins = subst (λ (es : List Placed). Begins words bytes w (record { events = es; ending = reading.ending })) breaks.cut begins;
+          run = breaks.run;
+          after = s';
+          step = goes;
+          over = over;
+        });
+  }
 
   begins_written : (w : World) (reading : Reading) → Begins words bytes w reading → IsWrittenOf w reading.events (report words bytes).lines
   begins_written w reading begins =
-      elim (runs_or_halts w w.start reading.events) [
+      elim (runs_or_breaks w w.start reading.events) [
         | inl run ↦ run_written w run.0 reading.ending (record { events = reading.events; begins = begins; run = run.1 })
-        | inr halts ↦ halt_written w reading begins halts
+        | inr breaks ↦ break_written w reading begins breaks breaks.why
       ]
 
   -- the numbers of a log's events are those of its lines
-  numbers_of : (log : List ℕ) → ReadsLines 1 (lines_of log) (script_reading log)
+  numbers_of : (w : World) (log : List ℕ) → ReadsLines w 1 (lines_of log) (script_reading w log)
   unfolding NumbersAreLines
-  numbers_of log = numbers_are_lines log
+  numbers_of w log = numbers_are_lines w log
 
   tells_of_log : (w : World) (reading : Reading) (begins : Begins words bytes w reading) → TellsOfLog w (bytes begins.log) (report words bytes).lines
   tells_of_log w reading begins =
       let is : IsWrittenOf w reading.events (report words bytes).lines = begins_written w reading begins in
       let log : List ℕ = bytes begins.log in
       let told : told_in (report words bytes).lines ≡ is.told = written_told w is.told is.state is.end (report words bytes).lines is.written in
-      let order : (script_reading log).events ≡ told_in (report words bytes).lines ++ is.untold
+      let order : (script_reading w log).events ≡ told_in (report words bytes).lines ++ is.untold
       = ap (λ (r : Reading). r.events) begins.reads ∙ is.order ∙ ap (λ (es : List Placed). es ++ is.untold) (sym told) in
       record {
         are_true = written_true w is.told is.state is.end (report words bytes).lines is.written;
         untold = is.untold;
         order = order;
         numbers =
-            all_front (λ e. LineStandsFor log e.line (Tells e.event)) (told_in (report words bytes).lines) is.untold
-            (subst (λ (es : List Placed). All (λ e. LineStandsFor log e.line (Tells e.event)) es) order (numbers_of log).events);
+            all_front (λ e. LineStandsFor w log e.line (Tells e.event)) (told_in (report words bytes).lines) is.untold
+            (subst (λ (es : List Placed). All (λ e. LineStandsFor w log e.line (Tells e.event)) es) order (numbers_of w log).events);
       }
 
   -- where the status is 0, the log is accepted
@@ -208,7 +225,7 @@ module _ (words : List (List ℕ)) (bytes : List ℕ → List ℕ) where
 
   no_by : AfterLog words bytes IsNo → ShowsRun words bytes (report words bytes).lines
   no_by (is, q, asked, (p, k, asks, back)) =
-      let shown : (run : List Event) × BringsBack is.world is.state p.pid k run × (log_verdict words bytes is q ≡ run_verdict p.pid (Some run))
+      let shown : (run : List Event) × BringsBack is.world is.state p.pid k run × (log_verdict words bytes is q ≡ run_verdict is.world p.pid (Some run))
       = no_shows words bytes is q p k asks back in
       let replay : List ReportLine = (replay_of is.world (record { events = is.comes.events; ending = AtEnd })).lines in
       record {
@@ -224,21 +241,27 @@ module _ (words : List (List ℕ)) (bytes : List ℕ → List ℕ) where
         last =
             ap (λ (r : Report). r.lines) (of_asked words bytes is q asked)
             ∙ ap (λ (r : Report). start_lines is.world ++ (replay ++ r.lines)) shown.2
-            ∙ sym (append_assoc (start_lines is.world) replay (run_lines p.pid shown.0));
+            ∙ sym (append_assoc (start_lines is.world) replay (run_lines is.world p.pid shown.0));
       }
 
 -- ---- the laws
 pub accepted_is_run : AcceptedIsRun
 unfolding AcceptedIsRun
 accepted_is_run words bytes said =
-    let is : IsAccepted words bytes = accepted_by words bytes (caused words bytes status.Accepted said) in
-    (is, written_shows is.world is.comes.events is.state _ (report words bytes).lines (accepted_written words bytes is))
+    let is : IsAccepted words bytes = accepted_by words bytes (caused words bytes status.Accepted said) in (
+      is,
+      run_of_within is.world is.world.start (events_of is.comes.events) is.state is.comes.run,
+      written_shows is.world is.comes.events is.state _ (report words bytes).lines (accepted_written words bytes is),
+    )
 
 pub impossible_is_no_step : ImpossibleIsNoStep
 unfolding ImpossibleIsNoStep
 impossible_is_no_step words bytes said =
-    let is : IsImpossible words bytes = caused words bytes status.Impossible said in
-    (is, written_shows is.world is.before is.state _ (report words bytes).lines (impossible_written words bytes is))
+    let is : IsImpossible words bytes = caused words bytes status.Impossible said in (
+      is,
+      run_of_within is.world is.world.start (events_of is.before) is.state is.run,
+      written_shows is.world is.before is.state _ (report words bytes).lines (impossible_written words bytes is),
+    )
 
 pub report_tells_of_log : ReportTellsOfLog
 unfolding ReportTellsOfLog
@@ -254,10 +277,10 @@ pub impossible_is_numbered : ImpossibleIsNumbered
 unfolding ImpossibleIsNumbered impossible_written
 impossible_is_numbered words bytes is =
     let log : List ℕ = bytes is.begins.log in
-    let all : All (λ e. LineStandsFor log e.line (Tells e.event)) (is.before ++ is.event ∷ is.later)
-    = subst (λ (r : Reading). All (λ e. LineStandsFor log e.line (Tells e.event)) r.events) is.begins.reads (numbers_of words bytes log).events in (
+    let all : All (λ e. LineStandsFor is.world log e.line (Tells e.event)) (is.before ++ is.event ∷ is.later)
+    = subst (λ (r : Reading). All (λ e. LineStandsFor is.world log e.line (Tells e.event)) r.events) is.begins.reads (numbers_of words bytes is.world log).events in (
       written_end is.world is.before is.state (why_of words bytes is) (report words bytes).lines (impossible_written words bytes is),
-      all_there (λ e. LineStandsFor log e.line (Tells e.event)) is.before is.event is.later all,
+      all_there (λ e. LineStandsFor is.world log e.line (Tells e.event)) is.before is.event is.later all,
     )
   where
     all_there : (P : Placed → Type 0) (before : List Placed) (e : Placed) (later : List Placed) → All P (before ++ e ∷ later) → P e
@@ -266,10 +289,10 @@ impossible_is_numbered words bytes is =
 
 pub bad_log_is_numbered : BadLogIsNumbered
 unfolding BadLogIsNumbered stopped_written
-bad_log_is_numbered words bytes number is = (
-  written_end is.world is.comes.events is.state (at_line (codes "bad log line ") number) (report words bytes).lines
-      (stopped_written words bytes (Fault number) (at_line (codes "bad log line ") number) refl is),
-  ((numbers_of words bytes (bytes is.comes.begins.log)).fault number (ap (λ (r : Reading). r.ending) is.comes.begins.reads)).stands,
+bad_log_is_numbered words bytes number why is = (
+  written_end is.world is.comes.events is.state (bad_log_text number why) (report words bytes).lines
+      (stopped_written words bytes (Fault number why) (bad_log_text number why) refl is),
+  ((numbers_of words bytes is.world (bytes is.comes.begins.log)).fault number why (ap (λ (r : Reading). r.ending) is.comes.begins.reads)).stands,
 )
 
 pub same_reading_same_report : SameReadingSameReport
@@ -286,3 +309,13 @@ yes_is_never words bytes q asked said = yes_by words bytes q asked (caused words
 pub no_is_run : NoIsRun
 unfolding NoIsRun
 no_is_run words bytes said = no_by words bytes (caused words bytes status.No said)
+
+pub same_logs_same_report : SameLogsSameReport
+unfolding SameLogsSameReport
+same_logs_same_report words bytes other w one two first second world events ending =
+    let query : Option Query = query_of (command_of words) in
+    of_begins words bytes w one first
+    ∙ ap (λ (text : List ℕ). log_report query (text_says_more text) w one) world
+    ∙ ap (λ (es : List Placed). log_report query (text_says_more (other second.names.world)) w (record { events = es; ending = one.ending })) events
+    ∙ ap (λ (e : End). log_report query (text_says_more (other second.names.world)) w (record { events = two.events; ending = e })) ending
+    ∙ sym (of_begins words other w two second)

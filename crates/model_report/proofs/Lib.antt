@@ -6,8 +6,13 @@ pub mod Lines
 pub mod Statuses
 pub mod Endings
 pub mod CommandCases
+pub mod CaseReports
 pub mod ReportCases
 pub mod WholeCases
 pub mod SetIdCases
 pub mod CapReportCases
 pub mod BirthReportCases
+pub mod SpaceReportCases
+pub mod FileReportCases
+pub mod FaultReportCases
+pub mod LimitReportCases

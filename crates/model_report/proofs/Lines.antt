@@ -7,7 +7,7 @@ use Rattle.std.specs.Prelude.{codes}
 use Rattle.cm_base.specs.declared.res.Res.{Res}
 use Rattle.cm_base.specs.declared.res.Res.TheVariants.{Child}
 use Rattle.model_cred.specs.Call.{Event}
-use Rattle.model_cred.specs.Process.{Process, State, process_at}
+use Rattle.model_cred.specs.Process.{Process, State, Ascends, process_at}
 use Rattle.model_cred.specs.Right.{Right, Cap, Uid, Gid}
 use Rattle.model_cred.specs.World.{World}
 use Rattle.model_run.specs.Step.{Step, Run}
@@ -19,122 +19,122 @@ use Rattle.model_report.specs.Laws.{Shows, last_credentials, told_in, AreTrue, E
 use Rattle.model_report.specs.Query.{Query, asked_process, right_token}
 use Rattle.model_report.specs.Replay.{ReportLine, Credentials, Told, Plain, at_line, not_built, credentials_if, child_lines, step_lines}
 use Rattle.model_report.specs.Report.{start_lines, verdict, asked_verdict, right_verdict, run_verdict}
-use Rattle.model_text.proofs.Built.{AreBuilt}
-use Rattle.model_text.proofs.Parents.{IsFound, each_found}
-use Rattle.model_text.proofs.Starts.{start_distinct}
+use Rattle.model_cred.proofs.Finds.{IsFound, each_found}
+use Rattle.model_text.proofs.Starts.{start_ascends}
 use Rattle.model_text.specs.Print.{event_text}
 use Rattle.model_text.specs.Reading.{Placed, events_of}
-use Rattle.model_text.specs.WorldText.{Reads, are_distinct, world_text}
+use Rattle.model_text.specs.WorldText.{Reads, world_text}
 
 -- ---- lines of plain text
 -- each line is of plain text
 abbrev pub ArePlain : List ReportLine → Type 0
 ArePlain [] = Unit {0}
 ArePlain (Plain text ∷ lines) = ArePlain lines
-ArePlain (Credentials p ∷ lines) = ⊥
-ArePlain (Told e ∷ lines) = ⊥
+ArePlain (Credentials w p ∷ lines) = ⊥
+ArePlain (Told w e ∷ lines) = ⊥
 
 -- such lines show nothing, tell nothing, and are true
 plain_silent : (lines : List ReportLine) → ArePlain lines → (pid : ℕ) → last_credentials pid lines ≡ None
 plain_silent [] plain pid = refl
 plain_silent (Plain text ∷ lines) plain pid = plain_silent lines plain pid
-plain_silent (Credentials p ∷ lines) plain pid = absurd plain
-plain_silent (Told e ∷ lines) plain pid = absurd plain
+plain_silent (Credentials w p ∷ lines) plain pid = absurd plain
+plain_silent (Told w e ∷ lines) plain pid = absurd plain
 
 pub plain_untold : (lines : List ReportLine) → ArePlain lines → told_in lines ≡ []
 plain_untold [] plain = refl
 plain_untold (Plain text ∷ lines) plain = plain_untold lines plain
-plain_untold (Credentials p ∷ lines) plain = absurd plain
-plain_untold (Told e ∷ lines) plain = absurd plain
+plain_untold (Credentials w p ∷ lines) plain = absurd plain
+plain_untold (Told w e ∷ lines) plain = absurd plain
 
 plain_true : (w : World) (s : State) (lines : List ReportLine) → ArePlain lines → AreTrue w s lines
 plain_true w s [] plain = tt
 plain_true w s (Plain text ∷ lines) plain = plain_true w s lines plain
-plain_true w s (Credentials p ∷ lines) plain = absurd plain
-plain_true w s (Told e ∷ lines) plain = absurd plain
+plain_true w s (Credentials v p ∷ lines) plain = absurd plain
+plain_true w s (Told v e ∷ lines) plain = absurd plain
 
 -- an answer is of plain text
-plain_run : (run : List Event) (last : List ℕ) → ArePlain (map (λ e. Plain (event_text e)) run ++ Plain last ∷ [])
-plain_run [] last = tt
-plain_run (e ∷ run) last = plain_run run last
+plain_run : (w : World) (run : List Event) (last : List ℕ) → ArePlain (map (λ e. Plain (event_text w e)) run ++ Plain last ∷ [])
+plain_run w [] last = tt
+plain_run w (e ∷ run) last = plain_run w run last
 
-plain_run_verdict : (n : ℕ) (run : Option (List Event)) → ArePlain (run_verdict n run).lines
-plain_run_verdict n None = tt
-plain_run_verdict n (Some run) = plain_run run (at_line (codes "holder ") n)
+plain_run_verdict : (w : World) (n : ℕ) (run : Option (List Event)) → ArePlain (run_verdict w n run).lines
+plain_run_verdict w n None = tt
+plain_run_verdict w n (Some run) = plain_run w run (at_line (codes "holder ") n)
 
-plain_right : (more : Bool) (s : State) (p : Process) (right : Right) → ArePlain (right_verdict more s p right).lines
-plain_right more s p (Gid k) = tt
-plain_right more s p (Cap cap n) = tt
-plain_right more s p (Uid k) =
-    elim (not more && length s.processes == 1) as (λ (b : Bool). ArePlain (cond b (run_verdict p.pid (run_back p.cred p.pid k)) not_built).lines) [
-      | true ↦ plain_run_verdict p.pid (run_back p.cred p.pid k)
+plain_right : (more : Bool) (w : World) (s : State) (p : Process) (right : Right) → ArePlain (right_verdict more w s p right).lines
+plain_right more w s p (Gid k) = tt
+plain_right more w s p (Cap cap n) = tt
+plain_right more w s p (Uid k) =
+    elim (not more && length s.processes == 1) as (λ (b : Bool). ArePlain (cond b (run_verdict w p.pid (run_back p.cred p.pid k)) not_built).lines) [
+      | true ↦ plain_run_verdict w p.pid (run_back p.cred p.pid k)
       | false ↦ tt
     ]
 
-plain_asked : (more : Bool) (s : State) (p : Option Process) (right : Option Right) → ArePlain (asked_verdict more s p right).lines
-plain_asked more s None right = tt
-plain_asked more s (Some p) None = tt
-plain_asked more s (Some p) (Some right) = plain_right more s p right
+plain_asked : (more : Bool) (w : World) (s : State) (p : Option Process) (right : Option Right) → ArePlain (asked_verdict more w s p right).lines
+plain_asked more w s None right = tt
+plain_asked more w s (Some p) None = tt
+plain_asked more w s (Some p) (Some right) = plain_right more w s p right
 
-pub plain_verdict : (more : Bool) (s : State) (q : Query) → ArePlain (verdict more s q).lines
-plain_verdict more s q = plain_asked more s (asked_process s q.pid) (right_token q.right)
+pub plain_verdict : (more : Bool) (w : World) (s : State) (q : Query) → ArePlain (verdict more w s q).lines
+plain_verdict more w s q = plain_asked more w s (asked_process s q.pid) (right_token w.names q.right)
 
 -- ---- what lines tell
 pub told_append : (one other : List ReportLine) → told_in (one ++ other) ≡ told_in one ++ told_in other
 told_append [] other = refl
-told_append (Credentials p ∷ one) other = told_append one other
-told_append (Told e ∷ one) other = ap (λ (es : List Placed). e ∷ es) (told_append one other)
+told_append (Credentials w p ∷ one) other = told_append one other
+told_append (Told w e ∷ one) other = ap (λ (es : List Placed). e ∷ es) (told_append one other)
 told_append (Plain text ∷ one) other = told_append one other
 
-told_start : (ps : List Process) → told_in (map Credentials ps) ≡ []
-told_start [] = refl
-told_start (p ∷ ps) = told_start ps
+told_start : (w : World) (ps : List Process) → told_in (map (Credentials w) ps) ≡ []
+told_start w [] = refl
+told_start w (p ∷ ps) = told_start w ps
 
-told_if : (found : Option Process) → told_in (credentials_if found) ≡ []
-told_if None = refl
-told_if (Some p) = refl
+told_if : (w : World) (found : Option Process) → told_in (credentials_if w found) ≡ []
+told_if w None = refl
+told_if w (Some p) = refl
 
-told_child : (s : State) (res : Res) → told_in (child_lines s res) ≡ []
-told_child s (Child pid) = told_if (process_at s.processes pid)
-told_child s _ = refl
+told_child : (w : World) (s : State) (res : Res) → told_in (child_lines w s res) ≡ []
+told_child w s (Child pid) = told_if w (process_at s.processes pid)
+told_child w s _ = refl
 
-told_step : (s : State) (e : Placed) → told_in (step_lines s e) ≡ e ∷ []
-told_step s e =
-    let caller : List ReportLine = credentials_if (process_at s.processes e.event.pid) in
-    let child : List ReportLine = child_lines s e.event.res in
+told_step : (w : World) (s : State) (e : Placed) → told_in (step_lines w s e) ≡ e ∷ []
+told_step w s e =
+    let caller : List ReportLine = credentials_if w (process_at s.processes e.event.pid) in
+    let child : List ReportLine = child_lines w s e.event.res in
     ap (λ (es : List Placed). e ∷ es)
-    (told_append caller child ∙ ap (λ (es : List Placed). es ++ told_in child) (told_if (process_at s.processes e.event.pid)) ∙ told_child s e.event.res)
+    (told_append caller child ∙ ap (λ (es : List Placed). es ++ told_in child) (told_if w (process_at s.processes e.event.pid))
+    ∙ told_child w s e.event.res)
 
 told_passed : (w : World) (events : List Placed) (from to : State) → Run w from (events_of events) to → told_in (passed_lines w from events) ≡ events
 told_passed w [] from to run = refl
 told_passed w (e ∷ events) from to run =
     ap (λ (ls : List ReportLine). told_in ls) (passed_step w from run.0 e events run.1)
-    ∙ told_append (step_lines run.0 e) (passed_lines w run.0 events)
-    ∙ ap (λ (es : List Placed). es ++ told_in (passed_lines w run.0 events)) (told_step run.0 e)
+    ∙ told_append (step_lines w run.0 e) (passed_lines w run.0 events)
+    ∙ ap (λ (es : List Placed). es ++ told_in (passed_lines w run.0 events)) (told_step w run.0 e)
     ∙ ap (λ (es : List Placed). e ∷ es) (told_passed w events run.0 to run.2)
 
 -- ---- which lines are true
 true_start : (w : World) (s : State) (ps : List Process) (rest : List ReportLine) → All (IsFound s.processes) ps
-    → AreTrue w s rest → AreTrue w s (map Credentials ps ++ rest)
+    → AreTrue w s rest → AreTrue w s (map (Credentials w) ps ++ rest)
 true_start w s [] rest found true_rest = true_rest
 true_start w s (p ∷ ps) rest found true_rest =
     (All-head (IsFound s.processes) p ps found, true_start w s ps rest (All-tail (IsFound s.processes) p ps found) true_rest)
 
 -- the credential line of the process that a pid names
 true_found : (w : World) (s : State) (pid : ℕ) (found : Option Process) (rest : List ReportLine)
-    → process_at s.processes pid ≡ found → AreTrue w s rest → AreTrue w s (credentials_if found ++ rest)
+    → process_at s.processes pid ≡ found → AreTrue w s rest → AreTrue w s (credentials_if w found ++ rest)
 true_found w s pid None rest is true_rest = true_rest
 true_found w s pid (Some p) rest is true_rest =
     (ap (λ (n : ℕ). process_at s.processes n) (pid_of_found s.processes pid p is) ∙ is, true_rest)
 
-true_child : (w : World) (s : State) (res : Res) (rest : List ReportLine) → AreTrue w s rest → AreTrue w s (child_lines s res ++ rest)
+true_child : (w : World) (s : State) (res : Res) (rest : List ReportLine) → AreTrue w s rest → AreTrue w s (child_lines w s res ++ rest)
 true_child w s (Child pid) rest true_rest = true_found w s pid (process_at s.processes pid) rest refl true_rest
 true_child w s _ rest true_rest = true_rest
 
-true_step : (w : World) (s s' : State) (e : Placed) (rest : List ReportLine) → Step w s e.event s' → AreTrue w s' rest → AreTrue w s (step_lines s' e ++ rest)
+true_step : (w : World) (s s' : State) (e : Placed) (rest : List ReportLine) → Step w s e.event s' → AreTrue w s' rest → AreTrue w s (step_lines w s' e ++ rest)
 true_step w s s' e rest goes true_rest =
-    let caller : List ReportLine = credentials_if (process_at s'.processes e.event.pid) in
-    let child : List ReportLine = child_lines s' e.event.res in (
+    let caller : List ReportLine = credentials_if w (process_at s'.processes e.event.pid) in
+    let child : List ReportLine = child_lines w s' e.event.res in (
       s',
       goes,
       subst (λ (ls : List ReportLine). AreTrue w s' ls) (sym (append_assoc caller child rest))
@@ -147,14 +147,13 @@ true_passed w [] from to rest run true_rest = subst (λ (s : State). AreTrue w s
 true_passed w (e ∷ events) from to rest run true_rest =
     let later : List ReportLine = passed_lines w run.0 events in
     subst (λ (ls : List ReportLine). AreTrue w from ls)
-    (sym (append_assoc (step_lines run.0 e) later rest) ∙ ap (λ (ls : List ReportLine). ls ++ rest) (sym (passed_step w from run.0 e events run.1)))
+    (sym (append_assoc (step_lines w run.0 e) later rest) ∙ ap (λ (ls : List ReportLine). ls ++ rest) (sym (passed_step w from run.0 e events run.1)))
     (true_step w from run.0 e (later ++ rest) run.1 (true_passed w events run.0 to rest run.2 true_rest))
 
 -- ---- the lines of a whole report
 -- The lines at the start, those of events that are a run, one that says how the log ends, and an answer.
 pub record IsWritten (w : World) (events : List Placed) (s : State) (end : List ℕ) (lines : List ReportLine) : Type 0 where
   pub run : Run w w.start (events_of events) s
-  pub built : AreBuilt events
   pub start : (bytes : List ℕ) × (world_text bytes ≡ Reads w)
   pub answer : List ReportLine
   pub plain : ArePlain answer
@@ -173,7 +172,7 @@ module _ (w : World) (events : List Placed) (s : State) (end : List ℕ) (lines 
   unfolding before
   told_before =
       told_append (start_lines w) (passed_lines w w.start events)
-      ∙ ap (λ (es : List Placed). es ++ told_in (passed_lines w w.start events)) (told_start w.start.processes)
+      ∙ ap (λ (es : List Placed). es ++ told_in (passed_lines w w.start events)) (told_start w w.start.processes)
       ∙ told_passed w events w.start s is.run
 
   -- they end so
@@ -191,17 +190,17 @@ module _ (w : World) (events : List Placed) (s : State) (end : List ℕ) (lines 
   pub written_shows : Shows lines s
   unfolding before
   written_shows =
-      let distinct : are_distinct w.start.processes ≡ true = start_distinct is.start.0 w is.start.1 in
+      let ascends : Ascends w.start.processes = start_ascends is.start.0 w is.start.1 in
       let first : Shows (start_lines w) w.start = λ p found.
       subst (λ (o : Option Process). IsSomeAnd o (λ q. (q.pid ≡ p.pid) × (q.space ≡ p.space) × (q.cred ≡ p.cred)))
-      (sym (start_shows w.start.processes distinct p.pid ∙ found)) (refl, refl, refl) in
+      (sym (start_shows w w.start.processes ascends p.pid ∙ found)) (refl, refl, refl) in
       subst (λ (ls : List ReportLine). Shows ls s) (sym cut_there)
-      (silent_shown before (Plain end ∷ is.answer) s (plain_silent is.answer is.plain) (run_shows w events w.start s is.built is.run (start_lines w) first))
+      (silent_shown before (Plain end ∷ is.answer) s (plain_silent is.answer is.plain) (run_shows w events w.start s is.run (start_lines w) first))
 
   -- they are true
   pub written_true : AreTrue w w.start lines
   written_true =
       subst (λ (ls : List ReportLine). AreTrue w w.start ls) (sym is.cut)
       (true_start w w.start w.start.processes (passed_lines w w.start events ++ Plain end ∷ is.answer)
-      (each_found w.start.processes (start_distinct is.start.0 w is.start.1))
+      (each_found w.start.processes (start_ascends is.start.0 w is.start.1))
       (true_passed w events w.start s (Plain end ∷ is.answer) is.run (plain_true w s is.answer is.plain)))

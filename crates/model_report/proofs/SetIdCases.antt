@@ -1,67 +1,52 @@
 -- Worked cases, by computation, of whole reports on the calls that set ids and groups: from the bytes of a world and a log
 -- to the text.
-use Rattle.std.proofs.Common.{ℕ, List, [], ◌∷◌, ◌++◌, refl}
+use Rattle.std.proofs.Common.{[], ◌∷◌, ◌++◌, refl}
 use Rattle.std.specs.Prelude.{codes}
-use Rattle.cm_base.specs.declared.status.Status.{Status}
 use Rattle.cm_base.specs.declared.status.Status.TheVariants as status
-use Rattle.model_text.proofs.PrintCases.{print_on_literals}
-use Rattle.model_report.proofs.ReportCases.{Says, root_line, user_line}
-use Rattle.model_report.proofs.WholeCases.{files, replay_words, audit_words}
-use Rattle.model_text.proofs.WorldCases.{world_on_literals}
+use Rattle.model_report.proofs.CaseReports.{Says, RowReplays, RowAudits, files, audit_words, root_line, user_line}
+use Rattle.model_report.proofs.CaseReports.{ids_of, sets_of, user_ids, of_100}
+use Rattle.model_report.proofs.CaseReports.{all, none, kill, net_bind, no_flags, keep_caps, all_sets, no_sets}
 use Rattle.model_report.specs.Report.{report}
-
--- the text of the world of process 100, whose row goes on with these lines
-abbrev pub of_row : List ℕ → List ℕ
-of_row rest = codes "log = \"script\"\n[[process]]\npid = 100\n" ++ rest
-
--- the replay of the log in that world has the status and the lines
-abbrev pub Replays : List ℕ → List ℕ → Status → List (List ℕ) → Type 0
-Replays row log st lines = Says (report replay_words (files (of_row row) log)) st lines
-
--- an audit of process 100 after it for a right
-abbrev pub Audits : List ℕ → List ℕ → List ℕ → Status → List (List ℕ) → Type 0
-Audits row log right st lines = Says (report (audit_words (codes "100") right) (files (of_row row) log)) st lines
-
--- the sets of a credential line of one without capabilities, and of one with all, in a full bounding set and without flags
-abbrev pub no_sets : List ℕ
-no_sets = codes " inh=0000000000000000 prm=0000000000000000 eff=0000000000000000 bnd=000001ffffffffff amb=0000000000000000 sec=00 nnp=0"
-
-abbrev pub all_sets : List ℕ
-all_sets = codes " inh=0000000000000000 prm=000001ffffffffff eff=000001ffffffffff bnd=000001ffffffffff amb=0000000000000000 sec=00 nnp=0"
+use Rattle.model_text.proofs.PrintCases.{print_on_literals}
+use Rattle.model_text.proofs.ProcessCases.{of_row}
+use Rattle.model_text.proofs.WorldCases.{world_on_literals}
 
 -- ---- user ids
 -- a real id that is given makes the effective one also the saved one
-pub setreuid_saves_the_effective_id : Replays (codes "uid = [0, 0, 7, 0]\n") (codes "100 setreuid 1000 -1 = 0\n") status.Accepted
-    ((codes "> 100 init uid=0,0,7,0 gid=0,0,0,0 groups=-" ++ all_sets) ∷ codes "1: 100 setreuid 1000 -1 = 0"
-    ∷ (codes "> 100 init uid=1000,0,0,0 gid=0,0,0,0 groups=-" ++ all_sets) ∷ codes "end 1" ∷ [])
+pub setreuid_saves_the_effective_id : RowReplays (codes "uid = [0, 0, 7, 0]\n") (codes "100 setreuid 1000 -1 = 0\n")
+    status.Accepted
+    (of_100 (ids_of (codes "0,0,7,0")) all_sets ∷ codes "1: 100 setreuid 1000 -1 = 0"
+    ∷ of_100 (ids_of (codes "1000,0,0,0")) all_sets ∷ codes "end 1" ∷ [])
 unfolding print_on_literals world_on_literals
 setreuid_saves_the_effective_id = record { status = refl; text = refl }
 
 -- without CAP_SETUID setuid goes to the real or the saved id alone, and not to the effective one
-pub setuid_to_the_effective_id_is_refused : Replays (codes "uid = [1000, 33, 44, 33]\n") (codes "100 setuid 33 = EPERM\n") status.Accepted
-    ((codes "> 100 init uid=1000,33,44,33 gid=0,0,0,0 groups=-" ++ no_sets) ∷ codes "1: 100 setuid 33 = EPERM"
-    ∷ (codes "> 100 init uid=1000,33,44,33 gid=0,0,0,0 groups=-" ++ no_sets) ∷ codes "end 1" ∷ [])
+pub setuid_to_the_effective_id_is_refused : RowReplays (codes "uid = [1000, 33, 44, 33]\n")
+    (codes "100 setuid 33 = EPERM\n") status.Accepted
+    (of_100 (ids_of (codes "1000,33,44,33")) no_sets ∷ codes "1: 100 setuid 33 = EPERM"
+    ∷ of_100 (ids_of (codes "1000,33,44,33")) no_sets ∷ codes "end 1" ∷ [])
 unfolding print_on_literals world_on_literals
 setuid_to_the_effective_id_is_refused = record { status = refl; text = refl }
 
-pub it_is_never_done : Replays (codes "uid = [1000, 33, 44, 33]\n") (codes "100 setuid 33 = 0\n") status.Impossible
-    ((codes "> 100 init uid=1000,33,44,33 gid=0,0,0,0 groups=-" ++ no_sets) ∷ codes "impossible line 1: the rules give EPERM" ∷ [])
+pub it_is_never_done : RowReplays (codes "uid = [1000, 33, 44, 33]\n") (codes "100 setuid 33 = 0\n") status.Impossible
+    (of_100 (ids_of (codes "1000,33,44,33")) no_sets ∷ codes "impossible line 1: the rules give EPERM" ∷ [])
 unfolding print_on_literals world_on_literals
 it_is_never_done = record { status = refl; text = refl }
 
 -- setfsuid has no error: what it may not do changes nothing
-pub setfsuid_that_may_not_changes_nothing : Replays (codes "uid = 1000\n") (codes "100 setfsuid 5 = 1000\n") status.Accepted
+pub setfsuid_that_may_not_changes_nothing : RowReplays (codes "uid = 1000\n") (codes "100 setfsuid 5 = 1000\n")
+    status.Accepted
     (user_line ∷ codes "1: 100 setfsuid 5 = 1000" ∷ user_line ∷ codes "end 1" ∷ [])
 unfolding print_on_literals world_on_literals
 setfsuid_that_may_not_changes_nothing = record { status = refl; text = refl }
 
-pub setfsuid_gives_the_id_before : Replays (codes "uid = 1000\n") (codes "100 setfsuid 5 = 5\n") status.Impossible (user_line
-    ∷ codes "impossible line 1: the rules give 1000" ∷ [])
+pub setfsuid_gives_the_id_before : RowReplays (codes "uid = 1000\n") (codes "100 setfsuid 5 = 5\n") status.Impossible
+    (user_line ∷ codes "impossible line 1: the rules give 1000" ∷ [])
 unfolding print_on_literals world_on_literals
 setfsuid_gives_the_id_before = record { status = refl; text = refl }
 
 -- what is possible is printed up to the line that isn't
-pub third_line_is_impossible : Replays (codes "uid = 1000\n")
+pub third_line_is_impossible : RowReplays (codes "uid = 1000\n")
     (codes "100 setresuid -1 -1 -1 = 0\n100 setfsuid 5 = 1000\n100 setresuid 0 0 0 = 0\n") status.Impossible
     (user_line ∷ codes "1: 100 setresuid -1 -1 -1 = 0" ∷ user_line ∷ codes "2: 100 setfsuid 5 = 1000" ∷ user_line
     ∷ codes "impossible line 3: the rules give EPERM" ∷ [])
@@ -70,10 +55,9 @@ third_line_is_impossible = record { status = refl; text = refl }
 
 -- with CAP_SETUID the fs id goes to 5, and the capabilities that follow it (0 to 4, 9, 27, 32: 0x10800021f) leave the
 -- effective set; by the run back the permitted ones of them come again
-pub root_sets_its_fs_id : Replays [] (codes "100 setfsuid 5 = 0\n100 setfsuid 0 = 5\n") status.Accepted
+pub root_sets_its_fs_id : RowReplays [] (codes "100 setfsuid 5 = 0\n100 setfsuid 0 = 5\n") status.Accepted
     (root_line ∷ codes "1: 100 setfsuid 5 = 0"
-    ∷ (codes "> 100 init uid=0,0,0,5 gid=0,0,0,0 groups=-"
-    ++ codes " inh=0000000000000000 prm=000001ffffffffff eff=000001fef7fffde0 bnd=000001ffffffffff amb=0000000000000000 sec=00 nnp=0")
+    ∷ of_100 (ids_of (codes "0,0,0,5")) (sets_of none all (codes "000001fef7fffde0") all none no_flags)
     ∷ codes "2: 100 setfsuid 0 = 5" ∷ root_line ∷ codes "end 2" ∷ [])
 unfolding print_on_literals world_on_literals
 root_sets_its_fs_id = record { status = refl; text = refl }
@@ -81,63 +65,62 @@ root_sets_its_fs_id = record { status = refl; text = refl }
 -- ---- securebits
 -- under SECBIT_KEEP_CAPS the permitted set stays where root ids are given up; the effective id wasn't root before, so the
 -- effective set stays too
-pub kept_caps_stay_effective : Replays
+pub kept_caps_stay_effective : RowReplays
     (codes "uid = [0, 1000, 0, 1000]\npermitted = \"CAP_KILL\"\neffective = \"CAP_KILL\"\nsecurebits = 16\n")
     (codes "100 setresuid 1000 1000 1000 = 0\n") status.Accepted
-    ((codes "> 100 init uid=0,1000,0,1000 gid=0,0,0,0 groups=-"
-    ++ codes " inh=0000000000000000 prm=0000000000000020 eff=0000000000000020 bnd=000001ffffffffff amb=0000000000000000 sec=10 nnp=0")
+    (of_100 (ids_of (codes "0,1000,0,1000")) (sets_of none kill kill all none keep_caps)
     ∷ codes "1: 100 setresuid 1000 1000 1000 = 0"
-    ∷ (codes "> 100 init uid=1000,1000,1000,1000 gid=0,0,0,0 groups=-"
-    ++ codes " inh=0000000000000000 prm=0000000000000020 eff=0000000000000020 bnd=000001ffffffffff amb=0000000000000000 sec=10 nnp=0")
+    ∷ of_100 user_ids (sets_of none kill kill all none keep_caps)
     ∷ codes "end 1" ∷ [])
 unfolding print_on_literals world_on_literals
 kept_caps_stay_effective = record { status = refl; text = refl }
 
 -- the ambient set goes then, and the effective set of one whose effective id was root
-pub kept_caps_leave_the_ambient_set : Replays
+pub kept_caps_leave_the_ambient_set : RowReplays
     (codes "uid = 0\ninheritable = \"CAP_NET_BIND_SERVICE\"\nambient = \"CAP_NET_BIND_SERVICE\"\nsecurebits = 16\n")
     (codes "100 setresuid 1000 1000 1000 = 0\n") status.Accepted
-    ((codes "> 100 init uid=0,0,0,0 gid=0,0,0,0 groups=-"
-    ++ codes " inh=0000000000000400 prm=000001ffffffffff eff=000001ffffffffff bnd=000001ffffffffff amb=0000000000000400 sec=10 nnp=0")
+    (of_100 (ids_of (codes "0,0,0,0")) (sets_of net_bind all all all net_bind keep_caps)
     ∷ codes "1: 100 setresuid 1000 1000 1000 = 0"
-    ∷ (codes "> 100 init uid=1000,1000,1000,1000 gid=0,0,0,0 groups=-"
-    ++ codes " inh=0000000000000400 prm=000001ffffffffff eff=0000000000000000 bnd=000001ffffffffff amb=0000000000000000 sec=10 nnp=0")
+    ∷ of_100 user_ids (sets_of net_bind all none all none keep_caps)
     ∷ codes "end 1" ∷ [])
 unfolding print_on_literals world_on_literals
 kept_caps_leave_the_ambient_set = record { status = refl; text = refl }
 
 -- ---- group ids and groups
 -- a service gives up its groups, its group ids and its user ids, in this order
-pub service_gives_up_root : Replays (codes "groups = [0, 4]\n")
-    (codes "100 setgroups 34 33 34 = 0\n100 setresgid 33 33 33 = 0\n100 setuid 33 = 0\n100 setgroups = EPERM\n100 setgid 0 = EPERM\n") status.Accepted
-    ((codes "> 100 init uid=0,0,0,0 gid=0,0,0,0 groups=0,4" ++ all_sets) ∷ codes "1: 100 setgroups 34 33 34 = 0"
-    ∷ (codes "> 100 init uid=0,0,0,0 gid=0,0,0,0 groups=33,34" ++ all_sets) ∷ codes "2: 100 setresgid 33 33 33 = 0"
-    ∷ (codes "> 100 init uid=0,0,0,0 gid=33,33,33,33 groups=33,34" ++ all_sets) ∷ codes "3: 100 setuid 33 = 0"
-    ∷ (codes "> 100 init uid=33,33,33,33 gid=33,33,33,33 groups=33,34" ++ no_sets) ∷ codes "4: 100 setgroups = EPERM"
-    ∷ (codes "> 100 init uid=33,33,33,33 gid=33,33,33,33 groups=33,34" ++ no_sets) ∷ codes "5: 100 setgid 0 = EPERM"
-    ∷ (codes "> 100 init uid=33,33,33,33 gid=33,33,33,33 groups=33,34" ++ no_sets) ∷ codes "end 5" ∷ [])
+pub service_gives_up_root : RowReplays (codes "groups = [0, 4]\n")
+    (codes "100 setgroups 34 33 34 = 0\n100 setresgid 33 33 33 = 0\n100 setuid 33 = 0\n100 setgroups = EPERM\n"
+    ++ codes "100 setgid 0 = EPERM\n") status.Accepted
+    (of_100 (codes " uid=0,0,0,0 gid=0,0,0,0 groups=0,4") all_sets ∷ codes "1: 100 setgroups 34 33 34 = 0"
+    ∷ of_100 (codes " uid=0,0,0,0 gid=0,0,0,0 groups=33,34") all_sets ∷ codes "2: 100 setresgid 33 33 33 = 0"
+    ∷ of_100 (codes " uid=0,0,0,0 gid=33,33,33,33 groups=33,34") all_sets ∷ codes "3: 100 setuid 33 = 0"
+    ∷ of_100 (codes " uid=33,33,33,33 gid=33,33,33,33 groups=33,34") no_sets ∷ codes "4: 100 setgroups = EPERM"
+    ∷ of_100 (codes " uid=33,33,33,33 gid=33,33,33,33 groups=33,34") no_sets ∷ codes "5: 100 setgid 0 = EPERM"
+    ∷ of_100 (codes " uid=33,33,33,33 gid=33,33,33,33 groups=33,34") no_sets ∷ codes "end 5" ∷ [])
 unfolding print_on_literals world_on_literals
 service_gives_up_root = record { status = refl; text = refl }
 
 -- one that drops its user ids first can't drop its groups any more
-pub groups_are_given_up_too_late : Replays (codes "groups = [0]\n") (codes "100 setuid 33 = 0\n100 setgroups = 0\n") status.Impossible
-    ((codes "> 100 init uid=0,0,0,0 gid=0,0,0,0 groups=0" ++ all_sets) ∷ codes "1: 100 setuid 33 = 0"
-    ∷ (codes "> 100 init uid=33,33,33,33 gid=0,0,0,0 groups=0" ++ no_sets) ∷ codes "impossible line 2: the rules give EPERM" ∷ [])
+pub groups_are_given_up_too_late : RowReplays (codes "groups = [0]\n") (codes "100 setuid 33 = 0\n100 setgroups = 0\n")
+    status.Impossible
+    (of_100 (codes " uid=0,0,0,0 gid=0,0,0,0 groups=0") all_sets ∷ codes "1: 100 setuid 33 = 0"
+    ∷ of_100 (codes " uid=33,33,33,33 gid=0,0,0,0 groups=0") no_sets ∷ codes "impossible line 2: the rules give EPERM" ∷ [])
 unfolding print_on_literals world_on_literals
 groups_are_given_up_too_late = record { status = refl; text = refl }
 
-pub group_ids_of_a_user : Replays (codes "uid = 1000\ngid = [10, 11, 12, 13]\n")
+pub group_ids_of_a_user : RowReplays (codes "uid = 1000\ngid = [10, 11, 12, 13]\n")
     (codes "100 setregid 11 12 = 0\n100 setfsgid 11 = 12\n100 setresgid -1 -1 13 = EPERM\n") status.Accepted
-    ((codes "> 100 init uid=1000,1000,1000,1000 gid=10,11,12,13 groups=-" ++ no_sets) ∷ codes "1: 100 setregid 11 12 = 0"
-    ∷ (codes "> 100 init uid=1000,1000,1000,1000 gid=11,12,12,12 groups=-" ++ no_sets) ∷ codes "2: 100 setfsgid 11 = 12"
-    ∷ (codes "> 100 init uid=1000,1000,1000,1000 gid=11,12,12,11 groups=-" ++ no_sets) ∷ codes "3: 100 setresgid -1 -1 13 = EPERM"
-    ∷ (codes "> 100 init uid=1000,1000,1000,1000 gid=11,12,12,11 groups=-" ++ no_sets) ∷ codes "end 3" ∷ [])
+    (of_100 (codes " uid=1000,1000,1000,1000 gid=10,11,12,13 groups=-") no_sets ∷ codes "1: 100 setregid 11 12 = 0"
+    ∷ of_100 (codes " uid=1000,1000,1000,1000 gid=11,12,12,12 groups=-") no_sets ∷ codes "2: 100 setfsgid 11 = 12"
+    ∷ of_100 (codes " uid=1000,1000,1000,1000 gid=11,12,12,11 groups=-") no_sets ∷ codes "3: 100 setresgid -1 -1 13 = EPERM"
+    ∷ of_100 (codes " uid=1000,1000,1000,1000 gid=11,12,12,11 groups=-") no_sets ∷ codes "end 3" ∷ [])
 unfolding print_on_literals world_on_literals
 group_ids_of_a_user = record { status = refl; text = refl }
 
 -- ---- the largest and the smallest id, and those that aren't any
-pub minus_one_is_no_id : Replays []
-    (codes "100 setuid -1 = EINVAL\n100 setgid 4294967295 = EINVAL\n100 setgroups 5 -1 = EINVAL\n100 setfsuid -1 = 0\n100 setreuid -1 -1 = 0\n") status.Accepted
+pub minus_one_is_no_id : RowReplays []
+    (codes "100 setuid -1 = EINVAL\n100 setgid 4294967295 = EINVAL\n100 setgroups 5 -1 = EINVAL\n100 setfsuid -1 = 0\n"
+    ++ codes "100 setreuid -1 -1 = 0\n") status.Accepted
     (root_line ∷ codes "1: 100 setuid -1 = EINVAL" ∷ root_line ∷ codes "2: 100 setgid -1 = EINVAL" ∷ root_line
     ∷ codes "3: 100 setgroups 5 -1 = EINVAL" ∷ root_line ∷ codes "4: 100 setfsuid -1 = 0" ∷ root_line
     ∷ codes "5: 100 setreuid -1 -1 = 0" ∷ root_line ∷ codes "end 5" ∷ [])
@@ -145,51 +128,60 @@ unfolding print_on_literals world_on_literals
 minus_one_is_no_id = record { status = refl; text = refl }
 
 -- ---- the ends of a log
-pub fault_of_setgroups : Replays [] (codes "100 setgroups = 0\n100 setgroups 5\n") status.BadLog (root_line
-    ∷ codes "1: 100 setgroups = 0" ∷ root_line ∷ codes "bad log line 2" ∷ [])
+pub fault_of_setgroups : RowReplays [] (codes "100 setgroups = 0\n100 setgroups 5\n") status.BadLog
+    (root_line ∷ codes "1: 100 setgroups = 0" ∷ root_line ∷ codes "bad log line 2: shape" ∷ [])
 unfolding print_on_literals world_on_literals
 fault_of_setgroups = record { status = refl; text = refl }
 
-pub unshare_is_not_built : Replays [] (codes "100 setgroups = 0\n7 unshare x\n") status.NotBuilt (root_line
-    ∷ codes "1: 100 setgroups = 0" ∷ root_line ∷ codes "not built" ∷ [])
+pub fault_of_unshare : RowReplays [] (codes "100 setgroups = 0\n7 unshare x = 0\n") status.BadLog
+    (root_line ∷ codes "1: 100 setgroups = 0" ∷ root_line ∷ codes "bad log line 2: count" ∷ [])
 unfolding print_on_literals world_on_literals
-unshare_is_not_built = record { status = refl; text = refl }
+fault_of_unshare = record { status = refl; text = refl }
 
-pub world_with_a_bad_set : Replays (codes "permitted = \"CAP_FOO\"\n") (codes "100 capset = 0\n") status.BadWorld (codes "bad world" ∷ [])
+pub world_with_a_bad_set : RowReplays (codes "permitted = \"CAP_FOO\"\n") (codes "100 capset = 0\n") status.BadWorld
+    (codes "bad world process 1: BadCaps" ∷ [])
 unfolding print_on_literals world_on_literals
 world_with_a_bad_set = record { status = refl; text = refl }
 
 -- ---- audits
 -- a world that says more than user ids, be it what holds by default
-pub world_that_says_more : Audits (codes "gid = 0\n") [] (codes "uid:0") status.NotBuilt (root_line ∷ codes "end 0" ∷ codes "not built" ∷ [])
+pub world_that_says_more : RowAudits (codes "gid = 0\n") [] (codes "uid:0") status.NotBuilt
+    (root_line ∷ codes "end 0" ∷ codes "not built" ∷ [])
 unfolding print_on_literals world_on_literals
 world_that_says_more = record { status = refl; text = refl }
 
 -- a log with another call than setresuid, be it one that is refused
-pub log_with_another_call : Audits (codes "uid = 1000\n") (codes "100 setresuid -1 -1 -1 = 0\n100 setuid 0 = EPERM\n") (codes "uid:0") status.NotBuilt
-    (user_line ∷ codes "1: 100 setresuid -1 -1 -1 = 0" ∷ user_line ∷ codes "2: 100 setuid 0 = EPERM" ∷ user_line ∷ codes "end 2" ∷ codes "not built" ∷ [])
+pub log_with_another_call : RowAudits (codes "uid = 1000\n")
+    (codes "100 setresuid -1 -1 -1 = 0\n100 setuid 0 = EPERM\n") (codes "uid:0") status.NotBuilt
+    (user_line ∷ codes "1: 100 setresuid -1 -1 -1 = 0" ∷ user_line ∷ codes "2: 100 setuid 0 = EPERM" ∷ user_line
+    ∷ codes "end 2" ∷ codes "not built" ∷ [])
 unfolding print_on_literals world_on_literals
 log_with_another_call = record { status = refl; text = refl }
 
 -- without either it is answered
-pub log_of_setresuid_alone : Audits (codes "uid = 1000\n") (codes "100 setresuid -1 -1 -1 = 0\n100 setresuid 0 0 0 = EPERM\n") (codes "uid:0") status.Accepted
-    (user_line ∷ codes "1: 100 setresuid -1 -1 -1 = 0" ∷ user_line ∷ codes "2: 100 setresuid 0 0 0 = EPERM" ∷ user_line ∷ codes "end 2" ∷ codes "yes" ∷ [])
+pub log_of_setresuid_alone : RowAudits (codes "uid = 1000\n")
+    (codes "100 setresuid -1 -1 -1 = 0\n100 setresuid 0 0 0 = EPERM\n") (codes "uid:0") status.Accepted
+    (user_line ∷ codes "1: 100 setresuid -1 -1 -1 = 0" ∷ user_line ∷ codes "2: 100 setresuid 0 0 0 = EPERM" ∷ user_line
+    ∷ codes "end 2" ∷ codes "yes" ∷ [])
 unfolding print_on_literals world_on_literals
 log_of_setresuid_alone = record { status = refl; text = refl }
 
 -- a bad query comes first
-pub text_of_no_right_comes_first : Audits (codes "gid = 0\n") (codes "100 setgroups = 0\n") (codes "uid:x") status.BadQuery (root_line
-    ∷ codes "1: 100 setgroups = 0" ∷ root_line ∷ codes "end 1" ∷ codes "bad query: right" ∷ [])
+pub text_of_no_right_comes_first : RowAudits (codes "gid = 0\n") (codes "100 setgroups = 0\n") (codes "uid:x")
+    status.BadQuery
+    (root_line ∷ codes "1: 100 setgroups = 0" ∷ root_line ∷ codes "end 1" ∷ codes "bad query: right" ∷ [])
 unfolding print_on_literals world_on_literals
 text_of_no_right_comes_first = record { status = refl; text = refl }
 
-pub pid_of_no_process_comes_first : Says (report (audit_words (codes "101") (codes "uid:x")) (files (of_row (codes "gid = 0\n")) [])) status.BadQuery (root_line
-    ∷ codes "end 0" ∷ codes "bad query: pid" ∷ [])
+pub pid_of_no_process_comes_first : Says
+    (report (audit_words (codes "101") (codes "uid:x")) (files (of_row (codes "gid = 0\n")) [])) status.BadQuery
+    (root_line ∷ codes "end 0" ∷ codes "bad query: pid" ∷ [])
 unfolding print_on_literals world_on_literals
 pid_of_no_process_comes_first = record { status = refl; text = refl }
 
 -- and so does a log that isn't accepted
-pub impossible_line_comes_first : Audits (codes "uid = 1000\ngid = 0\n") (codes "100 setuid 0 = 0\n") (codes "uid:x") status.Impossible (user_line
-    ∷ codes "impossible line 1: the rules give EPERM" ∷ [])
+pub impossible_line_comes_first : RowAudits (codes "uid = 1000\ngid = 0\n") (codes "100 setuid 0 = 0\n") (codes "uid:x")
+    status.Impossible
+    (user_line ∷ codes "impossible line 1: the rules give EPERM" ∷ [])
 unfolding print_on_literals world_on_literals
 impossible_line_comes_first = record { status = refl; text = refl }

@@ -1,41 +1,54 @@
 -- Why a command answers what it does, in the words of worlds, events and runs: each status and its cause.
-use Rattle.std.specs.Prelude.{◌≡◌, ◌≤◌, ◌<◌, ◌⊎◌, ℕ, true, false, length, List, ◌∷◌, ◌++◌, Some, None}
+use Rattle.std.specs.Prelude.{◌≡◌, ◌≤◌, ◌<◌, ◌⊎◌, ℕ, true, false, length, List, [], ◌∷◌, ◌++◌, Some, None}
+use Rattle.cm_base.specs.declared.faults.LineFault.{LineFault}
+use Rattle.cm_base.specs.declared.faults.Table.{Table}
+use Rattle.cm_base.specs.declared.faults.WorldFault.{WorldFault}
+use Rattle.cm_base.specs.declared.limited.Limited.{Limited}
+use Rattle.cm_base.specs.declared.limited.Limited.TheVariants as limit
 use Rattle.cm_base.specs.declared.status.Status.{Status}
 use Rattle.cm_base.specs.declared.status.Status.TheVariants as status
+use Rattle.cm_base.specs.Limited.{limit_number}
 use Rattle.model_cred.specs.Call.{Event}
 use Rattle.model_cred.specs.Process.{Process, State}
 use Rattle.model_cred.specs.Right.{Right, Uid}
-use Rattle.model_cred.specs.World.{World}
-use Rattle.model_run.specs.Step.{Step, Run}
+use Rattle.model_cred.specs.World.{World, Script, Strace}
+use Rattle.model_run.specs.Step.{Step}
 use Rattle.model_run.specs.RunBack.{are_setresuids, BringsBack, CanComeBack}
 use Rattle.model_report.specs.Command.{Later, NoForm, command_of, files_of, query_of}
 use Rattle.model_report.specs.Query.{Query, asked_process, right_token}
-use Rattle.model_report.specs.Report.{world_limit, log_limit}
-use Rattle.model_text.specs.Reading.{Placed, Stop, Fault, Limit, NotBuilt, End, AtEnd, Stops, Reading, events_of, script_reading}
-use Rattle.model_text.specs.WorldText.{WorldText, Reads, Bad, world_text, text_says_more}
-use Rattle.model_text.specs.WorldText as texts
+use Rattle.model_report.specs.Replay.{exceeded, IsWithin}
+use Rattle.model_text.specs.Reading.{Placed, Stop, Fault, Limit, End, AtEnd, Stops, Reading, events_of, script_reading}
+use Rattle.model_text.specs.WorldText.{WorldText, Reads, Bad, Exceeds, world_text, text_says_more}
 
 -- The words, of a replay or of an audit, name a world, whose text is within its limit and reads so, and this log.
 pub record Names (words : List (List ℕ)) (bytes : List ℕ → List ℕ) (text : WorldText) (log : List ℕ) : Type 0 where
   pub world : List ℕ
   pub command : files_of (command_of words) ≡ Some (world, log)
-  pub size : length (bytes world) ≤ world_limit
+  pub size : length (bytes world) ≤ limit_number limit.World
   pub reads : world_text (bytes world) ≡ text
 
--- The replay begins: the words name the world w and a log, which is within its limit and reads so.
+-- The replay begins: the words name the world w, whose logs are script logs, and a log, which is within its limit and
+-- reads so.
 pub record Begins (words : List (List ℕ)) (bytes : List ℕ → List ℕ) (w : World) (reading : Reading) : Type 0 where
   pub log : List ℕ
   pub names : Names words bytes (Reads w) log
-  pub size : length (bytes log) ≤ log_limit
-  pub reads : script_reading (bytes log) ≡ reading
+  pub form : w.form ≡ Script
+  pub size : length (bytes log) ≤ limit_number limit.Log
+  pub reads : script_reading w (bytes log) ≡ reading
 
--- The replay comes to an end: the log reads as these events, which are a run from the world's state to s, and ends so.
+-- A run all of whose states, but the first, are within the limits of live processes and of spaces.
+abbrev pub RunWithin : World → State → List Event → State → Type 0
+RunWithin w s [] s' = s' ≡ s
+RunWithin w s (e ∷ es) s' = (mid : State) × Step w s e mid × IsWithin mid × RunWithin w mid es s'
+
+-- The replay comes to an end: the log reads as these events, which are a run within the limits from the world's state to s,
+-- and ends so.
 pub record ComesTo (words : List (List ℕ)) (bytes : List ℕ → List ℕ) (w : World) (s : State) (ending : End) : Type 0 where
   pub events : List Placed
   pub begins : Begins words bytes w (record { events = events; ending = ending })
-  pub run : Run w w.start (events_of events) s
+  pub run : RunWithin w w.start (events_of events) s
 
--- The log is accepted: it reads as events that are a run, which leads to the state, and the reading ends at the log's end.
+-- The log is accepted: it reads as events that are a run within the limits, which leads to the state, and the reading ends at the log's end.
 pub record IsAccepted (words : List (List ℕ)) (bytes : List ℕ → List ℕ) : Type 0 where
   pub world : World
   pub state : State
@@ -56,26 +69,46 @@ pub record IsImpossible (words : List (List ℕ)) (bytes : List ℕ → List ℕ
   pub later : List Placed
   pub ending : End
   pub begins : Begins words bytes world (record { events = before ++ event ∷ later; ending = ending })
-  pub run : Run world world.start (events_of before) state
+  pub run : RunWithin world world.start (events_of before) state
   pub no_step : (after : State) → ¬ Step world state event.event after
+
+-- Crowded: the events before one are a run, and that one leads to a state which exceeds the limit.
+pub record IsCrowded (words : List (List ℕ)) (bytes : List ℕ → List ℕ) (exceeds : Limited) : Type 0 where
+  pub world : World
+  pub state : State
+  pub before : List Placed
+  pub event : Placed
+  pub later : List Placed
+  pub ending : End
+  pub begins : Begins words bytes world (record { events = before ++ event ∷ later; ending = ending })
+  pub run : RunWithin world world.start (events_of before) state
+  pub after : State
+  pub step : Step world state event.event after
+  pub over : exceeded after ≡ Some exceeds
 
 -- the world that the words name is too long
 abbrev pub IsLongWorld : List (List ℕ) → (List ℕ → List ℕ) → Type 0
-IsLongWorld words bytes = (world : List ℕ) × (log : List ℕ) × (files_of (command_of words) ≡ Some (world, log)) × (world_limit < length (bytes world))
+IsLongWorld words bytes =
+    (world : List ℕ) × (log : List ℕ) × (files_of (command_of words) ≡ Some (world, log)) × (limit_number limit.World < length (bytes world))
 
 -- the words name a world, and the log is too long
 abbrev pub IsLongLog : List (List ℕ) → (List ℕ → List ℕ) → Type 0
-IsLongLog words bytes = (w : World) × (log : List ℕ) × Names words bytes (Reads w) log × (log_limit < length (bytes log))
+IsLongLog words bytes =
+    (w : World) × (log : List ℕ) × Names words bytes (Reads w) log × (w.form ≡ Script) × (limit_number limit.Log < length (bytes log))
 
--- after a run, the reading of the log stops at a limit
-abbrev pub IsLimited : List (List ℕ) → (List ℕ → List ℕ) → Type 0
-IsLimited words bytes = (name : List ℕ) × (most : ℕ) × IsStopped words bytes (Limit name most)
+-- The world or the log is too long; the world's text exceeds a limit; so does the log's, after a run; or a step of it would.
+pub data IsLimited (words : List (List ℕ)) (bytes : List ℕ → List ℕ) : Type 0 where
+  by_world : IsLongWorld words bytes → IsLimited words bytes
+  by_log : IsLongLog words bytes → IsLimited words bytes
+  by_row : (l : Limited) (log : List ℕ) → Names words bytes (Exceeds l) log → IsLimited words bytes
+  by_line : (l : Limited) → IsStopped words bytes (Limit l) → IsLimited words bytes
+  by_step : (l : Limited) → IsCrowded words bytes l → IsLimited words bytes
 
 -- ---- the answer to an audit, in the state after an accepted log
 -- the query's pid is that of a live process, and its right is a right
-pub record Asks (q : Query) (s : State) (p : Process) (right : Right) : Type 0 where
+pub record Asks (q : Query) (w : World) (s : State) (p : Process) (right : Right) : Type 0 where
   pub process : asked_process s q.pid ≡ Some p
-  pub asked : right_token q.right ≡ Some right
+  pub asked : right_token w.names q.right ≡ Some right
 
 -- The weak audit knows the world and the log: the world's text says no more of a process than its pid and its user ids,
 -- and each event is a call of setresuid.
@@ -89,7 +122,7 @@ HasMore words bytes is = (text_says_more (bytes is.comes.begins.names.world) ≡
 
 -- one process lives, the query asks for a user id of it, and the weak audit knows the world and the log
 pub record AsksAlone (words : List (List ℕ)) (bytes : List ℕ → List ℕ) (is : IsAccepted words bytes) (q : Query) (p : Process) (k : ℕ) : Type 0 where
-  pub asks : Asks q is.state p (Uid k)
+  pub asks : Asks q is.world is.state p (Uid k)
   pub alone : length is.state.processes ≡ 1
   pub known : IsKnown words bytes is
 
@@ -103,12 +136,13 @@ IsNo words bytes is q = (p : Process) × (k : ℕ) × AsksAlone words bytes is q
 
 -- A bad query: its pid is that of no live process; or its right is none.
 abbrev pub IsBadQuery : (words : List (List ℕ)) (bytes : List ℕ → List ℕ) → IsAccepted words bytes → Query → Type 0
-IsBadQuery words bytes is q = (asked_process is.state q.pid ≡ None) ⊎ ((p : Process) × (asked_process is.state q.pid ≡ Some p) × (right_token q.right ≡ None))
+IsBadQuery words bytes is q =
+    (asked_process is.state q.pid ≡ None) ⊎ ((p : Process) × (asked_process is.state q.pid ≡ Some p) × (right_token is.world.names q.right ≡ None))
 
 -- Beyond what is built: a right other than a user id, or several processes, or more than the weak audit knows.
 abbrev pub IsBeyond : (words : List (List ℕ)) (bytes : List ℕ → List ℕ) → IsAccepted words bytes → Query → Type 0
 IsBeyond words bytes is q =
-    (p : Process) × (right : Right) × Asks q is.state p right
+    (p : Process) × (right : Right) × Asks q is.world is.state p right
     × (((k : ℕ) → ¬ (right ≡ Uid k)) ⊎ (1 < length is.state.processes) ⊎ HasMore words bytes is)
 
 -- The words ask a query, and after the accepted log this holds of it.
@@ -117,20 +151,20 @@ abbrev pub AfterLog : (words : List (List ℕ)) (bytes : List ℕ → List ℕ)
 AfterLog words bytes Answer = (is : IsAccepted words bytes) × (q : Query) × (query_of (command_of words) ≡ Some q) × Answer words bytes is q
 
 -- ---- the causes
--- Not built are the other commands, a world that asks for more, and a log whose reading stops at a call that isn't built,
--- after a run.
+-- Not built are the other commands, and logs as strace(1) writes them.
 abbrev pub IsUnbuilt : List (List ℕ) → (List ℕ → List ℕ) → Type 0
-IsUnbuilt words bytes = (command_of words ≡ Later) ⊎ ((log : List ℕ) × Names words bytes texts.NotBuilt log) ⊎ IsStopped words bytes NotBuilt
+IsUnbuilt words bytes = (command_of words ≡ Later) ⊎ ((w : World) × (log : List ℕ) × Names words bytes (Reads w) log × (w.form ≡ Strace))
 
 -- The cause of each status that comes of the words and of the bytes of the files.
 abbrev pub Cause : List (List ℕ) → (List ℕ → List ℕ) → Status → Type 0
 Cause words bytes status.Accepted = ((query_of (command_of words) ≡ None) × IsAccepted words bytes) ⊎ AfterLog words bytes IsYes
 Cause words bytes status.No = AfterLog words bytes IsNo
 Cause words bytes status.Impossible = IsImpossible words bytes
-Cause words bytes status.BadWorld = (log : List ℕ) × Names words bytes Bad log
-Cause words bytes status.BadLog = (number : ℕ) × IsStopped words bytes (Fault number)
+Cause words bytes status.BadWorld =
+    (table : Table) × (row : ℕ) × (why : WorldFault) × (log : List ℕ) × Names words bytes (Bad table row why) log
+Cause words bytes status.BadLog = (number : ℕ) × (why : LineFault) × IsStopped words bytes (Fault number why)
 Cause words bytes status.Usage = command_of words ≡ NoForm
-Cause words bytes status.Limit = IsLongWorld words bytes ⊎ IsLongLog words bytes ⊎ IsLimited words bytes
+Cause words bytes status.Limit = IsLimited words bytes
 Cause words bytes status.BadQuery = AfterLog words bytes IsBadQuery
 Cause words bytes status.NotBuilt = IsUnbuilt words bytes ⊎ AfterLog words bytes IsBeyond
 Cause words bytes _ = ⊥

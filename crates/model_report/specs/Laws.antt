@@ -1,22 +1,23 @@
 -- What is proved of the report as a whole.
 use Rattle.std.specs.Prelude.{◌≡◌, ◌↔◌, ℕ, ◌==◌, Bool, codes, length, List, [], ◌∷◌, ◌++◌, Option, Some, None, IsSomeAnd, All, if◌then◌else◌}
 use Rattle.std.specs.Option.{option_or}
+use Rattle.cm_base.specs.declared.faults.LineFault.{LineFault}
 use Rattle.cm_base.specs.declared.status.Status.{Status}
 use Rattle.cm_base.specs.declared.status.Status.TheVariants as status
 use Rattle.model_cred.specs.Call.{Event}
 use Rattle.model_cred.specs.Process.{Process, State, process_at}
 use Rattle.model_cred.specs.World.{World}
-use Rattle.model_run.specs.Step.{Step, outcome}
+use Rattle.model_run.specs.Step.{Step, Run, outcome}
 use Rattle.model_run.specs.RunBack.{BringsBack}
 use Rattle.model_report.specs.Causes.{Begins, Cause, IsAccepted, IsImpossible, IsStopped, AsksAlone, IsYes}
 use Rattle.model_report.specs.Command.{command_of, query_of}
 use Rattle.model_report.specs.Query.{Query}
-use Rattle.model_report.specs.Replay.{ReportLine, Credentials, Told, Plain, at_line, impossible_text, reason}
+use Rattle.model_report.specs.Replay.{ReportLine, Credentials, Told, Plain, at_line, bad_log_text, impossible_text, reason}
 use Rattle.model_report.specs.Report.{report, log_report, run_lines}
 use Rattle.model_text.specs.Cut.{lines_of}
 use Rattle.model_text.specs.Line.{Line, Tells, Faulty}
 use Rattle.model_text.specs.Numbers.{StandsFor}
-use Rattle.model_text.specs.Reading.{Placed, Fault, Reading, script_reading}
+use Rattle.model_text.specs.Reading.{Placed, Fault, Reading, events_of, script_reading}
 
 -- A status comes exactly by its cause, whatever the words and the files.
 unfoldable pub EachByItsCause : Type 0
@@ -25,8 +26,8 @@ EachByItsCause = (words : List (List ℕ)) (bytes : List ℕ → List ℕ) (st :
 -- the process of the last credential line of that pid
 abbrev pub last_credentials : ℕ → List ReportLine → Option Process
 last_credentials pid [] = None
-last_credentials pid (Credentials p ∷ lines) = option_or (last_credentials pid lines) (if p.pid == pid then Some p else None)
-last_credentials pid (Told e ∷ lines) = last_credentials pid lines
+last_credentials pid (Credentials w p ∷ lines) = option_or (last_credentials pid lines) (if p.pid == pid then Some p else None)
+last_credentials pid (Told w e ∷ lines) = last_credentials pid lines
 last_credentials pid (Plain text ∷ lines) = last_credentials pid lines
 
 -- The last credential line of each live process in the state shows it as it is there but for its forebear, which the line
@@ -41,42 +42,44 @@ Shows lines s =
 unfoldable pub AcceptedIsRun : Type 0
 AcceptedIsRun =
     (words : List (List ℕ)) (bytes : List ℕ → List ℕ) → (report words bytes).status ≡ status.Accepted
-    → (is : IsAccepted words bytes) × Shows (report words bytes).lines is.state
+    → (is : IsAccepted words bytes) × Run is.world is.world.start (events_of is.comes.events) is.state
+    × Shows (report words bytes).lines is.state
 
 -- Where it is impossible, the events before one are a run, no state follows by that event, and the report shows the state
 -- that the run reaches.
 unfoldable pub ImpossibleIsNoStep : Type 0
 ImpossibleIsNoStep =
     (words : List (List ℕ)) (bytes : List ℕ → List ℕ) → (report words bytes).status ≡ status.Impossible
-    → (is : IsImpossible words bytes) × Shows (report words bytes).lines is.state
+    → (is : IsImpossible words bytes) × Run is.world is.world.start (events_of is.before) is.state
+    × Shows (report words bytes).lines is.state
 
 -- ---- the lines of a report, one by one
 -- the events that lines tell, each with its number
 abbrev pub told_in : List ReportLine → List Placed
 told_in [] = []
-told_in (Credentials p ∷ lines) = told_in lines
-told_in (Told e ∷ lines) = e ∷ told_in lines
+told_in (Credentials w p ∷ lines) = told_in lines
+told_in (Told w e ∷ lines) = e ∷ told_in lines
 told_in (Plain text ∷ lines) = told_in lines
 
 -- Read from the top, from a state on: each event that is told is a step, and each credential line shows the process of its
 -- pid as it is after the events before it.
 abbrev pub AreTrue : World → State → List ReportLine → Type 0
 AreTrue w s [] = Unit {0}
-AreTrue w s (Credentials p ∷ lines) = (process_at s.processes p.pid ≡ Some p) × AreTrue w s lines
-AreTrue w s (Told e ∷ lines) = (s' : State) × Step w s e.event s' × AreTrue w s' lines
+AreTrue w s (Credentials v p ∷ lines) = (process_at s.processes p.pid ≡ Some p) × AreTrue w s lines
+AreTrue w s (Told v e ∷ lines) = (s' : State) × Step w s e.event s' × AreTrue w s' lines
 AreTrue w s (Plain text ∷ lines) = AreTrue w s lines
 
--- The line of the log with that number, the first one having 1, stands for this.
-abbrev pub LineStandsFor : List ℕ → ℕ → Line → Type 0
-LineStandsFor log number meaning = StandsFor 1 (lines_of log) number meaning
+-- The line of the log with that number, the first one having 1, stands for this in the world.
+abbrev pub LineStandsFor : World → List ℕ → ℕ → Line → Type 0
+LineStandsFor w log number meaning = StandsFor w 1 (lines_of log) number meaning
 
 -- What the lines of a report say of a log in a world: they are true from the world's state on; they tell the first of the
 -- log's events, in their order and none left out; and the number of each is that of the line which tells it.
 pub record TellsOfLog (w : World) (log : List ℕ) (lines : List ReportLine) : Type 0 where
   pub are_true : AreTrue w w.start lines
   pub untold : List Placed
-  pub order : (script_reading log).events ≡ told_in lines ++ untold
-  pub numbers : All (λ e. LineStandsFor log e.line (Tells e.event)) (told_in lines)
+  pub order : (script_reading w log).events ≡ told_in lines ++ untold
+  pub numbers : All (λ e. LineStandsFor w log e.line (Tells e.event)) (told_in lines)
 
 -- The report tells so of the log whose replay begins.
 unfoldable pub ReportTellsOfLog : Type 0
@@ -100,13 +103,13 @@ EndCountsEvents = (words : List (List ℕ)) (bytes : List ℕ → List ℕ) (is 
 unfoldable pub ImpossibleIsNumbered : Type 0
 ImpossibleIsNumbered = (words : List (List ℕ)) (bytes : List ℕ → List ℕ) (is : IsImpossible words bytes)
     → EndsIn (report words bytes).lines is.before (impossible_text is.event.line (reason (outcome is.world is.state is.event.event))) []
-    × LineStandsFor (bytes is.begins.log) is.event.line (Tells is.event.event)
+    × LineStandsFor is.world (bytes is.begins.log) is.event.line (Tells is.event.event)
 
--- K of `bad log line K` is the number of a line with a fault, and the events before it are told before.
+-- K of `bad log line K` is the number of a line with that fault, and the events before it are told before.
 unfoldable pub BadLogIsNumbered : Type 0
-BadLogIsNumbered = (words : List (List ℕ)) (bytes : List ℕ → List ℕ) (number : ℕ) (is : IsStopped words bytes (Fault number))
-    → EndsIn (report words bytes).lines is.comes.events (at_line (codes "bad log line ") number) []
-    × LineStandsFor (bytes is.comes.begins.log) number Faulty
+BadLogIsNumbered = (words : List (List ℕ)) (bytes : List ℕ → List ℕ) (number : ℕ) (why : LineFault) (is : IsStopped words bytes (Fault number why))
+    → EndsIn (report words bytes).lines is.comes.events (bad_log_text number why) []
+    × LineStandsFor is.world (bytes is.comes.begins.log) number (Faulty why)
 
 -- ---- readings
 -- Logs that read as the same events in the same places, and whose readings end alike, have the same report, whatever form
@@ -114,6 +117,14 @@ BadLogIsNumbered = (words : List (List ℕ)) (bytes : List ℕ → List ℕ) (nu
 unfoldable pub SameReadingSameReport : Type 0
 SameReadingSameReport = (query : Option Query) (more : Bool) (w : World) (one other : Reading) → one.events ≡ other.events → one.ending ≡ other.ending
     → log_report query more w one ≡ log_report query more w other
+
+-- So over one world's text: two logs whose replays begin, and which read as the same events in the same places and end
+-- alike, have the same report, byte for byte.
+unfoldable pub SameLogsSameReport : Type 0
+SameLogsSameReport =
+    (words : List (List ℕ)) (bytes other : List ℕ → List ℕ) (w : World) (one two : Reading)
+    → (first : Begins words bytes w one) → (second : Begins words other w two) → bytes first.names.world ≡ other second.names.world
+    → one.events ≡ two.events → one.ending ≡ two.ending → report words bytes ≡ report words other
 
 -- ---- what an audit says
 -- Where an audit's status is 0, it writes yes: one process lives after the log, and no list of later setresuid calls of
@@ -135,7 +146,7 @@ pub record ShowsRun (words : List (List ℕ)) (bytes : List ℕ → List ℕ) (l
   pub run : List Event
   pub back : BringsBack accepted.world accepted.state process.pid id run
   pub before : List ReportLine
-  pub last : lines ≡ before ++ run_lines process.pid run
+  pub last : lines ≡ before ++ run_lines accepted.world process.pid run
 
 unfoldable pub NoIsRun : Type 0
 NoIsRun = (words : List (List ℕ)) (bytes : List ℕ → List ℕ) → (report words bytes).status ≡ status.No → ShowsRun words bytes (report words bytes).lines

@@ -5,6 +5,7 @@ use Rattle.cm_base.specs.Limits.{id_count}
 use Rattle.cm_base.specs.Names.{cap_of}
 use Rattle.model_cred.specs.Process.{Process, State, process_at}
 use Rattle.model_cred.specs.Right.{Right, Cap, Uid, Gid}
+use Rattle.model_text.specs.SpaceToken.{space_of_token}
 use Rattle.model_text.specs.Token.{number_token, pid_token}
 
 pub record Query : Type 0 where
@@ -23,33 +24,29 @@ as_id n = if nat_lt n id_count then Some n else None
 abbrev pub id_number : List ℕ → Option ℕ
 id_number text = option_and_then as_id (number_token text)
 
--- a space: `init`, which is space 0, or `#` and its number (a name that isn't declared is none; so far none is)
-abbrev pub space_number : List ℕ → Option ℕ
-space_number text = if bytes_eq text (codes "init") then Some 0 else option_and_then number_token (rest_after (codes "#") text)
-
 -- a capability over a space, where both are there
 abbrev pub cap_right : Option ℕ → Option ℕ → Option Right
 cap_right (Some cap) (Some n) = Some (Cap cap n)
 cap_right _ _ = None
 
--- the name of a capability and a space, parted at the first `@`
-abbrev pub cap_parts : Option ℕ → List ℕ → Option Right
-cap_parts None text = None
-cap_parts (Some at) text = cap_right (cap_of (take at text)) (space_number (drop (at + 1) text))
+-- the name of a capability and the token of a space, parted at the first `@`; `names` are those of the declared spaces
+abbrev pub cap_parts : List (List ℕ) → Option ℕ → List ℕ → Option Right
+cap_parts names None text = None
+cap_parts names (Some at) text = cap_right (cap_of (take at text)) (space_of_token names (drop (at + 1) text))
 
-abbrev pub cap_text : List ℕ → Option Right
-cap_text text = cap_parts (position (λ byte. byte == 64) text) text
+abbrev pub cap_text : List (List ℕ) → List ℕ → Option Right
+cap_text names text = cap_parts names (position (λ byte. byte == 64) text) text
 
 -- the right after `uid:`, `gid:` or `cap:`, and else none
-abbrev pub right_by : Option (List ℕ) → Option (List ℕ) → Option (List ℕ) → Option Right
-right_by (Some uid) gid cap = option_map Uid (id_number uid)
-right_by None (Some gid) cap = option_map Gid (id_number gid)
-right_by None None (Some cap) = cap_text cap
-right_by None None None = None
+abbrev pub right_by : List (List ℕ) → Option (List ℕ) → Option (List ℕ) → Option (List ℕ) → Option Right
+right_by names (Some uid) gid cap = option_map Uid (id_number uid)
+right_by names None (Some gid) cap = option_map Gid (id_number gid)
+right_by names None None (Some cap) = cap_text names cap
+right_by names None None None = None
 
 -- a right: `uid:K`, `gid:K` or `cap:NAME@SPACE`
-abbrev pub right_token : List ℕ → Option Right
-right_token text = right_by (rest_after (codes "uid:") text) (rest_after (codes "gid:") text) (rest_after (codes "cap:") text)
+abbrev pub right_token : List (List ℕ) → List ℕ → Option Right
+right_token names text = right_by names (rest_after (codes "uid:") text) (rest_after (codes "gid:") text) (rest_after (codes "cap:") text)
 
 -- the process of an optional pid
 abbrev pub process_of : State → Option ℕ → Option Process

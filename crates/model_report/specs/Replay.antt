@@ -1,21 +1,28 @@
 -- The lines of a report, and the replay: what placed events, one after another from a state on, come to as lines of a report.
 -- Which form of log they were read from has no part in it.
-use Rattle.std.specs.Prelude.{ℕ, codes, decimal, ◌+◌, List, [], ◌∷◌, ◌++◌, Option, Some, None, flat_map}
+use Rattle.std.specs.Prelude.{◌≡◌, ℕ, codes, decimal, ◌+◌, nat_lt, length, List, [], ◌∷◌, ◌++◌, Option, Some, None, flat_map, if◌then◌else◌}
+use Rattle.cm_base.specs.declared.faults.LineFault.{LineFault}
+use Rattle.cm_base.specs.declared.faults.LineFault.TheVariants as fault
+use Rattle.cm_base.specs.declared.limited.Limited.{Limited}
+use Rattle.cm_base.specs.declared.limited.Limited.TheVariants as limit
 use Rattle.cm_base.specs.declared.status.Status.{Status}
 use Rattle.cm_base.specs.declared.status.Status.TheVariants as status
 use Rattle.cm_base.specs.declared.res.Res.{Res}
 use Rattle.cm_base.specs.declared.res.Res.TheVariants.{Child}
+use Rattle.cm_base.specs.Faults.{line_fault_word}
+use Rattle.cm_base.specs.Limited.{limit_name, limit_number}
 use Rattle.model_cred.specs.Call.{Event}
 use Rattle.model_cred.specs.Process.{Process, State, process_at}
 use Rattle.model_cred.specs.World.{World}
 use Rattle.model_run.specs.Step.{Outcome, Goes, NoProcess, NoSpace, PidInUse, Wrong, outcome}
 use Rattle.model_text.specs.Print.{credential_line, event_line, res_text}
-use Rattle.model_text.specs.Reading.{Placed, Stop, Fault, Limit, NotBuilt, End, AtEnd, Stops}
+use Rattle.model_text.specs.Reading.{Placed, Stop, Fault, Limit, End, AtEnd, Stops}
 
--- A line of the report: the credentials of a process; an event with the number of its line; any other text.
+-- A line of the report: the credentials of a process; an event with the number of its line; any other text. The world
+-- has the names of spaces and the paths of files, as the line writes them.
 pub data ReportLine : Type 0 where
-  Credentials : Process → ReportLine
-  Told : Placed → ReportLine
+  Credentials : World → Process → ReportLine
+  Told : World → Placed → ReportLine
   Plain : List ℕ → ReportLine
 
 pub record Report : Type 0 where
@@ -24,8 +31,8 @@ pub record Report : Type 0 where
 
 -- the text of a line
 abbrev pub line_text : ReportLine → List ℕ
-line_text (Credentials p) = credential_line p
-line_text (Told e) = event_line e.line e.event
+line_text (Credentials w p) = credential_line w.names p
+line_text (Told w e) = event_line w e.line e.event
 line_text (Plain text) = text
 
 -- each line and its LF
@@ -61,17 +68,30 @@ impossible_text number why = at_line (codes "impossible line ") number ++ codes 
 abbrev pub impossible : ℕ → Outcome → Report
 impossible number become = says status.Impossible (impossible_text number (reason become))
 
+-- a fault of a line in words: an argument has its number
+abbrev pub fault_text : LineFault → List ℕ
+fault_text (fault.Argument n) = at_line (line_fault_word (fault.Argument n) ++ codes " ") n
+fault_text why = line_fault_word why
+
+-- the line of a line of the log with a fault, with the number of that line
+abbrev pub bad_log_text : ℕ → LineFault → List ℕ
+bad_log_text number why = at_line (codes "bad log line ") number ++ codes ": " ++ fault_text why
+
 -- a line with a fault
-abbrev pub bad_log : ℕ → Report
-bad_log number = says status.BadLog (at_line (codes "bad log line ") number)
+abbrev pub bad_log : ℕ → LineFault → Report
+bad_log number why = says status.BadLog (bad_log_text number why)
 
 -- what is asked for isn't built
 abbrev pub not_built : Report
 not_built = says status.NotBuilt (codes "not built")
 
+-- the line of a limit, with its name and its number
+abbrev pub limit_text : Limited → List ℕ
+limit_text l = codes "limit " ++ limit_name l ++ codes " " ++ decimal (limit_number l)
+
 -- a limit that was exceeded
-abbrev pub limit_hit : List ℕ → ℕ → Report
-limit_hit name number = says status.Limit (codes "limit " ++ name ++ codes " " ++ decimal number)
+abbrev pub limit_hit : Limited → Report
+limit_hit l = says status.Limit (limit_text l)
 
 -- the end of the log, with the number of its events
 abbrev pub ended : ℕ → Report
@@ -79,40 +99,57 @@ ended count = says status.Accepted (at_line (codes "end ") count)
 
 -- what stopped the reading
 abbrev pub stopped : Stop → Report
-stopped (Fault number) = bad_log number
-stopped (Limit name number) = limit_hit name number
-stopped NotBuilt = not_built
+stopped (Fault number why) = bad_log number why
+stopped (Limit l) = limit_hit l
 
 -- how the reading ended, after so many events
 abbrev pub by_end : ℕ → End → Report
 by_end count AtEnd = ended count
 by_end count (Stops stop) = stopped stop
 
+-- ---- the limits of a state
+-- the limit that a state exceeds, where it does: that of live processes, else that of spaces
+abbrev pub exceeded : State → Option Limited
+exceeded s =
+    if nat_lt (limit_number limit.Processes) (length s.processes) then Some limit.Processes
+    else if nat_lt (limit_number limit.Spaces) (length s.spaces) then Some limit.Spaces
+    else None
+
+-- The state is within the limits of live processes and of spaces.
+abbrev pub IsWithin : State → Type 0
+IsWithin s = exceeded s ≡ None
+
+-- the rest, unless a limit is exceeded
+abbrev pub unless_exceeded : Option Limited → Report → Report
+unless_exceeded None rest = rest
+unless_exceeded (Some l) rest = limit_hit l
+
 -- ---- the replay
 -- the credential line of a process, where there is one
-abbrev pub credentials_if : Option Process → List ReportLine
-credentials_if None = []
-credentials_if (Some p) = Credentials p ∷ []
+abbrev pub credentials_if : World → Option Process → List ReportLine
+credentials_if w None = []
+credentials_if w (Some p) = Credentials w p ∷ []
 
 -- the credential line of the child that a result tells
-abbrev pub child_lines : State → Res → List ReportLine
-child_lines s (Child pid) = credentials_if (process_at s.processes pid)
-child_lines s _ = []
+abbrev pub child_lines : World → State → Res → List ReportLine
+child_lines w s (Child pid) = credentials_if w (process_at s.processes pid)
+child_lines w s _ = []
 
 -- the lines of an event that is a step to the state: the event, its caller's credentials where it lives on, and those of
 -- the child at a birth
-abbrev pub step_lines : State → Placed → List ReportLine
-step_lines s e = Told e ∷ credentials_if (process_at s.processes e.event.pid) ++ child_lines s e.event.res
+abbrev pub step_lines : World → State → Placed → List ReportLine
+step_lines w s e = Told w e ∷ credentials_if w (process_at s.processes e.event.pid) ++ child_lines w s e.event.res
 
--- the report from an event on, by what becomes of it; the rest goes on from the state that it leads to
-abbrev pub by_outcome : Placed → (State → Report) → Outcome → Report
-by_outcome e rest (Goes s) = after (step_lines s e) (rest s)
-by_outcome e rest become = impossible e.line become
+-- The report from an event on, by what becomes of it; the rest goes on from the state that it leads to. A step to a state
+-- that exceeds a limit isn't taken.
+abbrev pub by_outcome : World → Placed → (State → Report) → Outcome → Report
+by_outcome w e rest (Goes s) = unless_exceeded (exceeded s) (after (step_lines w s e) (rest s))
+by_outcome w e rest become = impossible e.line become
 
 -- The replay of events, after which the reading ends so: from a state on, with so many events before.
 abbrev pub replayed : World → State → ℕ → List Placed → End → Report
 replayed w s count [] ending = by_end count ending
-replayed w s count (e ∷ events) ending = by_outcome e (λ s'. replayed w s' (count + 1) events ending) (outcome w s e.event)
+replayed w s count (e ∷ events) ending = by_outcome w e (λ s'. replayed w s' (count + 1) events ending) (outcome w s e.event)
 
 -- ---- the state after events
 -- The state that events lead to. (An event that is no step changes nothing; after an accepted log there is none.)

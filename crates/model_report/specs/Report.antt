@@ -1,56 +1,60 @@
 -- The report: what a command answers and writes, by its words and by the bytes of the files. A log has a part in it by what it
 -- reads as, and by its size.
-use Rattle.std.specs.Prelude.{ℕ, codes, ◌==◌, ◌&&◌, ◌||◌, Bool, not, nat_lt, length, List, [], ◌∷◌, ◌++◌, map, Option, Some, None, if◌then◌else◌}
+use Rattle.std.specs.Prelude.{ℕ, codes, decimal, ◌==◌, ◌&&◌, ◌||◌, Bool, not, nat_lt, length, List, [], ◌∷◌, ◌++◌, map, Option, Some, None, if◌then◌else◌}
+use Rattle.cm_base.specs.declared.faults.Table.{Table}
+use Rattle.cm_base.specs.declared.faults.WorldFault.{WorldFault}
+use Rattle.cm_base.specs.declared.limited.Limited.TheVariants as limit
 use Rattle.cm_base.specs.declared.status.Status.{Status}
 use Rattle.cm_base.specs.declared.status.Status.TheVariants as status
+use Rattle.cm_base.specs.Faults.{table_name, world_fault_word}
+use Rattle.cm_base.specs.Limited.{limit_number}
 use Rattle.model_cred.specs.Call.{Event}
 use Rattle.model_cred.specs.Process.{Process, State}
 use Rattle.model_cred.specs.Right.{Right, Cap, Uid, Gid}
-use Rattle.model_cred.specs.World.{World}
+use Rattle.model_cred.specs.World.{World, LogForm, Script, Strace}
 use Rattle.model_run.specs.RunBack.{are_setresuids, run_back}
 use Rattle.model_report.specs.Command.{Command, Replay, Audit, Later, NoForm, command_of}
 use Rattle.model_report.specs.Query.{Query, asked_process, right_token}
 use Rattle.model_report.specs.Replay.{ReportLine, Credentials, Plain, Report, says, after, at_line, not_built, limit_hit, replayed, state_after}
 use Rattle.model_text.specs.Print.{event_text}
 use Rattle.model_text.specs.Reading.{Reading, events_of, script_reading}
-use Rattle.model_text.specs.WorldText.{WorldText, Reads, Bad, world_text, text_says_more}
-use Rattle.model_text.specs.WorldText as texts
+use Rattle.model_text.specs.WorldText.{WorldText, Reads, Bad, Exceeds, world_text, text_says_more}
 
 -- ---- the answer to an audit
 -- the lines of a run that brings the process back: how many calls, each as a script line, and who holds the right at its end
-abbrev pub run_lines : ℕ → List Event → List ReportLine
-run_lines pid run =
-    Plain (at_line (codes "no ") (length run)) ∷ map (λ e. Plain (event_text e)) run ++ Plain (at_line (codes "holder ") pid) ∷ []
+abbrev pub run_lines : World → ℕ → List Event → List ReportLine
+run_lines w pid run =
+    Plain (at_line (codes "no ") (length run)) ∷ map (λ e. Plain (event_text w e)) run ++ Plain (at_line (codes "holder ") pid) ∷ []
 
 -- the answer by the run that brings the process back: yes where there is none, it can't come back
-abbrev pub run_verdict : ℕ → Option (List Event) → Report
-run_verdict pid None = says status.Accepted (codes "yes")
-run_verdict pid (Some run) = record { status = status.No; lines = run_lines pid run }
+abbrev pub run_verdict : World → ℕ → Option (List Event) → Report
+run_verdict w pid None = says status.Accepted (codes "yes")
+run_verdict w pid (Some run) = record { status = status.No; lines = run_lines w pid run }
 
 -- the answer about a right of a process of a state. So far it is built for a user id where one process lives, whose sets
 -- follow its user ids: not after a world that says more of it than these, nor after other calls than setresuid.
-abbrev pub right_verdict : Bool → State → Process → Right → Report
-right_verdict more s p (Uid k) = if not more && length s.processes == 1 then run_verdict p.pid (run_back p.cred p.pid k) else not_built
-right_verdict more s p (Gid k) = not_built
-right_verdict more s p (Cap cap n) = not_built
+abbrev pub right_verdict : Bool → World → State → Process → Right → Report
+right_verdict more w s p (Uid k) = if not more && length s.processes == 1 then run_verdict w p.pid (run_back p.cred p.pid k) else not_built
+right_verdict more w s p (Gid k) = not_built
+right_verdict more w s p (Cap cap n) = not_built
 
 -- a query that names no live process, or no right
 abbrev pub bad_query : List ℕ → Report
 bad_query word = says status.BadQuery (codes "bad query: " ++ word)
 
-abbrev pub asked_verdict : Bool → State → Option Process → Option Right → Report
-asked_verdict more s None right = bad_query (codes "pid")
-asked_verdict more s (Some p) None = bad_query (codes "right")
-asked_verdict more s (Some p) (Some right) = right_verdict more s p right
+abbrev pub asked_verdict : Bool → World → State → Option Process → Option Right → Report
+asked_verdict more w s None right = bad_query (codes "pid")
+asked_verdict more w s (Some p) None = bad_query (codes "right")
+asked_verdict more w s (Some p) (Some right) = right_verdict more w s p right
 
 -- the answer to a query in a state, whether or not there is more to it than the weak audit knows
-abbrev pub verdict : Bool → State → Query → Report
-verdict more s q = asked_verdict more s (asked_process s q.pid) (right_token q.right)
+abbrev pub verdict : Bool → World → State → Query → Report
+verdict more w s q = asked_verdict more w s (asked_process s q.pid) (right_token w.names q.right)
 
 -- the answer after events that are a run: there is more to it where the world says more, or an event is another call
 -- than setresuid
 abbrev pub verdict_after : Bool → World → List Event → Query → Report
-verdict_after more w es q = verdict (more || not (are_setresuids es)) (state_after w w.start es) q
+verdict_after more w es q = verdict (more || not (are_setresuids es)) w (state_after w w.start es) q
 
 -- ---- the report of a log, over its reading
 -- the replay of what a log reads as, from the world's state on
@@ -70,36 +74,38 @@ answered (Some q) more w reading =
 
 -- the credential lines at the start
 abbrev pub start_lines : World → List ReportLine
-start_lines w = map Credentials w.start.processes
+start_lines w = map (Credentials w) w.start.processes
 
 -- the report of a log in a world, by what it reads as, with what is asked after it
 abbrev pub log_report : Option Query → Bool → World → Reading → Report
 log_report query more w reading = after (start_lines w) (answered query more w reading)
 
 -- ---- the report of a command, over texts
--- the most bytes of a world
-abbrev pub world_limit : ℕ
-world_limit = 1048576
+-- the report of a script log's text in a world
+abbrev pub script_report : Option Query → Bool → World → List ℕ → Report
+script_report query more w log =
+    if nat_lt (limit_number limit.Log) (length log) then limit_hit limit.Log else log_report query more w (script_reading w log)
 
--- the most bytes of a log
-abbrev pub log_limit : ℕ
-log_limit = 67108864
+-- the report of a log's text in a world with that form of logs (so far a log as strace(1) writes it isn't built)
+abbrev pub form_report : Option Query → Bool → World → List ℕ → LogForm → Report
+form_report query more w log Script = script_report query more w log
+form_report query more w log Strace = not_built
 
--- the report of a log's text in a world (so far each log is a script log)
-abbrev pub world_report : Option Query → Bool → World → List ℕ → Report
-world_report query more w log =
-    if nat_lt log_limit (length log) then limit_hit (codes "log") log_limit else log_report query more w (script_reading log)
+-- the line of a fault of a world, with its table and the number of its row
+abbrev pub bad_world_text : Table → ℕ → WorldFault → List ℕ
+bad_world_text table row why =
+    codes "bad world " ++ table_name table ++ codes " " ++ decimal row ++ codes ": " ++ world_fault_word why
 
 -- the report of a log by what the world's text comes to, and whether it says more of a process than its user ids
 abbrev pub by_world : Option Query → Bool → WorldText → List ℕ → Report
-by_world query more Bad log = says status.BadWorld (codes "bad world")
-by_world query more texts.NotBuilt log = not_built
-by_world query more (Reads w) log = world_report query more w log
+by_world query more (Bad table row why) log = says status.BadWorld (bad_world_text table row why)
+by_world query more (Exceeds l) log = limit_hit l
+by_world query more (Reads w) log = form_report query more w log w.form
 
 -- the report of a log by the world's text
 abbrev pub files_report : Option Query → List ℕ → List ℕ → Report
 files_report query world log =
-    if nat_lt world_limit (length world) then limit_hit (codes "world") world_limit
+    if nat_lt (limit_number limit.World) (length world) then limit_hit limit.World
     else by_world query (text_says_more world) (world_text world) log
 
 -- the five forms of the command line

@@ -19,7 +19,7 @@ full_is = lit< tt
 
 -- ---- optional values
 -- what holds of a value, if there is one, by the equation that it is there
-if_there : {A : Type 0} (P : A → Type 0) (o : Option A) → ((x : A) → o ≡ Some x → P x) → IfSome o P
+pub if_there : {A : Type 0} (P : A → Type 0) (o : Option A) → ((x : A) → o ≡ Some x → P x) → IfSome o P
 if_there P None holds = tt
 if_there P (Some x) holds = holds x refl
 
@@ -40,7 +40,7 @@ if_either P None other is others = others
 if_either P (Some x) other is others = is
 
 -- ---- digits
-meet_full_is : (bits : ℕ) → IsCapSet (meet bits full)
+pub meet_full_is : (bits : ℕ) → IsCapSet (meet bits full)
 meet_full_is bits = omega (arith, and_le_r bits full)
 
 digits_are : (text : List ℕ) → IfSome (digits_set text) IsCapSet

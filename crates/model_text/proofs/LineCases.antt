@@ -1,12 +1,16 @@
 -- Worked cases, by computation, of script lines of the calls that set ids and groups, and of how such events are printed.
-use Rattle.std.proofs.Common.{◌≡◌, ℕ, List, [], ◌∷◌, map, refl}
+use Rattle.std.proofs.Common.{◌≡◌, ℕ, List, [], ◌∷◌, ◌++◌, map, replicate, refl, flat_map}
 use Rattle.std.specs.Prelude.{codes}
+use Rattle.cm_base.specs.declared.faults.LineFault.{LineFault}
+use Rattle.cm_base.specs.declared.faults.LineFault.TheVariants as fault
+use Rattle.cm_base.specs.declared.limited.Limited.TheVariants as limit
 use Rattle.cm_base.specs.declared.res.Res.{Res}
 use Rattle.cm_base.specs.declared.res.Res.TheVariants.{Done, Id, Err}
 use Rattle.cm_base.specs.declared.errno.Errno.TheVariants.{EPERM, EINVAL, EAGAIN}
 use Rattle.model_cred.specs.Call.{Call, Event, SetUid, SetReUid, SetResUid, SetFsUid, SetGid, SetReGid, SetResGid, SetFsGid, SetGroups}
+use Rattle.model_text.proofs.CaseWorld.{the_world}
 use Rattle.model_text.proofs.PrintCases.{print_on_literals}
-use Rattle.model_text.specs.Line.{Tells, Faulty, Unbuilt, script_line}
+use Rattle.model_text.specs.Line.{Tells, Faulty, Exceeds, script_line}
 use Rattle.model_text.specs.Print.{event_text}
 
 -- the event of a call of process 100
@@ -15,19 +19,11 @@ event_of call res = record { pid = 100; call = call; res = res }
 
 -- the line tells this event
 abbrev pub IsEvent : List ℕ → Call → Res → Type 0
-IsEvent line call res = script_line line ≡ Tells (event_of call res)
+IsEvent line call res = script_line the_world line ≡ Tells (event_of call res)
 
--- the line has a fault
-abbrev pub IsFaulty : List ℕ → Type 0
-IsFaulty line = script_line line ≡ Faulty
-
--- each of the lines has one
-abbrev pub AreFaulty : List (List ℕ) → Type 0
-AreFaulty lines = map script_line lines ≡ map (λ _. Faulty) lines
-
--- each of the lines is of a call that isn't built
-abbrev pub AreUnbuilt : List (List ℕ) → Type 0
-AreUnbuilt lines = map script_line lines ≡ map (λ _. Unbuilt) lines
+-- each of the lines has this fault
+abbrev pub Have : LineFault → List (List ℕ) → Type 0
+Have why lines = map (script_line the_world) lines ≡ map (λ _. Faulty why) lines
 
 -- ---- one id
 pub setuid_is_done : IsEvent (codes "100 setuid 33 = 0") (SetUid 33) Done
@@ -39,20 +35,35 @@ setuid_is_refused = refl
 pub setuid_of_minus_one : IsEvent (codes "100 setuid -1 = EINVAL") (SetUid 4294967295) (Err EINVAL)
 setuid_of_minus_one = refl
 
+pub setuid_of_the_largest_number : IsEvent (codes "100 setuid 4294967295 = EINVAL") (SetUid 4294967295) (Err EINVAL)
+setuid_of_the_largest_number = refl
+
 pub setgid_with_leading_zeros : IsEvent (codes "00100\tsetgid  0034 = 0 ") (SetGid 34) Done
 setgid_with_leading_zeros = refl
 
 pub setgid_is_interrupted : IsEvent (codes "100 setgid 34 = EAGAIN") (SetGid 34) (Err EAGAIN)
 setgid_is_interrupted = refl
 
-pub faults_of_one_id : AreFaulty
-    (codes "100 setuid" ∷ codes "100 setuid = 0" ∷ codes "100 setuid 1" ∷ codes "100 setuid 1 =" ∷ codes "100 setuid 1 0"
-    ∷ codes "100 setuid 1 2 = 0" ∷ codes "100 setuid 1 = 0 0" ∷ codes "100 setuid 1 = = 0" ∷ codes "100 setuid 1 == 0"
-    ∷ codes "100 setuid 1=0" ∷ codes "100 setuid 1 = 00" ∷ codes "100 setuid 1 = 1" ∷ codes "100 setuid 1 = -1"
-    ∷ codes "100 setuid 1 = EFOO" ∷ codes "100 setuid 1 = eperm" ∷ codes "100 setuid -2 = 0" ∷ codes "100 setuid +1 = 0"
-    ∷ codes "100 setuid 4294967296 = 0" ∷ codes "100 setuid root = 0" ∷ codes "100 setuid 0x1 = 0" ∷ codes "100 setuid = = 0"
-    ∷ codes "100 setgid = 0" ∷ codes "100 setgid 1 2 = 0" ∷ codes "100 setgid 1 = 0 ; done" ∷ [])
-faults_of_one_id = refl
+pub shape_of_one_id : Have fault.Shape
+    (codes "100 setuid" ∷ codes "100 setuid 1" ∷ codes "100 setuid 1 =" ∷ codes "100 setuid 1 0" ∷ codes "100 setuid 1 = 0 0"
+    ∷ codes "100 setuid 1 = = 0" ∷ codes "100 setuid 1 == 0" ∷ codes "100 setuid 1=0" ∷ codes "100 setuid = = 0" ∷ codes "100 setuid ="
+    ∷ codes "100 setgid 1 = 0 ; done" ∷ [])
+shape_of_one_id = refl
+
+pub count_of_one_id : Have fault.Count
+    (codes "100 setuid = 0" ∷ codes "100 setuid 1 2 = 0" ∷ codes "100 setgid = 0" ∷ codes "100 setgid 1 2 = 0"
+    ∷ codes "100 setgid 1 2 3 = 0" ∷ [])
+count_of_one_id = refl
+
+pub kind_of_one_id : Have (fault.Argument 1)
+    (codes "100 setuid -2 = 0" ∷ codes "100 setuid +1 = 0" ∷ codes "100 setuid 4294967296 = 0" ∷ codes "100 setuid root = 0"
+    ∷ codes "100 setuid 0x1 = 0" ∷ codes "100 setuid --1 = 0" ∷ codes "100 setgid - = 0" ∷ [])
+kind_of_one_id = refl
+
+pub result_of_one_id : Have fault.Outcome
+    (codes "100 setuid 1 = 00" ∷ codes "100 setuid 1 = 1" ∷ codes "100 setuid 1 = -1" ∷ codes "100 setuid 1 = EFOO"
+    ∷ codes "100 setuid 1 = eperm" ∷ codes "100 setuid 1 = E" ∷ codes "100 setgid 1 = 0x0" ∷ [])
+result_of_one_id = refl
 
 -- ---- two ids
 pub setreuid_is_done : IsEvent (codes "100 setreuid 1000 -1 = 0") (SetReUid 1000 4294967295) Done
@@ -61,11 +72,25 @@ setreuid_is_done = refl
 pub setregid_is_refused : IsEvent (codes "100 setregid -1 4294967294 = EPERM") (SetReGid 4294967295 4294967294) (Err EPERM)
 setregid_is_refused = refl
 
-pub faults_of_two_ids : AreFaulty
-    (codes "100 setreuid = 0" ∷ codes "100 setreuid 1 = 0" ∷ codes "100 setreuid 1 2 3 = 0" ∷ codes "100 setreuid 1 2"
-    ∷ codes "100 setreuid 1 = 2 = 0" ∷ codes "100 setreuid 1 x = 0" ∷ codes "100 setregid 1 = 0" ∷ codes "100 setregid x 1 = 0"
-    ∷ codes "100 setregid 1 2 = done" ∷ [])
-faults_of_two_ids = refl
+pub shape_of_two_ids : Have fault.Shape
+    (codes "100 setreuid 1 2" ∷ codes "100 setreuid 1 = 2 = 0" ∷ [])
+shape_of_two_ids = refl
+
+pub count_of_two_ids : Have fault.Count
+    (codes "100 setreuid = 0" ∷ codes "100 setreuid 1 = 0" ∷ codes "100 setreuid 1 2 3 = 0" ∷ codes "100 setregid 1 = 0" ∷ [])
+count_of_two_ids = refl
+
+pub kind_of_the_first_of_two : Have (fault.Argument 1)
+    (codes "100 setregid x 1 = 0" ∷ codes "100 setreuid x y = 0" ∷ [])
+kind_of_the_first_of_two = refl
+
+pub kind_of_the_second_of_two : Have (fault.Argument 2)
+    (codes "100 setreuid 1 x = 0" ∷ codes "100 setregid -1 -2 = 0" ∷ [])
+kind_of_the_second_of_two = refl
+
+pub result_of_two_ids : Have fault.Outcome
+    (codes "100 setregid 1 2 = done" ∷ [])
+result_of_two_ids = refl
 
 -- ---- three ids
 pub setresuid_keeps_two : IsEvent (codes "100 setresuid -1 1000 -1 = 0") (SetResUid 4294967295 1000 4294967295) Done
@@ -74,10 +99,21 @@ setresuid_keeps_two = refl
 pub setresgid_is_done : IsEvent (codes "100 setresgid 33 34 35 = 0") (SetResGid 33 34 35) Done
 setresgid_is_done = refl
 
-pub faults_of_three_ids : AreFaulty
-    (codes "100 setresgid = 0" ∷ codes "100 setresgid 1 2 = 0" ∷ codes "100 setresgid 1 2 3 4 = 0" ∷ codes "100 setresgid 1 2 3"
-    ∷ codes "100 setresgid 1 2 = 3 = 0" ∷ codes "100 setresgid 1 2 x = 0" ∷ codes "100 setresuid 1 2 = 0" ∷ [])
-faults_of_three_ids = refl
+pub shape_of_three_ids : Have fault.Shape
+    (codes "100 setresgid 1 2 3" ∷ codes "100 setresgid 1 2 = 3 = 0" ∷ [])
+shape_of_three_ids = refl
+
+pub count_of_three_ids : Have fault.Count
+    (codes "100 setresgid = 0" ∷ codes "100 setresgid 1 2 = 0" ∷ codes "100 setresgid 1 2 3 4 = 0" ∷ codes "100 setresuid 1 2 = 0" ∷ [])
+count_of_three_ids = refl
+
+pub kind_of_the_third_of_three : Have (fault.Argument 3)
+    (codes "100 setresgid 1 2 x = 0" ∷ [])
+kind_of_the_third_of_three = refl
+
+pub kind_of_the_first_of_three : Have (fault.Argument 1)
+    (codes "100 setresgid x y z = 0" ∷ codes "100 setresuid x 2 y = x" ∷ [])
+kind_of_the_first_of_three = refl
 
 -- ---- the file system ids, whose result is the id from before
 pub setfsuid_gives_the_id_before : IsEvent (codes "100 setfsuid 5 = 1000") (SetFsUid 5) (Id 1000)
@@ -98,11 +134,22 @@ setfsgid_gives_the_id_before = refl
 pub largest_id_before : IsEvent (codes "100 setfsgid 34 = 4294967295") (SetFsGid 34) (Id 4294967295)
 largest_id_before = refl
 
-pub faults_of_file_system_ids : AreFaulty
-    (codes "100 setfsuid 5 = EPERM" ∷ codes "100 setfsuid 5 = EAGAIN" ∷ codes "100 setfsuid 5 = -1"
-    ∷ codes "100 setfsuid 5 = 4294967296" ∷ codes "100 setfsuid = 0" ∷ codes "100 setfsuid 5 6 = 0" ∷ codes "100 setfsuid 5" ∷ codes "100 setfsuid 5 ="
-    ∷ codes "100 setfsgid 5 = EINVAL" ∷ codes "100 setfsgid 5 = 0 0" ∷ codes "100 setfsgid x = 0" ∷ [])
-faults_of_file_system_ids = refl
+pub shape_of_file_system_ids : Have fault.Shape
+    (codes "100 setfsuid 5" ∷ codes "100 setfsuid 5 =" ∷ codes "100 setfsgid 5 = 0 0" ∷ [])
+shape_of_file_system_ids = refl
+
+pub count_of_file_system_ids : Have fault.Count
+    (codes "100 setfsuid = 0" ∷ codes "100 setfsuid 5 6 = 0" ∷ codes "100 setfsgid = EPERM" ∷ [])
+count_of_file_system_ids = refl
+
+pub kind_of_file_system_ids : Have (fault.Argument 1)
+    (codes "100 setfsgid x = 0" ∷ codes "100 setfsuid x = EPERM" ∷ [])
+kind_of_file_system_ids = refl
+
+pub result_of_file_system_ids : Have fault.Outcome
+    (codes "100 setfsuid 5 = EPERM" ∷ codes "100 setfsuid 5 = EAGAIN" ∷ codes "100 setfsuid 5 = -1" ∷ codes "100 setfsuid 5 = 4294967296"
+    ∷ codes "100 setfsgid 5 = EINVAL" ∷ [])
+result_of_file_system_ids = refl
 
 -- ---- groups
 pub setgroups_of_none : IsEvent (codes "100 setgroups = 0") (SetGroups []) Done
@@ -120,54 +167,80 @@ setgroups_of_minus_one = refl
 pub setgroups_is_refused : IsEvent (codes "100 setgroups = EPERM") (SetGroups []) (Err EPERM)
 setgroups_is_refused = refl
 
-pub faults_of_groups : AreFaulty
+pub shape_of_groups : Have fault.Shape
     (codes "100 setgroups" ∷ codes "100 setgroups 10" ∷ codes "100 setgroups =" ∷ codes "100 setgroups 10 ="
-    ∷ codes "100 setgroups 10 = = 0" ∷ codes "100 setgroups = = 0" ∷ codes "100 setgroups = =" ∷ codes "100 setgroups = 10 = 0"
-    ∷ codes "100 setgroups = 0 0" ∷ codes "100 setgroups 10 0" ∷ codes "100 setgroups 10 x = 0" ∷ codes "100 setgroups x = 0"
-    ∷ codes "100 setgroups 4294967296 = 0" ∷ codes "100 setgroups 10,11 = 0" ∷ codes "100 setgroups - = 0"
-    ∷ codes "100 setgroups 10 = 10" ∷ [])
-faults_of_groups = refl
+    ∷ codes "100 setgroups 10 = = 0" ∷ codes "100 setgroups = = 0" ∷ codes "100 setgroups = 10 = 0"
+    ∷ codes "100 setgroups = 0 0" ∷ codes "100 setgroups 10 0" ∷ [])
+shape_of_groups = refl
 
--- ---- the other calls
--- each call that isn't built, whatever stands after its name
-pub calls_that_are_not_built : AreUnbuilt
-    (codes "100 clone_user = 101" ∷ codes "100 unshare = 0" ∷ codes "100 setns #1 = 0" ∷ codes "100 write_uid_map #1 0 0 1 = 0"
-    ∷ codes "100 write_gid_map #1 0 0 1 = 0" ∷ codes "100 write_setgroups #1 deny = 0" ∷ codes "100 execve - = 0"
-    ∷ codes "100 unshare" ∷ codes "100 setns x y z" ∷ codes "100 execve = =" ∷ [])
-calls_that_are_not_built = refl
+-- the first `=` is followed by exactly one token, which is no result
+pub equals_as_a_result : Have fault.Outcome (codes "100 setgroups = =" ∷ codes "100 setgroups 10 = =" ∷ codes "100 setuid 1 = =" ∷ [])
+equals_as_a_result = refl
 
-pub names_of_no_call : AreFaulty
-    (codes "100 getuid = 0" ∷ codes "100 SETUID 1 = 0" ∷ codes "100 setuid32 1 = 0" ∷ codes "100 set_uid 1 = 0"
-    ∷ codes "100 setgroup 1 = 0" ∷ codes "100 prctl 1 = 0" ∷ codes "100 =" ∷ codes "100 = 0" ∷ codes "0 capset 0 0 0 = 0"
-    ∷ codes "x setuid 1 = 0" ∷ codes "setuid 1 = 0" ∷ codes "= 0" ∷ [])
-names_of_no_call = refl
+pub kind_of_a_group : Have (fault.Argument 2)
+    (codes "100 setgroups 10 x = 0" ∷ codes "100 setgroups 10 x y = z" ∷ codes "100 setgroups 10 4294967296 = 0" ∷ [])
+kind_of_a_group = refl
+
+pub kind_of_the_first_group : Have (fault.Argument 1)
+    (codes "100 setgroups x = 0" ∷ codes "100 setgroups 10,11 = 0" ∷ codes "100 setgroups - = 0" ∷ [])
+kind_of_the_first_group = refl
+
+pub kind_of_the_fourth_group : Have (fault.Argument 4)
+    (codes "100 setgroups 1 2 3 0x4 5 = 0" ∷ [])
+kind_of_the_fourth_group = refl
+
+pub result_of_groups : Have fault.Outcome
+    (codes "100 setgroups 10 = 10" ∷ codes "100 setgroups = 00" ∷ [])
+result_of_groups = refl
+
+-- so many groups 7, each after a space
+abbrev groups_7 : ℕ → List ℕ
+groups_7 n = flat_map (λ group. codes " " ++ group) (replicate n (codes "7"))
+
+pub most_groups_are_read : script_line the_world (codes "100 setgroups" ++ groups_7 1024 ++ codes " = 0") ≡ Tells (event_of (SetGroups (replicate 1024 7)) Done)
+most_groups_are_read = refl
+
+pub one_group_more_is_over_the_limit : script_line the_world (codes "100 setgroups" ++ groups_7 1025 ++ codes " = EINVAL") ≡ Exceeds limit.Groups
+one_group_more_is_over_the_limit = refl
+
+-- the limit comes after each fault of its line
+pub a_fault_comes_before_the_limit : map (script_line the_world)
+    ((codes "100 setgroups" ++ groups_7 1025 ++ codes " = 1") ∷ (codes "100 setgroups" ++ groups_7 1025 ++ codes " x = 1")
+    ∷ (codes "100 setgroups" ++ groups_7 1025) ∷ [])
+    ≡ Faulty fault.Outcome ∷ Faulty (fault.Argument 1026) ∷ Faulty fault.Shape ∷ []
+a_fault_comes_before_the_limit = refl
 
 -- ---- printed events
-pub no_groups_are_printed : event_text (event_of (SetGroups []) Done) ≡ codes "100 setgroups = 0"
+pub no_groups_are_printed : event_text the_world (event_of (SetGroups []) Done) ≡ codes "100 setgroups = 0"
 unfolding print_on_literals
 no_groups_are_printed = refl
 
-pub groups_are_printed : event_text (event_of (SetGroups (34 ∷ 10 ∷ 34 ∷ 4294967295 ∷ [])) (Err EINVAL)) ≡ codes "100 setgroups 34 10 34 -1 = EINVAL"
+pub groups_are_printed : event_text the_world (event_of (SetGroups (34 ∷ 10 ∷ 34 ∷ 4294967295 ∷ [])) (Err EINVAL)) ≡ codes "100 setgroups 34 10 34 -1 = EINVAL"
 unfolding print_on_literals
 groups_are_printed = refl
 
-pub one_id_is_printed : event_text (event_of (SetUid 33) (Err EPERM)) ≡ codes "100 setuid 33 = EPERM"
+pub one_id_is_printed : event_text the_world (event_of (SetUid 33) (Err EPERM)) ≡ codes "100 setuid 33 = EPERM"
 unfolding print_on_literals
 one_id_is_printed = refl
 
-pub two_ids_are_printed : event_text (event_of (SetReGid 4294967295 34) Done) ≡ codes "100 setregid -1 34 = 0"
+pub two_ids_are_printed : event_text the_world (event_of (SetReGid 4294967295 34) Done) ≡ codes "100 setregid -1 34 = 0"
 unfolding print_on_literals
 two_ids_are_printed = refl
 
-pub three_ids_are_printed : event_text (event_of (SetResGid 33 34 35) Done) ≡ codes "100 setresgid 33 34 35 = 0"
+pub three_ids_are_printed : event_text the_world (event_of (SetResGid 33 34 35) Done) ≡ codes "100 setresgid 33 34 35 = 0"
 unfolding print_on_literals
 three_ids_are_printed = refl
 
-pub id_before_is_printed : event_text (event_of (SetFsUid 4294967295) (Id 1000)) ≡ codes "100 setfsuid -1 = 1000"
+pub id_before_is_printed : event_text the_world (event_of (SetFsUid 4294967295) (Id 1000)) ≡ codes "100 setfsuid -1 = 1000"
 unfolding print_on_literals
 id_before_is_printed = refl
 
-pub each_name_is_printed : map (λ call. event_text (event_of call Done)) (SetGid 1 ∷ SetReUid 1 2 ∷ SetFsGid 3 ∷ SetResUid 4 5 6 ∷ [])
+-- a result is no id: it is printed as its number
+pub largest_id_before_is_printed : event_text the_world (event_of (SetFsGid 34) (Id 4294967295)) ≡ codes "100 setfsgid 34 = 4294967295"
+unfolding print_on_literals
+largest_id_before_is_printed = refl
+
+pub each_name_is_printed : map (λ call. event_text the_world (event_of call Done)) (SetGid 1 ∷ SetReUid 1 2 ∷ SetFsGid 3 ∷ SetResUid 4 5 6 ∷ [])
     ≡ codes "100 setgid 1 = 0" ∷ codes "100 setreuid 1 2 = 0" ∷ codes "100 setfsgid 3 = 0" ∷ codes "100 setresuid 4 5 6 = 0" ∷ []
 unfolding print_on_literals
 each_name_is_printed = refl

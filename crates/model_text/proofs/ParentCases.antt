@@ -3,9 +3,10 @@ use Rattle.std.proofs.Common.{◌≡◌, ℕ, true, List, [], ◌∷◌, map, Op
 use Rattle.std.specs.Prelude.{codes}
 use Rattle.model_cred.specs.Credential.{Credential}
 use Rattle.model_cred.specs.Process.{Process}
-use Rattle.model_text.proofs.ProcessCases.{of_row, AreBad, user, root}
-use Rattle.model_text.proofs.WorldCases.{world_on_literals}
-use Rattle.model_text.specs.WorldText.{Reads, NotBuilt, world_text, world_with, text_says_more}
+use Rattle.cm_base.specs.declared.faults.WorldFault.TheVariants as fault
+use Rattle.model_text.proofs.ProcessCases.{of_row, AreBad, SecondBad, user, root}
+use Rattle.model_text.proofs.WorldCases.{world_on_literals, world_with}
+use Rattle.model_text.specs.WorldText.{Reads, world_text, text_says_more}
 
 -- a process with that forebear and credential
 abbrev pub of_forebear : ℕ → Option ℕ → Credential → Process
@@ -47,34 +48,36 @@ unfolding world_on_literals
 largest_pid_of_a_parent = refl
 
 -- ---- faults
--- no process, a later row, the row itself, each other's
-pub parents_of_no_earlier_row : AreBad
+-- no process, a later row, the row itself
+pub parents_of_no_earlier_row : AreBad fault.NoSuchParent
     (codes "parent = 99\n" ∷ codes "parent = 101\n[[process]]\npid = 101\n" ∷ codes "parent = 100\n"
-    ∷ codes "parent = 101\n[[process]]\npid = 101\nparent = 100\n" ∷ codes "[[process]]\npid = 101\nparent = 101\n"
-    ∷ codes "[[process]]\npid = 101\nparent = 102\n[[process]]\npid = 102\nparent = 100\n" ∷ codes "[[process]]\npid = 101\nparent = 1\n" ∷ [])
+    ∷ codes "parent = 101\n[[process]]\npid = 101\nparent = 100\n" ∷ [])
 unfolding world_on_literals
 parents_of_no_earlier_row = refl
 
-pub faults_of_parents : AreBad
-    (codes "[[process]]\npid = 101\nparent = 0\n" ∷ codes "[[process]]\npid = 101\nparent = -100\n"
-    ∷ codes "[[process]]\npid = 101\nparent = 4194305\n" ∷ codes "[[process]]\npid = 101\nparent = \"100\"\n"
-    ∷ codes "[[process]]\npid = 101\nparent = \"init\"\n" ∷ codes "[[process]]\npid = 101\nparent = [100]\n"
-    ∷ codes "[[process]]\npid = 101\nparent = 100.0\n" ∷ codes "[[process]]\npid = 101\nparent = true\n"
-    ∷ codes "[[process]]\npid = 101\nparent = {}\n" ∷ codes "[[process]]\npid = 101\nparent = 100\nparent = 100\n"
-    ∷ codes "[[process]]\npid = 101\nppid = 100\n" ∷ codes "[[process]]\nparent = 100\n" ∷ [])
+pub parents_of_no_earlier_row_in_the_second : SecondBad fault.NoSuchParent
+    (codes "[[process]]\npid = 101\nparent = 101\n" ∷ codes "[[process]]\npid = 101\nparent = 102\n[[process]]\npid = 102\nparent = 100\n"
+    ∷ codes "[[process]]\npid = 101\nparent = 1\n" ∷ [])
 unfolding world_on_literals
-faults_of_parents = refl
+parents_of_no_earlier_row_in_the_second = refl
 
--- a pid that stands twice is one whatever the parents are
-pub one_pid_twice : AreBad (codes "[[process]]\npid = 100\nparent = 100\n"
-    ∷ codes "[[process]]\npid = 101\nparent = 100\n[[process]]\npid = 101\nparent = 100\n" ∷ [])
+pub parents_out_of_range : SecondBad fault.BadNumber
+    (codes "[[process]]\npid = 101\nparent = 0\n" ∷ codes "[[process]]\npid = 101\nparent = -100\n"
+    ∷ codes "[[process]]\npid = 101\nparent = 4194305\n" ∷ [])
+unfolding world_on_literals
+parents_out_of_range = refl
+
+pub parents_of_another_type : SecondBad fault.WrongType
+    (codes "[[process]]\npid = 101\nparent = \"100\"\n" ∷ codes "[[process]]\npid = 101\nparent = \"init\"\n"
+    ∷ codes "[[process]]\npid = 101\nparent = [100]\n" ∷ codes "[[process]]\npid = 101\nparent = 100.0\n"
+    ∷ codes "[[process]]\npid = 101\nparent = true\n" ∷ codes "[[process]]\npid = 101\nparent = {}\n" ∷ [])
+unfolding world_on_literals
+parents_of_another_type = refl
+
+-- a pid that stands twice is told before its parent
+pub one_pid_twice : SecondBad fault.TwiceNamed (codes "[[process]]\npid = 100\nparent = 7\n" ∷ codes "[[process]]\npid = 100\nspace = \"a\"\n" ∷ [])
 unfolding world_on_literals
 one_pid_twice = refl
-
--- ---- what isn't built, and what says more than user ids
-pub a_space_beside_a_parent : world_text (of_row (codes "parent = 0\nspace = \"init\"\n")) ≡ NotBuilt
-unfolding world_on_literals
-a_space_beside_a_parent = refl
 
 pub a_parent_says_more : map (λ rest. text_says_more (of_row rest)) (codes "[[process]]\npid = 101\nparent = 100\n"
     ∷ codes "parent = 100\n" ∷ []) ≡ true ∷ true ∷ []

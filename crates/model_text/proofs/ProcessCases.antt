@@ -2,8 +2,13 @@
 use Rattle.std.proofs.Common.{◌≡◌, ℕ, true, false, List, [], ◌∷◌, ◌++◌, map, None, refl}
 use Rattle.std.specs.Prelude.{codes}
 use Rattle.model_cred.specs.Credential.{Credential, all_four}
-use Rattle.model_text.proofs.WorldCases.{world_on_literals}
-use Rattle.model_text.specs.WorldText.{Reads, Bad, world_text, world_with, text_says_more}
+use Rattle.model_cred.specs.Space.{first_spaces}
+use Rattle.cm_base.specs.declared.faults.Table.TheVariants as table
+use Rattle.cm_base.specs.declared.faults.WorldFault.{WorldFault}
+use Rattle.cm_base.specs.declared.faults.WorldFault.TheVariants as fault
+use Rattle.model_text.proofs.SpaceCases.{of_space, plain}
+use Rattle.model_text.proofs.WorldCases.{world_on_literals, world_with}
+use Rattle.model_text.specs.WorldText.{Reads, Bad, world_text, text_says_more}
 
 -- the world of process 100, whose row goes on with this text
 abbrev pub of_row : List ℕ → List ℕ
@@ -32,9 +37,13 @@ root = record user { uid = all_four 0; permitted = 0x1ffffffffff; effective = 0x
 abbrev pub Declares : List ℕ → Credential → Type 0
 Declares rest c = world_text (of_row rest) ≡ Reads (world_with (record { pid = 100; forebear = None; space = 0; cred = c } ∷ []))
 
--- each of the rows has a fault
-abbrev pub AreBad : List (List ℕ) → Type 0
-AreBad rows = map (λ rest. world_text (of_row rest)) rows ≡ map (λ _. Bad) rows
+-- the row has this fault with each of these keys
+abbrev pub AreBad : WorldFault → List (List ℕ) → Type 0
+AreBad why rows = map (λ rest. world_text (of_row rest)) rows ≡ map (λ _. Bad table.Process 1 why) rows
+
+-- the second row has this fault with each of these texts after the first
+abbrev pub SecondBad : WorldFault → List (List ℕ) → Type 0
+SecondBad why rows = map (λ rest. world_text (of_row rest)) rows ≡ map (λ _. Bad table.Process 2 why) rows
 
 -- ---- all by default
 pub nothing_is_declared : Declares [] root
@@ -75,12 +84,13 @@ pub largest_group_id : Declares (codes "gid = 4294967294\n") (record root { gid 
 unfolding world_on_literals
 largest_group_id = refl
 
-pub faults_of_group_ids : AreBad
-    (codes "gid = 4294967295\n" ∷ codes "gid = -1\n" ∷ codes "gid = \"0\"\n" ∷ codes "gid = 0.0\n" ∷ codes "gid = true\n"
-    ∷ codes "gid = {}\n" ∷ codes "gid = []\n" ∷ codes "gid = [0, 0, 0]\n" ∷ codes "gid = [0, 0, 0, 0, 0]\n"
-    ∷ codes "gid = [0, 0, 0, 4294967295]\n" ∷ codes "gid = [0, 0, 0, \"0\"]\n" ∷ codes "gid = [[0, 0, 0, 0]]\n" ∷ [])
+pub group_ids_out_of_range : AreBad fault.BadNumber (codes "gid = 4294967295\n" ∷ codes "gid = -1\n" ∷ codes "gid = [0, 0, 0, 4294967295]\n" ∷ codes "gid = [-1, 0, 0, 0]\n" ∷ [])
 unfolding world_on_literals
-faults_of_group_ids = refl
+group_ids_out_of_range = refl
+
+pub group_ids_of_another_type : AreBad fault.WrongType (codes "gid = \"0\"\n" ∷ codes "gid = 0.0\n" ∷ codes "gid = true\n" ∷ codes "gid = {}\n" ∷ codes "gid = []\n" ∷ codes "gid = [0, 0, 0]\n" ∷ codes "gid = [0, 0, 0, 0, 0]\n" ∷ codes "gid = [0, 0, 0, \"0\"]\n" ∷ codes "gid = [[0, 0, 0, 0]]\n" ∷ [])
+unfolding world_on_literals
+group_ids_of_another_type = refl
 
 -- ---- groups
 pub groups_ascend : Declares (codes "groups = [1000, 34, 10]\n") (record root { groups = 10 ∷ 34 ∷ 1000 ∷ [] })
@@ -99,10 +109,13 @@ pub lowest_and_largest_group : Declares (codes "groups = [4294967294, 0]\n") (re
 unfolding world_on_literals
 lowest_and_largest_group = refl
 
-pub faults_of_groups : AreBad (codes "groups = 34\n" ∷ codes "groups = \"34\"\n" ∷ codes "groups = [34, 4294967295]\n"
-    ∷ codes "groups = [-1]\n" ∷ codes "groups = [\"34\"]\n" ∷ codes "groups = [[34]]\n" ∷ codes "groups = {}\n" ∷ [])
+pub groups_out_of_range : AreBad fault.BadNumber (codes "groups = [34, 4294967295]\n" ∷ codes "groups = [-1]\n" ∷ [])
 unfolding world_on_literals
-faults_of_groups = refl
+groups_out_of_range = refl
+
+pub groups_of_another_type : AreBad fault.WrongType (codes "groups = 34\n" ∷ codes "groups = \"34\"\n" ∷ codes "groups = [\"34\"]\n" ∷ codes "groups = [[34]]\n" ∷ codes "groups = {}\n" ∷ codes "groups = [-1, \"34\"]\n" ∷ [])
+unfolding world_on_literals
+groups_of_another_type = refl
 
 -- ---- the permitted and the effective set
 -- CAP_KILL is 5, CAP_NET_BIND_SERVICE 10
@@ -123,7 +136,7 @@ pub root_with_none : Declares (codes "permitted = \"none\"\neffective = \"none\"
 unfolding world_on_literals
 root_with_none = refl
 
-pub effective_beyond_permitted : AreBad
+pub effective_beyond_permitted : AreBad fault.NotIncluded
     (codes "uid = 1000\neffective = \"CAP_KILL\"\n" ∷ codes "permitted = \"CAP_KILL\"\n" ∷ codes "permitted = \"none\"\n"
     ∷ codes "uid = 1000\npermitted = \"CAP_KILL\"\neffective = \"CAP_CHOWN\"\n"
     ∷ codes "uid = 1000\npermitted = \"CAP_KILL\"\neffective = \"CAP_KILL,CAP_CHOWN\"\n" ∷ [])
@@ -150,51 +163,104 @@ pub bounding_set_of_one : Declares (codes "bounding = \"CAP_KILL\"\n") (record r
 unfolding world_on_literals
 bounding_set_of_one = refl
 
-pub ambient_beyond_the_others : AreBad
+pub ambient_beyond_the_others : AreBad fault.NotIncluded
     (codes "ambient = \"CAP_KILL\"\n" ∷ codes "uid = 1000\ninheritable = \"CAP_KILL\"\nambient = \"CAP_KILL\"\n"
     ∷ codes "uid = 1000\npermitted = \"CAP_KILL\"\nambient = \"CAP_KILL\"\n"
     ∷ codes "inheritable = \"CAP_KILL\"\nambient = \"CAP_KILL,CAP_CHOWN\"\n" ∷ [])
 unfolding world_on_literals
 ambient_beyond_the_others = refl
 
-pub faults_of_sets : AreBad
-    (codes "permitted = \"CAP_FOO\"\n" ∷ codes "effective = \"\"\n" ∷ codes "inheritable = \"CAP_KILL,\"\n"
-    ∷ codes "ambient = \"cap_kill\"\n" ∷ codes "bounding = \"000001fffffffff\"\n" ∷ codes "bounding = 0\n" ∷ codes "permitted = []\n"
-    ∷ codes "effective = [\"CAP_KILL\"]\n" ∷ codes "inheritable = true\n" ∷ codes "ambient = {}\n" ∷ [])
+pub texts_that_are_no_sets : AreBad fault.BadCaps (codes "permitted = \"CAP_FOO\"\n" ∷ codes "effective = \"\"\n" ∷ codes "inheritable = \"CAP_KILL,\"\n" ∷ codes "ambient = \"cap_kill\"\n" ∷ codes "bounding = \"000001fffffffff\"\n" ∷ [])
 unfolding world_on_literals
-faults_of_sets = refl
+texts_that_are_no_sets = refl
+
+pub sets_of_another_type : AreBad fault.WrongType (codes "bounding = 0\n" ∷ codes "permitted = []\n" ∷ codes "effective = [\"CAP_KILL\"]\n" ∷ codes "inheritable = true\n" ∷ codes "ambient = {}\n" ∷ [])
+unfolding world_on_literals
+sets_of_another_type = refl
 
 -- ---- flags
 pub largest_securebits : Declares (codes "securebits = 255\n") (record root { securebits = 255 })
 unfolding world_on_literals
 largest_securebits = refl
 
-pub faults_of_securebits : AreBad (codes "securebits = 256\n" ∷ codes "securebits = -1\n" ∷ codes "securebits = \"16\"\n"
-    ∷ codes "securebits = [16]\n" ∷ codes "securebits = true\n" ∷ codes "securebits = 16.0\n" ∷ [])
+pub securebits_out_of_range : AreBad fault.BadNumber (codes "securebits = 256\n" ∷ codes "securebits = -1\n" ∷ [])
 unfolding world_on_literals
-faults_of_securebits = refl
+securebits_out_of_range = refl
+
+pub securebits_of_another_type : AreBad fault.WrongType (codes "securebits = \"16\"\n" ∷ codes "securebits = [16]\n" ∷ codes "securebits = true\n" ∷ codes "securebits = 16.0\n" ∷ [])
+unfolding world_on_literals
+securebits_of_another_type = refl
 
 pub no_new_privs_is_set : Declares (codes "no_new_privs = true\n") (record root { no_new_privs = true })
 unfolding world_on_literals
 no_new_privs_is_set = refl
 
-pub faults_of_no_new_privs : AreBad (codes "no_new_privs = 1\n" ∷ codes "no_new_privs = 0\n" ∷ codes "no_new_privs = \"true\"\n"
-    ∷ codes "no_new_privs = [true]\n" ∷ [])
+pub no_new_privs_of_another_type : AreBad fault.WrongType (codes "no_new_privs = 1\n" ∷ codes "no_new_privs = 0\n" ∷ codes "no_new_privs = \"true\"\n" ∷ codes "no_new_privs = [true]\n" ∷ [])
 unfolding world_on_literals
-faults_of_no_new_privs = refl
+no_new_privs_of_another_type = refl
 
 -- ---- other keys
-pub unknown_keys : AreBad (codes "cap = \"all\"\n" ∷ codes "Gid = 0\n" ∷ codes "group = 0\n" ∷ codes "nnp = true\n"
-    ∷ codes "\"gid \" = 0\n" ∷ codes "gid.real = 0\n" ∷ codes "gid = 0\ngid = 0\n" ∷ [])
+pub unknown_keys : AreBad fault.UnknownKey (codes "cap = \"all\"\n" ∷ codes "Gid = 0\n" ∷ codes "group = 0\n" ∷ codes "nnp = true\n" ∷ codes "\"gid \" = 0\n" ∷ codes "ppid = 0\n" ∷ codes "gid = \"0\"\nother = 0\n" ∷ [])
 unfolding world_on_literals
 unknown_keys = refl
 
+-- a key that stands twice, or in two ways, is no TOML
+pub keys_that_stand_twice : map (λ rest. world_text (of_row rest)) (codes "gid = 0\ngid = 0\n" ∷ codes "gid = 0\ngid.real = 0\n" ∷ [])
+    ≡ Bad table.Whole 0 fault.Toml ∷ Bad table.Whole 0 fault.Toml ∷ []
+unfolding world_on_literals
+keys_that_stand_twice = refl
+
+pub a_table_of_group_ids : AreBad fault.WrongType (codes "gid.real = 0\n" ∷ [])
+unfolding world_on_literals
+a_table_of_group_ids = refl
+
+-- ---- pids, parents and spaces
+pub pids_out_of_range : map world_text
+    (codes "log = \"script\"\n[[process]]\npid = 0\n" ∷ codes "log = \"script\"\n[[process]]\npid = 4194305\n"
+    ∷ codes "log = \"script\"\n[[process]]\npid = -1\n" ∷ [])
+    ≡ Bad table.Process 1 fault.BadNumber ∷ Bad table.Process 1 fault.BadNumber ∷ Bad table.Process 1 fault.BadNumber ∷ []
+unfolding world_on_literals
+pids_out_of_range = refl
+
+pub no_pid : map world_text (codes "log = \"script\"\n[[process]]\nuid = \"\"\n" ∷ codes "log = \"script\"\nprocess = [{}]\n" ∷ [])
+    ≡ Bad table.Process 1 fault.MissingKey ∷ Bad table.Process 1 fault.MissingKey ∷ []
+unfolding world_on_literals
+no_pid = refl
+
+pub rows_that_are_no_tables : world_text (codes "log = \"script\"\nprocess = [{pid = 1}, 5, {}]\n") ≡ Bad table.Process 2 fault.WrongType
+unfolding world_on_literals
+rows_that_are_no_tables = refl
+
+pub a_process_in_a_space : world_text (of_space (codes "[[process]]\npid = 100\nspace = \"a\"\n[[process]]\npid = 99\nspace = \"init\"\n"))
+    ≡ Reads (record (world_with []) {
+      start = record {
+        processes = record { pid = 99; forebear = None; space = 0; cred = root } ∷ record { pid = 100; forebear = None; space = 1; cred = root } ∷ [];
+        spaces = plain ∷ first_spaces;
+      };
+      names = codes "a" ∷ [];
+    })
+unfolding world_on_literals
+a_process_in_a_space = refl
+
+pub no_such_spaces : AreBad fault.NoSuchSpace (codes "space = \"a\"\nbounding = \"x\"\n" ∷ codes "space = \"#0\"\n" ∷ codes "space = \"\"\n" ∷ [])
+unfolding world_on_literals
+no_such_spaces = refl
+
+-- ---- two faults in one row: the least is told
+pub least_faults : map (λ rest. world_text (of_row rest))
+    (codes "gid = \"0\"\nsecuritybits = 0\n" ∷ codes "gid = \"0\"\nuid = -1\n" ∷ codes "groups = [-1]\nparent = 7\n"
+    ∷ codes "parent = 7\nspace = \"a\"\n" ∷ codes "space = \"a\"\nambient = \"x\"\n" ∷ codes "ambient = \"x\"\npermitted = \"none\"\n" ∷ [])
+    ≡ map (λ why. Bad table.Process 1 why)
+    (fault.UnknownKey ∷ fault.WrongType ∷ fault.BadNumber ∷ fault.NoSuchParent ∷ fault.NoSuchSpace ∷ fault.BadCaps ∷ [])
+unfolding world_on_literals
+least_faults = refl
+
 -- ---- whether more is said than pids and user ids
 pub each_further_key_says_more : map (λ rest. text_says_more (of_row rest))
-    (codes "gid = 0\n" ∷ codes "groups = []\n" ∷ codes "permitted = \"all\"\n" ∷ codes "effective = \"all\"\n"
+    (codes "parent = 1\n" ∷ codes "space = \"init\"\n" ∷ codes "gid = 0\n" ∷ codes "groups = []\n" ∷ codes "permitted = \"all\"\n" ∷ codes "effective = \"all\"\n"
     ∷ codes "inheritable = \"none\"\n" ∷ codes "ambient = \"none\"\n" ∷ codes "bounding = \"all\"\n" ∷ codes "securebits = 0\n"
     ∷ codes "no_new_privs = false\n" ∷ [])
-    ≡ true ∷ true ∷ true ∷ true ∷ true ∷ true ∷ true ∷ true ∷ true ∷ []
+    ≡ true ∷ true ∷ true ∷ true ∷ true ∷ true ∷ true ∷ true ∷ true ∷ true ∷ true ∷ []
 unfolding world_on_literals
 each_further_key_says_more = refl
 
@@ -206,3 +272,8 @@ user_ids_say_no_more = refl
 pub a_later_row_says_more : text_says_more (of_row (codes "uid = 1000\n[[process]]\npid = 101\n[[process]]\npid = 102\ngid = 0\n")) ≡ true
 unfolding world_on_literals
 a_later_row_says_more = refl
+
+pub each_further_table_says_more : map (λ rest. text_says_more (of_row rest))
+    (codes "[[space]]\n" ∷ codes "[[mount]]\n" ∷ codes "[[file]]\n" ∷ codes "[filter]\n" ∷ []) ≡ true ∷ true ∷ true ∷ true ∷ []
+unfolding world_on_literals
+each_further_table_says_more = refl

@@ -1,108 +1,155 @@
--- The processes at a world's start: no pid stands twice, and the pids ascend.
-use Rattle.std.proofs.Common.{◌≡◌, ℕ, ◌==◌, Bool, true, false, cond, ◌&&◌, ◌||◌, List, [], ◌∷◌, map, Option, Some, None, refl, sym, ◌∙◌, ap, subst}
-use Rattle.std.proofs.Common.{arith, ◌≢◌, ◌<◌, inl, inr}
-use Rattle.std.proofs.lemmas.Bool.{cases_lt, lt-ltb, le-ltb}
-use Rattle.std.specs.Prelude.{codes, is_some}
+-- The world that a text declares: how its parts are read, that its pids ascend, and that it is within the limits.
+use Rattle.std.proofs.Common.{◌≡◌, ℕ, suc, ◌+◌, ◌<◌, ◌≤◌, ◌==◌, ◌&&◌, not, Bool, true, false, cond, length, List, [], ◌∷◌, ◌++◌, Option, Some, None, Ok, Err}
+use Rattle.std.proofs.Common.{Result, refl, sym, ap, ◌∙◌, subst, arith, All, nat_lt}
+use Rattle.std.specs.Prelude.{codes}
 use Rattle.std.specs.Str.{is_utf8}
-use Rattle.std.specs.Option.{option_or}
-use Rattle.model_cred.proofs.Lookups.{alive_cons, alive_inserted}
-use Rattle.model_cred.proofs.Orders.{insert_ascends}
-use Rattle.model_cred.specs.Process.{Process, process_at, is_alive, Ascends, insert_process}
+use Rattle.cm_base.specs.Limited.{limit_number}
+use Rattle.cm_base.specs.declared.faults.Table.TheVariants as table
+use Rattle.cm_base.specs.declared.faults.WorldFault.TheVariants.{Toml}
+use Rattle.cm_base.specs.declared.limited.Limited.TheVariants as limit
+use Rattle.cm_filter.specs.Filters.{Filter}
+use Rattle.model_cred.proofs.Lookups.{alive_cons}
+use Rattle.model_cred.proofs.Orders.{AscendsFrom, ascends_forth, ascends_back, insert_ascends}
+use Rattle.model_cred.specs.Files.{Mount, FileRow}
+use Rattle.model_cred.specs.Process.{Process, Ascends, process_at, is_alive, insert_process}
 use Rattle.model_cred.specs.World.{World}
-use Rattle.model_text.specs.Toml.{has_only, is_text}
-use Rattle.model_text.specs.WorldText.{WorldText, Reads, Bad, NotBuilt, world_text, document_text, table_text, built_table, distinct_world}
-use Rattle.model_text.specs.WorldText.{world_with, in_order, are_distinct, parents_stand, asks_more, processes_of, rows_have, says_more}
-use Rattle.model_text.specs.WorldText.{document_says_more, text_says_more}
-use Rattle.model_text.specs.ProcessText.{further_keys}
-use Rattle.toml.specs.Data.{Data, Members, get_member}
+use Rattle.model_text.proofs.Rows.{then_ok, in_row_ok, unless_ok, none_stands, NoneStands, any_rows, rows_keep, rows_count, read_ok}
+use Rattle.model_text.specs.FileText.{file_row}
+use Rattle.model_text.specs.FilterText.{filter_row}
+use Rattle.model_text.specs.Keys.{key_checks, shape_checks}
+use Rattle.model_text.specs.MountText.{mount_row, root_alone}
+use Rattle.model_text.specs.ProcessText.{process_row, process_checks, process_declared, process_key_checks}
+use Rattle.model_text.specs.Refusal.{Cause, Refusal, At, Past, first_standing, in_row, read_rows, rows_from, then_read, unless}
+use Rattle.model_text.specs.SpaceText.{Declared, none_declared, space_row, space_checks, space_declared, space_keys, name_of}
+use Rattle.model_text.specs.Toml.{table_of}
+use Rattle.model_text.specs.WorldText.{WorldText, Reads, world_text, read_text, text_as, document_world, table_world, whole_keys, form_of_row, rows_at}
+use Rattle.toml.specs.Data.{Members, get_member}
 use Rattle.toml.specs.Parse.{parse_document}
 
--- ---- the order of pids
--- among processes with distinct pids, where its own isn't taken, the pids stay distinct
-distinct_placed : (p : Process) (ps : List Process) → is_alive ps p.pid ≡ false → are_distinct ps ≡ true → are_distinct (insert_process p ps) ≡ true
-distinct_placed p [] free distinct = refl
-distinct_placed p (q ∷ ps) free distinct = grind (arith, free, distinct, distinct_placed p ps, alive_inserted p ps q.pid)
-
--- the order takes no pid away and adds none
-pub alive_in_order : (pid : ℕ) (ps : List Process) → is_alive (in_order ps) pid ≡ is_alive ps pid
-alive_in_order pid [] = refl
-alive_in_order pid (p ∷ ps) =
-    alive_inserted p (in_order ps) pid ∙ ap (λ (b : Bool). p.pid == pid || b) (alive_in_order pid ps) ∙ sym (alive_cons p ps pid)
-
--- distinct pids stay distinct in their order
-pub distinct_in_order : (ps : List Process) → are_distinct ps ≡ true → are_distinct (in_order ps) ≡ true
-distinct_in_order [] distinct = refl
-distinct_in_order (p ∷ ps) distinct = grind (arith, distinct, distinct_in_order ps, distinct_placed p (in_order ps), alive_in_order p.pid ps)
-
--- placing keeps who is found by a pid
-placed_finds : (p : Process) (ps : List Process) → is_alive ps p.pid ≡ false → (pid : ℕ) → process_at (insert_process p ps) pid ≡ process_at (p ∷ ps) pid
-placed_finds p [] free pid = refl
-placed_finds p (q ∷ ps) free pid = grind (arith, free, placed_finds p ps)
-
--- and so does the order, where no pid stands twice
-pub in_order_finds : (ps : List Process) → are_distinct ps ≡ true → (pid : ℕ) → process_at (in_order ps) pid ≡ process_at ps pid
-in_order_finds [] distinct pid = refl
-in_order_finds (p ∷ ps) distinct pid = grind (arith, distinct, in_order_finds ps, placed_finds p (in_order ps), alive_in_order p.pid ps)
-
--- the pids of the processes in their order ascend, where no pid stands twice
-pub in_order_ascends : (ps : List Process) → are_distinct ps ≡ true → Ascends (in_order ps)
-in_order_ascends [] distinct = tt
-in_order_ascends (p ∷ ps) distinct =
-    insert_ascends p (in_order ps) (alive_in_order p.pid ps ∙ grind (arith, distinct)) (in_order_ascends ps (grind (arith, distinct)))
-
--- ---- what a world's text reads as
-unless : (test : Bool) (t : WorldText) (w : World) → cond test NotBuilt t ≡ Reads w → t ≡ Reads w
-unless true t w is = absurd (cc)
-unless false t w is = is
-
-where_true : (test : Bool) (t : WorldText) (w : World) → cond test t Bad ≡ Reads w → (test ≡ true) × (t ≡ Reads w)
-where_true true t w is = (refl, is)
-where_true false t w is = absurd (cc)
-
--- The world is made of processes with distinct pids, each of whose parents comes before it, and which come from the rows of a
--- value; whether they say more of a process than its user ids is told.
-pub record Made (w : World) (more : Bool) : Type 0 where
+-- ---- the parts of a world
+-- The parts of the world of a whole table, each read from its rows.
+pub record Made (top : Members) (w : World) : Type 0 where
+  pub declared : Declared
+  pub mounts : List Mount
+  pub files : List FileRow
   pub processes : List Process
-  pub distinct : are_distinct processes ≡ true
-  pub parents : parents_stand [] processes ≡ true
-  pub world : world_with processes ≡ w
-  pub value : Option Data
-  pub rows : processes_of value ≡ Some processes
-  pub says_more : rows_have further_keys value ≡ more
+  pub filter : Filter
+  pub spaces_read : read_rows table.Space limit.Spaces 1 space_row none_declared (rows_at (codes "space") top) ≡ Ok declared
+  pub mounts_read : read_rows table.Mount limit.Mounts 1 (mount_row declared.names) root_alone (rows_at (codes "mount") top) ≡ Ok mounts
+  pub files_read : read_rows table.File limit.Files 0 (file_row mounts) [] (rows_at (codes "file") top) ≡ Ok files
+  pub processes_read : read_rows table.Process limit.Processes 0 (process_row declared.names) [] (rows_at (codes "process") top) ≡ Ok processes
+  pub filter_read : in_row table.Filter 0 (filter_row (table_of (get_member (codes "filter") top))) ≡ Ok filter
+  pub is : record {
+    start = record { processes = processes; spaces = declared.spaces };
+    names = declared.names;
+    files = record { mounts = mounts; rows = files };
+    filter = filter;
+    form = form_of_row top;
+  } ≡ w
 
--- both of two tests hold where their conjunction does
-pub both_true : (a b : Bool) → (a && b) ≡ true → (a ≡ true) × (b ≡ true)
-both_true true b is = (refl, is)
-both_true false b is = absurd (cc)
+table_made : (top : Members) (w : World) → table_world top ≡ Ok w → Made top w
+table_made top w is =
+    let whole = then_ok (in_row table.Whole 0 (unless (first_standing (shape_checks whole_keys top)) top)) _ w is in
+    let spaces = then_ok (read_rows table.Space limit.Spaces 1 space_row none_declared (rows_at (codes "space") top)) _ w whole.2 in
+    let mounts = then_ok (read_rows table.Mount limit.Mounts 1 (mount_row spaces.0.names) root_alone (rows_at (codes "mount") top)) _ w spaces.2 in
+    let files = then_ok (read_rows table.File limit.Files 0 (file_row mounts.0) [] (rows_at (codes "file") top)) _ w mounts.2 in
+    let processes = then_ok (read_rows table.Process limit.Processes 0 (process_row spaces.0.names) [] (rows_at (codes "process") top)) _ w files.2 in
+    let filter = then_ok (in_row table.Filter 0 (filter_row (table_of (get_member (codes "filter") top)))) _ w processes.2 in
+    record {
+      declared = spaces.0;
+      mounts = mounts.0;
+      files = files.0;
+      processes = processes.0;
+      filter = filter.0;
+      spaces_read = spaces.1;
+      mounts_read = mounts.1;
+      files_read = files.1;
+      processes_read = processes.1;
+      filter_read = filter.1;
+      is = cc;
+    }
 
-read_processes : (value : Option Data) (read : Option (List Process)) (w : World) → processes_of value ≡ read
-    → distinct_world read ≡ Reads w → Made w (rows_have further_keys value)
-read_processes value None w rows is = absurd (cc)
-read_processes value (Some ps) w rows is =
-    let parts : ((are_distinct ps && parents_stand [] ps) ≡ true) × (Reads (world_with ps) ≡ Reads w)
-    = where_true (are_distinct ps && parents_stand [] ps) (Reads (world_with ps)) w is in
-    let same : Reads (world_with ps) ≡ Reads w = parts.1 in
-    let tests : (are_distinct ps ≡ true) × (parents_stand [] ps ≡ true) = both_true (are_distinct ps) (parents_stand [] ps) parts.0 in
-    record { processes = ps; distinct = tests.0; parents = tests.1; world = cc; value = value; rows = rows; says_more = refl }
+text_read : (r : Result World Refusal) (w : World) → text_as r ≡ Reads w → r ≡ Ok w
+text_read (Ok v) w is = let same : v ≡ w = cc in ap Ok same
+text_read (Err (At t row fault)) w is = absurd (cc)
+text_read (Err (Past l)) w is = absurd (cc)
 
-read_table : (top : Members) (w : World) → table_text top ≡ Reads w → Made w (says_more top)
-read_table top w is =
-    let value : Option Data = get_member (codes "process") top in
-    let test : Bool = has_only (codes "log" ∷ codes "process" ∷ []) top && is_text (codes "script") (get_member (codes "log") top) in
-    read_processes value (processes_of value) w refl (where_true test (distinct_world (processes_of value)) w (unless (asks_more top) (built_table top) w is)).1
+-- A text that declares a world is UTF-8 and TOML, and the world is that of its whole table.
+pub record Declares (bytes : List ℕ) (w : World) : Type 0 where
+  pub top : Members
+  pub utf8 : is_utf8 bytes ≡ true
+  pub document : parse_document bytes ≡ Some top
+  pub made : Made top w
 
-read_document : (document : Option Members) (w : World) → document_text document ≡ Reads w → Made w (document_says_more document)
-read_document None w is = absurd (cc)
-read_document (Some top) w is = read_table top w is
+pub declares : (bytes : List ℕ) (w : World) → world_text bytes ≡ Reads w → Declares bytes w
+declares bytes w is = by_utf8 (is_utf8 bytes) refl (text_read (read_text bytes) w is)
+  where
+    by_document : is_utf8 bytes ≡ true → (document : Option Members) → parse_document bytes ≡ document → document_world document ≡ Ok w → Declares bytes w
+    by_document utf8 None same is = absurd (cc)
+    by_document utf8 (Some top) same is = record { top = top; utf8 = utf8; document = same; made = table_made top w is }
 
-pub start_made : (bytes : List ℕ) (w : World) → world_text bytes ≡ Reads w → Made w (text_says_more bytes)
-start_made bytes w is =
-    let parts : (is_utf8 bytes ≡ true) × (document_text (parse_document bytes) ≡ Reads w)
-    = where_true (is_utf8 bytes) (document_text (parse_document bytes)) w is in
-    subst (λ (utf8 : Bool). Made w (utf8 && document_says_more (parse_document bytes))) (sym parts.0) (read_document (parse_document bytes) w parts.1)
+    by_utf8 : (utf8 : Bool) → is_utf8 bytes ≡ utf8 → cond utf8 (document_world (parse_document bytes)) (Err (At table.Whole 0 Toml)) ≡ Ok w
+        → Declares bytes w
+    by_utf8 true same is = by_document same (parse_document bytes) refl is
+    by_utf8 false same is = absurd (cc)
 
--- no pid stands twice in the world of a text
-pub start_distinct : (bytes : List ℕ) (w : World) → world_text bytes ≡ Reads w → are_distinct w.start.processes ≡ true
-start_distinct bytes w is =
-    let made : Made w (text_says_more bytes) = start_made bytes w is in
-    subst (λ (x : World). are_distinct x.start.processes ≡ true) made.world (distinct_in_order made.processes made.distinct)
+-- ---- processes
+-- a process that is read comes to those before it, among which its pid isn't
+pub process_read : (names : List (List ℕ)) (before : List Process) (row : Members) (all : List Process) → process_row names before row ≡ Ok all
+    → NoneStands (process_key_checks row ++ process_checks names before row) × (insert_process (process_declared names row) before ≡ all)
+process_read names before row all is =
+    let parts = unless_ok (first_standing (process_key_checks row ++ process_checks names before row))
+    (insert_process (process_declared names row) before) all is in
+    (none_stands (process_key_checks row ++ process_checks names before row) parts.0, parts.1)
+
+processes_ascend : (names : List (List ℕ)) (before : List Process) (row : Members) (all : List Process) → Ascends before → Unit {0}
+    → process_row names before row ≡ Ok all → Ascends all
+processes_ascend names before row all ascends any is =
+    let parts = process_read names before row all is in
+    let free : is_alive before (process_declared names row).pid ≡ false = parts.0.1.1.1.1.1.0 in
+    subst Ascends parts.1 (insert_ascends (process_declared names row) before free ascends)
+
+length_insert : (p : Process) (ps : List Process) → length (insert_process p ps) ≤ length ps + 1
+length_insert p [] = omega arith
+length_insert p (q ∷ ps) = grind (arith, length_insert p ps)
+
+one_process : (names : List (List ℕ)) (before : List Process) (row : Members) (all : List Process) → process_row names before row ≡ Ok all
+    → length all ≤ length before + 1
+one_process names before row all is =
+    let parts = process_read names before row all is in
+    subst (λ (ps : List Process). length ps ≤ length before + 1) parts.1 (length_insert (process_declared names row) before)
+
+one_space : (before : Declared) (row : Members) (all : Declared) → space_row before row ≡ Ok all → length all.spaces ≤ length before.spaces + 1
+one_space before row all is =
+    let parts = unless_ok (first_standing (key_checks space_keys row ++ space_checks before row)) _ all is in
+    subst (λ (d : Declared). length d.spaces ≤ length before.spaces + 1) parts.1 (omega arith)
+
+module _ (bytes : List ℕ) (w : World) (is : world_text bytes ≡ Reads w) where
+  -- the pids ascend
+  pub start_ascends : Ascends w.start.processes
+  start_ascends =
+      let d : Declares bytes w = declares bytes w is in
+      let m : Made d.top w = d.made in
+      let rows = read_ok table.Process limit.Processes 0 (process_row m.declared.names) [] (rows_at (codes "process") d.top) m.processes m.processes_read in
+      subst (λ (v : World). Ascends v.start.processes) m.is
+      (rows_keep table.Process (process_row m.declared.names) Ascends (λ row. Unit {0}) (processes_ascend m.declared.names) 1 []
+      (rows_at (codes "process") d.top) m.processes tt (any_rows (rows_at (codes "process") d.top)) rows.1)
+
+  -- no more processes live than the limit
+  pub start_processes : length w.start.processes ≤ limit_number limit.Processes
+  start_processes =
+      let d : Declares bytes w = declares bytes w is in
+      let m : Made d.top w = d.made in
+      let rows = read_ok table.Process limit.Processes 0 (process_row m.declared.names) [] (rows_at (codes "process") d.top) m.processes m.processes_read in
+      let many = rows_count table.Process (process_row m.declared.names) length (one_process m.declared.names) 1 []
+      (rows_at (codes "process") d.top) m.processes rows.1 in
+      subst (λ (v : World). length v.start.processes ≤ limit_number limit.Processes) m.is (omega (arith, many, rows.0))
+
+  -- and no more spaces stand
+  pub start_spaces : length w.start.spaces ≤ limit_number limit.Spaces
+  start_spaces =
+      let d : Declares bytes w = declares bytes w is in
+      let m : Made d.top w = d.made in
+      let rows = read_ok table.Space limit.Spaces 1 space_row none_declared (rows_at (codes "space") d.top) m.declared m.spaces_read in
+      let many = rows_count table.Space space_row (λ d. length d.spaces) one_space 1 none_declared (rows_at (codes "space") d.top) m.declared rows.1 in
+      subst (λ (v : World). length v.start.spaces ≤ limit_number limit.Spaces) m.is (omega (arith, many, rows.0))

@@ -1,125 +1,110 @@
--- Worked cases of the world's text, by computation.
-use Rattle.std.proofs.Common.{◌≡◌, ℕ, [], ◌∷◌, None, refl}
+-- Worked cases of the world's text, by computation: the whole table, the order of the tables, and whole worlds.
+use Rattle.std.proofs.Common.{◌≡◌, ℕ, true, false, List, [], ◌∷◌, ◌++◌, map, None, Some, refl}
 use Rattle.std.specs.Prelude.{⊤, codes}
 use Rattle.std.specs.Str.{is_utf8, chars}
+use Rattle.cm_base.specs.declared.faults.Table.TheVariants as table
+use Rattle.cm_base.specs.declared.faults.WorldFault.{WorldFault}
+use Rattle.cm_base.specs.declared.faults.WorldFault.TheVariants as fault
+use Rattle.cm_filter.specs.Filters.{no_filter}
+use Rattle.hex.proofs.OnLiterals.{hex_on_literals}
 use Rattle.model_cred.specs.Credential.{FourIds, all_four}
 use Rattle.model_cred.specs.Process.{Process}
-use Rattle.model_text.specs.WorldText.{Reads, Bad, NotBuilt, world_text, world_with}
-use Rattle.model_text.proofs.Declared.{default_cred}
+use Rattle.model_cred.specs.Space.{first_spaces}
+use Rattle.model_cred.specs.World.{World, Script, Strace}
+use Rattle.model_text.specs.FileText.{mode_of_text, attribute_of_text}
+use Rattle.model_text.specs.MountText.{root_alone}
+use Rattle.model_text.specs.NameText.{is_name, is_path}
+use Rattle.model_text.specs.WorldText.{WorldText, Reads, Bad, Exceeds, world_text}
+use Rattle.model_text.proofs.Defaults.{default_cred}
 use Rattle.toml.proofs.OnLiterals.{toml_on_literals}
 
 -- what a proof unfolds to compute a world at a literal
 unfoldable pub world_on_literals : ⊤
-unfolding toml_on_literals is_utf8 chars
+unfolding toml_on_literals hex_on_literals is_utf8 chars is_name is_path mode_of_text attribute_of_text
 world_on_literals = tt
+
+-- the world of these processes in the initial space, with nothing else declared
+abbrev pub world_with : List Process → World
+world_with processes = record {
+  start = record { processes = processes; spaces = first_spaces };
+  names = [];
+  files = record { mounts = root_alone; rows = [] };
+  filter = no_filter;
+  form = Script;
+}
+
+-- each of the texts is this
+abbrev pub AllAre : WorldText → List (List ℕ) → Type 0
+AllAre answer texts = map world_text texts ≡ map (λ _. answer) texts
+
+-- the whole table has this fault
+abbrev pub whole : WorldFault → WorldText
+whole why = Bad table.Whole 0 why
 
 -- a process with these user ids in the initial space, and all else by default
 abbrev pub process_of : ℕ → FourIds → Process
 process_of pid ids = record { pid = pid; forebear = None; space = 0; cred = default_cred ids }
 
-pub one_process : world_text (codes "log = \"script\"\n[[process]]\npid = 100\nuid = 0\n") ≡ Reads (world_with (process_of 100 (all_four 0) ∷ []))
-unfolding world_on_literals
-one_process = refl
-
-pub user_id_by_default : world_text (codes "log = \"script\"\n[[process]]\npid = 100\n") ≡ Reads (world_with (process_of 100 (all_four 0) ∷ []))
-unfolding world_on_literals
-user_id_by_default = refl
-
-pub four_user_ids : world_text (codes "log = \"script\"\n[[process]]\npid = 100\nuid = [0, 0, 7, 0]\n")
-    ≡ Reads (world_with (process_of 100 (record { real = 0; effective = 0; saved = 7; fs = 0 }) ∷ []))
-unfolding world_on_literals
-four_user_ids = refl
-
+-- ---- worlds
 pub no_process : world_text (codes "log = \"script\"\n") ≡ Reads (world_with [])
 unfolding world_on_literals
 no_process = refl
 
-pub rows_in_any_order : world_text (codes "log = \"script\"\n[[process]]\npid = 200\n[[process]]\npid = 100\n")
-    ≡ Reads (world_with (process_of 100 (all_four 0) ∷ process_of 200 (all_four 0) ∷ []))
+pub a_log_of_strace : world_text (codes "log = \"strace\"\n") ≡ Reads (record (world_with []) { form = Strace })
 unfolding world_on_literals
-rows_in_any_order = refl
+a_log_of_strace = refl
 
-pub one_pid_twice : world_text (codes "log = \"script\"\n[[process]]\npid = 100\n[[process]]\npid = 100\n") ≡ Bad
+pub one_process : world_text (codes "log = \"script\"\n[[process]]\npid = 100\nuid = 0\n") ≡ Reads (world_with (process_of 100 (all_four 0) ∷ []))
 unfolding world_on_literals
-one_pid_twice = refl
+one_process = refl
 
-pub three_user_ids : world_text (codes "log = \"script\"\n[[process]]\npid = 100\nuid = [0, 0, 7]\n") ≡ Bad
-unfolding world_on_literals
-three_user_ids = refl
-
-pub user_id_too_large : world_text (codes "log = \"script\"\n[[process]]\npid = 100\nuid = 4294967295\n") ≡ Bad
-unfolding world_on_literals
-user_id_too_large = refl
-
-pub user_id_below_zero : world_text (codes "log = \"script\"\n[[process]]\npid = 100\nuid = -1\n") ≡ Bad
-unfolding world_on_literals
-user_id_below_zero = refl
-
-pub pid_zero : world_text (codes "log = \"script\"\n[[process]]\npid = 0\n") ≡ Bad
-unfolding world_on_literals
-pid_zero = refl
-
-pub pid_too_large : world_text (codes "log = \"script\"\n[[process]]\npid = 4194305\n") ≡ Bad
-unfolding world_on_literals
-pid_too_large = refl
-
-pub row_without_pid : world_text (codes "log = \"script\"\n[[process]]\nuid = 0\n") ≡ Bad
-unfolding world_on_literals
-row_without_pid = refl
-
-pub unknown_key_of_a_row : world_text (codes "log = \"script\"\n[[process]]\npid = 100\nname = 0\n") ≡ Bad
-unfolding world_on_literals
-unknown_key_of_a_row = refl
-
-pub unknown_table : world_text (codes "log = \"script\"\n[other]\n") ≡ Bad
-unfolding world_on_literals
-unknown_table = refl
-
-pub empty_text : world_text (codes "") ≡ Bad
-unfolding world_on_literals
-empty_text = refl
-
-pub no_form_of_the_log : world_text (codes "[[process]]\npid = 100\n") ≡ Bad
-unfolding world_on_literals
-no_form_of_the_log = refl
-
-pub unknown_form_of_the_log : world_text (codes "log = \"text\"\n") ≡ Bad
-unfolding world_on_literals
-unknown_form_of_the_log = refl
-
-pub no_toml : world_text (codes "log = \n") ≡ Bad
+pub no_toml : AllAre (whole fault.Toml) (codes "log = \n" ∷ codes "log" ∷ [])
 unfolding world_on_literals
 no_toml = refl
 
-pub space_is_not_built : world_text (codes "log = \"script\"\n[[space]]\n") ≡ NotBuilt
+-- ---- the whole table
+pub unknown_keys_of_the_whole : AllAre (whole fault.UnknownKey)
+    (codes "log = \"script\"\n[other]\n" ∷ codes "log = \"script\"\nLog = 1\n" ∷ codes "other = 1\n" ∷ codes "log = 1\nother = 1\n" ∷ [])
 unfolding world_on_literals
-space_is_not_built = refl
+unknown_keys_of_the_whole = refl
 
-pub strace_is_not_built : world_text (codes "log = \"strace\"\n") ≡ NotBuilt
+pub no_form_of_the_log : AllAre (whole fault.MissingKey) (codes "" ∷ codes "[[process]]\npid = 100\n" ∷ codes "space = 1\n" ∷ [])
 unfolding world_on_literals
-strace_is_not_built = refl
+no_form_of_the_log = refl
 
-pub later_key_is_not_built : world_text (codes "log = \"script\"\n[[process]]\npid = 100\nspace = \"init\"\n") ≡ NotBuilt
+pub wrong_types_of_the_whole : AllAre (whole fault.WrongType)
+    (codes "log = \"text\"\n" ∷ codes "log = \"\"\n" ∷ codes "log = 1\n" ∷ codes "log = [\"script\"]\n"
+    ∷ codes "log = \"script\"\nspace = 1\n" ∷ codes "log = \"script\"\n[mount]\n" ∷ codes "log = \"script\"\nfile = \"\"\n"
+    ∷ codes "log = \"script\"\n[process]\npid = 1\n" ∷ codes "log = \"script\"\n[[filter]]\n" ∷ codes "log = \"script\"\nfilter = 1\n" ∷ [])
 unfolding world_on_literals
-later_key_is_not_built = refl
+wrong_types_of_the_whole = refl
 
-pub what_is_not_built_comes_before_a_fault : world_text (codes "log = \"text\"\n[[process]]\npid = 0\nspace = 0\n") ≡ NotBuilt
-unfolding world_on_literals
-what_is_not_built_comes_before_a_fault = refl
+-- ---- the order of the tables
+-- each table has a fault in its second row, or the filter has one: the first table is told
+abbrev bad_spaces : List ℕ
+bad_spaces = codes "[[space]]\nname = \"a\"\nparent = \"init\"\nowner = 0\n[[space]]\n"
 
-pub rows_of_an_inline_array : world_text (codes "log = \"script\"\nprocess = [{pid = 200, uid = -0,}, {pid = 100, uid = +1_000}]\n")
-    ≡ Reads (world_with (process_of 200 (all_four 0) ∷ process_of 100 (all_four 1000) ∷ []))
-unfolding world_on_literals
-rows_of_an_inline_array = refl
+abbrev bad_mounts : List ℕ
+bad_mounts = codes "[[mount]]\nname = \"m\"\n[[mount]]\n"
 
-pub row_that_is_no_table : world_text (codes "log = \"script\"\nprocess = [5, {pid = 100}]\n") ≡ Bad
-unfolding world_on_literals
-row_that_is_no_table = refl
+abbrev bad_files : List ℕ
+bad_files = codes "[[file]]\npath = \"/a\"\nuid = 0\ngid = 0\nmode = \"0\"\n[[file]]\n"
 
-pub later_key_after_a_row_that_is_no_table : world_text (codes "log = \"script\"\nprocess = [5, {space = 1}]\n") ≡ NotBuilt
-unfolding world_on_literals
-later_key_after_a_row_that_is_no_table = refl
+abbrev bad_processes : List ℕ
+bad_processes = codes "[[process]]\npid = 1\n[[process]]\n"
 
-pub later_key_of_a_process_that_is_no_row : world_text (codes "log = \"script\"\nprocess = {space = 1}\n") ≡ Bad
+abbrev bad_filter : List ℕ
+bad_filter = codes "[filter]\nexclude = [\"x\"]\n"
+
+abbrev script : List ℕ
+script = codes "log = \"script\"\n"
+
+pub tables_in_their_order :
+    map world_text ((script ++ bad_filter ++ bad_processes ++ bad_files ++ bad_mounts ++ bad_spaces)
+    ∷ (script ++ bad_filter ++ bad_processes ++ bad_files ++ bad_mounts)
+    ∷ (script ++ bad_filter ++ bad_processes ++ bad_files)
+    ∷ (script ++ bad_filter ++ bad_processes) ∷ (script ++ bad_filter) ∷ (codes "log = 1\n" ++ bad_filter ++ bad_spaces) ∷ [])
+    ≡ Bad table.Space 2 fault.MissingKey ∷ Bad table.Mount 2 fault.MissingKey ∷ Bad table.File 2 fault.MissingKey
+    ∷ Bad table.Process 2 fault.MissingKey ∷ Bad table.Filter 0 fault.NoSuchCall ∷ whole fault.WrongType ∷ []
 unfolding world_on_literals
-later_key_of_a_process_that_is_no_row = refl
+tables_in_their_order = refl

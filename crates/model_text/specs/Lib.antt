@@ -1,12 +1,24 @@
 -- The texts that the program reads and writes: worlds, lines of logs and what a log reads as, lines of reports.
 pub mod Cut
+pub mod NameText
 pub mod Token
+pub mod SpaceToken
 pub mod CapText
+pub mod Hex
+pub mod Arguments
 pub mod Line
 pub mod Reading
 pub mod Numbers
 pub mod Places
 pub mod Toml
+pub mod Refusal
+pub mod Keys
+pub mod MapText
+pub mod SpaceText
+pub mod MountText
+pub mod FileText
+pub mod FilterText
 pub mod ProcessText
 pub mod WorldText
 pub mod Print
+pub mod Written

@@ -1,0 +1,353 @@
+-- What was written of an event is read again as the same event.
+use Rattle.std.proofs.Common.{◌≡◌, ℕ, suc, ◌+◌, ◌*◌, ◌%◌, ◌<◌, ◌≤◌, true, false, List, [], ◌∷◌, ◌++◌, length, map, refl, ap, ◌∙◌, arith, All, IsTrue, append_assoc}
+use Rattle.std.proofs.Common.{Option, Some, None, lit<, add-one, nat_lt}
+use Rattle.std.proofs.lemmas.Bool.{eq-eqb, ne_eqb, leb-true, ltb-true, and_parts}
+use Rattle.std.proofs.lemmas.List.Elements.{All-head, All-tail, All-weaker}
+use Rattle.std.specs.Prelude.{codes, decimal, Ok, option_map, flat_map, nat_le}
+use Rattle.std.proofs.lemmas.List.{length-map}
+use Rattle.std.specs.List.{list_all}
+use Rattle.std.specs.Option.{option_or}
+use Rattle.cm_base.proofs.Tables.{names_read_back}
+use Rattle.cm_base.specs.Limits.{greatest_number, last_pid}
+use Rattle.cm_base.specs.Names.{errno_name, errno_of}
+use Rattle.cm_base.specs.Number.{is_digit}
+use Rattle.cm_base.specs.declared.errno.Errno.{Errno}
+use Rattle.cm_base.specs.declared.errno.Errno.TheVariants as errno
+use Rattle.cm_base.specs.declared.res.Res.{Res}
+use Rattle.cm_base.specs.declared.res.Res.TheVariants as res
+use Rattle.cm_filter.specs.declared.kind.CallKind.{CallKind}
+use Rattle.cm_filter.specs.declared.kind.CallKind.TheVariants as kind
+use Rattle.cm_filter.specs.Kinds.{call_name, kind_named}
+use Rattle.model_cred.specs.Call as model
+use Rattle.model_cred.specs.Call.{Call, Event, kind_of}
+use Rattle.model_cred.specs.IdMap.{Extent}
+use Rattle.model_cred.specs.Process.{is_pid}
+use Rattle.model_cred.specs.World.{World}
+use Rattle.model_text.proofs.ArgumentTexts.{decimal_is_no_equals, id_is_no_equals, cap_written, word_is_token, word_is_no_equals, word_back}
+use Rattle.model_text.proofs.DecimalTexts.{digits_of_decimal, decimal_token, number_back, id_is_token, id_back}
+use Rattle.model_text.proofs.FileTexts.{file_written}
+use Rattle.model_text.proofs.Found.{length_other}
+use Rattle.model_text.proofs.HexTexts.{set_is_token, set_back, set_length}
+use Rattle.model_text.proofs.SpaceTexts.{space_written}
+use Rattle.model_text.proofs.Tokens.{IsToken, token_alone, token_before, tokens_before}
+use Rattle.model_text.specs.Arguments.{Form, AnId, ANumber, ACap, ASet, ASpace, AWord, AFile, Pattern, Ids, Triples, pattern_of, takes, form_at}
+use Rattle.model_text.specs.Arguments.{Argument, Id, Number, Cap, Set, Space, Word, File, argument_token, argument_text, extents_in, ids_in, call_with, triple_of, arguments_of}
+use Rattle.model_text.specs.Cut.{tokens_of}
+use Rattle.model_text.specs.Line.{Tells, Tokens, parts_of, after_argument, arguments_from, call_told, result_of_kind, tokens_line}
+use Rattle.model_text.specs.Print.{event_text}
+use Rattle.model_text.specs.Token.{pid_token, result_token, birth_token, old_id_token, done_token, res_text, is_comment, is_equals}
+use Rattle.model_text.specs.Written.{AreNames, ArePaths, IsInRange, IsOutcome, IsBirth, IsOldId, MayAnswer, IsWritable, LinesReadBack}
+
+-- ---- single arguments
+-- the form of an argument
+abbrev form_of : Argument → Form
+form_of (Id n) = AnId
+form_of (Number n) = ANumber
+form_of (Cap n) = ACap
+form_of (Set n) = ASet
+form_of (Space n) = ASpace
+form_of (Word deny) = AWord
+form_of (File file) = AFile
+
+-- What is written of an argument.
+record Written (w : World) (argument : Argument) : Type 0 where
+  token : IsToken (argument_text w argument)
+  plain : is_equals (argument_text w argument) ≡ false
+  back : argument_token w (form_of argument) (argument_text w argument) ≡ Some argument
+
+written : (w : World) (argument : Argument) → AreNames w.names → ArePaths (map (λ row. row.path) w.files.rows) → IsInRange w argument → Written w argument
+written w (Id n) names paths fits = record { token = id_is_token n fits; plain = id_is_no_equals n fits; back = ap (option_map Id) (id_back n fits) }
+written w (Number n) names paths fits =
+    record { token = decimal_token n fits; plain = decimal_is_no_equals n fits; back = ap (option_map Number) (number_back n fits) }
+written w (Cap n) names paths fits =
+    let cap = cap_written n fits in record { token = cap.token; plain = cap.plain; back = ap (option_map Cap) cap.back }
+written w (Set n) names paths small = record {
+  token = set_is_token n;
+  plain = length_other (argument_text w (Set n)) (codes "=") (λ same. omega (arith, set_length n, same));
+  back = ap (option_map Set) (set_back n small);
+}
+written w (Space n) names paths fits =
+    let space = space_written w.names n names fits in record { token = space.token; plain = space.plain; back = ap (option_map Space) space.back }
+written w (Word deny) names paths _ = record { token = word_is_token deny; plain = word_is_no_equals deny; back = ap (option_map Word) (word_back deny) }
+written w (File file) names paths there =
+    let named = file_written w.files file paths there in record { token = named.token; plain = named.plain; back = ap (option_map File) named.back }
+
+-- ---- the parts after a call's name
+-- arguments that aren't `=`, and a result after the `=`
+parts_written : (w : World) (arguments : List Argument) (outcome : List ℕ) → All (Written w) arguments
+    → parts_of (map (argument_text w) arguments ++ codes "=" ∷ outcome ∷ []) ≡ Some (record { arguments = map (argument_text w) arguments; outcome = outcome })
+parts_written w [] outcome all = refl
+parts_written w (argument ∷ arguments) outcome all =
+    rw (All-head (Written w) argument arguments all).plain
+    (ap (option_map (after_argument (argument_text w argument))) (parts_written w arguments outcome (All-tail (Written w) argument arguments all)))
+
+-- ---- arguments of a pattern
+-- the arguments are of the pattern's forms, the first being that at the place
+abbrev Fit : Pattern → ℕ → List Argument → Type 0
+Fit pattern place [] = Unit {0}
+Fit pattern place (argument ∷ arguments) = (form_at pattern place ≡ form_of argument) × Fit pattern (place + 1) arguments
+
+arguments_back : (w : World) (pattern : Pattern) (place : ℕ) (arguments : List Argument) → Fit pattern place arguments → All (Written w) arguments
+    → arguments_from w pattern place (map (argument_text w) arguments) ≡ Ok arguments
+arguments_back w pattern place [] fit all = refl
+arguments_back w pattern place (argument ∷ arguments) fit all =
+    let here : argument_token w (form_at pattern place) (argument_text w argument) ≡ Some argument =
+    ap (λ (form : Form). argument_token w form (argument_text w argument)) fit.0 ∙ (All-head (Written w) argument arguments all).back in
+    rw (here, arguments_back w pattern (place + 1) arguments fit.1 (All-tail (Written w) argument arguments all)) refl
+
+-- ids, and triples of numbers
+fit_ids : (place : ℕ) (ids : List ℕ) → Fit Ids place (map Id ids)
+fit_ids place [] = tt
+fit_ids place (id ∷ ids) = (refl, fit_ids (place + 1) ids)
+
+fit_triples : (place : ℕ) (list : List Extent) → Fit Triples (suc place) (flat_map triple_of list)
+fit_triples place [] = tt
+fit_triples place (e ∷ list) = rw (add-one, add-one, add-one) (refl, (refl, (refl, fit_triples (suc (suc (suc place))) list)))
+
+length_triples : (list : List Extent) → length (flat_map triple_of list) ≡ 3 * length list
+length_triples [] = refl
+length_triples (e ∷ list) = omega (arith, length_triples list)
+
+pub ids_back : (ids : List ℕ) → ids_in (map Id ids) ≡ Some ids
+ids_back [] = refl
+ids_back (id ∷ ids) = ap (option_map (λ (ids : List ℕ). id ∷ ids)) (ids_back ids)
+
+pub extents_back : (list : List Extent) → extents_in (flat_map triple_of list) ≡ Some list
+extents_back [] = refl
+extents_back (e ∷ list) = ap (option_map (λ (list : List Extent). e ∷ list)) (extents_back list)
+
+-- ---- the arguments of each call
+-- The arguments of a call are of its pattern, and make the call.
+record ArgumentsMake (call : Call) : Type 0 where
+  count : takes (pattern_of (kind_of call)) (length (arguments_of call)) ≡ true
+  fit : Fit (pattern_of (kind_of call)) 0 (arguments_of call)
+  made : call_with (kind_of call) (arguments_of call) ≡ Some call
+
+-- so many triples after a space
+triples_counted : (argument : Argument) (list : List Extent) → takes Triples (length (argument ∷ flat_map triple_of list)) ≡ true
+triples_counted argument list =
+    let whole : length (argument ∷ flat_map triple_of list) ≡ 1 + 3 * length list = omega (arith, length_triples list) in
+    rw whole (eq-eqb ((1 + 3 * length list) % 3) 1 (omega arith))
+
+arguments_make : (call : Call) → ArgumentsMake call
+arguments_make (model.SetUid a) = record { count = refl; fit = (refl, tt); made = refl }
+arguments_make (model.SetReUid a b) = record { count = refl; fit = (refl, (refl, tt)); made = refl }
+arguments_make (model.SetResUid a b c) = record { count = refl; fit = (refl, (refl, (refl, tt))); made = refl }
+arguments_make (model.SetFsUid a) = record { count = refl; fit = (refl, tt); made = refl }
+arguments_make (model.SetGid a) = record { count = refl; fit = (refl, tt); made = refl }
+arguments_make (model.SetReGid a b) = record { count = refl; fit = (refl, (refl, tt)); made = refl }
+arguments_make (model.SetResGid a b c) = record { count = refl; fit = (refl, (refl, (refl, tt))); made = refl }
+arguments_make (model.SetFsGid a) = record { count = refl; fit = (refl, tt); made = refl }
+arguments_make (model.SetGroups ids) = record { count = refl; fit = fit_ids 0 ids; made = ap (option_map model.SetGroups) (ids_back ids) }
+arguments_make (model.CapSet a b c) = record { count = refl; fit = (refl, (refl, (refl, tt))); made = refl }
+arguments_make (model.BsetDrop a) = record { count = refl; fit = (refl, tt); made = refl }
+arguments_make (model.AmbRaise a) = record { count = refl; fit = (refl, tt); made = refl }
+arguments_make (model.AmbLower a) = record { count = refl; fit = (refl, tt); made = refl }
+arguments_make model.AmbClear = record { count = refl; fit = tt; made = refl }
+arguments_make (model.SecureBits a) = record { count = refl; fit = (refl, tt); made = refl }
+arguments_make (model.KeepCaps a) = record { count = refl; fit = (refl, tt); made = refl }
+arguments_make (model.NoNewPrivs a) = record { count = refl; fit = (refl, tt); made = refl }
+arguments_make model.Fork = record { count = refl; fit = tt; made = refl }
+arguments_make model.CloneUser = record { count = refl; fit = tt; made = refl }
+arguments_make model.Unshare = record { count = refl; fit = tt; made = refl }
+arguments_make (model.SetNs a) = record { count = refl; fit = (refl, tt); made = refl }
+arguments_make (model.WriteUidMap space list) =
+    record { count = triples_counted (Space space) list; fit = (refl, fit_triples 0 list); made = ap (option_map (model.WriteUidMap space)) (extents_back list) }
+arguments_make (model.WriteGidMap space list) =
+    record { count = triples_counted (Space space) list; fit = (refl, fit_triples 0 list); made = ap (option_map (model.WriteGidMap space)) (extents_back list) }
+arguments_make (model.WriteSetgroups a b) = record { count = refl; fit = (refl, (refl, tt)); made = refl }
+arguments_make (model.Exec a) = record { count = refl; fit = (refl, tt); made = refl }
+arguments_make model.Exit = record { count = refl; fit = tt; made = refl }
+
+-- ---- names
+-- The name of a call is a token, which names the call's kind.
+record KindWritten (kind : CallKind) : Type 0 where
+  token : IsToken (call_name kind)
+  back : kind_named (call_name kind) ≡ Some kind
+
+kind_written : (kind : CallKind) → KindWritten kind
+kind_written kind.SetUid = record { token = record { some = lit< tt; plain = refl }; back = refl }
+kind_written kind.SetReUid = record { token = record { some = lit< tt; plain = refl }; back = refl }
+kind_written kind.SetResUid = record { token = record { some = lit< tt; plain = refl }; back = refl }
+kind_written kind.SetFsUid = record { token = record { some = lit< tt; plain = refl }; back = refl }
+kind_written kind.SetGid = record { token = record { some = lit< tt; plain = refl }; back = refl }
+kind_written kind.SetReGid = record { token = record { some = lit< tt; plain = refl }; back = refl }
+kind_written kind.SetResGid = record { token = record { some = lit< tt; plain = refl }; back = refl }
+kind_written kind.SetFsGid = record { token = record { some = lit< tt; plain = refl }; back = refl }
+kind_written kind.SetGroups = record { token = record { some = lit< tt; plain = refl }; back = refl }
+kind_written kind.CapSet = record { token = record { some = lit< tt; plain = refl }; back = refl }
+kind_written kind.BsetDrop = record { token = record { some = lit< tt; plain = refl }; back = refl }
+kind_written kind.AmbRaise = record { token = record { some = lit< tt; plain = refl }; back = refl }
+kind_written kind.AmbLower = record { token = record { some = lit< tt; plain = refl }; back = refl }
+kind_written kind.AmbClear = record { token = record { some = lit< tt; plain = refl }; back = refl }
+kind_written kind.SecureBits = record { token = record { some = lit< tt; plain = refl }; back = refl }
+kind_written kind.KeepCaps = record { token = record { some = lit< tt; plain = refl }; back = refl }
+kind_written kind.NoNewPrivs = record { token = record { some = lit< tt; plain = refl }; back = refl }
+kind_written kind.Fork = record { token = record { some = lit< tt; plain = refl }; back = refl }
+kind_written kind.CloneUser = record { token = record { some = lit< tt; plain = refl }; back = refl }
+kind_written kind.Unshare = record { token = record { some = lit< tt; plain = refl }; back = refl }
+kind_written kind.SetNs = record { token = record { some = lit< tt; plain = refl }; back = refl }
+kind_written kind.WriteUidMap = record { token = record { some = lit< tt; plain = refl }; back = refl }
+kind_written kind.WriteGidMap = record { token = record { some = lit< tt; plain = refl }; back = refl }
+kind_written kind.WriteSetgroups = record { token = record { some = lit< tt; plain = refl }; back = refl }
+kind_written kind.Exec = record { token = record { some = lit< tt; plain = refl }; back = refl }
+kind_written kind.Exit = record { token = record { some = lit< tt; plain = refl }; back = refl }
+
+-- The name of an error is a token, and neither a number nor `0`.
+record ErrorWritten (e : Errno) : Type 0 where
+  token : IsToken (errno_name e)
+  number : pid_token (errno_name e) ≡ None
+  done : done_token (errno_name e) ≡ None
+  back : result_token (errno_name e) ≡ Some (res.Err e)
+
+error_written : (e : Errno) → ErrorWritten e
+error_written errno.EPERM = record { token = record { some = lit< tt; plain = refl }; number = refl; done = refl; back = refl }
+error_written errno.EINVAL = record { token = record { some = lit< tt; plain = refl }; number = refl; done = refl; back = refl }
+error_written errno.ENOSPC = record { token = record { some = lit< tt; plain = refl }; number = refl; done = refl; back = refl }
+error_written errno.ENOMEM = record { token = record { some = lit< tt; plain = refl }; number = refl; done = refl; back = refl }
+error_written errno.EAGAIN = record { token = record { some = lit< tt; plain = refl }; number = refl; done = refl; back = refl }
+error_written errno.EINTR = record { token = record { some = lit< tt; plain = refl }; number = refl; done = refl; back = refl }
+error_written errno.EFAULT = record { token = record { some = lit< tt; plain = refl }; number = refl; done = refl; back = refl }
+error_written errno.EIO = record { token = record { some = lit< tt; plain = refl }; number = refl; done = refl; back = refl }
+error_written errno.ENOENT = record { token = record { some = lit< tt; plain = refl }; number = refl; done = refl; back = refl }
+error_written errno.EACCES = record { token = record { some = lit< tt; plain = refl }; number = refl; done = refl; back = refl }
+error_written errno.ENOTDIR = record { token = record { some = lit< tt; plain = refl }; number = refl; done = refl; back = refl }
+error_written errno.ELOOP = record { token = record { some = lit< tt; plain = refl }; number = refl; done = refl; back = refl }
+error_written errno.ENAMETOOLONG = record { token = record { some = lit< tt; plain = refl }; number = refl; done = refl; back = refl }
+error_written errno.E2BIG = record { token = record { some = lit< tt; plain = refl }; number = refl; done = refl; back = refl }
+error_written errno.ENOEXEC = record { token = record { some = lit< tt; plain = refl }; number = refl; done = refl; back = refl }
+error_written errno.ETXTBSY = record { token = record { some = lit< tt; plain = refl }; number = refl; done = refl; back = refl }
+error_written errno.ELIBBAD = record { token = record { some = lit< tt; plain = refl }; number = refl; done = refl; back = refl }
+
+-- ---- results
+-- What is written of a result, read by this.
+record ResultWritten (read : List ℕ → Option Res) (answer : Res) : Type 0 where
+  token : IsToken (res_text answer)
+  back : read (res_text answer) ≡ Some answer
+
+-- a pid is one, as a number
+pid_back : (pid : ℕ) → IsTrue (is_pid pid) → pid_token (decimal pid) ≡ Some pid
+pid_back pid is =
+    let high : pid ≤ last_pid = leb-true pid last_pid (and_parts (nat_le 1 pid) (nat_le pid last_pid) is).1 in
+    rw (number_back pid (omega arith), is) refl
+
+pid_fits : (pid : ℕ) → IsTrue (is_pid pid) → pid ≤ greatest_number
+pid_fits pid is = let high : pid ≤ last_pid = leb-true pid last_pid (and_parts (nat_le 1 pid) (nat_le pid last_pid) is).1 in omega arith
+
+old_id_written : (answer : Res) → IsOldId answer → ResultWritten old_id_token answer
+old_id_written res.Done never = absurd never
+old_id_written (res.Id n) fits = record { token = decimal_token n fits; back = ap (option_map res.Id) (number_back n fits) }
+old_id_written (res.Child pid) never = absurd never
+old_id_written (res.Err e) never = absurd never
+
+birth_written : (answer : Res) → IsBirth answer → ResultWritten birth_token answer
+birth_written res.Done never = absurd never
+birth_written (res.Id n) never = absurd never
+birth_written (res.Child pid) is = record {
+  token = decimal_token pid (pid_fits pid is);
+  back = ap (λ (found : Option ℕ). option_or (option_map res.Child found) (option_map res.Err (errno_of (decimal pid)))) (pid_back pid is);
+}
+birth_written (res.Err e) _ = record {
+  token = (error_written e).token;
+  back =
+      ap (λ (found : Option ℕ). option_or (option_map res.Child found) (option_map res.Err (errno_of (errno_name e)))) (error_written e).number
+      ∙ ap (option_map res.Err) (names_read_back.error e);
+}
+
+outcome_written : (answer : Res) → IsOutcome answer → ResultWritten result_token answer
+outcome_written res.Done _ = record { token = record { some = lit< tt; plain = refl }; back = refl }
+outcome_written (res.Id n) never = absurd never
+outcome_written (res.Child pid) never = absurd never
+outcome_written (res.Err e) _ = record { token = (error_written e).token; back = (error_written e).back }
+
+done_written : (answer : Res) → answer ≡ res.Done → ResultWritten done_token answer
+done_written answer is = rw is (record { token = record { some = lit< tt; plain = refl }; back = refl })
+
+result_written : (kind : CallKind) (answer : Res) → MayAnswer kind answer → ResultWritten (result_of_kind kind) answer
+result_written kind.SetFsUid answer may = old_id_written answer may
+result_written kind.SetFsGid answer may = old_id_written answer may
+result_written kind.Fork answer may = birth_written answer may
+result_written kind.CloneUser answer may = birth_written answer may
+result_written kind.Exit answer may = done_written answer may
+result_written kind.SetUid answer may = outcome_written answer may
+result_written kind.SetReUid answer may = outcome_written answer may
+result_written kind.SetResUid answer may = outcome_written answer may
+result_written kind.SetGid answer may = outcome_written answer may
+result_written kind.SetReGid answer may = outcome_written answer may
+result_written kind.SetResGid answer may = outcome_written answer may
+result_written kind.SetGroups answer may = outcome_written answer may
+result_written kind.CapSet answer may = outcome_written answer may
+result_written kind.BsetDrop answer may = outcome_written answer may
+result_written kind.AmbRaise answer may = outcome_written answer may
+result_written kind.AmbLower answer may = outcome_written answer may
+result_written kind.AmbClear answer may = outcome_written answer may
+result_written kind.SecureBits answer may = outcome_written answer may
+result_written kind.KeepCaps answer may = outcome_written answer may
+result_written kind.NoNewPrivs answer may = outcome_written answer may
+result_written kind.Unshare answer may = outcome_written answer may
+result_written kind.SetNs answer may = outcome_written answer may
+result_written kind.WriteUidMap answer may = outcome_written answer may
+result_written kind.WriteGidMap answer may = outcome_written answer may
+result_written kind.WriteSetgroups answer may = outcome_written answer may
+result_written kind.Exec answer may = outcome_written answer may
+
+-- ---- the line
+-- the tokens of the line
+line_tokens : (w : World) (e : Event) → IsToken (decimal e.pid) → All (Written w) (arguments_of e.call) → IsToken (res_text e.res)
+    → tokens_of (event_text w e)
+    ≡ decimal e.pid ∷ call_name (kind_of e.call) ∷ map (argument_text w) (arguments_of e.call) ++ codes "=" ∷ res_text e.res ∷ []
+unfolding event_text
+line_tokens w e pid all result =
+    let name : List ℕ = call_name (kind_of e.call) in
+    let arguments : List Argument = arguments_of e.call in
+    let rest : List ℕ = codes "=" ++ 32 ∷ res_text e.res in
+    let are : All (λ argument. IsToken (argument_text w argument)) arguments =
+    All-weaker (Written w) (λ argument. IsToken (argument_text w argument)) (λ argument one. one.token) arguments all in
+    simp append_assoc
+    (token_before (decimal e.pid) (name ++ (flat_map (λ argument. 32 ∷ argument_text w argument) arguments ++ 32 ∷ rest)) pid
+    ∙ ap (λ (tokens : Tokens). decimal e.pid ∷ tokens)
+    (tokens_before (argument_text w) name arguments rest (kind_written (kind_of e.call)).token are
+    ∙ ap (λ (tokens : Tokens). name ∷ map (argument_text w) arguments ++ tokens)
+    (token_before (codes "=") (res_text e.res) (record { some = lit< tt; plain = refl })
+    ∙ ap (λ (tokens : Tokens). codes "=" ∷ tokens) (token_alone (res_text e.res) result))))
+
+-- a number begins no comment
+no_comment : (digits : List ℕ) → list_all (is_digit 10) digits ≡ true → is_comment digits ≡ false
+no_comment [] all = refl
+no_comment (d ∷ digits) all =
+    let low : d < 58 = ltb-true d 58 (and_parts (nat_le 48 d) (nat_lt d 58) (and_parts (is_digit 10 d) (list_all (is_digit 10) digits) all).0).1 in
+    ne_eqb d 59 (λ same. omega arith)
+
+-- the arguments make their call
+call_back : (w : World) (call : Call) → All (Written w) (arguments_of call)
+    → call_told w (kind_of call) (map (argument_text w) (arguments_of call)) ≡ Ok call
+call_back w call all =
+    let make : ArgumentsMake call = arguments_make call in
+    rw (length-map, make.count, arguments_back w (pattern_of (kind_of call)) 0 (arguments_of call) make.fit all, make.made) refl
+
+-- the tokens of a line tell the event
+tokens_back : (w : World) (e : Event) → IsWritable w e → All (Written w) (arguments_of e.call)
+    → tokens_line w (decimal e.pid ∷ call_name (kind_of e.call) ∷ map (argument_text w) (arguments_of e.call) ++ codes "=" ∷ res_text e.res ∷ [])
+    ≡ Tells e
+tokens_back w e can all =
+    let pid : List ℕ = decimal e.pid in
+    let plain : is_comment pid ≡ false = no_comment pid (digits_of_decimal e.pid (pid_fits e.pid can.pid)).each in
+    rw (
+      plain,
+      pid_back e.pid can.pid,
+      (kind_written (kind_of e.call)).back,
+      parts_written w (arguments_of e.call) (res_text e.res) all,
+      call_back w e.call all,
+      (result_written (kind_of e.call) e.res can.result).back,
+      can.groups,
+    ) refl
+
+-- What was written of an event is read again as the same event.
+pub lines_read_back : LinesReadBack
+unfolding LinesReadBack
+lines_read_back w e can =
+    let all : All (Written w) (arguments_of e.call) =
+    All-weaker (IsInRange w) (Written w) (λ argument fits. written w argument can.names can.paths fits) (arguments_of e.call) can.arguments in
+    ap (tokens_line w)
+    (line_tokens w e (decimal_token e.pid (pid_fits e.pid can.pid)) all (result_written (kind_of e.call) e.res can.result).token)
+    ∙ tokens_back w e can all

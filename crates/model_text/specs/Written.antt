@@ -1,0 +1,81 @@
+-- Which events are read again as they were written.
+use Rattle.std.specs.Prelude.{◌≡◌, ◌≢◌, ℕ, ◌≤◌, map, List, IsTrue, All, AllPairs}
+use Rattle.cm_base.specs.CapSet.{IsCapSet}
+use Rattle.cm_base.specs.Limits.{greatest_number}
+use Rattle.cm_base.specs.declared.res.Res.{Res}
+use Rattle.cm_base.specs.declared.res.Res.TheVariants as res
+use Rattle.cm_filter.specs.declared.kind.CallKind.{CallKind}
+use Rattle.cm_filter.specs.declared.kind.CallKind.TheVariants as kind
+use Rattle.model_cred.specs.Call.{Call, Event, Exec, kind_of}
+use Rattle.model_cred.specs.Files.{FileTable, IsDeclared}
+use Rattle.model_cred.specs.Process.{is_pid}
+use Rattle.model_cred.specs.World.{World}
+use Rattle.model_text.specs.Arguments.{Argument, Id, Number, Cap, Set, Space, Word, File, arguments_of}
+use Rattle.model_text.specs.Line.{Tells, groups_fit, script_line}
+use Rattle.model_text.specs.NameText.{is_name, is_path}
+use Rattle.model_text.specs.Print.{event_text}
+
+-- The names are names, and no two are equal.
+pub record AreNames (names : List (List ℕ)) : Type 0 where
+  pub each : All (λ name. IsTrue (is_name name)) names
+  pub distinct : AllPairs (λ name other. name ≢ other) names
+
+-- The paths are paths, and no two are equal.
+pub record ArePaths (paths : List (List ℕ)) : Type 0 where
+  pub each : All (λ path. IsTrue (is_path path)) paths
+  pub distinct : AllPairs (λ path other. path ≢ other) paths
+
+-- the file of an execve is in the table
+abbrev pub FileStands : FileTable → Call → Type 0
+FileStands files (Exec file) = IsDeclared files file
+FileStands files _ = Unit {0}
+
+-- the argument is in its range: a number of 32 bits, a set of capabilities, a file of the table
+abbrev pub IsInRange : World → Argument → Type 0
+IsInRange w (Id n) = n ≤ greatest_number
+IsInRange w (Number n) = n ≤ greatest_number
+IsInRange w (Cap n) = n ≤ greatest_number
+IsInRange w (Set n) = IsCapSet n
+IsInRange w (Space n) = n ≤ greatest_number
+IsInRange w (Word deny) = Unit {0}
+IsInRange w (File file) = IsDeclared w.files file
+
+-- done or refused
+abbrev pub IsOutcome : Res → Type 0
+IsOutcome res.Done = Unit {0}
+IsOutcome (res.Err e) = Unit {0}
+IsOutcome _ = ⊥
+
+-- a child or refused
+abbrev pub IsBirth : Res → Type 0
+IsBirth (res.Child pid) = IsTrue (is_pid pid)
+IsBirth (res.Err e) = Unit {0}
+IsBirth _ = ⊥
+
+-- an id from before
+abbrev pub IsOldId : Res → Type 0
+IsOldId (res.Id n) = n ≤ greatest_number
+IsOldId _ = ⊥
+
+-- the result has a form that a call of the kind may have
+abbrev pub MayAnswer : CallKind → Res → Type 0
+MayAnswer kind.SetFsUid answer = IsOldId answer
+MayAnswer kind.SetFsGid answer = IsOldId answer
+MayAnswer kind.Fork answer = IsBirth answer
+MayAnswer kind.CloneUser answer = IsBirth answer
+MayAnswer kind.Exit answer = answer ≡ res.Done
+MayAnswer _ answer = IsOutcome answer
+
+-- The names and paths of the world keep their rules, the pid, the arguments and the result of the event are in their
+-- ranges, and its groups are within their limit.
+pub record IsWritable (w : World) (e : Event) : Type 0 where
+  pub names : AreNames w.names
+  pub paths : ArePaths (map (λ row. row.path) w.files.rows)
+  pub pid : IsTrue (is_pid e.pid)
+  pub arguments : All (IsInRange w) (arguments_of e.call)
+  pub groups : IsTrue (groups_fit e.call)
+  pub result : MayAnswer (kind_of e.call) e.res
+
+-- What was written of an event is read again as the same event.
+unfoldable pub LinesReadBack : Type 0
+LinesReadBack = (w : World) (e : Event) → IsWritable w e → script_line w (event_text w e) ≡ Tells e
