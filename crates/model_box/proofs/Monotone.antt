@@ -211,7 +211,7 @@ adds_more permitted files spaces bounds wider within rule row part x added =
     adds_more_here bounds wider within permitted files spaces rule row part x added
 
 -- ---- what they meet
-meets_at_more : (spaces : Spaces) (bounds wider : Row → Part → ℕ → Type 0) → IsWithin bounds wider → (right : Right) (row : Row)
+pub meets_at_more : (spaces : Spaces) (bounds wider : Row → Part → ℕ → Type 0) → IsWithin bounds wider → (right : Right) (row : Row)
     → MeetsAt spaces bounds right row → MeetsAt spaces wider right row
 meets_at_more spaces bounds wider within (Cap cap n) (Standing a) (inl (above, members, held)) =
     inl (above, members_more bounds wider within (Standing a) members, within (Standing a) PermittedCaps cap held)

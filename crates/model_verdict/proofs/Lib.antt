@@ -1,0 +1,21 @@
+-- The laws of verdicts.
+pub mod Leasts
+pub mod Sweeps
+pub mod Blames
+pub mod Members
+pub mod SettledBounds
+pub mod MapsBack
+pub mod SettledPlans
+pub mod Decided
+pub mod Alikes
+pub mod Mores
+pub mod Deciding
+pub mod DecidedRules
+pub mod Limits
+pub mod Sums
+pub mod Exists
+pub mod Cases
+pub mod BlameCase
+pub mod Verdicts
+pub mod MapsStay
+pub mod BlamedRules
