@@ -5,8 +5,10 @@
 
 mod cap;
 mod errno;
+mod faults;
 mod id;
 mod laws;
+mod limited;
 mod limits;
 mod memory;
 mod number;
@@ -16,11 +18,13 @@ mod word;
 
 pub use cap::Cap;
 pub use errno::Errno;
+pub use faults::{LineFault, Table, WorldFault};
 pub use id::{Kgid, Kuid, Pid, SpaceId};
 pub use laws::{
     cap_sets_kept, equality_by_members, inclusion_by_members, inclusion_order, membership,
     names_read_back,
 };
+pub use limited::Limited;
 pub use limits::{ALL_CAPS, CAP_COUNT, MINUS_ONE};
 pub use memory::NoMemory;
 pub use number::{BadNumber, read_octal, read_u32};

@@ -1,4 +1,7 @@
-use crate::{BadNumber, Cap, CapWord, Errno, Kgid, Kuid, Pid, SecBits, read_octal, read_u32};
+use crate::{
+    BadNumber, Cap, CapWord, Errno, Kgid, Kuid, Limited, LineFault, Pid, SecBits, Table,
+    WorldFault, read_octal, read_u32,
+};
 
 // The numbers of linux/capability.h.
 const CAPABILITIES: [(&str, u8); 41] = [
@@ -151,4 +154,43 @@ fn words_are_sets(rt: HostRuntime) {
         [SecBits::KEEP_CAPS_LOCKED, SecBits::NO_CAP_AMBIENT_RAISE],
         [1 << 5, 1 << 6]
     );
+}
+
+// The words and numbers that are printed.
+#[test]
+fn faults_tables_and_limits_have_their_words(rt: HostRuntime) {
+    for (table, name) in [
+        (Table::Whole, "whole"),
+        (Table::Space, "space"),
+        (Table::Mount, "mount"),
+        (Table::File, "file"),
+        (Table::Process, "process"),
+        (Table::Filter, "filter"),
+    ] {
+        assert_eq!(rt; table.name(), name);
+    }
+    for (fault, word) in [(WorldFault::Toml, "Toml"), (WorldFault::TooDeep, "TooDeep")] {
+        assert_eq!(rt; fault.word(), word);
+    }
+    for (fault, word) in [
+        (LineFault::Pid, "pid"),
+        (LineFault::Argument(3), "argument"),
+        (LineFault::Outcome, "result"),
+        (LineFault::Descriptor, "descriptor"),
+    ] {
+        assert_eq!(rt; fault.word(), word);
+    }
+    for (limit, name, number) in [
+        (Limited::World, "world", 1_048_576),
+        (Limited::Log, "log", 67_108_864),
+        (Limited::Line, "line", 1_048_576),
+        (Limited::Processes, "processes", 4096),
+        (Limited::Spaces, "spaces", 256),
+        (Limited::Mounts, "mounts", 64),
+        (Limited::Files, "files", 4096),
+        (Limited::Groups, "groups", 1024),
+    ] {
+        assert_eq!(rt; limit.name(), name);
+        assert_eq!(rt; limit.number(), number);
+    }
 }

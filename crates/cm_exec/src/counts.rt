@@ -5,7 +5,7 @@ ghost use Rattle.std.specs.List.{list_any};
 ghost use Rattle.cm_exec.specs.Counts.{AreCounts};
 ghost use Rattle.model_cred.specs.Credential.{Credential};
 ghost use Rattle.model_cred.specs.Space.{Spaces as ModelSpaces, chain, space_of};
-ghost use Rattle.model_rules.specs.Exec.{is_privileged as model_is_privileged};
+ghost use Rattle.model_rules.specs.Exec as exec;
 ghost use Rattle.model_rules.specs.FileView as model;
 ghost use Rattle.model_rules.specs.Zero.{zero_of};
 
@@ -22,25 +22,47 @@ pub(crate) struct Counts {
     pub attribute: bool,
 }
 
-// What counts for a caller in the space `at`: nothing under no_new_privs, and the set-group-ID bit with the group execute
-// bit alone (choice).
+// What counts for a caller in the space `at`.
 pub(crate) fn counts_of(spaces: &Spaces, at: SpaceId, c: &Cred, file: &FileView) -> Counts
     requires { at.0 < length spaces.now }
     ensures { AreCounts spaces.now at.0 c.now file.now result }
 {
-    let set_id = !c.nnp && allows_set_id(spaces, at, file);
     Counts {
-        setuid: set_id && file.has_bit(0o4000),
-        setgid: set_id && file.has_bit(0o2000) && file.has_bit(0o010),
-        attribute: !c.nnp && takes_attribute(spaces, at, file),
+        setuid: setuid_counts(spaces, at, c, file),
+        setgid: setgid_counts(spaces, at, c, file),
+        attribute: attribute_counts(spaces, at, c, file),
     }
+}
+
+// The set-user-ID bit counts, for a caller without no_new_privs.
+fn setuid_counts(spaces: &Spaces, at: SpaceId, c: &Cred, file: &FileView) -> bool
+    requires { at.0 < length spaces.now }
+    ensures { result ≡ exec.setuid_counts spaces.now at.0 c.now file.now }
+{
+    !c.nnp && file.has_bit(0o4000) && allows_set_id(spaces, at, file)
+}
+
+// The set-group-ID bit counts alike, with the group execute bit alone (choice).
+fn setgid_counts(spaces: &Spaces, at: SpaceId, c: &Cred, file: &FileView) -> bool
+    requires { at.0 < length spaces.now }
+    ensures { result ≡ exec.setgid_counts spaces.now at.0 c.now file.now }
+{
+    !c.nnp && file.has_bit(0o2000) && file.has_bit(0o010) && allows_set_id(spaces, at, file)
+}
+
+// The attribute takes effect, for a caller without no_new_privs.
+fn attribute_counts(spaces: &Spaces, at: SpaceId, c: &Cred, file: &FileView) -> bool
+    requires { at.0 < length spaces.now }
+    ensures { result ≡ exec.attribute_counts spaces.now at.0 c.now file.now }
+{
+    !c.nnp && takes_attribute(spaces, at, file)
 }
 
 // The file is privileged: its attribute takes effect, or a set-id bit counts (that bits which don't count don't matter is a
 // choice).
 pub(crate) fn is_privileged(counts: Counts) -> bool
     ensures { (spaces : ModelSpaces) (at : ℕ) (c : Credential) (file : model.FileView) → AreCounts spaces at c file counts
-        → result ≡ model_is_privileged spaces at c file }
+        → result ≡ exec.is_privileged spaces at c file }
 {
     counts.attribute || counts.setuid || counts.setgid
 }

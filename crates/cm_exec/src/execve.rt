@@ -3,7 +3,6 @@ ghost use Rattle.std.specs.Prelude.{◌≡◌, ◌<◌, ℕ, length};
 ghost use Rattle.cm_base.specs.declared.errno.Errno.{Errno};
 ghost use Rattle.cm_base.specs.declared.res.Res.TheVariants.{Err};
 ghost use Rattle.cm_exec.specs.Counts.{AreCounts};
-ghost use Rattle.model_cred.specs.Files.{IsDeclared};
 ghost use Rattle.model_cred.specs.Space.{Spaces as ModelSpaces, space_of};
 ghost use Rattle.model_rules.specs.Exec as model;
 
@@ -19,10 +18,10 @@ use cm_state::{Cred, Space, Spaces};
 /// execve(2) by a process in the space `at`: `Done`; or `EACCES` where it may not run the file, or then `EPERM` where the
 /// program would lack what its file permits (capabilities(7), "Safety checking for capability-dumb binaries"). Done, the ids
 /// and the sets are those of execve(2) and capabilities(7), and SECBIT_KEEP_CAPS is cleared; the groups, the other
-/// securebits and no_new_privs stay. A refusal leaves the credential as it was. It takes no memory.
+/// securebits and no_new_privs stay. A refusal leaves the credential as it was. A row that isn't in the table is a plain
+/// file, as a path that isn't declared (choice). It takes no memory.
 pub fn exec(c: &mut Cred, spaces: &Spaces, at: SpaceId, files: &FileTable, f: FileRef) -> Res
     requires stands { at.0 < length spaces.now }
-    requires declared { IsDeclared files.now f }
     ensures res { result ≡ (model.execve files.now spaces.now at.0 c.old f).res }
     ensures cred { c.new ≡ (model.execve files.now spaces.now at.0 c.old f).cred }
     ensures unchanged { (e : Errno) → result ≡ Err e → c.new ≡ c.old }

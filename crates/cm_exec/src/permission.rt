@@ -1,7 +1,6 @@
 // Who may run a file (execve(2); path_resolution(7), "Permissions"; capabilities(7), CAP_DAC_OVERRIDE).
 ghost use Rattle.std.specs.Prelude.{◌≡◌, ◌<◌, length};
 ghost use Rattle.std.specs.List.{list_any};
-ghost use Rattle.model_cred.specs.Files.{IsDeclared};
 ghost use Rattle.model_cred.specs.IdMap.{extents_of, is_the};
 ghost use Rattle.model_cred.specs.Space.{space_of};
 ghost use Rattle.model_rules.specs.Exec as model;
@@ -10,13 +9,12 @@ ghost use Rattle.model_rules.specs.FileView.{is_mapped_file as model_is_mapped_f
 use crate::program::{named_file, run_file};
 use cm_base::{Cap, FileRef, Kgid, Kuid, SpaceId};
 use cm_files::{FileTable, FileView};
-use cm_state::{Cred, Space, Spaces};
+use cm_state::{Cred, Groups, Space, Spaces};
 
 /// A process in the space `at` may run the file, and for a script its interpreter too: the mount isn't noexec, and the mode
 /// or CAP_DAC_OVERRIDE allows it. It takes no memory.
 pub fn may_exec(c: &Cred, spaces: &Spaces, at: SpaceId, files: &FileTable, f: FileRef) -> bool
     requires stands { at.0 < length spaces.now }
-    requires declared { IsDeclared files.now f }
     ensures { result ≡ model.may_exec (space_of spaces.now at.0) c.now files.now f }
 {
     let s = spaces.standing(at);
@@ -68,14 +66,18 @@ fn is_group(group: &Option<Kgid>, id: Kgid) -> bool
 fn is_in_group(c: &Cred, group: &Option<Kgid>) -> bool
     ensures { result ≡ model.is_in_group c.now group.now }
 {
-    is_group(group, c.fsgid) || has_group(c.groups.items(), group)
+    is_group(group, c.fsgid) || has_group(&c.groups, group)
 }
 
 // The group is there and is one of these.
-fn has_group(groups: &[Kgid], group: &Option<Kgid>) -> bool
+#[tactic(auto, using(crate::proofs::NoGroup::none_is))]
+fn has_group(groups: &Groups, group: &Option<Kgid>) -> bool
     ensures { result ≡ list_any (is_the group.now) groups.now }
 {
-    groups.iter().any(|id| is_group(group, *id))
+    match group {
+        Some(group) => groups.has(*group),
+        None => false,
+    }
 }
 
 // CAP_DAC_OVERRIDE allows to run a file that has some execute bit, where owner and group are both mapped in the caller's

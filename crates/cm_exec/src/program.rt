@@ -1,6 +1,6 @@
-// Which file runs (execve(2), "Interpreter scripts").
-ghost use Rattle.std.specs.Prelude.{◌≡◌};
-ghost use Rattle.model_cred.specs.Files.{IsDeclared};
+// Which file runs (execve(2), "Interpreter scripts"). A row that isn't in the table is a plain file, as a path that isn't
+// declared (choice).
+ghost use Rattle.std.specs.Prelude.{◌≡◌, nat_lt, length};
 ghost use Rattle.model_rules.specs.Exec.{named_file as model_named_file, run_file as model_run_file};
 
 use cm_base::FileRef;
@@ -8,22 +8,27 @@ use cm_files::{FileTable, FileView};
 
 // The file that is named.
 pub(crate) fn named_file(files: &FileTable, f: FileRef) -> FileView
-    requires { IsDeclared files.now f }
     ensures { result ≡ model_named_file files.now f }
 {
     match f {
-        FileRef::Row(row) => files.view(row),
-        FileRef::Plain => FileView::plain(),
+        FileRef::Row(row) if is_declared(files, row) => files.view(row),
+        _ => FileView::plain(),
     }
 }
 
 // The file that runs: for a script its interpreter, whose own bits and attribute count; else the file that is named.
 pub(crate) fn run_file(files: &FileTable, f: FileRef) -> FileView
-    requires { IsDeclared files.now f }
     ensures { result ≡ model_run_file files.now f }
 {
     match f {
-        FileRef::Row(row) => files.view(files.program(row)),
-        FileRef::Plain => FileView::plain(),
+        FileRef::Row(row) if is_declared(files, row) => files.view(files.program(row)),
+        _ => FileView::plain(),
     }
+}
+
+// The row is in the table.
+fn is_declared(files: &FileTable, row: u32) -> bool
+    ensures { result ≡ nat_lt row (length files.now.rows) }
+{
+    (row as usize) < files.rows().len()
 }

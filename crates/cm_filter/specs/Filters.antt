@@ -1,8 +1,9 @@
 -- Filters: sets of kinds of calls that are excluded (choice; as seccomp(2) lets a process exclude calls).
-use Rattle.std.specs.Prelude.{ℕ, ◌==◌, Bool, not}
+use Rattle.std.specs.Prelude.{ℕ, ◌==◌, ◌^◌, Bool, not, bit_or, fold, is_none, option_map, position, unwrap_or, List, Option, Some, None}
+use Rattle.std.specs.Prelude.{Result, Ok, Err}
 use Rattle.std.specs.Int.{bit_at}
 use Rattle.cm_filter.specs.declared.kind.CallKind.{CallKind}
-use Rattle.cm_filter.specs.Kinds.{kind_number}
+use Rattle.cm_filter.specs.Kinds.{kind_named, kind_number}
 
 -- A filter is the set of the kinds that it excludes, as a number: bit k tells of the kind with number k (choice).
 abbrev pub Filter : Type 0
@@ -19,3 +20,24 @@ excludes filter kind = bit_at filter (kind_number kind) == 1
 -- the filter doesn't exclude the kind
 abbrev pub permits : Filter → CallKind → Bool
 permits filter kind = not (excludes filter kind)
+
+-- the filter that excludes the kind too
+abbrev pub excluding : Filter → CallKind → Filter
+excluding filter kind = bit_or filter (2 ^ kind_number kind)
+
+-- the filter that excludes the call of the name too, the filter itself where it names none
+abbrev pub excluding_named : Filter → List ℕ → Filter
+excluding_named filter name = unwrap_or (option_map (excluding filter) (kind_named name)) filter
+
+-- the filter that excludes the calls of those names that name one
+abbrev pub filter_of : List (List ℕ) → Filter
+filter_of names = fold excluding_named no_filter names
+
+-- the filter, or the place of a name that is no call's
+abbrev pub unless_unknown : Option ℕ → Filter → Result Filter ℕ
+unless_unknown None filter = Ok filter
+unless_unknown (Some place) filter = Err place
+
+-- the filter that excludes the calls of these names, or the place, from 0 on, of the first that is no call's
+abbrev pub filter_of_names : List (List ℕ) → Result Filter ℕ
+filter_of_names names = unless_unknown (position (λ name. is_none (kind_named name)) names) (filter_of names)

@@ -1,4 +1,5 @@
-use crate::CallKind;
+use crate::{CallKind, Filter, NoSuchCall};
+use std::test::Fail;
 
 // The names of the manual pages, but for prctl(2), clone(2), the files of user_namespaces(7), and _exit(2).
 const NAMES: [(CallKind, &str); 26] = [
@@ -52,4 +53,35 @@ fn other_names_are_none(rt: HostRuntime) {
     ] {
         assert_eq!(rt; CallKind::from_name(other.as_bytes()), None, "{other}");
     }
+}
+
+// Two calls are excluded, one of them named twice; all others are permitted.
+#[test]
+fn filters_exclude_the_calls_that_they_name(rt: HostRuntime) -> Result<(), Fail> {
+    let alloc = rt.alloc();
+    let mut names = Vec::new(alloc);
+    for name in ["unshare", "exit", "unshare"] {
+        names.push(String::from_str(alloc, name)?)?;
+    }
+    let filter = Filter::read(&names);
+    for (kind, _) in NAMES {
+        let excluded = kind == CallKind::Unshare || kind == CallKind::Exit;
+        match filter {
+            Ok(filter) => assert_eq!(rt; filter.permits(kind), !excluded),
+            Err(_) => assert!(rt; false),
+        }
+        assert!(rt; Filter::none().permits(kind));
+    }
+    Ok(())
+}
+
+#[test]
+fn the_first_name_of_no_call_is_told(rt: HostRuntime) -> Result<(), Fail> {
+    let alloc = rt.alloc();
+    let mut names = Vec::new(alloc);
+    for name in ["setuid", "set", "exit", ""] {
+        names.push(String::from_str(alloc, name)?)?;
+    }
+    assert_eq!(rt; Filter::read(&names), Err(NoSuchCall(1)));
+    Ok(())
 }

@@ -2,6 +2,7 @@
 //! Contracts see a map as the list of its extents, in the order in which it was handed in.
 #![tactic(auto)]
 
+mod down;
 mod extent;
 mod fault;
 mod map;

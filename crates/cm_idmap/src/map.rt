@@ -1,14 +1,16 @@
 // An id map: a list of extents that is one by user_namespaces(7), with what it takes an id to, both ways.
-ghost use Rattle.std.specs.Prelude.{◌≡◌, ℕ, ◌<◌, ◌↔◌, None, Some, IfOk, IfSome};
+ghost use Rattle.std.specs.Prelude.{◌≡◌, ℕ, ◌<◌, ◌↔◌, None, Some, IfOk, IfSome, option_map};
 ghost use Rattle.std.specs.declared.result.Result.TheVariants.{Err};
 ghost use Rattle.cm_base.specs.Limits.{id_count};
 ghost use Rattle.cm_base.specs.Outcome.{OrNoMemory};
-ghost use Rattle.model_cred.specs.IdMap.{down, up, initial_map, Maps};
+ghost use Rattle.model_cred.specs.IdMap.{down, extents_of, up, initial_map, Maps};
 ghost use Rattle.model_cred.specs.MapFault.{IsMap, map_fault};
+ghost use Rattle.model_rules.specs.Maps.{list_down as model_list_down};
 ghost use Rattle.cm_idmap.specs.Fault.{fault_of};
 ghost use Rattle.cm_idmap.specs.declared.fault.BadMap.{BadMap};
 ghost use Rattle.cm_idmap.specs.declared.fault.BadMap.TheVariants as answer;
 
+use crate::down::list_down;
 use crate::fault::first_fault;
 use crate::{BadMap, Extent};
 use cm_base::{MINUS_ONE, NoMemory};
@@ -93,6 +95,22 @@ impl IdMap {
             }
         }
         None
+    }
+
+    /// The map with its outside ids, which are inside ids of another map, taken down through that one: its outside ids are then
+    /// those of the other. None exactly where an outside range doesn't lie in one extent of the other, as where that isn't
+    /// written (user_namespaces(7)). Its only error is want of memory.
+    pub fn under(&self, alloc: Global, other: Option<&IdMap>) -> Result<Option<IdMap>, NoMemory>
+        ensures { OrNoMemory result (λ m. m ≡ model_list_down (extents_of (option_map (λ o. o.now) other.entry)) self.now) }
+    {
+        let given = self.extents();
+        let Some(other) = other else {
+            return Ok(None);
+        };
+        match list_down(alloc, other.extents(), given)? {
+            Some(list) => Ok(Some(IdMap { list })),
+            None => Ok(None),
+        }
     }
 
     /// The extents, in the order in which they were handed in. They are a map.

@@ -1,3 +1,2 @@
 -- Lemmas of this crate, by topic.
-pub mod Downs
-pub mod MapsMade
+pub mod Written

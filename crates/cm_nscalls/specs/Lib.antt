@@ -1,1 +1,3 @@
+-- Which file is written, and what is asked before a call changes anything.
+pub mod Answers
 pub mod File

@@ -9,9 +9,11 @@ use cm_idmap::IdMap;
 use cm_state::{Cred, Space, Spaces};
 
 /// The file that is written.
-#[derive(Clone, Copy)]
-pub(crate) enum MapFile {
+#[derive(Clone, Copy, Debug)]
+pub enum MapFile {
+    /// The file uid_map.
     UidMap,
+    /// The file gid_map.
     GidMap,
 }
 
@@ -45,8 +47,8 @@ pub(crate) fn effective_id(file: MapFile, c: &Cred) -> u32
     }
 }
 
-// Writes that map of a space that stands.
-pub(crate) fn set_map(file: MapFile, spaces: &mut Spaces, s: SpaceId, map: IdMap)
+/// Writes that map of a space that stands. It takes no memory.
+pub fn set_map(file: MapFile, spaces: &mut Spaces, s: SpaceId, map: IdMap)
     requires { s.0 < length spaces.old }
     ensures { spaces.new ≡ put_space s.0 (with_map (file_of file) (space_of spaces.old s.0) map) spaces.old }
 {

@@ -5,8 +5,8 @@ ghost use Rattle.model_rules.specs.Namespaces.{as_newcomer};
 use cm_base::{CapWord, SecBits};
 use cm_state::Cred;
 
-// All capabilities, and no securebits; the ids, the groups and no_new_privs stay.
-pub(crate) fn come_in(c: &mut Cred)
+/// All capabilities, and no securebits; the ids, the groups and no_new_privs stay. It takes no memory.
+pub fn come_in(c: &mut Cred)
     ensures { c.new ≡ as_newcomer c.old }
 {
     c.prm = CapWord::full();

@@ -1,11 +1,8 @@
-// What is stored of a list that is written: a map is taken down through the parent's map to a map.
-ghost use Rattle.std.specs.Prelude.{◌≡◌, IfSome, is_some, option_map};
+// A list that is written, as a map.
+ghost use Rattle.std.specs.Prelude.{◌≡◌, IfSome, is_some};
 ghost use Rattle.cm_base.specs.Outcome.{OrNoMemory};
-ghost use Rattle.model_cred.specs.IdMap.{extents_of};
 ghost use Rattle.model_cred.specs.MapFault.{is_map};
-ghost use Rattle.model_rules.specs.Maps.{list_down as model_list_down};
 
-use crate::down::list_down;
 use cm_base::NoMemory;
 use cm_idmap::{BadMap, Extent, IdMap};
 use std::alloc::Global;
@@ -21,24 +18,5 @@ pub(crate) fn map_from(alloc: Global, list: &[Extent]) -> Result<Option<IdMap>, 
             BadMap::NoMemory => Err(NoMemory),
             _ => Ok(None),
         },
-    }
-}
-
-// The map with its outside ids taken down through the parent's one, None where an outside range doesn't lie in one of its
-// extents.
-pub(crate) fn stored_map(
-    alloc: Global,
-    parent: Option<&IdMap>,
-    given: &IdMap,
-) -> Result<Option<IdMap>, NoMemory>
-    ensures { OrNoMemory result (λ s. s ≡ model_list_down (extents_of (option_map (λ m. m.now) parent.entry)) given.now) }
-{
-    let list = given.extents();
-    let Some(parent) = parent else {
-        return Ok(None);
-    };
-    match list_down(alloc, parent.extents(), list)? {
-        Some(down) => map_from(alloc, &down),
-        None => Ok(None),
     }
 }

@@ -11,9 +11,9 @@ use cm_base::{Cap, SpaceId};
 use cm_idmap::{Extent, IdMap};
 use cm_state::{Cred, Space, Spaces};
 
-// A write: to which file of which space, by a process in the space `at`.
-#[derive(Clone, Copy)]
-pub(crate) struct Write {
+/// A write: to which file of which space, by a process in the space `at`.
+#[derive(Clone, Copy, Debug)]
+pub struct Write {
     pub file: MapFile,
     pub at: SpaceId,
     pub target: SpaceId,

@@ -2,15 +2,20 @@
 -- repeats gives its set.
 use Rattle.std.proofs.Common.{◌≡◌, ℕ, zero, suc, ◌+◌, ◌<◌, ◌≤◌, ◌==◌, ◌||◌, Bool, true, false, List, [], ◌∷◌}
 use Rattle.std.proofs.Common.{if◌then◌else◌, refl, sym, ◌∙◌, ap, inl, inr, subst, arith, slice_index_or, nat_lt}
-use Rattle.std.proofs.Common.{nat_cmp}
+use Rattle.std.proofs.Common.{nat_cmp, get_or, length, Result, Ok, Err}
 use Rattle.std.specs.List.{All, AllPairs, dedup, dedup_from, list_any}
-use Rattle.std.specs.List.Sorted.{IsPermutation, IsSorted}
+use mathlib.Core.Bool.{Bool-set}
+use mathlib.Core.Logic.{∥∥₁_elim}
+use Rattle.std.specs.List.Sorted.{IsBinarySearchResult, IsPermutation, IsSorted}
+use Rattle.std.specs.Result.{is_ok, MatchResult}
 use Rattle.std.proofs.Math.Dec.{eqb}
-use Rattle.std.proofs.lemmas.Bool.{cases_eq, cases_order, cond_both, eqb-true, eq-eqb, ne_eqb, or_from, or_left, true≢false, false≢true}
+use Rattle.std.proofs.lemmas.Bool.{cases_eq, cases_lt, cases_order, cond_both, eqb-true, eq-eqb, ne_eqb, or_from, or_left, true≢false, false≢true}
 use Rattle.std.proofs.lemmas.List.Elements.{All-head, All-tail}
 use Rattle.std.proofs.lemmas.List.Filters.{All-dedup}
 use Rattle.std.proofs.lemmas.List.Kept.{AllPairs-from_increasing}
-use Rattle.std.proofs.lemmas.List.Sorted.{All-permutation, list_any-IsPermutation}
+use Rattle.std.proofs.lemmas.Grind.{get_or_default_zero}
+use Rattle.std.proofs.lemmas.List.Folds.{list_any_at, list_any_none}
+use Rattle.std.proofs.lemmas.List.Sorted.{All-permutation, list_any-IsPermutation, searched}
 use Rattle.std.proofs.lemmas.Map.Keys.{IsStrictlyIncreasing-dedup}
 use Rattle.model_cred.specs.Credential.{AscendFrom, IsId, insert_id, id_set}
 use Rattle.model_cred.proofs.IdSets.{set_ascends}
@@ -137,3 +142,35 @@ set_of_sorted list sorted moved up small =
       is = same_ascending 0 _ _ rise (set_ascends list small)
           (λ x. has_deduped sorted x ∙ sym (list_any-IsPermutation (λ other. other == x) list sorted moved) ∙ sym (has_set list x));
     }
+
+-- ---- looking by halves
+-- the ids of a list that ascends from a low one on are not below it
+not_below : (low : ℕ) (ids : List ℕ) → AscendFrom low ids → (j : ℕ) → j < length ids → low ≤ get_or ids j 0
+not_below low [] rise j within = absurd (omega (arith, within))
+not_below low (id ∷ ids) rise zero within = rise.0
+not_below low (id ∷ ids) rise (suc j) within = omega (arith, rise.0, not_below (id + 1) ids rise.2 j (omega (arith, within)))
+
+-- a later id is not below an earlier one
+rises : (low : ℕ) (ids : List ℕ) → AscendFrom low ids → (i j : ℕ) → i ≤ j → j < length ids → get_or ids i 0 ≤ get_or ids j 0
+rises low [] rise i j order within = absurd (omega (arith, within))
+rises low (id ∷ ids) rise zero j order within = not_below id (id ∷ ids) (omega arith, rise.1, rise.2) j within
+rises low (id ∷ ids) rise (suc i) zero order within = absurd (omega (arith, order))
+rises low (id ∷ ids) rise (suc i) (suc j) order within = rises (id + 1) ids rise.2 i j (omega (arith, order)) (omega (arith, within))
+
+said : (ids : List ℕ) (x : ℕ) (r : Result ℕ ℕ) → MatchResult r (λ i. (i < length ids) × (get_or ids i 0 ≡ x))
+    (λ i. (i ≤ length ids) × ((k : ℕ) → k < i → get_or ids k 0 < x) × ((k : ℕ) → i ≤ k → k < length ids → x < get_or ids k 0))
+    → is_ok r ≡ has ids x
+said ids x (Ok i) there = sym (list_any_at (λ other. other == x) ids i 0 there.0 (eq-eqb (get_or ids i 0) x there.1))
+said ids x (Err i) none = sym (list_any_none (λ other. other == x) ids (λ k d within. ne_eqb (get_or ids k d) x (λ same. apart k d within same)))
+  where
+    apart : (k d : ℕ) → k < length ids → get_or ids k d ≡ x → ⊥
+    apart k d within same =
+        let here : get_or ids k 0 ≡ x = sym (get_or_default_zero ids k d within) ∙ same in
+        elim (cases_lt k i) [
+          | inl low ↦ absurd (omega (arith, here, none.1 k low))
+          | inr high ↦ absurd (omega (arith, here, none.2 k high within))
+        ]
+
+-- what a search by halves says of ids that ascend: whether the id is one of them
+pub search_says : (ids : List ℕ) (x : ℕ) (r : Result ℕ ℕ) → ∥ AscendFrom 0 ids ∥₁ → IsBinarySearchResult (λ y. nat_cmp y x) ids r → is_ok r ≡ has ids x
+search_says ids x r up found = ∥∥₁_elim up (Bool-set _ _) (λ rise. said ids x r (searched ids x r found (rises 0 ids rise)))

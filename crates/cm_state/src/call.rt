@@ -3,8 +3,8 @@ ghost use Rattle.std.specs.Prelude.{◌≡◌};
 ghost use Rattle.cm_state.specs.Call.{call_of};
 ghost use Rattle.model_cred.specs.Call.{kind_of};
 
-use crate::Ids;
-use cm_base::CapWord;
+use crate::{Extents, Ids};
+use cm_base::{CapWord, FileRef, SpaceId};
 use cm_filter::CallKind;
 
 /// A call with its arguments: ids as the caller's user namespace sees them, or -1.
@@ -50,6 +50,23 @@ pub enum Call {
     NoNewPrivs(u32),
     /// fork(2), or clone(2) without CLONE_NEWUSER: a child with a copy of the caller's credentials.
     Fork,
+    /// clone(2) with CLONE_NEWUSER: a child in a new user namespace.
+    CloneUser,
+    /// unshare(2) with CLONE_NEWUSER: a new user namespace, which the caller enters.
+    Unshare,
+    /// setns(2) with CLONE_NEWUSER: the caller enters the user namespace.
+    SetNs(SpaceId),
+    /// A write to the file uid_map of the user namespace (user_namespaces(7)): the list, as it is given.
+    WriteUidMap(SpaceId, Extents),
+    /// A write to the file gid_map of the user namespace (user_namespaces(7)): the list, as it is given.
+    WriteGidMap(SpaceId, Extents),
+    /// A write to the file setgroups of the user namespace (user_namespaces(7)): the word "deny", or "allow".
+    WriteSetgroups {
+        space: SpaceId,
+        deny: bool,
+    },
+    /// execve(2) of the file.
+    Exec(FileRef),
     /// _exit(2): the caller lives no longer.
     Exit,
 }
@@ -78,6 +95,13 @@ impl Call {
             Call::KeepCaps(_) => CallKind::KeepCaps,
             Call::NoNewPrivs(_) => CallKind::NoNewPrivs,
             Call::Fork => CallKind::Fork,
+            Call::CloneUser => CallKind::CloneUser,
+            Call::Unshare => CallKind::Unshare,
+            Call::SetNs(_) => CallKind::SetNs,
+            Call::WriteUidMap(_, _) => CallKind::WriteUidMap,
+            Call::WriteGidMap(_, _) => CallKind::WriteGidMap,
+            Call::WriteSetgroups { .. } => CallKind::WriteSetgroups,
+            Call::Exec(_) => CallKind::Exec,
             Call::Exit => CallKind::Exit,
         }
     }

@@ -1,5 +1,6 @@
 // The supplementary groups of a process (credentials(7)): ascending, each once.
-ghost use Rattle.std.specs.Prelude.{◌≡◌, [], All};
+ghost use Rattle.std.specs.Prelude.{◌≡◌, ◌==◌, [], All};
+ghost use Rattle.std.specs.List.{list_any};
 ghost use Rattle.cm_base.specs.Outcome.{OrNoMemory};
 ghost use Rattle.model_cred.specs.Credential.{AscendFrom, IsId, id_set};
 
@@ -69,6 +70,13 @@ impl Groups {
     {
         let list = Vec::from_slice(alloc, self.items.as_slice())?;
         Ok(Groups { items: list })
+    }
+
+    /// The group is one of these. It is looked for by halves, and takes no memory.
+    pub fn has(&self, id: Kgid) -> bool
+        ensures { result ≡ list_any (λ group. group == id) self.now }
+    {
+        self.items.binary_search(&id).is_ok()
     }
 
     /// The ids, ascending.

@@ -1,5 +1,6 @@
 // The initial space, and a list of extents as it was given.
 use crate::{Extents, Space};
+use cm_base::{Kgid, Kuid};
 use cm_idmap::Extent;
 use std::test::Fail;
 
@@ -12,6 +13,15 @@ fn the_initial_space_maps_each_id_to_itself(rt: HostRuntime) -> Result<(), Fail>
         assert_eq!(rt; map.down(4_294_967_294), Some(4_294_967_294));
         assert_eq!(rt; map.down(4_294_967_295), None);
     }
+    Ok(())
+}
+
+#[test]
+fn the_initial_space_has_each_user_and_group(rt: HostRuntime) -> Result<(), Fail> {
+    let space = Space::initial(rt.alloc())?;
+    let last = Kuid::of(4_294_967_294);
+    assert!(rt; space.zero() == Some(0) && space.is_zero(0) && !space.is_zero(1));
+    assert!(rt; space.maps_uid(last) && space.maps_gid(Kgid::of(7)));
     Ok(())
 }
 

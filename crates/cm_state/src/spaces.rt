@@ -1,5 +1,5 @@
 // The user namespaces of the machine, called spaces here, as a tree. Each is named by its place in the order of their
-// creation, 0 for the initial one, and the parent of each other stands before it. Spaces are added and never go.
+// creation, 0 for the initial one, and the parent of each other stands before it. Spaces are added; only the newest may go.
 ghost use Rattle.std.specs.Prelude.{◌≡◌, ◌∷◌, ◌<◌, IfSome, IsSomeAnd, Some, length, option_map};
 ghost use Rattle.cm_base.specs.Limits.{greatest_number};
 ghost use Rattle.cm_base.specs.declared.id.SpaceId.{SpaceId};
@@ -88,6 +88,15 @@ impl Spaces {
         let n = self.count();
         self.list.push(s)?;
         Ok(SpaceId(n))
+    }
+
+    /// Takes the newest space out, which isn't the initial one; so no space has it as its parent. Nothing but the undoing
+    /// of `add` has a use for it: a space in which a process is has to stay. It takes no memory.
+    pub fn remove_newest(&mut self) -> Space
+        requires { 1 < length self.old }
+        ensures { self.old ≡ result ∷ self.new }
+    {
+        self.list.pop().unwrap()
     }
 
     /// Writes the map of user ids of a space that stands. It takes no memory.

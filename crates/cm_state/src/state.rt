@@ -1,11 +1,10 @@
 // The state of the machine: the live processes by ascending pid, each in a space that stands, and the spaces.
-ghost use Rattle.std.specs.Prelude.{◌≡◌, ◌==◌};
-ghost use Rattle.std.specs.List.{list_any};
+ghost use Rattle.std.specs.Prelude.{◌≡◌};
 ghost use Rattle.cm_state.specs.Right.{right_of};
 ghost use Rattle.model_run.specs.Holds.{holds_right as model_holds_right, process_holds};
 
 use crate::{Proc, Procs, Right, Spaces};
-use cm_base::{Kgid, NoMemory, Pid};
+use cm_base::{NoMemory, Pid};
 use std::alloc::Global;
 use std::marker::Model;
 
@@ -64,13 +63,6 @@ fn holds_right(spaces: &Spaces, p: &Proc, right: &Right) -> bool
             }
         }
         Right::Uid(id) => p.cred.euid == *id,
-        Right::Gid(id) => p.cred.egid == *id || has_group(p.cred.groups.items(), *id),
+        Right::Gid(id) => p.cred.egid == *id || p.cred.groups.has(*id),
     }
-}
-
-// The group id is one of these.
-fn has_group(groups: &[Kgid], id: Kgid) -> bool
-    ensures { result ≡ list_any (λ group. group == id) groups.now }
-{
-    groups.iter().any(|group| *group == id)
 }

@@ -138,6 +138,8 @@ fn four_ids_are_taken_out_and_put_back(rt: HostRuntime) -> Result<(), Fail> {
     assert_eq!(rt; c.group_ids(), users);
     assert_eq!(rt; c.user_ids().fs, 9);
     assert!(rt; users.has(3) && !users.has(4));
+    c.clear_keep_caps();
+    assert_eq!(rt; c.sec.bits(), 47);
     Ok(())
 }
 
@@ -180,6 +182,7 @@ fn the_first_space_stands_alone(rt: HostRuntime) -> Result<(), Fail> {
     let space = spaces.get(SpaceId(0)).expect(&rt, "it stands");
     assert!(rt; space.parent.is_none() && space.owner.number() == 0);
     assert!(rt; spaces.get(SpaceId(1)).is_none());
+    assert!(rt; spaces.parent(SpaceId(0)).is_none());
     Ok(())
 }
 

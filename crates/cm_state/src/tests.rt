@@ -51,6 +51,10 @@ fn the_longest_list_backwards(rt: HostRuntime) -> Result<(), Fail> {
     for (place, id) in groups.items().iter().enumerate() {
         assert_eq!(rt; id.number() as usize, place);
     }
+    for (id, is) in [(0, true), (40_000, true), (65_535, true), (65_536, false)] {
+        let id = Kgid::new(id).expect(&rt, "an id");
+        assert!(rt; groups.has(id) == is);
+    }
     Ok(())
 }
 

@@ -1,5 +1,5 @@
 use Rattle.std.proofs.Common.{refl}
-use Rattle.cm_nscalls.proofs.MapsMade.{refused_no_map}
+use Rattle.cm_idmap.proofs.Refused.{refused_no_map}
 use Rattle.cm_nscalls.proofs.stored.map_from.Goals as goal
 
 pub returns-in_default : goal.returns-in_default

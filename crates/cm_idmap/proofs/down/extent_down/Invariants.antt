@@ -1,5 +1,5 @@
 use Rattle.std.proofs.Common.{◌≡◌, drop}
-use Rattle.cm_nscalls.proofs.down.extent_down.Given as goal
+use Rattle.cm_idmap.proofs.down.extent_down.Given as goal
 use Rattle.model_rules.specs.Maps.{extent_down}
 
 abbrev pub invariant-loop-p : goal.invariant-loop-p

@@ -2,11 +2,11 @@
 // ids are then as the initial space sees them.
 ghost use Rattle.std.specs.Prelude.{◌≡◌, ◌+◌, Vec, option_map};
 ghost use Rattle.cm_base.specs.Outcome.{OrNoMemory};
-ghost use Rattle.model_cred.specs.IdMap.{Extent, HasIds, extents_of};
+ghost use Rattle.model_cred.specs.IdMap.{Extent, HasIds};
 ghost use Rattle.model_rules.specs.Maps.{extent_down as model_extent_down, list_down as model_list_down};
 
+use crate::Extent;
 use cm_base::NoMemory;
-use cm_idmap::Extent;
 use std::alloc::Global;
 
 // The list, where each outside range lies in one extent of the map.

@@ -1,6 +1,6 @@
 use Rattle.std.proofs.Common.{◌≡◌, ◌++◌, drop}
 use Rattle.std.specs.Prelude.{option_map}
-use Rattle.cm_nscalls.proofs.down.list_down.Given as goal
+use Rattle.cm_idmap.proofs.down.list_down.Given as goal
 use Rattle.model_rules.specs.Maps.{list_down}
 
 -- those before, and what the rest is taken down to, are what all are taken down to

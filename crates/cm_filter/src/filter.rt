@@ -1,0 +1,130 @@
+// Filters of calls: sets of kinds that are excluded, as seccomp(2) lets a process exclude calls (choice).
+ghost use Rattle.std.specs.Prelude.{◌≡◌, ◌<◌, ◌≤◌, ◌^◌, map, position, fold, is_none, IfOk, IfErr, Ok, Err, length, IfSome};
+ghost use Rattle.std.specs.String.{string_bytes};
+ghost use Rattle.cm_filter.specs.Kinds.{kind_number, kind_named};
+ghost use Rattle.cm_filter.specs.Filters.{permits, excluding, excluding_named, no_filter, filter_of, filter_of_names};
+
+use crate::CallKind;
+use std::marker::Model;
+
+/// A set of kinds of calls that are excluded: bit k tells of the kind with number k, in the order of the kinds (choice).
+#[derive(Clone, Copy, Debug, PartialEq, Eq)]
+pub struct Filter(u32);
+
+impl Model for Filter {
+    ghost use Rattle.std.specs.Prelude.{ℕ, ◌<◌, ◌^◌};
+
+    ghost Value = { ℕ };
+
+    ghost view = { λ f. f.0 };
+
+    ghost invariant = { λ f. f.0 < 2 ^ 26 };
+
+    ghost inverse = { λ n. record { 0 = n } };
+}
+
+/// The place, from 0 on, of the first name that is none of the 26 calls'.
+#[derive(Clone, Copy, Debug, PartialEq, Eq)]
+pub struct NoSuchCall(pub usize);
+
+#[tactic(auto, using(crate::proofs::Bits::filter_bits))]
+impl Filter {
+    /// The filter that excludes no call.
+    pub fn none() -> Filter
+        ensures { result ≡ no_filter }
+    {
+        Filter(0)
+    }
+
+    /// The filter doesn't exclude calls of the kind.
+    pub fn permits(self, k: CallKind) -> bool
+        ensures { result ≡ permits self k }
+    {
+        self.0 >> number(k) & 1 != 1
+    }
+
+    /// The filter that excludes the calls of these names, repeats included. NoSuchCall of the place of the first that is
+    /// none of the 26 names.
+    #[tactic(auto, using(crate::proofs::Names::position_map))]
+    pub fn read(names: &[String]) -> Result<Filter, NoSuchCall>
+        ensures read { IfOk result (λ f. filter_of_names (map string_bytes names.now) ≡ Ok f) }
+        ensures unknown { IfErr result (λ e. filter_of_names (map string_bytes names.now) ≡ Err e.0) }
+    {
+        match first_unknown(names) {
+            Some(place) => Err(NoSuchCall(place)),
+            None => Ok(filter_of(names)),
+        }
+    }
+
+    /// The filter that excludes the kind too.
+    fn excluding(self, k: CallKind) -> Filter
+        ensures { result ≡ excluding self k }
+    {
+        Filter(self.0 | 1 << number(k))
+    }
+}
+
+/// The place of the first name that names no call.
+fn first_unknown(names: &[String]) -> Option<usize>
+    ensures { result ≡ position (λ name. is_none (kind_named (string_bytes name))) names.now }
+{
+    names
+        .iter()
+        .position(|name| CallKind::from_name(name.as_bytes()).is_none())
+}
+
+/// The filter that excludes the calls of those names that name one.
+fn filter_of(names: &[String]) -> Filter
+    ensures { result ≡ filter_of (map string_bytes names.now) }
+{
+    let mut filter = Filter::none();
+    for name in names {
+        filter = excluding_named(filter, name.as_bytes());
+    }
+    filter
+}
+
+/// The filter that excludes the call of the name too; the filter itself where it names none.
+fn excluding_named(filter: Filter, name: &[u8]) -> Filter
+    ensures { result ≡ excluding_named filter name.now }
+{
+    match CallKind::from_name(name) {
+        Some(kind) => filter.excluding(kind),
+        None => filter,
+    }
+}
+
+/// The number of a kind, its place among the kinds.
+fn number(k: CallKind) -> u32
+    ensures place { result ≡ kind_number k }
+    ensures range { result < 26 }
+{
+    match k {
+        CallKind::SetUid => 0,
+        CallKind::SetReUid => 1,
+        CallKind::SetResUid => 2,
+        CallKind::SetFsUid => 3,
+        CallKind::SetGid => 4,
+        CallKind::SetReGid => 5,
+        CallKind::SetResGid => 6,
+        CallKind::SetFsGid => 7,
+        CallKind::SetGroups => 8,
+        CallKind::CapSet => 9,
+        CallKind::BsetDrop => 10,
+        CallKind::AmbRaise => 11,
+        CallKind::AmbLower => 12,
+        CallKind::AmbClear => 13,
+        CallKind::SecureBits => 14,
+        CallKind::KeepCaps => 15,
+        CallKind::NoNewPrivs => 16,
+        CallKind::Fork => 17,
+        CallKind::CloneUser => 18,
+        CallKind::Unshare => 19,
+        CallKind::SetNs => 20,
+        CallKind::WriteUidMap => 21,
+        CallKind::WriteGidMap => 22,
+        CallKind::WriteSetgroups => 23,
+        CallKind::Exec => 24,
+        CallKind::Exit => 25,
+    }
+}
