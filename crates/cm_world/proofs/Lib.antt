@@ -1,6 +1,4 @@
 -- Lemmas of this crate, by topic.
-pub mod Members
-pub mod CapTexts
-pub mod Order
-pub mod Placing
 pub mod Keeping
+pub mod Rows
+pub mod Telling

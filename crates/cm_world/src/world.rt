@@ -1,12 +1,15 @@
 // The world as its text declares it: what stands before a log begins, and the form of the log.
+use cm_files::FileTable;
+use cm_filter::Filter;
 use cm_state::State;
+use cm_tables::Names;
 
 /// The form of a log (choice).
 #[derive(Clone, Copy, Debug, PartialEq, Eq)]
 pub enum LogForm {
     /// A line for each event: pid, call, arguments, result.
     Script,
-    /// Lines of strace(1). No world has this form so far.
+    /// Lines of strace(1).
     Strace,
 }
 
@@ -15,9 +18,15 @@ pub enum LogForm {
 pub struct World {
     /// The declared processes and spaces.
     pub start: State,
+    /// The names of the declared spaces.
+    pub names: Names,
+    /// The declared mounts and files.
+    pub files: FileTable,
+    /// The calls that are excluded after the log.
+    pub filter: Filter,
     /// The form of the log.
     pub form: LogForm,
-    /// The text says more of a process than its pid and its user ids. This is for the audit, which so far knows no more
-    /// of a process than these; the field goes once it does.
+    /// The text says more than the pids and the user ids of processes. This is for the audit, which so far knows no more
+    /// of a world than these; the field goes once it does.
     pub more: bool,
 }

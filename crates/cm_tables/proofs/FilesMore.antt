@@ -1,0 +1,82 @@
+-- Declared files: which of them has a path, and one more without a fault.
+use Rattle.std.proofs.Common.{◌≡◌, ℕ, suc, ◌+◌, Bool, true, false, List, [], ◌∷◌, ◌++◌, length, append_assoc, cond}
+use Rattle.std.proofs.Common.{Option, None, Some, Result, Ok, Err, refl, sym, ap, ◌∙◌, inl, inr, arith}
+use Rattle.std.specs.Prelude.{IfSome, bytes_eq, is_some, nat_lt, not, position}
+use Rattle.std.specs.List.{list_any, prefix_len}
+use Rattle.std.specs.Option.{option_or}
+use Rattle.std.proofs.lemmas.Bool.{cases_Bool, cases_lt, lt-ltb, le-ltb}
+use Rattle.std.proofs.lemmas.List.{append-nil}
+use Rattle.cm_files.specs.Fault.{Tells, first_fault, has_path, row_fault}
+use Rattle.cm_files.specs.declared.fault.BadFiles.{BadFiles}
+use Rattle.cm_files.specs.declared.fault.BadFiles.TheVariants.{Twice, NoMount, NoInterpreter, NoMemory}
+use Rattle.model_cred.specs.Files.{FileRow, FileTable, Mount, row_named}
+use Rattle.model_text.specs.Refusal.{Refusal, then_read}
+use Rattle.cm_tables.specs.Tables.{table_with}
+
+-- ---- which has a path
+-- a place in a list with one element more before it
+shifted : (place count : ℕ) → is_some (cond (nat_lt (1 + place) (suc count)) (Some (1 + place)) None)
+    ≡ is_some (cond (nat_lt place count) (Some place) None)
+shifted place count =
+    elim (cases_lt place count) [
+      | inl within ↦ let more : nat_lt (1 + place) (suc count) ≡ true = lt-ltb (1 + place) (suc count) (omega arith) in
+          let less : nat_lt place count ≡ true = lt-ltb place count within in
+          rw (more, less)
+      | inr past ↦ let more : nat_lt (1 + place) (suc count) ≡ false = le-ltb (1 + place) (suc count) (omega arith) in
+          let less : nat_lt place count ≡ false = le-ltb place count past in
+          rw (more, less)
+    ]
+
+-- there is a first one exactly where there is one
+pub named_or_not : {A : Type 0} (p : A → Bool) (xs : List A) → is_some (position p xs) ≡ list_any p xs
+named_or_not p [] = refl
+named_or_not p (x ∷ xs) =
+    elim (cases_Bool (p x)) [
+      | inl here ↦ let within : nat_lt 0 (suc (length xs)) ≡ true = lt-ltb 0 (suc (length xs)) (omega arith) in
+          rw (here, within)
+      | inr later ↦ rw later (shifted (prefix_len (λ y. not (p y)) xs) (length xs) ∙ named_or_not p xs)
+    ]
+
+pub path_named : (rows : List FileRow) (path : List ℕ) → is_some (row_named rows path) ≡ has_path path rows
+path_named rows path = named_or_not (λ (row : FileRow). bytes_eq row.path path) rows
+
+-- ---- one file more
+both_none : {A : Type 0} (x y : Option A) → option_or x y ≡ None → (x ≡ None) × (y ≡ None)
+both_none None y is = (refl, is)
+both_none (Some a) y is = absurd (cc)
+
+-- files without a fault, with one more that has none after them
+pub none_more : (mounts : ℕ) (before rows : List FileRow) (row : FileRow) → first_fault mounts before rows ≡ None
+    → row_fault mounts (before ++ rows) row ≡ None → first_fault mounts before (rows ++ row ∷ []) ≡ None
+none_more mounts before [] row is none =
+    let here : row_fault mounts before row ≡ None = ap (λ l. row_fault mounts l row) (sym (append-nil before)) ∙ none in
+    ap (λ o. option_or o None) here
+none_more mounts before (first ∷ rows) row is none =
+    let parts = both_none (row_fault mounts before first) (first_fault mounts (before ++ first ∷ []) rows) is in
+    let rest : row_fault mounts ((before ++ first ∷ []) ++ rows) row ≡ None
+    = ap (λ l. row_fault mounts l row) (append_assoc before (first ∷ []) rows) ∙ none in
+    ap (λ o. option_or o (first_fault mounts (before ++ first ∷ []) (rows ++ row ∷ []))) parts.0
+    ∙ none_more mounts (before ++ first ∷ []) rows row parts.1 rest
+
+-- ---- the table
+-- an answer that tells of no fault is want of memory
+pub tells_memory : (e : BadFiles) → Tells e None → e ≡ NoMemory
+tells_memory NoMemory tells = refl
+tells_memory (Twice n) tells = absurd (cc)
+tells_memory (NoMount n) tells = absurd (cc)
+tells_memory (NoInterpreter n) tells = absurd (cc)
+
+-- the table of the mounts and of the files that are read
+pub table_read : (mounts : List Mount) (files : List FileRow) (r : Result (List FileRow) Refusal) (v : List Mount)
+    (w : List FileRow) (made : FileTable)
+    → r ≡ Ok files → v ≡ mounts → w ≡ files → made ≡ record { mounts = v; rows = w }
+    → then_read r (table_with mounts) ≡ Ok made
+table_read mounts files r v w made is same alike all =
+    let table : record { mounts = mounts; rows = files } ≡ made = cc in
+    ap (λ x. then_read x (table_with mounts)) is ∙ ap (λ (t : FileTable). Ok t) table
+
+-- a refusal stays one, whatever comes next
+pub refused_on : {A B : Type 0} (r : Result A Refusal) (next : A → Result B Refusal) (o : Option Refusal)
+    → IfSome o (λ refusal. r ≡ Err refusal) → IfSome o (λ refusal. then_read r next ≡ Err refusal)
+refused_on r next None is = tt
+refused_on r next (Some refusal) is = ap (λ x. then_read x next) is

@@ -1,0 +1,22 @@
+-- What the readers of tables answer.
+use Rattle.std.specs.Prelude.{◌≡◌, Bool, true, Option, Some, None, IfSome, Result, Ok, Err}
+use Rattle.cm_rows.specs.declared.error.RowError.{RowError}
+use Rattle.cm_rows.specs.Answers.{cause_of}
+use Rattle.cm_tables.specs.declared.error.WorldError.{WorldError}
+use Rattle.cm_tables.specs.declared.error.WorldError.TheVariants as code
+use Rattle.model_text.specs.Refusal.{Cause, Refusal, At, Past}
+
+-- The row is refused for this cause, which stands; at want of memory nothing is said.
+abbrev pub Refuses : Cause → Bool → RowError → Type 0
+Refuses cause stands e = IfSome (cause_of e) (λ c. (c ≡ cause) × (stands ≡ true))
+
+-- the refusal that an error tells, none at want of memory
+abbrev pub refusal_of : WorldError → Option Refusal
+refusal_of (code.Bad t row why) = Some (At t row why)
+refusal_of (code.Limit limit) = Some (Past limit)
+refusal_of code.NoMemory = None
+
+-- The answer is what the definition gives, or there was no memory, at which nothing is said.
+abbrev pub Answers : {A : Type 0} → Result A WorldError → Result A Refusal → Type 0
+Answers (Ok value) told = told ≡ Ok value
+Answers (Err e) told = IfSome (refusal_of e) (λ refusal. told ≡ Err refusal)

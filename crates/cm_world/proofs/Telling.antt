@@ -1,0 +1,35 @@
+-- What an answer of the reader tells of a text.
+use Rattle.std.proofs.Common.{◌≡◌, ℕ, List, Result, Ok, Err, ap, refl, inl, inr}
+use Rattle.std.proofs.lemmas.Bool.{cases_Bool}
+use Rattle.std.proofs.lemmas.Str.{IsUtf8-from_is_utf8}
+use Rattle.std.specs.Str.{IsUtf8, is_utf8}
+use Rattle.cm_base.specs.declared.faults.Table.{Table}
+use Rattle.cm_base.specs.declared.faults.Table.TheVariants as table
+use Rattle.cm_base.specs.declared.faults.WorldFault.{WorldFault}
+use Rattle.cm_base.specs.declared.faults.WorldFault.TheVariants.{Toml}
+use Rattle.cm_base.specs.declared.limited.Limited.{Limited}
+use Rattle.cm_tables.specs.declared.error.WorldError.{WorldError}
+use Rattle.cm_tables.specs.declared.error.WorldError.TheVariants as error
+use Rattle.cm_world.specs.Answers.{IsAnswer}
+use Rattle.cm_world.specs.World.{world_of}
+use Rattle.cm_world.specs.declared.world.World as code
+use Rattle.model_text.specs.Refusal.{At, Past}
+use Rattle.model_text.specs.WorldText.{Reads, Bad, Exceeds, read_text, text_as, world_text}
+
+module _ (r : Result code.World WorldError) (bytes : List ℕ) (answer : IsAnswer r (read_text bytes)) where
+  pub world_told : (w : code.World) → r ≡ Ok w → world_text bytes ≡ Reads (world_of w)
+  world_told w is = ap text_as (rw is at answer)
+
+  pub bad_told : (t : Table) (row : ℕ) (why : WorldFault) → r ≡ Err (error.Bad t row why) → world_text bytes ≡ Bad t row why
+  bad_told t row why is = ap text_as (rw is at answer)
+
+  pub limit_told : (l : Limited) → r ≡ Err (error.Limit l) → world_text bytes ≡ Exceeds l
+  limit_told l is = ap text_as (rw is at answer)
+
+-- bytes that are no text
+pub not_utf8 : (bytes : List ℕ) → ¬ IsUtf8 bytes → read_text bytes ≡ Err (At table.Whole 0 Toml)
+not_utf8 bytes not_text =
+    elim (cases_Bool (is_utf8 bytes)) [
+      | inl text ↦ absurd (not_text (IsUtf8-from_is_utf8 bytes text))
+      | inr other ↦ rw other
+    ]

@@ -1,0 +1,163 @@
+// The tables of a world's text, one after another, up to the first refusal: the whole table, spaces, mounts, files,
+// processes, the filter.
+ghost use Rattle.std.specs.Prelude.{◌≡◌, ◌<◌, All, IfOk, codes, length, option_map};
+ghost use Rattle.cm_rows.specs.Keys.{keys_of};
+ghost use Rattle.cm_tables.specs.Answers.{Answers};
+ghost use Rattle.cm_world.specs.Answers.{IsAnswer};
+ghost use Rattle.cm_world.specs.Steps.{after_whole, after_spaces, after_mounts, after_files, after_processes, world_made};
+ghost use Rattle.cm_world.specs.World.{form_of, world_of};
+ghost use Rattle.model_cred.specs.Process.{Ascends};
+ghost use Rattle.model_text.specs.WorldText as model;
+ghost use Rattle.toml.specs.View.{table_view};
+
+use crate::more::says_more;
+use crate::{LogForm, World, WorldError};
+use cm_base::Table as TableName;
+use cm_files::FileTable;
+use cm_filter::Filter;
+use cm_rows::{Key, Kind, Need, is_text_at, items_at, shape_fault, value_at};
+use cm_state::{Procs, State};
+use cm_tables::{
+    Declared, Mounts, read_files, read_filter, read_mounts, read_processes, read_spaces,
+};
+use std::alloc::Global;
+use toml::Table;
+
+static KEYS: [Key; 6] = [
+    Key("log", Kind::Word(&["script", "strace"]), Need::Required),
+    Key("space", Kind::Rows, Need::Optional),
+    Key("mount", Kind::Rows, Need::Optional),
+    Key("file", Kind::Rows, Need::Optional),
+    Key("process", Kind::Rows, Need::Optional),
+    Key("filter", Kind::Section, Need::Optional),
+];
+
+/// The keys of the whole table.
+fn whole_keys() -> &'static [Key]
+    ensures { keys_of result.now ≡ model.whole_keys }
+{
+    &KEYS
+}
+
+/// The world of a text's whole table.
+pub(crate) fn read_table(alloc: Global, top: &Table) -> Result<World, WorldError>
+    ensures answer { IsAnswer result (model.table_world (table_view top.now)) }
+    ensures more { IfOk result (λ w. w.more ≡ model.says_more (table_view top.now)) }
+{
+    match shape_fault(top, whole_keys()) {
+        None => read_spaces_first(alloc, top),
+        Some(why) => Err(WorldError::Bad {
+            table: TableName::Whole,
+            row: 0,
+            why,
+        }),
+    }
+}
+
+// The world of a whole table without a fault of its own.
+fn read_spaces_first(alloc: Global, top: &Table) -> Result<World, WorldError>
+    ensures answer { IsAnswer result (after_whole (table_view top.now)) }
+    ensures more { IfOk result (λ w. w.more ≡ model.says_more (table_view top.now)) }
+{
+    match read_spaces(alloc, items_at(top, "space")) {
+        Ok(declared) => read_mounts_next(alloc, top, declared),
+        Err(why) => Err(why),
+    }
+}
+
+// The same after the spaces.
+fn read_mounts_next(alloc: Global, top: &Table, declared: Declared) -> Result<World, WorldError>
+    ensures answer { IsAnswer result (after_spaces (table_view top.now) declared) }
+    ensures more { IfOk result (λ w. w.more ≡ model.says_more (table_view top.now)) }
+{
+    match read_mounts(alloc, &declared.names, items_at(top, "mount")) {
+        Ok(mounts) => read_files_next(alloc, top, declared, mounts),
+        Err(why) => Err(why),
+    }
+}
+
+// The same after the mounts.
+fn read_files_next(
+    alloc: Global,
+    top: &Table,
+    declared: Declared,
+    mounts: Mounts,
+) -> Result<World, WorldError>
+    ensures answer { IsAnswer result (after_mounts (table_view top.now) declared mounts) }
+    ensures more { IfOk result (λ w. w.more ≡ model.says_more (table_view top.now)) }
+{
+    match read_files(alloc, mounts, items_at(top, "file")) {
+        Ok(files) => read_processes_next(alloc, top, declared, files),
+        Err(why) => Err(why),
+    }
+}
+
+// The same after the files.
+fn read_processes_next(
+    alloc: Global,
+    top: &Table,
+    declared: Declared,
+    files: FileTable,
+) -> Result<World, WorldError>
+    ensures answer { IsAnswer result (after_files (table_view top.now) declared files) }
+    ensures more { IfOk result (λ w. w.more ≡ model.says_more (table_view top.now)) }
+{
+    match read_processes(alloc, &declared, items_at(top, "process")) {
+        Ok(procs) => read_filter_last(alloc, top, declared, files, procs),
+        Err(why) => Err(why),
+    }
+}
+
+// The same after the processes.
+fn read_filter_last(
+    alloc: Global,
+    top: &Table,
+    declared: Declared,
+    files: FileTable,
+    procs: Procs,
+) -> Result<World, WorldError>
+    requires ordered { Ascends procs }
+    requires stands { All (λ p. p.space < length declared.spaces) procs }
+    ensures answer { IsAnswer result (after_processes (table_view top.now) declared files procs) }
+    ensures more { IfOk result (λ w. w.more ≡ model.says_more (table_view top.now)) }
+{
+    match read_filter(alloc, value_at(top, "filter")) {
+        Ok(filter) => Ok(world_with(top, declared, files, procs, filter)),
+        Err(why) => Err(why),
+    }
+}
+
+// The world of these parts.
+fn world_with(
+    top: &Table,
+    declared: Declared,
+    files: FileTable,
+    procs: Procs,
+    filter: Filter,
+) -> World
+    requires ordered { Ascends procs }
+    requires stands { All (λ p. p.space < length declared.spaces) procs }
+    ensures world { world_of result ≡ world_made (table_view top.now) declared files procs filter }
+    ensures more { result.more ≡ model.says_more (table_view top.now) }
+{
+    let Declared { names, spaces } = declared;
+    World {
+        start: State { procs, spaces },
+        names,
+        files,
+        filter,
+        form: form_of_table(top),
+        more: says_more(top),
+    }
+}
+
+// The form of the log.
+fn form_of_table(top: &Table) -> LogForm
+    ensures { form_of result ≡ model.form_of_row (table_view top.now) }
+{
+    if is_text_at(top, "log", "strace") {
+        LogForm::Strace
+    } else {
+        LogForm::Script
+    }
+}
