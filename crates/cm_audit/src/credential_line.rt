@@ -1,25 +1,28 @@
 // The credential line of a process, as text.
 ghost use Rattle.std.specs.Prelude.{◌≡◌, ◌++◌, ◌∷◌, None, codes, decimal, flat_map};
 ghost use Rattle.cm_base.specs.Outcome.{OrNoMemory};
-ghost use Rattle.model_text.specs.Print.{credential_line, space_token, ids_text, groups_text, all_ids_text, sets_text, bounds_text, flags_text};
+ghost use Rattle.model_text.specs.Print.{credential_line, ids_text, groups_text, all_ids_text, sets_text, bounds_text, flags_text};
+ghost use Rattle.model_text.specs.SpaceToken.{space_token};
 
 use cm_base::{Kgid, NoMemory, Pid, SpaceId};
-use cm_script::numbers::{put, put_decimal, put_hex2, put_hex16};
+use cm_script::numbers::{put, put_decimal, put_hex2, put_hex16, put_space};
 use cm_state::{Cred, FourIds};
+use cm_world::World;
 use std::alloc::Global;
 
-/// The credential line of a process of that pid in that space, without LF, whatever its forebear, which the line doesn't
-/// tell. Its only error is want of memory.
+/// The credential line of a process of that pid in that user namespace, without LF: the namespace by its name in the world,
+/// where it has one. It tells nothing of the process's forebear. Its only error is want of memory.
 pub fn credentials(
     alloc: Global,
     cred: &Cred,
     pid: Pid,
     space: SpaceId,
+    w: &World,
 ) -> Result<Vec<u8>, NoMemory>
-    ensures { OrNoMemory result (λ text. text.items ≡ credential_line (record { pid = pid; forebear = None; space = space.0; cred = cred.now })) }
+    ensures { OrNoMemory result (λ text. text.items ≡ credential_line w.now.names (record { pid = pid; forebear = None; space = space.0; cred = cred.now })) }
 {
     let mut text = Vec::new(alloc);
-    put_credentials(&mut text, cred, pid, space)?;
+    put_credentials(&mut text, cred, pid, space, w)?;
     Ok(text)
 }
 
@@ -30,11 +33,12 @@ pub fn put_credentials(
     cred: &Cred,
     pid: Pid,
     space: SpaceId,
+    w: &World,
 ) -> Result<(), NoMemory>
     ensures { OrNoMemory result (λ _. text.new.items ≡ text.old.items
-        ++ credential_line (record { pid = pid; forebear = None; space = space.0; cred = cred.now })) }
+        ++ credential_line w.now.names (record { pid = pid; forebear = None; space = space.0; cred = cred.now })) }
 {
-    put_place(text, pid, space)?;
+    put_place(text, pid, space, w)?;
     put_all_ids(text, cred)?;
     put_sets(text, cred)?;
     put_bounds(text, cred)?;
@@ -43,26 +47,13 @@ pub fn put_credentials(
 
 // The pid and the token of the space.
 #[inline]
-fn put_place(text: &mut Vec<u8>, pid: Pid, space: SpaceId) -> Result<(), NoMemory>
-    ensures { OrNoMemory result (λ _. text.new.items ≡ text.old.items ++ (codes "> " ++ decimal pid ++ codes " " ++ space_token space.0)) }
+fn put_place(text: &mut Vec<u8>, pid: Pid, space: SpaceId, w: &World) -> Result<(), NoMemory>
+    ensures { OrNoMemory result (λ _. text.new.items ≡ text.old.items ++ (codes "> " ++ decimal pid ++ codes " " ++ space_token w.now.names space.0)) }
 {
     put(text, b"> ")?;
     put_decimal(text, pid.number() as u64)?;
     put(text, b" ")?;
-    put_space(text, space)
-}
-
-// The token of a space: `init` for the initial one, else `#` and its number.
-#[inline]
-fn put_space(text: &mut Vec<u8>, space: SpaceId) -> Result<(), NoMemory>
-    ensures { OrNoMemory result (λ _. text.new.items ≡ text.old.items ++ space_token space.0) }
-{
-    if space.0 == 0 {
-        put(text, b"init")
-    } else {
-        put(text, b"#")?;
-        put_decimal(text, space.0 as u64)
-    }
+    put_space(text, space, &w.names)
 }
 
 #[inline]

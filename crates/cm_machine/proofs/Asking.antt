@@ -1,35 +1,54 @@
 -- What is asked of the rules: kept, what a call changes is what they give, and undone, nothing has changed.
-use Rattle.std.proofs.Common.{◌≡◌, ℕ, ◌<◌, ◌||◌, not, length, List, Bool, true, false, Option, Some, None}
+use Rattle.std.proofs.Common.{◌≡◌, ℕ, ◌<◌, ◌==◌, ◌&&◌, ◌||◌, not, length, List, Bool, true, false, Option, Some, None}
 use Rattle.std.proofs.Common.{if◌then◌else◌, refl, sym, ◌∙◌, ap, subst, arith, get_or, slice_get, slice_set}
 use Rattle.std.proofs.lemmas.List.{length-set, get_or-set_same}
 use Rattle.std.specs.Prelude.{nat_lt, is_none, Result, Ok, IfSome, OnErr}
 use Rattle.std.specs.declared.result.Result.TheVariants.{Err}
-use Rattle.std.proofs.lemmas.Bool.{cond_both}
-use Rattle.cm_base.specs.declared.errno.Errno.TheVariants.{EAGAIN, EPERM, EINVAL}
+use Rattle.std.proofs.lemmas.Bool.{cond_both, ltb-true, not-false}
+use Rattle.cm_base.specs.Limits.{greatest_number}
+use Rattle.cm_base.specs.declared.errno.Errno.TheVariants.{EAGAIN, EPERM, EINVAL, EACCES, ENOSPC}
 use Rattle.cm_base.specs.Outcome.{OrNoMemory}
+use Rattle.cm_base.specs.declared.id.SpaceId.{SpaceId}
 use Rattle.cm_base.specs.declared.memory.NoMemory.{NoMemory}
+use Rattle.cm_base.specs.declared.res.FileRef.{FileRef}
 use Rattle.cm_base.specs.declared.res.Res.{Res}
 use Rattle.cm_base.specs.declared.res.Res.TheVariants as res
 use Rattle.cm_machine.proofs.Changing.{get_put, put_back, same_put, same_there, undone_is}
 use Rattle.cm_machine.proofs.Groups.{fs_fixed, gids_keep, uids_keep}
-use Rattle.cm_machine.specs.Asking.{IsAsked, IsFresh, pid_number, change_by, cred_after, kept, undone, undone_cred}
+use Rattle.cm_machine.specs.Asking.{IsAsked, CanKeep, pid_number, change_by, groups_change, birth_change, inner_birth_change, where_done}
+use Rattle.cm_machine.specs.Asking.{cred_after, kept, undone, undone_cred, born_inside}
 use Rattle.cm_machine.specs.declared.change.Change.{Change}
+use Rattle.cm_machine.specs.declared.change.Change.TheVariants as change
 use Rattle.cm_machine.specs.declared.ruling.Asked.{Asked}
+use Rattle.cm_nscalls.proofs.Written.{written}
+use Rattle.cm_nscalls.specs.Answers.{spaces_told, stored_list}
+use Rattle.cm_nscalls.specs.File.{file_of}
+use Rattle.cm_nscalls.specs.declared.file.MapFile.{MapFile}
+use Rattle.cm_nscalls.specs.declared.file.MapFile.TheVariants as file
 use Rattle.cm_state.proofs.Places.{get_of_at, pid_of_at, pid_of_put, put_ascends, put_at}
 use Rattle.cm_state.specs.Places.{pid_at}
 use Rattle.cm_state.specs.Call.{call_of}
 use Rattle.cm_state.specs.declared.call.Call.{Call}
 use Rattle.cm_state.specs.declared.call.Call.TheVariants.{SetUid, SetReUid, SetResUid, SetFsUid, SetGid, SetReGid, SetResGid, SetGroups, Fork, Exit}
+use Rattle.cm_state.specs.declared.call.Call.TheVariants.{CloneUser, Unshare, SetNs, WriteUidMap, WriteGidMap, WriteSetgroups, Exec}
 use Rattle.model_cred.specs.Call as model
 use Rattle.model_cred.specs.Credential.{Credential}
+use Rattle.model_cred.specs.Files.{FileTable}
 use Rattle.model_cred.specs.Process.{Process, State, Ascends, is_alive, is_pid, put_process, insert_process}
-use Rattle.model_cred.specs.IdMap.{extents_of}
-use Rattle.model_cred.specs.Space.{Space, space_of}
+use Rattle.model_cred.specs.IdMap.{Extent, extents_of}
+use Rattle.model_cred.specs.Space.{Space, Spaces, level, space_of, stands}
 use Rattle.model_cred.specs.World.{World}
-use Rattle.model_rules.specs.Answer.{Answer, refused}
+use Rattle.model_rules.specs.Answer.{Answer, done, refused}
+use Rattle.model_rules.specs.Caps.{cap_sys_admin}
+use Rattle.model_rules.specs.Exec.{execve, may_exec, own_sets, run_file, would_lack, cred_after as exec_cred}
+use Rattle.model_rules.specs.Maps.{Written, UidMap, GidMap, may_say, write_done, write_refused, write_setgroups}
+use Rattle.model_rules.specs.Namespaces.{as_newcomer, clone_user, deepest, is_mapped_in, join, unshare}
+use Rattle.model_rules.specs.Power.{has_over}
+use Rattle.model_rules.specs.Reply.{place_after, spaces_with}
 use Rattle.model_rules.specs.SetGroups.{all_down, most_groups, setgroups, with_groups}
 use Rattle.model_rules.specs.SetId.{has_setgid}
-use Rattle.model_run.specs.Ruling.{Ruling, ruling, fork_child, state_without, with_cred}
+use Rattle.model_run.specs.Ruling.{Ruling, ruling, birth_unless, clone_child, fork_child, spaces_left, state_without, with_cred}
+use Rattle.model_run.specs.Step.{names_no_space}
 
 -- a birth that is possible or not
 abbrev birth_if : Bool → ℕ → State → State → Ruling
@@ -41,11 +60,26 @@ birth_if b n s after = if b then record { res = res.Child n; state = after } els
 regrouped : (c : Credential) (groups : List ℕ) → groups ≡ c.groups → record c { groups = groups } ≡ c
 regrouped c groups same = ap (λ (gs : List ℕ). record c { groups = gs }) same
 
-born : (c : Credential) (n : ℕ) (s after : State) (b : Bool) → undone_cred (change_by model.Fork (birth_if b n s after).res c) c ≡ c
-born c n s after true = refl
-born c n s after false = refl
+-- what is still to be made has changed nothing
+birth_still : (r : Res) (c : Credential) → undone_cred (birth_change r) c ≡ c
+birth_still res.Done c = refl
+birth_still (res.Id n) c = refl
+birth_still (res.Child n) c = refl
+birth_still (res.Err e) c = refl
 
-groups_back : (s : Space) (c : Credential) (ids : List ℕ) → undone_cred (change_by (model.SetGroups ids) (setgroups s c ids).res c) (setgroups s c ids).cred ≡ c
+inner_still : (r : Res) (c : Credential) → undone_cred (inner_birth_change r) c ≡ c
+inner_still res.Done c = refl
+inner_still (res.Id n) c = refl
+inner_still (res.Child n) c = refl
+inner_still (res.Err e) c = refl
+
+done_still : (r : Res) (to_make : Change) (c : Credential) → undone_cred to_make c ≡ c → undone_cred (where_done r to_make) c ≡ c
+done_still res.Done to_make c same = same
+done_still (res.Id n) to_make c same = refl
+done_still (res.Child n) to_make c same = refl
+done_still (res.Err e) to_make c same = refl
+
+groups_back : (s : Space) (c : Credential) (ids : List ℕ) → undone_cred (groups_change (setgroups s c ids).res c.groups) (setgroups s c ids).cred ≡ c
 groups_back s c ids =
     cond_both (not (has_setgid c) || is_none s.gids || s.deny) (refused EPERM c)
     (if nat_lt most_groups (length ids) then refused EINVAL c else with_groups c o) P
@@ -56,15 +90,27 @@ groups_back s c ids =
     o = all_down (extents_of s.gids) ids
 
     P : Answer → Type 0
-    P a = undone_cred (change_by (model.SetGroups ids) a.res c) a.cred ≡ c
+    P a = undone_cred (groups_change a.res c.groups) a.cred ≡ c
 
     mapped : (q : Option (List ℕ)) → P (with_groups c q)
     mapped None = refl
     mapped (Some ks) = refl
 
+-- execve keeps the groups
+exec_groups : (files : FileTable) (spaces : Spaces) (at : ℕ) (c : Credential) (name : FileRef) → (execve files spaces at c name).cred.groups ≡ c.groups
+exec_groups files spaces at c name =
+    cond_both (not (may_exec (space_of spaces at) c files name)) (refused EACCES c)
+    (if would_lack c (own_sets spaces at c (run_file files name)) then refused EPERM c else done (exec_cred spaces at c (run_file files name))) P
+    (λ _. refl)
+    (λ _. cond_both (would_lack c (own_sets spaces at c (run_file files name))) (refused EPERM c) (done (exec_cred spaces at c (run_file files name))) P
+    (λ _. refl) (λ _. refl))
+  where
+    P : Answer → Type 0
+    P a = a.cred.groups ≡ c.groups
+
 -- the caller's credential is as before
 restored : (w : World) (s : State) (p : Process) (call : Call) (n : ℕ)
-    → undone_cred (change_by (call_of call) (ruling w s p (call_of call) n).res p.cred) (cred_after w s.spaces p (call_of call)) ≡ p.cred
+    → undone_cred (change_by s.spaces (call_of call) (ruling w s p (call_of call) n).res p.cred) (cred_after w s.spaces p (call_of call)) ≡ p.cred
 restored w s p (SetUid id) n = regrouped p.cred _ (uids_keep (space_of s.spaces p.space) p.cred _)
 restored w s p (SetReUid r e) n = regrouped p.cred _ (uids_keep (space_of s.spaces p.space) p.cred _)
 restored w s p (SetResUid r e v) n = regrouped p.cred _ (uids_keep (space_of s.spaces p.space) p.cred _)
@@ -73,32 +119,120 @@ restored w s p (SetGid id) n = regrouped p.cred _ (gids_keep p.cred _)
 restored w s p (SetReGid r e) n = regrouped p.cred _ (gids_keep p.cred _)
 restored w s p (SetResGid r e v) n = regrouped p.cred _ (gids_keep p.cred _)
 restored w s p (SetGroups ids) n = groups_back (space_of s.spaces p.space) p.cred ids
-restored w s p Fork n = born p.cred n s (record s { processes = insert_process (fork_child p n) s.processes }) (is_pid n)
+restored w s p Fork n = birth_still _ p.cred
+restored w s p CloneUser n = inner_still _ p.cred
+restored w s p Unshare n = done_still _ change.Space p.cred refl
+restored w s p (SetNs m) n = done_still _ (change.Join m) p.cred refl
+restored w s p (WriteUidMap m given) n = done_still _ (change.Map file.UidMap m (stored_list UidMap s.spaces m.0 given)) p.cred refl
+restored w s p (WriteGidMap m given) n = done_still _ (change.Map file.GidMap m (stored_list GidMap s.spaces m.0 given)) p.cred refl
+restored w s p (WriteSetgroups m deny) n = done_still _ (change.Word m deny) p.cred refl
+restored w s p (Exec name) n = regrouped p.cred _ (exec_groups w.files s.spaces p.space p.cred name)
 restored w s p Exit n = refl
 restored w s p call n = regrouped p.cred _ (grind arith)
 
 -- ---- what is kept
 
 born_kept : (s after : State) (p : Process) (n : ℕ) (b : Bool) → after ≡ record s { processes = insert_process (fork_child p n) s.processes }
-    → kept (change_by model.Fork (birth_if b n s after).res p.cred) p s ≡ (birth_if b n s after).state
+    → kept (birth_change (birth_if b n s after).res) p s ≡ (birth_if b n s after).state
 born_kept s after p n true is = sym is
 born_kept s after p n false is = refl
 
-grouped_kept : (ids : List ℕ) (c : Credential) (r : Res) (q : Process) (t : State) → kept (change_by (model.SetGroups ids) r c) q t ≡ t
-grouped_kept ids c res.Done q t = refl
-grouped_kept ids c (res.Id n) q t = refl
-grouped_kept ids c (res.Child n) q t = refl
-grouped_kept ids c (res.Err e) q t = refl
+inner_born_kept : (s after : State) (p : Process) (n : ℕ) (b : Bool) → after ≡ born_inside s p n
+    → kept (inner_birth_change (birth_if b n s after).res) p s ≡ (birth_if b n s after).state
+inner_born_kept s after p n true is = sym is
+inner_born_kept s after p n false is = refl
+
+grouped_kept : (groups : List ℕ) (r : Res) (q : Process) (t : State) → kept (groups_change r groups) q t ≡ t
+grouped_kept groups res.Done q t = refl
+grouped_kept groups (res.Id n) q t = refl
+grouped_kept groups (res.Child n) q t = refl
+grouped_kept groups (res.Err e) q t = refl
+
+-- a process that has its credential and its place again
+module _ (s : State) (p : Process) (same : with_cred s p p.cred ≡ s) where
+  -- the state where the caller has such an answer, which leaves those spaces and that place
+  abbrev left : Spaces → ℕ → Credential → State
+  left spaces place c = with_cred (record s { spaces = spaces }) (record p { space = place }) c
+
+  abbrev Makes : Change → Answer → Type 0
+  Makes to_make a = kept (where_done a.res to_make) p s ≡ left (spaces_with a.res s.spaces p.space p.cred) (place_after a.res p.space (length s.spaces)) a.cred
+
+  entered_kept : Makes change.Space (unshare s.spaces p.space p.cred)
+  entered_kept =
+      cond_both (not (nat_lt (level s.spaces p.space) deepest)) (refused ENOSPC p.cred)
+      (if not (is_mapped_in (space_of s.spaces p.space) p.cred) then refused EPERM p.cred else done (as_newcomer p.cred)) (Makes change.Space)
+      (λ _. sym same)
+      (λ _. cond_both (not (is_mapped_in (space_of s.spaces p.space) p.cred)) (refused EPERM p.cred) (done (as_newcomer p.cred)) (Makes change.Space)
+      (λ _. sym same) (λ _. refl))
+
+  -- a birth into a new space, where making that space has such an answer
+  abbrev inner_birth : ℕ → Answer → Ruling
+  inner_birth n a = birth_unless a.res s (clone_child s.spaces p n) (spaces_with a.res s.spaces p.space p.cred)
+
+  abbrev Bears : ℕ → Answer → Type 0
+  Bears n a = kept (inner_birth_change (inner_birth n a).res) p s ≡ (inner_birth n a).state
+
+  inner_kept : (n : ℕ) → Bears n (unshare s.spaces p.space p.cred)
+  inner_kept n =
+      cond_both (not (nat_lt (level s.spaces p.space) deepest)) (refused ENOSPC p.cred)
+      (if not (is_mapped_in (space_of s.spaces p.space) p.cred) then refused EPERM p.cred else done (as_newcomer p.cred)) (Bears n)
+      (λ _. refl)
+      (λ _. cond_both (not (is_mapped_in (space_of s.spaces p.space) p.cred)) (refused EPERM p.cred) (done (as_newcomer p.cred)) (Bears n)
+      (λ _. refl) (λ _. inner_born_kept s (born_inside s p n) p n (is_pid n) refl))
+
+  joined_kept : (m : SpaceId) → kept (where_done (join s.spaces p.space p.cred m.0).res (change.Join m)) p s
+      ≡ left s.spaces (place_after (join s.spaces p.space p.cred m.0).res p.space m.0) (join s.spaces p.space p.cred m.0).cred
+  joined_kept m =
+      cond_both (m.0 == p.space) (refused EINVAL p.cred)
+      (if not (has_over s.spaces p.space p.cred cap_sys_admin m.0) then refused EPERM p.cred else done (as_newcomer p.cred)) P
+      (λ _. sym same)
+      (λ _. cond_both (not (has_over s.spaces p.space p.cred cap_sys_admin m.0)) (refused EPERM p.cred) (done (as_newcomer p.cred)) P
+      (λ _. sym same) (λ _. refl))
+    where
+      P : Answer → Type 0
+      P a = kept (where_done a.res (change.Join m)) p s ≡ left s.spaces (place_after a.res p.space m.0) a.cred
+
+  -- the spaces alone are others
+  others : (spaces : Spaces) → record s { spaces = spaces } ≡ left spaces p.space p.cred
+  others spaces = ap (λ (t : State). record t { spaces = spaces }) (sym same)
+
+  map_kept : (which : MapFile) (m : SpaceId) (given : List Extent) (r : Res) (spaces : Spaces)
+      → spaces ≡ spaces_told (file_of which) s.spaces m.0 given r
+      → kept (where_done r (change.Map which m (stored_list (file_of which) s.spaces m.0 given))) p s ≡ left spaces p.space p.cred
+  map_kept which m given res.Done spaces is = ap (λ (ss : Spaces). record s { spaces = ss }) (sym is) ∙ others spaces
+  map_kept which m given (res.Id n) spaces is = ap (λ (ss : Spaces). record s { spaces = ss }) (sym is) ∙ others spaces
+  map_kept which m given (res.Child n) spaces is = ap (λ (ss : Spaces). record s { spaces = ss }) (sym is) ∙ others spaces
+  map_kept which m given (res.Err e) spaces is = ap (λ (ss : Spaces). record s { spaces = ss }) (sym is) ∙ others spaces
+
+  word_kept : (m : SpaceId) (deny : Bool) → kept (where_done (write_setgroups s.spaces p.space p.cred m.0 deny).res (change.Word m deny)) p s
+      ≡ left (write_setgroups s.spaces p.space p.cred m.0 deny).spaces p.space p.cred
+  word_kept m deny =
+      cond_both (has_over s.spaces p.space p.cred cap_sys_admin m.0 && may_say (space_of s.spaces m.0) deny)
+      (write_done s.spaces m.0 (record (space_of s.spaces m.0) { deny = deny })) (write_refused EPERM s.spaces) P (λ _. others _) (λ _. sym same)
+    where
+      P : Written → Type 0
+      P w = kept (where_done w.res (change.Word m deny)) p s ≡ left w.spaces p.space p.cred
 
 -- the state is the one that the rules give
 kept_is : (w : World) (s : State) (p : Process) (call : Call) (n : ℕ) → with_cred s p p.cred ≡ s
-    → kept (change_by (call_of call) (ruling w s p (call_of call) n).res p.cred) (record p { cred = cred_after w s.spaces p (call_of call) })
+    → kept (change_by s.spaces (call_of call) (ruling w s p (call_of call) n).res p.cred) (record p { cred = cred_after w s.spaces p (call_of call) })
     (with_cred s p (cred_after w s.spaces p (call_of call)))
     ≡ (ruling w s p (call_of call) n).state
-kept_is w s p (SetGroups ids) n same = grouped_kept ids p.cred (setgroups (space_of s.spaces p.space) p.cred ids).res _ _
+kept_is w s p (SetGroups ids) n same = grouped_kept p.cred.groups (setgroups (space_of s.spaces p.space) p.cred ids).res _ _
 kept_is w s p Fork n same =
-    ap (λ (t : State). kept (change_by model.Fork (ruling w s p model.Fork n).res p.cred) p t) same
+    ap (kept (birth_change (ruling w s p model.Fork n).res) p) same
     ∙ born_kept s (record s { processes = insert_process (fork_child p n) s.processes }) p n (is_pid n) refl
+kept_is w s p CloneUser n same = ap (kept (inner_birth_change (ruling w s p model.CloneUser n).res) p) same ∙ inner_kept s p same n
+kept_is w s p Unshare n same = ap (kept (where_done (ruling w s p model.Unshare n).res change.Space) p) same ∙ entered_kept s p same
+kept_is w s p (SetNs m) n same = ap (kept (where_done (ruling w s p (model.SetNs m.0) n).res (change.Join m)) p) same ∙ joined_kept s p same m
+kept_is w s p (WriteUidMap m given) n same =
+    ap (kept (where_done (ruling w s p (model.WriteUidMap m.0 given) n).res (change.Map file.UidMap m (stored_list UidMap s.spaces m.0 given))) p) same
+    ∙ map_kept s p same file.UidMap m given _ _ (written UidMap s.spaces p.space p.cred m.0 given)
+kept_is w s p (WriteGidMap m given) n same =
+    ap (kept (where_done (ruling w s p (model.WriteGidMap m.0 given) n).res (change.Map file.GidMap m (stored_list GidMap s.spaces m.0 given))) p) same
+    ∙ map_kept s p same file.GidMap m given _ _ (written GidMap s.spaces p.space p.cred m.0 given)
+kept_is w s p (WriteSetgroups m deny) n same =
+    ap (kept (where_done (ruling w s p (model.WriteSetgroups m.0 deny) n).res (change.Word m deny)) p) same ∙ word_kept s p same m deny
 kept_is w s p Exit n same = ap (λ (t : State). state_without t p) same
 kept_is w s p call n same = refl
 
@@ -116,27 +250,62 @@ old_put s at old new up h is rest =
     (put_at (slice_set s.processes at new) at old (put_ascends s.processes at new up h (named ∙ pid)) within (sym named ∙ sym (pid_of_put s.processes at new h))
     ∙ put_back s.processes at new old (get_of_at s.processes at old h is))
 
--- ---- a child that is to be born
+-- ---- what is still to be made can be made
 
-born_fresh : (processes : List Process) (n : ℕ) (s after : State) (c : Credential) (b : Bool) → (b ≡ true → is_alive processes n ≡ false)
-    → IsFresh (change_by model.Fork (birth_if b n s after).res c) processes
-born_fresh processes n s after c true free = free refl
-born_fresh processes n s after c false free = tt
+born_can : (n : ℕ) (s t after : State) (b : Bool) → (b ≡ true → is_alive t.processes n ≡ false) → CanKeep (birth_change (birth_if b n s after).res) t
+born_can n s t after true free = free refl
+born_can n s t after false free = tt
 
-grouped_fresh : (ids : List ℕ) (c : Credential) (r : Res) (processes : List Process) → IsFresh (change_by (model.SetGroups ids) r c) processes
-grouped_fresh ids c res.Done processes = tt
-grouped_fresh ids c (res.Id n) processes = tt
-grouped_fresh ids c (res.Child n) processes = tt
-grouped_fresh ids c (res.Err e) processes = tt
+-- the state after the birth of such a child, with those spaces
+abbrev born_of : State → Process → ℕ → Spaces → State
+born_of s p n spaces = record { processes = insert_process (clone_child s.spaces p n) s.processes; spaces = spaces }
 
--- it has a pid that isn't alive
-fresh_is : (w : World) (s : State) (p : Process) (call : Call) (n : ℕ) → with_cred s p p.cred ≡ s → (is_pid n ≡ true → is_alive s.processes n ≡ false)
-    → IsFresh (change_by (call_of call) (ruling w s p (call_of call) n).res p.cred) (with_cred s p (cred_after w s.spaces p (call_of call))).processes
-fresh_is w s p (SetGroups ids) n same free = grouped_fresh ids p.cred (setgroups (space_of s.spaces p.space) p.cred ids).res _
-fresh_is w s p Fork n same free =
-    born_fresh (with_cred s p p.cred).processes n s (record s { processes = insert_process (fork_child p n) s.processes }) p.cred (is_pid n)
+inner_born_can : (n : ℕ) (s t after : State) (b : Bool) → (b ≡ true → is_alive t.processes n ≡ false) → length t.spaces < greatest_number
+    → CanKeep (inner_birth_change (birth_if b n s after).res) t
+inner_born_can n s t after true free room = (free refl, room)
+inner_born_can n s t after false free room = tt
+
+inner_can : (n : ℕ) (s t : State) (p : Process) (spaces : Spaces) (r : Res) → (is_pid n ≡ true → is_alive t.processes n ≡ false)
+    → length t.spaces < greatest_number → CanKeep (inner_birth_change (birth_unless r s (clone_child s.spaces p n) spaces).res) t
+inner_can n s t p spaces res.Done free room = inner_born_can n s t (born_of s p n spaces) (is_pid n) free room
+inner_can n s t p spaces (res.Id m) free room = inner_born_can n s t (born_of s p n spaces) (is_pid n) free room
+inner_can n s t p spaces (res.Child m) free room = inner_born_can n s t (born_of s p n spaces) (is_pid n) free room
+inner_can n s t p spaces (res.Err e) free room = tt
+
+grouped_can : (groups : List ℕ) (r : Res) (t : State) → CanKeep (groups_change r groups) t
+grouped_can groups res.Done t = tt
+grouped_can groups (res.Id n) t = tt
+grouped_can groups (res.Child n) t = tt
+grouped_can groups (res.Err e) t = tt
+
+done_can : (r : Res) (to_make : Change) (t : State) → CanKeep to_make t → CanKeep (where_done r to_make) t
+done_can res.Done to_make t can = can
+done_can (res.Id n) to_make t can = tt
+done_can (res.Child n) to_make t can = tt
+done_can (res.Err e) to_make t can = tt
+
+-- a space that is named stands
+named_stands : (spaces : Spaces) (n : ℕ) → not (stands spaces n) ≡ false → n < length spaces
+named_stands spaces n is = ltb-true n (length spaces) (not-false (stands spaces n) is)
+
+can_is : (w : World) (s : State) (p : Process) (call : Call) (n : ℕ) → with_cred s p p.cred ≡ s → (is_pid n ≡ true → is_alive s.processes n ≡ false)
+    → names_no_space s.spaces (call_of call) ≡ false → length s.spaces < greatest_number
+    → CanKeep (change_by s.spaces (call_of call) (ruling w s p (call_of call) n).res p.cred) (with_cred s p (cred_after w s.spaces p (call_of call)))
+can_is w s p (SetGroups ids) n same free stand room = grouped_can p.cred.groups (setgroups (space_of s.spaces p.space) p.cred ids).res _
+can_is w s p Fork n same free stand room =
+    born_can n s (with_cred s p p.cred) (record s { processes = insert_process (fork_child p n) s.processes }) (is_pid n)
     (λ is. ap (λ (t : State). is_alive t.processes n) same ∙ free is)
-fresh_is w s p call n same free = tt
+can_is w s p CloneUser n same free stand room =
+    inner_can n s (with_cred s p p.cred) p (spaces_left s p model.CloneUser) (clone_user s.spaces p.space p.cred)
+    (λ is. ap (λ (t : State). is_alive t.processes n) same ∙ free is) room
+can_is w s p Unshare n same free stand room = done_can _ change.Space (with_cred s p p.cred) room
+can_is w s p (SetNs m) n same free stand room = done_can _ (change.Join m) (with_cred s p p.cred) (named_stands s.spaces m.0 stand)
+can_is w s p (WriteUidMap m given) n same free stand room =
+    done_can _ (change.Map file.UidMap m (stored_list UidMap s.spaces m.0 given)) (with_cred s p p.cred) (named_stands s.spaces m.0 stand)
+can_is w s p (WriteGidMap m given) n same free stand room =
+    done_can _ (change.Map file.GidMap m (stored_list GidMap s.spaces m.0 given)) (with_cred s p p.cred) (named_stands s.spaces m.0 stand)
+can_is w s p (WriteSetgroups m deny) n same free stand room = done_can _ (change.Word m deny) (with_cred s p p.cred) (named_stands s.spaces m.0 stand)
+can_is w s p call n same free stand room = tt
 
 free_number : (processes : List Process) (child : Option ℕ) → IfSome child (λ pid. is_alive processes pid ≡ false)
     → is_pid (pid_number child) ≡ true → is_alive processes (pid_number child) ≡ false
@@ -162,11 +331,11 @@ module _ (w : World) (s : State) (call : Call) (child : Option ℕ) (at : ℕ) (
   -- what was made of it
   record Made (asked : Asked) : Type 0 where
     pub answers : asked.res ≡ given.res
-    pub change : asked.change ≡ change_by k asked.res old.cred
+    pub change : asked.change ≡ change_by s.spaces k asked.res old.cred
     pub cred : new.cred ≡ leaves
 
-  by : (asked : Asked) → Made asked → asked.change ≡ change_by k given.res old.cred
-  by asked made = made.change ∙ ap (λ (r : Res). change_by k r old.cred) made.answers
+  by : (asked : Asked) → Made asked → asked.change ≡ change_by s.spaces k given.res old.cred
+  by asked made = made.change ∙ ap (λ (r : Res). change_by s.spaces k r old.cred) made.answers
 
   new_is : (asked : Asked) → Made asked → new ≡ record old { cred = leaves }
   new_is asked made = rest ∙ ap (λ (c : Credential). record old { cred = c }) made.cred
@@ -185,20 +354,20 @@ module _ (w : World) (s : State) (call : Call) (child : Option ℕ) (at : ℕ) (
     there = get_put s.processes at new h;
     answers = made.answers;
     keeps = ap (λ (ch : Change). kept ch new after) (by asked made)
-        ∙ ap (λ (q : Process). kept (change_by k given.res old.cred) q after) (new_is asked made)
-        ∙ ap (kept (change_by k given.res old.cred) (record old { cred = leaves })) (after_is asked made)
+        ∙ ap (λ (q : Process). kept (change_by s.spaces k given.res old.cred) q after) (new_is asked made)
+        ∙ ap (kept (change_by s.spaces k given.res old.cred) (record old { cred = leaves })) (after_is asked made)
         ∙ kept_is w s old call (pid_number child) (same_put s at old up h is);
     undoes = ap (λ (ch : Change). undone ch new after) (by asked made)
-        ∙ undone_is (change_by k given.res old.cred) after at new (put_ascends s.processes at new up h (pid asked made)) (rw (length-set s.processes at new) h)
+        ∙ undone_is (change_by s.spaces k given.res old.cred) after at new (put_ascends s.processes at new up h (pid asked made)) (rw (length-set s.processes at new) h)
         (sym (get_or-set_same s.processes at new new h))
-        ∙ ap (λ (c : Credential). with_cred after new (undone_cred (change_by k given.res old.cred) c)) made.cred
+        ∙ ap (λ (c : Credential). with_cred after new (undone_cred (change_by s.spaces k given.res old.cred) c)) made.cred
         ∙ ap (with_cred after new) (restored w s old call (pid_number child))
         ∙ old_put s at old new up h is rest;
   }
 
   -- it was asked of the rules
   pub asked_is : (r : Result Asked NoMemory) → OrNoMemory r (λ asked. asked.res ≡ given.res)
-      → OrNoMemory r (λ asked. asked.change ≡ change_by k asked.res old.cred)
+      → OrNoMemory r (λ asked. asked.change ≡ change_by s.spaces k asked.res old.cred)
       → OrNoMemory r (λ _. new.cred ≡ leaves)
       → OrNoMemory r (λ asked. (p : Process) → slice_get s.processes at ≡ Some p → IsAsked asked at after s (ruling w s p k (pid_number child)))
   asked_is (Ok asked) answers change cred = λ p there.
@@ -206,15 +375,17 @@ module _ (w : World) (s : State) (call : Call) (child : Option ℕ) (at : ℕ) (
       (asked_old asked (record { answers = answers; change = change; cred = cred }))
   asked_is (Err why) answers change cred = tt
 
-  pub asked_fresh : (r : Result Asked NoMemory) → IfSome child (λ pid. is_alive s.processes pid ≡ false) → OrNoMemory r (λ asked. asked.res ≡ given.res)
-      → OrNoMemory r (λ asked. asked.change ≡ change_by k asked.res old.cred) → OrNoMemory r (λ _. new.cred ≡ leaves)
-      → OrNoMemory r (λ asked. IsFresh asked.change after.processes)
-  asked_fresh (Ok asked) free answers change cred =
+  -- and what is still to be made of it can be made
+  pub asked_can : (r : Result Asked NoMemory) → IfSome child (λ pid. is_alive s.processes pid ≡ false) → names_no_space s.spaces k ≡ false
+      → length s.spaces < greatest_number → OrNoMemory r (λ asked. asked.res ≡ given.res)
+      → OrNoMemory r (λ asked. asked.change ≡ change_by s.spaces k asked.res old.cred) → OrNoMemory r (λ _. new.cred ≡ leaves)
+      → OrNoMemory r (λ asked. CanKeep asked.change after)
+  asked_can (Ok asked) free stand room answers change cred =
       let made : Made asked = record { answers = answers; change = change; cred = cred } in
-      subst (λ (t : State). IsFresh asked.change t.processes) (sym (after_is asked made))
-      (subst (λ (ch : Change). IsFresh ch (with_cred s old leaves).processes) (sym (by asked made))
-      (fresh_is w s old call (pid_number child) (same_put s at old up h is) (free_number s.processes child free)))
-  asked_fresh (Err why) free answers change cred = tt
+      subst (CanKeep asked.change) (sym (after_is asked made))
+      (subst (λ (ch : Change). CanKeep ch (with_cred s old leaves)) (sym (by asked made))
+      (can_is w s old call (pid_number child) (same_put s at old up h is) (free_number s.processes child free) stand room))
+  asked_can (Err why) free stand room answers change cred = tt
 
 -- ---- what is left of it
 

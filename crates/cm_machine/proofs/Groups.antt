@@ -6,9 +6,6 @@ use Rattle.cm_base.specs.declared.errno.Errno.{Errno}
 use Rattle.cm_base.specs.declared.errno.Errno.TheVariants.{EPERM, EINVAL}
 use Rattle.cm_base.specs.declared.res.Res.{Res}
 use Rattle.cm_base.specs.declared.res.Res.TheVariants.{Done, Id, Child, Err}
-use Rattle.cm_machine.specs.Asking.{change_by}
-use Rattle.cm_machine.specs.declared.change.Change.TheVariants.{Groups}
-use Rattle.model_cred.specs.Call.{SetGroups}
 use Rattle.model_cred.specs.Credential.{Credential, FourIds}
 use Rattle.model_cred.specs.IdMap.{extents_of}
 use Rattle.model_cred.specs.Space.{Space}
@@ -102,10 +99,3 @@ moved_cred s c before new after groups ids res moves = by res refl
     by (Id n) is = else_same (λ wrong. let no : Id n ≡ Done = sym is ∙ wrong in absurd (cc))
     by (Child n) is = else_same (λ wrong. let no : Child n ≡ Done = sym is ∙ wrong in absurd (cc))
     by (Err e) is = else_same (λ wrong. let no : Err e ≡ Done = sym is ∙ wrong in absurd (cc))
-
--- of its caller setgroups changes the groups alone
-pub same_change : (ids : List ℕ) (r : Res) (c d : Credential) → c.groups ≡ d.groups → change_by (SetGroups ids) r c ≡ change_by (SetGroups ids) r d
-same_change ids Done c d same = ap Groups same
-same_change ids (Id n) c d same = refl
-same_change ids (Child n) c d same = refl
-same_change ids (Err e) c d same = refl

@@ -1,17 +1,23 @@
 -- What is asked of the rules for a call of a process, and what becomes of what the call has changed.
-use Rattle.std.specs.Prelude.{◌≡◌, ℕ, false, List, [], Option, Some, None, slice_get, unwrap_or, if◌then◌else◌}
+use Rattle.std.specs.Prelude.{◌≡◌, ℕ, ◌<◌, false, length, List, ◌∷◌, [], Option, Some, None, slice_get, unwrap_or, if◌then◌else◌}
+use Rattle.cm_base.specs.Limits.{greatest_number}
 use Rattle.cm_base.specs.declared.res.Res.{Res}
 use Rattle.cm_base.specs.declared.res.Res.TheVariants.{Done, Child}
 use Rattle.cm_machine.specs.declared.change.Change.{Change}
 use Rattle.cm_machine.specs.declared.change.Change.TheVariants as change
 use Rattle.cm_machine.specs.declared.ruling.Asked.{Asked}
-use Rattle.model_cred.specs.Call.{Call, SetGroups, Fork, Exit}
+use Rattle.cm_nscalls.specs.Answers.{stored_list}
+use Rattle.cm_nscalls.specs.File.{file_of}
+use Rattle.cm_nscalls.specs.declared.file.MapFile.TheVariants as file
+use Rattle.model_cred.specs.Call.{Call, SetGroups, Fork, CloneUser, Unshare, SetNs, WriteUidMap, WriteGidMap, WriteSetgroups, Exit}
 use Rattle.model_cred.specs.Credential.{Credential}
-use Rattle.model_cred.specs.Process.{Process, State, is_alive, is_pid, insert_process}
-use Rattle.model_cred.specs.Space.{Spaces}
+use Rattle.model_cred.specs.Process.{Process, State, is_alive, is_pid, insert_process, put_process}
+use Rattle.model_cred.specs.Space.{Spaces, put_space, space_of}
 use Rattle.model_cred.specs.World.{World}
+use Rattle.model_rules.specs.Maps.{UidMap, GidMap, with_map}
+use Rattle.model_rules.specs.Namespaces.{as_newcomer, created_by}
 use Rattle.model_rules.specs.Reply.{reply}
-use Rattle.model_run.specs.Ruling.{Ruling, ruling, own, with_cred, fork_child, state_without}
+use Rattle.model_run.specs.Ruling.{Ruling, ruling, own, with_cred, fork_child, clone_child, state_without}
 use Rattle.model_run.specs.Step.{told_child, told_rules}
 
 -- the number of a child's pid, 0 (which is no pid) where there is none
@@ -43,18 +49,49 @@ GivesTold processes call told n =
     → told_rules told (ruling w (state_of processes spaces) p call (told_child told)) (own w (state_of processes spaces) p call)
     ≡ told_rules told (ruling w (state_of processes spaces) p call n) (ruling w (state_of processes spaces) p call n)
 
--- what a call with that answer changes of its caller, who had that credential, and what is still to be made of it
-abbrev pub change_by : Call → Res → Credential → Change
-change_by (SetGroups ids) Done c = change.Groups c.groups
-change_by (SetGroups ids) res c = change.Nothing
-change_by Fork (Child pid) c = change.Birth pid
-change_by Fork res c = change.Nothing
-change_by Exit res c = change.Exit
-change_by call res c = change.Fields (record c { groups = [] })
+-- what setgroups with that answer changes, where these were the groups
+abbrev pub groups_change : Res → List ℕ → Change
+groups_change Done groups = change.Groups groups
+groups_change res groups = change.Nothing
 
--- the credential in which a call leaves its caller: a birth and an exit leave the one that it has
+-- what a birth with that answer still has to make
+abbrev pub birth_change : Res → Change
+birth_change (Child pid) = change.Birth pid
+birth_change res = change.Nothing
+
+-- what a birth into a new space with that answer still has to make
+abbrev pub inner_birth_change : Res → Change
+inner_birth_change (Child pid) = change.InnerBirth pid
+inner_birth_change res = change.Nothing
+
+-- the change where the call is done, else none
+abbrev pub where_done : Res → Change → Change
+where_done Done to_make = to_make
+where_done res to_make = change.Nothing
+
+-- what a call with that answer changes of its caller, who had that credential, and what is still to be made of it
+abbrev pub change_by : Spaces → Call → Res → Credential → Change
+change_by spaces (SetGroups ids) res c = groups_change res c.groups
+change_by spaces Fork res c = birth_change res
+change_by spaces CloneUser res c = inner_birth_change res
+change_by spaces Unshare res c = where_done res change.Space
+change_by spaces (SetNs n) res c = where_done res (change.Join (record { 0 = n }))
+change_by spaces (WriteUidMap n given) res c = where_done res (change.Map file.UidMap (record { 0 = n }) (stored_list UidMap spaces n given))
+change_by spaces (WriteGidMap n given) res c = where_done res (change.Map file.GidMap (record { 0 = n }) (stored_list GidMap spaces n given))
+change_by spaces (WriteSetgroups n deny) res c = where_done res (change.Word (record { 0 = n }) deny)
+change_by spaces Exit res c = change.Exit
+change_by spaces call res c = change.Fields (record c { groups = [] })
+
+-- the credential in which a call leaves its caller before its change is kept: a birth, an exit and the calls of spaces leave
+-- the one that it has
 abbrev pub cred_after : World → Spaces → Process → Call → Credential
 cred_after w spaces p Fork = p.cred
+cred_after w spaces p CloneUser = p.cred
+cred_after w spaces p Unshare = p.cred
+cred_after w spaces p (SetNs n) = p.cred
+cred_after w spaces p (WriteUidMap n given) = p.cred
+cred_after w spaces p (WriteGidMap n given) = p.cred
+cred_after w spaces p (WriteSetgroups n deny) = p.cred
 cred_after w spaces p Exit = p.cred
 cred_after w spaces p call = (reply w.files spaces p.space p.cred call).cred
 
@@ -74,16 +111,49 @@ undone _ p s = s
 abbrev pub born : State → Process → ℕ → State
 born s p pid = record s { processes = insert_process (fork_child p pid) s.processes }
 
--- the state where the change of the process is kept: a child is born, or the process has gone
+-- the state where the process has a child of that pid in a new space
+abbrev pub born_inside : State → Process → ℕ → State
+born_inside s p pid = record {
+  processes = insert_process (clone_child s.spaces p pid) s.processes;
+  spaces = created_by s.spaces p.space p.cred ∷ s.spaces;
+}
+
+-- the process after it has come into that space
+abbrev pub inside : Process → ℕ → Process
+inside p n = record p { space = n; cred = as_newcomer p.cred }
+
+-- the state where the process has come into that space
+abbrev pub joined : State → Process → ℕ → State
+joined s p n = record s { processes = put_process (inside p n) s.processes }
+
+-- the state where the process has made a space and come into it
+abbrev pub entered : State → Process → State
+entered s p = record {
+  processes = put_process (inside p (length s.spaces)) s.processes;
+  spaces = created_by s.spaces p.space p.cred ∷ s.spaces;
+}
+
+-- the state where the change of the process is kept: what is still to be made of it is made
 abbrev pub kept : Change → Process → State → State
 kept (change.Birth pid) p s = born s p pid
+kept (change.InnerBirth pid) p s = born_inside s p pid
+kept change.Space p s = entered s p
+kept (change.Join n) p s = joined s p n.0
+kept (change.Map which n map) p s = record s { spaces = put_space n.0 (with_map (file_of which) (space_of s.spaces n.0) map) s.spaces }
+kept (change.Word n deny) p s = record s { spaces = put_space n.0 (record (space_of s.spaces n.0) { deny = deny }) s.spaces }
 kept change.Exit p s = state_without s p
 kept _ p s = s
 
--- a child that is to be born has a pid that isn't alive
-abbrev pub IsFresh : Change → List Process → Type 0
-IsFresh (change.Birth pid) processes = is_alive processes pid ≡ false
-IsFresh _ processes = Unit {0}
+-- What is still to be made of the change can be made: a child that is to be born has a pid that isn't alive, a space that is
+-- to be joined or written stands, and there is room for one that is to be made.
+abbrev pub CanKeep : Change → State → Type 0
+CanKeep (change.Birth pid) s = is_alive s.processes pid ≡ false
+CanKeep (change.InnerBirth pid) s = (is_alive s.processes pid ≡ false) × (length s.spaces < greatest_number)
+CanKeep change.Space s = length s.spaces < greatest_number
+CanKeep (change.Join n) s = n.0 < length s.spaces
+CanKeep (change.Map which n map) s = n.0 < length s.spaces
+CanKeep (change.Word n deny) s = n.0 < length s.spaces
+CanKeep _ s = Unit {0}
 
 -- What was asked for the process at that place is answered by the rules: kept, the change leads to the state that they
 -- give, and undone, to the state before.

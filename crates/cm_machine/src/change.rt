@@ -1,14 +1,18 @@
 // What a call has changed of its caller, as it was before, and what is still to be made of it: where the told result is
-// the rules' own, the change is kept, and else it is undone. A birth and an exit are made as they are kept, since their
-// answers are known before: an exit can't be undone, as nothing shows which children had the one that is gone.
+// the rules' own, the change is kept, and else it is undone. A birth, an exit and what a call does to the spaces are made
+// as they are kept, since their answers are known before: an exit can't be undone, as nothing shows which children had the
+// one that is gone, and what was never made needs no undoing.
 ghost use Rattle.std.specs.Prelude.{◌≡◌, ◌<◌, length, OnErr};
 ghost use Rattle.cm_base.specs.Outcome.{OrNoMemory, UnchangedOnErr};
-ghost use Rattle.cm_machine.specs.Asking.{IsFresh, OfCaller, kept, undone, undone_cred};
+ghost use Rattle.cm_machine.specs.Asking.{CanKeep, OfCaller, kept, undone, undone_cred};
 ghost use Rattle.model_cred.specs.Process.{Process};
 
-use crate::births::fork_as;
+use crate::births::{clone_as, fork_as};
+use crate::entries::{enter_new, join};
 use crate::exits::exit;
-use cm_base::{NoMemory, Pid};
+use cm_base::{NoMemory, Pid, SpaceId};
+use cm_idmap::IdMap;
+use cm_nscalls::{MapFile, set_map};
 use cm_state::{Cred, Groups, State};
 use std::alloc::Global;
 use std::mem;
@@ -24,12 +28,22 @@ pub(crate) enum Change {
     Groups(Groups),
     /// A child of this pid is to be born. Nothing changed so far.
     Birth(Pid),
+    /// A child of this pid is to be born in a space that is to be made for it. Nothing changed so far.
+    InnerBirth(Pid),
+    /// The caller is to make a space and to come into it. Nothing changed so far.
+    Space,
+    /// The caller is to come into this space. Nothing changed so far.
+    Join(SpaceId),
+    /// This map of the space is to be written. Nothing changed so far.
+    Map(MapFile, SpaceId, IdMap),
+    /// The setgroups word of the space is to be written: "deny" where it is true. Nothing changed so far.
+    Word(SpaceId, bool),
     /// The caller is to go. Nothing changed so far.
     Exit,
 }
 
-/// Keeps what the process at this place has changed, and makes its birth or its exit. Only a birth takes memory; for want
-/// of it nothing has changed.
+/// Keeps what the process at this place has changed, and makes what is still to be made of it. Births and new spaces alone
+/// take memory; for want of it nothing has changed.
 #[inline]
 pub(crate) fn keep(
     alloc: Global,
@@ -38,13 +52,27 @@ pub(crate) fn keep(
     change: Change,
 ) -> Result<(), NoMemory>
     requires here { at < length state.old.processes }
-    requires fresh { IsFresh change state.old.processes }
+    requires can { CanKeep change state.old }
     ensures kept { OrNoMemory result (λ _. OfCaller state.old at (λ p. state.new ≡ kept change p state.old)) }
     ensures unchanged { UnchangedOnErr result state.new state.old }
     ensures nothing { OnErr result ((p : Process) → undone change p state.old ≡ state.old) }
 {
     match change {
         Change::Birth(pid) => fork_as(alloc, state, at, pid),
+        Change::InnerBirth(pid) => clone_as(alloc, state, at, pid),
+        Change::Space => enter_new(state, at),
+        Change::Join(n) => {
+            join(state, at, n);
+            Ok(())
+        }
+        Change::Map(file, n, map) => {
+            set_map(file, &mut state.spaces, n, map);
+            Ok(())
+        }
+        Change::Word(n, deny) => {
+            state.spaces.set_deny(n, deny);
+            Ok(())
+        }
         Change::Exit => {
             exit(state, at);
             Ok(())
@@ -72,6 +100,6 @@ fn undo_cred(c: &mut Cred, change: Change)
             *c = old;
         }
         Change::Groups(old) => c.groups = old,
-        Change::Nothing | Change::Birth(_) | Change::Exit => {}
+        _ => {}
     }
 }

@@ -4,11 +4,13 @@
 
 mod births;
 mod change;
+mod entries;
 mod error;
 mod exits;
 mod family;
 mod laws;
 mod machine;
+mod naming;
 mod outside;
 mod own;
 mod pids;
@@ -19,6 +21,3 @@ mod step;
 pub use error::StepError;
 pub use laws::read_chains_end;
 pub use machine::Machine;
-
-#[cfg(test)]
-mod tests;

@@ -1,5 +1,6 @@
 // The machine and its public calls. The steps themselves are made on its state.
-ghost use Rattle.std.specs.Prelude.{◌≡◌, None, true, IfOk, IfErr};
+ghost use Rattle.std.specs.Prelude.{◌≡◌, ◌<◌, None, true, false, length, IfOk, IfErr};
+ghost use Rattle.cm_base.specs.Limits.{greatest_number};
 ghost use Rattle.cm_base.specs.Outcome.{OrNoMemory, UnchangedOnErr};
 ghost use Rattle.cm_base.specs.declared.errno.Errno.{Errno};
 ghost use Rattle.cm_machine.specs.Outcomes.{IsOwn, IsNoAnswer};
@@ -12,6 +13,7 @@ ghost use Rattle.model_run.specs.Step.{outcome, names_no_space};
 
 use crate::error::StepError;
 use crate::family::family_of;
+use crate::naming::names_no_space;
 use crate::own::make_own;
 use crate::step::take_step;
 use cm_base::{NoMemory, Pid, Res};
@@ -40,8 +42,10 @@ impl Machine {
     /// the pid is alive; NoSpace exactly where the call names a user namespace that doesn't stand; PidInUse exactly where
     /// the result is a child that is alive; Wrong exactly where the result is neither an error from outside that the call
     /// may answer, which changes nothing (choice), nor what the rules give (with the process's own answer); NoMemory may
-    /// come with any event. The machine is as it was after each, and after a step whose result is an error.
+    /// come with any event. The machine is as it was after each, and after a step whose result is an error. Fewer than
+    /// 4294967295 spaces stand before it.
     pub fn step(&mut self, alloc: Global, w: &World, e: &Event) -> Result<(), StepError>
+        requires room { length self.old.state.spaces < greatest_number }
         ensures goes { IfOk result (λ _. outcome (world_of w.now) self.old.state e.now ≡ outcome.Goes self.new.state) }
         ensures no_process { result ≡ Err StepError.NoProcess → outcome (world_of w.now) self.old.state e.now ≡ outcome.NoProcess }
         ensures no_space { result ≡ Err StepError.NoSpace → outcome (world_of w.now) self.old.state e.now ≡ outcome.NoSpace }
@@ -57,7 +61,7 @@ impl Machine {
     /// of fork has the least pid that isn't alive, or the answer is EAGAIN where all are (choice). The errors are NoProcess
     /// exactly where no process of the pid is alive, NoSpace exactly where the call names a user namespace that doesn't
     /// stand, and NoMemory, which may come with any call. The machine is as it was after each, and after an error that
-    /// the rules answer.
+    /// the rules answer. Fewer than 4294967295 spaces stand before it.
     pub fn answer(
         &mut self,
         alloc: Global,
@@ -65,6 +69,7 @@ impl Machine {
         pid: Pid,
         call: &Call,
     ) -> Result<Res, StepError>
+        requires room { length self.old.state.spaces < greatest_number }
         ensures makes { IfOk result (λ res. IsOwn (world_of w.now) self.old.state pid (call_of call.now) res self.new.state) }
         ensures no_process { result ≡ Err StepError.NoProcess → process_at self.old.state.processes pid ≡ None }
         ensures no_space { result ≡ Err StepError.NoSpace → (is_alive self.old.state.processes pid ≡ true)
@@ -76,6 +81,9 @@ impl Machine {
         let Some(at) = self.state.procs.find(pid) else {
             return Err(StepError::NoProcess);
         };
+        if names_no_space(&self.state.spaces, call) {
+            return Err(StepError::NoSpace);
+        }
         let res = make_own(alloc, w, &mut self.state, at, call)?;
         Ok(res)
     }

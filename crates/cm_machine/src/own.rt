@@ -1,10 +1,12 @@
 // The own step of a process: its call as the rules give it, whatever was told.
-ghost use Rattle.std.specs.Prelude.{◌≡◌, ◌<◌, length};
+ghost use Rattle.std.specs.Prelude.{◌≡◌, ◌<◌, length, false};
+ghost use Rattle.cm_base.specs.Limits.{greatest_number};
 ghost use Rattle.cm_base.specs.Outcome.{OrNoMemory, UnchangedOnErr};
 ghost use Rattle.cm_machine.specs.Asking.{OfCaller};
 ghost use Rattle.cm_state.specs.Call.{call_of};
 ghost use Rattle.cm_world.specs.World.{world_of};
 ghost use Rattle.model_run.specs.Ruling.{own};
+ghost use Rattle.model_run.specs.Step.{names_no_space};
 
 use crate::births::own_pid;
 use crate::change::keep;
@@ -23,6 +25,8 @@ pub(crate) fn make_own(
     call: &Call,
 ) -> Result<Res, NoMemory>
     requires here { at < length state.old.processes }
+    requires stands { names_no_space state.old.spaces (call_of call.now) ≡ false }
+    requires room { length state.old.spaces < greatest_number }
     ensures own { OrNoMemory result (λ res. OfCaller state.old at (λ p.
         record { res = res; state = state.new } ≡ own (world_of w.now) state.old p (call_of call.now))) }
     ensures unchanged { UnchangedOnErr result state.new state.old }

@@ -1,24 +1,32 @@
 // The rules are asked here, and here alone: what they answer a call of a process, and what the call changes. `ask` is
-// `ruling` of the definitions, but that a birth and an exit are still to be made, and any change can be undone.
+// `ruling` of the definitions, but that a birth, an exit and what a call does to the spaces are still to be made, and any
+// change can be undone.
 ghost use Rattle.std.specs.Prelude.{◌≡◌, ◌<◌, ℕ, length, List, false, IfSome};
+ghost use Rattle.cm_base.specs.Limits.{greatest_number};
 ghost use Rattle.cm_base.specs.Outcome.{OrNoMemory, UnchangedOnErr};
-ghost use Rattle.cm_machine.specs.Asking.{AsksRules, IsFresh, change_by, cred_after, pid_number, state_of};
+ghost use Rattle.cm_machine.specs.Asking.{AsksRules, CanKeep, change_by, cred_after, groups_change, pid_number, state_of, where_done};
+ghost use Rattle.cm_base.specs.declared.errno.Errno.{Errno};
 ghost use Rattle.cm_base.specs.declared.res.Res.TheVariants.{Done};
-ghost use Rattle.cm_machine.specs.declared.change.Change.TheVariants.{Fields};
+ghost use Rattle.cm_machine.specs.declared.change.Change.TheVariants as change;
+ghost use Rattle.cm_nscalls.specs.Answers.{res_of, stored_list};
+ghost use Rattle.cm_nscalls.specs.File.{file_of};
 ghost use Rattle.cm_state.specs.Call.{call_of};
 ghost use Rattle.cm_world.specs.World.{world_of};
-ghost use Rattle.model_cred.specs.Call.{SetGroups};
 ghost use Rattle.model_cred.specs.Process.{Process, is_alive};
-ghost use Rattle.model_cred.specs.Space.{space_of};
+ghost use Rattle.model_rules.specs.Maps.{write_map};
 ghost use Rattle.model_rules.specs.SetGroups.{setgroups};
 ghost use Rattle.model_run.specs.Ruling.{ruling};
+ghost use Rattle.model_run.specs.Step.{names_no_space};
 
-use crate::births::birth;
+use crate::births::{birth, inner_birth};
 use crate::change::Change;
-use cm_base::{NoMemory, Pid, Res, SpaceId};
+use cm_base::{Errno, NoMemory, Pid, Res};
 use cm_capcalls::{
     amb_clear, amb_lower, amb_raise, bset_drop, cap_set, keep_caps, no_new_privs, secure_bits,
 };
+use cm_exec::exec;
+use cm_idmap::Extent;
+use cm_nscalls::{MapFile, Write, map_to_store, may_join, may_make, may_write_word};
 use cm_setid::{
     set_fsgid, set_fsuid, set_gid, set_groups, set_regid, set_resgid, set_resuid, set_reuid,
     set_uid,
@@ -48,9 +56,11 @@ pub(crate) fn ask(
 ) -> Result<Asked, NoMemory>
     requires here { at < length state.old.processes }
     requires fresh { IfSome child (λ pid. is_alive state.old.processes pid ≡ false) }
+    requires stands { names_no_space state.old.spaces (call_of call.now) ≡ false }
+    requires room { length state.old.spaces < greatest_number }
     ensures asked { OrNoMemory result (λ asked. AsksRules asked at state.new state.old
         (λ p. ruling (world_of w.now) state.old p (call_of call.now) (pid_number child))) }
-    ensures fresh { OrNoMemory result (λ asked. IsFresh asked.change state.new.processes) }
+    ensures can { OrNoMemory result (λ asked. CanKeep asked.change state.new) }
     ensures still { at < length state.new.processes }
     ensures unchanged { UnchangedOnErr result state.new state.old }
 {
@@ -69,48 +79,69 @@ fn ask_caller(
     call: &Call,
     child: Option<Pid>,
 ) -> Result<Asked, NoMemory>
-    requires stands { p.old.space < length spaces.now }
+    requires inside { p.old.space < length spaces.now }
+    requires stands { names_no_space spaces.now (call_of call.now) ≡ false }
     ensures res { (processes : List Process) → OrNoMemory result (λ asked.
         asked.res ≡ (ruling (world_of w.now) (state_of processes spaces.now) p.old (call_of call.now) (pid_number child)).res) }
     ensures cred { OrNoMemory result (λ _. p.new.cred ≡ cred_after (world_of w.now) spaces.now p.old (call_of call.now)) }
-    ensures change { OrNoMemory result (λ asked. asked.change ≡ change_by (call_of call.now) asked.res p.old.cred) }
+    ensures change { OrNoMemory result (λ asked. asked.change ≡ change_by spaces.now (call_of call.now) asked.res p.old.cred) }
     ensures rest { p.new ≡ record p.old { cred = p.new.cred } }
     ensures unchanged { UnchangedOnErr result p.new p.old }
 {
-    let s = standing(spaces, p.space);
+    let at = p.space;
+    let s = spaces.standing(at);
     let c = &mut p.cred;
     let old = c.without_groups(alloc);
-    match call {
-        Call::SetUid(id) => changed(old, set_uid(c, s, *id)),
-        Call::SetReUid(r, e) => changed(old, set_reuid(c, s, *r, *e)),
-        Call::SetResUid(r, e, v) => changed(old, set_resuid(c, s, *r, *e, *v)),
-        Call::SetFsUid(id) => changed(old, set_fsuid(c, s, *id)),
-        Call::SetGid(id) => changed(old, set_gid(c, s, *id)),
-        Call::SetReGid(r, e) => changed(old, set_regid(c, s, *r, *e)),
-        Call::SetResGid(r, e, v) => changed(old, set_resgid(c, s, *r, *e, *v)),
-        Call::SetFsGid(id) => changed(old, set_fsgid(c, s, *id)),
-        Call::SetGroups(ids) => ask_groups(alloc, c, s, ids.items()),
-        Call::CapSet { eff, prm, inh } => changed(old, cap_set(c, *eff, *prm, *inh)),
-        Call::BsetDrop(cap) => changed(old, bset_drop(c, *cap)),
-        Call::AmbRaise(cap) => changed(old, amb_raise(c, *cap)),
-        Call::AmbLower(cap) => changed(old, amb_lower(c, *cap)),
-        Call::AmbClear => changed(old, amb_clear(c)),
-        Call::SecureBits(bits) => changed(old, secure_bits(c, *bits)),
-        Call::KeepCaps(argument) => changed(old, keep_caps(c, *argument)),
-        Call::NoNewPrivs(argument) => changed(old, no_new_privs(c, *argument)),
-        Call::Fork => Ok(birth(child)),
-        Call::Exit => Ok(Asked {
-            res: Res::Done,
-            change: Change::Exit,
-        }),
-    }
-}
-
-// The answer of a call that changes fields of its caller, which had these; the groups stay.
-#[inline]
-fn changed(old: Cred, res: Res) -> Result<Asked, NoMemory>
-    ensures { result ≡ Ok (record { res = res; change = Fields old }) }
-{
+    let res = match call {
+        Call::SetUid(id) => set_uid(c, s, *id),
+        Call::SetReUid(r, e) => set_reuid(c, s, *r, *e),
+        Call::SetResUid(r, e, v) => set_resuid(c, s, *r, *e, *v),
+        Call::SetFsUid(id) => set_fsuid(c, s, *id),
+        Call::SetGid(id) => set_gid(c, s, *id),
+        Call::SetReGid(r, e) => set_regid(c, s, *r, *e),
+        Call::SetResGid(r, e, v) => set_resgid(c, s, *r, *e, *v),
+        Call::SetFsGid(id) => set_fsgid(c, s, *id),
+        Call::CapSet { eff, prm, inh } => cap_set(c, *eff, *prm, *inh),
+        Call::BsetDrop(cap) => bset_drop(c, *cap),
+        Call::AmbRaise(cap) => amb_raise(c, *cap),
+        Call::AmbLower(cap) => amb_lower(c, *cap),
+        Call::AmbClear => amb_clear(c),
+        Call::SecureBits(bits) => secure_bits(c, *bits),
+        Call::KeepCaps(argument) => keep_caps(c, *argument),
+        Call::NoNewPrivs(argument) => no_new_privs(c, *argument),
+        Call::Exec(f) => exec(c, spaces, at, &w.files, *f),
+        Call::SetGroups(ids) => return ask_groups(alloc, c, s, ids.items()),
+        Call::Fork => return Ok(birth(child)),
+        Call::CloneUser => return Ok(inner_birth(may_make(c, spaces, at), child)),
+        Call::Unshare => return Ok(to_make(may_make(c, spaces, at), Change::Space)),
+        Call::SetNs(n) => return Ok(to_make(may_join(c, spaces, at, *n), Change::Join(*n))),
+        Call::WriteUidMap(n, given) => {
+            let w = Write {
+                file: MapFile::UidMap,
+                at,
+                target: *n,
+            };
+            return ask_map(alloc, w, c, spaces, given.items());
+        }
+        Call::WriteGidMap(n, given) => {
+            let w = Write {
+                file: MapFile::GidMap,
+                at,
+                target: *n,
+            };
+            return ask_map(alloc, w, c, spaces, given.items());
+        }
+        Call::WriteSetgroups { space, deny } => {
+            let may = may_write_word(c, spaces, at, *space, *deny);
+            return Ok(to_make(may, Change::Word(*space, *deny)));
+        }
+        Call::Exit => {
+            return Ok(Asked {
+                res: Res::Done,
+                change: Change::Exit,
+            });
+        }
+    };
     Ok(Asked {
         res,
         change: Change::Fields(old),
@@ -121,7 +152,7 @@ fn changed(old: Cred, res: Res) -> Result<Asked, NoMemory>
 fn ask_groups(alloc: Global, c: &mut Cred, s: &Space, ids: &[u32]) -> Result<Asked, NoMemory>
     ensures res { OrNoMemory result (λ asked. asked.res ≡ (setgroups s.now c.old ids.now).res) }
     ensures cred { OrNoMemory result (λ _. c.new ≡ (setgroups s.now c.old ids.now).cred) }
-    ensures change { OrNoMemory result (λ asked. asked.change ≡ change_by (SetGroups ids.now) asked.res c.old) }
+    ensures change { OrNoMemory result (λ asked. asked.change ≡ groups_change asked.res c.old.groups) }
     ensures unchanged { UnchangedOnErr result c.new c.old }
 {
     let old = mem::replace(&mut c.groups, Groups::empty(alloc));
@@ -137,7 +168,7 @@ fn ask_groups(alloc: Global, c: &mut Cred, s: &Space, ids: &[u32]) -> Result<Ask
 // The answer of setgroups, before which there were these groups: they come back where it isn't done.
 fn regrouped(c: &mut Cred, old: Groups, res: Res) -> Asked
     ensures res { result.res ≡ res }
-    ensures change { (ids : List ℕ) → result.change ≡ change_by (SetGroups ids) res (record c.old { groups = old }) }
+    ensures change { result.change ≡ groups_change res old }
     ensures done { res ≡ Done → c.new ≡ c.old }
     ensures back { (res ≡ Done → ⊥) → c.new ≡ record c.old { groups = old } }
 {
@@ -156,11 +187,48 @@ fn regrouped(c: &mut Cred, old: Groups, res: Res) -> Asked
     }
 }
 
-// The space of that number, which stands.
-#[inline]
-fn standing(spaces: &Spaces, n: SpaceId) -> &Space
-    requires { n.0 < length spaces.now }
-    ensures { result.now ≡ space_of spaces.now n.0 }
+// A write of that list to a map: what is stored of it is still to be written.
+fn ask_map(
+    alloc: Global,
+    w: Write,
+    c: &Cred,
+    spaces: &Spaces,
+    given: &[Extent],
+) -> Result<Asked, NoMemory>
+    requires { w.target.0 < length spaces.now }
+    ensures res { OrNoMemory result (λ asked. asked.res ≡ (write_map (file_of w.file) spaces.now w.at.0 c.now w.target.0 given.now).res) }
+    ensures change { OrNoMemory result (λ asked. asked.change
+        ≡ where_done asked.res (change.Map w.file w.target (stored_list (file_of w.file) spaces.now w.target.0 given.now))) }
 {
-    spaces.get(n).unwrap()
+    match map_to_store(alloc, w, c, spaces, given)? {
+        Ok(map) => Ok(Asked {
+            res: Res::Done,
+            change: Change::Map(w.file, w.target, map),
+        }),
+        Err(why) => Ok(refused(why)),
+    }
+}
+
+// The call is done, and this is still to be made of it; or it is refused.
+fn to_make(may: Result<(), Errno>, change: Change) -> Asked
+    ensures res { result.res ≡ res_of may }
+    ensures change { result.change ≡ where_done result.res change }
+{
+    match may {
+        Ok(()) => Asked {
+            res: Res::Done,
+            change,
+        },
+        Err(why) => refused(why),
+    }
+}
+
+/// The call is refused, and changes nothing.
+pub(crate) fn refused(why: Errno) -> Asked
+    ensures { result ≡ record { res = Res.Err why; change = change.Nothing } }
+{
+    Asked {
+        res: Res::Err(why),
+        change: Change::Nothing,
+    }
 }

@@ -1,15 +1,17 @@
 // A step: the event of a process with the result that is told.
 ghost use Rattle.std.specs.Prelude.{◌≡◌, ◌<◌, length, false};
+ghost use Rattle.cm_base.specs.Limits.{greatest_number};
 ghost use Rattle.cm_base.specs.Outcome.{UnchangedOnErr};
 ghost use Rattle.cm_machine.specs.Asking.{OfCaller};
 ghost use Rattle.cm_machine.specs.Outcomes.{Becomes};
 ghost use Rattle.cm_world.specs.World.{world_of};
 ghost use Rattle.model_cred.specs.Process.{Ascends};
-ghost use Rattle.model_run.specs.Step.{outcome, is_living_child, told_call};
+ghost use Rattle.model_run.specs.Step.{outcome, is_living_child, names_no_space as model_names_no_space, told_call};
 
 use crate::births::told_pid;
 use crate::change::{keep, undo};
 use crate::error::StepError;
+use crate::naming::names_no_space;
 use crate::outside::from_outside;
 use crate::ruling::{Asked, ask};
 use crate::same::is_same;
@@ -18,19 +20,23 @@ use cm_state::{Event, Procs, State};
 use cm_world::World;
 use std::alloc::Global;
 
-/// Makes the step of an event, or says why it is none. No call here names a space.
+/// Makes the step of an event, or says why it is none.
 pub(crate) fn take_step(
     alloc: Global,
     w: &World,
     state: &mut State,
     e: &Event,
 ) -> Result<(), StepError>
+    requires room { length state.old.spaces < greatest_number }
     ensures becomes { Becomes result state.new (outcome (world_of w.now) state.old e.now) }
     ensures unchanged { UnchangedOnErr result state.new state.old }
 {
     let Some(at) = state.procs.find(e.pid) else {
         return Err(StepError::NoProcess);
     };
+    if names_no_space(&state.spaces, &e.call) {
+        return Err(StepError::NoSpace);
+    }
     if has_child(&state.procs, &e.res) {
         return Err(StepError::PidInUse);
     }
@@ -60,7 +66,9 @@ fn told_call(
     e: &Event,
 ) -> Result<(), StepError>
     requires here { at < length state.old.processes }
+    requires stands { model_names_no_space state.old.spaces e.now.call ≡ false }
     requires fresh { is_living_child state.old.processes e.now.res ≡ false }
+    requires room { length state.old.spaces < greatest_number }
     ensures becomes { OfCaller state.old at (λ p.
         Becomes result state.new (told_call (world_of w.now) state.old p e.now.call e.now.res)) }
     ensures unchanged { UnchangedOnErr result state.new state.old }

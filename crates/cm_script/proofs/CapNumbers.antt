@@ -4,7 +4,7 @@ use Rattle.std.proofs.lemmas.Bool.{cases_lt}
 use Rattle.std.proofs.lemmas.Option.{slice_get_past}
 use Rattle.std.specs.Prelude.{decimal, unwrap_or}
 use Rattle.cm_base.specs.Names.{cap_names}
-use Rattle.model_text.specs.Print.{cap_name_or_number}
+use Rattle.model_text.specs.Token.{cap_name_or_number}
 
 -- a number past the last capability is printed as it is
 pub unnamed : (number : ℕ) → (number < 41 → ⊥) → cap_name_or_number number ≡ decimal number

@@ -1,5 +1,6 @@
 -- The first token of a line.
-use Rattle.std.proofs.Common.{◌≡◌, ℕ, zero, suc, ◌<◌, ◌≤◌, true, false, length, List, [], ◌∷◌, refl, arith, get_or, take, drop}
+use Rattle.std.proofs.Common.{◌≡◌, ℕ, zero, suc, ◌<◌, ◌≤◌, true, false, length, List, [], ◌∷◌, refl, arith, get_or}
+use Rattle.std.proofs.Common.{take, drop}
 use Rattle.model_text.specs.Cut.{tokens_of, is_blank, goes_on}
 
 -- a byte before a token that goes on is its first byte

@@ -3,7 +3,7 @@ use Rattle.std.proofs.Common.{◌≡◌, ℕ, ◌+◌, ◌-◌, ◌/◌, ◌%◌
 use Rattle.std.proofs.Common.{refl, sym, ap, ◌∙◌, arith, append_assoc, add-one, le_of_eq}
 use Rattle.std.proofs.lemmas.List.{drop-set, drop_all}
 use Rattle.cm_base.specs.CapSet.{full}
-use Rattle.model_text.specs.Print.{hex, hex_digit, hex_set}
+use Rattle.model_text.specs.Hex.{hex, hex_digit, hex_set}
 
 -- so many digits that are still to be written, and the buffer from there on
 unfoldable pub digits_upto : ℕ → ℕ → List ℕ → List ℕ

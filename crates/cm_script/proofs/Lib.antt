@@ -1,5 +1,8 @@
 -- Lemmas of this crate, by topic.
 pub mod FirstToken
-pub mod ReadTokens
+pub mod Items
+pub mod Telling
 pub mod CapNumbers
 pub mod HexDigits
+pub mod Outcomes
+pub mod CallNames

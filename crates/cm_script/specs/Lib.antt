@@ -1,2 +1,4 @@
--- What the reader of script lines answers, in the words of the definitions.
+-- What the reader of script lines answers, in the words of the definitions, and how it reads the arguments of a call.
 pub mod Lines
+pub mod Paths
+pub mod Steps

@@ -1,19 +1,23 @@
 //! Script lines, the text form of logs: `read_line` makes an event of a line, or answers why it can't (`LineError`), and
 //! `put_line` writes an event as a line. What a line stands for, and how an event is written, is in
-//! model_text/specs (Line, Token, Print). `numbers` writes the pieces of which other lines are made too.
+//! model_text/specs (Line, Arguments, Token, Print). `numbers` writes the pieces of which other lines are made too.
 #![tactic(auto)]
 
 mod arguments;
+mod calls;
 mod error;
+mod files;
 mod laws;
+mod lists;
 pub mod numbers;
+mod parts;
 mod reading;
 mod results;
 mod tokens;
 mod writing;
 
 pub use error::LineError;
-pub use laws::numbers_are_lines;
+pub use laws::{lines_read_back, numbers_are_lines};
 pub use reading::read_line;
 pub use tokens::read_pid;
 pub use writing::{put_line, put_res, write_line};

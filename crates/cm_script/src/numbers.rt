@@ -1,10 +1,13 @@
-//! Pieces of text and numbers, written at the end of a buffer: decimal, hexadecimal, and the ids of calls. Each function
-//! promises the text of the definitions; where there is no memory, what the buffer holds isn't said.
+//! Pieces of text and numbers, written at the end of a buffer: decimal, hexadecimal, the ids of calls, and the tokens of user
+//! namespaces. Each function promises the text of the definitions; where there is no memory, what the buffer holds isn't said.
 ghost use Rattle.std.specs.Prelude.{◌≡◌, ◌<◌, ◌++◌, decimal};
 ghost use Rattle.cm_base.specs.Outcome.{OrNoMemory};
-ghost use Rattle.model_text.specs.Print.{hex_digit, hex_set, hex_bits, id_text};
+ghost use Rattle.model_text.specs.Hex.{hex_digit, hex_set, hex_bits};
+ghost use Rattle.model_text.specs.SpaceToken.{space_token};
+ghost use Rattle.model_text.specs.Token.{id_text};
 
-use cm_base::{ALL_CAPS, MINUS_ONE, NoMemory};
+use cm_base::{ALL_CAPS, MINUS_ONE, NoMemory, SpaceId};
+use cm_world::Names;
 use itoa::Buffer;
 
 const DIGITS: [u8; 16] = *b"0123456789abcdef";
@@ -43,6 +46,20 @@ pub fn put_id(text: &mut Vec<u8>, id: u32) -> Result<(), NoMemory>
     }
 }
 
+/// The token of a user namespace: its name, or `#` and its number where it has none.
+#[inline]
+pub fn put_space(text: &mut Vec<u8>, space: SpaceId, names: &Names) -> Result<(), NoMemory>
+    ensures { OrNoMemory result (λ _. text.new.items ≡ text.old.items ++ space_token names.now space.0) }
+{
+    match names.name(space) {
+        Some(name) => put(text, name.as_bytes()),
+        None => {
+            put(text, b"#")?;
+            put_decimal(text, space.0 as u64)
+        }
+    }
+}
+
 /// The set in 16 hexadecimal digits. Most sets are empty or full.
 #[inline]
 #[tactic(auto, using(crate::proofs::HexDigits::hex_set_none, crate::proofs::HexDigits::hex_set_full))]
@@ -58,7 +75,7 @@ pub fn put_hex16(text: &mut Vec<u8>, n: u64) -> Result<(), NoMemory>
 
 /// The flags in two hexadecimal digits.
 #[inline]
-#[tactic(auto, unfolding(model_text::specs::Print::hex_bits))]
+#[tactic(auto, unfolding(model_text::specs::Hex::hex_bits))]
 pub fn put_hex2(text: &mut Vec<u8>, n: u8) -> Result<(), NoMemory>
     ensures { OrNoMemory result (λ _. text.new.items ≡ text.old.items ++ hex_bits n) }
 {

@@ -2,27 +2,27 @@
 ghost use Rattle.std.specs.Prelude.{◌≡◌, option_map};
 ghost use Rattle.cm_base.specs.Names.{errno_of};
 ghost use Rattle.model_text.specs.Line.{result_of_kind};
-ghost use Rattle.model_text.specs.Token.{birth_token, done_token, number_token, result_token};
+ghost use Rattle.model_text.specs.Token.{birth_token, done_token, old_id_token, result_token};
 
 use crate::tokens::read_pid;
 use cm_base::{Errno, Res, read_u32};
 use cm_filter::CallKind;
 
-/// The result of a call of that kind: setfsuid and setfsgid tell the id from before, and have no error; fork tells its
-/// child's pid; exit has no error either.
+/// The result of a call of that kind: setfsuid and setfsgid tell the id from before, and have no error; births tell their
+/// child's pid; exit has no error either. None where the token is none of these.
 pub(crate) fn read_result(kind: CallKind, token: &[u8]) -> Option<Res>
     ensures { result ≡ result_of_kind kind token.now }
 {
     match kind {
         CallKind::SetFsUid | CallKind::SetFsGid => read_old_id(token),
-        CallKind::Fork => read_birth(token),
+        CallKind::Fork | CallKind::CloneUser => read_birth(token),
         CallKind::Exit => read_done(token),
         _ => read_outcome(token),
     }
 }
 
 fn read_old_id(token: &[u8]) -> Option<Res>
-    ensures { result ≡ option_map Res.Id (number_token token.now) }
+    ensures { result ≡ old_id_token token.now }
 {
     match read_u32(token) {
         Ok(id) => Some(Res::Id(id)),

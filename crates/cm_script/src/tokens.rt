@@ -1,16 +1,16 @@
 // The tokens of a line, which blanks part, and what single tokens stand for.
-ghost use Rattle.std.specs.Prelude.{◌≡◌, ◌⊎◌, ◌<◌, ◌≤◌, ℕ, [], ◌∷◌, MatchOption, true, false, length, slice_index, option_map};
+ghost use Rattle.std.specs.Prelude.{◌≡◌, ◌⊎◌, ◌+◌, ◌<◌, ◌≤◌, ℕ, [], ◌∷◌, IfSome, MatchOption, true, false, length, slice_index};
 ghost use Rattle.model_text.specs.Cut.{tokens_of, is_blank, goes_on};
-ghost use Rattle.model_text.specs.CapText.{set_of_text};
-ghost use Rattle.model_text.specs.Line.{next_id, next_read};
-ghost use Rattle.model_text.specs.Token.{number_token, pid_token, id_token, cap_token, is_comment, is_equals};
+ghost use Rattle.model_text.specs.Token.{number_token, pid_token, id_token, cap_token, word_token, is_comment, is_equals};
 
-use cm_base::{Cap, CapWord, MINUS_ONE, Pid, read_u32};
-use cm_world::read_cap_text;
+use cm_base::{Cap, MINUS_ONE, Pid, read_u32};
 
 /// The first token of a text, and what follows it. None exactly where the text has no token.
+#[inline]
 pub(crate) fn next_token(text: &[u8]) -> Option<(&[u8], &[u8])>
-    ensures { MatchOption result (tokens_of text.now ≡ []) (λ p. tokens_of text.now ≡ p.0.now ∷ tokens_of p.1.now) }
+    ensures parts { MatchOption result (tokens_of text.now ≡ []) (λ p. tokens_of text.now ≡ p.0.now ∷ tokens_of p.1.now) }
+    ensures some { IfSome result (λ p. 0 < length p.0.now) }
+    ensures shorter { IfSome result (λ p. length p.0.now + length p.1.now ≤ length text.now) }
 {
     let text = skip_blanks(text);
     if text.is_empty() {
@@ -20,9 +20,11 @@ pub(crate) fn next_token(text: &[u8]) -> Option<(&[u8], &[u8])>
     Some(text.split_at(end))
 }
 
+#[inline]
 fn skip_blanks(text: &[u8]) -> &[u8]
     ensures same { tokens_of result.now ≡ tokens_of text.now }
     ensures begins { (result.now ≡ []) ⊎ (goes_on result.now ≡ true) }
+    ensures shorter { length result.now ≤ length text.now }
 {
     let mut rest = text;
     while let [byte, after @ ..] = rest {
@@ -35,6 +37,7 @@ fn skip_blanks(text: &[u8]) -> &[u8]
 }
 
 // How many bytes stand before the first blank.
+#[inline]
 fn token_len(text: &[u8]) -> usize
     ensures within { result ≤ length text.now }
     ensures token { (k : ℕ) → k < result → is_blank (slice_index text.now k) ≡ false }
@@ -48,12 +51,14 @@ fn token_len(text: &[u8]) -> usize
     text.len()
 }
 
+#[inline]
 fn blank(byte: u8) -> bool
     ensures { result ≡ is_blank byte }
 {
     byte == b' ' || byte == b'\t' || byte == b'\r'
 }
 
+#[inline]
 pub(crate) fn begins_comment(token: &[u8]) -> bool
     ensures { result ≡ is_comment token.now }
 {
@@ -63,6 +68,7 @@ pub(crate) fn begins_comment(token: &[u8]) -> bool
     }
 }
 
+#[inline]
 pub(crate) fn stands_for_equals(token: &[u8]) -> bool
     ensures { result ≡ is_equals token.now }
 {
@@ -70,6 +76,7 @@ pub(crate) fn stands_for_equals(token: &[u8]) -> bool
 }
 
 /// The pid that a token is.
+#[inline]
 pub fn read_pid(token: &[u8]) -> Option<Pid>
     ensures { result ≡ pid_token token.now }
 {
@@ -80,6 +87,7 @@ pub fn read_pid(token: &[u8]) -> Option<Pid>
 }
 
 /// The id that a token is: a number, or -1, which is 4294967295.
+#[inline]
 pub(crate) fn read_id(token: &[u8]) -> Option<u32>
     ensures { result ≡ id_token token.now }
 {
@@ -90,6 +98,7 @@ pub(crate) fn read_id(token: &[u8]) -> Option<u32>
 }
 
 /// The number that a token is: decimal digits, of at most 4294967295.
+#[inline]
 pub(crate) fn read_number(token: &[u8]) -> Option<u32>
     ensures { result ≡ number_token token.now }
 {
@@ -106,38 +115,15 @@ pub(crate) fn read_cap(token: &[u8]) -> Option<u32>
     }
 }
 
-/// The number that a text begins with, and what follows it.
-pub(crate) fn next_number(text: &[u8]) -> Option<(u32, &[u8])>
-    ensures { option_map (λ p. (p.0, tokens_of p.1.now)) result ≡ next_read number_token (tokens_of text.now) }
+/// The word of a setgroups file that a token is: true for `deny`, false for `allow`.
+pub(crate) fn read_word(token: &[u8]) -> Option<bool>
+    ensures { result ≡ word_token token.now }
 {
-    let (token, rest) = next_token(text)?;
-    let number = read_number(token)?;
-    Some((number, rest))
-}
-
-/// The capability that a text begins with, and what follows it.
-pub(crate) fn next_cap(text: &[u8]) -> Option<(u32, &[u8])>
-    ensures { option_map (λ p. (p.0, tokens_of p.1.now)) result ≡ next_read cap_token (tokens_of text.now) }
-{
-    let (token, rest) = next_token(text)?;
-    let cap = read_cap(token)?;
-    Some((cap, rest))
-}
-
-/// The set of capabilities that a text begins with, and what follows it.
-pub(crate) fn next_set(text: &[u8]) -> Option<(CapWord, &[u8])>
-    ensures { option_map (λ p. (p.0, tokens_of p.1.now)) result ≡ next_read set_of_text (tokens_of text.now) }
-{
-    let (token, rest) = next_token(text)?;
-    let set = read_cap_text(token)?;
-    Some((set, rest))
-}
-
-/// The id that a text begins with, and what follows it. None exactly where its first token is no id.
-pub(crate) fn next_id(text: &[u8]) -> Option<(u32, &[u8])>
-    ensures { option_map (λ p. (p.0, tokens_of p.1.now)) result ≡ next_id (tokens_of text.now) }
-{
-    let (token, rest) = next_token(text)?;
-    let id = read_id(token)?;
-    Some((id, rest))
+    if token == b"allow".as_slice() {
+        return Some(false);
+    }
+    if token == b"deny".as_slice() {
+        return Some(true);
+    }
+    None
 }

@@ -1,48 +1,58 @@
 // An event as a script line, written at the end of a buffer; where there is no memory, what the buffer holds isn't said.
-ghost use Rattle.std.specs.Prelude.{◌≡◌, ◌<◌, ◌++◌, [], SomeIff, codes, decimal};
+ghost use Rattle.std.specs.Prelude.{◌≡◌, ◌<◌, ◌∷◌, ◌++◌, [], SomeIff, decimal, flat_map, map};
 ghost use Rattle.cm_base.specs.Outcome.{OrNoMemory};
 ghost use Rattle.cm_state.specs.Call.{call_of};
-ghost use Rattle.model_text.specs.Print.{arguments_of, arguments_text, call_text, cap_name_or_number, event_text, hex_set, id_text, res_text};
+ghost use Rattle.cm_world.specs.World.{world_of};
+ghost use Rattle.model_text.specs.Arguments.{Id, arguments_of, spaced_texts, triple_of};
+ghost use Rattle.model_text.specs.Hex.{hex_set};
+ghost use Rattle.model_text.specs.Print.{call_text, event_text};
+ghost use Rattle.model_text.specs.SpaceToken.{space_token};
+ghost use Rattle.model_text.specs.Token.{cap_name_or_number, file_text, id_text, res_text, word_text};
 
-use crate::numbers::{put, put_decimal, put_hex16, put_id};
-use cm_base::{CAP_COUNT, Cap, CapWord, NoMemory, Res};
+use crate::files::put_file;
+use crate::numbers::{put, put_decimal, put_hex16, put_id, put_space};
+use cm_base::{CAP_COUNT, Cap, CapWord, FileRef, NoMemory, Res, SpaceId};
+use cm_files::FileTable;
+use cm_idmap::Extent;
 use cm_state::{Call, Event};
+use cm_world::{Names, World};
 use std::alloc::Global;
 
-/// The event as a script line, without LF. Its only error is want of memory.
-pub fn write_line(alloc: Global, event: &Event) -> Result<Vec<u8>, NoMemory>
-    ensures { OrNoMemory result (λ text. text.items ≡ event_text event.now) }
+/// The event as a script line, without LF: a space by its name in the world, a file by its path there. Its only error is want
+/// of memory.
+pub fn write_line(alloc: Global, event: &Event, w: &World) -> Result<Vec<u8>, NoMemory>
+    ensures { OrNoMemory result (λ text. text.items ≡ event_text (world_of w.now) event.now) }
 {
     let mut text = Vec::new(alloc);
-    put_line(&mut text, event)?;
+    put_line(&mut text, event, w)?;
     Ok(text)
 }
 
-/// The event as a script line, without LF, at the end of a text. Its only error is want of memory.
+/// The same at the end of a text. Its only error is want of memory.
 #[tactic(auto, unfolding(model_text::specs::Print::event_text))]
-pub fn put_line(text: &mut Vec<u8>, event: &Event) -> Result<(), NoMemory>
-    ensures { OrNoMemory result (λ _. text.new.items ≡ text.old.items ++ event_text event.now) }
+pub fn put_line(text: &mut Vec<u8>, event: &Event, w: &World) -> Result<(), NoMemory>
+    ensures { OrNoMemory result (λ _. text.new.items ≡ text.old.items ++ event_text (world_of w.now) event.now) }
 {
     put_decimal(text, event.pid.number() as u64)?;
-    put_call(text, &event.call)?;
+    put_call(text, &event.call, w)?;
     put(text, b" = ")?;
     put_res(text, &event.res)
 }
 
 // A call after a space: its name and its arguments.
 #[inline]
-fn put_call(text: &mut Vec<u8>, call: &Call) -> Result<(), NoMemory>
-    ensures { OrNoMemory result (λ _. text.new.items ≡ text.old.items ++ call_text (call_of call.now)) }
+fn put_call(text: &mut Vec<u8>, call: &Call, w: &World) -> Result<(), NoMemory>
+    ensures { OrNoMemory result (λ _. text.new.items ≡ text.old.items ++ call_text (world_of w.now) (call_of call.now)) }
 {
     put(text, b" ")?;
     put(text, call.kind().name().as_bytes())?;
-    put_arguments(text, call)
+    put_arguments(text, call, w)
 }
 
 // The arguments of a call, each after a space.
 #[inline]
-fn put_arguments(text: &mut Vec<u8>, call: &Call) -> Result<(), NoMemory>
-    ensures { OrNoMemory result (λ _. text.new.items ≡ text.old.items ++ arguments_of (call_of call.now)) }
+fn put_arguments(text: &mut Vec<u8>, call: &Call, w: &World) -> Result<(), NoMemory>
+    ensures { OrNoMemory result (λ _. text.new.items ≡ text.old.items ++ spaced_texts (world_of w.now) (arguments_of (call_of call.now))) }
 {
     match call {
         Call::SetUid(id) | Call::SetFsUid(id) | Call::SetGid(id) | Call::SetFsGid(id) => {
@@ -57,7 +67,7 @@ fn put_arguments(text: &mut Vec<u8>, call: &Call) -> Result<(), NoMemory>
             put_argument(text, *effective)?;
             put_argument(text, *saved)
         }
-        Call::SetGroups(ids) => put_all(text, ids.items()),
+        Call::SetGroups(ids) => put_all(text, ids.items(), w),
         Call::CapSet { eff, prm, inh } => {
             put_set(text, *eff)?;
             put_set(text, *prm)?;
@@ -65,12 +75,22 @@ fn put_arguments(text: &mut Vec<u8>, call: &Call) -> Result<(), NoMemory>
         }
         Call::BsetDrop(cap) | Call::AmbRaise(cap) | Call::AmbLower(cap) => put_cap(text, *cap),
         Call::SecureBits(n) | Call::KeepCaps(n) | Call::NoNewPrivs(n) => put_number(text, *n),
-        Call::AmbClear | Call::Fork | Call::Exit => Ok(()),
+        Call::SetNs(space) => put_spaced(text, *space, &w.names),
+        Call::WriteUidMap(space, list) | Call::WriteGidMap(space, list) => {
+            put_spaced(text, *space, &w.names)?;
+            put_extents(text, list.items(), w)
+        }
+        Call::WriteSetgroups { space, deny } => {
+            put_spaced(text, *space, &w.names)?;
+            put_word(text, *deny)
+        }
+        Call::Exec(file) => put_path(text, *file, &w.files),
+        Call::AmbClear | Call::Fork | Call::CloneUser | Call::Unshare | Call::Exit => Ok(()),
     }
 }
 
 fn put_set(text: &mut Vec<u8>, set: CapWord) -> Result<(), NoMemory>
-    ensures { OrNoMemory result (λ _. text.new.items ≡ text.old.items ++ codes " " ++ hex_set set) }
+    ensures { OrNoMemory result (λ _. text.new.items ≡ text.old.items ++ 32 ∷ hex_set set) }
 {
     put(text, b" ")?;
     put_hex16(text, set.bits())
@@ -78,7 +98,7 @@ fn put_set(text: &mut Vec<u8>, set: CapWord) -> Result<(), NoMemory>
 
 // A capability by its name, or by its number where there is none.
 fn put_cap(text: &mut Vec<u8>, cap: u32) -> Result<(), NoMemory>
-    ensures { OrNoMemory result (λ _. text.new.items ≡ text.old.items ++ codes " " ++ cap_name_or_number cap) }
+    ensures { OrNoMemory result (λ _. text.new.items ≡ text.old.items ++ 32 ∷ cap_name_or_number cap) }
 {
     match named_cap(cap) {
         Some(named) => {
@@ -101,14 +121,14 @@ fn named_cap(n: u32) -> Option<Cap>
 }
 
 fn put_number(text: &mut Vec<u8>, n: u32) -> Result<(), NoMemory>
-    ensures { OrNoMemory result (λ _. text.new.items ≡ text.old.items ++ codes " " ++ decimal n) }
+    ensures { OrNoMemory result (λ _. text.new.items ≡ text.old.items ++ 32 ∷ decimal n) }
 {
     put(text, b" ")?;
     put_decimal(text, n as u64)
 }
 
-fn put_all(text: &mut Vec<u8>, ids: &[u32]) -> Result<(), NoMemory>
-    ensures { OrNoMemory result (λ _. text.new.items ≡ text.old.items ++ arguments_text ids.now) }
+fn put_all(text: &mut Vec<u8>, ids: &[u32], w: &World) -> Result<(), NoMemory>
+    ensures { OrNoMemory result (λ _. text.new.items ≡ text.old.items ++ spaced_texts (world_of w.now) (map Id ids.now)) }
 {
     for id in ids {
         put_argument(text, *id)?;
@@ -118,10 +138,53 @@ fn put_all(text: &mut Vec<u8>, ids: &[u32]) -> Result<(), NoMemory>
 
 #[inline]
 fn put_argument(text: &mut Vec<u8>, id: u32) -> Result<(), NoMemory>
-    ensures { OrNoMemory result (λ _. text.new.items ≡ text.old.items ++ codes " " ++ id_text id) }
+    ensures { OrNoMemory result (λ _. text.new.items ≡ text.old.items ++ 32 ∷ id_text id) }
 {
     put(text, b" ")?;
     put_id(text, id)
+}
+
+// The token of a user namespace.
+fn put_spaced(text: &mut Vec<u8>, space: SpaceId, names: &Names) -> Result<(), NoMemory>
+    ensures { OrNoMemory result (λ _. text.new.items ≡ text.old.items ++ 32 ∷ space_token names.now space.0) }
+{
+    put(text, b" ")?;
+    put_space(text, space, names)
+}
+
+fn put_extents(text: &mut Vec<u8>, list: &[Extent], w: &World) -> Result<(), NoMemory>
+    ensures { OrNoMemory result (λ _. text.new.items ≡ text.old.items ++ spaced_texts (world_of w.now) (flat_map triple_of list.now)) }
+{
+    for extent in list {
+        put_triple(text, *extent, w)?;
+    }
+    Ok(())
+}
+
+fn put_triple(text: &mut Vec<u8>, extent: Extent, w: &World) -> Result<(), NoMemory>
+    ensures { OrNoMemory result (λ _. text.new.items ≡ text.old.items ++ spaced_texts (world_of w.now) (triple_of extent)) }
+{
+    put_number(text, extent.inside)?;
+    put_number(text, extent.outside)?;
+    put_number(text, extent.length)
+}
+
+// The word of a setgroups file.
+fn put_word(text: &mut Vec<u8>, deny: bool) -> Result<(), NoMemory>
+    ensures { OrNoMemory result (λ _. text.new.items ≡ text.old.items ++ 32 ∷ word_text deny) }
+{
+    if deny {
+        put(text, b" deny")
+    } else {
+        put(text, b" allow")
+    }
+}
+
+fn put_path(text: &mut Vec<u8>, file: FileRef, files: &FileTable) -> Result<(), NoMemory>
+    ensures { OrNoMemory result (λ _. text.new.items ≡ text.old.items ++ 32 ∷ file_text files.now file) }
+{
+    put(text, b" ")?;
+    put_file(text, file, files)
 }
 
 /// What a call answered, as the last token of a script line.

@@ -1,5 +1,5 @@
 use Rattle.std.proofs.Common.{◌≡◌, List, slice_set, sym, ◌∙◌, ap, subst}
-use Rattle.cm_machine.proofs.Changing.{put_keeps, cred_put, same_there, undone_is}
+use Rattle.cm_machine.proofs.Changing.{put_keeps, cred_put, stands_at, same_there, undone_is}
 use Rattle.cm_machine.proofs.change.undo.Goals as goal
 use Rattle.cm_machine.specs.Asking.{undone, undone_cred}
 use Rattle.model_cred.specs.Credential.{Credential}
@@ -8,9 +8,12 @@ use Rattle.model_cred.specs.Process.{Process, State}
 pub invariant_of-state : goal.invariant_of-state
 invariant_of-state c =
     let items : c.procs.inside.list.items ≡ c.args.state.now.processes = c.procs.view_is ∙ ap (λ (s : State). s.processes) c.state.view_is in
+    let place : c.p.inside.space.0 ≡ c.index_mut-p.result.now.space = ap (λ (p : Process). p.space) c.p.view_is in
     put_keeps c.procs.inside.list.items c.args.at _ c.index_mut-p.result.now _ (rw c.procs.view_is c.state.invariant.0)
     (rw c.procs.view_is c.state.invariant.1) (rw items c.requires) c.index_mut-p.ensures.value
-    (ap (λ (p : Process). record p { cred = c.undo_cred.new.c }) c.p.view_is)
+    (ap (λ (p : Process). p.pid) c.p.view_is)
+    (rw place (stands_at c.procs.inside.list.items c.args.at _ c.index_mut-p.result.now (rw c.procs.view_is c.state.invariant.1) (rw items c.requires)
+    c.index_mut-p.ensures.value))
 
 pub returns : goal.returns
 returns c p there =

@@ -1,7 +1,7 @@
 use Rattle.std.proofs.Common.{◌≡◌, List, slice_set, ◌∙◌, ap, subst}
 use Rattle.cm_base.specs.Outcome.{OrNoMemory}
-use Rattle.cm_machine.proofs.Asking.{asked_is, asked_fresh}
-use Rattle.cm_machine.proofs.Changing.{put_keeps}
+use Rattle.cm_machine.proofs.Asking.{asked_is, asked_can}
+use Rattle.cm_machine.proofs.Changing.{put_keeps, stands_at}
 use Rattle.cm_machine.proofs.ruling.ask.Goals as goal
 use Rattle.cm_machine.specs.Asking.{AsksRules, pid_number}
 use Rattle.cm_state.specs.Call.{call_of}
@@ -12,8 +12,12 @@ use Rattle.model_run.specs.Ruling.{Ruling, ruling}
 pub invariant_of-state : goal.invariant_of-state
 invariant_of-state c =
     let items : c.procs.inside.list.items ≡ c.args.state.now.processes = c.procs.view_is ∙ ap (λ (s : State). s.processes) c.state.view_is in
+    let place : c.ask_caller.new.p.space ≡ c.index_mut-p.result.now.space = ap (λ (p : Process). p.space) c.ask_caller.ensures.rest in
     put_keeps c.procs.inside.list.items c.args.at _ c.index_mut-p.result.now c.ask_caller.new.p (rw c.procs.view_is c.state.invariant.0)
-    (rw c.procs.view_is c.state.invariant.1) (rw items c.requires.here) c.index_mut-p.ensures.value c.ask_caller.ensures.rest
+    (rw c.procs.view_is c.state.invariant.1) (rw items c.requires.here) c.index_mut-p.ensures.value
+    (ap (λ (p : Process). p.pid) c.ask_caller.ensures.rest)
+    (rw place (stands_at c.procs.inside.list.items c.args.at _ c.index_mut-p.result.now (rw c.procs.view_is c.state.invariant.1)
+    (rw items c.requires.here) c.index_mut-p.ensures.value))
 
 pub returns-clause-asked : goal.returns-clause-asked
 returns-clause-asked c =
@@ -29,11 +33,12 @@ returns-clause-asked c =
     (rw c.procs.view_is c.state.invariant.0) (rw items c.requires.here) c.index_mut-p.ensures.value c.ask_caller.ensures.rest
     c.ask_caller.result (c.ask_caller.ensures.res c.procs.inside.list.items) c.ask_caller.ensures.change c.ask_caller.ensures.cred)
 
-pub returns-clause-fresh : goal.returns-clause-fresh
-returns-clause-fresh c =
+pub returns-clause-can : goal.returns-clause-can
+returns-clause-can c =
     let items : c.procs.inside.list.items ≡ c.args.state.now.processes = c.procs.view_is ∙ ap (λ (s : State). s.processes) c.state.view_is in
+    let spaces : c.state.inside.spaces ≡ c.args.state.now.spaces = ap (λ (s : State). s.spaces) c.state.view_is in
     let before : State = record { processes = c.procs.inside.list.items; spaces = c.state.inside.spaces } in
-    asked_fresh (world_of c.args.w.now) before c.args.call.now c.args.child c.args.at c.index_mut-p.result.now c.ask_caller.new.p
+    asked_can (world_of c.args.w.now) before c.args.call.now c.args.child c.args.at c.index_mut-p.result.now c.ask_caller.new.p
     (rw c.procs.view_is c.state.invariant.0) (rw items c.requires.here) c.index_mut-p.ensures.value c.ask_caller.ensures.rest
-    c.ask_caller.result (rw items c.requires.fresh) (c.ask_caller.ensures.res c.procs.inside.list.items)
-    c.ask_caller.ensures.change c.ask_caller.ensures.cred
+    c.ask_caller.result (rw items c.requires.fresh) (rw spaces c.requires.stands) (rw spaces c.requires.room)
+    (c.ask_caller.ensures.res c.procs.inside.list.items) c.ask_caller.ensures.change c.ask_caller.ensures.cred

@@ -1,9 +1,8 @@
 use Rattle.std.proofs.Common.{◌≡◌, sym, ◌∙◌, ap, List, ℕ}
 use Rattle.cm_base.specs.declared.res.Res.{Res}
-use Rattle.cm_machine.proofs.Groups.{moved_cred, same_change, regrouped}
+use Rattle.cm_machine.proofs.Groups.{moved_cred, regrouped}
 use Rattle.cm_machine.proofs.ruling.ask_groups.Goals as goal
-use Rattle.cm_machine.specs.Asking.{change_by}
-use Rattle.model_cred.specs.Call.{SetGroups}
+use Rattle.cm_machine.specs.Asking.{groups_change}
 use Rattle.model_cred.specs.Credential.{Credential}
 
 pub returns-in-Ok-clause-cred : goal.returns-in-Ok-clause-cred
@@ -20,6 +19,4 @@ returns-in-Ok-clause-cred c =
 pub returns-in-Ok-clause-change : goal.returns-in-Ok-clause-change
 returns-in-Ok-clause-change c =
     let old : c.replace-old.result ≡ c.args.c.now.groups = c.replace-old.ensures.value ∙ ap (λ (k : Credential). k.groups) c.c.view_is in
-    c.regrouped.ensures.change c.args.ids.now
-    ∙ same_change c.args.ids.now c.in-Ok.res (regrouped c.set_groups.new.c c.replace-old.result) c.args.c.now old
-    ∙ ap (λ (r : Res). change_by (SetGroups c.args.ids.now) r c.args.c.now) (sym c.regrouped.ensures.res)
+    c.regrouped.ensures.change ∙ ap (groups_change c.in-Ok.res) old ∙ ap (λ (r : Res). groups_change r c.args.c.now.groups) (sym c.regrouped.ensures.res)

@@ -1,5 +1,5 @@
 use Rattle.std.proofs.Common.{◌≡◌, ◌≤◌, length}
-use Rattle.model_text.specs.Print.{hex_set}
+use Rattle.model_text.specs.Hex.{hex_set}
 use Rattle.cm_script.proofs.HexDigits.{digits_upto}
 use Rattle.cm_script.proofs.numbers.hex16.Given as goal
 

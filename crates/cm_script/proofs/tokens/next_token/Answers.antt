@@ -3,8 +3,8 @@ use Rattle.cm_script.proofs.FirstToken.{token_front}
 use Rattle.cm_script.proofs.tokens.next_token.Goals as goal
 use Rattle.model_text.specs.Cut.{goes_on}
 
-pub returns : goal.returns
-returns c =
+pub returns-clause-parts : goal.returns-clause-parts
+returns-clause-parts c =
     let goes : goes_on c.skip_blanks-text.result.now ≡ true = grind (arith, c.skip_blanks-text.ensures.begins, c.is_empty.ensures, c.if-is_empty.false) in
     sym c.skip_blanks-text.ensures.same
     ∙ token_front c.skip_blanks-text.result.now c.token_len-end.result
