@@ -2,6 +2,7 @@
 pub mod FirstLine
 pub mod ReportText
 pub mod Events
+pub mod Standing
 pub mod Waiting
 pub mod Ready
 pub mod Starting

@@ -23,9 +23,8 @@ if_told (Some x) h f = f x h
 pub short_not_usage : (why : Short) → why ≢ short.Usage → (short_report why).status ≢ answers.Usage
 short_not_usage short.Usage not is = not refl
 short_not_usage short.NotBuilt not is = cc
-short_not_usage short.BadWorld not is = cc
-short_not_usage short.WorldLimit not is = cc
-short_not_usage short.LogLimit not is = cc
+short_not_usage (short.BadWorld table row why) not is = cc
+short_not_usage (short.Limit limit) not is = cc
 
 -- ---- the command that asks after a log
 asking_has_form : (query : Option Query) (world log : List ℕ) → asking query world log ≢ NoForm

@@ -5,6 +5,7 @@ use Rattle.std.proofs.lemmas.Result.{IfOk-equal}
 use Rattle.model_report.specs.Replay.{ReportLine, Plain, line_text, text_of, at_line}
 use Rattle.model_report.specs.Report.{run_lines}
 use Rattle.model_cred.specs.Call.{Event}
+use Rattle.model_cred.specs.World.{World}
 use Rattle.model_text.specs.Print.{event_text}
 use Rattle.std.specs.Prelude.{codes}
 
@@ -45,21 +46,21 @@ pub plain : {T E : Type 0} (r : Result T E) (old now new text : List ℕ)
 plain r old now new text wrote same = closed r old now new (Plain text) wrote same
 
 -- the lines of a run back: how many calls, the calls, and the holder
-run_text : (pid : ℕ) (run : List Event) → text_of (run_lines pid run)
-    ≡ text_of (Plain (at_line (codes "no ") (length run)) ∷ []) ++ text_of (map (λ e. Plain (event_text e)) run)
+run_text : (w : World) (pid : ℕ) (run : List Event) → text_of (run_lines w pid run)
+    ≡ text_of (Plain (at_line (codes "no ") (length run)) ∷ []) ++ text_of (map (λ e. Plain (event_text w e)) run)
     ++ text_of (Plain (at_line (codes "holder ") pid) ∷ [])
-run_text pid run =
+run_text w pid run =
     let no : ReportLine = Plain (at_line (codes "no ") (length run)) in
-    let calls : List ReportLine = map (λ e. Plain (event_text e)) run in
+    let calls : List ReportLine = map (λ e. Plain (event_text w e)) run in
     let holder : ReportLine = Plain (at_line (codes "holder ") pid) in
     text_of_append (no ∷ calls) (holder ∷ []) ∙ ap (λ t. t ++ text_of (holder ∷ [])) (text_of_cons no calls)
 
 -- the same, written one after another
-pub run_written : (old one two : List ℕ) (pid : ℕ) (run : List Event) → one ≡ old ++ text_of (Plain (at_line (codes "no ") (length run)) ∷ [])
-    → two ≡ one ++ text_of (map (λ e. Plain (event_text e)) run)
-    → two ++ text_of (Plain (at_line (codes "holder ") pid) ∷ []) ≡ old ++ text_of (run_lines pid run)
-run_written old one two pid run first second =
+pub run_written : (w : World) (old one two : List ℕ) (pid : ℕ) (run : List Event) → one ≡ old ++ text_of (Plain (at_line (codes "no ") (length run)) ∷ [])
+    → two ≡ one ++ text_of (map (λ e. Plain (event_text w e)) run)
+    → two ++ text_of (Plain (at_line (codes "holder ") pid) ∷ []) ≡ old ++ text_of (run_lines w pid run)
+run_written w old one two pid run first second =
     let no : List ℕ = text_of (Plain (at_line (codes "no ") (length run)) ∷ []) in
-    let calls : List ℕ = text_of (map (λ e. Plain (event_text e)) run) in
+    let calls : List ℕ = text_of (map (λ e. Plain (event_text w e)) run) in
     let holder : List ℕ = text_of (Plain (at_line (codes "holder ") pid) ∷ []) in
-    joined old one two no calls holder first second ∙ ap (λ t. old ++ t) (sym (run_text pid run))
+    joined old one two no calls holder first second ∙ ap (λ t. old ++ t) (sym (run_text w pid run))

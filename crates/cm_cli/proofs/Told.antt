@@ -1,7 +1,8 @@
 -- A report that is told, or that stops.
 use Rattle.std.proofs.Common.{◌≡◌, ◌≢◌, ◌+◌, ℕ, List, [], ◌∷◌, ◌++◌, map, append-nil, append_assoc, le_of_eq, Option}
-use Rattle.std.proofs.Common.{None, Some, Err, ◌⊎◌, inl, inr, ◌==◌, ◌&&◌, ◌||◌, not, Bool, true, false, cond, length}
+use Rattle.std.proofs.Common.{None, Some, Ok, Err, ◌⊎◌, inl, inr, ◌==◌, ◌&&◌, ◌||◌, not, Bool, true, false, cond, length}
 use Rattle.std.proofs.Common.{subst, refl, sym, ap, ◌∙◌}
+use Rattle.cm_base.specs.declared.limited.Limited.{Limited}
 use Rattle.cm_base.specs.declared.status.Status.{Status}
 use Rattle.cm_base.specs.declared.status.Status.TheVariants as answers
 use Rattle.cm_cli.proofs.ReportText.{text_of_append}
@@ -19,12 +20,14 @@ use Rattle.model_cred.specs.Process.{Process, State}
 use Rattle.model_cred.specs.Right.{Right, Cap, Uid, Gid}
 use Rattle.model_cred.specs.World.{World}
 use Rattle.model_run.specs.RunBack.{are_setresuids, run_back}
-use Rattle.model_run.specs.Step.{Outcome, Goes, NoProcess, NoSpace, PidInUse, Wrong, Run, outcome}
-use Rattle.model_text.specs.Reading.{Placed, Stop, Fault, Limit, NotBuilt, End, AtEnd, Stops, Reading, events_of, script_reading}
+use Rattle.model_run.specs.Step.{Outcome, Goes, NoProcess, NoSpace, PidInUse, Wrong, outcome}
+use Rattle.model_report.specs.Causes.{RunWithin}
+use Rattle.model_text.specs.Reading.{Placed, Stop, Fault, Limit, End, AtEnd, Stops, Reading, events_of, script_reading}
 use Rattle.model_report.proofs.Statuses as statuses
 use Rattle.model_report.specs.Query.{Query, asked_process, right_token}
-use Rattle.model_report.specs.Replay.{Report, Credentials, text_of, after, not_built, state_after, replayed, by_end, stopped, by_outcome}
-use Rattle.model_report.specs.Report.{answered, replay_of, go_on, verdict, verdict_after, asked_verdict, right_verdict, run_verdict}
+use Rattle.model_report.specs.Replay.{Report, text_of, after, not_built, state_after, replayed, by_end, stopped, by_outcome}
+use Rattle.model_report.specs.Replay.{exceeded, unless_exceeded, step_lines}
+use Rattle.model_report.specs.Report.{answered, replay_of, start_lines, go_on, verdict, verdict_after, asked_verdict, right_verdict, run_verdict}
 
 -- a report that stopped at an error: a front of it is written
 pub stops : {T : Type 0} (r : Report) (why : Outside) (answer : Status) (w w' : Option (List ℕ)) (f f' : ℕ) → answer ≡ stopped_by why
@@ -48,41 +51,51 @@ stops r outside.NoMemory answer w w' f f' is front cause = record {
   };
 }
 
+-- writes that failed none, one after another
+pub wrote_on : {T U V : Type 0} {one two three : ℕ} {t : T} {u : U} {v : V} → WriteFaults one two (Ok t) → WriteFaults two three (Ok u)
+    → WriteFaults one three (Ok v)
+wrote_on first next = record {
+  later = le_of_eq (sym (next.ok ∙ first.ok));
+  ok = next.ok ∙ first.ok;
+  failed = λ is. cc;
+  no_memory = λ is. cc;
+}
+
 -- want of memory where the sink's count stood still
 pub wants_memory : {f f' : ℕ} → f' ≡ f → WriteFaults {T = Unit {0}} f f' (Err outside.NoMemory)
 wants_memory same = record { later = le_of_eq (sym same); ok = tt; failed = λ is. cc; no_memory = λ _. same }
 
 -- the text of the log's report: the start lines, and what is answered
 pub log_text : (query : Option Query) (w : code.World) (log : List ℕ)
-    → text_of (log_report query w log).lines ≡ text_of (map Credentials w.start.processes) ++ text_of
-    (answered query w.more (world_of w) (script_reading log)).lines
-log_text query w log = text_of_append (map Credentials w.start.processes) (answered query w.more (world_of w) (script_reading log)).lines
+    → text_of (log_report query w log).lines ≡ text_of (start_lines (world_of w)) ++ text_of
+    (answered query w.more (world_of w) (script_reading (world_of w) log)).lines
+log_text query w log = text_of_append (start_lines (world_of w)) (answered query w.more (world_of w) (script_reading (world_of w) log)).lines
 
 -- the rest of a report after the replay
-stopped_rest : (query : Option Query) (more : Bool) (st : Status) (s : State) → st ≢ answers.Accepted
-    → answer_to query more st s ≡ record { status = st; lines = [] }
-stopped_rest None more st s other = refl
-stopped_rest (Some q) more answers.Accepted s other = absurd (other refl)
-stopped_rest (Some q) more _ s other = refl
+stopped_rest : (query : Option Query) (more : Bool) (w : World) (st : Status) (s : State) → st ≢ answers.Accepted
+    → answer_to query more w st s ≡ record { status = st; lines = [] }
+stopped_rest None more w st s other = refl
+stopped_rest (Some q) more w answers.Accepted s other = absurd (other refl)
+stopped_rest (Some q) more w _ s other = refl
 
 -- What is answered is the replay, and then what comes after it in the state that an accepted log leads to.
 pub record IsAnswered (query : Option Query) (more : Bool) (w : World) (reading : Reading) (unknown : Bool) (st : Status) (s : State) : Type 0 where
-  pub status : (answered query more w reading).status ≡ (answer_to query unknown st s).status
-  pub text : text_of (answered query more w reading).lines ≡ text_of (replay_of w reading).lines ++ text_of (answer_to query unknown st s).lines
+  pub status : (answered query more w reading).status ≡ (answer_to query unknown w st s).status
+  pub text : text_of (answered query more w reading).lines ≡ text_of (replay_of w reading).lines ++ text_of (answer_to query unknown w st s).lines
 
 -- there is more after the log than the weak audit knows, by what the world says and by the events
 abbrev pub more_after : Bool → Reading → Bool
 more_after more reading = more || not (are_setresuids (events_of reading.events))
 
 accepted_answer : (q : Query) (more : Bool) (w : World) (reading : Reading) (s : State)
-    → (replay_of w reading).status ≡ answers.Accepted → Run w w.start (events_of reading.events) s
+    → (replay_of w reading).status ≡ answers.Accepted → RunWithin w w.start (events_of reading.events) s
     → IsAnswered (Some q) more w reading (more_after more reading) answers.Accepted s
 accepted_answer q more w reading s is run =
     let same : answered (Some q) more w reading ≡ after (replay_of w reading).lines
-    (verdict (more_after more reading) s q) = statuses.of_end q more w reading s is run in
+    (verdict (more_after more reading) w s q) = statuses.of_end q more w reading s is run in
     record {
       status = ap (λ (r : Report). r.status) same;
-      text = ap (λ (r : Report). text_of r.lines) same ∙ text_of_append (replay_of w reading).lines (verdict (more_after more reading) s q).lines;
+      text = ap (λ (r : Report). text_of r.lines) same ∙ text_of_append (replay_of w reading).lines (verdict (more_after more reading) w s q).lines;
     }
 
 stopped_answer : (query : Option Query) (more : Bool) (w : World) (reading : Reading) (unknown : Bool) (st : Status)
@@ -90,7 +103,7 @@ stopped_answer : (query : Option Query) (more : Bool) (w : World) (reading : Rea
     → IsAnswered query more w reading unknown st s
 stopped_answer query more w reading unknown st s is other =
     let same : answered query more w reading ≡ replay_of w reading = statuses.of_stop query more w reading st is other in
-    let rest : answer_to query unknown st s ≡ record { status = st; lines = [] } = stopped_rest query unknown st s other in
+    let rest : answer_to query unknown w st s ≡ record { status = st; lines = [] } = stopped_rest query unknown w st s other in
     record {
       status = ap (λ (r : Report). r.status) same ∙ is ∙ sym (ap (λ (r : Report). r.status) rest);
       text =
@@ -104,7 +117,7 @@ accepted_or_not _ = inr (λ e. cc)
 
 pub is_answered : (query : Option Query) (more : Bool) (w : World) (reading : Reading) (unknown : Bool) (st : Status)
     (s : State) → (replay_of w reading).status ≡ st
-    → (st ≡ answers.Accepted → Run w w.start (events_of reading.events) s)
+    → (st ≡ answers.Accepted → RunWithin w w.start (events_of reading.events) s)
     → (st ≡ answers.Accepted → unknown ≡ more_after more reading) → IsAnswered query more w reading unknown st s
 is_answered None more w reading unknown st s is reached told = record { status = is; text = sym (append-nil (text_of (replay_of w reading).lines)) }
 is_answered (Some q) more w reading unknown st s is reached told =
@@ -118,14 +131,14 @@ is_answered (Some q) more w reading unknown st s is reached told =
 
 -- the text of the log's report: the start lines, the replay, and the answer
 pub log_whole : (query : Option Query) (w : code.World) (log : List ℕ) (unknown : Bool) (st : Status) (s : State)
-    → IsAnswered query w.more (world_of w) (script_reading log) unknown st s
+    → IsAnswered query w.more (world_of w) (script_reading (world_of w) log) unknown st s
     → text_of (log_report query w log).lines
-    ≡ (text_of (map Credentials w.start.processes) ++ text_of
-    (replay_of (world_of w) (script_reading log)).lines) ++ text_of (answer_to query unknown st s).lines
+    ≡ (text_of (start_lines (world_of w)) ++ text_of
+    (replay_of (world_of w) (script_reading (world_of w) log)).lines) ++ text_of (answer_to query unknown (world_of w) st s).lines
 log_whole query w log unknown st s is =
-    log_text query w log ∙ ap (λ (t : List ℕ). text_of (map Credentials w.start.processes) ++ t) is.text
-    ∙ sym (append_assoc (text_of (map Credentials w.start.processes))
-    (text_of (replay_of (world_of w) (script_reading log)).lines) (text_of (answer_to query unknown st s).lines))
+    log_text query w log ∙ ap (λ (t : List ℕ). text_of (start_lines (world_of w)) ++ t) is.text
+    ∙ sym (append_assoc (text_of (start_lines (world_of w)))
+    (text_of (replay_of (world_of w) (script_reading (world_of w) log)).lines) (text_of (answer_to query unknown (world_of w) st s).lines))
 
 goes_longer : (st : Status) (r next : Report) → (more : List ℕ) × (text_of (go_on st r next).lines ≡ text_of r.lines ++ more)
 goes_longer answers.Accepted r next = (text_of next.lines, text_of_append r.lines next.lines)
@@ -140,16 +153,16 @@ answered_longer (Some q) more w reading = goes_longer (replay_of w reading).stat
 -- it begins with the start lines and the replay
 pub log_longer : (query : Option Query) (w : code.World) (log : List ℕ) → (longer : List ℕ)
     × (text_of (log_report query w log).lines
-    ≡ (text_of (map Credentials w.start.processes) ++ text_of
-    (replay_of (world_of w) (script_reading log)).lines) ++ longer)
+    ≡ (text_of (start_lines (world_of w)) ++ text_of
+    (replay_of (world_of w) (script_reading (world_of w) log)).lines) ++ longer)
 log_longer query w log =
     let longer : (rest : List ℕ) ×
-    (text_of (answered query w.more (world_of w) (script_reading log)).lines
-    ≡ text_of (replay_of (world_of w) (script_reading log)).lines ++ rest) = answered_longer query w.more
-    (world_of w) (script_reading log) in (
+    (text_of (answered query w.more (world_of w) (script_reading (world_of w) log)).lines
+    ≡ text_of (replay_of (world_of w) (script_reading (world_of w) log)).lines ++ rest) = answered_longer query w.more
+    (world_of w) (script_reading (world_of w) log) in (
       longer.0,
-      log_text query w log ∙ ap (λ (t : List ℕ). text_of (map Credentials w.start.processes) ++ t) longer.1
-          ∙ sym (append_assoc (text_of (map Credentials w.start.processes)) (text_of (replay_of (world_of w) (script_reading log)).lines) longer.0),
+      log_text query w log ∙ ap (λ (t : List ℕ). text_of (start_lines (world_of w)) ++ t) longer.1
+          ∙ sym (append_assoc (text_of (start_lines (world_of w))) (text_of (replay_of (world_of w) (script_reading (world_of w) log)).lines) longer.0),
     )
 
 -- all of a text is written where nothing of it waits
@@ -187,17 +200,21 @@ pub record HoldsOfLogs (P : Status → Type 0) : Type 0 where
   pub not_built : P answers.NotBuilt
 
 module _ (P : Status → Type 0) (holds : HoldsOfLogs P) where
-  of_outcome : (e : Placed) (rest : State → Report) → ((s : State) → P (rest s).status) → (become : Outcome) → P (by_outcome e rest become).status
-  of_outcome e rest told (Goes s) = told s
-  of_outcome e rest told NoProcess = holds.impossible
-  of_outcome e rest told (Wrong res) = holds.impossible
-  of_outcome e rest told NoSpace = holds.impossible
-  of_outcome e rest told PidInUse = holds.impossible
+  of_limit : (found : Option Limited) (rest : Report) → P rest.status → P (unless_exceeded found rest).status
+  of_limit None rest told = told
+  of_limit (Some l) rest told = holds.limit
+
+  of_outcome : (w : World) (e : Placed) (rest : State → Report) → ((s : State) → P (rest s).status) → (become : Outcome)
+      → P (by_outcome w e rest become).status
+  of_outcome w e rest told (Goes s) = of_limit (exceeded s) (after (step_lines w s e) (rest s)) (told s)
+  of_outcome w e rest told NoProcess = holds.impossible
+  of_outcome w e rest told (Wrong res) = holds.impossible
+  of_outcome w e rest told NoSpace = holds.impossible
+  of_outcome w e rest told PidInUse = holds.impossible
 
   of_stop : (stop : Stop) → P (stopped stop).status
-  of_stop (Fault number) = holds.bad_log
-  of_stop (Limit name most) = holds.limit
-  of_stop NotBuilt = holds.not_built
+  of_stop (Fault number why) = holds.bad_log
+  of_stop (Limit l) = holds.limit
 
   of_ending : (count : ℕ) (ending : End) → P (by_end count ending).status
   of_ending count AtEnd = holds.accepted
@@ -206,25 +223,25 @@ module _ (P : Status → Type 0) (holds : HoldsOfLogs P) where
   of_replay : (w : World) (s : State) (count : ℕ) (events : List Placed) (ending : End) → P (replayed w s count events ending).status
   of_replay w s count [] ending = of_ending count ending
   of_replay w s count (e ∷ events) ending =
-      of_outcome e (λ s'. replayed w s' (count + 1) events ending) (λ s'. of_replay w s' (count + 1) events ending) (outcome w s e.event)
+      of_outcome w e (λ s'. replayed w s' (count + 1) events ending) (λ s'. of_replay w s' (count + 1) events ending) (outcome w s e.event)
 
-  of_run : (pid : ℕ) (run : Option (List Event)) → P (run_verdict pid run).status
-  of_run pid None = holds.accepted
-  of_run pid (Some run) = holds.no
+  of_run : (w : World) (pid : ℕ) (run : Option (List Event)) → P (run_verdict w pid run).status
+  of_run w pid None = holds.accepted
+  of_run w pid (Some run) = holds.no
 
-  of_right : (more : Bool) (s : State) (p : Process) (right : Right) → P (right_verdict more s p right).status
-  of_right more s p (Gid k) = holds.not_built
-  of_right more s p (Cap cap n) = holds.not_built
-  of_right more s p (Uid k) =
-      elim (not more && length s.processes == 1) as (λ (b : Bool). P (cond b (run_verdict p.pid (run_back p.cred p.pid k)) not_built).status) [
-        | true ↦ of_run p.pid (run_back p.cred p.pid k)
+  of_right : (more : Bool) (w : World) (s : State) (p : Process) (right : Right) → P (right_verdict more w s p right).status
+  of_right more w s p (Gid k) = holds.not_built
+  of_right more w s p (Cap cap n) = holds.not_built
+  of_right more w s p (Uid k) =
+      elim (not more && length s.processes == 1) as (λ (b : Bool). P (cond b (run_verdict w p.pid (run_back p.cred p.pid k)) not_built).status) [
+        | true ↦ of_run w p.pid (run_back p.cred p.pid k)
         | false ↦ holds.not_built
       ]
 
-  of_asked : (more : Bool) (s : State) (p : Option Process) (right : Option Right) → P (asked_verdict more s p right).status
-  of_asked more s None right = holds.bad_query
-  of_asked more s (Some p) None = holds.bad_query
-  of_asked more s (Some p) (Some right) = of_right more s p right
+  of_asked : (more : Bool) (w : World) (s : State) (p : Option Process) (right : Option Right) → P (asked_verdict more w s p right).status
+  of_asked more w s None right = holds.bad_query
+  of_asked more w s (Some p) None = holds.bad_query
+  of_asked more w s (Some p) (Some right) = of_right more w s p right
 
   going_on : (st : Status) (r next : Report) → P r.status → P next.status → P (go_on st r next).status
   going_on answers.Accepted r next first second = second
@@ -236,7 +253,7 @@ module _ (P : Status → Type 0) (holds : HoldsOfLogs P) where
       let s : State = state_after w w.start (events_of reading.events) in
       let replay : Report = replay_of w reading in
       going_on replay.status replay (verdict_after more w (events_of reading.events) q) (of_replay w w.start 0 reading.events reading.ending)
-      (of_asked (more_after more reading) s (asked_process s q.pid) (right_token q.right))
+      (of_asked (more_after more reading) w s (asked_process s q.pid) (right_token w.names q.right))
 
 -- each is that of a report
 is_told : (st : Status) → st ≢ answers.ReadFault → st ≢ answers.WriteFault → st ≢ answers.NoMemory → IsTold st
@@ -263,4 +280,4 @@ log_not_usage query w log = of_answered (λ st. st ≢ answers.Usage) (record {
   limit = λ is. cc;
   bad_query = λ is. cc;
   not_built = λ is. cc;
-}) query w.more (world_of w) (script_reading log)
+}) query w.more (world_of w) (script_reading (world_of w) log)

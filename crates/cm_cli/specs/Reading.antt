@@ -2,6 +2,9 @@
 use Rattle.std.specs.Prelude.{◌≡◌, ◌≢◌, ◌⊎◌, ◌≤◌, ◌<◌, ◌+◌, ℕ, bytes_eq, if◌then◌else◌}
 use Rattle.std.specs.Prelude.{length, List, Option, None, Some, Result, Ok, Err, Vec}
 use Rattle.std.specs.declared.alloc.Global.{Global}
+use Rattle.cm_base.specs.Limited.{limit_number}
+use Rattle.cm_base.specs.declared.limited.Limited.{Limited}
+use Rattle.cm_base.specs.declared.limited.Limited.TheVariants as limit
 use Rattle.cm_world.specs.World.{world_of}
 use Rattle.cm_world.specs.declared.world.World as code
 use Rattle.cm_cli.specs.Telling.{short_report, log_report}
@@ -12,38 +15,39 @@ use Rattle.cm_cli.specs.declared.telling.Short.TheVariants as short
 use Rattle.cm_io.specs.Shelf.{Rose}
 use Rattle.cm_io.specs.declared.whole.WholeError.{WholeError}
 use Rattle.cm_io.specs.declared.whole.WholeError.TheVariants as whole
-use Rattle.model_cred.specs.World.{World}
+use Rattle.model_cred.specs.World.{World, Script, Strace}
 use Rattle.model_report.specs.Query.{Query}
 use Rattle.model_report.specs.Replay.{Report}
-use Rattle.model_report.specs.Report.{world_limit, log_limit}
-use Rattle.model_text.specs.WorldText.{WorldText, Reads, Bad, NotBuilt, world_text, text_says_more}
+use Rattle.model_text.specs.WorldText.{WorldText, Reads, Bad, Exceeds, world_text, text_says_more}
 
 -- the bytes of a world, within the limit, read so
 pub record ReadsAs (bytes : List ℕ) (text : WorldText) : Type 0 where
-  pub size : length bytes ≤ world_limit
+  pub size : length bytes ≤ limit_number limit.World
   pub text_is : world_text bytes ≡ text
 
--- nothing in the bytes of a world is refused
+-- nothing in the bytes of a world is refused, and its logs are script logs
 abbrev pub WorldStands : List ℕ → Type 0
-WorldStands bytes = (w : World) × ReadsAs bytes (Reads w)
+WorldStands bytes = (w : World) × ReadsAs bytes (Reads w) × (w.form ≡ Script)
+
+-- the bytes of a world exceed the limit: their number does, or what they declare
+abbrev pub WorldExceeds : List ℕ → Limited → Type 0
+WorldExceeds bytes l = ((l ≡ limit.World) × (limit_number limit.World < length bytes)) ⊎ ReadsAs bytes (Exceeds l)
 
 -- what the bytes of a world come to
 abbrev pub IsWorldRead : Result code.World Unready → List ℕ → Type 0
-IsWorldRead (Ok w) bytes = ReadsAs bytes (Reads (world_of w)) × (w.more ≡ text_says_more bytes)
-IsWorldRead (Err (unready.Refused short.WorldLimit)) bytes = world_limit < length bytes
-IsWorldRead (Err (unready.Refused short.BadWorld)) bytes = ReadsAs bytes Bad
-IsWorldRead (Err (unready.Refused short.NotBuilt)) bytes = ReadsAs bytes NotBuilt
-IsWorldRead (Err (unready.Refused short.LogLimit)) bytes = ⊥
+IsWorldRead (Ok w) bytes = ReadsAs bytes (Reads (world_of w)) × ((world_of w).form ≡ Script) × (w.more ≡ text_says_more bytes)
+IsWorldRead (Err (unready.Refused (short.Limit l))) bytes = WorldExceeds bytes l
+IsWorldRead (Err (unready.Refused (short.BadWorld table row why))) bytes = ReadsAs bytes (Bad table row why)
+IsWorldRead (Err (unready.Refused short.NotBuilt)) bytes = (w : World) × ReadsAs bytes (Reads w) × (w.form ≡ Strace)
 IsWorldRead (Err (unready.Refused short.Usage)) bytes = ⊥
 IsWorldRead (Err unready.ReadFault) bytes = Unit {0}
 IsWorldRead (Err unready.NoMemory) bytes = Unit {0}
 
 -- what the bytes of a log come to
 abbrev pub IsLogRead : Result (Vec ℕ Global) Unready → List ℕ → Type 0
-IsLogRead (Ok text) bytes = (length bytes ≤ log_limit) × (text.items ≡ bytes)
-IsLogRead (Err (unready.Refused short.LogLimit)) bytes = log_limit < length bytes
-IsLogRead (Err (unready.Refused short.WorldLimit)) bytes = ⊥
-IsLogRead (Err (unready.Refused short.BadWorld)) bytes = ⊥
+IsLogRead (Ok text) bytes = (length bytes ≤ limit_number limit.Log) × (text.items ≡ bytes)
+IsLogRead (Err (unready.Refused (short.Limit l))) bytes = (l ≡ limit.Log) × (limit_number limit.Log < length bytes)
+IsLogRead (Err (unready.Refused (short.BadWorld table row why))) bytes = ⊥
 IsLogRead (Err (unready.Refused short.NotBuilt)) bytes = ⊥
 IsLogRead (Err (unready.Refused short.Usage)) bytes = ⊥
 IsLogRead (Err unready.ReadFault) bytes = Unit {0}
@@ -82,7 +86,7 @@ under name most n = if bytes_eq n name then most else 0
 -- one byte of each that has the name
 abbrev pub most_for : Option (List ℕ × List ℕ) → List ℕ → ℕ
 most_for None n = 0
-most_for (Some (world, log)) n = under world (world_limit + 1) n + under log (log_limit + 1) n
+most_for (Some (world, log)) n = under world (limit_number limit.World + 1) n + under log (limit_number limit.Log + 1) n
 
 -- no more than that is taken under any name
 abbrev pub TakesFor : Option (List ℕ × List ℕ) → (taken taken' : List ℕ → ℕ) → Type 0

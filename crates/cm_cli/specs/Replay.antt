@@ -1,27 +1,39 @@
 -- What the events of a log come to, as the code goes over them.
-use Rattle.std.specs.Prelude.{◌≡◌, ℕ, Bool, true, false, List, []}
+use Rattle.std.specs.Prelude.{◌≡◌, ◌≢◌, ℕ, List, []}
+use Rattle.cm_base.specs.declared.status.Status.{Status}
+use Rattle.cm_base.specs.declared.status.Status.TheVariants as status
 use Rattle.cm_cli.specs.declared.replay.Replay.{Replay}
+use Rattle.cm_cli.specs.declared.replay.Turn.{Turn}
+use Rattle.cm_cli.specs.declared.replay.Turn.TheVariants as turn
 use Rattle.cm_machine.specs.declared.error.StepError.{StepError}
 use Rattle.cm_machine.specs.declared.error.StepError.TheVariants as error
 use Rattle.model_cred.specs.Process.{State}
 use Rattle.model_cred.specs.World.{World}
 use Rattle.model_run.specs.Step.{Outcome, Goes, NoProcess, NoSpace, PidInUse, Wrong}
-use Rattle.model_report.specs.Replay.{Report, ReportLine, replayed, step_lines, impossible, reason}
+use Rattle.model_report.specs.Replay.{Report, ReportLine, replayed, by_outcome, IsWithin, reason}
 use Rattle.model_text.specs.Reading.{Placed, Reading}
 
 -- the report of what is left of a log, from where a replay stands
 abbrev pub report_from : World → Replay → Reading → Report
 report_from w replay reading = replayed w replay.machine.state replay.events reading.events reading.ending
 
--- the lines of an event, by what becomes of it
-abbrev pub event_lines : Placed → Outcome → List ReportLine
-event_lines e (Goes s) = step_lines s e
-event_lines e become = (impossible e.line become).lines
+-- what comes after an event, where nothing does
+abbrev pub nothing : State → Report
+nothing s = record { status = status.Accepted; lines = [] }
 
--- the event is a step to the state, or it is none
-abbrev pub IsStep : Bool → Outcome → State → Type 0
-IsStep true become s = become ≡ Goes s
-IsStep false become s = (s' : State) → ¬ (become ≡ Goes s')
+-- the lines of an event, by what becomes of it
+abbrev pub event_lines : World → Placed → Outcome → List ReportLine
+event_lines w e become = (by_outcome w e nothing become).lines
+
+-- The replay ends with the event, with this status, whatever would come after it.
+pub record EndsWith (w : World) (e : Placed) (st : Status) (become : Outcome) : Type 0 where
+  pub other : st ≢ status.Accepted
+  pub report : (rest : State → Report) → by_outcome w e rest become ≡ record { status = st; lines = event_lines w e become }
+
+-- The replay goes on with the event, which leads to the state, within the limits; or it ends with it, with this status.
+abbrev pub IsTurn : World → Placed → Turn → Outcome → State → Type 0
+IsTurn w e turn.Goes become s = (become ≡ Goes s) × IsWithin s
+IsTurn w e (turn.Ends st) become s = EndsWith w e st become
 
 -- the machine's reason why an event is impossible, as text (want of memory is none)
 abbrev pub reason_of : StepError → List ℕ

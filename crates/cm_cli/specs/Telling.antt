@@ -1,5 +1,5 @@
 -- What a command that tells a report owes: its status, what is written, and the count of the sink's faults.
-use Rattle.std.specs.Prelude.{◌≡◌, ◌≢◌, ◌≤◌, ℕ, Bool, codes, List, [], Option, Some}
+use Rattle.std.specs.Prelude.{◌≡◌, ◌≢◌, ◌≤◌, ℕ, Bool, List, [], Option, Some}
 use Rattle.cm_base.specs.declared.status.Status.{Status}
 use Rattle.cm_base.specs.declared.status.Status.TheVariants as answers
 use Rattle.cm_cli.specs.Sent.{IsFront}
@@ -12,9 +12,10 @@ use Rattle.cm_io.specs.Sink.{then_written}
 use Rattle.cm_world.specs.World.{world_of}
 use Rattle.cm_world.specs.declared.world.World.{World}
 use Rattle.model_cred.specs.Process.{State}
+use Rattle.model_cred.specs.World as model
 use Rattle.model_report.specs.Query.{Query}
 use Rattle.model_report.specs.Replay.{Report, text_of, says, limit_hit, not_built}
-use Rattle.model_report.specs.Report.{verdict, usage, world_limit, log_limit}
+use Rattle.model_report.specs.Report.{verdict, usage, bad_world_text}
 use Rattle.model_report.specs.Report as whole
 use Rattle.model_text.specs.Reading.{script_reading}
 
@@ -42,18 +43,17 @@ pub record TellsReport (r : Report) (answer : Status) (written written' : Option
 abbrev pub short_report : Short → Report
 short_report short.Usage = usage
 short_report short.NotBuilt = not_built
-short_report short.BadWorld = says answers.BadWorld (codes "bad world")
-short_report short.WorldLimit = limit_hit (codes "world") world_limit
-short_report short.LogLimit = limit_hit (codes "log") log_limit
+short_report (short.BadWorld table row why) = says answers.BadWorld (bad_world_text table row why)
+short_report (short.Limit limit) = limit_hit limit
 
 -- the report of a log in the world, with what is asked after it
 abbrev pub log_report : Option Query → World → List ℕ → Report
-log_report query w log = whole.log_report query w.more (world_of w) (script_reading log)
+log_report query w log = whole.log_report query w.more (world_of w) (script_reading (world_of w) log)
 
 -- what comes after the replay of a log that ends so, in the state that it leads to: the status, and more lines
-abbrev pub answer_to : Option Query → Bool → Status → State → Report
-answer_to (Some q) more answers.Accepted s = verdict more s q
-answer_to _ more st s = record { status = st; lines = [] }
+abbrev pub answer_to : Option Query → Bool → model.World → Status → State → Report
+answer_to (Some q) more w answers.Accepted s = verdict more w s q
+answer_to _ more w st s = record { status = st; lines = [] }
 
 -- the answer where the sink failed, or memory was wanting
 abbrev pub stopped_by : Outside → Status

@@ -1,6 +1,6 @@
 // Laws of the report that the top call writes.
 ghost use Rattle.model_report.specs.Laws.{EachByItsCause, AcceptedIsRun, ImpossibleIsNoStep, YesIsNever, NoIsRun};
-ghost use Rattle.model_report.specs.Laws.{ReportTellsOfLog, EndCountsEvents, ImpossibleIsNumbered, BadLogIsNumbered, SameReadingSameReport};
+ghost use Rattle.model_report.specs.Laws.{ReportTellsOfLog, EndCountsEvents, ImpossibleIsNumbered, BadLogIsNumbered, SameReadingSameReport, SameLogsSameReport};
 
 /// A status comes exactly by its cause, whatever the words and the files.
 #[tactic(auto, using(model_report::proofs::Statuses::each_by_its_cause))]
@@ -65,4 +65,11 @@ pub fn bad_log_is_numbered()
 #[tactic(auto, using(model_report::proofs::Endings::same_reading_same_report))]
 pub fn same_reading_same_report()
     ensures { SameReadingSameReport }
+{}
+
+/// Over one world's text two logs that read as the same events in the same places, and end alike, have the same report, byte
+/// for byte.
+#[tactic(auto, using(model_report::proofs::Endings::same_logs_same_report))]
+pub fn same_logs_same_report()
+    ensures { SameLogsSameReport }
 {}

@@ -2,10 +2,6 @@
 #![tactic(auto)]
 
 mod answer;
-#[cfg(test)]
-mod audit_tests;
-#[cfg(test)]
-mod call_tests;
 mod commands;
 mod laws;
 mod lines;
@@ -15,10 +11,6 @@ mod reading;
 mod replay;
 mod sending;
 mod telling;
-#[cfg(test)]
-mod tests;
-#[cfg(test)]
-mod tree_tests;
 mod words;
 mod writing;
 
@@ -27,5 +19,5 @@ pub use commands::{run, run_surely};
 pub use laws::{
     accepted_is_run, bad_log_is_numbered, each_by_its_cause, end_counts_events,
     impossible_is_no_step, impossible_is_numbered, no_is_run, report_tells_of_log,
-    same_reading_same_report, yes_is_never,
+    same_logs_same_report, same_reading_same_report, yes_is_never,
 };

@@ -2,12 +2,16 @@
 ghost use Rattle.std.specs.Prelude.{◌≡◌, ◌<◌, ◌+◌, ◌^◌, length};
 ghost use Rattle.cm_base.specs.Outcome.{OrNoMemory};
 ghost use Rattle.cm_cli.specs.Log.{IsNext, IsShorter, left};
-ghost use Rattle.model_text.specs.Reading.{script_reading};
+ghost use Rattle.cm_script.specs.Lines.{IsRead};
+ghost use Rattle.cm_world.specs.World.{world_of};
+ghost use Rattle.model_cred.specs.World as model;
+ghost use Rattle.model_text.specs.Reading.{script_reading, log_line};
 
 use crate::lines::next_line;
-use cm_base::NoMemory;
+use cm_base::{Limited, LineFault, NoMemory};
 use cm_script::{LineError, read_line};
 use cm_state::Event;
+use cm_world::World;
 use std::alloc::Global;
 use std::marker::Model;
 
@@ -26,13 +30,17 @@ impl Model for Placed {
     ghost view = { λ p. record { line = p.line; event = p.event } };
 }
 
-/// How the reading of a log ends: at the log's end, at a fault of the line of that number, or at a call that isn't built.
+/// How the reading of a log ends: at the log's end, at a fault of the line of that number, or at a limit that a line
+/// exceeds.
 #[derive(Clone, Copy, Debug)]
 pub(crate) enum Ending {
     AtEnd,
-    Fault(u64),
-    NotBuilt,
+    Fault(u64, LineFault),
+    Limit(Limited),
 }
+
+/// The most bytes of a line.
+const LINE_LIMIT: usize = 1_048_576;
 
 /// What is left of a script log: its text from a line on, which has that number.
 #[derive(Clone, Copy, Debug)]
@@ -51,7 +59,7 @@ pub(crate) enum Next<'a> {
 impl<'a> ScriptLog<'a> {
     /// The whole of a log's text.
     pub(crate) fn new(text: &'a [u8]) -> ScriptLog<'a>
-        ensures reading { left result ≡ script_reading text.now }
+        ensures reading { (w : model.World) → left w result ≡ script_reading w text.now }
         ensures number { result.number ≡ 1 }
         ensures rest { result.rest.now ≡ text.now }
     {
@@ -62,15 +70,15 @@ impl<'a> ScriptLog<'a> {
     }
 
     /// Reads on to the next event, past lines that tell none. Its only error is want of memory.
-    pub(crate) fn next(self, alloc: Global) -> Result<Next<'a>, NoMemory>
+    pub(crate) fn next(self, alloc: Global, w: &World) -> Result<Next<'a>, NoMemory>
         requires { self.number + length self.rest.now < 2 ^ 64 }
-        ensures next { OrNoMemory result (λ next. IsNext next (left self.entry)) }
+        ensures next { OrNoMemory result (λ next. IsNext (world_of w.now) next (left (world_of w.now) self.entry)) }
         ensures shorter { OrNoMemory result (λ next. IsShorter next self.entry) }
     {
         let mut rest = self.rest;
         let mut number = self.number;
         while let Some((line, after)) = next_line(rest) {
-            match read_line(alloc, line) {
+            match read_log_line(alloc, line, w) {
                 Ok(None) => {
                     rest = after;
                     number += 1;
@@ -86,11 +94,21 @@ impl<'a> ScriptLog<'a> {
                     };
                     return Ok(Next::Event(placed, left));
                 }
-                Err(LineError::Bad) => return Ok(Next::Ends(Ending::Fault(number))),
-                Err(LineError::NotBuilt) => return Ok(Next::Ends(Ending::NotBuilt)),
+                Err(LineError::Bad(why)) => return Ok(Next::Ends(Ending::Fault(number, why))),
+                Err(LineError::Limit(limit)) => return Ok(Next::Ends(Ending::Limit(limit))),
                 Err(LineError::NoMemory) => return Err(NoMemory),
             }
         }
         Ok(Next::Ends(Ending::AtEnd))
     }
+}
+
+// A line of the log, within the limit of its bytes.
+fn read_log_line(alloc: Global, line: &[u8], w: &World) -> Result<Option<Event>, LineError>
+    ensures { IsRead result (log_line (world_of w.now) line.now) }
+{
+    if line.len() > LINE_LIMIT {
+        return Err(LineError::Limit(Limited::Line));
+    }
+    read_line(alloc, line, w)
 }

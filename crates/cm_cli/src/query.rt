@@ -1,10 +1,11 @@
 // What an audit asks: the texts of a pid and of a right (choice).
 ghost use Rattle.std.specs.Prelude.{◌≡◌, ◌<◌, ◌==◌, length, position, option_map, IfSome, MatchOption, None, Some};
 ghost use Rattle.cm_state.specs.Right.{right_of};
-ghost use Rattle.model_report.specs.Query.{rest_after, id_number, space_number, cap_text, right_token};
+ghost use Rattle.model_report.specs.Query.{rest_after, id_number, cap_text, right_token};
 
-use cm_base::{Cap, Kgid, Kuid, SpaceId, read_u32};
+use cm_base::{Cap, Kgid, Kuid, read_u32};
 use cm_state::Right;
+use cm_world::Names;
 
 /// The words of a query.
 #[derive(Clone, Copy, Debug)]
@@ -14,8 +15,8 @@ pub(crate) struct Query<'a> {
 }
 
 /// The right that a text is: `uid:K`, `gid:K` or `cap:NAME@SPACE`.
-pub(crate) fn read_right(text: &[u8]) -> Option<Right>
-    ensures { option_map right_of result ≡ right_token text.now }
+pub(crate) fn read_right(names: &Names, text: &[u8]) -> Option<Right>
+    ensures { option_map right_of result ≡ right_token names.now text.now }
 {
     if let Some(uid) = rest_after(b"uid:", text) {
         let id = read_uid(uid)?;
@@ -26,7 +27,7 @@ pub(crate) fn read_right(text: &[u8]) -> Option<Right>
         return Some(Right::Gid(id));
     }
     let cap = rest_after(b"cap:", text)?;
-    read_cap(cap)
+    read_cap(names, cap)
 }
 
 fn read_uid(text: &[u8]) -> Option<Kuid>
@@ -48,13 +49,13 @@ fn read_gid(text: &[u8]) -> Option<Kgid>
 }
 
 // The name of a capability, `@` and a space.
-fn read_cap(text: &[u8]) -> Option<Right>
-    ensures { option_map right_of result ≡ cap_text text.now }
+fn read_cap(names: &Names, text: &[u8]) -> Option<Right>
+    ensures { option_map right_of result ≡ cap_text names.now text.now }
 {
     let at = place_of_at(text)?;
     let cap = Cap::from_name(&text[..at])?;
-    let space = read_space(&text[at + 1..])?;
-    Some(Right::Cap(cap, SpaceId(space)))
+    let space = names.space(&text[at + 1..])?;
+    Some(Right::Cap(cap, space))
 }
 
 // The place of the first `@`.
@@ -63,17 +64,6 @@ fn place_of_at(text: &[u8]) -> Option<usize>
     ensures within { IfSome result (λ at. at < length text.now) }
 {
     text.iter().position(|byte| *byte == b'@')
-}
-
-// The number of a space; no name is declared so far.
-fn read_space(text: &[u8]) -> Option<u32>
-    ensures { result ≡ space_number text.now }
-{
-    if text == b"init".as_slice() {
-        return Some(0);
-    }
-    let number = rest_after(b"#", text)?;
-    read_u32(number).ok()
 }
 
 // What stands after these bytes, where the text begins with them.

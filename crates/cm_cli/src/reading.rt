@@ -1,21 +1,26 @@
 // Reading the files of a replay: the world, and then the log.
-ghost use Rattle.std.specs.Prelude.{◌≡◌, ◌≢◌, ◌⊎◌, ◌+◌, false, Err, Some, IfSome, IfOk, Option};
+ghost use Rattle.std.specs.Prelude.{◌≡◌, ◌≢◌, ◌≤◌, ◌⊎◌, ◌+◌, false, length, Err, Some, IfErr, IfSome, IfOk, Option};
 ghost use Rattle.cm_cli.specs.Reading.{IsWorldRead, IsLogRead, IsReady, FileFaults, FilesFaults, WorldStands, TakesFor, ReadsFor, unready_by};
 ghost use Rattle.cm_io.specs.Shelf.{bytes_at, Rose, TakesAtMost, ReadsOnly};
-ghost use Rattle.model_report.specs.Report.{files_report, world_limit, log_limit};
+ghost use Rattle.cm_base.specs.Limited.{limit_number};
+ghost use Rattle.cm_world.specs.World.{world_of};
+ghost use Rattle.model_cred.specs.World.{Script, Strace};
+ghost use Rattle.model_report.specs.Replay.{IsWithin};
+ghost use Rattle.model_report.specs.Report.{files_report};
 ghost use Rattle.model_report.specs.Query.{Query};
 ghost use Rattle.model_run.specs.RunBack.{StateFollows};
 
 use crate::telling::Short;
+use cm_base::Limited;
 use cm_io::{Shelf, WholeError, read_whole};
-use cm_world::{World, WorldError, read_world};
+use cm_world::{LogForm, World, WorldError, read_world};
 use std::alloc::Global;
 
 /// The most bytes of a world.
-pub(crate) const WORLD_LIMIT: usize = 1_048_576;
+const WORLD_LIMIT: usize = 1_048_576;
 
 /// The most bytes of a log.
-pub(crate) const LOG_LIMIT: usize = 67_108_864;
+const LOG_LIMIT: usize = 67_108_864;
 
 /// Why there is nothing to replay: a report of one piece tells it, a read failed, or there was no memory.
 #[derive(Clone, Copy, Debug)]
@@ -34,8 +39,9 @@ pub(crate) fn read_files<H: Shelf>(
 ) -> Result<(World, Vec<u8>), Unready>
     ensures ready { IfSome (H.held shelf.old) (λ files. (query : Option Query) →
         IsReady query result (files_report query (bytes_at files world.now) (bytes_at files log.now))) }
-    // Where the world declares no more, the sets of each process follow its user ids.
+    // Where the world declares no more, the sets of each process follow its user ids. It is within the limits.
     ensures follows { IfOk result (λ read. read.0.more ≡ false → StateFollows read.0.start) }
+    ensures within { IfOk result (λ read. IsWithin read.0.start) }
     ensures not_usage { result ≢ Err (Unready.Refused Short.Usage) }
     ensures held { H.held shelf.new ≡ H.held shelf.old }
     ensures faults { FilesFaults (H.faults shelf.old) (H.faults shelf.new) world.now log.now result }
@@ -59,22 +65,48 @@ pub(crate) fn read_files<H: Shelf>(
 fn read_world_file<H: Shelf>(alloc: Global, shelf: &mut H, name: &str) -> Result<World, Unready>
     ensures read { IfSome (H.held shelf.old) (λ files. IsWorldRead result (bytes_at files name.now)) }
     ensures follows { IfOk result (λ w. w.more ≡ false → StateFollows w.start) }
+    ensures within { IfOk result (λ w. IsWithin w.start) }
     ensures not_usage { result ≢ Err (Unready.Refused Short.Usage) }
     ensures held { H.held shelf.new ≡ H.held shelf.old }
     ensures faults { FileFaults (H.faults shelf.old) (H.faults shelf.new) name.now result }
-    ensures takes { TakesAtMost (H.taken shelf.old) (H.taken shelf.new) name.now (world_limit + 1) }
+    ensures takes { TakesAtMost (H.taken shelf.old) (H.taken shelf.new) name.now (limit_number Limited.World + 1) }
     ensures reads { ReadsOnly (H.reads shelf.old) (H.reads shelf.new) name.now }
 {
     let mut text = Vec::new(alloc);
     match read_whole(alloc, shelf, name, WORLD_LIMIT, &mut text) {
         Ok(()) => {}
-        Err(why) => return Err(unread(why, Short::WorldLimit)),
+        Err(why) => return Err(unread(why, Short::Limit(Limited::World))),
     }
-    match read_world(alloc, &text) {
-        Ok(w) => Ok(w),
-        Err(WorldError::Bad) => Err(Unready::Refused(Short::BadWorld)),
-        Err(WorldError::NotBuilt) => Err(Unready::Refused(Short::NotBuilt)),
+    read_world_text(alloc, &text)
+}
+
+// The world of a text within the limit.
+fn read_world_text(alloc: Global, text: &[u8]) -> Result<World, Unready>
+    requires { length text.now ≤ limit_number Limited.World }
+    ensures read { IsWorldRead result text.now }
+    ensures follows { IfOk result (λ w. w.more ≡ false → StateFollows w.start) }
+    ensures within { IfOk result (λ w. IsWithin w.start) }
+    ensures not_usage { result ≢ Err (Unready.Refused Short.Usage) }
+    ensures not_read_fault { result ≢ Err Unready.ReadFault }
+{
+    match read_world(alloc, text) {
+        Ok(w) => with_script_logs(w),
+        Err(WorldError::Bad { table, row, why }) => {
+            Err(Unready::Refused(Short::BadWorld(table, row, why)))
+        }
+        Err(WorldError::Limit(limit)) => Err(Unready::Refused(Short::Limit(limit))),
         Err(WorldError::NoMemory) => Err(Unready::NoMemory),
+    }
+}
+
+// The world, where its logs are script logs.
+fn with_script_logs(w: World) -> Result<World, Unready>
+    ensures script { IfOk result (λ v. (v ≡ w) × ((world_of w).form ≡ Script)) }
+    ensures strace { IfErr result (λ why. (why ≡ Unready.Refused Short.NotBuilt) × ((world_of w).form ≡ Strace)) }
+{
+    match w.form {
+        LogForm::Script => Ok(w),
+        LogForm::Strace => Err(Unready::Refused(Short::NotBuilt)),
     }
 }
 
@@ -83,13 +115,13 @@ fn read_log_file<H: Shelf>(alloc: Global, shelf: &mut H, name: &str) -> Result<V
     ensures not_usage { result ≢ Err (Unready.Refused Short.Usage) }
     ensures held { H.held shelf.new ≡ H.held shelf.old }
     ensures faults { FileFaults (H.faults shelf.old) (H.faults shelf.new) name.now result }
-    ensures takes { TakesAtMost (H.taken shelf.old) (H.taken shelf.new) name.now (log_limit + 1) }
+    ensures takes { TakesAtMost (H.taken shelf.old) (H.taken shelf.new) name.now (limit_number Limited.Log + 1) }
     ensures reads { ReadsOnly (H.reads shelf.old) (H.reads shelf.new) name.now }
 {
     let mut text = Vec::new(alloc);
     match read_whole(alloc, shelf, name, LOG_LIMIT, &mut text) {
         Ok(()) => Ok(text),
-        Err(why) => Err(unread(why, Short::LogLimit)),
+        Err(why) => Err(unread(why, Short::Limit(Limited::Log))),
     }
 }
 

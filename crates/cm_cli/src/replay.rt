@@ -3,22 +3,23 @@
 ghost use Rattle.std.specs.Prelude.{◌≡◌, ◌<◌, ◌+◌, ◌^◌, ◌++◌, ◌&&◌, true, length, IfOk, OnOk, OnErr};
 ghost use Rattle.cm_base.specs.Outcome.{OrNoMemory};
 ghost use Rattle.cm_cli.specs.Log.{left, end_of};
-ghost use Rattle.cm_cli.specs.Replay.{event_lines, IsStep, report_from};
+ghost use Rattle.cm_cli.specs.Replay.{event_lines, IsTurn, report_from};
 ghost use Rattle.cm_cli.specs.Sent.{IsSent, IsFront};
 ghost use Rattle.cm_io.specs.Sink.{WriteFaults};
 ghost use Rattle.cm_world.specs.World.{world_of};
-ghost use Rattle.model_report.specs.Replay.{text_of, by_end};
-ghost use Rattle.model_run.specs.Step.{Run, outcome};
+ghost use Rattle.model_report.specs.Causes.{RunWithin};
+ghost use Rattle.model_report.specs.Replay.{text_of, by_end, exceeded, IsWithin};
+ghost use Rattle.model_run.specs.Step.{outcome};
 ghost use Rattle.model_run.specs.RunBack.{are_setresuids, is_setresuid};
 ghost use Rattle.model_text.specs.Reading.{events_of};
 
 use crate::log::{Ending, Next, Placed, ScriptLog};
 use crate::sending::send_full;
-use crate::writing::{put_bad_log, put_end, put_impossible, put_not_built, put_step};
-use cm_base::{NoMemory, Status};
+use crate::writing::{put_bad_log, put_end, put_impossible, put_limit, put_step};
+use cm_base::{Limited, NoMemory, Status};
 use cm_io::{Outside, Sink};
 use cm_machine::Machine;
-use cm_state::Call;
+use cm_state::{Call, State};
 use cm_world::World;
 use std::alloc::Global;
 
@@ -68,25 +69,26 @@ pub(crate) fn replay_log<K: Sink>(
 ) -> Result<Status, Outside>
     requires lines { log.number + length log.rest.now < 2 ^ 64 }
     requires events { replay.old.events + length log.rest.now < 2 ^ 64 }
-    ensures status { IfOk result (λ status. (report_from (world_of w.now) replay.old (left log.entry)).status ≡ status) }
+    requires within { IsWithin replay.old.machine.state }
+    ensures status { IfOk result (λ status. (report_from (world_of w.now) replay.old (left (world_of w.now) log.entry)).status ≡ status) }
     ensures sent { OnOk result (IsSent (K.written out.old) (K.written out.new) text.new.items
-        (text.old.items ++ text_of (report_from (world_of w.now) replay.old (left log.entry)).lines)) }
+        (text.old.items ++ text_of (report_from (world_of w.now) replay.old (left (world_of w.now) log.entry)).lines)) }
     ensures stopped { OnErr result (IsFront (K.written out.old) (K.written out.new)
-        (text.old.items ++ text_of (report_from (world_of w.now) replay.old (left log.entry)).lines)) }
+        (text.old.items ++ text_of (report_from (world_of w.now) replay.old (left (world_of w.now) log.entry)).lines)) }
     ensures cause { WriteFaults (K.faults out.old) (K.faults out.new) result }
     // Where the log is accepted, the machine is in the state that its events lead to.
     ensures reached { IfOk result (λ status. status ≡ Status.Accepted →
-        Run (world_of w.now) replay.old.machine.state (events_of (left log.entry).events) replay.new.machine.state) }
+        RunWithin (world_of w.now) replay.old.machine.state (events_of (left (world_of w.now) log.entry).events) replay.new.machine.state) }
     ensures setresuids { IfOk result (λ status. status ≡ Status.Accepted →
-        replay.new.setresuids ≡ (replay.old.setresuids && are_setresuids (events_of (left log.entry).events))) }
+        replay.new.setresuids ≡ (replay.old.setresuids && are_setresuids (events_of (left (world_of w.now) log.entry).events))) }
 {
     let mut log = log;
     loop {
-        match log.next(alloc) {
+        match log.next(alloc, w) {
             Ok(Next::Event(event, after)) => {
                 match take_event(alloc, w, replay, &event, text) {
-                    Ok(true) => {}
-                    Ok(false) => return Ok(Status::Impossible),
+                    Ok(Turn::Goes) => let_go(event),
+                    Ok(Turn::Ends(status)) => return Ok(status),
                     Err(NoMemory) => return Err(Outside::NoMemory),
                 }
                 match send_full(text, out) {
@@ -106,32 +108,62 @@ pub(crate) fn replay_log<K: Sink>(
     }
 }
 
-// One event of the log: says whether it is a step, and writes its lines, or that it is impossible.
+// Lets go of an event, whatever its call holds.
+fn let_go(_: Placed) {}
+
+// What an event is to the replay: a step, after which it goes on; or its end, with this status.
+#[derive(Clone, Copy, Debug)]
+enum Turn {
+    Goes,
+    Ends(Status),
+}
+
+// One event of the log: says whether the replay goes on with it, and writes its lines, or why it doesn't.
 fn take_event(
     alloc: Global,
     w: &World,
     replay: &mut Replay,
     event: &Placed,
     text: &mut Vec<u8>,
-) -> Result<bool, NoMemory>
-    requires { replay.old.events + 1 < 2 ^ 64 }
-    ensures step { OrNoMemory result (λ goes. IsStep goes (outcome (world_of w.now) replay.old.machine.state event.now.event) replay.new.machine.state) }
+) -> Result<Turn, NoMemory>
+    requires count { replay.old.events + 1 < 2 ^ 64 }
+    requires within { IsWithin replay.old.machine.state }
+    ensures turn { OrNoMemory result (λ turn. IsTurn (world_of w.now) event.now turn
+        (outcome (world_of w.now) replay.old.machine.state event.now.event) replay.new.machine.state) }
     ensures lines { OrNoMemory result (λ _. text.new.items ≡ text.old.items
-        ++ text_of (event_lines event.now (outcome (world_of w.now) replay.old.machine.state event.now.event))) }
-    ensures events { OrNoMemory result (λ goes. goes ≡ true → replay.new.events ≡ replay.old.events + 1) }
-    ensures setresuids { OrNoMemory result (λ goes. goes ≡ true →
+        ++ text_of (event_lines (world_of w.now) event.now (outcome (world_of w.now) replay.old.machine.state event.now.event))) }
+    ensures events { OrNoMemory result (λ turn. turn ≡ Turn.Goes → replay.new.events ≡ replay.old.events + 1) }
+    ensures setresuids { OrNoMemory result (λ turn. turn ≡ Turn.Goes →
         replay.new.setresuids ≡ (replay.old.setresuids && is_setresuid event.now.event.call)) }
 {
     match replay.machine.step(alloc, w, &event.event) {
         Ok(()) => {
-            put_step(text, &replay.machine.state, event)?;
+            if let Some(limit) = exceeded(&replay.machine.state) {
+                put_limit(text, limit)?;
+                return Ok(Turn::Ends(Status::Limit));
+            }
+            put_step(text, w, &replay.machine.state, event)?;
             replay.count(event);
-            Ok(true)
+            Ok(Turn::Goes)
         }
         Err(why) => {
             put_impossible(text, event.line, &why)?;
-            Ok(false)
+            Ok(Turn::Ends(Status::Impossible))
         }
+    }
+}
+
+// The limit that a state exceeds: that of live processes, else that of user namespaces.
+#[inline]
+fn exceeded(state: &State) -> Option<Limited>
+    ensures { result ≡ exceeded state.now }
+{
+    if state.procs.items().len() > 4096 {
+        Some(Limited::Processes)
+    } else if state.spaces.count() > 256 {
+        Some(Limited::Spaces)
+    } else {
+        None
     }
 }
 
@@ -145,13 +177,13 @@ fn put_ending(text: &mut Vec<u8>, events: u64, ending: Ending) -> Result<Status,
             put_end(text, events)?;
             Ok(Status::Accepted)
         }
-        Ending::Fault(number) => {
-            put_bad_log(text, number)?;
+        Ending::Fault(number, why) => {
+            put_bad_log(text, number, why)?;
             Ok(Status::BadLog)
         }
-        Ending::NotBuilt => {
-            put_not_built(text)?;
-            Ok(Status::NotBuilt)
+        Ending::Limit(limit) => {
+            put_limit(text, limit)?;
+            Ok(Status::Limit)
         }
     }
 }

@@ -1,24 +1,24 @@
 // Telling a report: what is written goes to the sink, and the answer says how it went.
-ghost use Rattle.std.specs.Prelude.{◌≡◌, ◌++◌, ◌||◌, not, false, OnOk, OnErr, List, map};
+ghost use Rattle.std.specs.Prelude.{◌≡◌, ◌++◌, ◌||◌, not, false, [], map, IfOk, OnOk, OnErr};
 ghost use Rattle.cm_base.specs.Outcome.{OrNoMemory};
 ghost use Rattle.cm_cli.specs.Query.{query_if};
 ghost use Rattle.cm_cli.specs.Sent.{IsSent, IsFront};
 ghost use Rattle.cm_cli.specs.Telling.{TellsReport, short_report, log_report, stopped_by};
 ghost use Rattle.cm_io.specs.Sink.{WriteFaults};
+ghost use Rattle.cm_world.specs.World.{world_of};
 ghost use Rattle.model_run.specs.RunBack.{StateFollows};
-ghost use Rattle.model_report.specs.Replay.{text_of, Credentials};
+ghost use Rattle.model_report.specs.Replay.{Credentials, text_of, IsWithin};
+ghost use Rattle.model_report.specs.Report.{start_lines};
 
-use crate::answer::put_answer;
+use crate::answer::{Asked, put_answer};
 use crate::log::ScriptLog;
 use crate::query::Query;
 use crate::replay::{Replay, replay_log};
 use crate::sending::{send, send_full};
-use crate::writing::{
-    put_bad_world, put_log_limit, put_not_built, put_process, put_usage, put_world_limit,
-};
-use cm_base::{NoMemory, Status};
+use crate::writing::{put_bad_world, put_limit, put_not_built, put_process, put_usage};
+use cm_base::{Limited, NoMemory, Status, Table, WorldFault};
 use cm_io::{Outside, Sink};
-use cm_state::State;
+use cm_state::Proc;
 use cm_world::World;
 use std::alloc::Global;
 
@@ -27,9 +27,8 @@ use std::alloc::Global;
 pub(crate) enum Short {
     Usage,
     NotBuilt,
-    BadWorld,
-    WorldLimit,
-    LogLimit,
+    BadWorld(Table, u32, WorldFault),
+    Limit(Limited),
 }
 
 /// Tells a report of one piece.
@@ -53,9 +52,8 @@ fn put_short(text: &mut Vec<u8>, short: Short) -> Result<(), NoMemory>
     match short {
         Short::Usage => put_usage(text),
         Short::NotBuilt => put_not_built(text),
-        Short::BadWorld => put_bad_world(text),
-        Short::WorldLimit => put_world_limit(text),
-        Short::LogLimit => put_log_limit(text),
+        Short::BadWorld(table, row, why) => put_bad_world(text, table, row, why),
+        Short::Limit(limit) => put_limit(text, limit),
     }
 }
 
@@ -65,8 +63,8 @@ fn status_of(short: Short) -> Status
     match short {
         Short::Usage => Status::Usage,
         Short::NotBuilt => Status::NotBuilt,
-        Short::BadWorld => Status::BadWorld,
-        Short::WorldLimit | Short::LogLimit => Status::Limit,
+        Short::BadWorld(_, _, _) => Status::BadWorld,
+        Short::Limit(_) => Status::Limit,
     }
 }
 
@@ -78,32 +76,64 @@ pub(crate) fn tell_log<K: Sink>(
     query: Option<Query<'_>>,
     out: &mut K,
 ) -> Status
-    requires { w.now.more ≡ false → StateFollows w.now.start }
+    requires follows { w.now.more ≡ false → StateFollows w.now.start }
+    requires within { IsWithin w.now.start }
     ensures { TellsReport (log_report (query_if query.entry) w.now log.now) result
         (K.written out.old) (K.written out.new) (K.faults out.old) (K.faults out.new) }
 {
-    let mut replay = match Replay::new(alloc, w) {
-        Ok(replay) => replay,
-        Err(NoMemory) => return Status::NoMemory,
-    };
     let mut text = Vec::new(alloc);
-    match send_start(&w.start, &mut text, out) {
-        Ok(()) => {}
-        Err(why) => return stopped(why),
-    }
-    let log = ScriptLog::new(log);
-    let end = match replay_log(alloc, w, &mut replay, log, &mut text, out) {
-        Ok(end) => end,
-        Err(why) => return stopped(why),
-    };
-    let more = has_more(w.more, replay.setresuids);
-    let status = match put_answer(alloc, &replay.machine.state, query, end, more, &mut text) {
+    let status = match put_log(alloc, w, log, query, &mut text, out) {
         Ok(status) => status,
-        Err(NoMemory) => return Status::NoMemory,
+        Err(why) => return stopped(why),
     };
     match send(&mut text, out) {
         Ok(()) => status,
         Err(why) => stopped(why),
+    }
+}
+
+// Writes that report, and says its status. What is written goes through the buffer `text` to the sink; at `Ok` the rest
+// of it waits in the buffer.
+fn put_log<K: Sink>(
+    alloc: Global,
+    w: &World,
+    log: &[u8],
+    query: Option<Query<'_>>,
+    text: &mut Vec<u8>,
+    out: &mut K,
+) -> Result<Status, Outside>
+    requires follows { w.now.more ≡ false → StateFollows w.now.start }
+    requires within { IsWithin w.now.start }
+    requires empty { text.old.items ≡ [] }
+    ensures status { IfOk result (λ status. (log_report (query_if query.entry) w.now log.now).status ≡ status) }
+    ensures sent { OnOk result (IsSent (K.written out.old) (K.written out.new) text.new.items
+        (text_of (log_report (query_if query.entry) w.now log.now).lines)) }
+    ensures stopped { OnErr result (IsFront (K.written out.old) (K.written out.new)
+        (text_of (log_report (query_if query.entry) w.now log.now).lines)) }
+    ensures cause { WriteFaults (K.faults out.old) (K.faults out.new) result }
+{
+    let mut replay = match Replay::new(alloc, w) {
+        Ok(replay) => replay,
+        Err(NoMemory) => return Err(Outside::NoMemory),
+    };
+    match send_start(w, text, out) {
+        Ok(()) => {}
+        Err(why) => return Err(why),
+    }
+    let log = ScriptLog::new(log);
+    let end = match replay_log(alloc, w, &mut replay, log, text, out) {
+        Ok(end) => end,
+        Err(why) => return Err(why),
+    };
+    let more = has_more(w.more, replay.setresuids);
+    let asked = Asked {
+        world: w,
+        state: &replay.machine.state,
+        more,
+    };
+    match put_answer(alloc, asked, query, end, text) {
+        Ok(status) => Ok(status),
+        Err(NoMemory) => Err(Outside::NoMemory),
     }
 }
 
@@ -116,14 +146,31 @@ fn has_more(more: bool, setresuids: bool) -> bool
 }
 
 // The credential lines at the start.
-fn send_start<K: Sink>(start: &State, text: &mut Vec<u8>, out: &mut K) -> Result<(), Outside>
+fn send_start<K: Sink>(w: &World, text: &mut Vec<u8>, out: &mut K) -> Result<(), Outside>
     ensures sent { OnOk result (IsSent (K.written out.old) (K.written out.new) text.new.items
-        (text.old.items ++ text_of (map Credentials start.now.processes))) }
-    ensures stopped { OnErr result (IsFront (K.written out.old) (K.written out.new) (text.old.items ++ text_of (map Credentials start.now.processes))) }
+        (text.old.items ++ text_of (start_lines (world_of w.now)))) }
+    ensures stopped { OnErr result (IsFront (K.written out.old) (K.written out.new)
+        (text.old.items ++ text_of (start_lines (world_of w.now)))) }
     ensures cause { WriteFaults (K.faults out.old) (K.faults out.new) result }
 {
-    for p in start.procs.items() {
-        match put_process(text, p) {
+    send_lines(w, w.start.procs.items(), text, out)
+}
+
+// The credential lines of these processes.
+fn send_lines<K: Sink>(
+    w: &World,
+    procs: &[Proc],
+    text: &mut Vec<u8>,
+    out: &mut K,
+) -> Result<(), Outside>
+    ensures sent { OnOk result (IsSent (K.written out.old) (K.written out.new) text.new.items
+        (text.old.items ++ text_of (map (Credentials (world_of w.now)) procs.now))) }
+    ensures stopped { OnErr result (IsFront (K.written out.old) (K.written out.new)
+        (text.old.items ++ text_of (map (Credentials (world_of w.now)) procs.now))) }
+    ensures cause { WriteFaults (K.faults out.old) (K.faults out.new) result }
+{
+    for p in procs {
+        match put_process(text, w, p) {
             Ok(()) => {}
             Err(NoMemory) => return Err(Outside::NoMemory),
         }

@@ -7,6 +7,5 @@ mod verdicts;
 pub(crate) use answers::{put_bad_pid, put_bad_right, put_run, put_yes};
 pub(crate) use steps::{put_process, put_step};
 pub(crate) use verdicts::{
-    put_bad_log, put_bad_world, put_end, put_impossible, put_log_limit, put_not_built, put_usage,
-    put_world_limit,
+    put_bad_log, put_bad_world, put_end, put_impossible, put_limit, put_not_built, put_usage,
 };

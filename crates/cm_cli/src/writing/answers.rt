@@ -1,6 +1,7 @@
 // The lines that answer an audit.
 ghost use Rattle.std.specs.Prelude.{◌≡◌, ◌++◌, [], ◌∷◌, codes, map};
 ghost use Rattle.cm_base.specs.Outcome.{OrNoMemory};
+ghost use Rattle.cm_world.specs.World.{world_of};
 ghost use Rattle.model_report.specs.Replay.{text_of, at_line, Plain};
 ghost use Rattle.model_report.specs.Report.{bad_query, run_lines};
 ghost use Rattle.model_text.specs.Print.{event_text};
@@ -9,6 +10,7 @@ use cm_base::{NoMemory, Pid};
 use cm_script::numbers::{put, put_decimal};
 use cm_script::put_line;
 use cm_state::Event;
+use cm_world::World;
 
 /// The process can't come back.
 pub(crate) fn put_yes(text: &mut Vec<u8>) -> Result<(), NoMemory>
@@ -18,11 +20,16 @@ pub(crate) fn put_yes(text: &mut Vec<u8>) -> Result<(), NoMemory>
 }
 
 /// It can, by these calls: how many, each as a script line, and who holds the right at their end.
-pub(crate) fn put_run(text: &mut Vec<u8>, pid: Pid, run: &[Event]) -> Result<(), NoMemory>
-    ensures { OrNoMemory result (λ _. text.new.items ≡ text.old.items ++ text_of (run_lines pid run.now)) }
+pub(crate) fn put_run(
+    text: &mut Vec<u8>,
+    w: &World,
+    pid: Pid,
+    run: &[Event],
+) -> Result<(), NoMemory>
+    ensures { OrNoMemory result (λ _. text.new.items ≡ text.old.items ++ text_of (run_lines (world_of w.now) pid run.now)) }
 {
     put_no(text, run.len() as u64)?;
-    put_calls(text, run)?;
+    put_calls(text, w, run)?;
     put_holder(text, pid)
 }
 
@@ -34,19 +41,19 @@ fn put_no(text: &mut Vec<u8>, count: u64) -> Result<(), NoMemory>
     put(text, b"\n")
 }
 
-fn put_calls(text: &mut Vec<u8>, run: &[Event]) -> Result<(), NoMemory>
-    ensures { OrNoMemory result (λ _. text.new.items ≡ text.old.items ++ text_of (map (λ e. Plain (event_text e)) run.now)) }
+fn put_calls(text: &mut Vec<u8>, w: &World, run: &[Event]) -> Result<(), NoMemory>
+    ensures { OrNoMemory result (λ _. text.new.items ≡ text.old.items ++ text_of (map (λ e. Plain (event_text (world_of w.now) e)) run.now)) }
 {
     for event in run {
-        put_call_line(text, event)?;
+        put_call_line(text, w, event)?;
     }
     Ok(())
 }
 
-fn put_call_line(text: &mut Vec<u8>, event: &Event) -> Result<(), NoMemory>
-    ensures { OrNoMemory result (λ _. text.new.items ≡ text.old.items ++ text_of (Plain (event_text event.now) ∷ [])) }
+fn put_call_line(text: &mut Vec<u8>, w: &World, event: &Event) -> Result<(), NoMemory>
+    ensures { OrNoMemory result (λ _. text.new.items ≡ text.old.items ++ text_of (Plain (event_text (world_of w.now) event.now) ∷ [])) }
 {
-    put_line(text, event)?;
+    put_line(text, event, w)?;
     put(text, b"\n")
 }
 

@@ -2,12 +2,11 @@
 ghost use Rattle.std.specs.Prelude.{◌≡◌, ◌≢◌, ◌++◌, [], ◌∷◌, codes};
 ghost use Rattle.cm_base.specs.Outcome.{OrNoMemory};
 ghost use Rattle.cm_cli.specs.Replay.{reason_of};
-ghost use Rattle.model_report.specs.Replay.{text_of, reason, Plain, ended, impossible_text, bad_log, not_built, limit_hit};
-ghost use Rattle.model_report.specs.Report.{world_limit, log_limit, usage};
+ghost use Rattle.model_report.specs.Replay.{text_of, reason, Plain, ended, impossible_text, bad_log, fault_text, not_built, limit_hit};
+ghost use Rattle.model_report.specs.Report.{bad_world_text, usage};
 ghost use Rattle.model_run.specs.Step.{Wrong};
 
-use crate::reading::{LOG_LIMIT, WORLD_LIMIT};
-use cm_base::{NoMemory, Res};
+use cm_base::{Limited, LineFault, NoMemory, Res, Table, WorldFault};
 use cm_machine::StepError;
 use cm_script::numbers::{put, put_decimal};
 use cm_script::put_res;
@@ -65,13 +64,29 @@ fn put_given(text: &mut Vec<u8>, given: &Res) -> Result<(), NoMemory>
     put_res(text, given)
 }
 
-/// That line of the log has a fault.
-pub(crate) fn put_bad_log(text: &mut Vec<u8>, number: u64) -> Result<(), NoMemory>
-    ensures { OrNoMemory result (λ _. text.new.items ≡ text.old.items ++ text_of (bad_log number).lines) }
+/// That line of the log has this fault.
+pub(crate) fn put_bad_log(text: &mut Vec<u8>, number: u64, why: LineFault) -> Result<(), NoMemory>
+    ensures { OrNoMemory result (λ _. text.new.items ≡ text.old.items ++ text_of (bad_log number why).lines) }
 {
     put(text, b"bad log line ")?;
     put_decimal(text, number)?;
+    put(text, b": ")?;
+    put_line_fault(text, why)?;
     put(text, b"\n")
+}
+
+// The fault of a line; an argument has its number.
+fn put_line_fault(text: &mut Vec<u8>, why: LineFault) -> Result<(), NoMemory>
+    ensures { OrNoMemory result (λ _. text.new.items ≡ text.old.items ++ fault_text why) }
+{
+    put(text, why.word().as_bytes())?;
+    match why {
+        LineFault::Argument(n) => {
+            put(text, b" ")?;
+            put_decimal(text, n as u64)
+        }
+        _ => Ok(()),
+    }
 }
 
 /// What was asked for isn't built.
@@ -81,28 +96,32 @@ pub(crate) fn put_not_built(text: &mut Vec<u8>) -> Result<(), NoMemory>
     put(text, b"not built\n")
 }
 
-/// The text of the world has a fault.
-pub(crate) fn put_bad_world(text: &mut Vec<u8>) -> Result<(), NoMemory>
-    ensures { OrNoMemory result (λ _. text.new.items ≡ text.old.items ++ text_of (Plain (codes "bad world") ∷ [])) }
+/// That row of a table of the world has this fault; the whole text and the filter have the row 0.
+pub(crate) fn put_bad_world(
+    text: &mut Vec<u8>,
+    table: Table,
+    row: u32,
+    why: WorldFault,
+) -> Result<(), NoMemory>
+    ensures { OrNoMemory result (λ _. text.new.items ≡ text.old.items ++ text_of (Plain (bad_world_text table row why) ∷ [])) }
 {
-    put(text, b"bad world\n")
-}
-
-/// The world is past its limit of bytes.
-pub(crate) fn put_world_limit(text: &mut Vec<u8>) -> Result<(), NoMemory>
-    ensures { OrNoMemory result (λ _. text.new.items ≡ text.old.items ++ text_of (limit_hit (codes "world") world_limit).lines) }
-{
-    put(text, b"limit world ")?;
-    put_decimal(text, WORLD_LIMIT as u64)?;
+    put(text, b"bad world ")?;
+    put(text, table.name().as_bytes())?;
+    put(text, b" ")?;
+    put_decimal(text, row as u64)?;
+    put(text, b": ")?;
+    put(text, why.word().as_bytes())?;
     put(text, b"\n")
 }
 
-/// The log is past its limit of bytes.
-pub(crate) fn put_log_limit(text: &mut Vec<u8>) -> Result<(), NoMemory>
-    ensures { OrNoMemory result (λ _. text.new.items ≡ text.old.items ++ text_of (limit_hit (codes "log") log_limit).lines) }
+/// The limit was exceeded.
+pub(crate) fn put_limit(text: &mut Vec<u8>, limit: Limited) -> Result<(), NoMemory>
+    ensures { OrNoMemory result (λ _. text.new.items ≡ text.old.items ++ text_of (limit_hit limit).lines) }
 {
-    put(text, b"limit log ")?;
-    put_decimal(text, LOG_LIMIT as u64)?;
+    put(text, b"limit ")?;
+    put(text, limit.name().as_bytes())?;
+    put(text, b" ")?;
+    put_decimal(text, limit.number())?;
     put(text, b"\n")
 }
 

@@ -1,0 +1,89 @@
+// A case: a command over a world and a log, both in memory, with its status and all that it writes.
+use cm_cli::{Status, run};
+use cm_io::{MemShelf, MemSink, are_distinct};
+use std::alloc::{AllocError, Global};
+use std::process::Abort;
+use std::test::Fail;
+
+pub(crate) struct Case {
+    pub shows: &'static str,
+    pub world: &'static str,
+    pub log: &'static str,
+    /// The pid and the right of an audit; none of a replay.
+    pub asks: &'static [&'static str],
+    pub status: Status,
+    pub report: &'static str,
+}
+
+/// Each case comes out as it says.
+pub(crate) fn check_all(rt: &impl Abort, alloc: Global, cases: &[Case]) -> Result<(), Fail> {
+    for case in cases {
+        let mut words = strings(alloc, &[command(case.asks), "world", "log"])?;
+        for word in case.asks {
+            words.push(String::from_str(alloc, word)?)?;
+        }
+        let mut shelf = shelf(rt, alloc, case.world.as_bytes(), case.log.as_bytes(), &[])?;
+        let (status, text) = answer(alloc, &words, &mut shelf, &[])?;
+        assert_eq!(rt; status, case.status, "{}", case.shows);
+        assert!(rt; text.as_slice() == case.report.as_bytes(), "{}", case.shows);
+    }
+    Ok(())
+}
+
+fn command(asks: &[&str]) -> &'static str {
+    if asks.is_empty() { "replay" } else { "audit" }
+}
+
+pub(crate) fn strings(alloc: Global, words: &[&str]) -> Result<Vec<String>, AllocError> {
+    let mut strings = Vec::new(alloc);
+    for word in words {
+        strings.push(String::from_str(alloc, word)?)?;
+    }
+    Ok(strings)
+}
+
+/// A shelf with a world and a log, of which the reads with these numbers fail.
+pub(crate) fn shelf(
+    rt: &impl Abort,
+    alloc: Global,
+    world: &[u8],
+    log: &[u8],
+    fail: &[u64],
+) -> Result<MemShelf, Fail> {
+    let names = strings(alloc, &["world", "log"])?;
+    let mut texts = Vec::new(alloc);
+    texts.push(world.to_vec(alloc)?)?;
+    texts.push(log.to_vec(alloc)?)?;
+    assert!(rt; are_distinct(&names));
+    assert_eq!(rt; texts.len(), names.len());
+    Ok(MemShelf::new(alloc, names, texts, fail.to_vec(alloc)?)?)
+}
+
+/// What the words answer and write, where the writes with these numbers fail.
+pub(crate) fn answer(
+    alloc: Global,
+    words: &Vec<String>,
+    shelf: &mut MemShelf,
+    fail: &[u64],
+) -> Result<(Status, Vec<u8>), Fail> {
+    let mut out = MemSink::new(alloc, fail.to_vec(alloc)?);
+    let status = run(alloc, words, shelf, &mut out);
+    Ok((status, out.bytes().to_vec(alloc)?))
+}
+
+/// The replay of a log in a world comes out so.
+pub(crate) fn check(
+    rt: &impl Abort,
+    alloc: Global,
+    world: &[u8],
+    log: &[u8],
+    status: Status,
+    report: &[u8],
+) -> Result<(), Fail> {
+    let words = strings(alloc, &["replay", "world", "log"])?;
+    let mut shelf = shelf(rt, alloc, world, log, &[])?;
+    let (got, text) = answer(alloc, &words, &mut shelf, &[])?;
+    assert_eq!(rt; got, status);
+    assert!(rt; text.as_slice() == report);
+    Ok(())
+}

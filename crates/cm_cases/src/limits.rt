@@ -1,0 +1,220 @@
+// The limits: each is hit one past its number, and not at its number. The texts are made here, and their numbers are those of
+// docs/FORMATS.md.
+use crate::case::{answer, check, shelf, strings};
+use cm_cli::Status;
+use std::alloc::{AllocError, Global};
+use std::process::Abort;
+use std::test::Fail;
+
+const SCRIPT: &str = "log = \"script\"\n";
+
+// The text, and so many rows after it, each with its number.
+fn with_rows(
+    alloc: Global,
+    text: &str,
+    count: u32,
+    before: &str,
+    after: &str,
+) -> Result<Vec<u8>, AllocError> {
+    let mut rows = text.as_bytes().to_vec(alloc)?;
+    for number in 1..=count {
+        let row = format!(in alloc; "{before}{number}{after}\n")?;
+        rows.extend_from_slice(row.as_bytes())?;
+    }
+    Ok(rows)
+}
+
+// A world with so many rows has this status, and its report is this line at its end.
+fn check_rows(
+    rt: &impl Abort,
+    alloc: Global,
+    (before, after): (&str, &str),
+    count: u32,
+    report: &str,
+) -> Result<(), Fail> {
+    let world = with_rows(alloc, SCRIPT, count, before, after)?;
+    check(rt, alloc, &world, b"", Status::Limit, report.as_bytes())?;
+    let world = with_rows(alloc, SCRIPT, count.saturating_sub(1), before, after)?;
+    check(rt, alloc, &world, b"", Status::Accepted, b"end 0\n")
+}
+
+#[test]
+fn spaces_have_a_limit(rt: HostRuntime) -> Result<(), Fail> {
+    let row = ("[[space]]\nname = \"s", "\"\nparent = \"init\"\nowner = 0");
+    check_rows(&rt, rt.alloc(), row, 256, "limit spaces 256\n")
+}
+
+#[test]
+fn mounts_have_a_limit(rt: HostRuntime) -> Result<(), Fail> {
+    let row = ("[[mount]]\nname = \"m", "\"");
+    check_rows(&rt, rt.alloc(), row, 64, "limit mounts 64\n")
+}
+
+#[test]
+fn files_have_a_limit(rt: HostRuntime) -> Result<(), Fail> {
+    let row = (
+        "[[file]]\npath = \"/",
+        "\"\nuid = 0\ngid = 0\nmode = \"755\"",
+    );
+    check_rows(&rt, rt.alloc(), row, 4097, "limit files 4096\n")
+}
+
+#[test]
+fn a_count_comes_before_the_faults_of_its_rows(rt: HostRuntime) -> Result<(), Fail> {
+    let alloc = rt.alloc();
+    let world = with_rows(alloc, SCRIPT, 4097, "[[process]]\nx = ", "")?;
+    check(
+        &rt,
+        alloc,
+        &world,
+        b"",
+        Status::Limit,
+        b"limit processes 4096\n",
+    )
+}
+
+// A row of a process with so many groups, and the rest of it.
+fn with_groups(alloc: Global, count: u32, first: &str, after: &str) -> Result<Vec<u8>, AllocError> {
+    let front = format!(in alloc; "{SCRIPT}[[process]]\npid = 1\ngroups = [{first},")?;
+    let mut world = with_rows(alloc, front.as_str(), count.saturating_sub(1), "", ",")?;
+    world.extend_from_slice(b"]\n")?;
+    world.extend_from_slice(after.as_bytes())?;
+    Ok(world)
+}
+
+#[test]
+fn groups_of_a_world_have_a_limit(rt: HostRuntime) -> Result<(), Fail> {
+    let alloc = rt.alloc();
+    // Past the limit a number out of its range, or a name that isn't declared, isn't told; another kind of value is.
+    let limit = b"limit groups 1024\n";
+    let world = with_groups(alloc, 1025, "4294967295", "space = \"a\"\n")?;
+    check(&rt, alloc, &world, b"", Status::Limit, limit)?;
+    let world = with_groups(alloc, 1025, "true", "")?;
+    let report = b"bad world process 1: WrongType\n";
+    check(&rt, alloc, &world, b"", Status::BadWorld, report)?;
+    let world = with_groups(alloc, 1024, "4294967295", "")?;
+    let report = b"bad world process 1: BadNumber\n";
+    check(&rt, alloc, &world, b"", Status::BadWorld, report)
+}
+
+#[test]
+fn files_of_bytes_have_limits(rt: HostRuntime) -> Result<(), Fail> {
+    let alloc = rt.alloc();
+    // A comment fills the world.
+    let mut world = b"log = \"script\"\n#".to_vec(alloc)?;
+    world.resize(1_048_576, b'x')?;
+    check(&rt, alloc, &world, b"", Status::Accepted, b"end 0\n")?;
+    world.push(b'x')?;
+    let report = b"limit world 1048576\n";
+    check(&rt, alloc, &world, b"", Status::Limit, report)?;
+    let log = vec![in alloc; b'\n'; 67_108_865]?;
+    let report = b"limit log 67108864\n";
+    check(&rt, alloc, SCRIPT.as_bytes(), &log, Status::Limit, report)
+}
+
+#[test]
+fn lines_have_a_limit(rt: HostRuntime) -> Result<(), Fail> {
+    let alloc = rt.alloc();
+    // A comment fills the line, and counts as any other one past the limit.
+    let mut log = vec![in alloc; b';'; 1_048_576]?;
+    log.push(b'\n')?;
+    check(
+        &rt,
+        alloc,
+        SCRIPT.as_bytes(),
+        &log,
+        Status::Accepted,
+        b"end 0\n",
+    )?;
+    let log = vec![in alloc; b';'; 1_048_577]?;
+    let report = b"limit line 1048576\n";
+    check(&rt, alloc, SCRIPT.as_bytes(), &log, Status::Limit, report)
+}
+
+// The replay of a log in a world has this status, and its report ends so.
+fn check_end(
+    rt: &impl Abort,
+    alloc: Global,
+    world: &[u8],
+    log: &[u8],
+    status: Status,
+    end: &[u8],
+) -> Result<(), Fail> {
+    let words = strings(alloc, &["replay", "world", "log"])?;
+    let mut shelf = shelf(rt, alloc, world, log, &[])?;
+    let (got, text) = answer(alloc, &words, &mut shelf, &[])?;
+    assert_eq!(rt; got, status);
+    assert!(rt; text.ends_with(end));
+    Ok(())
+}
+
+#[test]
+fn living_processes_have_a_limit(rt: HostRuntime) -> Result<(), Fail> {
+    let alloc = rt.alloc();
+    let world = with_rows(alloc, SCRIPT, 4096, "[[process]]\npid = ", "")?;
+    let end = b"\nlimit processes 4096\n";
+    check_end(&rt, alloc, &world, b"1 fork = 5000\n", Status::Limit, end)?;
+    check_end(
+        &rt,
+        alloc,
+        &world,
+        b"1 clone_user = 5000\n",
+        Status::Limit,
+        end,
+    )?;
+    // An event that is no step isn't past a limit.
+    let end = b"\nimpossible line 1: the rules give 4097\n";
+    check_end(
+        &rt,
+        alloc,
+        &world,
+        b"1 fork = EPERM\n",
+        Status::Impossible,
+        end,
+    )
+}
+
+#[test]
+fn standing_spaces_have_a_limit(rt: HostRuntime) -> Result<(), Fail> {
+    let alloc = rt.alloc();
+    let row = "\"\nparent = \"init\"\nowner = 0";
+    let mut world = with_rows(alloc, SCRIPT, 254, "[[space]]\nname = \"s", row)?;
+    world.extend_from_slice(b"[[process]]\npid = 1\n[[process]]\npid = 2\n")?;
+    let log = b"1 unshare = 0\n2 unshare = 0\n";
+    check_end(
+        &rt,
+        alloc,
+        &world,
+        log,
+        Status::Limit,
+        b"\nlimit spaces 256\n",
+    )
+}
+
+#[test]
+fn groups_of_a_line_have_a_limit(rt: HostRuntime) -> Result<(), Fail> {
+    let alloc = rt.alloc();
+    let world = b"log = \"script\"\n[[process]]\npid = 1\n";
+    let mut log = b"1 setgroups".to_vec(alloc)?;
+    for _ in 0..1024 {
+        log.extend_from_slice(b" 7")?;
+    }
+    let mut within = log.to_vec(alloc)?;
+    within.extend_from_slice(b" = 0\n")?;
+    check_end(&rt, alloc, world, &within, Status::Accepted, b"\nend 1\n")?;
+    log.extend_from_slice(b" 7 = ")?;
+    let mut past = log.to_vec(alloc)?;
+    past.extend_from_slice(b"0\n")?;
+    check_end(
+        &rt,
+        alloc,
+        world,
+        &past,
+        Status::Limit,
+        b"\nlimit groups 1024\n",
+    )?;
+    // The faults of the line come before.
+    log.extend_from_slice(b"00\n")?;
+    let end = b"\nbad log line 1: result\n";
+    check_end(&rt, alloc, world, &log, Status::BadLog, end)
+}

@@ -1,0 +1,83 @@
+// Reads and writes that fail in turn, and a shelf and a sink that never fail.
+use crate::case::{answer, shelf, strings};
+use cm_cli::{Status, run_surely};
+use cm_io::{SureShelf, SureSink, are_distinct};
+use std::alloc::{AllocError, Global};
+use std::test::Fail;
+
+const WORLD: &[u8] = b"log = \"script\"\n[[process]]\npid = 100\n";
+
+// A log whose report leaves in several pieces.
+fn long_log(alloc: Global) -> Result<Vec<u8>, AllocError> {
+    let mut log = Vec::new(alloc);
+    for _ in 0..1000 {
+        log.extend_from_slice(b"100 setresuid 1000 1000 1000 = 0\n")?;
+    }
+    Ok(log)
+}
+
+#[test]
+fn reads_fail_in_turn(rt: HostRuntime) -> Result<(), Fail> {
+    let alloc = rt.alloc();
+    let words = strings(alloc, &["replay", "world", "log"])?;
+    let log = long_log(alloc)?;
+    let mut met = 0;
+    for k in 1..20 {
+        let mut shelf = shelf(&rt, alloc, WORLD, &log, &[k])?;
+        let (got, text) = answer(alloc, &words, &mut shelf, &[])?;
+        if got == Status::Accepted {
+            break;
+        }
+        assert_eq!(rt; got, Status::ReadFault, "read {k}");
+        assert!(rt; text.is_empty(), "read {k}");
+        met = k;
+    }
+    // A read of each file, and one that finds its end.
+    assert_eq!(rt; met, 4);
+    Ok(())
+}
+
+#[test]
+fn writes_fail_in_turn(rt: HostRuntime) -> Result<(), Fail> {
+    let alloc = rt.alloc();
+    let words = strings(alloc, &["replay", "world", "log"])?;
+    let log = long_log(alloc)?;
+    let mut sound = shelf(&rt, alloc, WORLD, &log, &[])?;
+    let (status, whole) = answer(alloc, &words, &mut sound, &[])?;
+    assert_eq!(rt; status, Status::Accepted);
+    assert!(rt; whole.ends_with(b"end 1000\n"));
+    let mut met = 0;
+    let mut before = 0;
+    for k in 1..20 {
+        let mut shelf = shelf(&rt, alloc, WORLD, &log, &[])?;
+        let (got, text) = answer(alloc, &words, &mut shelf, &[k])?;
+        if got == Status::Accepted {
+            break;
+        }
+        assert_eq!(rt; got, Status::WriteFault, "write {k}");
+        assert!(rt; whole.starts_with(&text), "write {k}");
+        assert!(rt; k == 1 || before < text.len(), "write {k}");
+        before = text.len();
+        met = k;
+    }
+    assert!(rt; met > 2);
+    Ok(())
+}
+
+#[test]
+fn a_sure_shelf_is_replayed(rt: HostRuntime) -> Result<(), Fail> {
+    let alloc = rt.alloc();
+    let names = strings(alloc, &["world", "log"])?;
+    let mut texts = Vec::new(alloc);
+    texts.push(WORLD.to_vec(alloc)?)?;
+    texts.push(b"100 exit = 0".to_vec(alloc)?)?;
+    assert!(rt; are_distinct(&names));
+    assert_eq!(rt; texts.len(), names.len());
+    let mut shelf = SureShelf::new(alloc, names, texts)?;
+    let mut out = SureSink::new(alloc);
+    let words = strings(alloc, &["replay", "world", "log"])?;
+    let status = run_surely(alloc, &words, &mut shelf, &mut out);
+    assert_eq!(rt; status, Status::Accepted);
+    assert!(rt; out.bytes().ends_with(b"\n1: 100 exit = 0\nend 1\n"));
+    Ok(())
+}
