@@ -1,23 +1,28 @@
 #!/usr/bin/env python3
-"""Measures credaudit beside plain_replay.rs, an unproved Rust program that writes the same report.
+"""Measures credaudit beside plain_replay.rs, an unproved Rust program that reads the same worlds and logs and writes the
+same report.
 
   bench.py [--runs N] [--only PART] [--kind KIND] [--work FOLDER] [PROGRAM]
 
-PROGRAM is credaudit; left out, the one that was built in this repository, and `none` measures the plain programs
-alone. Needs rustc. Each time is the least of N runs (5), the programs taking turns; output goes to /dev/null. PART is
-one of these, all being measured where it is left out:
+PROGRAM is credaudit; left out, the one that was built in this repository, and `none` measures the plain program alone.
+Needs rustc. Each time is the least of N runs (5), the programs taking turns; output goes to /dev/null. PART is one of
+these, all being measured where it is left out:
 
   ratio    a log of 64 MiB against `tuned` and `replay` of plain_replay.rs, once the reports are the same byte for byte;
            beside the least seconds the most, and the least and the most of the ratios to tuned, turn by turn
   linear   logs of 1, 4, 16 and 64 MiB: seconds for each MiB
   memory   the peak (VmHWM of /proc/PID/status, read 500 times a second) on the log of 64 MiB
-  world    a world of 1 MiB, some 40,000 processes in no order, with an empty log
+  world    the worlds of worlds.py with an empty log, one of 1 MiB for each table, against `tuned`, once the reports are the
+           same byte for byte
 
 KIND is what the logs of ratio, linear and memory have (left out: ratio is measured for each, the others for the first):
 
   setresuid   one process of root, whose effective id goes to another and back
   setuid      three processes; half of the lines are done, half are refused (EPERM, EINVAL)
   mixed       children of root that drop their user ids, are refused a return to root, and exit
+  spaces      births and exits in 200 user namespaces and some 40 more, each with maps; joins, maps and words that ask for
+              power along a chain of 32
+  execve      children that execute files, of 4,096 on 64 mounts
 
 The logs are made in FOLDER (a new one below /tmp where it is left out, removed at the end), 90 MB for a kind.
 """
@@ -29,15 +34,15 @@ import sys
 import tempfile
 import time
 
+from worlds import LOG_WORLDS, WORLDS
+
 HERE = os.path.dirname(os.path.abspath(__file__))
 BUILT = os.path.normpath(os.path.join(HERE, "..", "crates", "credaudit", "out", "credaudit"))
 MIB = 1 << 20
 SIZES = (1, 4, 16, 64)
 PARTS = ("ratio", "linear", "memory", "world")
-# Each kind of log: its events, more than fill 64 MiB, and the processes with their user ids.
-KINDS = {"setresuid": (2700000, {100: "0"}),
-         "setuid": (3400000, {100: "0", 101: "1000,1001,1002,1001", 102: "1000"}),
-         "mixed": (3100000, {100: "0"})}
+# Of each kind of log the number of events, which are more than fill 64 MiB.
+KINDS = {"setresuid": 2700000, "setuid": 3400000, "mixed": 3100000, "spaces": 3300000, "execve": 2100000}
 
 
 def timed(words):
@@ -91,45 +96,68 @@ def digest(words):
     return child.wait(), length, sum_.hexdigest()
 
 
+def sources():
+    folder = os.path.join(HERE, "plain")
+    return [os.path.join(HERE, "plain_replay.rs"), *(os.path.join(folder, name) for name in os.listdir(folder))]
+
+
 def plain_program(work):
-    plain, source = os.path.join(work, "plain_replay"), os.path.join(HERE, "plain_replay.rs")
-    if not os.access(plain, os.X_OK) or os.path.getmtime(plain) < os.path.getmtime(source):
-        subprocess.run(["rustc", "-O", source, "-o", plain], check=True)
+    plain = os.path.join(work, "plain_replay")
+    if not os.access(plain, os.X_OK) or os.path.getmtime(plain) < max(map(os.path.getmtime, sources())):
+        subprocess.run(["rustc", "-O", sources()[0], "-o", plain], check=True)
     return plain
 
 
+def write(name, text):
+    with open(name, "w") as file:
+        file.write(text)
+    return name
+
+
+def commands_for(world, log, plain, program, modes=("tuned",)):
+    every = {mode: [plain, mode, world, log] for mode in modes}
+    if program:
+        every["credaudit"] = [program, "replay", world, log]
+    return every
+
+
 class Logs:
-    """The logs of one kind, by MiB, and the commands that replay them."""
+    """The world and the logs of one kind, these by MiB, and the commands that replay them."""
 
     def __init__(self, kind, plain, program, work):
-        events, processes = KINDS[kind]
-        self.plain, self.program, self.world = plain, program, os.path.join(work, f"{kind}.toml")
-        self.processes = [f"{pid}:{uids}" for pid, uids in processes.items()]
-        with open(self.world, "w") as world:
-            rows = "".join(f"[[process]]\npid = {pid}\nuid = {f'[{u}]' if ',' in u else u}\n" for pid, u in processes.items())
-            world.write('log = "script"\n' + rows)
+        self.plain, self.program = plain, program
+        self.world = write(os.path.join(work, f"{kind}.toml"), LOG_WORLDS[kind]())
         self.files = {size: os.path.join(work, f"{kind}{size}.log") for size in SIZES}
         if not all(map(os.path.exists, self.files.values())):
-            text = subprocess.run([plain, "gen", kind, str(events), "7"], stdout=subprocess.PIPE, check=True).stdout
-            for size, name in self.files.items():
-                with open(name, "wb") as log:
-                    log.write(text[:text.rindex(b"\n", 0, size * MIB) + 1])
+            self.make(kind)
+
+    def make(self, kind):
+        words = [self.plain, "gen", kind, str(KINDS[kind]), "7", self.world]
+        text = subprocess.run(words, stdout=subprocess.PIPE, check=True).stdout
+        if len(text) < SIZES[-1] * MIB:
+            sys.exit(f"bench.py: a log of {len(text)} bytes of {kind} lines")
+        for size, name in self.files.items():
+            with open(name, "wb") as log:
+                log.write(text[:text.rindex(b"\n", 0, size * MIB) + 1])
 
     def commands(self, size, modes=("tuned",)):
-        every = {mode: [self.plain, mode, self.files[size], *self.processes] for mode in modes}
-        if self.program:
-            every["credaudit"] = [self.program, "replay", self.world, self.files[size]]
-        return every
+        return commands_for(self.world, self.files[size], self.plain, self.program, modes)
 
     def length(self):
         return os.path.getsize(self.files[64])
 
 
+def same_reports(what, commands):
+    """The reports' length, once they are the same and their status is 0."""
+    reports = {name: digest(words) for name, words in commands.items()}
+    if len(set(reports.values())) != 1 or reports["tuned"][0] != 0:
+        sys.exit(f"bench.py: the reports of {what} differ (status, length, SHA-256): {reports}")
+    return reports["tuned"][1]
+
+
 def ratio(kind, logs, runs):
-    reports = {name: digest(words) for name, words in logs.commands(64).items()}
-    if len(set(reports.values())) != 1:
-        sys.exit(f"bench.py: the reports of {kind} lines differ (status, length, SHA-256): {reports}")
-    print(f"log of {logs.length()} bytes of {kind} lines, report of {reports['tuned'][1]} bytes"
+    length = same_reports(f"{kind} lines", logs.commands(64))
+    print(f"log of {logs.length()} bytes of {kind} lines, report of {length} bytes"
           + (": the reports are the same" if logs.program else ""))
     every = seconds_of(logs.commands(64, ("tuned", "replay")), runs)
     print(f"{'program':24}{'seconds':>9}{'to':>9}{'MB of log/s':>13}{'of tuned':>10}{'turn by turn':>18}")
@@ -157,35 +185,30 @@ def memory(logs):
     print()
 
 
-def large_world(program, runs, work):
-    if not program:
-        print("world: plain_replay.rs reads no world; nothing is measured without credaudit")
-        return
-    world, log = os.path.join(work, "many.toml"), os.path.join(work, "empty.log")
-    open(log, "w").close()
-    with open(world, "w") as many:
-        left, rows = MIB - many.write('log = "script"\n'), 0
-        while left >= len(row := f"[[process]]\npid={10000 + rows * 40503 % 65536}\n" + ("uid=9\n" if rows % 3 else "")):
-            left, rows = left - many.write(row), rows + 1
-    best = least({"credaudit": [program, "replay", world, log]}, runs)
-    print(f"world of {os.path.getsize(world)} bytes, {rows} processes: {best['credaudit']:.3f} s")
+def large_worlds(plain, program, runs, work):
+    log = write(os.path.join(work, "empty.log"), "")
+    print(f"{'world of 1 MiB':24}{'seconds':>9}{'to':>9}{'of tuned':>10}")
+    for name, make in WORLDS.items():
+        commands = commands_for(write(os.path.join(work, f"{name}-table.toml"), make()), log, plain, program)
+        same_reports(f"the world {name}", commands)
+        every = seconds_of(commands, runs)
+        seconds = every["credaudit" if program else "tuned"]
+        print(f"{name:24}{min(seconds):9.3f}{max(seconds):9.3f}{min(seconds) / min(every['tuned']):10.2f}")
+    print()
 
 
 def measure(program, asked, work):
     parts = [asked.only] if asked.only else PARTS
     plain = plain_program(work)
     kinds = [asked.kind] if asked.kind else list(KINDS)
-    logs = {kind: Logs(kind, plain, program, work) for kind in kinds}
-    first = logs[kinds[0]]
-    if "ratio" in parts:
-        for kind in kinds:
-            ratio(kind, logs[kind], asked.runs)
+    for kind in kinds if "ratio" in parts else ():
+        ratio(kind, Logs(kind, plain, program, work), asked.runs)
     if "linear" in parts:
-        linear(first, asked.runs)
+        linear(Logs(kinds[0], plain, program, work), asked.runs)
     if "memory" in parts:
-        memory(first)
+        memory(Logs(kinds[0], plain, program, work))
     if "world" in parts:
-        large_world(program, asked.runs, work)
+        large_worlds(plain, program, asked.runs, work)
 
 
 def main():

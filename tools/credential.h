@@ -11,6 +11,7 @@
 #include <sys/prctl.h>
 #include <sys/syscall.h>
 #include <sys/utsname.h>
+#include <sys/wait.h>
 #include <unistd.h>
 
 #ifndef __LP64__
@@ -31,6 +32,19 @@ static void must(int done, const char *what)
 {
     if (!done)
         fail(what);
+}
+
+// Until a child of the recorder's ends, which must be well.
+static void wait_for(pid_t child)
+{
+    int status;
+
+    must(child > 0, "fork");
+    must(waitpid(child, &status, 0) == child, "waitpid");
+    if (status) {
+        fprintf(stderr, "%s: a child failed\n", program_invocation_short_name);
+        _exit(1);
+    }
 }
 
 // ---- what is seen -----------------------------------------------------------------------------------------------------
@@ -66,16 +80,15 @@ static void items(const char *line, char *out)
     out[length] = 0;
 }
 
-// What the caller shows of itself in /proc/self/status, and its securebits by prctl.
-static void look(struct seen *seen)
+// What a status file shows of a process, and the securebits that it told. The ids are those that the reader's user
+// namespace has for them.
+static void look_at(const char *name, int sec, struct seen *seen)
 {
     static char text[16384];
-    int file = open("/proc/self/status", O_RDONLY);
+    int file = open(name, O_RDONLY);
     ssize_t length = file < 0 ? -1 : read(file, text, sizeof text - 1);
-    int sec = prctl(PR_GET_SECUREBITS);
 
-    must(length > 0 && length < (ssize_t)sizeof text - 1, "/proc/self/status");
-    must(sec >= 0, "PR_GET_SECUREBITS");
+    must(length > 0 && length < (ssize_t)sizeof text - 1, name);
     close(file);
     text[length] = 0;
     for (int i = 0; i < FIELDS; i++) {
@@ -87,6 +100,19 @@ static void look(struct seen *seen)
             snprintf(seen->field[i], sizeof seen->field[i], "%02x", sec);
         }
     }
+}
+
+static int own_securebits(void)
+{
+    int sec = prctl(PR_GET_SECUREBITS);
+
+    must(sec >= 0, "PR_GET_SECUREBITS");
+    return sec;
+}
+
+static void look(struct seen *seen)
+{
+    look_at("/proc/self/status", own_securebits(), seen);
 }
 
 static int same(const struct seen *one, const struct seen *other)
@@ -168,22 +194,33 @@ static void set_ids(long set_res, long set_fs, const unsigned *ids)
     must(syscall(set_fs, NONE) == ids[3], "the fs id of a state");
 }
 
-// NO_SETUID_FIXUP keeps the sets while the user ids change; then come the wanted securebits. The sets lie within `own`.
-static void go_into(const struct wanted *to)
+// NO_SETUID_FIXUP keeps the sets while the user ids change.
+static void take_ids(const struct wanted *to)
 {
     must(syscall(SYS_setgroups, to->length, to->groups) == 0, "setgroups");
     set_ids(SYS_setresgid, SYS_setfsgid, to->gids);
-    must(set_caps(own, own, to->inh) == 0, "capset");
     must(prctl(PR_SET_SECUREBITS, SECBIT_NO_SETUID_FIXUP) == 0, "PR_SET_SECUREBITS");
     set_ids(SYS_setresuid, SYS_setfsuid, to->uids);
+}
+
+// The sets lie within `have`, which the caller has permitted and effective.
+static void take_sets(const struct wanted *to, uint64_t have)
+{
+    must(set_caps(have, have, to->inh) == 0, "capset");
     for (int cap = 0; cap < 64; cap++) {
         if (to->amb >> cap & 1)
             must(prctl(PR_CAP_AMBIENT, PR_CAP_AMBIENT_RAISE, cap, 0, 0) == 0, "PR_CAP_AMBIENT_RAISE");
-        if ((own & ~to->bnd) >> cap & 1)
+        if ((have & ~to->bnd) >> cap & 1)
             must(prctl(PR_CAPBSET_DROP, cap) == 0, "PR_CAPBSET_DROP");
     }
     must(prctl(PR_SET_SECUREBITS, to->sec) == 0, "PR_SET_SECUREBITS");
     must(set_caps(to->eff, to->prm, to->inh) == 0, "capset");
     if (to->nnp)
         must(prctl(PR_SET_NO_NEW_PRIVS, 1, 0, 0, 0) == 0, "PR_SET_NO_NEW_PRIVS");
+}
+
+static void go_into(const struct wanted *to)
+{
+    take_ids(to);
+    take_sets(to, own);
 }

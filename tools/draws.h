@@ -1,4 +1,4 @@
-// What the recorder of runs draws: the credential that a run begins in, and calls with arguments for a process whose
+// What the recorders of runs draw: the credential that a run begins in, and calls with arguments for a process whose
 // credential is given. A run's draws follow from `drawn` at its start, whatever compiler builds it: none depends on the
 // order in which an expression is evaluated.
 #define LAST CAP_CHECKPOINT_RESTORE     // the last capability of capabilities(7)
@@ -6,37 +6,47 @@
 
 enum call {
     SETUID, SETREUID, SETRESUID, SETFSUID, SETGID, SETREGID, SETRESGID, SETFSGID, SETGROUPS, CAPSET, BSET_DROP, AMB_RAISE,
-    AMB_LOWER, AMB_CLEAR, SECUREBITS, KEEPCAPS, NO_NEW_PRIVS, FORK, EXIT,
+    AMB_LOWER, AMB_CLEAR, SECUREBITS, KEEPCAPS, NO_NEW_PRIVS, FORK, EXIT, CLONE_USER, UNSHARE, SETNS, WRITE_UID_MAP,
+    WRITE_GID_MAP, WRITE_SETGROUPS, CALLS,
 };
 
 static const struct about {
     const char *name;
-    int often;      // in how many of 100 draws or so; fork as often as `births` says
     int length;     // how many arguments; of setgroups it is drawn
     long number;    // of the calls that take ids alone
     uint64_t needs; // the capability without which all is refused
-} about[] = {
-    [SETUID] = { "setuid", 5, 1, SYS_setuid, 0 },
-    [SETREUID] = { "setreuid", 7, 2, SYS_setreuid, 0 },
-    [SETRESUID] = { "setresuid", 9, 3, SYS_setresuid, 0 },
-    [SETFSUID] = { "setfsuid", 6, 1, SYS_setfsuid, 0 },
-    [SETGID] = { "setgid", 3, 1, SYS_setgid, 0 },
-    [SETREGID] = { "setregid", 4, 2, SYS_setregid, 0 },
-    [SETRESGID] = { "setresgid", 5, 3, SYS_setresgid, 0 },
-    [SETFSGID] = { "setfsgid", 3, 1, SYS_setfsgid, 0 },
-    [SETGROUPS] = { "setgroups", 6, 0, 0, CAP(SETGID) },
-    [CAPSET] = { "capset", 13, 3, 0, 0 },
-    [BSET_DROP] = { "bset_drop", 6, 1, 0, CAP(SETPCAP) },
-    [AMB_RAISE] = { "amb_raise", 7, 1, 0, 0 },
-    [AMB_LOWER] = { "amb_lower", 3, 1, 0, 0 },
-    [AMB_CLEAR] = { "amb_clear", 1, 0, 0, 0 },
-    [SECUREBITS] = { "securebits", 12, 1, 0, CAP(SETPCAP) },
-    [KEEPCAPS] = { "keepcaps", 6, 1, 0, 0 },
-    [NO_NEW_PRIVS] = { "no_new_privs", 2, 1, 0, 0 },
-    [FORK] = { "fork", 0, 0, 0, 0 },
-    [EXIT] = { "exit", 4, 0, 0, 0 },
+} about[CALLS] = {
+    [SETUID] = { "setuid", 1, SYS_setuid, 0 },
+    [SETREUID] = { "setreuid", 2, SYS_setreuid, 0 },
+    [SETRESUID] = { "setresuid", 3, SYS_setresuid, 0 },
+    [SETFSUID] = { "setfsuid", 1, SYS_setfsuid, 0 },
+    [SETGID] = { "setgid", 1, SYS_setgid, 0 },
+    [SETREGID] = { "setregid", 2, SYS_setregid, 0 },
+    [SETRESGID] = { "setresgid", 3, SYS_setresgid, 0 },
+    [SETFSGID] = { "setfsgid", 1, SYS_setfsgid, 0 },
+    [SETGROUPS] = { "setgroups", 0, 0, CAP(SETGID) },
+    [CAPSET] = { "capset", 3, 0, 0 },
+    [BSET_DROP] = { "bset_drop", 1, 0, CAP(SETPCAP) },
+    [AMB_RAISE] = { "amb_raise", 1, 0, 0 },
+    [AMB_LOWER] = { "amb_lower", 1, 0, 0 },
+    [AMB_CLEAR] = { "amb_clear", 0, 0, 0 },
+    [SECUREBITS] = { "securebits", 1, 0, CAP(SETPCAP) },
+    [KEEPCAPS] = { "keepcaps", 1, 0, 0 },
+    [NO_NEW_PRIVS] = { "no_new_privs", 1, 0, 0 },
+    [FORK] = { "fork", 0, 0, 0 },
+    [EXIT] = { "exit", 0, 0, 0 },
+    [CLONE_USER] = { "clone_user", 0, 0, 0 },
+    [UNSHARE] = { "unshare", 0, 0, 0 },
+    [SETNS] = { "setns", 0, 0, 0 },
+    [WRITE_UID_MAP] = { "write_uid_map", 0, 0, 0 },
+    [WRITE_GID_MAP] = { "write_gid_map", 0, 0, 0 },
+    [WRITE_SETGROUPS] = { "write_setgroups", 0, 0, 0 },
 };
-#define CALLS (int)(sizeof about / sizeof *about)
+
+static int is_birth(enum call call)
+{
+    return call == FORK || call == CLONE_USER;
+}
 
 struct order {
     enum call call;
@@ -119,6 +129,38 @@ static void draw_ids(unsigned *ids)
         ids[i] = mixed == 0 ? ONE_OF(palette) : all;
 }
 
+// Sets within `have`, securebits and no_new_privs.
+static void draw_rest(struct wanted *to, uint64_t have)
+{
+    switch (draw(8)) {
+    case 0: case 1: case 2: to->prm = have; break;
+    case 3: to->prm = half_of(have); break;
+    case 4: to->prm = half_of(have) | powers; break;
+    case 5: to->prm = few_of(have); break;
+    case 6: to->prm = powers; break;
+    default: to->prm = 0; break;
+    }
+    to->eff = draw(4) ? to->prm : half_of(to->prm);
+    switch (draw(4)) {
+    case 0: to->inh = 0; break;
+    case 1: to->inh = have; break;
+    case 2: to->inh = half_of(have); break;
+    default: to->inh = few_of(have); break;
+    }
+    to->amb = draw(4) ? half_of(to->prm & to->inh) : 0;
+    switch (draw(4)) {
+    case 0: to->bnd = half_of(have); break;
+    case 1: to->bnd = have & ~few_of(have); break;
+    default: to->bnd = have; break;
+    }
+    to->sec = 0;
+    for (int i = 0; i < 4; i++) {
+        to->sec |= draw(4) ? 0 : flags[i];
+        to->sec |= draw(8) ? 0 : flags[i] << 1;
+    }
+    to->nnp = draw(6) == 0;
+}
+
 // What a run begins in.
 static void draw_start(struct wanted *to)
 {
@@ -127,33 +169,7 @@ static void draw_start(struct wanted *to)
     to->length = draw(4);
     for (int i = 0; i < to->length; i++)
         to->groups[i] = ONE_OF(palette);
-    switch (draw(8)) {
-    case 0: case 1: case 2: to->prm = own; break;
-    case 3: to->prm = half_of(own); break;
-    case 4: to->prm = half_of(own) | powers; break;
-    case 5: to->prm = few_of(own); break;
-    case 6: to->prm = powers; break;
-    default: to->prm = 0; break;
-    }
-    to->eff = draw(4) ? to->prm : half_of(to->prm);
-    switch (draw(4)) {
-    case 0: to->inh = 0; break;
-    case 1: to->inh = own; break;
-    case 2: to->inh = half_of(own); break;
-    default: to->inh = few_of(own); break;
-    }
-    to->amb = draw(4) ? half_of(to->prm & to->inh) : 0;
-    switch (draw(4)) {
-    case 0: to->bnd = half_of(own); break;
-    case 1: to->bnd = own & ~few_of(own); break;
-    default: to->bnd = own; break;
-    }
-    to->sec = 0;
-    for (int i = 0; i < 4; i++) {
-        to->sec |= draw(4) ? 0 : flags[i];
-        to->sec |= draw(8) ? 0 : flags[i] << 1;
-    }
-    to->nnp = draw(6) == 0;
+    draw_rest(to, own);
 }
 
 // ---- calls ------------------------------------------------------------------------------------------------------------
@@ -249,24 +265,25 @@ static unsigned draw_securebits(unsigned now)
     }
 }
 
-static int births;      // how often a run has any
+static int births;      // how often a run has a fork
 
-static enum call draw_call(void)
+// A call by the weights `often`, which says nothing of forks.
+static enum call draw_call(const unsigned char *often)
 {
     int all = births, call = 0;
 
     for (int i = 0; i < CALLS; i++)
-        all += about[i].often;
+        all += often[i];
     for (int left = (int)draw(all) - births; left >= 0; call++)
-        if ((left -= about[call].often) < 0)
+        if ((left -= often[call]) < 0)
             return call;
     return FORK;
 }
 
-static void draw_order(const struct credential *c, struct order *o)
+// The arguments of a call that changes nothing but its caller's credential.
+static void draw_arguments(const struct credential *c, enum call call, struct order *o)
 {
     static const unsigned words[] = { 0, 0, 0, 0, 1, 1, 1, 1, 2, 16, 4294967295u };
-    enum call call = draw_call();
 
     *o = (struct order){ .call = call, .length = about[call].length };
     if (about[call].number)

@@ -47,8 +47,8 @@ def rows(report):
     return [
         (("audit", "world", "log", "100", "uid:1000"), 1, report + "no 0\nholder 100\n"),
         (("replay", "world", "impossible"), 3, front + "impossible line 2: the rules give EPERM\n"),
-        (("replay", "bad", "log"), 4, "bad world\n"),
-        (("replay", "world", "faulty"), 5, front + "bad log line 2\n"),
+        (("replay", "bad", "log"), 4, "bad world process 1: UnknownKey\n"),
+        (("replay", "world", "faulty"), 5, front + "bad log line 2: shape\n"),
         ((), 6, USAGE),
         (("replay", "world"), 6, USAGE),
         (("replay", "missing", "log"), 7, ""),

@@ -27,283 +27,46 @@
 //
 // A pid is the one in the namespace. RESULT is 0, EPERM or EINVAL, for setfsuid and setfsgid an id, for fork the child's
 // pid. Of ids and groups -1 is 4294967295; other numbers are decimal, the three sets of capset (effective, permitted,
-// inheritable) hexadecimal. A FIELD is as in the first comment of record_set_ids.c. The caller reads all ten before the
-// call, when they must be those that it showed last, and after it; a child reads them when it is born.
+// inheritable) hexadecimal. A FIELD is as in the first comment of record_set_ids.c. The recorder reads all ten of the
+// caller before the call, when they must be those that it showed last, and after it, and of a child when it is born.
 #define _GNU_SOURCE
 #include "credential.h"
 #include "draws.h"
-#include <getopt.h>
-#include <linux/futex.h>
-#include <linux/sched.h>
-#include <signal.h>
-#include <stdatomic.h>
-#include <sys/mman.h>
-#include <sys/wait.h>
-#include <time.h>
+#include "tree.h"
+#include "words.h"
 
-#define PLACES 16           // processes of a tree that live at once
-#define PATIENCE 60         // seconds that a process may take for its turn
 #define EXEC_BITS 0xf00u    // the SECBIT_EXEC_ bits of recent kernels, with their locks
 #define MOST_EVENTS 62
 
-// ---- the processes of a tree ------------------------------------------------------------------------------------------
-
-// Who may go on: a process by its place, or one of these, PARENT being who waits for the child it gave birth to.
-enum { RECORDER = PLACES, KEEPER, PARENT, GOERS };
-
-// Shared by the recorder and all processes. One goes on at a time, and only it writes here.
-static struct page {
-    _Atomic int go[GOERS];
-    struct order order;     // for the process that goes on
-    struct wanted start;    // for the keeper's child, the first of the tree
-    int place;              // of the child that is born
-    int last_pid;           // for the keeper: the pid that the next one is to follow
-    int ended;              // for a parent: the child to reap; 0 where the turn is for something else
-    long got;               // the answer
-    int error;
-    struct seen before, after, child;
-} *page;
-
-static void let_go(int who)
-{
-    atomic_store(&page->go[who], 1);
-    syscall(SYS_futex, &page->go[who], FUTEX_WAKE, 1, NULL, NULL, 0);
-}
-
-static void wait_as(int who, const struct timespec *patience)
-{
-    while (!atomic_exchange(&page->go[who], 0)) {
-        long woken = syscall(SYS_futex, &page->go[who], FUTEX_WAIT, 0, patience, NULL, 0);
-        must(woken == 0 || errno == EAGAIN || errno == EINTR, "a process doesn't answer");
-    }
-}
-
-static void turn_of(int who)
-{
-    static const struct timespec patience = { PATIENCE, 0 };
-
-    let_go(who);
-    wait_as(RECORDER, &patience);
-}
-
-static long make(const struct order *o)
-{
-    unsigned groups[MOST_GROUPS];
-
-    switch (o->call) {
-    case SETGROUPS:
-        for (int i = 0; i < o->length; i++)
-            groups[i] = o->a[i];
-        return syscall(SYS_setgroups, o->length, groups);
-    case CAPSET:
-        return set_caps(o->a[0], o->a[1], o->a[2]);
-    case BSET_DROP:
-        return syscall(SYS_prctl, PR_CAPBSET_DROP, o->a[0], 0, 0, 0);
-    case AMB_RAISE:
-        return syscall(SYS_prctl, PR_CAP_AMBIENT, PR_CAP_AMBIENT_RAISE, o->a[0], 0, 0);
-    case AMB_LOWER:
-        return syscall(SYS_prctl, PR_CAP_AMBIENT, PR_CAP_AMBIENT_LOWER, o->a[0], 0, 0);
-    case AMB_CLEAR:
-        return syscall(SYS_prctl, PR_CAP_AMBIENT, PR_CAP_AMBIENT_CLEAR_ALL, 0, 0, 0);
-    case SECUREBITS:
-        return syscall(SYS_prctl, PR_SET_SECUREBITS, o->a[0], 0, 0, 0);
-    case KEEPCAPS:
-        return syscall(SYS_prctl, PR_SET_KEEPCAPS, o->a[0], 0, 0, 0);
-    case NO_NEW_PRIVS:
-        return syscall(SYS_prctl, PR_SET_NO_NEW_PRIVS, o->a[0], 0, 0, 0);
-    default:
-        return syscall(about[o->call].number, o->a[0], o->a[1], o->a[2]);
-    }
-}
-
-static void live(int place);
-
-// The answer of fork, when the child has shown itself; the first child of a tree goes into its credential before.
-static long give_birth(const struct wanted *start)
-{
-    pid_t child = fork();
-
-    if (child == 0) {
-        int place = page->place;
-
-        if (start)
-            go_into(start);
-        look(&page->child);
-        let_go(PARENT);
-        live(place);
-    }
-    must(child > 0, "fork");
-    wait_as(PARENT, NULL);
-    return child;
-}
-
-// Once a child is reaped its pid is free, which a kernel that reaps by itself doesn't tell.
-static int reap(void)
-{
-    if (!page->ended)
-        return 0;
-    must(waitpid(page->ended, NULL, 0) == page->ended, "waitpid");
-    let_go(RECORDER);
-    return 1;
-}
-
-// A process makes one call in each turn of its place, or reaps a child.
-static void live(int place)
-{
-    for (;;) {
-        wait_as(place, NULL);
-        if (reap())
-            continue;
-        look(&page->before);
-        if (page->order.call == EXIT) {
-            let_go(RECORDER);
-            _exit(0);
-        }
-        errno = 0;
-        page->got = page->order.call == FORK ? give_birth(NULL) : make(&page->order);
-        page->error = errno;
-        look(&page->after);
-        let_go(RECORDER);
-    }
-}
-
-// The first process of the namespace, whose end ends them all, and to which children come whose parent ended. It begins
-// the tree in its first turn.
-static void keep(void)
-{
-    int begun = 0;
-
-    must(prctl(PR_SET_PDEATHSIG, SIGKILL) == 0, "the keeper");
-    for (;;) {
-        wait_as(KEEPER, NULL);
-        if (reap())
-            continue;
-        int file = open("/proc/sys/kernel/ns_last_pid", O_WRONLY);
-        must(file >= 0 && dprintf(file, "%d", page->last_pid) > 0 && close(file) == 0, "ns_last_pid");
-        if (!begun)
-            page->got = give_birth(&page->start);
-        begun = 1;
-        let_go(RECORDER);
-    }
-}
-
-// ---- runs -------------------------------------------------------------------------------------------------------------
-
-static struct process {
-    int lives, parent;      // the parent's place, or KEEPER
-    long pid;
-    struct seen now;
-    struct credential c;
-} tree[PLACES];
-
-static int living;
+// In how many of 100 draws or so each call comes.
+static const unsigned char often[CALLS] = {
+    [SETUID] = 5, [SETREUID] = 7, [SETRESUID] = 9, [SETFSUID] = 6, [SETGID] = 3, [SETREGID] = 4, [SETRESGID] = 5,
+    [SETFSGID] = 3, [SETGROUPS] = 6, [CAPSET] = 13, [BSET_DROP] = 6, [AMB_RAISE] = 7, [AMB_LOWER] = 3, [AMB_CLEAR] = 1,
+    [SECUREBITS] = 12, [KEEPCAPS] = 6, [NO_NEW_PRIVS] = 2, [EXIT] = 4,
+};
 static long ended[MOST_EVENTS];     // the pids of those that ended
 static int ends;
 
-static void read_ids(const char *text, unsigned *ids)
+static long make(const struct order *o)
 {
-    must(sscanf(text, "%u,%u,%u,%u", &ids[0], &ids[1], &ids[2], &ids[3]) == 4, "four ids");
-}
-
-static void read_credential(struct seen *seen, struct credential *c)
-{
-    read_ids(seen->field[UID], c->ids[0]);
-    read_ids(seen->field[GID], c->ids[1]);
-    c->length = 0;
-    for (char *at = seen->field[GROUP_LIST]; *at != '-' && *at; at += *at == ',')
-        c->groups[c->length++] = strtoul(at, &at, 10);
-    c->inh = strtoull(seen->field[INH], NULL, 16);
-    c->prm = strtoull(seen->field[PRM], NULL, 16);
-    c->eff = strtoull(seen->field[EFF], NULL, 16);
-    c->bnd = strtoull(seen->field[BND], NULL, 16);
-    c->amb = strtoull(seen->field[AMB], NULL, 16);
-    c->sec = strtoul(seen->field[SEC], NULL, 16);
-}
-
-static void note(int place, const struct seen *seen)
-{
-    tree[place].now = *seen;
-    read_credential(&tree[place].now, &tree[place].c);
-}
-
-static void enter(int place, int parent, long pid, const struct seen *seen)
-{
-    tree[place].lives = 1;
-    tree[place].parent = parent;
-    tree[place].pid = pid;
-    note(place, seen);
-    living++;
-}
-
-static void leave(int place)
-{
-    page->ended = ended[ends++] = tree[place].pid;
-    turn_of(tree[place].parent);
-    page->ended = 0;
-    for (int i = 0; i < PLACES; i++)
-        if (tree[i].parent == place)
-            tree[i].parent = KEEPER;
-    tree[place].lives = 0;
-    living--;
-}
-
-static int free_place(void)
-{
-    int place = 0;
-
-    while (tree[place].lives)
-        place++;
-    return place;
-}
-
-static int put_order(char *line, long pid, const struct order *o)
-{
-    int at = sprintf(line, "%ld %s", pid, about[o->call].name);
-
-    for (int i = 0; i < o->length; i++)
-        if (o->call == CAPSET)
-            at += sprintf(line + at, " %016lx", o->a[i]);
-        else if (o->call <= SETGROUPS && o->a[i] == NONE)
-            at += sprintf(line + at, " -1");
-        else
-            at += sprintf(line + at, " %lu", o->a[i]);
-    return at;
-}
-
-static int put_answer(char *line, enum call call)
-{
-    long got = call == EXIT ? 0 : page->got;
-
-    if (got == -1 && (page->error == EPERM || page->error == EINVAL))
-        return sprintf(line, " = %s", page->error == EPERM ? "EPERM" : "EINVAL");
-    errno = page->error;
-    must(got == 0 || (got > 0 && (call == FORK || call == SETFSUID || call == SETFSGID)), about[call].name);
-    return sprintf(line, " = %ld", got);
+    return o->call == FORK ? give_birth(0, NULL) : make_own(o);
 }
 
 // One call of the process at that place; the place of the child that it gives birth to.
 static int event(int place, const struct order *o)
 {
-    struct process *caller = &tree[place];
     char line[4096];
-    int at = put_order(line, caller->pid, o), child = o->call == FORK ? free_place() : -1;
+    int at = sprintf(line, "%ld ", tree[place].pid), child = o->call == FORK ? free_place() : -1;
 
-    page->order = *o;
+    at += put_own(line + at, o);
     page->place = child;
-    turn_of(place);
-    must(same(&page->before, &caller->now), "a process isn't as it was after its last call");
+    turn(place, o);
     at += put_answer(line + at, o->call);
     if (o->call == EXIT) {
+        ended[ends++] = tree[place].pid;
         leave(place);
     } else {
-        at += put_fields(line + at, &page->after, &caller->now);
-        note(place, &page->after);
-    }
-    if (child >= 0) {
-        if (!same(&page->child, &page->after))
-            at += sprintf(line + at, " child");
-        at += put_fields(line + at, &page->child, &page->after);
-        enter(child, place, page->got, &page->child);
+        at += put_after(line + at, place, child);
     }
     put_line(line, at);
     return child;
@@ -357,7 +120,7 @@ static int some_events(int last)
         struct order o;
         int place = draw_caller();
 
-        draw_order(&tree[place].c, &o);
+        draw_arguments(&tree[place].c, draw_call(often), &o);
         if ((o.call == FORK && living == PLACES) || (o.call == EXIT && living == 1 && !last))
             continue;
         if ((about[o.call].needs & ~tree[place].c.eff) && draw(2))
@@ -383,61 +146,26 @@ static int some_events(int last)
 
 static void one_run(unsigned seed, unsigned number)
 {
-    struct clone_args born = { .flags = CLONE_NEWPID, .exit_signal = SIGCHLD };
-    char line[2048];
     pid_t keeper;
-    int at;
 
-    drawn = (uint64_t)seed << 32 | number;
-    memset(page, 0, sizeof *page);
-    memset(tree, 0, sizeof tree);
-    living = ends = 0;
+    fresh(seed, number);
+    ends = 0;
     draw_start(&page->start);
     births = 6 << draw(3);
     page->last_pid = 1 + draw(9999);
-    keeper = syscall(SYS_clone3, &born, sizeof born);
-    must(keeper >= 0, "a pid namespace");
-    if (keeper == 0)
-        keep();
-    turn_of(KEEPER);
-    enter(0, KEEPER, page->got, &page->child);
-    at = sprintf(line, "run %u %u\nstart %ld", seed, number, page->got);
-    put_line(line, at + put_fields(line + at, &page->child, NULL));
+    keeper = begin(seed, number);
     for (int left = 20 + draw(41); left > 0;)
         left -= some_events(left == 1);
-    must(kill(keeper, SIGKILL) == 0 && waitpid(keeper, NULL, 0) == keeper, "the keeper's end");
-}
-
-static unsigned number_of(const char *text)
-{
-    char *end;
-    unsigned long number = strtoul(text, &end, 10);
-
-    if (!*text || *end || number > 4294967295u) {
-        fprintf(stderr, "record_runs: no number: %s\n", text);
-        exit(2);
-    }
-    return number;
+    end(keeper);
 }
 
 int main(int argc, char **argv)
 {
-    static const struct option options[] = {
-        { "seed", required_argument, NULL, 0 }, { "first", required_argument, NULL, 1 },
-        { "runs", required_argument, NULL, 2 }, { NULL, 0, NULL, 0 },
-    };
     unsigned given[3] = { 1, 1, 300 };
-    int option;
 
-    while ((option = getopt_long(argc, argv, "", options, NULL)) >= 0 && option < 3)
-        given[option] = number_of(optarg);
-    if (option >= 0 || optind != argc) {
-        fprintf(stderr, "usage: record_runs [--seed N] [--first K] [--runs N] > RUNS\n");
-        return 2;
-    }
+    read_words(argc, argv, "runs", "", given);
     start_as_root(powers | CAP(SYS_ADMIN));
-    page = mmap(NULL, sizeof *page, PROT_READ | PROT_WRITE, MAP_SHARED | MAP_ANONYMOUS, -1, 0);
-    must(page != MAP_FAILED, "mmap");
+    make_page();
     put_kernel();
     for (unsigned i = 0; i < given[2]; i++)
         one_run(given[0], given[1] + i);

@@ -24,7 +24,6 @@
 // reads all ten before the call and after it; those of before must be those of the state.
 #define _GNU_SOURCE
 #include "credential.h"
-#include <sys/wait.h>
 
 #define ALL (~0ull)         // all that the recorder has
 #define MINE (1ull << 63)   // CAP_SETUID in a state for the uid calls, CAP_SETGID in one for the gid calls
@@ -95,18 +94,6 @@ static const struct kind kinds[] = {
 #define KINDS (sizeof kinds / sizeof *kinds)
 
 // ---- cases ------------------------------------------------------------------------------------------------------------
-
-static void wait_for(pid_t child)
-{
-    int status;
-
-    must(child > 0, "fork");
-    must(waitpid(child, &status, 0) == child, "waitpid");
-    if (status) {
-        fprintf(stderr, "record_set_ids: a child failed\n");
-        _exit(1);
-    }
-}
 
 static const char *result(const struct call *call, long got, int error, char *text)
 {

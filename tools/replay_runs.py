@@ -25,15 +25,9 @@ nothing could be compared.
 import os
 import tempfile
 
-from recordings import (FS_ID_LEFT, HEAD, IMPOSSIBLE, Recordings, Tally, credentials, difference, fields_of, fs_id_left,
-                        give_up, program_of, replay, row)
+from recordings import (FS_ID_LEFT, HEAD, IMPOSSIBLE, Recordings, Tally, as_printed, credentials, difference, fields_of,
+                        fs_id_left, give_up, program_of, replay, row)
 
-SETS = (1 << 41) - 1
-CAPABILITIES = (
-    "CHOWN DAC_OVERRIDE DAC_READ_SEARCH FOWNER FSETID KILL SETGID SETUID SETPCAP LINUX_IMMUTABLE NET_BIND_SERVICE"
-    " NET_BROADCAST NET_ADMIN NET_RAW IPC_LOCK IPC_OWNER SYS_MODULE SYS_RAWIO SYS_CHROOT SYS_PTRACE SYS_PACCT SYS_ADMIN"
-    " SYS_BOOT SYS_NICE SYS_RESOURCE SYS_TIME SYS_TTY_CONFIG MKNOD LEASE AUDIT_WRITE AUDIT_CONTROL SETFCAP MAC_OVERRIDE"
-    " MAC_ADMIN SYSLOG WAKE_ALARM BLOCK_SUSPEND AUDIT_READ PERFMON BPF CHECKPOINT_RESTORE").split()
 SECUREBITS, EXEC_BITS = 0xff, 0xf00
 CALLS = (
     "setuid setreuid setresuid setfsuid setgid setregid setresgid setfsgid setgroups capset bset_drop amb_raise amb_lower"
@@ -73,13 +67,8 @@ class Event:
         return f"{self.pid} {' '.join(self.call)} = {self.told()[0]}"
 
     def printed(self):
-        """The line in the way of a report: sets without the bits that no capability has, capabilities by name."""
-        name, arguments = self.call[0], self.call[1:]
-        if name == "capset":
-            arguments = [f"{int(text, 16) & SETS:016x}" for text in arguments]
-        if name in ("bset_drop", "amb_raise", "amb_lower") and int(arguments[0]) < len(CAPABILITIES):
-            arguments = ["CAP_" + CAPABILITIES[int(arguments[0])]]
-        return f"{self.pid} {' '.join([name, *arguments])} = {self.told()[0]}"
+        """The line in the way of a report."""
+        return f"{self.pid} {as_printed(self.call)} = {self.told()[0]}"
 
     def shown(self):
         """The processes of which the report has a line after the event, with their fields."""
@@ -225,16 +214,12 @@ def write_run(run, folder):
 
 
 def main():
-    recordings, tally = Recordings("record_runs", "runs.xz"), Tally([FS_ID_LEFT, EXEC_TAKEN])
+    recordings, tally = Recordings("record_runs", "runs.xz", ("seed", "first", "runs")), Tally([FS_ID_LEFT, EXEC_TAKEN])
     ask = recordings.parser("replay_runs.py [--cases FILE | --record [--seed N] [--first K] [--runs N] [--keep]]"
                             " [--write DIR] [PROGRAM]")
-    for option in ("--seed", "--first", "--runs", "--write"):
-        ask.add_argument(option)
+    ask.add_argument("--write")
     asked = ask.parse_args()
-    options = [word for name in ("seed", "first", "runs") if vars(asked)[name] for word in (f"--{name}", vars(asked)[name])]
-    if options and not asked.record:
-        ask.error("--seed, --first and --runs go with --record")
-    kernel, runs = recordings.read(ask, asked, read_runs, options)
+    kernel, runs = recordings.read(ask, asked, read_runs)
     if asked.write:
         os.makedirs(asked.write, exist_ok=True)
         for run in runs:

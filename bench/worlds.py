@@ -1,0 +1,197 @@
+"""The worlds that bench.py measures with: those of its logs, and one of 1 MiB for each table. For plain_replay.rs too, so one
+key or header a line, and the tables in the order space, mount, file, process, filter.
+
+  worlds.py NAME      writes the world of that name to standard output
+"""
+import sys
+
+MIB = 1 << 20
+HEAD = 'log = "script"\n'
+CHAIN, SPACES, MOUNTS, FILES, PROCESSES, EXTENTS = 32, 200, 64, 4096, 4096, 340
+CALLS = ("setuid setreuid setresuid setfsuid setgid setregid setresgid setfsgid setgroups capset bset_drop amb_raise amb_lower"
+         " amb_clear securebits keepcaps no_new_privs fork clone_user unshare setns write_uid_map write_gid_map"
+         " write_setgroups execve exit").split()
+VERSION_2, VERSION_3 = "010000020020000000000000000000{:02x}00000000", "010000030020000000000000000000{:02x}00000000a0860100"
+
+
+def row(table, **keys):
+    return f"[[{table}]]\n" + "".join(f"{key} = {value}\n" for key, value in keys.items() if value is not None)
+
+
+def text(value):
+    return f'"{value}"'
+
+
+def flag(value):
+    return "true" if value else "false"
+
+
+def filled(head, rows):
+    """The rows, and a comment that fills 1 MiB."""
+    world = head + "".join(rows)
+    if len(world) > MIB - 2:
+        sys.exit(f"worlds.py: a world of {len(world)} bytes")
+    return world + "#" * (MIB - 1 - len(world)) + "\n"
+
+
+# ---- the worlds of logs --------------------------------------------------------------------------------------------
+
+
+def processes(**uids):
+    return HEAD + "".join(row("process", pid=pid.removeprefix("p"), uid=ids) for pid, ids in uids.items())
+
+
+def parent_of(number):
+    """Of the chain the space before; of the others the initial space, or one of the chain."""
+    if number <= CHAIN:
+        return number - 1
+    return 0 if number % 2 else number % CHAIN + 1
+
+
+def first_id(number):
+    """The id of the initial space to which a space's uid_map takes 0."""
+    if number <= CHAIN:
+        return 100000
+    return 1000 * (200 + number) if parent_of(number) == 0 else 100000 + 10 * number
+
+
+def space_name(number):
+    return "init" if number == 0 else f"c{number}" if number <= CHAIN else f"space-{number}"
+
+
+def has_groups(number):
+    """Whether a space's gid_map is written: it is for the first eight of the chain, and those below them."""
+    return parent_of(number) <= 8 and (number <= 8 or number > CHAIN)
+
+
+def space_row(number):
+    parent = parent_of(number)
+    outside = first_id(number) - (100000 if parent else 0)
+    lines = f"[[0, {outside}, {65536 if number <= CHAIN else 1000}]]"
+    return row("space", name=text(space_name(number)), parent=text(space_name(parent)),
+               owner=1000 if parent == 0 else first_id(parent), uid_map=lines, gid_map=lines if has_groups(number) else None)
+
+
+def spaces_of_log():
+    """200 spaces, of them a chain of 32 levels, and a process in each."""
+    members = (row("process", pid=1000 + number, space=text(space_name(number)), uid=first_id(number), gid=first_id(number),
+                   permitted=text("all"), effective=text("all")) for number in range(1, SPACES + 1))
+    start = (row("process", pid=pid, uid=uid, gid=uid) for pid, uid in ((100, 0), (101, 1000), (102, 2000)))
+    return HEAD + "".join(map(space_row, range(1, SPACES + 1))) + "".join(start) + "".join(members)
+
+
+def mount_row(number):
+    lines = "[[0, 100000, 65536]]" if number % 5 == 0 else None
+    return row("mount", name=text(f"m{number}"), space=text("box") if number % 7 == 0 else None,
+               nosuid=flag(number % 9 == 0), noexec=flag(number % 13 == 0), uid_map=lines, gid_map=lines)
+
+
+def file_row(number):
+    mount, mode = number % MOUNTS, ("0755", "4755", "6755", "0711", "2754", "0700", "4511", "0644")[number % 8]
+    caps = (None, None, None, VERSION_2.format(0), None, VERSION_3.format(1), None, VERSION_2.format(64))[number // 8 % 8]
+    runs = text(path(number - 1)) if number % 16 == 9 else None
+    return row("file", path=text(path(number)), mount=text(f"m{mount}" if mount else "root"),
+               uid=(0, 1000, 100000, 7)[number // 3 % 4], gid=(0, 1000, 60)[number // 5 % 3], mode=text(mode),
+               caps=caps and text(caps), interpreter=runs)
+
+
+def path(number):
+    return f"/srv/m{number % MOUNTS}/bin/prog{number}"
+
+
+def caller_row(number):
+    uid = (0, 1000, 100000, 100005, 2000)[number % 5]
+    kept = ("none", "CAP_NET_RAW", "CAP_NET_RAW,CAP_SETUID,CAP_DAC_OVERRIDE")[number // 5 % 3]
+    return row("process", pid=100 + number, space=text("box") if number % 5 in (2, 3) else None,
+               uid=f"[{uid}, {uid}, {uid}, {uid}]", gid=uid, groups="[60, 1000]" if number % 2 else None,
+               permitted=text("all" if number % 5 == 0 else kept), effective=text("all" if number % 5 == 0 else kept),
+               inheritable=text(kept), ambient=text(kept if number % 4 == 0 else "none"),
+               bounding=text("000001ffffffdfff" if number % 11 == 0 else "all"), no_new_privs=flag(number % 6 == 5))
+
+
+def execve_of_log():
+    """4,096 files on 64 mounts, and 60 processes that differ in ids, sets, groups and space."""
+    box = row("space", name=text("box"), parent=text("init"), owner=1000, uid_map="[[0, 100000, 65536]]",
+              gid_map="[[0, 100000, 65536]]")
+    return (HEAD + box + "".join(map(mount_row, range(1, MOUNTS))) + "".join(map(file_row, range(FILES)))
+            + "".join(map(caller_row, range(60))))
+
+
+# ---- worlds of 1 MiB -----------------------------------------------------------------------------------------------
+
+
+def extents(count):
+    """Single ids that have a gap after each, so that no two lines are one."""
+    return "[" + ",".join(f"[{2 * at},{2 * at},1]" for at in range(count)) + "]"
+
+
+def of_spaces(parent):
+    return filled(HEAD, (row("space", name=text(f"s{number}"), parent=text(parent(number)), owner=0, uid_map=extents(EXTENTS))
+                         for number in range(1, 256)))
+
+
+def spaces_below_one_another():
+    """255 spaces with one map of 340 lines each, in chains of up to 32."""
+    return of_spaces(lambda number: "init" if number % CHAIN == 1 else f"s{number - 1}")
+
+
+def spaces_side_by_side():
+    return of_spaces(lambda _: "init")
+
+
+def mounts():
+    """63 mounts with four maps of 335 lines each."""
+    maps = dict.fromkeys(("fs_uid_map", "fs_gid_map", "uid_map", "gid_map"), extents(335))
+    return filled(HEAD, (row("mount", name=text(f"m{number}"), **maps) for number in range(1, MOUNTS)))
+
+
+def files():
+    """4,096 files with long paths and an attribute each, on 64 mounts."""
+    def one(number):
+        return row("file", path=text(f"/{number}/" + "d" * 60), mount=text(f"m{number % MOUNTS}" if number % MOUNTS else "root"),
+                   uid=number, gid=number, mode=text("4755"), caps=text(VERSION_3.format(1)))
+    return filled(HEAD + "".join(map(mount_row_plain, range(1, MOUNTS))), map(one, range(FILES)))
+
+
+def mount_row_plain(number):
+    return row("mount", name=text(f"m{number}"))
+
+
+def many_processes():
+    """4,096 processes in no order, with every key but parent and space."""
+    def one(number):
+        return row("process", pid=1000 + number * 40503 % 65536, uid="[1, 2, 3, 4]", gid=7,
+                   groups=str([number, 9, number + 7]), permitted=text("CAP_KILL,CAP_SETUID"), effective=text("CAP_KILL"),
+                   inheritable=text("CAP_KILL"), ambient=text("none"), bounding=text("all"), securebits=16, no_new_privs=flag(number % 2))
+    return filled(HEAD, map(one, range(PROCESSES)))
+
+
+def names_of_filter():
+    """A filter that names the calls again and again."""
+    names = ", ".join(map(text, CALLS))
+    count = (MIB - 100) // (len(names) + 2)
+    return filled(HEAD, ["[filter]\nexclude = [" + ", ".join([names] * count) + "]\n"])
+
+
+WORLDS = {
+    "space": spaces_below_one_another, "space-flat": spaces_side_by_side, "mount": mounts, "file": files,
+    "process": many_processes, "filter": names_of_filter,
+}
+LOG_WORLDS = {
+    "setresuid": lambda: processes(p100="0"),
+    "setuid": lambda: processes(p100="0", p101="[1000, 1001, 1002, 1001]", p102="1000"),
+    "mixed": lambda: processes(p100="0"),
+    "spaces": spaces_of_log,
+    "execve": execve_of_log,
+}
+
+
+def main():
+    every = {**LOG_WORLDS, **WORLDS}
+    if len(sys.argv) != 2 or sys.argv[1] not in every:
+        sys.exit("usage: worlds.py " + "|".join(every))
+    sys.stdout.write(every[sys.argv[1]]())
+
+
+if __name__ == "__main__":
+    main()

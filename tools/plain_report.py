@@ -1,0 +1,154 @@
+#!/usr/bin/env python3
+"""The report of a replay by plain_reader.py and plain_rules.py: what `credaudit replay WORLD LOG` ought to write, worked
+out without it. For mutate.py, and for whoever wants a second opinion on a report.
+
+  plain_report.py WORLD LOG    writes the report, and ends with its status
+
+Status 14, which the program doesn't have, says that the plain reader doesn't judge this world; nothing is written then.
+"""
+import re
+import sys
+from dataclasses import dataclass
+
+from plain_reader import (BIRTHS, CAP_NUMBERS, LAST_ID, LIMITS, MAPS, NotJudged, Refused, digits, past_limit, read_line,
+                          read_space, read_world, space_token)
+from plain_rules import Rules
+from recordings import credentials, fields_from
+
+ANY = ("ENOMEM", "EAGAIN", "EINTR", "EFAULT", "EIO")
+# The errors that come from outside: of these calls these, of all others those of ANY.
+FROM_OUTSIDE = {
+    "setfsuid": (), "setfsgid": (), "exit": (),
+    "unshare": ANY + ("EINVAL",), "clone_user": ANY + ("EINVAL",), "setns": ANY + ("EINVAL",),
+    "execve": ANY + ("ENOENT", "EACCES", "ENOTDIR", "ELOOP", "ENAMETOOLONG", "E2BIG", "ENOEXEC", "ETXTBSY", "ELIBBAD"),
+}
+ON_SPACES = ("setns", "write_setgroups", *(name.decode() for name in MAPS))
+
+
+def impossible(why):
+    return Refused(3, why)
+
+
+def least_free(state):
+    return next(pid for pid in range(1, len(state.processes) + 2) if pid not in state.processes)
+
+
+def child_of(event):
+    """The child that an event tells of, None where it tells of none."""
+    return int(event.result) if event.call[0].encode() in BIRTHS and event.result.isdigit() else None
+
+
+def next_state(rules, state, event):
+    """The state after an event; Refused tells why there is none."""
+    name, child = event.call[0], child_of(event)
+    if event.pid not in state.processes:
+        raise impossible("no process")
+    if name in ON_SPACES and event.call[1] >= len(state.spaces):
+        raise impossible("no space")
+    if child in state.processes:
+        raise impossible("pid in use")
+    if event.result in FROM_OUTSIDE.get(name, ANY):
+        return state
+    result, after = rules.answer(state, event.pid, event.call, child or least_free(state))
+    if result != event.result:
+        own, _ = rules.answer(state, event.pid, event.call, least_free(state))
+        raise impossible(f"the rules give {own}")
+    for limit, items in (("processes", after.processes), ("spaces", after.spaces)):
+        before = state.processes if limit == "processes" else state.spaces
+        if len(items) > LIMITS[limit] and len(items) > len(before):
+            raise past_limit(limit)
+    return after
+
+
+def credential_line(world, state, pid):
+    number, cred = state.processes[pid]
+    return f"> {pid} {space_token(world, number)} {credentials(fields_from(cred))}".encode()
+
+
+def lines_of(log):
+    """Its lines without their LF; a last one without LF counts where it isn't empty."""
+    lines = log.split(b"\n")
+    return lines if lines[-1] else lines[:-1]
+
+
+def replay(world, log, out):
+    """Adds the report's lines to `out`, up to the refusal that it raises, where there is one; else the last state."""
+    if len(log) > LIMITS["log"]:
+        raise past_limit("log")
+    rules, state, count = Rules(world.files), world.state, 0
+    out.extend(credential_line(world, state, pid) for pid in sorted(state.processes))
+    for number, line in enumerate(lines_of(log), 1):
+        try:
+            event = read_line(line, world)
+            if event is None:
+                continue
+            state = next_state(rules, state, event)
+        except Refused as refused:
+            front = {3: f"impossible line {number}: ", 5: f"bad log line {number}: "}.get(refused.status, "")
+            raise Refused(refused.status, front + refused.words)
+        count += 1
+        out.append(b"%d: %s" % (number, event.written))
+        out.extend(credential_line(world, state, pid) for pid in (event.pid, child_of(event)) if pid in state.processes)
+    out.append(b"end %d" % count)
+    return state
+
+
+@dataclass
+class Report:
+    status: int
+    text: bytes
+    world: object = None    # what was read, None where the replay is refused
+    state: object = None    # the last state
+
+
+def report(world, log):
+    """The report of a world and a log, both bytes. NotJudged where the reader can't say."""
+    out, read, state, status = [], None, None, 0
+    try:
+        read = read_world(world)
+        if not read.script:
+            raise NotJudged("strace logs")
+        state = replay(read, log, out)
+    except Refused as refused:
+        out.append(refused.words.encode())
+        status = refused.status
+    return Report(status, b"".join(line + b"\n" for line in out), read, state)
+
+
+RIGHT = re.compile(rb"(?:uid|gid):(\d+)|cap:(\w+)@(.*)", re.DOTALL)
+
+
+def bad_query(seen, pid, right):
+    """What is bad of an audit's query after an accepted log: `pid`, `right` or `space`, or None."""
+    if digits(pid) not in seen.state.processes:
+        return "pid"
+    found = RIGHT.fullmatch(right)
+    if not found:
+        return "right"
+    id_, cap, space = found.groups()
+    if id_ is not None:
+        return None if digits(id_, 0, LAST_ID) is not None else "right"
+    target = read_space(space, seen.world)
+    if cap not in CAP_NUMBERS or target is None:
+        return "right"
+    return None if target[0] < len(seen.state.spaces) else "space"
+
+
+def main():
+    if len(sys.argv) != 3:
+        sys.exit("usage: plain_report.py WORLD LOG")
+    texts = []
+    for name in sys.argv[1:]:
+        with open(name, "rb") as file:
+            texts.append(file.read())
+    try:
+        seen = report(*texts)
+    except NotJudged as reason:
+        print(f"plain_report.py: not judged: {reason}", file=sys.stderr)
+        sys.exit(14)
+    sys.stdout.buffer.write(seen.text)
+    sys.exit(seen.status)
+
+
+if __name__ == "__main__":
+    main()

@@ -1,0 +1,446 @@
+"""Worlds and logs as strangers might bring them, for mutate.py: those of examples/ and some built-in ones, which use every
+table, key and call and stand at the limits; and changes that cut, double, swap, flip and replace bytes, tokens, keys and
+rows of them.
+
+All that is drawn comes of the random.Random that is handed in, so a case can be made again from its number.
+"""
+import glob
+import os
+import re
+
+from plain_reader import CALLS, ERRORS, KEYS
+from plain_rules import CAPABILITIES
+
+EXAMPLES = os.path.normpath(os.path.join(os.path.dirname(os.path.abspath(__file__)), "..", "examples"))
+ATTRIBUTE = "0100000200200000000000000000000000000000"
+ATTRIBUTE_3 = "0100000300200000000000000000000000000000a0860100"
+
+# ---- what is changed -----------------------------------------------------------------------------------------------
+
+EVERY_TABLE = f"""log = "script"
+[[space]]
+name = "box"
+parent = "init"
+owner = 1000
+uid_map = [[0, 100000, 65536]]
+gid_map = [[0, 100000, 65536], [65536, 300000, 10]]
+setgroups = "allow"
+creator_setfcap = true
+[[space]]
+name = "inner.1"
+parent = "box"
+owner = 100000
+uid_map = [[0, 1000, 1000]]
+setgroups = "deny"
+creator_setfcap = false
+[[mount]]
+name = "data"
+space = "box"
+nosuid = false
+noexec = false
+fs_uid_map = [[0, 0, 4294967295]]
+fs_gid_map = [[0, 0, 1000], [2000, 1000, 5]]
+uid_map = [[0, 100000, 65536]]
+gid_map = [[0, 100000, 65536]]
+[[mount]]
+name = "usb"
+nosuid = true
+noexec = true
+[[file]]
+path = "/bin/su"
+mount = "root"
+uid = 0
+gid = 0
+mode = "4755"
+[[file]]
+path = "/data/ping"
+mount = "data"
+uid = 0
+gid = 0
+mode = "0755"
+caps = "{ATTRIBUTE_3}"
+[[file]]
+path = "/usb/game"
+mount = "usb"
+uid = 0
+gid = 60
+mode = "2755"
+caps = "{ATTRIBUTE}"
+[[file]]
+path = "/bin/script"
+uid = 1000
+gid = 1000
+mode = "0755"
+interpreter = "/bin/su"
+[[process]]
+pid = 100
+uid = 0
+gid = 0
+[[process]]
+pid = 101
+parent = 100
+space = "box"
+uid = [100000, 100000, 100000, 100000]
+gid = 100000
+groups = [100005, 100001]
+permitted = "all"
+effective = "CAP_SETUID,CAP_SETGID,CAP_SYS_ADMIN,CAP_SETPCAP"
+inheritable = "CAP_NET_RAW"
+ambient = "0000000000002000"
+bounding = "all"
+securebits = 0
+no_new_privs = false
+[[process]]
+pid = 102
+parent = 101
+space = "inner.1"
+uid = 101005
+gid = 100005
+permitted = "none"
+effective = "none"
+[[process]]
+pid = 103
+uid = [1000, 1001, 1002, 1001]
+gid = [1000, 1001, 1002, 1001]
+[filter]
+exclude = ["unshare", "clone_user", "setns"]
+"""
+EVERY_CALL = """; each call of the table
+103 setuid 1000 = 0
+103 setreuid -1 1001 = EPERM
+103 setresuid 1002 -1 -1 = 0
+103 setfsuid 1001 = 1000
+103 setgid 1002 = 0
+103 setregid 1000 1000 = 0
+103 setresgid -1 -1 1000 = 0
+103 setfsgid 5 = 1000
+
+101 setgroups 5 1 65536 = 0
+101 capset 00000000000020c0 CAP_NET_RAW,CAP_SETUID,CAP_SETGID none = 0
+100 bset_drop CAP_SYS_TIME = 0
+100 capset all all CAP_NET_RAW,CAP_KILL = 0
+100 amb_raise CAP_KILL = 0
+100 amb_raise 13 = 0
+100 amb_lower 13 = 0
+100 amb_lower 41 = EINVAL
+100 amb_clear = 0
+100 securebits 64 = 0
+100 keepcaps 1 = 0
+103 no_new_privs 1 = 0
+100 fork = 104
+104 clone_user = 105
+104 unshare = 0
+100 write_setgroups #3 deny = 0
+104 write_uid_map #3 0 0 1 = EPERM
+100 write_uid_map #4 0 0 1 10 1000 100 = 0
+100 write_gid_map #4 0 0 4294967295 = 0
+100 write_gid_map #4 = EPERM
+100 write_gid_map #3 = EINVAL
+104 setns #4 = EINVAL
+100 setns box = 0
+102 setns init = EPERM
+103 execve /bin/su = 0
+101 execve /data/ping = 0
+102 execve /bin/script = 0
+103 execve /usb/game = EACCES
+100 execve - = 0
+104 fork = ENOMEM
+104 exit = 0
+105 exit = 0
+"""
+SMALL = 'log = "script"\n[[process]]\npid = 1\n[[process]]\npid = 2\nuid = 1000\n'
+SMALL_LOG = "1 setuid 5 = 0\n2 setuid 5 = EPERM\n1 setfsuid 0 = 5\n2 fork = 3\n3 exit = 0\n"
+WEAK_LOG = "1 setresuid -1 7 -1 = 0\n1 setresuid -1 0 -1 = 0\n1 setresuid 5 5 5 = 0\n"
+
+
+def many(count, row):
+    return 'log = "script"\n' + "".join(row % number for number in range(1, count + 1))
+
+
+def chain(levels):
+    names = ["init"] + [f"s{level}" for level in range(1, levels + 1)]
+    row = '[[space]]\nname="{}"\nparent="{}"\nowner=0\n'
+    return 'log = "script"\n' + "".join(row.format(name, above) for above, name in zip(names, names[1:]))
+
+
+def at_the_limits():
+    ids = " ".join(map(str, range(1024)))
+    one = 'log = "script"\n[[process]]\npid = 1\n'
+    return [
+        (many(255, '[[space]]\nname="s%d"\nparent="init"\nowner=0\n') + "[[process]]\npid=1\n", "1 unshare = 0\n"),
+        (many(254, '[[space]]\nname="s%d"\nparent="init"\nowner=0\n') + "[[process]]\npid=1\n", "1 unshare = 0\n1 unshare = EPERM\n"),
+        (many(63, '[[mount]]\nname="m%d"\n'), ""),
+        (many(4096, '[[file]]\npath="/%d"\nuid=0\ngid=0\nmode="1"\n'), ""),
+        (many(4096, "[[process]]\npid=%d\n"), "1 fork = 5000\n"),
+        (many(4095, "[[process]]\npid=%d\n"), "1 fork = 5000\n1 fork = EPERM\n"),
+        (one + f"groups=[{ids.replace(' ', ',')}]\n", f"1 setgroups {ids} = 0\n1 setgroups {ids} = 0\n"),
+        (one, ";" * 1048576 + "\n1 setuid 1 = 0\n" + " " * 1048560 + "1 setuid 0 = EPERM\n"),
+        (one + "#" * (1048576 - len(one)), SMALL_LOG),
+        (one + f"groups=[{'5,' * 1025}]\n", ""),
+        (one, f"1 setgroups {ids} 1 = 0\n"),
+        (one, ";" * 1048577 + "\n"),
+        (chain(33), ""),
+        (chain(32) + "[[process]]\npid=1\nspace=\"s32\"\n", "1 unshare = ENOSPC\n1 unshare = 0\n"),
+        (one + f"uid = {'[' * 79}0{']' * 79}\n", SMALL_LOG),
+        (one.replace("1\n", "1\n" + "".join(f"{'k' * at}=0\n" for at in range(1, 1000))), SMALL_LOG),
+    ]
+
+
+def read(path):
+    with open(path, "rb") as file:
+        return file.read()
+
+
+def examples():
+    """Each world of examples/, with each log beside it."""
+    for world in sorted(glob.glob(os.path.join(EXAMPLES, "*", "*.toml"))):
+        folder = os.path.dirname(world)
+        for log in sorted(glob.glob(os.path.join(folder, "log")) + glob.glob(os.path.join(folder, "*.log"))):
+            yield read(world), read(log)
+
+
+class Strangers:
+    """The texts that are changed, and what is drawn of them."""
+    LIMITS = 0.005      # how often one of the large texts is drawn
+
+    def __init__(self):
+        built_in = [(EVERY_TABLE, EVERY_CALL)] * 3 + [(SMALL, SMALL_LOG), (SMALL[:SMALL.rindex("[[")], WEAK_LOG)]
+        self.texts = [(world.encode(), log.encode()) for world, log in built_in] + list(examples())
+        self.large = [(world.encode(), log.encode()) for world, log in at_the_limits()]
+
+    def draw(self, rng):
+        """A changed world and a changed log; one of the two may be as it was."""
+        is_large, which = rng.random() < self.LIMITS, rng.random()
+        world, log = rng.choice(self.large if is_large else self.texts)
+        if which < 0.6:
+            world = changed(rng, world, (of_rows,) if is_large else WORLD_CHANGES)
+        if which >= 0.5 and not is_large:
+            log = changed(rng, log, LOG_CHANGES)
+        return world, log
+
+
+# ---- bytes ---------------------------------------------------------------------------------------------------------
+
+
+def span(rng, items):
+    """Where some items that follow one another begin and end; mostly few."""
+    begin = rng.randrange(len(items) + 1)
+    return begin, min(len(items), begin + 1 + int(rng.expovariate(0.5)))
+
+
+def cut(rng, items):
+    begin, end = span(rng, items)
+    return items[:begin] + items[end:]
+
+
+def double(rng, items):
+    begin, end = span(rng, items)
+    return items[:end] + items[begin:]
+
+
+def swap(rng, items):
+    (begin, end), (other, last) = sorted((span(rng, items), span(rng, items)))
+    end = min(end, other)
+    return items[:begin] + items[other:last] + items[end:other] + items[begin:end] + items[last:]
+
+
+def move(rng, items):
+    begin, end = span(rng, items)
+    rest = items[:begin] + items[end:]
+    at = rng.randrange(len(rest) + 1)
+    return rest[:at] + items[begin:end] + rest[at:]
+
+
+def end_early(rng, items):
+    return items[:rng.randrange(len(items) + 1)]
+
+
+SHAPES = (cut, double, swap, move)
+
+
+def shaped(rng, items):
+    return rng.choice(SHAPES)(rng, items)
+
+
+def flip(rng, text):
+    if not text:
+        return text
+    at = rng.randrange(len(text))
+    return text[:at] + bytes([text[at] ^ 1 << rng.randrange(8)]) + text[at + 1:]
+
+
+SOME_BYTES = (b"\x00", b"\t", b"\n", b"\x0b", b"\r", b"\r\n", b" ", b'"', b"#", b"'", b",", b";", b"=", b"[", b"]", b"\\", b"{",
+              b"}", b".", b"-", b"_", b"0", b"9", b"\x7f", b"\x80", b"\xc3\xa4", b"\xef\xbb\xbf", b"\xff")
+
+
+def insert(rng, text):
+    at = rng.randrange(len(text) + 1)
+    return text[:at] + rng.choice(SOME_BYTES) + text[at + rng.randrange(2):]
+
+
+def of_bytes(rng, text):
+    return rng.choice((flip, insert, shaped, end_early))(rng, text)
+
+
+# ---- tokens --------------------------------------------------------------------------------------------------------
+
+NUMBERS = ("0 1 2 3 5 7 40 41 64 100 101 102 103 104 255 256 340 1000 65535 65536 100000 4194304 4194305 4294967294 4294967295"
+           " 4294967296 -1 -0 +1 00 007 1_000 0x10 9223372036854775807 9223372036854775808 -9223372036854775809"
+           " 99999999999999999999").split()
+NAMES = "init root box inner.1 data usb none all allow deny script strace".split() + ["a" * 32, "a" * 33, "#0", "#1", "#3", ""]
+PATHS = ["/bin/su", "/bin/script", "/data/ping", "/usb/game", "-", "=", "/x y", "/\\u007f", "a" * 4095, "a" * 4096, "\u00e4"]
+SETS = ["CAP_KILL", "CAP_SETUID,CAP_SETGID", "CAP_NO", "CAP_KILL,", "000001ffffffffff", "FFFFFFFFFFFFFFFF", "00000000000000000",
+        "000000000000002g"] + ["CAP_" + name for name in CAPABILITIES[::8]]
+MODES = ["4755", "0", "8", "77777", "7777", "2010", "1"]
+TEXTS = NAMES + PATHS + SETS + MODES + [ATTRIBUTE, ATTRIBUTE_3, ATTRIBUTE[2:], ATTRIBUTE[:-1] + "g", "02" + ATTRIBUTE[2:]]
+LISTS = ["[]", "[0]", "[1, 2, 3]", "[1, 2, 3, 4]", "[0, -1, 0, 0]", "[[0, 0, 1]]", "[[0, 100000, 65536]]", "[[0, 0, 0]]",
+         "[[0, 0, 4294967295]]", "[[1, 0, 4294967295]]", "[[0, 0, 2], [1, 5, 1]]", "[[0, 0, 4294967296]]", "[[0, 0]]",
+         "[[0, 1000, 65536]]", '["setuid"]', '["setuid", "no"]', '["x", 1]', "[1, \"x\"]", "[[]]"]
+VALUES = NUMBERS + LISTS + [f'"{text}"' for text in TEXTS] + ["true", "false", "1.5", "{}", "inf", "''", '""""""']
+LOG_TOKENS = [token.encode() for token in NUMBERS + NAMES + PATHS + SETS + list(ERRORS) + ["=", ";", "#9", "#300", "#4294967296", "#"]]
+LOG_TOKENS += list(CALLS) + [b"\xff", b"\x0b", b"x\x00y", b"\x7f"]
+
+# Values of the kind that a key asks for, not all of them good ones.
+IDS = ["0", "1000", "100000", "100005", "4294967294", "4294967295", "-1"]
+FLAGS, SETS_QUOTED = ["true", "false", "1"], [f'"{text}"' for text in ["all", "none", *SETS]]
+SPACES, MAPS = ['"init"', '"box"', '"inner.1"', '"nobody"', '"#1"'], [one for one in LISTS if one.startswith("[[")] + ["[]"]
+MAPS += ["[[0, 100000, 10], [20, 100020, 10]]", "[[0, 0, 10], [9, 20, 10]]", "[[7, 1500, 1]]", "[[0, 65530, 100]]"]
+PLAUSIBLE = {
+    "log": ['"script"', '"strace"', '"Script"'], "name": [f'"{text}"' for text in NAMES], "parent": SPACES + ["100", "101", "7"],
+    "owner": IDS, "uid_map": MAPS, "gid_map": MAPS, "fs_uid_map": MAPS, "fs_gid_map": MAPS,
+    "setgroups": ['"allow"', '"deny"', '"Deny"'], "creator_setfcap": FLAGS, "space": SPACES, "nosuid": FLAGS, "noexec": FLAGS,
+    "path": [f'"{text}"' for text in PATHS], "mount": ['"root"', '"data"', '"usb"', '"init"'],
+    "uid": IDS + ["[0, 1, 2, 3]", "[1, 2, 3]"], "gid": IDS + ["[0, 1, 2, 3]", "[0, 0, 0, -1]"],
+    "mode": [f'"{text}"' for text in MODES], "interpreter": ['"/bin/su"', '"/bin/script"', '"/usb/game"', '"-"'],
+    "caps": [f'"{text}"' for text in (ATTRIBUTE, ATTRIBUTE_3, ATTRIBUTE[2:], ATTRIBUTE[:-1] + "g", "02" + ATTRIBUTE[2:], "")],
+    "pid": ["1", "100", "101", "4194304", "4194305", "0"], "groups": ["[]", "[5, 5, 0]", "[4294967295]"],
+    "securebits": ["0", "16", "255", "256", "-1"], "no_new_privs": FLAGS,
+    "exclude": ['["setuid", "exit"]', '["setuid", "no"]', '["Exit"]', "[]", "[1]"],
+    **dict.fromkeys(("permitted", "effective", "inheritable", "ambient", "bounding"), SETS_QUOTED),
+}
+
+WORLD_TOKEN = re.compile(rb'"[^"\n]*"|[A-Za-z0-9_.+-]+|\s+|.', re.DOTALL)
+LOG_TOKEN = re.compile(rb"[^ \t\r\n]+|[ \t\r]+|\n")
+
+
+def replaced(rng, tokens, some):
+    """One token that isn't blank becomes another."""
+    places = [at for at, token in enumerate(tokens) if token.strip()]
+    if not places:
+        return tokens
+    at = rng.choice(places)
+    return tokens[:at] + [rng.choice(some)] + tokens[at + 1:]
+
+
+def of_tokens(pattern, some):
+    def change(rng, text):
+        tokens = pattern.findall(text)
+        return b"".join(replaced(rng, tokens, some) if rng.random() < 0.6 else shaped(rng, tokens))
+    return change
+
+
+# ---- keys ----------------------------------------------------------------------------------------------------------
+
+KEY = re.compile(rb"(\w+)\s*=\s*(.*)")
+ALL_KEYS = sorted({key.encode() for keys, _ in KEYS.values() for key in keys} | {b"x"})
+SOME_VALUES = [value.encode() for value in VALUES]
+
+
+def lines_with_keys(lines):
+    return [at for at, line in enumerate(lines) if KEY.match(line)]
+
+
+def of_keys(rng, text):
+    """A key is put in, taken out, doubled, renamed, or given another value or that of another key."""
+    lines = text.split(b"\n")
+    places = lines_with_keys(lines)
+    if not places:
+        return text
+    at, other = rng.choice(places), rng.choice(places)
+    key, value = KEY.match(lines[at]).groups()
+    how = rng.randrange(7)
+    if how == 0:
+        lines.insert(at, rng.choice(ALL_KEYS) + b" = " + rng.choice(SOME_VALUES))
+    elif how == 1:
+        del lines[at]
+    elif how == 2:
+        lines.insert(at, lines[other])
+    elif how == 3:
+        lines[at] = rng.choice(ALL_KEYS) + b" = " + value
+    elif how == 4:
+        lines[at], lines[other] = lines[other], lines[at]
+    elif how == 5:
+        lines[at] = key + b" = " + KEY.match(lines[other]).group(2)
+    else:
+        lines[at] = key + b" = " + rng.choice(SOME_VALUES)
+    return b"\n".join(lines)
+
+
+TABLE = re.compile(rb"\[\[?(\w+)\]")
+
+
+def of_kinds(rng, text):
+    """A key that its table may have gets a value of the right kind, in the place of what it has or as a new line."""
+    lines = text.split(b"\n")
+    at = rng.randrange(len(lines))
+    headers = [found.group(1).decode() for found in map(TABLE.match, lines[:at + 1]) if found]
+    table = headers[-1] if headers and headers[-1] in KEYS else "whole"
+    key = rng.choice([key for key in KEYS[table][0] if key in PLAUSIBLE] or ["log"])
+    line = f"{key} = {rng.choice(PLAUSIBLE[key])}".encode()
+    begin = next((place for place in range(at, -1, -1) if TABLE.match(lines[place])), -1)
+    end = next((place for place in range(begin + 1, len(lines)) if TABLE.match(lines[place])), len(lines))
+    own = next((place for place in range(begin + 1, end) if lines[place].split(b" ")[0] == key.encode()), None)
+    if own is None:
+        lines.insert(begin + 1, line)
+    else:
+        lines[own] = line
+    return b"\n".join(lines)
+
+
+# ---- rows ----------------------------------------------------------------------------------------------------------
+
+HEADERS = [f"[[{table}]]".encode() for table in KEYS] + [b"[filter]", b"[process]", b"[[process.x]]", b"[]", b"[[space]"]
+
+
+def of_rows(rng, text):
+    """A row of a world is cut, doubled, moved, or comes to another table."""
+    rows = re.split(rb"(?m)^(?=\[)", text)
+    if rng.random() < 0.7:
+        return b"".join(shaped(rng, rows))
+    at = rng.randrange(len(rows))
+    rows[at] = re.sub(rb"^\[.*", lambda _: rng.choice(HEADERS), rows[at], count=1)
+    return b"".join(rows)
+
+
+def of_lines(rng, text):
+    return b"".join(shaped(rng, text.splitlines(keepends=True)))
+
+
+def line_of(rng, text):
+    """A line of tokens that are drawn comes in."""
+    lines = text.split(b"\n")
+    call = rng.choice(list(CALLS))
+    words = [b"%d" % rng.choice((1, 2, 100, 101, 102, 103)), call, *rng.choices(LOG_TOKENS, k=rng.randrange(4)), b"=",
+             rng.choice((b"0", b"0", b"EPERM", b"EINVAL", b"7"))]
+    lines.insert(rng.randrange(len(lines) + 1), b" ".join(words))
+    return b"\n".join(lines)
+
+
+# ---- changes -------------------------------------------------------------------------------------------------------
+
+WORLD_CHANGES = (of_bytes, of_tokens(WORLD_TOKEN, SOME_VALUES), of_keys, of_kinds, of_kinds, of_kinds, of_rows)
+LOG_CHANGES = (of_bytes, of_tokens(LOG_TOKEN, LOG_TOKENS), of_tokens(LOG_TOKEN, LOG_TOKENS), of_lines, line_of)
+
+
+def changed(rng, text, changes):
+    """One to five changes, mostly one."""
+    for _ in range(min(5, 1 + int(rng.expovariate(1.2)))):
+        text = rng.choice(changes)(rng, text)
+    return text
+
+
+PIDS = (b"1", b"2", b"100", b"101", b"0100", b"104", b"0", b"x", b"-1", b"4194305", b"", b"4867")
+RIGHTS = (b"uid:0", b"uid:7", b"uid:4294967294", b"uid:4294967295", b"uid:", b"uid:-1", b"gid:0", b"gid:100005", b"gid:x",
+          b"cap:CAP_SYS_ADMIN@init", b"cap:CAP_KILL@box", b"cap:CAP_KILL@#1", b"cap:CAP_KILL@#00", b"cap:CAP_KILL@#9",
+          b"cap:CAP_KILL@#4294967296", b"cap:CAP_KILL@nobody", b"cap:KILL@init", b"cap:CAP_KILL", b"cap:5@init", b"cap:@@",
+          b"", b"uid", b"UID:0", b"uid:\xff")
