@@ -1,5 +1,6 @@
 -- Bounds of what the members of a family can hold, the rules by which bounds are closed, and what closed bounds exclude.
 pub mod Row
+pub mod Bounds
 pub mod Rule
 pub mod Gains
 pub mod Files

@@ -127,4 +127,5 @@ one_list low high (i ∷ a) (j ∷ b) is are same =
       | inl after ↦ sym (rest_holds i a id after) ∙ same id ∙ rest_holds j b id (omega arith)
       | inr before ↦ none_below (i.last + 2) id a one.rest (omega arith) ∙ sym (none_below (j.last + 2) id b other.rest (omega arith))
     ] in
-    ap (λ (head : Interval). head ∷ a) (same_ends i j first last) ∙ ap (λ (tail : List Interval). j ∷ tail) (one_list (i.last + 2) (j.last + 2) a b one.rest other.rest rest)
+    ap (λ (head : Interval). head ∷ a) (same_ends i j first last)
+    ∙ ap (λ (tail : List Interval). j ∷ tail) (one_list (i.last + 2) (j.last + 2) a b one.rest other.rest rest)

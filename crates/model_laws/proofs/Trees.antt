@@ -156,7 +156,8 @@ pub good_map : (file : MapFile) (spaces : Spaces) (at : ℕ) (c : Credential) (n
     → GoodWrite spaces (write_map file spaces at c n list)
 good_map file spaces at c n list there kept =
     write_either spaces _ _ _ (good_refused EPERM spaces kept)
-    (cond_both (not (is_map list)) (write_refused EINVAL spaces) (write_stored file spaces at c n list (list_down (parent_map file spaces (space_of spaces n)) list))
+    (cond_both (not (is_map list)) (write_refused EINVAL spaces)
+    (write_stored file spaces at c n list (list_down (parent_map file spaces (space_of spaces n)) list))
     (GoodWrite spaces) (λ _. good_refused EINVAL spaces kept)
     (λ is. good_mapped file spaces at c n list (list_down (parent_map file spaces (space_of spaces n)) list) there
     (λ mapped stored. (

@@ -85,7 +85,8 @@ unfolding world_on_literals
 bad_names = refl
 
 -- `root` always stands
-pub twice_named : map world_text (of_mount (codes "name = \"root\"\nspace = \"x\"\n") ∷ of_mount (codes "name = \"m\"\n[[mount]]\nname = \"m\"\nspace = \"x\"\n") ∷ [])
+pub twice_named : map world_text (of_mount (codes "name = \"root\"\nspace = \"x\"\n")
+    ∷ of_mount (codes "name = \"m\"\n[[mount]]\nname = \"m\"\nspace = \"x\"\n") ∷ [])
     ≡ Bad table.Mount 1 fault.TwiceNamed ∷ Bad table.Mount 2 fault.TwiceNamed ∷ []
 unfolding world_on_literals
 twice_named = refl

@@ -10,7 +10,8 @@ use Rattle.model_text.specs.Numbers.{StandsFor, Ascend, IsWhole, AreTold, Breaks
 use Rattle.model_text.specs.Reading.{Placed, Reading, from_line, lines_reading, log_line}
 
 -- the first line itself
-abbrev here : (w : World) (from : ℕ) (line : List ℕ) (lines : List (List ℕ)) (meaning : Line) → log_line w line ≡ meaning → StandsFor w from (line ∷ lines) from meaning
+abbrev here : (w : World) (from : ℕ) (line : List ℕ) (lines : List (List ℕ)) (meaning : Line)
+    → log_line w line ≡ meaning → StandsFor w from (line ∷ lines) from meaning
 here w from line lines meaning is = record { before = []; line = line; later = lines; cut = refl; place = omega arith; means = is }
 
 -- a line after the first one
@@ -38,7 +39,8 @@ told_past_none w line lines events is all = record {
   told = all.told ∙ sym (ap (λ (l : Line). cons_option (told_event l) (told_events w lines)) is);
 }
 
-told_past_one : (w : World) (number : ℕ) (line : List ℕ) (lines : List (List ℕ)) (e : Event) (events : List Placed) → log_line w line ≡ Tells e → AreTold w lines events
+told_past_one : (w : World) (number : ℕ) (line : List ℕ) (lines : List (List ℕ)) (e : Event) (events : List Placed)
+    → log_line w line ≡ Tells e → AreTold w lines events
     → AreTold w (line ∷ lines) (record { line = number; event = e } ∷ events)
 told_past_one w number line lines e events is all = record {
   whole = All-cons (IsWhole w) line lines (inr (e, is)) all.whole;
@@ -47,7 +49,8 @@ told_past_one w number line lines e events is all = record {
       ∙ sym (ap (λ (l : Line). cons_option (told_event l) (told_events w lines)) is);
 }
 
-breaks_past_none : (w : World) (from : ℕ) (line : List ℕ) (lines : List (List ℕ)) (events : List Placed) (number : ℕ) (meaning : Line) → log_line w line ≡ NoEvent
+breaks_past_none : (w : World) (from : ℕ) (line : List ℕ) (lines : List (List ℕ))
+    (events : List Placed) (number : ℕ) (meaning : Line) → log_line w line ≡ NoEvent
     → BreaksAt w (from + 1) lines events number meaning → BreaksAt w from (line ∷ lines) events number meaning
 breaks_past_none w from line lines events number meaning is breaks = record {
   stands = later w from line lines number meaning breaks.stands;
@@ -62,14 +65,16 @@ breaks_past_one w from line lines e events number meaning is breaks = record {
   before = told_past_one w from line breaks.stands.before e events is breaks.before;
 }
 
-breaks_here : (w : World) (from : ℕ) (line : List ℕ) (lines : List (List ℕ)) (meaning : Line) → log_line w line ≡ meaning → BreaksAt w from (line ∷ lines) [] from meaning
+breaks_here : (w : World) (from : ℕ) (line : List ℕ) (lines : List (List ℕ)) (meaning : Line)
+    → log_line w line ≡ meaning → BreaksAt w from (line ∷ lines) [] from meaning
 breaks_here w from line lines meaning is = record {
   stands = here w from line lines meaning is;
   before = record { whole = All-nil (IsWhole w); told = refl };
 }
 
 -- each event that later lines tell is told by its line
-told_later : (w : World) (from : ℕ) (line : List ℕ) (lines : List (List ℕ)) (events : List Placed) → All (λ e. StandsFor w (from + 1) lines e.line (Tells e.event)) events
+told_later : (w : World) (from : ℕ) (line : List ℕ) (lines : List (List ℕ)) (events : List Placed)
+    → All (λ e. StandsFor w (from + 1) lines e.line (Tells e.event)) events
     → All (λ e. StandsFor w from (line ∷ lines) e.line (Tells e.event)) events
 told_later w from line lines events all =
     All-weaker (λ e. StandsFor w (from + 1) lines e.line (Tells e.event)) (λ e. StandsFor w from (line ∷ lines) e.line (Tells e.event))

@@ -18,7 +18,8 @@ use Rattle.model_text.specs.ProcessText.{process_row, process_declared, sets_dec
 use Rattle.model_text.specs.SpaceText.{Declared, none_declared, space_row}
 use Rattle.model_text.specs.Refusal.{rows_from}
 use Rattle.model_text.specs.Toml.{has_key, has_key_of, array_items}
-use Rattle.model_text.specs.WorldText.{Reads, world_text, text_says_more, document_says_more, says_more, row_has, some_row_has, further_keys, further_tables, rows_at}
+use Rattle.model_text.specs.WorldText.{Reads, world_text, text_says_more, document_says_more, says_more}
+use Rattle.model_text.specs.WorldText.{row_has, some_row_has, further_keys, further_tables, rows_at}
 use Rattle.toml.specs.Data.{Data, Items, no_items, item, Members, get_member}
 use Rattle.toml.specs.Data as toml
 use Rattle.toml.specs.Parse.{parse_document}

@@ -31,7 +31,8 @@ pub groups_are_joined : groups_text (4 ∷ 20 ∷ 1000 ∷ []) ≡ codes "4,20,1
 unfolding print_on_literals
 groups_are_joined = refl
 
-pub spaces_by_name_or_number : map (space_token the_world.names) (0 ∷ 1 ∷ 2 ∷ 3 ∷ 12 ∷ []) ≡ codes "init" ∷ codes "pod" ∷ codes "box-1.a" ∷ codes "#3" ∷ codes "#12" ∷ []
+pub spaces_by_name_or_number : map (space_token the_world.names) (0 ∷ 1 ∷ 2 ∷ 3 ∷ 12 ∷ [])
+    ≡ codes "init" ∷ codes "pod" ∷ codes "box-1.a" ∷ codes "#3" ∷ codes "#12" ∷ []
 unfolding print_on_literals
 spaces_by_name_or_number = refl
 

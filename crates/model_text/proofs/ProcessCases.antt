@@ -84,11 +84,14 @@ pub largest_group_id : Declares (codes "gid = 4294967294\n") (record root { gid 
 unfolding world_on_literals
 largest_group_id = refl
 
-pub group_ids_out_of_range : AreBad fault.BadNumber (codes "gid = 4294967295\n" ∷ codes "gid = -1\n" ∷ codes "gid = [0, 0, 0, 4294967295]\n" ∷ codes "gid = [-1, 0, 0, 0]\n" ∷ [])
+pub group_ids_out_of_range : AreBad fault.BadNumber (codes "gid = 4294967295\n" ∷ codes "gid = -1\n"
+    ∷ codes "gid = [0, 0, 0, 4294967295]\n" ∷ codes "gid = [-1, 0, 0, 0]\n" ∷ [])
 unfolding world_on_literals
 group_ids_out_of_range = refl
 
-pub group_ids_of_another_type : AreBad fault.WrongType (codes "gid = \"0\"\n" ∷ codes "gid = 0.0\n" ∷ codes "gid = true\n" ∷ codes "gid = {}\n" ∷ codes "gid = []\n" ∷ codes "gid = [0, 0, 0]\n" ∷ codes "gid = [0, 0, 0, 0, 0]\n" ∷ codes "gid = [0, 0, 0, \"0\"]\n" ∷ codes "gid = [[0, 0, 0, 0]]\n" ∷ [])
+pub group_ids_of_another_type : AreBad fault.WrongType (codes "gid = \"0\"\n" ∷ codes "gid = 0.0\n" ∷ codes "gid = true\n"
+    ∷ codes "gid = {}\n" ∷ codes "gid = []\n" ∷ codes "gid = [0, 0, 0]\n" ∷ codes "gid = [0, 0, 0, 0, 0]\n"
+    ∷ codes "gid = [0, 0, 0, \"0\"]\n" ∷ codes "gid = [[0, 0, 0, 0]]\n" ∷ [])
 unfolding world_on_literals
 group_ids_of_another_type = refl
 
@@ -113,7 +116,9 @@ pub groups_out_of_range : AreBad fault.BadNumber (codes "groups = [34, 429496729
 unfolding world_on_literals
 groups_out_of_range = refl
 
-pub groups_of_another_type : AreBad fault.WrongType (codes "groups = 34\n" ∷ codes "groups = \"34\"\n" ∷ codes "groups = [\"34\"]\n" ∷ codes "groups = [[34]]\n" ∷ codes "groups = {}\n" ∷ codes "groups = [-1, \"34\"]\n" ∷ [])
+pub groups_of_another_type : AreBad fault.WrongType
+    (codes "groups = 34\n" ∷ codes "groups = \"34\"\n" ∷ codes "groups = [\"34\"]\n"
+    ∷ codes "groups = [[34]]\n" ∷ codes "groups = {}\n" ∷ codes "groups = [-1, \"34\"]\n" ∷ [])
 unfolding world_on_literals
 groups_of_another_type = refl
 
@@ -170,11 +175,13 @@ pub ambient_beyond_the_others : AreBad fault.NotIncluded
 unfolding world_on_literals
 ambient_beyond_the_others = refl
 
-pub texts_that_are_no_sets : AreBad fault.BadCaps (codes "permitted = \"CAP_FOO\"\n" ∷ codes "effective = \"\"\n" ∷ codes "inheritable = \"CAP_KILL,\"\n" ∷ codes "ambient = \"cap_kill\"\n" ∷ codes "bounding = \"000001fffffffff\"\n" ∷ [])
+pub texts_that_are_no_sets : AreBad fault.BadCaps (codes "permitted = \"CAP_FOO\"\n" ∷ codes "effective = \"\"\n"
+    ∷ codes "inheritable = \"CAP_KILL,\"\n" ∷ codes "ambient = \"cap_kill\"\n" ∷ codes "bounding = \"000001fffffffff\"\n" ∷ [])
 unfolding world_on_literals
 texts_that_are_no_sets = refl
 
-pub sets_of_another_type : AreBad fault.WrongType (codes "bounding = 0\n" ∷ codes "permitted = []\n" ∷ codes "effective = [\"CAP_KILL\"]\n" ∷ codes "inheritable = true\n" ∷ codes "ambient = {}\n" ∷ [])
+pub sets_of_another_type : AreBad fault.WrongType (codes "bounding = 0\n" ∷ codes "permitted = []\n"
+    ∷ codes "effective = [\"CAP_KILL\"]\n" ∷ codes "inheritable = true\n" ∷ codes "ambient = {}\n" ∷ [])
 unfolding world_on_literals
 sets_of_another_type = refl
 
@@ -187,7 +194,8 @@ pub securebits_out_of_range : AreBad fault.BadNumber (codes "securebits = 256\n"
 unfolding world_on_literals
 securebits_out_of_range = refl
 
-pub securebits_of_another_type : AreBad fault.WrongType (codes "securebits = \"16\"\n" ∷ codes "securebits = [16]\n" ∷ codes "securebits = true\n" ∷ codes "securebits = 16.0\n" ∷ [])
+pub securebits_of_another_type : AreBad fault.WrongType (codes "securebits = \"16\"\n"
+    ∷ codes "securebits = [16]\n" ∷ codes "securebits = true\n" ∷ codes "securebits = 16.0\n" ∷ [])
 unfolding world_on_literals
 securebits_of_another_type = refl
 
@@ -195,12 +203,14 @@ pub no_new_privs_is_set : Declares (codes "no_new_privs = true\n") (record root 
 unfolding world_on_literals
 no_new_privs_is_set = refl
 
-pub no_new_privs_of_another_type : AreBad fault.WrongType (codes "no_new_privs = 1\n" ∷ codes "no_new_privs = 0\n" ∷ codes "no_new_privs = \"true\"\n" ∷ codes "no_new_privs = [true]\n" ∷ [])
+pub no_new_privs_of_another_type : AreBad fault.WrongType (codes "no_new_privs = 1\n"
+    ∷ codes "no_new_privs = 0\n" ∷ codes "no_new_privs = \"true\"\n" ∷ codes "no_new_privs = [true]\n" ∷ [])
 unfolding world_on_literals
 no_new_privs_of_another_type = refl
 
 -- ---- other keys
-pub unknown_keys : AreBad fault.UnknownKey (codes "cap = \"all\"\n" ∷ codes "Gid = 0\n" ∷ codes "group = 0\n" ∷ codes "nnp = true\n" ∷ codes "\"gid \" = 0\n" ∷ codes "ppid = 0\n" ∷ codes "gid = \"0\"\nother = 0\n" ∷ [])
+pub unknown_keys : AreBad fault.UnknownKey (codes "cap = \"all\"\n" ∷ codes "Gid = 0\n" ∷ codes "group = 0\n"
+    ∷ codes "nnp = true\n" ∷ codes "\"gid \" = 0\n" ∷ codes "ppid = 0\n" ∷ codes "gid = \"0\"\nother = 0\n" ∷ [])
 unfolding world_on_literals
 unknown_keys = refl
 
@@ -257,7 +267,8 @@ least_faults = refl
 
 -- ---- whether more is said than pids and user ids
 pub each_further_key_says_more : map (λ rest. text_says_more (of_row rest))
-    (codes "parent = 1\n" ∷ codes "space = \"init\"\n" ∷ codes "gid = 0\n" ∷ codes "groups = []\n" ∷ codes "permitted = \"all\"\n" ∷ codes "effective = \"all\"\n"
+    (codes "parent = 1\n" ∷ codes "space = \"init\"\n" ∷ codes "gid = 0\n"
+    ∷ codes "groups = []\n" ∷ codes "permitted = \"all\"\n" ∷ codes "effective = \"all\"\n"
     ∷ codes "inheritable = \"none\"\n" ∷ codes "ambient = \"none\"\n" ∷ codes "bounding = \"all\"\n" ∷ codes "securebits = 0\n"
     ∷ codes "no_new_privs = false\n" ∷ [])
     ≡ true ∷ true ∷ true ∷ true ∷ true ∷ true ∷ true ∷ true ∷ true ∷ true ∷ true ∷ []

@@ -1,5 +1,6 @@
 -- What was written of an event is read again as the same event.
-use Rattle.std.proofs.Common.{◌≡◌, ℕ, suc, ◌+◌, ◌*◌, ◌%◌, ◌<◌, ◌≤◌, true, false, List, [], ◌∷◌, ◌++◌, length, map, refl, ap, ◌∙◌, arith, All, IsTrue, append_assoc}
+use Rattle.std.proofs.Common.{◌≡◌, ℕ, suc, ◌+◌, ◌*◌, ◌%◌, ◌<◌, ◌≤◌, true, false, List, [], ◌∷◌}
+use Rattle.std.proofs.Common.{◌++◌, length, map, refl, ap, ◌∙◌, arith, All, IsTrue, append_assoc}
 use Rattle.std.proofs.Common.{Option, Some, None, lit<, add-one, nat_lt}
 use Rattle.std.proofs.lemmas.Bool.{eq-eqb, ne_eqb, leb-true, ltb-true, and_parts}
 use Rattle.std.proofs.lemmas.List.Elements.{All-head, All-tail, All-weaker}
@@ -31,7 +32,8 @@ use Rattle.model_text.proofs.HexTexts.{set_is_token, set_back, set_length}
 use Rattle.model_text.proofs.SpaceTexts.{space_written}
 use Rattle.model_text.proofs.Tokens.{IsToken, token_alone, token_before, tokens_before}
 use Rattle.model_text.specs.Arguments.{Form, AnId, ANumber, ACap, ASet, ASpace, AWord, AFile, Pattern, Ids, Triples, pattern_of, takes, form_at}
-use Rattle.model_text.specs.Arguments.{Argument, Id, Number, Cap, Set, Space, Word, File, argument_token, argument_text, extents_in, ids_in, call_with, triple_of, arguments_of}
+use Rattle.model_text.specs.Arguments.{Argument, Id, Number, Cap, Set, Space, Word, File, argument_token}
+use Rattle.model_text.specs.Arguments.{argument_text, extents_in, ids_in, call_with, triple_of, arguments_of}
 use Rattle.model_text.specs.Cut.{tokens_of}
 use Rattle.model_text.specs.Line.{Tells, Tokens, parts_of, after_argument, arguments_from, call_told, result_of_kind, tokens_line}
 use Rattle.model_text.specs.Print.{event_text}
@@ -152,9 +154,17 @@ arguments_make model.CloneUser = record { count = refl; fit = tt; made = refl }
 arguments_make model.Unshare = record { count = refl; fit = tt; made = refl }
 arguments_make (model.SetNs a) = record { count = refl; fit = (refl, tt); made = refl }
 arguments_make (model.WriteUidMap space list) =
-    record { count = triples_counted (Space space) list; fit = (refl, fit_triples 0 list); made = ap (option_map (model.WriteUidMap space)) (extents_back list) }
+    record {
+      count = triples_counted (Space space) list;
+      fit = (refl, fit_triples 0 list);
+      made = ap (option_map (model.WriteUidMap space)) (extents_back list);
+    }
 arguments_make (model.WriteGidMap space list) =
-    record { count = triples_counted (Space space) list; fit = (refl, fit_triples 0 list); made = ap (option_map (model.WriteGidMap space)) (extents_back list) }
+    record {
+      count = triples_counted (Space space) list;
+      fit = (refl, fit_triples 0 list);
+      made = ap (option_map (model.WriteGidMap space)) (extents_back list);
+    }
 arguments_make (model.WriteSetgroups a b) = record { count = refl; fit = (refl, (refl, tt)); made = refl }
 arguments_make (model.Exec a) = record { count = refl; fit = (refl, tt); made = refl }
 arguments_make model.Exit = record { count = refl; fit = tt; made = refl }

@@ -100,8 +100,12 @@ pub bad_names : RowsBad fault.BadName
 unfolding world_on_literals
 bad_names = refl
 
-pub longest_name : map (λ text. world_text text) (codes "log = \"script\"\n[[space]]\nname = \"Az09_-.8901234567890123456789012\"\nparent = \"init\"\nowner = 500\n" ∷ [])
-    ≡ Reads (record (world_with []) { start = record { processes = []; spaces = plain ∷ first_spaces }; names = codes "Az09_-.8901234567890123456789012" ∷ [] }) ∷ []
+pub longest_name : map (λ text. world_text text)
+    (codes "log = \"script\"\n[[space]]\nname = \"Az09_-.8901234567890123456789012\"\nparent = \"init\"\nowner = 500\n" ∷ [])
+    ≡ Reads (record (world_with []) {
+      start = record { processes = []; spaces = plain ∷ first_spaces };
+      names = codes "Az09_-.8901234567890123456789012" ∷ [];
+    }) ∷ []
 unfolding world_on_literals
 longest_name = refl
 

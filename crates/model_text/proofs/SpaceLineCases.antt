@@ -57,7 +57,10 @@ result_of_setns = refl
 pub a_map_of_one_line : IsEvent (codes "100 write_uid_map #1 0 1000 1 = 0") (WriteUidMap 1 (record { inside = 0; outside = 1000; length = 1 } ∷ [])) Done
 a_map_of_one_line = refl
 
-pub a_map_of_two_lines : IsEvent (codes "100 write_gid_map pod 0 100 50 050 4294967295 0 = EINVAL") (WriteGidMap 1 (record { inside = 0; outside = 100; length = 50 } ∷ record { inside = 50; outside = 4294967295; length = 0 } ∷ [])) (Err EINVAL)
+pub a_map_of_two_lines : IsEvent (codes "100 write_gid_map pod 0 100 50 050 4294967295 0 = EINVAL")
+    (WriteGidMap 1
+    (record { inside = 0; outside = 100; length = 50 } ∷ record { inside = 50; outside = 4294967295; length = 0 } ∷ []))
+    (Err EINVAL)
 a_map_of_two_lines = refl
 
 -- that no list without a line is a map is for the rules to say

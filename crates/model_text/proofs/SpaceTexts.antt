@@ -1,5 +1,6 @@
 -- Spaces as they are written: a token, no `=`, which is read as the space, where the names of spaces keep their rules.
-use Rattle.std.proofs.Common.{◌≡◌, ℕ, zero, suc, ◌+◌, ◌-◌, ◌<◌, ◌≤◌, Bool, true, false, not, ◌&&◌, List, [], ◌∷◌, ◌++◌, length, refl, sym, ap, ◌∙◌, arith, inl, inr, All}
+use Rattle.std.proofs.Common.{◌≡◌, ℕ, zero, suc, ◌+◌, ◌-◌, ◌<◌, ◌≤◌, Bool, true, false, not, ◌&&◌}
+use Rattle.std.proofs.Common.{List, [], ◌∷◌, ◌++◌, length, refl, sym, ap, ◌∙◌, arith, inl, inr, All}
 use Rattle.std.proofs.Common.{Option, Some, None, cond, lit<, nat_le, eqb, IsTrue}
 use Rattle.std.proofs.lemmas.Bool.{and_parts, and_from, not-true, ne_eqb, leb-true, cases_lt, agree_below_at, both_ways}
 use Rattle.std.proofs.lemmas.List.Elements.{All-head, All-tail}

@@ -1,5 +1,6 @@
 -- The files of events that lines tell are in the table of the world.
-use Rattle.std.proofs.Common.{◌≡◌, ℕ, ◌+◌, ◌<◌, Bool, true, false, cond, List, [], ◌∷◌, length, Option, Some, None, Result, Ok, Err, refl, sym, ◌∙◌, arith, inl, inr}
+use Rattle.std.proofs.Common.{◌≡◌, ℕ, ◌+◌, ◌<◌, Bool, true, false, cond, List, [], ◌∷◌, length}
+use Rattle.std.proofs.Common.{Option, Some, None, Result, Ok, Err, refl, sym, ◌∙◌, arith, inl, inr}
 use Rattle.std.proofs.lemmas.Bool.{cases_Bool}
 use Rattle.std.proofs.lemmas.Iterator.Adapters.{position_from-zero}
 use Rattle.std.proofs.lemmas.Option.{same_Some}
@@ -20,10 +21,12 @@ use Rattle.model_cred.specs.IdMap.{Extent}
 use Rattle.model_cred.specs.World.{World}
 use Rattle.model_text.specs.Arguments.{Form, AnId, ANumber, ACap, ASet, ASpace, AWord, AFile, Pattern, form_at, pattern_of, takes}
 use Rattle.model_text.specs.Arguments.{Argument, Id, Number, Cap, Set, Space, Word, File, argument_token, call_with, ids_in, extents_in}
-use Rattle.model_text.specs.Arguments.{with_id, with_two_ids, with_three_ids, with_sets, with_cap, with_number, with_space, with_file, with_word, with_extents, with_none}
+use Rattle.model_text.specs.Arguments.{with_id, with_two_ids, with_three_ids, with_sets, with_cap, with_number}
+use Rattle.model_text.specs.Arguments.{with_space, with_file, with_word, with_extents, with_none}
 use Rattle.model_text.specs.CapText.{set_of_text}
 use Rattle.model_text.specs.Cut.{tokens_of}
-use Rattle.model_text.specs.Line.{Line, NoEvent, Tells, Faulty, Tokens, Parts, parts_of, argument_before, arguments_from, call_read, call_told, result_of_kind, groups_fit}
+use Rattle.model_text.specs.Line.{Line, NoEvent, Tells, Faulty, Tokens, Parts, parts_of, argument_before}
+use Rattle.model_text.specs.Line.{arguments_from, call_read, call_told, result_of_kind, groups_fit}
 use Rattle.model_text.specs.Line.{told_line, outcome_line, parts_line, kind_line, call_line, pid_line, tokens_line, script_line}
 use Rattle.model_text.specs.NameText.{is_path}
 use Rattle.model_text.specs.SpaceToken.{space_of_token}
@@ -196,7 +199,8 @@ call_stands w kind.Exec arguments stand = of_file w arguments stand
 call_stands w kind.Exit arguments stand = of_none (FileStands w.files) model.Exit tt arguments
 
 -- the call of arguments that are read
-read_stands : (w : World) (kind : CallKind) (read : Result (List Argument) ℕ) (call : Call) → ((arguments : List Argument) → read ≡ Ok arguments → AllStand w arguments)
+read_stands : (w : World) (kind : CallKind) (read : Result (List Argument) ℕ) (call : Call)
+    → ((arguments : List Argument) → read ≡ Ok arguments → AllStand w arguments)
     → call_read kind read ≡ Ok call → FileStands w.files call
 read_stands w kind (Err n) call stand is = absurd (cc)
 read_stands w kind (Ok arguments) call stand is = by_made (call_with kind arguments) (call_stands w kind arguments (stand arguments refl)) is

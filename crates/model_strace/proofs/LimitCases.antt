@@ -1,0 +1,120 @@
+-- Worked cases, by computation, of the limits of a log of strace(1).
+use Rattle.std.proofs.Common.{◌≡◌, ℕ, false, true, Bool, List, [], ◌∷◌, ◌++◌, map, replicate, flat_map, length, ap}
+use Rattle.std.proofs.Common.{refl}
+use Rattle.std.specs.Prelude.{codes, bytes_eq, nat_lt, if◌then◌else◌}
+use Rattle.cm_base.specs.declared.faults.LineFault.TheVariants as fault
+use Rattle.cm_base.specs.Limited.{limit_number}
+use Rattle.cm_base.specs.declared.limited.Limited.TheVariants as limit
+use Rattle.cm_base.specs.declared.res.Res.TheVariants.{Done, Child}
+use Rattle.model_cred.specs.Call.{SetUid, SetGroups, Fork}
+use Rattle.model_strace.proofs.CaseWorld.{the_world, at_line, to_the_end, up_to_fault, up_to_limit}
+use Rattle.model_strace.specs.Body.{TooLong, log_row, row_of}
+use Rattle.model_strace.specs.Files.{UidMap}
+use Rattle.model_strace.specs.Lines.{reading, reading_by}
+use Rattle.model_strace.specs.Parts.{Descriptor, Parts, first_parts}
+use Rattle.model_strace.specs.Rest.{Session, Going, rest}
+use Rattle.model_strace.specs.Turn.{Turn, Refused, Exceeds, turn}
+
+-- ---- groups
+-- a line with so many groups 7, after its length as it is written
+abbrev groups_line : List ℕ → ℕ → List ℕ → List ℕ
+groups_line length n result =
+    codes "200 setgroups(" ++ length ++ codes ", [8" ++ flat_map (λ group. codes ", " ++ group) (replicate n (codes "7"))
+    ++ codes "]) = " ++ result
+
+pub most_groups_are_read : reading the_world (groups_line (codes "1024") 1023 (codes "0") ∷ [])
+    ≡ to_the_end (at_line 1 200 (SetGroups (8 ∷ replicate 1023 7)) Done ∷ [])
+most_groups_are_read = refl
+
+pub one_group_more_is_over_the_limit :
+    reading the_world (codes "200 setuid(1) = 0" ∷ groups_line (codes "1025") 1024 (codes "0") ∷ codes "x" ∷ [])
+    ≡ up_to_limit (at_line 1 200 (SetUid 1) Done ∷ []) limit.Groups
+one_group_more_is_over_the_limit = refl
+
+-- the limit comes after each fault of its line
+pub a_fault_comes_before_the_limit : map (λ line. reading the_world (line ∷ []))
+    (groups_line (codes "1025") 1024 (codes "x") ∷ groups_line (codes "x") 1024 (codes "0")
+    ∷ groups_line (codes "1024") 1024 (codes "0") ∷ [])
+    ≡ up_to_fault [] 1 fault.Outcome ∷ up_to_fault [] 1 (fault.Argument 1) ∷ up_to_fault [] 1 (fault.Argument 2) ∷ []
+a_fault_comes_before_the_limit = refl
+
+-- ---- held lines
+-- a session that holds so many lines of process 201
+abbrev holding : ℕ → Session
+holding n = Going (record {
+  parts = first_parts the_world;
+  held = replicate n (record { number = 1; pid = 201; body = codes "getpid() = 201" });
+  count = 9;
+})
+
+pub most_held_lines_are_held : rest the_world (holding 4095) (codes "201 setuid(1) = 0" ∷ codes "200 getpid() = 200" ∷ [])
+    ≡ to_the_end (at_line 10 201 (SetUid 1) Done ∷ [])
+most_held_lines_are_held = refl
+
+pub one_held_line_more_is_over_the_limit : rest the_world (holding 4096) (codes "201" ∷ codes "200 setuid(1) = 0" ∷ [])
+    ≡ up_to_limit [] limit.Held
+one_held_line_more_is_over_the_limit = refl
+
+-- a line that isn't held doesn't count
+pub other_lines_come_all_the_same : rest the_world (holding 4096) (codes "" ∷ codes "200 setuid(1) = 0" ∷ codes "x" ∷ [])
+    ≡ up_to_fault (at_line 11 200 (SetUid 1) Done ∷ []) 12 fault.Pid
+other_lines_come_all_the_same = refl
+
+-- a birth makes room
+pub held_lines_that_are_read_count_no_more : rest the_world (holding 4096) (codes "200 fork() = 201" ∷ codes "202 setuid(1) = 0" ∷ [])
+    ≡ to_the_end (at_line 10 200 Fork (Child 201) ∷ at_line 11 202 (SetUid 1) Done ∷ [])
+held_lines_that_are_read_count_no_more = refl
+
+-- ---- descriptors
+-- so many descriptors of another process
+abbrev others : ℕ → List Descriptor
+others n = replicate n (record { pid = 300; number = 9; file = UidMap; space = 0; until_exec = false })
+
+-- what is known with so many descriptors of another process, and descriptor 3 of process 200
+abbrev following : ℕ → Parts
+following n = let first = first_parts the_world in record first {
+  descriptors = record { pid = 200; number = 3; file = UidMap; space = 0; until_exec = false } ∷ others n;
+}
+
+-- the limit of descriptors is exceeded
+abbrev is_over : Turn → Bool
+is_over (Exceeds limit.Descriptors) = true
+is_over _ = false
+
+pub most_descriptors_are_followed :
+    is_over (turn the_world 200 (codes "open(\"/proc/self/uid_map\", O_WRONLY) = 4") (following 65534)) ≡ false
+most_descriptors_are_followed = refl
+
+pub one_descriptor_more_is_over_the_limit :
+    is_over (turn the_world 200 (codes "open(\"/proc/self/uid_map\", O_WRONLY) = 4") (following 65535)) ≡ true
+one_descriptor_more_is_over_the_limit = refl
+
+-- one in the place of another is no more
+pub one_in_the_place_of_another_is_followed :
+    is_over (turn the_world 200 (codes "open(\"/proc/self/uid_map\", O_WRONLY) = 3") (following 65535)) ≡ false
+one_in_the_place_of_another_is_followed = refl
+
+pub copies_of_a_birth_count :
+    map (λ n. is_over (turn the_world 200 (codes "fork() = 201") (following n))) (65534 ∷ 65535 ∷ []) ≡ false ∷ true ∷ []
+copies_of_a_birth_count = refl
+
+pub faults_come_before_that_limit :
+    turn the_world 200 (codes "open(\"/proc/201/uid_map\", O_WRONLY) = 4") (following 65535) ≡ Refused fault.Descriptor
+faults_come_before_that_limit = refl
+
+-- ---- bytes
+-- what a line of so many bytes is
+row_of_length : (n : ℕ) (line : List ℕ) → length line ≡ n → log_row line ≡ (if nat_lt (limit_number limit.Line) n then TooLong else row_of line)
+row_of_length n line long = ap (λ (m : ℕ). if nat_lt (limit_number limit.Line) m then TooLong else row_of line) long
+
+pub the_longest_line_of_a_log : (line : List ℕ) → length line ≡ 1048576 → log_row line ≡ row_of line
+the_longest_line_of_a_log line long = row_of_length 1048576 line long
+
+pub a_line_of_one_byte_more_is_too_long : (line : List ℕ) → length line ≡ 1048577 → log_row line ≡ TooLong
+a_line_of_one_byte_more_is_too_long line long = row_of_length 1048577 line long
+
+-- a line that is too long ends the reading, whatever it is
+pub it_ends_the_reading : reading_by (λ line. if bytes_eq line (codes "x") then TooLong else row_of line) the_world
+    (codes "200 setuid(1) = 0" ∷ codes "x" ∷ codes "y" ∷ [])
+    ≡ up_to_limit (at_line 1 200 (SetUid 1) Done ∷ []) limit.Line
+it_ends_the_reading = refl
