@@ -13,6 +13,8 @@ limit_name limit.Spaces = codes "spaces"
 limit_name limit.Mounts = codes "mounts"
 limit_name limit.Files = codes "files"
 limit_name limit.Groups = codes "groups"
+limit_name limit.Held = codes "held"
+limit_name limit.Descriptors = codes "descriptors"
 
 -- the number of a limit: it is hit where the count exceeds it
 abbrev pub limit_number : Limited → ℕ
@@ -24,3 +26,5 @@ limit_number limit.Spaces = 256
 limit_number limit.Mounts = 64
 limit_number limit.Files = 4096
 limit_number limit.Groups = 1024
+limit_number limit.Held = 4096
+limit_number limit.Descriptors = 65536

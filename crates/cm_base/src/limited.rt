@@ -21,6 +21,10 @@ pub enum Limited {
     Files,
     /// The groups of one list.
     Groups,
+    /// The lines of a log that wait for their process to be born.
+    Held,
+    /// The descriptors of a log that are followed.
+    Descriptors,
 }
 
 impl Limited {
@@ -37,6 +41,8 @@ impl Limited {
             Limited::Mounts => "mounts",
             Limited::Files => "files",
             Limited::Groups => "groups",
+            Limited::Held => "held",
+            Limited::Descriptors => "descriptors",
         }
     }
 
@@ -47,10 +53,11 @@ impl Limited {
         match self {
             Limited::World | Limited::Line => 1_048_576,
             Limited::Log => 67_108_864,
-            Limited::Processes | Limited::Files => 4096,
+            Limited::Processes | Limited::Files | Limited::Held => 4096,
             Limited::Spaces => 256,
             Limited::Mounts => 64,
             Limited::Groups => 1024,
+            Limited::Descriptors => 65_536,
         }
     }
 }

@@ -189,6 +189,8 @@ fn faults_tables_and_limits_have_their_words(rt: HostRuntime) {
         (Limited::Mounts, "mounts", 64),
         (Limited::Files, "files", 4096),
         (Limited::Groups, "groups", 1024),
+        (Limited::Held, "held", 4096),
+        (Limited::Descriptors, "descriptors", 65_536),
     ] {
         assert_eq!(rt; limit.name(), name);
         assert_eq!(rt; limit.number(), number);

@@ -1,5 +1,6 @@
 -- What an index of rows finds, and an index with one row more.
-use Rattle.std.proofs.Common.{◌≡◌, ◌≢◌, ℕ, ◌+◌, ◌<◌, ◌≤◌, ◌==◌, ◌||◌, Bool, true, false, length, take, drop, ◌-◌, ◌∷◌, List, Some, None, refl, sym, ap, subst, ◌∙◌, inl, inr, arith, get_or}
+use Rattle.std.proofs.Common.{◌≡◌, ◌≢◌, ℕ, ◌+◌, ◌<◌, ◌≤◌, ◌==◌, ◌||◌, Bool, true, false, length, take, drop}
+use Rattle.std.proofs.Common.{◌-◌, ◌∷◌, List, Some, None, refl, sym, ap, subst, ◌∙◌, inl, inr, arith, get_or}
 use Rattle.std.specs.Prelude.{IsTrue, bytes_eq, slice_index, nat_lt}
 use Rattle.std.specs.List.{insert, list_any, position_or_len}
 use Rattle.std.proofs.lemmas.Bool.{cases_Bool, cases_eq, cases_order, cond-true, cond-false, eqb-true, eq-eqb}
@@ -48,7 +49,8 @@ apart_from rows order path at up place i within other same =
       | inl here ↦ other here
       | inr (inl less) ↦ false≢true (sym (before_itself path) ∙ subst (λ p. is_before p path ≡ true) same (place.below i less))
       | inr (inr more) ↦
-          false≢true (sym (place.rest at (omega arith) (omega arith)) ∙ subst (λ p. is_before (path_at rows order at) p ≡ true) same (up.paths at i more within))
+          false≢true (sym (place.rest at (omega arith) (omega arith))
+          ∙ subst (λ p. is_before (path_at rows order at) p ≡ true) same (up.paths at i more within))
     ]
 
 -- each row that is counted has its place
@@ -163,12 +165,14 @@ module _ (rows : List FileRow) (n : ℕ) (order path : List ℕ) (at : ℕ) (ind
   comes_before : (i : ℕ) → at ≤ i → i < length order → IsTrue (is_before path (path_at rows order i))
   comes_before i low within =
       elim (cases_eq i at) [
-        | inl same ↦ before_other (path_at rows order i) path (place.rest i low within) (λ wrong. apart (omega arith) (subst (λ k. path_at rows order k ≡ path) same wrong))
+        | inl same ↦ before_other (path_at rows order i) path (place.rest i low within)
+            (λ wrong. apart (omega arith) (subst (λ k. path_at rows order k ≡ path) same wrong))
         | inr other ↦ before_other (path_at rows order i) path (place.rest i low within) (apart_from rows order path at index.ascend place i within other)
       ]
 
   -- each number of the list is one from before, or the new one
-  each : (P : ℕ → Type 0) → ((i : ℕ) → i < length order → P (slice_index order i)) → P n → (i : ℕ) → i < length (insert order at n) → P (slice_index (insert order at n) i)
+  each : (P : ℕ → Type 0) → ((i : ℕ) → i < length order → P (slice_index order i)) → P n
+      → (i : ℕ) → i < length (insert order at n) → P (slice_index (insert order at n) i)
   each P old new i within =
       elim (cases_order i at) [
         | inl same ↦ subst (λ k. P (slice_index (insert order at n) k)) (sym same) (subst P (sym here) new)

@@ -1,7 +1,7 @@
 // The table of declared mounts and files.
-ghost use Rattle.std.specs.Prelude.{◌≡◌, ◌<◌, ◌^◌, None, IfErr, IfOk, OnOk, length, unwrap_or};
+ghost use Rattle.std.specs.Prelude.{◌≡◌, ◌<◌, ◌^◌, None, IfErr, IfOk, OnOk, length, map, unwrap_or};
 ghost use Rattle.cm_files.specs.Fault.{Tells, files_fault};
-ghost use Rattle.cm_files.specs.Table.{PathsDiffer};
+ghost use Rattle.cm_files.specs.Table.{PathsDiffer, seen_on};
 ghost use Rattle.model_cred.specs.Files.{FileTable, IsDeclared, KeepsFiles, file_named};
 ghost use Rattle.model_rules.specs.Exec.{interpreter_of};
 ghost use Rattle.model_rules.specs.FileView.{view as view_of};
@@ -107,6 +107,13 @@ impl FileTable {
             Some(n) => n,
             None => row,
         }
+    }
+
+    /// The files as their mounts show them, in their order. It takes no memory.
+    pub fn views(&self) -> &[FileView]
+        ensures { result.now ≡ map (seen_on self.now.mounts) self.now.rows }
+    {
+        &self.views
     }
 
     /// A row of the table as its mount shows it. It takes no memory.

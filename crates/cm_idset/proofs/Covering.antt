@@ -23,7 +23,8 @@ one_lacking list rest later i x is full not_before not_inside s =
     elim (and_cases (nat_le i.first x.first) (nat_le x.last i.last) (sym not_inside)) [
       | inl late ↦
           let after : x.first < i.first = leb-false i.first x.first late in
-          let lacks : ids_hold list x.first ≡ false = sym (here.same x.first (omega arith)) ∙ none_below i.first x.first (i ∷ later) (from_first 0 i later here.canonical) after in
+          let lacks : ids_hold list x.first ≡ false = sym (here.same x.first (omega arith))
+          ∙ none_below i.first x.first (i ∷ later) (from_first 0 i later here.canonical) after in
           (x.first, between_from x x.first (omega arith) full, λ held. cc)
       | inr soon ↦
           let more : i.last < x.last = leb-false x.last i.last soon in
@@ -49,7 +50,8 @@ pub record CommonInside (one other bound a b rest : List Interval) : Type 0 wher
   pub exceeds : Exceeds (InBoth (Held a) (Held b)) (Held rest) → Exceeds (InBoth (Held one) (Held other)) (Held bound)
 
 -- one more interval of the one list is covered
-pub inside_more : (one other a xs rest from : List Interval) (x : Interval) → a ≡ x ∷ xs → Covers rest from x → Inside one other a rest → Inside one other xs from
+pub inside_more : (one other a xs rest from : List Interval) (x : Interval) → a ≡ x ∷ xs
+    → Covers rest from x → Inside one other a rest → Inside one other xs from
 inside_more one other a xs rest from x is covers i =
     let here : Inside one other (x ∷ xs) rest = subst (λ (l : List Interval). Inside one other l rest) is i in
     let parts = ascend_parts 0 x xs here.one_is in
@@ -72,7 +74,8 @@ pub common_one : (one other bound a b xs ys rest from : List Interval) (x y : In
     → CoversCommon rest from x y → CommonInside one other bound a b rest → CommonInside one other bound xs b from
 common_one one other bound a b xs ys rest from x y a_is b_is ends covers i =
     let here : CommonInside one other bound (x ∷ xs) (y ∷ ys) rest =
-    subst (λ (l : List Interval). CommonInside one other bound (x ∷ xs) l rest) b_is (subst (λ (l : List Interval). CommonInside one other bound l b rest) a_is i) in
+    subst (λ (l : List Interval). CommonInside one other bound (x ∷ xs) l rest) b_is
+    (subst (λ (l : List Interval). CommonInside one other bound l b rest) a_is i) in
     let parts = ascend_parts 0 x xs here.one_is in
     let after : (id : ℕ) → Held xs id → Held (y ∷ ys) id → ids_hold from id ≡ ids_hold rest id = λ id in_one in_other.
     let above = held_above (x.last + 2) id xs parts.rest in_one in

@@ -1,5 +1,6 @@
 -- Lists of intervals that grow at their end.
-use Rattle.std.proofs.Common.{◌≡◌, ℕ, zero, suc, ◌+◌, ◌-◌, ◌<◌, ◌≤◌, ◌||◌, Bool, true, false, List, [], ◌∷◌, ◌++◌, length, take, drop, get_or, set, Option, Some, max, refl, sym, ap, subst, ◌∙◌, arith}
+use Rattle.std.proofs.Common.{◌≡◌, ℕ, zero, suc, ◌+◌, ◌-◌, ◌<◌, ◌≤◌, ◌||◌, Bool, true, false, List, [], ◌∷◌, ◌++◌}
+use Rattle.std.proofs.Common.{length, take, drop, get_or, set, Option, Some, max, refl, sym, ap, subst, ◌∙◌, arith}
 use Rattle.std.specs.Prelude.{IsTrue, nat_le}
 use Rattle.std.specs.Option.{option_map_or}
 use Rattle.std.proofs.lemmas.Bool.{leb-true, leb-false}
@@ -23,7 +24,8 @@ or_false false = refl
 -- two lists, one after the other, hold what the one or the other holds
 pub held_appended : (xs ys : List Interval) (id : ℕ) → ids_hold (xs ++ ys) id ≡ (ids_hold xs id || ids_hold ys id)
 held_appended [] ys id = refl
-held_appended (x ∷ xs) ys id = ap (λ (b : Bool). is_between x id || b) (held_appended xs ys id) ∙ sym (or_assoc (is_between x id) (ids_hold xs id) (ids_hold ys id))
+held_appended (x ∷ xs) ys id = ap (λ (b : Bool). is_between x id || b) (held_appended xs ys id)
+    ∙ sym (or_assoc (is_between x id) (ids_hold xs id) (ids_hold ys id))
 
 pub held_pushed : (xs : List Interval) (i : Interval) (id : ℕ) → ids_hold (xs ++ i ∷ []) id ≡ (ids_hold xs id || is_between i id)
 held_pushed xs i id = held_appended xs (i ∷ []) id ∙ ap (λ (b : Bool). ids_hold xs id || b) (or_false (is_between i id))
@@ -50,7 +52,8 @@ ascend_pushed low (j ∷ list) i is before above full ids =
     ascend_made low j (list ++ i ∷ [])
     (record { above = a.above; full = a.full; ids = a.ids; rest = ascend_pushed (j.last + 2) list i a.rest before.1 before.0 full ids })
 
-pub canonical_pushed : (list : List Interval) (i : Interval) → IsCanonical list → AllBefore i.first list → i.first ≤ i.last → i.last < id_count → IsCanonical (list ++ i ∷ [])
+pub canonical_pushed : (list : List Interval) (i : Interval) → IsCanonical list
+    → AllBefore i.first list → i.first ≤ i.last → i.last < id_count → IsCanonical (list ++ i ∷ [])
 canonical_pushed list i is before full ids = ascend_pushed 0 list i is before (omega arith) full ids
 
 -- ---- the last interval
@@ -66,9 +69,13 @@ set_last list i some =
 -- what ascends up to an interval ends before what begins after it
 last_above : (low : ℕ) (list : List Interval) (i : Interval) → IsTrue (ascend_from low (list ++ i ∷ [])) → low ≤ i.last
 last_above low [] i is = let a = ascend_parts low i [] is in omega (arith, a.above, a.full)
-last_above low (j ∷ list) i is = let a = ascend_parts low j (list ++ i ∷ []) is in let rest = last_above (j.last + 2) list i a.rest in omega (arith, a.above, a.full, rest)
+last_above low (j ∷ list) i is =
+    let a = ascend_parts low j (list ++ i ∷ []) is in
+    let rest = last_above (j.last + 2) list i a.rest in
+    omega (arith, a.above, a.full, rest)
 
-all_before : (low high : ℕ) (list : List Interval) (i : Interval) → IsTrue (ascend_from low (list ++ i ∷ [])) → i.last + 2 ≤ high → AllBefore high (list ++ i ∷ [])
+all_before : (low high : ℕ) (list : List Interval) (i : Interval)
+    → IsTrue (ascend_from low (list ++ i ∷ [])) → i.last + 2 ≤ high → AllBefore high (list ++ i ∷ [])
 all_before low high [] i is last = (last, tt)
 all_before low high (j ∷ list) i is last =
     let a = ascend_parts low j (list ++ i ∷ []) is in
@@ -83,7 +90,12 @@ ascend_longer low [] i longer is first last ids =
     ascend_made low longer [] (record { above = omega (arith, a.above); full = omega (arith, a.full); ids = ids; rest = refl })
 ascend_longer low (j ∷ list) i longer is first last ids =
     let a = ascend_parts low j (list ++ i ∷ []) is in
-    ascend_made low j (list ++ longer ∷ []) (record { above = a.above; full = a.full; ids = a.ids; rest = ascend_longer (j.last + 2) list i longer a.rest first last ids })
+    ascend_made low j (list ++ longer ∷ []) (record {
+      above = a.above;
+      full = a.full;
+      ids = a.ids;
+      rest = ascend_longer (j.last + 2) list i longer a.rest first last ids;
+    })
 
 -- where all have begun
 pub begun_later : (low high : ℕ) (list : List Interval) → low ≤ high → AllBegun low list → AllBegun high list
@@ -99,7 +111,8 @@ begun_last high [] i begun = (tt, begun.0)
 begun_last high (j ∷ list) i begun = let rest = begun_last high list i begun.1 in ((begun.0, rest.0), rest.1)
 
 -- ---- one more interval
-joined_holds : (i next : Interval) (id : ℕ) → i.first ≤ next.first → next.first ≤ i.last + 1 → is_between (joined i next) id ≡ (is_between i id || is_between next id)
+joined_holds : (i next : Interval) (id : ℕ) → i.first ≤ next.first → next.first ≤ i.last + 1
+    → is_between (joined i next) id ≡ (is_between i id || is_between next id)
 joined_holds i next id begun near = grind (arith, nat_tests)
 
 last_is_id : (low : ℕ) (list : List Interval) (i : Interval) → IsTrue (ascend_from low (list ++ i ∷ [])) → i.last < id_count
@@ -107,7 +120,8 @@ last_is_id low [] i is = (ascend_parts low i [] is).ids
 last_is_id low (j ∷ list) i is = last_is_id (j.last + 2) list i (ascend_parts low j (list ++ i ∷ []) is).rest
 
 -- the last interval reaches the next one, and takes it in
-taken_joined : (front : List Interval) (i next : Interval) → CanTake (front ++ i ∷ []) next → next.first ≤ i.last + 1 → Taken (front ++ i ∷ []) next (front ++ joined i next ∷ [])
+taken_joined : (front : List Interval) (i next : Interval) → CanTake (front ++ i ∷ []) next
+    → next.first ≤ i.last + 1 → Taken (front ++ i ∷ []) next (front ++ joined i next ∷ [])
 taken_joined front i next can near =
     let begun : AllBegun next.first front × (i.first ≤ next.first) = begun_last next.first front i can.begun in
     let ids = last_is_id 0 front i can.canonical in
@@ -129,8 +143,11 @@ taken_pushed list next can before = record {
 }
 
 -- the last interval of a list that has one, and what is asked of it
-last_asked : (list : List Interval) (next : Interval) → 0 < length list → last_reaches list next ≡ nat_le next.first ((get_or list (length list - 1) next).last + 1)
-last_asked list next some = ap (λ (o : Option Interval). option_map_or (λ (last : Interval). reaches last next) o false) (slice_get-get_or list (length list - 1) next (omega arith))
+last_asked : (list : List Interval) (next : Interval) → 0 < length list
+    → last_reaches list next ≡ nat_le next.first ((get_or list (length list - 1) next).last + 1)
+last_asked list next some =
+    ap (λ (o : Option Interval). option_map_or (λ (last : Interval). reaches last next) o false)
+    (slice_get-get_or list (length list - 1) next (omega arith))
 
 -- a list whose last interval reaches the next takes it in there
 pub put_joined : (list new : List Interval) (next : Interval) → CanTake list next → true ≡ last_reaches list next
@@ -148,8 +165,11 @@ put_joined (x ∷ xs) new next can asked is =
     (subst (λ (l : List Interval). Taken (front ++ last ∷ []) next l) (sym new_is) (taken_joined front last next can_split near))
 
 -- another list takes it at its end
-pub put_pushed : (list new : List Interval) (next : Interval) → CanTake list next → false ≡ last_reaches list next → new ≡ list ++ next ∷ [] → Taken list next new
-put_pushed list new next can asked is = subst (λ (l : List Interval). Taken list next l) (sym is) (taken_pushed list next can (ends_before list next can.canonical asked))
+pub put_pushed : (list new : List Interval) (next : Interval) → CanTake list next
+    → false ≡ last_reaches list next → new ≡ list ++ next ∷ [] → Taken list next new
+put_pushed list new next can asked is =
+    subst (λ (l : List Interval). Taken list next l) (sym is)
+    (taken_pushed list next can (ends_before list next can.canonical asked))
   where
     ends_before : (list : List Interval) (next : Interval) → IsCanonical list → false ≡ last_reaches list next → AllBefore next.first list
     ends_before [] next is asked = tt
@@ -181,5 +201,6 @@ put_next old more list new left rest next is p taken =
     record {
       canonical = taken.canonical;
       continues = continues_on list new rest next here.continues taken.begun;
-      same = λ id. ap (λ (b : Bool). b || ids_hold rest id) (taken.holds id) ∙ or_assoc (ids_hold list id) (is_between next id) (ids_hold rest id) ∙ here.same id;
+      same = λ id. ap (λ (b : Bool). b || ids_hold rest id) (taken.holds id)
+          ∙ or_assoc (ids_hold list id) (is_between next id) (ids_hold rest id) ∙ here.same id;
     }

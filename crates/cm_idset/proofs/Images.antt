@@ -3,7 +3,8 @@ use Rattle.std.proofs.Common.{◌≡◌, ℕ, zero, suc, ◌+◌, ◌-◌, ◌<�
 use Rattle.std.proofs.Common.{length, drop, get_or, max, min, refl, sym, ap, subst, ◌∙◌, inl, inr, arith}
 use Rattle.std.specs.Prelude.{IsTrue, nat_le, nat_lt, All, Any}
 use Rattle.std.specs.Option.{option_to_list}
-use Rattle.std.proofs.lemmas.Bool.{cases_Bool, and_parts, and_from, or_cases, or_left, or_right, cond-true, cond-false, ltb-true, ltb-false, leb-true, lt-ltb, le-leb}
+use Rattle.std.proofs.lemmas.Bool.{cases_Bool, and_parts, and_from, or_cases, or_left, or_right}
+use Rattle.std.proofs.lemmas.Bool.{cond-true, cond-false, ltb-true, ltb-false, leb-true, lt-ltb, le-leb}
 use Rattle.std.proofs.lemmas.Bool.Decides.{nat_tests}
 use Rattle.std.proofs.lemmas.List.{append-nil, drop_all, get_or_default}
 use Rattle.std.proofs.lemmas.List.Elements.{All-cons, All-append, All-nil}
@@ -45,7 +46,8 @@ image_cases e i = elim (cases_Bool (nat_lt (max e.inside i.first) (min (e.inside
 abbrev comes_of : Extent → Interval → ℕ → Bool
 comes_of e i out = lies_in e.outside e.length out && is_between i (e.inside + (out - e.outside))
 
-moved_holds : (e : Extent) (i : Interval) (out : ℕ) → max e.inside i.first < min (e.inside + e.length) (i.last + 1) → ids_hold (moved e i ∷ []) out ≡ comes_of e i out
+moved_holds : (e : Extent) (i : Interval) (out : ℕ) → max e.inside i.first < min (e.inside + e.length) (i.last + 1)
+    → ids_hold (moved e i ∷ []) out ≡ comes_of e i out
 moved_holds e i out some = grind (arith, nat_tests)
 
 nothing_holds : (e : Extent) (i : Interval) (out : ℕ) → min (e.inside + e.length) (i.last + 1) ≤ max e.inside i.first → false ≡ comes_of e i out
@@ -75,7 +77,8 @@ and_false : (p : Bool) → false ≡ (p && false)
 and_false true = refl
 and_false false = refl
 
-images_hold : (e : Extent) (list : List Interval) (out : ℕ) → ids_hold (images e list) out ≡ (lies_in e.outside e.length out && ids_hold list (e.inside + (out - e.outside)))
+images_hold : (e : Extent) (list : List Interval) (out : ℕ)
+    → ids_hold (images e list) out ≡ (lies_in e.outside e.length out && ids_hold list (e.inside + (out - e.outside)))
 images_hold e [] out = and_false (lies_in e.outside e.length out)
 images_hold e (i ∷ list) out =
     let id : ℕ = e.inside + (out - e.outside) in
@@ -118,9 +121,11 @@ goes [] list id out held (k, x, below, is, takes) = absurd (omega (arith, below)
 goes (e ∷ map) list id out held (zero, x, below, is, takes) =
     let here : TakesTo id out e = subst (TakesTo id out) (sym is) takes in
     let same : e.inside + (out - e.outside) ≡ id = omega (arith, here.to, here.from_first) in
-    let lies : IsTrue (lies_in e.outside e.length out) = lies_from e.outside e.length out (omega (arith, here.to)) (omega (arith, here.to, here.from_first, here.before_end)) in
+    let lies : IsTrue (lies_in e.outside e.length out) =
+    lies_from e.outside e.length out (omega (arith, here.to)) (omega (arith, here.to, here.from_first, here.before_end)) in
     let made : Held (images e list) out =
-    images_hold e list out ∙ and_from (lies_in e.outside e.length out) (ids_hold list (e.inside + (out - e.outside))) lies (ap (λ (n : ℕ). ids_hold list n) same ∙ held) in
+    images_hold e list out ∙ and_from (lies_in e.outside e.length out)
+    (ids_hold list (e.inside + (out - e.outside))) lies (ap (λ (n : ℕ). ids_hold list n) same ∙ held) in
     held_appended (images e list) (all_images map list) out ∙ or_left (ids_hold (images e list) out) (ids_hold (all_images map list) out) made
 goes (e ∷ map) list id out held (suc k, x, below, is, takes) =
     held_appended (images e list) (all_images map list) out
@@ -134,7 +139,8 @@ images_are_image map list is out = (
 
 made_of_ids : (map : List Extent) (list : List Interval) → All (λ e. e.outside + e.length ≤ id_count) map → AreIds (all_images map list)
 made_of_ids [] list fits = All-nil IsOfIds
-made_of_ids (e ∷ map) list fits = All-append IsOfIds (images e list) (all_images map list) (images_of_ids e list (fits 0 e (omega arith))) (made_of_ids map list (λ k d below. fits (suc k) d (omega arith)))
+made_of_ids (e ∷ map) list fits = All-append IsOfIds (images e list) (all_images map list)
+    (images_of_ids e list (fits 0 e (omega arith))) (made_of_ids map list (λ k d below. fits (suc k) d (omega arith)))
 
 pub inside_fits : (map : List Extent) (k : ℕ) (e : Extent) → IsMap map → k < length map → e ≡ get_or map k e → e.inside + e.length ≤ id_count
 inside_fits map k e is below at = (fits_at map k e is below (sym at)).inside
@@ -143,7 +149,8 @@ pub outside_fits : (map : List Extent) (k : ℕ) (e : Extent) → IsMap map → 
 outside_fits map k e is below at = (fits_at map k e is below (sym at)).outside
 
 -- all lines are gone through: the list is what they make
-pub all_found : (map : List Extent) (list found : List Interval) (k : ℕ) → length map ≤ k → found ++ all_images (drop k map) list ≡ all_images map list → found ≡ all_images map list
+pub all_found : (map : List Extent) (list found : List Interval) (k : ℕ) → length map ≤ k
+    → found ++ all_images (drop k map) list ≡ all_images map list → found ≡ all_images map list
 all_found map list found k past is =
     sym (append-nil found) ∙ ap (λ (rest : List Extent). found ++ all_images rest list) (sym (drop_all k map past)) ∙ is
 

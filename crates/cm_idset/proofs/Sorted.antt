@@ -17,7 +17,8 @@ pub held_permuted : (old new : List Interval) → IsPermutation old new → (id 
 held_permuted old new moved id =
     held_is_any new id ∙ sym (list_any-IsPermutation (λ (i : Interval). is_between i id) old new moved) ∙ sym (held_is_any old id)
 
-order_from : (low : ℕ) (list : List Interval) → AreIds list → IsNonDecreasingBy (λ (i : Interval). i.first) list → All (λ (i : Interval). low ≤ i.first) list → InOrderFrom low list
+order_from : (low : ℕ) (list : List Interval) → AreIds list → IsNonDecreasingBy (λ (i : Interval). i.first) list
+    → All (λ (i : Interval). low ≤ i.first) list → InOrderFrom low list
 order_from low [] ids up above = tt
 order_from low (i ∷ list) ids up above =
     let here : IsOfIds i = All-head IsOfIds i list ids in (

@@ -1,5 +1,7 @@
 -- Walks over two lists of intervals at once. Each time one of the two first intervals is left, the one that ends first.
-use Rattle.std.proofs.Common.{◌≡◌, ℕ, ◌+◌, ◌-◌, ◌<◌, ◌≤◌, ◌&&◌, ◌||◌, Bool, true, false, List, [], ◌∷◌, ◌++◌, ◌⊎◌, Option, Some, None, if◌then◌else◌, length, take, drop, get_or, max, min, refl, sym, ap, ◌∙◌, subst, inl, inr, arith}
+use Rattle.std.proofs.Common.{◌≡◌, ℕ, ◌+◌, ◌-◌, ◌<◌, ◌≤◌, ◌&&◌, ◌||◌, Bool, true, false, List, [], ◌∷◌, ◌++◌, ◌⊎◌}
+use Rattle.std.proofs.Common.{Option, Some, None, if◌then◌else◌, length, take, drop, get_or, max, min, refl, sym, ap}
+use Rattle.std.proofs.Common.{◌∙◌, subst, inl, inr, arith}
 use Rattle.std.specs.Prelude.{IsTrue, nat_lt, nat_le}
 use Rattle.std.proofs.lemmas.Bool.{cases_Bool, cases_lt, cond-true, cond-false, leb-true, leb-false, and_parts, and_from, or_right, ltb-true, ltb-false}
 use Rattle.std.proofs.lemmas.Bool.Decides.{nat_tests}
@@ -31,7 +33,8 @@ pub step : (x y : Interval) (xs ys : List Interval) → IsCanonical (y ∷ ys) �
     → (ids_hold (x ∷ xs) id && ids_hold (y ∷ ys) id) ≡ ((is_between x id && is_between y id) || (ids_hold xs id && ids_hold (y ∷ ys) id))
 step x y xs ys are ends id = elim (cases_lt x.last id) [
   | inl after ↦ and_dropped (is_between x id) (ids_hold xs id) (is_between y id) (ids_hold (y ∷ ys) id) (none_after x id after)
-  | inr upto ↦ and_or (is_between x id) (ids_hold xs id) (is_between y id) (ids_hold ys id) (none_below (y.last + 2) id ys (ascend_parts 0 y ys are).rest (omega arith))
+  | inr upto ↦ and_or (is_between x id) (ids_hold xs id) (is_between y id) (ids_hold ys id)
+      (none_below (y.last + 2) id ys (ascend_parts 0 y ys are).rest (omega arith))
 ]
 
 and_comm : (p q : Bool) → (p && q) ≡ (q && p)
@@ -112,10 +115,17 @@ pub record Meeting (one other out a b : List Interval) : Type 0 where
 abbrev pub piece : Interval → Interval → Interval
 piece x y = record { first = max x.first y.first; last = min x.last y.last }
 
-common_cases : (x y : Interval) → ((in_common x y ≡ Some (piece x y)) × (max x.first y.first ≤ min x.last y.last)) ⊎ ((in_common x y ≡ None) × (min x.last y.last < max x.first y.first))
+common_cases : (x y : Interval) → ((in_common x y ≡ Some (piece x y)) × (max x.first y.first ≤ min x.last y.last))
+    ⊎ ((in_common x y ≡ None) × (min x.last y.last < max x.first y.first))
 common_cases x y = elim (cases_Bool (nat_le (max x.first y.first) (min x.last y.last))) [
-  | inl meet ↦ inl (cond-true (nat_le (max x.first y.first) (min x.last y.last)) (Some (piece x y)) None meet, leb-true (max x.first y.first) (min x.last y.last) meet)
-  | inr part ↦ inr (cond-false (nat_le (max x.first y.first) (min x.last y.last)) (Some (piece x y)) None part, leb-false (max x.first y.first) (min x.last y.last) part)
+  | inl meet ↦ inl (
+    cond-true (nat_le (max x.first y.first) (min x.last y.last)) (Some (piece x y)) None meet,
+    leb-true (max x.first y.first) (min x.last y.last) meet,
+  )
+  | inr part ↦ inr (
+    cond-false (nat_le (max x.first y.first) (min x.last y.last)) (Some (piece x y)) None part,
+    leb-false (max x.first y.first) (min x.last y.last) part,
+  )
 ]
 
 piece_holds : (x y : Interval) (id : ℕ) → ids_hold (piece x y ∷ []) id ≡ (is_between x id && is_between y id)
@@ -170,7 +180,8 @@ met_here : (one other out : List Interval) (x y : Interval) (xs ys : List Interv
     → Meeting one other (out ++ option_to_list (in_common x y)) xs (y ∷ ys)
 met_here one other out x y xs ys ends m =
     let a = ascend_parts 0 x xs m.one_is in
-    let before : (id : ℕ) → IsTrue (ids_hold xs id) → IsTrue (ids_hold (y ∷ ys) id) → AllBefore id (out ++ option_to_list (in_common x y)) = λ id in_one in_other.
+    let before : (id : ℕ) → IsTrue (ids_hold xs id) → IsTrue (ids_hold (y ∷ ys) id)
+    → AllBefore id (out ++ option_to_list (in_common x y)) = λ id in_one in_other.
     before_more x y out id (m.before id (or_right (is_between x id) (ids_hold xs id) in_one) in_other) (held_above (x.last + 2) id xs a.rest in_one).0 in
     record {
       made = made_more x y out xs ys m.made m.one_is m.other_is m.before;
@@ -205,5 +216,6 @@ met_one one other out more a b x y xs ys a_is b_is more_is ends m =
 pub met_other : (one other out more a b : List Interval) (x y : Interval) (xs ys : List Interval) → a ≡ x ∷ xs → b ≡ y ∷ ys
     → more ≡ out ++ option_to_list (in_common x y) → y.last ≤ x.last → Meeting one other out a b → Meeting one other more a ys
 met_other one other out more a b x y xs ys a_is b_is more_is ends m =
-    let more_turned : more ≡ out ++ option_to_list (in_common y x) = more_is ∙ ap (λ (o : Option Interval). out ++ option_to_list o) (sym (common_turned x y)) in
+    let more_turned : more ≡ out ++ option_to_list (in_common y x) =
+    more_is ∙ ap (λ (o : Option Interval). out ++ option_to_list o) (sym (common_turned x y)) in
     met_turned other one more ys a (met_one other one out more b a y x ys xs b_is a_is more_turned ends (met_turned one other out a b m))

@@ -34,7 +34,8 @@ fn last_reaches(list: &[Interval], next: &Interval) -> bool
 // Lets the last interval go on to where the next ends.
 fn join_last(list: &mut Vec<Interval>, next: &Interval)
     requires { 0 < length list.old.items }
-    ensures { (d : _) → list.new.items ≡ slice_set list.old.items (length list.old.items - 1) (joined (slice_index_or list.old.items (length list.old.items - 1) d) next.now) }
+    ensures { (d : _) → let last = length list.old.items - 1 in
+        list.new.items ≡ slice_set list.old.items last (joined (slice_index_or list.old.items last d) next.now) }
 {
     let at = list.len() - 1;
     let longer = list[at].joined(next);

@@ -188,13 +188,15 @@ name-with_read row (Err Failed) = refl
 name-with_read row (Err NoMemory) = refl
 
 -- it counts a read, where one was made
-reads-with_read : (row : Count) (read : Result ℕ Outside) → row.reads ≤ (with_read row read).reads → RisesBy row.reads (with_read row read).reads (reads_made read)
+reads-with_read : (row : Count) (read : Result ℕ Outside) → row.reads ≤ (with_read row read).reads
+    → RisesBy row.reads (with_read row read).reads (reads_made read)
 reads-with_read row (Ok n) later = record { later = later; most = omega arith; all = omega arith }
 reads-with_read row (Err Failed) later = record { later = later; most = omega arith; all = omega arith }
 reads-with_read row (Err NoMemory) later = record { later = later; most = omega arith; all = omega arith }
 
 -- and the bytes that it gave
-taken-with_read : (row : Count) (read : Result ℕ Outside) → row.taken ≤ (with_read row read).taken → RisesBy row.taken (with_read row read).taken (bytes_given read)
+taken-with_read : (row : Count) (read : Result ℕ Outside) → row.taken ≤ (with_read row read).taken
+    → RisesBy row.taken (with_read row read).taken (bytes_given read)
 taken-with_read row (Ok n) later = record { later = later; most = omega arith; all = omega arith }
 taken-with_read row (Err Failed) later = record { later = later; most = omega arith; all = omega arith }
 taken-with_read row (Err NoMemory) later = record { later = later; most = omega arith; all = omega arith }
@@ -210,7 +212,8 @@ counts_read old new name row read below here is later =
     let same : name_of (with_read row read) ≡ name = name-with_read row read ∙ has in
     let was : count_of faults rows name ≡ row.faults = count_at faults rows name row below ∙ ap faults (sym here) in
     let now : count_of faults new.rows.items name ≡ faults (with_read row read) = rw is (count_set faults rows name (with_read row read) below same) in
-    let others : (n : List ℕ) → n ≢ name → faults_of new n ≡ faults_of old n = λ n other. rw is (count_set_other faults rows name n (with_read row read) below same other) in
+    let others : (n : List ℕ) → n ≢ name → faults_of new n ≡ faults_of old n =
+    λ n other. rw is (count_set_other faults rows name n (with_read row read) below same other) in
     let OfReads : List Count → Type 0 = λ rs. CountsOn (counts_name old) (reads_of old) (count_of (λ r. r.reads) rs) name (reads_made read) in
     let OfTaken : List Count → Type 0 = λ rs. CountsOn (counts_name old) (taken_of old) (count_of (λ r. r.taken) rs) name (bytes_given read) in
     record {

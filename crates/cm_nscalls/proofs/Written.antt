@@ -8,7 +8,8 @@ use Rattle.model_cred.specs.Credential.{Credential}
 use Rattle.model_cred.specs.IdMap.{Extent}
 use Rattle.model_cred.specs.MapFault.{is_map}
 use Rattle.model_cred.specs.Space.{Spaces, put_space, space_of}
-use Rattle.model_rules.specs.Maps.{MapFile, Written, list_down, may_map, may_write, parent_map, setfcap_allows, with_map, write_done, write_map, write_refused, write_stored}
+use Rattle.model_rules.specs.Maps.{MapFile, Written, list_down, may_map, may_write, parent_map, setfcap_allows}
+use Rattle.model_rules.specs.Maps.{with_map, write_done, write_map, write_refused, write_stored}
 
 module _ (file : MapFile) (spaces : Spaces) (at : ℕ) (c : Credential) (target : ℕ) (given : List Extent) where
   -- the write leaves what its result tells

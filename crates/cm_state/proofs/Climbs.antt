@@ -18,7 +18,8 @@ chain_here list spaces n s t high is same view tree =
     subst (λ (l : Spaces). chain l n ≡ n ∷ chain_from l t.parent) view (chain_step (reverse list) n t tree at)
 
 -- its parent is older
-pub older_here : (list spaces : Spaces) (n : ℕ) (s t : Space) (parent : Option SpaceId) → n < length spaces → s ≡ get_or list n s → t ≡ s → reverse list ≡ spaces
+pub older_here : (list spaces : Spaces) (n : ℕ) (s t : Space) (parent : Option SpaceId)
+    → n < length spaces → s ≡ get_or list n s → t ≡ s → reverse list ≡ spaces
     → t.parent ≡ option_map (λ (p : SpaceId). p.0) parent → IsTree (reverse list) → IfSome parent (λ p. p.0 < n)
 older_here list spaces n s t None high is same view its tree = tt
 older_here list spaces n s t (Some p) high is same view its tree =

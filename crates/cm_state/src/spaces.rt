@@ -63,6 +63,7 @@ impl Spaces {
     /// The parent of a space that stands, which is older, None for the initial space. It takes no memory.
     pub fn parent(&self, s: SpaceId) -> Option<SpaceId>
         requires { s.0 < length self.now }
+        ensures parent { option_map (λ (p : SpaceId). p.0) result ≡ (space_of self.now s.0).parent }
         ensures chain { chain self.now s.0 ≡ s.0 ∷ chain_from self.now (option_map (λ (p : SpaceId). p.0) result) }
         ensures older { IfSome result (λ p. p.0 < s.0) }
     {

@@ -15,4 +15,5 @@ put_in_order-requires c =
 pub returns-clause-image : goal.returns-clause-image
 returns-clause-image c =
     let found_is = all_found c.args.map.now c.args.list.now c.loop-e.found.items c.loop-e.e-index c.loop-e-test.false c.loop-e.invariant in
-    put_are_image c.args.map.now c.args.list.now _ _ _ _ _ c.requires.map found_is c.put_in_order.ensures.holds c.deref.ensures.value c.new-ids.ensures.items c.in_ok-put_all.ensures.holds
+    put_are_image c.args.map.now c.args.list.now _ _ _ _ _ c.requires.map found_is c.put_in_order.ensures.holds
+    c.deref.ensures.value c.new-ids.ensures.items c.in_ok-put_all.ensures.holds

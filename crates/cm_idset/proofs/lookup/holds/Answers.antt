@@ -9,12 +9,16 @@ use Rattle.cm_idset.proofs.lookup.holds.Goals as goal
 
 pub returns-in-Some : goal.returns-in-Some
 returns-in-Some c =
-    let point = IsPartitionPoint-from_clause (λ (i : Interval). nat_lt i.last c.args.id) c.args.list.now c.partition_point-at.result c.partition_point-at.ensures.partitioned (ends_first c.args.list.now c.args.id c.requires) (λ a r q k. search rules) in
+    let point = IsPartitionPoint-from_clause (λ (i : Interval). nat_lt i.last c.args.id)
+    c.args.list.now c.partition_point-at.result c.partition_point-at.ensures.partitioned
+    (ends_first c.args.list.now c.args.id c.requires) (λ a r q k. search rules) in
     let held = held_at 0 c.args.list.now c.args.id c.partition_point-at.result c.requires point in
     grind (arith, common_steps, gets, held, c.ids.view_is)
 
 pub returns-in-None : goal.returns-in-None
 returns-in-None c =
-    let point = IsPartitionPoint-from_clause (λ (i : Interval). nat_lt i.last c.args.id) c.args.list.now c.partition_point-at.result c.partition_point-at.ensures.partitioned (ends_first c.args.list.now c.args.id c.requires) (λ a r q k. search rules) in
+    let point = IsPartitionPoint-from_clause (λ (i : Interval). nat_lt i.last c.args.id)
+    c.args.list.now c.partition_point-at.result c.partition_point-at.ensures.partitioned
+    (ends_first c.args.list.now c.args.id c.requires) (λ a r q k. search rules) in
     let held = held_at 0 c.args.list.now c.args.id c.partition_point-at.result c.requires point in
     grind (arith, common_steps, gets, held)

@@ -5,5 +5,6 @@ use Rattle.model_cred.specs.Space.{space_of}
 
 pub returns : goal.returns
 returns c =
-    sym (space_here c.self.inside.list.items c.args.s.0 _ (stands_at c.self.inside.list.items c.args.self.now c.args.s.0 c.requires c.self.view_is) c.index.ensures)
+    sym (space_here c.self.inside.list.items c.args.s.0 _
+    (stands_at c.self.inside.list.items c.args.self.now c.args.s.0 c.requires c.self.view_is) c.index.ensures)
     ∙ ap (λ spaces. space_of spaces c.args.s.0) c.self.view_is
