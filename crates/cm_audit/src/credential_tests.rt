@@ -39,7 +39,9 @@ fn credential_lines(rt: HostRuntime) -> Result<(), Fail> {
     let alone = credentials(alloc, &root, pid, SpaceId(0), &w)?;
     assert_eq!(rt;
         alone.as_slice(),
-        b"> 100 init uid=0,0,0,0 gid=0,0,0,0 groups=- inh=0000000000000000 prm=000001ffffffffff eff=000001ffffffffff bnd=000001ffffffffff amb=0000000000000000 sec=00 nnp=0".as_slice()
+        b"> 100 init uid=0,0,0,0 gid=0,0,0,0 groups=- \
+          inh=0000000000000000 prm=000001ffffffffff eff=000001ffffffffff bnd=000001ffffffffff amb=0000000000000000 sec=00 nnp=0"
+            .as_slice()
     );
     root.rgid = last;
     root.groups = Groups::make(alloc, &groups)?;

@@ -358,7 +358,8 @@ module _ (w : World) (s : State) (call : Call) (child : Option ℕ) (at : ℕ) (
         ∙ ap (kept (change_by s.spaces k given.res old.cred) (record old { cred = leaves })) (after_is asked made)
         ∙ kept_is w s old call (pid_number child) (same_put s at old up h is);
     undoes = ap (λ (ch : Change). undone ch new after) (by asked made)
-        ∙ undone_is (change_by s.spaces k given.res old.cred) after at new (put_ascends s.processes at new up h (pid asked made)) (rw (length-set s.processes at new) h)
+        ∙ undone_is (change_by s.spaces k given.res old.cred) after at new
+        (put_ascends s.processes at new up h (pid asked made)) (rw (length-set s.processes at new) h)
         (sym (get_or-set_same s.processes at new new h))
         ∙ ap (λ (c : Credential). with_cred after new (undone_cred (change_by s.spaces k given.res old.cred) c)) made.cred
         ∙ ap (with_cred after new) (restored w s old call (pid_number child))

@@ -1,5 +1,5 @@
 // The faults of a row that are alike for all tables: its keys, and the kinds and ranges of its values.
-ghost use Rattle.std.specs.Prelude.{◌≡◌, option_map, bytes_eq, map, [], ◌∷◌, ◌++◌, Ok};
+ghost use Rattle.std.specs.Prelude.{◌≡◌, ◌≢◌, option_map, bytes_eq, map, [], ◌∷◌, ◌++◌, Ok, Err};
 ghost use Rattle.std.specs.List.{list_all, list_any};
 ghost use Rattle.cm_rows.specs.Answers.{Gives};
 ghost use Rattle.cm_rows.specs.Keys.{kind_of, keys_of, need_of};
@@ -15,10 +15,11 @@ use crate::{Key, Kind, Need, RowError};
 use cm_base::WorldFault;
 use toml::Table;
 
-/// The row's first fault of its keys, or of the kinds and ranges of its values.
+/// The row's first fault of its keys, or of the kinds and ranges of its values. It takes no memory.
 pub fn check_keys(row: &Table, keys: &[Key]) -> Result<(), RowError>
-    ensures { Gives result (unless (first_standing (model.shape_checks (keys_of keys.now) (table_view row.now)
+    ensures gives { Gives result (unless (first_standing (model.shape_checks (keys_of keys.now) (table_view row.now)
         ++ model.range_check (keys_of keys.now) (table_view row.now) ∷ [])) tt) }
+    ensures no_memory { result ≢ Err RowError.NoMemory }
 {
     if let Some(fault) = shape_fault(row, keys) {
         return Err(RowError::Fault(fault));

@@ -1,5 +1,4 @@
 -- Lemmas of this crate, by topic.
-pub mod FirstToken
 pub mod Items
 pub mod Telling
 pub mod CapNumbers

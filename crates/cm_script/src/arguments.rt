@@ -8,9 +8,9 @@ ghost use Rattle.model_text.specs.Token.{number_token, id_token, cap_token, word
 
 use crate::files::read_file;
 use crate::parts::next_argument;
-use crate::tokens::{read_cap, read_id, read_number, read_word};
 use cm_base::{CapWord, FileRef, LineFault, SpaceId};
 use cm_files::FileTable;
+use cm_tokens::{read_cap, read_id, read_number, read_word};
 use cm_world::{Names, read_cap_text};
 
 /// An id.

@@ -13,13 +13,12 @@ pub mod numbers;
 mod parts;
 mod reading;
 mod results;
-mod tokens;
 mod writing;
 
+pub use cm_tokens::read_pid;
 pub use error::LineError;
 pub use laws::{lines_read_back, numbers_are_lines};
 pub use reading::read_line;
-pub use tokens::read_pid;
 pub use writing::{put_line, put_res, write_line};
 
 #[cfg(test)]

@@ -6,9 +6,9 @@ ghost use Rattle.cm_script.specs.Steps.{arguments_in, and_make, ids_told, extent
 use crate::arguments::next_number;
 use crate::error::LineError;
 use crate::parts::next_argument;
-use crate::tokens::{read_id, read_number};
 use cm_base::LineFault;
 use cm_idmap::Extent;
+use cm_tokens::{read_id, read_number};
 use std::alloc::Global;
 
 /// The ids of all arguments in a text.

@@ -4,7 +4,7 @@ ghost use Rattle.std.specs.Prelude.{◌≡◌, ◌+◌, ◌<◌, ◌≤◌, [], 
 ghost use Rattle.cm_script.specs.Steps.{arguments_in, only_one, outcome_of};
 ghost use Rattle.model_text.specs.Cut.{tokens_of};
 
-use crate::tokens::{next_token, stands_for_equals};
+use cm_tokens::{next_token, stands_for_equals};
 
 /// How many arguments stand before the first `=`, and the one token after it. None exactly where there is no `=`, or another
 /// number of tokens after it.

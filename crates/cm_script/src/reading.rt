@@ -11,10 +11,10 @@ use crate::calls::read_call;
 use crate::error::LineError;
 use crate::parts::find_parts;
 use crate::results::read_result;
-use crate::tokens::{begins_comment, next_token, read_pid};
 use cm_base::{Limited, LineFault, Pid};
 use cm_filter::CallKind;
 use cm_state::{Call, Event};
+use cm_tokens::{begins_comment, next_token, read_pid};
 use cm_world::World;
 use std::alloc::Global;
 

@@ -4,9 +4,9 @@ ghost use Rattle.cm_base.specs.Names.{errno_of};
 ghost use Rattle.model_text.specs.Line.{result_of_kind};
 ghost use Rattle.model_text.specs.Token.{birth_token, done_token, old_id_token, result_token};
 
-use crate::tokens::read_pid;
 use cm_base::{Errno, Res, read_u32};
 use cm_filter::CallKind;
+use cm_tokens::read_pid;
 
 /// The result of a call of that kind: setfsuid and setfsgid tell the id from before, and have no error; births tell their
 /// child's pid; exit has no error either. None where the token is none of these.

@@ -1,9 +1,9 @@
 // The texts of sets of capabilities, in worlds and in log lines (choice).
-ghost use Rattle.std.specs.Prelude.{◌≡◌, ◌<◌, ◌≤◌, ◌∷◌, [], ◌==◌, length, position, IfSome, IfNone};
-ghost use Rattle.std.specs.List.{slice_split};
-ghost use Rattle.model_text.specs.CapText.{hex_value, hex_after, digits_set, names_set, set_of_text};
+ghost use Rattle.std.specs.Prelude.{◌≡◌, ◌≤◌, length};
+ghost use Rattle.model_text.specs.CapText.{hex_after, digits_set, names_set, set_of_text};
 
 use cm_base::{Cap, CapWord};
+use cm_tokens::{first_piece, hex_value};
 
 /// The set of capabilities that a text stands for: `all`, `none`, 16 hexadecimal digits of either case, of which the bits
 /// above 40 are dropped, or names joined by commas (choice; the names are those of capabilities(7)). None for any other
@@ -45,49 +45,15 @@ fn hex_number(text: &[u8]) -> Option<u64>
     Some(number)
 }
 
-/// The value of a hexadecimal digit.
-fn hex_value(byte: u8) -> Option<u8>
-    ensures value { result ≡ hex_value byte }
-    ensures range { IfSome result (λ digit. digit < 16) }
-{
-    if b'0' <= byte && byte <= b'9' {
-        Some(byte - b'0')
-    } else if b'a' <= byte && byte <= b'f' {
-        Some(byte - b'a' + 10)
-    } else if b'A' <= byte && byte <= b'F' {
-        Some(byte - b'A' + 10)
-    } else {
-        None
-    }
-}
-
 /// Names joined by commas as a set.
 fn names_set(text: &[u8]) -> Option<CapWord>
     ensures { result ≡ names_set text.now }
 {
     let mut set = CapWord::empty();
     let mut rest = text;
-    while let Some((name, more)) = first_name(rest) {
+    while let Some((name, more)) = first_piece(rest, b',') {
         set = set.with(Cap::from_name(name)?);
         rest = more;
     }
     Some(set.with(Cap::from_name(rest)?))
-}
-
-/// What stands before the first comma, and what after it. None where there is no comma.
-fn first_name(text: &[u8]) -> Option<(&[u8], &[u8])>
-    ensures cut { IfSome result (λ cut. slice_split (λ byte. byte == 44) text.now ≡ cut.0.now ∷ slice_split (λ byte. byte == 44) cut.1.now) }
-    ensures shorter { IfSome result (λ cut. length cut.1.now < length text.now) }
-    ensures whole { IfNone result (slice_split (λ byte. byte == 44) text.now ≡ text.now ∷ []) }
-{
-    let comma = place_of_comma(text)?;
-    Some((&text[..comma], &text[comma + 1..]))
-}
-
-/// The place of the first comma.
-fn place_of_comma(text: &[u8]) -> Option<usize>
-    ensures first { result ≡ position (λ byte. byte == 44) text.now }
-    ensures within { IfSome result (λ place. place < length text.now) }
-{
-    text.iter().position(|byte| *byte == b',')
 }

@@ -1,7 +1,7 @@
 // The parts of a file's row: its mode (chmod(1)), its attribute security.capability (capabilities(7), "File
 // capabilities"), and its interpreter (execve(2), "Interpreter scripts").
 ghost use Rattle.std.specs.Prelude.{◌≡◌, ◌<◌, ◌^◌, ℕ, Vec, bytes_eq, codes, true, length, slice_get};
-ghost use Rattle.std.specs.Prelude.{Some, IfErr, IfOk, IfSome, is_none, is_some, option_map};
+ghost use Rattle.std.specs.Prelude.{◌≢◌, Err, Some, IfErr, IfOk, IfSome, is_none, is_some, option_map};
 ghost use Rattle.std.specs.Result.{result_ok};
 ghost use Rattle.cm_base.specs.Outcome.{OrNoMemory};
 ghost use Rattle.cm_base.specs.declared.faults.WorldFault.TheVariants as fault;
@@ -87,7 +87,8 @@ fn caps_of_bytes(bytes: &[u8]) -> Option<FileCaps>
     }
 }
 
-/// The interpreter that a row names, where it names one. NoInterpreter where that is no earlier file without one.
+/// The interpreter that a row names, where it names one. NoInterpreter where that is no earlier file without one. It takes
+/// no memory.
 pub(crate) fn interpreter_of_row(rows: &[FileRow], row: &Table) -> Result<Option<u32>, RowError>
     requires { length rows.now < 2 ^ 32 }
     ensures named { IfOk result
@@ -95,6 +96,7 @@ pub(crate) fn interpreter_of_row(rows: &[FileRow], row: &Table) -> Result<Option
     ensures fits { IfOk result (λ n. fits_interpreter rows.now n ≡ true) }
     ensures refused { IfErr result (Refuses (Fault fault.NoInterpreter)
         (is_none (model.interpreter_of rows.now (text_of (get_member (codes "interpreter") (table_view row.now)))))) }
+    ensures no_memory { result ≢ Err RowError.NoMemory }
 {
     match text_at(row, "interpreter") {
         Some(path) => match program_at(rows, path.as_bytes()) {

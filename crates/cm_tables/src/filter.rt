@@ -1,5 +1,5 @@
 // The filter of calls that a world's text declares.
-ghost use Rattle.std.specs.Prelude.{◌≡◌, ◌++◌, ◌∷◌, [], map, option_map};
+ghost use Rattle.std.specs.Prelude.{◌≡◌, ◌≢◌, ◌++◌, ◌∷◌, [], Err, map, option_map};
 ghost use Rattle.std.specs.String.{string_bytes};
 ghost use Rattle.cm_base.specs.Outcome.{OrNoMemory};
 ghost use Rattle.cm_base.specs.declared.faults.Table.TheVariants as table;
@@ -70,9 +70,10 @@ fn excluding(alloc: Global, values: &[Value]) -> Result<Filter, RowError>
     excluding_named(&names)
 }
 
-/// The filter that excludes the calls of these names. NoSuchCall where one names none.
+/// The filter that excludes the calls of these names. NoSuchCall where one names none. It takes no memory.
 fn excluding_named(names: &[String]) -> Result<Filter, RowError>
-    ensures { Gives result (filter_excluding (map string_bytes names.now)) }
+    ensures gives { Gives result (filter_excluding (map string_bytes names.now)) }
+    ensures no_memory { result ≢ Err RowError.NoMemory }
 {
     match Filter::read(names) {
         Ok(filter) => Ok(filter),

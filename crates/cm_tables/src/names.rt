@@ -2,7 +2,7 @@
 ghost use Rattle.std.specs.Prelude.{◌≡◌, ◌<◌, ◌≤◌, ◌+◌, ◌++◌, ◌∷◌, ℕ, List, map, option_map, position, bytes_eq, length, slice_get, [], IfSome};
 ghost use Rattle.cm_base.specs.Limits.{id_count};
 ghost use Rattle.std.specs.String.{string_bytes};
-ghost use Rattle.cm_base.specs.Outcome.{OrNoMemory};
+ghost use Rattle.cm_base.specs.Outcome.{OrNoMemory, UnchangedOnErr};
 ghost use Rattle.model_text.specs.NameText.{is_one_of};
 ghost use Rattle.model_text.specs.SpaceText.{space_named};
 ghost use Rattle.model_text.specs.SpaceToken.{space_of_token, name_of_space, number_named, hash_number};
@@ -92,10 +92,11 @@ impl Names {
         has_text(&self.list, name)
     }
 
-    /// One name more, of the next space.
+    /// One name more, of the next space. Its only error is want of memory, which leaves the names as they were.
     pub(crate) fn push(&mut self, alloc: Global, name: &str) -> Result<(), NoMemory>
         requires { length self.old + 1 < id_count }
-        ensures { OrNoMemory result (λ _. self.new ≡ self.old ++ name.now ∷ []) }
+        ensures pushed { OrNoMemory result (λ _. self.new ≡ self.old ++ name.now ∷ []) }
+        ensures unchanged { UnchangedOnErr result self.new self.old }
     {
         let name = String::from_str(alloc, name)?;
         self.list.push(name)?;

@@ -1,5 +1,5 @@
 // The processes that a world's text declares, by ascending pid. The forebear of a process is its declared parent.
-ghost use Rattle.std.specs.Prelude.{◌≡◌, ◌<◌, [], All, IfOk, IfSome, length, option_map, true, false};
+ghost use Rattle.std.specs.Prelude.{◌≡◌, ◌≢◌, ◌<◌, [], All, Err, IfOk, IfSome, length, option_map, true, false};
 ghost use Rattle.cm_base.specs.Outcome.{OrNoMemory};
 ghost use Rattle.cm_base.specs.declared.faults.Table.TheVariants as table;
 ghost use Rattle.cm_base.specs.declared.limited.Limited.TheVariants as limit;
@@ -134,9 +134,11 @@ fn with_process(
     }
 }
 
-/// The row's first fault of its keys, or of the kinds and ranges of its values; too many groups come before a range.
+/// The row's first fault of its keys, or of the kinds and ranges of its values; too many groups come before a range. It
+/// takes no memory.
 fn check_row(row: &Table, keys: &[Key]) -> Result<(), RowError>
-    ensures { Gives result (unless (first_standing (limited_checks (table_view row.now) (keys_of keys.now))) tt) }
+    ensures gives { Gives result (unless (first_standing (limited_checks (table_view row.now) (keys_of keys.now))) tt) }
+    ensures no_memory { result ≢ Err RowError.NoMemory }
 {
     if let Some(fault) = shape_fault(row, keys) {
         return Err(RowError::Fault(fault));

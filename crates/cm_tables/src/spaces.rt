@@ -137,7 +137,10 @@ fn with_space(alloc: Global, declared: Declared, row: &Table) -> Result<Declared
 fn with_own(alloc: Global, declared: Declared, row: &Table) -> Result<Declared, RowError>
     requires { length declared.names < 255 }
     ensures gives { Gives result (unless (first_standing (model.space_checks declared (table_view row.now)))
-        (record { names = declared.names ++ model.name_of (table_view row.now) ∷ []; spaces = model.space_declared declared (table_view row.now) ∷ declared.spaces })) }
+        (record {
+          names = declared.names ++ model.name_of (table_view row.now) ∷ [];
+          spaces = model.space_declared declared (table_view row.now) ∷ declared.spaces;
+        })) }
     ensures one { IfOk result (λ d. length d.names ≡ length declared.names + 1) }
 {
     match space_of_row(alloc, &declared, row) {

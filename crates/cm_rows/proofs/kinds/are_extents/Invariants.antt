@@ -5,4 +5,5 @@ use Rattle.toml.specs.View.{items_view}
 use Rattle.cm_rows.proofs.kinds.are_extents.Given as goal
 
 abbrev pub invariant-loop-value : goal.invariant-loop-value
-invariant-loop-value l = all_items (is_list_of 3 (is_number l.ranged 0 4294967295)) (items_view (drop l.value-index l.values)) ≡ all_items (is_list_of 3 (is_number l.ranged 0 4294967295)) (items_view l.values)
+invariant-loop-value l = all_items (is_list_of 3 (is_number l.ranged 0 4294967295)) (items_view (drop l.value-index l.values))
+    ≡ all_items (is_list_of 3 (is_number l.ranged 0 4294967295)) (items_view l.values)

@@ -10,11 +10,11 @@ returns-in-Err-clause-gives c =
     keys_refused (table_view c.args.row.now) (keys_of c.file_keys.result.now) file_keys
     (file_checks c.args.mounts.now c.args.files (table_view c.args.row.now))
     (c.args.files ++ file_declared c.args.mounts.now c.args.files (table_view c.args.row.now) ∷ [])
-    c.in-Err.e c.file_keys.ensures c.in-Err.ensures
+    c.in-Err.e c.file_keys.ensures c.in-Err.ensures.gives
 
 pub returns-in-Ok-clause-gives : goal.returns-in-Ok-clause-gives
 returns-in-Ok-clause-gives c =
     keys_fit (table_view c.args.row.now) (keys_of c.file_keys.result.now) file_keys
     (file_checks c.args.mounts.now c.args.files (table_view c.args.row.now))
     (c.args.files ++ file_declared c.args.mounts.now c.args.files (table_view c.args.row.now) ∷ [])
-    c.with_own.result c.file_keys.ensures c.in-Ok.ensures c.with_own.ensures.gives
+    c.with_own.result c.file_keys.ensures c.in-Ok.ensures.gives c.with_own.ensures.gives

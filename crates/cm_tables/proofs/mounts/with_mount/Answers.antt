@@ -10,11 +10,11 @@ returns-in-Err-clause-gives c =
     keys_refused (table_view c.args.row.now) (keys_of c.mount_keys.result.now) mount_keys
     (mount_checks c.args.names.now c.args.mounts (table_view c.args.row.now))
     (c.args.mounts ++ mount_declared c.args.names.now (table_view c.args.row.now) ∷ [])
-    c.in-Err.e c.mount_keys.ensures c.in-Err.ensures
+    c.in-Err.e c.mount_keys.ensures c.in-Err.ensures.gives
 
 pub returns-in-Ok-clause-gives : goal.returns-in-Ok-clause-gives
 returns-in-Ok-clause-gives c =
     keys_fit (table_view c.args.row.now) (keys_of c.mount_keys.result.now) mount_keys
     (mount_checks c.args.names.now c.args.mounts (table_view c.args.row.now))
     (c.args.mounts ++ mount_declared c.args.names.now (table_view c.args.row.now) ∷ [])
-    c.with_own.result c.mount_keys.ensures c.in-Ok.ensures c.with_own.ensures.gives
+    c.with_own.result c.mount_keys.ensures c.in-Ok.ensures.gives c.with_own.ensures.gives

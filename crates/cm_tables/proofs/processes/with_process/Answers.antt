@@ -12,11 +12,11 @@ returns-in-Err-clause-gives c =
     refused_of_keys (limited_checks (table_view c.args.row.now)) (keys_of c.process_keys.result.now) process_keys
     (process_checks c.args.declared.now.names c.args.procs (table_view c.args.row.now))
     (insert_process (process_declared c.args.declared.now.names (table_view c.args.row.now)) c.args.procs)
-    c.process_keys.ensures (cause_of c.in-Err.e) c.in-Err.ensures
+    c.process_keys.ensures (cause_of c.in-Err.e) c.in-Err.ensures.gives
 
 pub returns-in-Ok-clause-gives : goal.returns-in-Ok-clause-gives
 returns-in-Ok-clause-gives c =
     passed_of_keys (limited_checks (table_view c.args.row.now)) (keys_of c.process_keys.result.now) process_keys
     (process_checks c.args.declared.now.names c.args.procs (table_view c.args.row.now))
     (insert_process (process_declared c.args.declared.now.names (table_view c.args.row.now)) c.args.procs)
-    c.process_keys.ensures c.with_own.result c.in-Ok.ensures c.with_own.ensures.gives
+    c.process_keys.ensures c.with_own.result c.in-Ok.ensures.gives c.with_own.ensures.gives

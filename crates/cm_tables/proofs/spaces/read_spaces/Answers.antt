@@ -10,7 +10,8 @@ returns-then-rows-gt255 c = past_limit table.Space space_row none_declared c.arg
 
 pub returns-in-Err : goal.returns-in-Err
 returns-in-Err c =
-    read_refused table.Space space_row none_declared c.args.rows.now limit.Spaces 1 c.loop-i.i c.loop-i.declared c.index-rows-i.result c.in-Err.e c.in_row.result
+    read_refused table.Space space_row none_declared c.args.rows.now limit.Spaces 1
+    c.loop-i.i c.loop-i.declared c.index-rows-i.result c.in-Err.e c.in_row.result
     (omega arith) c.loop-i.invariant.rest c.loop-i-test.true c.index-rows-i.is c.in-Err.ensures.gives c.in_row.ensures
 
 pub returns : goal.returns

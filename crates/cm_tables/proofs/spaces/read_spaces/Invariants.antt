@@ -8,5 +8,6 @@ use Rattle.cm_tables.proofs.spaces.read_spaces.Given as goal
 abbrev pub invariant-loop-i : goal.invariant-loop-i
 invariant-loop-i l = record {
   few : length l.declared.names ≤ l.i;
-  rest : rows_from table.Space space_row (l.i + 1) l.declared (items_view (drop l.i l.rows)) ≡ rows_from table.Space space_row 1 none_declared (items_view l.rows);
+  rest : rows_from table.Space space_row (l.i + 1) l.declared (items_view (drop l.i l.rows))
+      ≡ rows_from table.Space space_row 1 none_declared (items_view l.rows);
 }

@@ -9,7 +9,8 @@ use Rattle.cm_tables.proofs.spaces.with_own.Goals as goal
 
 pub returns-in_ok-with-in-Ok-clause-gives : goal.returns-in_ok-with-in-Ok-clause-gives
 returns-in_ok-with-in-Ok-clause-gives c =
-    both_made (first_standing (space_checks c.args.declared (table_view c.args.row.now))) (space_declared c.args.declared (table_view c.args.row.now)) c.in-Ok.space
+    both_made (first_standing (space_checks c.args.declared (table_view c.args.row.now)))
+    (space_declared c.args.declared (table_view c.args.row.now)) c.in-Ok.space
     (record {
       names = c.args.declared.names ++ name_of (table_view c.args.row.now) ∷ [];
       spaces = space_declared c.args.declared (table_view c.args.row.now) ∷ c.args.declared.spaces;

@@ -12,7 +12,7 @@ returns-in-Err-clause-gives c =
       names = c.args.declared.names ++ name_of (table_view c.args.row.now) ∷ [];
       spaces = space_declared c.args.declared (table_view c.args.row.now) ∷ c.args.declared.spaces;
     })
-    c.in-Err.e c.space_keys.ensures c.in-Err.ensures
+    c.in-Err.e c.space_keys.ensures c.in-Err.ensures.gives
 
 pub returns-in-Ok-clause-gives : goal.returns-in-Ok-clause-gives
 returns-in-Ok-clause-gives c =
@@ -21,4 +21,4 @@ returns-in-Ok-clause-gives c =
       names = c.args.declared.names ++ name_of (table_view c.args.row.now) ∷ [];
       spaces = space_declared c.args.declared (table_view c.args.row.now) ∷ c.args.declared.spaces;
     })
-    c.with_own.result c.space_keys.ensures c.in-Ok.ensures c.with_own.ensures.gives
+    c.with_own.result c.space_keys.ensures c.in-Ok.ensures.gives c.with_own.ensures.gives
