@@ -1,0 +1,3 @@
+-- Lemmas of this crate, by topic.
+pub mod IdCalls
+pub mod ReadTexts

@@ -1,0 +1,119 @@
+// prctl(2), by its option; other options tell nothing, whatever they answer.
+ghost use Rattle.std.specs.Prelude.{◌≡◌, codes};
+ghost use Rattle.cm_state.specs.Call.{call_of};
+ghost use Rattle.cm_strace_calls.specs.Made.{made_call};
+ghost use Rattle.cm_strace_calls.specs.Told.{told_is};
+ghost use Rattle.cm_strace_text.specs.Depths.{arguments_in};
+ghost use Rattle.cm_strace_text.specs.Outcomes.{outcome_is};
+ghost use Rattle.model_cred.specs.Call.{AmbClear};
+ghost use Rattle.model_strace.specs.Calls.{Does, with_result, plain_call, prctl_told, option_told, ambient_told};
+ghost use Rattle.model_strace.specs.Outcome.{plain_result};
+
+use crate::arguments::{bits, capability, needed, number};
+use crate::told::Told;
+use cm_base::LineFault;
+use cm_state::Call;
+use cm_strace_text::Outcome;
+
+/// A line of prctl.
+pub(crate) fn read<'a>(arguments: Option<&[u8]>, outcome: Outcome) -> Told<'a>
+    ensures { told_is result ≡ prctl_told (arguments_in arguments.entry) (outcome_is outcome) }
+{
+    match needed(1, arguments) {
+        Ok(option) => read_option(option, arguments, outcome),
+        Err(why) => Told::Faulty(why),
+    }
+}
+
+// The same by its option.
+fn read_option<'a>(option: &[u8], arguments: Option<&[u8]>, outcome: Outcome) -> Told<'a>
+    ensures { told_is result ≡ option_told option.now (arguments_in arguments.entry) (outcome_is outcome) }
+{
+    if option == b"PR_SET_KEEPCAPS".as_slice() {
+        with_number(outcome, Made::KeepCaps, number(2, arguments))
+    } else if option == b"PR_SET_NO_NEW_PRIVS".as_slice() {
+        with_number(outcome, Made::NoNewPrivs, number(2, arguments))
+    } else if option == b"PR_SET_SECUREBITS".as_slice() {
+        with_number(outcome, Made::SecureBits, bits(2, arguments))
+    } else if option == b"PR_CAPBSET_DROP".as_slice() {
+        with_number(outcome, Made::BsetDrop, capability(2, arguments))
+    } else if option == b"PR_CAP_AMBIENT".as_slice() {
+        read_ambient(arguments, outcome)
+    } else {
+        Told::Nothing
+    }
+}
+
+// PR_CAP_AMBIENT, by its second argument.
+fn read_ambient<'a>(arguments: Option<&[u8]>, outcome: Outcome) -> Told<'a>
+    ensures { told_is result
+        ≡ option_told (codes "PR_CAP_AMBIENT") (arguments_in arguments.entry) (outcome_is outcome) }
+{
+    match needed(2, arguments) {
+        Ok(what) => read_change(what, arguments, outcome),
+        Err(why) => Told::Faulty(why),
+    }
+}
+
+// The same by what is to change.
+fn read_change<'a>(what: &[u8], arguments: Option<&[u8]>, outcome: Outcome) -> Told<'a>
+    ensures { told_is result ≡ ambient_told what.now (arguments_in arguments.entry) (outcome_is outcome) }
+{
+    if what == b"PR_CAP_AMBIENT_RAISE".as_slice() {
+        with_number(outcome, Made::AmbRaise, capability(3, arguments))
+    } else if what == b"PR_CAP_AMBIENT_LOWER".as_slice() {
+        with_number(outcome, Made::AmbLower, capability(3, arguments))
+    } else if what == b"PR_CAP_AMBIENT_CLEAR_ALL".as_slice() {
+        clear(outcome)
+    } else {
+        Told::Nothing
+    }
+}
+
+// A call that answers 0 or fails.
+fn clear<'a>(outcome: Outcome) -> Told<'a>
+    ensures { told_is result ≡ with_result (plain_result (outcome_is outcome)) (Does AmbClear) }
+{
+    match outcome.plain() {
+        Some(res) => Told::Does(Call::AmbClear, res),
+        None => Told::Faulty(LineFault::Outcome),
+    }
+}
+
+// Which call is made of a number.
+#[derive(Clone, Copy)]
+enum Made {
+    KeepCaps,
+    NoNewPrivs,
+    SecureBits,
+    BsetDrop,
+    AmbRaise,
+    AmbLower,
+}
+
+// A call of a number, which answers 0 or fails: its result is looked at before what was read of its arguments.
+fn with_number<'a>(outcome: Outcome, made: Made, read: Result<u32, LineFault>) -> Told<'a>
+    ensures { told_is result ≡ plain_call (outcome_is outcome) read (made_call made) }
+{
+    let Some(res) = outcome.plain() else {
+        return Told::Faulty(LineFault::Outcome);
+    };
+    match read {
+        Ok(n) => Told::Does(call_of_number(made, n), res),
+        Err(why) => Told::Faulty(why),
+    }
+}
+
+// The call of a number.
+fn call_of_number(made: Made, n: u32) -> Call
+    ensures { call_of result ≡ made_call made n }
+{
+    match made {
+        Made::KeepCaps => Call::KeepCaps(n),
+        Made::NoNewPrivs => Call::NoNewPrivs(n),
+        Made::SecureBits => Call::SecureBits(n),
+        Made::BsetDrop => Call::BsetDrop(n),
+        Made::AmbRaise => Call::AmbRaise(n),
+        Made::AmbLower => Call::AmbLower(n),
+    }
+}

@@ -1,0 +1,173 @@
+//! The arguments of a call, which commas part, and the members of a structure, which stand alike between braces.
+ghost use Rattle.std.specs.Prelude.{◌≡◌, ◌<◌, ◌≤◌, ◌^◌, ◌+◌, ◌&&◌, ◌∷◌, [], MatchOption, length, option_map};
+ghost use Rattle.cm_strace_text.specs.Depths.{depth_is, brackets, ends_at, len_to, parts_in, parts_after, arguments_in};
+ghost use Rattle.model_strace.specs.Written as model;
+ghost use Rattle.model_strace.specs.Written.{opens, closes, depth_after, is_outside, comma_parts, arguments_of, before_closing};
+
+use crate::blanks::trimmed;
+
+// How deep a reader is in brackets of any kind: in no quotes; in quotes; in quotes, after a backslash.
+#[derive(Clone, Copy)]
+enum Depth {
+    Open(usize),
+    InQuotes(usize),
+    InEscape(usize),
+}
+
+// What ends a part outside of all brackets and quotes: a comma, or a bracket that closes one before the part.
+#[derive(Clone, Copy)]
+enum End {
+    Comma,
+    Closing,
+}
+
+/// The arguments in a text, or the members: what is left of it where it isn't empty.
+pub fn read_arguments(text: &[u8]) -> Option<&[u8]>
+    ensures { arguments_in result ≡ arguments_of text.now }
+{
+    let text = trimmed(text);
+    match text {
+        [] => None,
+        [_, ..] => Some(text),
+    }
+}
+
+/// The next argument, and what is left after it. None exactly where there is none.
+pub fn next_argument(left: Option<&[u8]>) -> Option<(&[u8], Option<&[u8]>)>
+    ensures parts { MatchOption result (arguments_in left.entry ≡ []) (λ next. arguments_in left.entry ≡ next.0.now ∷ arguments_in next.1) }
+{
+    let text = left?;
+    let (part, rest) = first_part(text);
+    Some((trimmed(part), rest))
+}
+
+// What stands before the first comma, and what after it, where there is one.
+#[tactic(auto, using(crate::proofs::Cuts::comma_cut))]
+fn first_part(text: &[u8]) -> (&[u8], Option<&[u8]>)
+    ensures { comma_parts (model.Open 0) text.now ≡ result.0.now ∷ parts_in result.1 }
+{
+    let (part, rest) = text.split_at(len_to(End::Comma, text));
+    (part, after_comma(rest))
+}
+
+// What stands after the comma that a text begins with. None where it is empty.
+fn after_comma(text: &[u8]) -> Option<&[u8]>
+    ensures { parts_in result ≡ parts_after text.now }
+{
+    match text {
+        [_, after @ ..] => Some(after),
+        [] => None,
+    }
+}
+
+/// What stands before the bracket that closes one before the text.
+#[tactic(auto, using(crate::proofs::Cuts::closing_cut))]
+pub(crate) fn before_closing(text: &[u8]) -> &[u8]
+    ensures { result.now ≡ before_closing (model.Open 0) text.now }
+{
+    let (front, _) = text.split_at(len_to(End::Closing, text));
+    front
+}
+
+// How many bytes stand before the first such end.
+fn len_to(end: End, text: &[u8]) -> usize
+    ensures len { result ≡ len_to (ends_at end) (model.Open 0) text.now }
+    ensures within { result ≤ length text.now }
+{
+    let mut depth = Depth::Open(0);
+    for at in 0..text.len() {
+        if ends_here(end, depth, text[at]) {
+            return at;
+        }
+        depth = depth_after(depth, text[at]);
+    }
+    text.len()
+}
+
+#[inline]
+fn ends_here(end: End, depth: Depth, byte: u8) -> bool
+    ensures { result ≡ (is_outside (depth_is depth) && ends_at end byte) }
+{
+    is_outside(depth) && ends_at(end, byte)
+}
+
+#[inline]
+fn ends_at(end: End, byte: u8) -> bool
+    ensures { result ≡ ends_at end byte }
+{
+    match end {
+        End::Comma => byte == b',',
+        End::Closing => closes(byte),
+    }
+}
+
+#[inline]
+fn is_outside(depth: Depth) -> bool
+    ensures { result ≡ is_outside (depth_is depth) }
+{
+    match depth {
+        Depth::Open(depth) => depth == 0,
+        _ => false,
+    }
+}
+
+// How deep the reader is after a byte; a bracket that closes none leaves it outside of all.
+#[inline]
+fn depth_after(depth: Depth, byte: u8) -> Depth
+    requires { brackets depth < 2 ^ 63 }
+    ensures after { depth_is result ≡ depth_after (depth_is depth) byte }
+    ensures near { brackets result ≤ brackets depth + 1 }
+{
+    match depth {
+        Depth::Open(depth) => open_after(depth, byte),
+        Depth::InQuotes(depth) => quoted_after(depth, byte),
+        Depth::InEscape(depth) => Depth::InQuotes(depth),
+    }
+}
+
+// The same in no quotes.
+#[inline]
+fn open_after(depth: usize, byte: u8) -> Depth
+    requires { depth < 2 ^ 63 }
+    ensures after { depth_is result ≡ depth_after (model.Open depth) byte }
+    ensures near { brackets result ≤ depth + 1 }
+{
+    if opens(byte) {
+        Depth::Open(depth + 1)
+    } else if closes(byte) {
+        Depth::Open(depth.saturating_sub(1))
+    } else if byte == b'"' {
+        Depth::InQuotes(depth)
+    } else {
+        Depth::Open(depth)
+    }
+}
+
+// The same in quotes.
+#[inline]
+fn quoted_after(depth: usize, byte: u8) -> Depth
+    ensures after { depth_is result ≡ depth_after (model.InQuotes depth) byte }
+    ensures near { brackets result ≡ depth }
+{
+    match byte {
+        b'"' => Depth::Open(depth),
+        b'\\' => Depth::InEscape(depth),
+        _ => Depth::InQuotes(depth),
+    }
+}
+
+// `(`, `[` and `{`.
+#[inline]
+fn opens(byte: u8) -> bool
+    ensures { result ≡ opens byte }
+{
+    byte == b'(' || byte == b'[' || byte == b'{'
+}
+
+// `)`, `]` and `}`.
+#[inline]
+fn closes(byte: u8) -> bool
+    ensures { result ≡ closes byte }
+{
+    byte == b')' || byte == b']' || byte == b'}'
+}

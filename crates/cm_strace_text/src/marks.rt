@@ -1,0 +1,40 @@
+// Marks in lines, and what stands before and after them.
+ghost use Rattle.std.specs.Prelude.{◌≡◌, ◌<◌, IfSome, length, option_map};
+ghost use Rattle.model_strace.specs.Marks.{after_mark, before_mark, cut_at};
+
+/// What follows the mark at the text's front. None exactly where it isn't there.
+#[inline]
+pub(crate) fn after_mark<'a>(mark: &[u8], text: &'a [u8]) -> Option<&'a [u8]>
+    ensures { option_map (λ rest. rest.now) result ≡ after_mark mark.now text.now }
+{
+    if !text.starts_with(mark) {
+        return None;
+    }
+    let (_, rest) = text.split_at(mark.len());
+    Some(rest)
+}
+
+/// What precedes the mark at the text's end. None exactly where it isn't there.
+#[inline]
+pub fn before_mark<'a>(mark: &[u8], text: &'a [u8]) -> Option<&'a [u8]>
+    ensures { option_map (λ front. front.now) result ≡ before_mark mark.now text.now }
+{
+    if !text.ends_with(mark) {
+        return None;
+    }
+    let (front, _) = text.split_at(text.len() - mark.len());
+    Some(front)
+}
+
+/// What precedes and what follows the first place of a mark. None exactly where it has none.
+pub(crate) fn cut_at<'a>(mark: &[u8], text: &'a [u8]) -> Option<(&'a [u8], &'a [u8])>
+    ensures { option_map (λ sides. (sides.0.now, sides.1.now)) result ≡ cut_at mark.now text.now }
+{
+    for at in 0..text.len() {
+        let (before, rest) = text.split_at(at);
+        if let Some(after) = after_mark(mark, rest) {
+            return Some((before, after));
+        }
+    }
+    None
+}
