@@ -1,0 +1,5 @@
+-- Lemmas of this crate, by topic.
+pub mod Resumed
+pub mod HeldLines
+pub mod Released
+pub mod Concluded

@@ -1,0 +1,15 @@
+use Rattle.std.proofs.Common.{◌≡◌}
+use Rattle.cm_strace.specs.Given.{after_is}
+use Rattle.cm_strace.specs.Works.{concluded}
+use Rattle.cm_strace.proofs.Concluded.{concluded_read, at_world}
+use Rattle.cm_strace.proofs.work.Work.read.Goals as goal
+use Rattle.cm_world.specs.World.{world_of}
+use Rattle.model_strace.specs.After.{preceded}
+
+pub returns-else-awaits-clause-read : goal.returns-else-awaits-clause-read
+returns-else-awaits-clause-read c =
+    rw (← concluded_read (world_of c.args.w.now) c.args.pid c.args.body.now c.in_ok-step.step
+    c.step.new.self c.args.self.now c.in_ok-step.ensures.others c.in_ok-step.ensures.turn)
+    (at_world c.read_here.result (λ w stop. after_is stop c.read_here.new.events.items c.read_here.new.self
+    ≡ preceded c.args.events.now.items (concluded w c.args.pid c.in_ok-step.step c.step.new.self))
+    (world_of c.args.w.now) c.read_here.ensures.done)

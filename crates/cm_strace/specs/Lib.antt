@@ -1,0 +1,6 @@
+-- The code's types of a session as those of the definitions.
+pub mod Answers
+pub mod Deeds
+pub mod Given
+pub mod Works
+pub mod Stages

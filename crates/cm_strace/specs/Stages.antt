@@ -1,0 +1,31 @@
+-- A session by its work and the stage that it is at.
+use Rattle.std.specs.Prelude.{◌+◌, ◌<◌, ◌≤◌, ◌^◌, Option, Some, None}
+use Rattle.cm_strace.specs.Answers.{stop_is}
+use Rattle.cm_strace.specs.Works.{uses}
+use Rattle.cm_strace.specs.declared.placed.Stop.{Stop}
+use Rattle.cm_strace.specs.declared.stage.Stage.{Stage}
+use Rattle.cm_strace.specs.declared.stage.Stage.TheVariants as stage
+use Rattle.model_strace.specs.Rest as model
+use Rattle.model_strace.specs.Rest.{Work, Session}
+
+-- the session of the definitions; of one that has stopped or ended the work tells its count alone
+abbrev pub session_is : Stage → Work → Session
+session_is stage.Going t = model.Going t
+session_is (stage.Stopped stop) t = model.Stopped t.count (stop_is stop)
+session_is stage.Finished t = model.Finished t.count
+
+-- the stage after lines that went on, or were stopped
+abbrev pub stage_after : Option Stop → Stage
+stage_after None = stage.Going
+stage_after (Some stop) = stage.Stopped stop
+
+-- the stage after a log's end
+abbrev pub stage_ended : Option Stop → Stage
+stage_ended None = stage.Finished
+stage_ended (Some stop) = stage.Stopped stop
+
+-- There is room for the numbers of the user namespaces that may still come: a session begins with fewer than 2^31 of them,
+-- and is fed at most 2^31 lines, each of which makes one more at most.
+abbrev pub IsRoomy : Stage → Work → Type 0
+IsRoomy stage.Going t = (uses t < 2 ^ 31 + t.count) × (t.count ≤ 2 ^ 31)
+IsRoomy _ t = Unit {0}

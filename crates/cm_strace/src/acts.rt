@@ -1,0 +1,192 @@
+// Acts are made: the event gets its place, and the parts change as the call has changed what is known. Whatever memory this
+// takes is asked for first.
+ghost use Rattle.std.specs.Prelude.{◌≡◌, ◌++◌, ◌∷◌, [], ◌<◌, ◌≤◌, ◌+◌, if◌then◌else◌, nat_lt, length, OnErr, vec_len, vec_capacity};
+ghost use Rattle.cm_base.specs.Limited.{limit_number};
+ghost use Rattle.cm_base.specs.Limits.{greatest_number};
+ghost use Rattle.cm_base.specs.Outcome.{OrNoMemory, UnchangedOnErr};
+ghost use Rattle.cm_base.specs.declared.limited.Limited.TheVariants.{Descriptors};
+ghost use Rattle.cm_base.specs.declared.res.Res.TheVariants.{Done};
+ghost use Rattle.cm_state.specs.Call.{call_of};
+ghost use Rattle.cm_strace.specs.Deeds.{act_is, step_is, IsAct};
+ghost use Rattle.cm_strace.specs.Given.{given_is, BornOf};
+ghost use Rattle.model_strace.specs.After.{preceded};
+ghost use Rattle.model_strace.specs.Lines.{given_at};
+ghost use Rattle.model_strace.specs.Parts.{without_kept};
+ghost use Rattle.model_strace.specs.Turn.{after_call, with_child};
+
+use crate::deed::{Act, Birth, Deed, Given, Step};
+use crate::placed::{Placed, Stop};
+use crate::told::birth_call;
+use cm_base::{Limited, NoMemory, Pid, Res};
+use cm_state::{Call, Event};
+use cm_strace_parts::Parts;
+use std::alloc::Global;
+
+/// A step is done. Its only error is want of memory, which comes with acts alone, and leaves the parts as they were.
+pub(crate) fn conclude(
+    alloc: Global,
+    parts: &mut Parts,
+    pid: Pid,
+    step: Step,
+    number: u64,
+    events: &mut Vec<Placed>,
+) -> Result<Given, NoMemory>
+    requires { parts.old.spaces < greatest_number }
+    ensures given { OrNoMemory result (λ given. given_is given events.new.items parts.new
+        ≡ preceded events.old.items (given_at number (step_is pid step parts.old))) }
+    ensures born { OrNoMemory result (λ given. BornOf given step.deed) }
+    ensures unchanged { UnchangedOnErr result parts.new parts.old }
+    ensures acts { OnErr result (IsAct step.deed) }
+    ensures spaces { parts.new.spaces ≤ parts.old.spaces + 1 }
+{
+    let Step { deed, resumed } = step;
+    match deed {
+        Deed::Quiet => {
+            forget(parts, pid, resumed);
+            Ok(Given::On(None))
+        }
+        Deed::Refused(why) => Ok(Given::Halts(Stop::Fault(number, why))),
+        Deed::Exceeds(limit) => Ok(Given::Halts(Stop::Limit(limit))),
+        Deed::Acts(act) => make(alloc, parts, pid, act, resumed, number, events),
+    }
+}
+
+// The text that is kept of a process whose call was resumed isn't kept any more.
+fn forget(parts: &mut Parts, pid: Pid, resumed: bool)
+    ensures { parts.new ≡ (if resumed then without_kept pid parts.old else parts.old) }
+{
+    if resumed {
+        parts.forget_kept(pid);
+    }
+}
+
+// An act is made.
+fn make(
+    alloc: Global,
+    parts: &mut Parts,
+    pid: Pid,
+    act: Act,
+    resumed: bool,
+    number: u64,
+    events: &mut Vec<Placed>,
+) -> Result<Given, NoMemory>
+    requires { parts.old.spaces < greatest_number }
+    ensures given { OrNoMemory result (λ given. given_is given events.new.items parts.new
+        ≡ preceded events.old.items (given_at number (act_is pid act
+        (if resumed then without_kept pid parts.old else parts.old)))) }
+    ensures born { OrNoMemory result (λ given. BornOf given (Deed.Acts act)) }
+    ensures unchanged { UnchangedOnErr result parts.new parts.old }
+    ensures spaces { parts.new.spaces ≤ parts.old.spaces + 1 }
+{
+    events.reserve(1)?;
+    match act {
+        Act::Does(call, answer) => {
+            forget(parts, pid, resumed);
+            does(parts, pid, call, answer, number, events);
+            Ok(Given::On(None))
+        }
+        Act::Ends => {
+            forget(parts, pid, resumed);
+            parts.end(pid);
+            put_event(events, number, pid, Call::Exit, Res::Done);
+            Ok(Given::On(None))
+        }
+        Act::Bears(birth) => {
+            let Birth {
+                user,
+                shares,
+                child,
+            } = birth;
+            bear(alloc, parts, pid, user, shares, child)?;
+            forget(parts, pid, resumed);
+            if has_too_many(parts) {
+                return Ok(Given::Halts(Stop::Limit(Limited::Descriptors)));
+            }
+            put_event(events, number, pid, birth_call(user), Res::Child(child));
+            Ok(Given::On(Some(child)))
+        }
+    }
+}
+
+// A call with its result. There is room for its event.
+fn does(parts: &mut Parts, pid: Pid, call: Call, answer: Res, number: u64, events: &mut Vec<Placed>)
+    requires spaces { parts.old.spaces < greatest_number }
+    requires room { vec_len events.old < vec_capacity events.old }
+    ensures changed { parts.new ≡ after_call pid (call_of call) answer parts.old }
+    ensures event { events.new.items ≡ events.old.items ++ record { line = number; event = record { pid = pid; call = call_of call; res = answer } } ∷ [] }
+    ensures spaces { parts.new.spaces ≤ parts.old.spaces + 1 }
+{
+    change(parts, pid, &call, &answer);
+    put_event(events, number, pid, call, answer);
+}
+
+// The descriptors exceed their limit.
+fn has_too_many(parts: &Parts) -> bool
+    ensures { result ≡ nat_lt (limit_number Descriptors) (length parts.now.descriptors) }
+{
+    parts.descriptor_count() as u64 > Limited::Descriptors.number()
+}
+
+// What is known after a call: unshare and setns move the process to another user namespace, execve closes descriptors.
+fn change(parts: &mut Parts, pid: Pid, call: &Call, answer: &Res)
+    requires { parts.old.spaces < greatest_number }
+    ensures changed { parts.new ≡ after_call pid (call_of call.now) answer.now parts.old }
+    ensures spaces { parts.new.spaces ≤ parts.old.spaces + 1 }
+{
+    match answer {
+        Res::Done => change_done(parts, pid, call),
+        Res::Id(_) | Res::Child(_) | Res::Err(_) => {}
+    }
+}
+
+// The same after one that is done.
+fn change_done(parts: &mut Parts, pid: Pid, call: &Call)
+    requires { parts.old.spaces < greatest_number }
+    ensures changed { parts.new ≡ after_call pid (call_of call.now) Done parts.old }
+    ensures spaces { parts.new.spaces ≤ parts.old.spaces + 1 }
+{
+    match call {
+        Call::Unshare => parts.move_to_new(pid),
+        Call::SetNs(space) => parts.move_to(pid, *space),
+        Call::Exec(_) => parts.execute(pid),
+        _ => {}
+    }
+}
+
+// A birth. Its only error is want of memory, which leaves the parts as they were.
+fn bear(
+    alloc: Global,
+    parts: &mut Parts,
+    pid: Pid,
+    user: bool,
+    shares: bool,
+    child: Pid,
+) -> Result<(), NoMemory>
+    requires { parts.old.spaces < greatest_number }
+    ensures born { OrNoMemory result (λ _. parts.new ≡ with_child pid child user shares parts.old) }
+    ensures unchanged { UnchangedOnErr result parts.new parts.old }
+    ensures spaces { parts.new.spaces ≤ parts.old.spaces + 1 }
+{
+    if user {
+        parts.bear_in_new(alloc, pid, child, shares)
+    } else {
+        let space = parts.space_of(pid);
+        parts.bear(alloc, pid, child, space, shares)
+    }
+}
+
+// One event more, for which there is room.
+fn put_event(events: &mut Vec<Placed>, number: u64, pid: Pid, call: Call, answer: Res)
+    requires { vec_len events.old < vec_capacity events.old }
+    ensures { events.new.items ≡ events.old.items ++ record { line = number; event = record { pid = pid; call = call_of call; res = answer } } ∷ [] }
+{
+    let event = Event {
+        pid,
+        call,
+        res: answer,
+    };
+    events.push_reserved(Placed {
+        line: number,
+        event,
+    });
+}

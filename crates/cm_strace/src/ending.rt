@@ -1,0 +1,59 @@
+// The log's end: the held lines are read in their order, as far as the first that tells anything.
+ghost use Rattle.std.specs.Prelude.{◌≡◌, ◌+◌, ◌≤◌, length};
+ghost use Rattle.cm_base.specs.Limits.{greatest_number};
+ghost use Rattle.cm_base.specs.Outcome.{OrNoMemory};
+ghost use Rattle.cm_world.specs.World.{world_of};
+ghost use Rattle.model_strace.specs.Lines.{at_end};
+ghost use Rattle.model_strace.specs.Rest.{work_end};
+
+use crate::deed::Given;
+use crate::line::Line;
+use crate::placed::Fed;
+use crate::work::Work;
+use cm_base::NoMemory;
+use cm_strace_parts::Parts;
+use cm_world::World;
+use std::alloc::Global;
+
+/// What the log's end gives. Its only error is want of memory.
+pub(crate) fn read_end(alloc: Global, w: &World, t: &Work) -> Result<Fed, NoMemory>
+    requires { t.now.parts.spaces + length t.now.held ≤ greatest_number }
+    ensures { OrNoMemory result (λ fed. fed ≡ work_end (world_of w.now) t.now) }
+{
+    if t.held.is_empty() {
+        return Ok(Fed {
+            events: Vec::new(alloc),
+            stop: None,
+        });
+    }
+    let mut parts = t.parts.copy(alloc)?;
+    parts.forget_all_kept();
+    read_held(alloc, w, &mut parts, &t.held)
+}
+
+// What the held lines give at the log's end, where this is known.
+fn read_held(alloc: Global, w: &World, parts: &mut Parts, held: &[Line]) -> Result<Fed, NoMemory>
+    requires { parts.old.spaces + length held.now ≤ greatest_number }
+    ensures { OrNoMemory result (λ fed. fed ≡ at_end (world_of w.now) held.now parts.old) }
+{
+    for l in held {
+        let mut events = Vec::new(alloc);
+        match l.read(alloc, w, parts, &mut events)? {
+            Given::On(_) => {
+                if !events.is_empty() {
+                    return Ok(Fed { events, stop: None });
+                }
+            }
+            Given::Halts(stop) => {
+                return Ok(Fed {
+                    events,
+                    stop: Some(stop),
+                });
+            }
+        }
+    }
+    Ok(Fed {
+        events: Vec::new(alloc),
+        stop: None,
+    })
+}

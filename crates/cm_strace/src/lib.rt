@@ -1,0 +1,20 @@
+//! A session of a reader of strace(1), which is fed line by line: what each line gives is the reading of model_strace/specs
+//! (Turn, Lines, Rest).
+#![tactic(auto)]
+
+mod acts;
+mod agenda;
+mod deed;
+mod ending;
+mod line;
+mod opens;
+mod placed;
+mod stage;
+mod step;
+mod told;
+mod tracer;
+mod work;
+mod writes;
+
+pub use placed::{Fed, Placed, Stop};
+pub use tracer::Tracer;

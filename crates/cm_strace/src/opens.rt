@@ -1,0 +1,129 @@
+// The open of a file: it is followed where it is one of a process's map files, its setgroups file, or its user namespace.
+ghost use Rattle.std.specs.Prelude.{◌≡◌, ℕ, Some};
+ghost use Rattle.cm_base.specs.Outcome.{OrNoMemory, UnchangedOnErr};
+ghost use Rattle.cm_strace.specs.Deeds.{deed_is, Waits};
+ghost use Rattle.cm_strace_calls.specs.Told.{opening_is};
+ghost use Rattle.cm_strace_text.specs.Paths.{followed_is};
+ghost use Rattle.model_strace.specs.Files.{file_at, relative_file};
+ghost use Rattle.model_strace.specs.Parts.{task_of};
+ghost use Rattle.model_strace.specs.Turn.{follows, opens_of, opens_other, opens_path, opens};
+
+use crate::deed::Deed;
+use cm_base::{Limited, LineFault, NoMemory, Pid};
+use cm_strace_calls::Opening;
+use cm_strace_parts::{Descriptor, Parts};
+use cm_strace_text::{Named, Quote, file_at, read_quote, relative_file};
+use std::alloc::Global;
+
+/// A path is opened as that descriptor. Its only error is want of memory, which leaves the parts as they were.
+pub(crate) fn opens(
+    alloc: Global,
+    parts: &mut Parts,
+    pid: Pid,
+    opening: Opening<'_>,
+    number: u64,
+) -> Result<Deed, NoMemory>
+    ensures turn { OrNoMemory result (λ deed. deed_is pid deed parts.new
+        ≡ opens pid number (opening_is opening.entry) (opening_is opening.entry).path parts.old) }
+    ensures unchanged { UnchangedOnErr result parts.new parts.old }
+    ensures waits { OrNoMemory result (λ deed. Waits deed parts.new parts.old) }
+    ensures spaces { parts.new.spaces ≡ parts.old.spaces }
+{
+    match read_quote(alloc, opening.path)? {
+        Quote::Bytes(path) => opens_path(parts, pid, opening, number, &path),
+        Quote::Shortened | Quote::NoText => {
+            parts.forget_descriptor(pid, number);
+            Ok(Deed::Quiet)
+        }
+    }
+}
+
+// The same of a path that can be read, by the file that it names where it is absolute.
+fn opens_path(
+    parts: &mut Parts,
+    pid: Pid,
+    opening: Opening<'_>,
+    number: u64,
+    path: &[u8],
+) -> Result<Deed, NoMemory>
+    ensures turn { OrNoMemory result (λ deed. deed_is pid deed parts.new
+        ≡ opens_path pid number (opening_is opening.entry) path.now (file_at pid path.now) parts.old) }
+    ensures unchanged { UnchangedOnErr result parts.new parts.old }
+    ensures waits { OrNoMemory result (λ deed. Waits deed parts.new parts.old) }
+    ensures spaces { parts.new.spaces ≡ parts.old.spaces }
+{
+    match file_at(pid, path) {
+        Some(named) => if named.file.is_followed(opening.writes) {
+            opens_of(parts, pid, number, opening.until_exec, named)
+        } else {
+            parts.forget_descriptor(pid, number);
+            Ok(Deed::Quiet)
+        },
+        None => Ok(opens_other(parts, pid, number, opening.writes, path)),
+    }
+}
+
+// Another file: a relative path that may name a file which is followed can't be told from one that does.
+fn opens_other(parts: &mut Parts, pid: Pid, number: u64, writes: bool, path: &[u8]) -> Deed
+    ensures turn { deed_is pid result parts.new ≡ opens_other pid number writes (relative_file path.now) parts.old }
+    ensures waits { Waits result parts.new parts.old }
+    ensures spaces { parts.new.spaces ≡ parts.old.spaces }
+{
+    match relative_file(path) {
+        Some(file) => if file.is_followed(writes) {
+            Deed::Refused(LineFault::Descriptor)
+        } else {
+            parts.forget_descriptor(pid, number);
+            Deed::Quiet
+        },
+        None => {
+            parts.forget_descriptor(pid, number);
+            Deed::Quiet
+        }
+    }
+}
+
+// A file of a process: it can be followed where the process is known and the opener shares no descriptors.
+fn opens_of(
+    parts: &mut Parts,
+    pid: Pid,
+    number: u64,
+    until_exec: bool,
+    named: Named,
+) -> Result<Deed, NoMemory>
+    ensures turn { OrNoMemory result (λ deed. deed_is pid deed parts.new
+        ≡ opens_of pid number until_exec (followed_is named.file) (task_of named.process parts.old) parts.old) }
+    ensures unchanged { UnchangedOnErr result parts.new parts.old }
+    ensures waits { OrNoMemory result (λ deed. Waits deed parts.new parts.old) }
+    ensures spaces { parts.new.spaces ≡ parts.old.spaces }
+{
+    let space = match parts.task_of(named.process) {
+        Some(task) => task.space,
+        None => return Ok(Deed::Refused(LineFault::Descriptor)),
+    };
+    if parts.shares_files(pid) {
+        return Ok(Deed::Refused(LineFault::Descriptor));
+    }
+    let new = Descriptor {
+        pid,
+        number,
+        file: named.file,
+        space,
+        until_exec,
+    };
+    follows(parts, new)
+}
+
+// A descriptor more, unless they exceed their limit then.
+fn follows(parts: &mut Parts, new: Descriptor) -> Result<Deed, NoMemory>
+    ensures turn { OrNoMemory result (λ deed. (pid : ℕ) → deed_is pid deed parts.new ≡ follows new parts.old) }
+    ensures unchanged { UnchangedOnErr result parts.new parts.old }
+    ensures waits { OrNoMemory result (λ deed. Waits deed parts.new parts.old) }
+    ensures spaces { parts.new.spaces ≡ parts.old.spaces }
+{
+    parts.follow(new)?;
+    if parts.descriptor_count() as u64 > Limited::Descriptors.number() {
+        return Ok(Deed::Exceeds(Limited::Descriptors));
+    }
+    Ok(Deed::Quiet)
+}

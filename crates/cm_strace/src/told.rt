@@ -1,0 +1,170 @@
+// What a call that is told does to what is known (model_strace/specs, Turn). What gives an event is left to be done.
+ghost use Rattle.std.specs.Prelude.{◌≡◌, ℕ, Some, option_map};
+ghost use Rattle.cm_base.specs.Outcome.{OrNoMemory, UnchangedOnErr};
+ghost use Rattle.cm_base.specs.declared.res.Res.TheVariants.{Child};
+ghost use Rattle.cm_state.specs.Call.{call_of};
+ghost use Rattle.cm_strace.specs.Deeds.{deed_is, Waits};
+ghost use Rattle.cm_strace_calls.specs.Told.{told_is};
+ghost use Rattle.cm_strace_text.specs.Outcomes.{outcome_is};
+ghost use Rattle.model_strace.specs.Parts.{Parts, descriptor_of};
+ghost use Rattle.model_strace.specs.Turn.{told_turn, birth_call, bears, followed, for_space, joins_unknown, joins, copies, copies_to};
+
+use crate::deed::{Act, Birth, Deed};
+use crate::opens::opens;
+use crate::writes::writes;
+use cm_base::{LineFault, NoMemory, Pid, Res};
+use cm_state::Call;
+use cm_strace_calls::Told;
+use cm_strace_parts::{Descriptor, Parts};
+use cm_strace_text::{Outcome, has_flag};
+use std::alloc::Global;
+
+/// What a call that is told does. Its only error is want of memory, which leaves the parts as they were.
+pub(crate) fn take(
+    alloc: Global,
+    parts: &mut Parts,
+    pid: Pid,
+    told: Told<'_>,
+) -> Result<Deed, NoMemory>
+    ensures turn { OrNoMemory result (λ deed. deed_is pid deed parts.new ≡ told_turn pid (told_is told.entry) parts.old) }
+    ensures unchanged { UnchangedOnErr result parts.new parts.old }
+    ensures waits { OrNoMemory result (λ deed. Waits deed parts.new parts.old) }
+    ensures spaces { parts.new.spaces ≡ parts.old.spaces }
+{
+    match told {
+        Told::Nothing => Ok(Deed::Quiet),
+        Told::Faulty(why) => Ok(Deed::Refused(why)),
+        Told::Exceeds(limit) => Ok(Deed::Exceeds(limit)),
+        Told::Does(call, answer) => Ok(Deed::Acts(Act::Does(call, answer))),
+        Told::Bears(user, shares, answer) => Ok(bears(parts, pid, user, shares, answer)),
+        Told::Joins(number, flags, outcome) => Ok(joins(parts, pid, number, flags, outcome)),
+        Told::Opens(opening, number) => opens(alloc, parts, pid, opening, number),
+        Told::Closes(number) => {
+            parts.forget_descriptor(pid, u64::from(number));
+            Ok(Deed::Quiet)
+        }
+        Told::Copies(number) => Ok(copies(parts, pid, number)),
+        Told::CopiesTo(from, number) => Ok(copies_to(parts, pid, from, number)),
+        Told::Writes(number, text, outcome) => writes(alloc, parts, pid, number, text, outcome),
+    }
+}
+
+// ---- births
+
+// The call of a birth.
+pub(crate) fn birth_call(user: bool) -> Call
+    ensures { call_of result ≡ birth_call user }
+{
+    if user { Call::CloneUser } else { Call::Fork }
+}
+
+// A birth with its result: followed descriptors can't be shared.
+fn bears(parts: &Parts, pid: Pid, user: bool, shares: bool, answer: Res) -> Deed
+    ensures { deed_is pid result parts.now ≡ bears pid user shares answer parts.now }
+{
+    match answer {
+        Res::Child(child) => bears_child(parts, pid, user, shares, child),
+        Res::Done | Res::Id(_) | Res::Err(_) => Deed::Acts(Act::Does(birth_call(user), answer)),
+    }
+}
+
+// The birth of a child.
+fn bears_child(parts: &Parts, pid: Pid, user: bool, shares: bool, child: Pid) -> Deed
+    ensures { deed_is pid result parts.now ≡ bears pid user shares (Child child) parts.now }
+{
+    if shares && parts.has_descriptor(pid) {
+        return Deed::Refused(LineFault::Descriptor);
+    }
+    Deed::Acts(Act::Bears(Birth {
+        user,
+        shares,
+        child,
+    }))
+}
+
+// ---- setns(2)
+
+// The descriptor of that number, where there is a number and it is followed.
+fn followed(parts: &Parts, pid: Pid, number: Option<u32>) -> Option<&Descriptor>
+    ensures { option_map (λ d. d.now) result ≡ followed pid number parts.now }
+{
+    match number {
+        Some(number) => parts.descriptor_of(pid, u64::from(number)),
+        None => None,
+    }
+}
+
+// The same, where it is for a user namespace.
+fn for_space(parts: &Parts, pid: Pid, number: Option<u32>) -> Option<&Descriptor>
+    ensures { option_map (λ d. d.now) result ≡ for_space (followed pid number parts.now) }
+{
+    match followed(parts, pid, number) {
+        Some(d) => if d.file.is_space() { Some(d) } else { None },
+        None => None,
+    }
+}
+
+// A setns on a descriptor.
+fn joins(parts: &Parts, pid: Pid, number: Option<u32>, flags: &[u8], outcome: Outcome) -> Deed
+    ensures { deed_is pid result parts.now ≡ joins pid (for_space (followed pid number parts.now)) flags.now (outcome_is outcome) parts.now }
+{
+    match for_space(parts, pid, number) {
+        Some(d) => joins_known(d, flags, outcome),
+        None => joins_unknown(flags, outcome.success()),
+    }
+}
+
+// One that isn't followed could be for any user namespace.
+fn joins_unknown(flags: &[u8], success: Option<u64>) -> Deed
+    ensures { (pid : ℕ) (p : Parts) → deed_is pid result p ≡ joins_unknown flags.now success p }
+{
+    match success {
+        Some(_) => if flags == b"0".as_slice() || has_flag(b"CLONE_NEWUSER", flags) {
+            Deed::Refused(LineFault::Descriptor)
+        } else {
+            Deed::Quiet
+        },
+        None => Deed::Quiet,
+    }
+}
+
+// One that is for a user namespace.
+fn joins_known(d: &Descriptor, flags: &[u8], outcome: Outcome) -> Deed
+    ensures { (pid : ℕ) (p : Parts) → deed_is pid result p ≡ joins pid (Some d.now) flags.now (outcome_is outcome) p }
+{
+    if flags == b"0".as_slice() || flags == b"CLONE_NEWUSER".as_slice() {
+        match outcome.plain() {
+            Some(answer) => Deed::Acts(Act::Does(Call::SetNs(d.space), answer)),
+            None => Deed::Refused(LineFault::Outcome),
+        }
+    } else {
+        Deed::Quiet
+    }
+}
+
+// ---- dup(2)
+
+// The copy of a descriptor, which can't be followed.
+fn copies(parts: &Parts, pid: Pid, number: u32) -> Deed
+    ensures { deed_is pid result parts.now ≡ copies (descriptor_of pid number parts.now) parts.now }
+{
+    match parts.descriptor_of(pid, u64::from(number)) {
+        Some(_) => Deed::Refused(LineFault::Descriptor),
+        None => Deed::Quiet,
+    }
+}
+
+// A copy that takes the place of another descriptor.
+fn copies_to(parts: &mut Parts, pid: Pid, from: Option<u32>, number: u64) -> Deed
+    ensures turn { deed_is pid result parts.new ≡ copies_to pid (followed pid from parts.old) number parts.old }
+    ensures waits { Waits result parts.new parts.old }
+    ensures spaces { parts.new.spaces ≡ parts.old.spaces }
+{
+    match followed(parts, pid, from) {
+        Some(_) => Deed::Refused(LineFault::Descriptor),
+        None => {
+            parts.forget_descriptor(pid, number);
+            Deed::Quiet
+        }
+    }
+}

@@ -1,0 +1,165 @@
+// A session of a reader of strace(1).
+ghost use Rattle.std.specs.Prelude.{◌≡◌, ℕ, ◌∷◌, [], ◌+◌, ◌<◌, ◌≤◌, ◌^◌, List, length};
+ghost use Rattle.cm_base.specs.Limits.{greatest_number};
+ghost use Rattle.cm_base.specs.Outcome.{OrNoMemory, UnchangedOnErr};
+ghost use Rattle.cm_strace.specs.Answers.{stop_is, reading_is};
+ghost use Rattle.cm_strace.specs.Stages.{session_is, stage_after, stage_ended};
+ghost use Rattle.cm_strace.specs.Works.{uses};
+ghost use Rattle.cm_world.specs.World.{world_of};
+ghost use Rattle.model_strace.specs.Body.{row_of};
+ghost use Rattle.model_strace.specs.Lines.{reading};
+ghost use Rattle.model_strace.specs.Rest.{answer_of, fed_by, first_session, lines_fed, rest, line_answer, after_line, after_finish, answered_then, session_of};
+ghost use Rattle.model_text.specs.Reading.{AtEnd, Stops, ends_at};
+
+use crate::ending::read_end;
+use crate::placed::{Fed, Placed, Stop};
+use crate::stage::Stage;
+use crate::work::Work;
+use cm_base::NoMemory;
+use cm_world::World;
+use std::alloc::Global;
+use std::marker::Model;
+
+/// A session: it is fed a log line by line, and keeps what is known and the lines that wait for their process to be born. Once
+/// stopped it answers that stop, and once the log has ended nothing more.
+#[derive(Debug, Drop)]
+pub struct Tracer {
+    work: Work,
+    stage: Stage,
+}
+
+impl Model for Tracer {
+    ghost use Rattle.cm_strace.specs.Stages.{session_is, IsRoomy};
+    ghost use Rattle.model_strace.specs.Rest as model;
+
+    ghost Value = { model.Session };
+
+    ghost view = { λ t. session_is t.stage t.work };
+
+    ghost invariant = { λ t. IsRoomy t.stage t.work };
+}
+
+impl Tracer {
+    /// The session of a world before any line. Its only error is want of memory.
+    pub fn new(alloc: Global, w: &World) -> Result<Tracer, NoMemory>
+        requires { length w.now.start.spaces < 2 ^ 31 }
+        ensures first { OrNoMemory result (λ t. t ≡ first_session (world_of w.now)) }
+        ensures reading { OrNoMemory result (λ t. (lines : List (List ℕ)) → rest (world_of w.now) t lines ≡ reading (world_of w.now) lines) }
+    {
+        let work = Work::first(alloc, w)?;
+        Ok(Tracer {
+            work,
+            stage: Stage::Going,
+        })
+    }
+
+    /// How many lines the session was fed.
+    pub fn lines(&self) -> u64
+        ensures { result ≡ lines_fed self.now }
+    {
+        self.work.count()
+    }
+
+    /// A line comes, without its LF: its events, those of the held lines that come after a birth, and the stop where there is
+    /// one. Its only error is want of memory, which leaves the session as it was.
+    pub fn feed_line(&mut self, alloc: Global, w: &World, line: &[u8]) -> Result<Fed, NoMemory>
+        requires { lines_fed self.old < 2 ^ 31 }
+        ensures given { OrNoMemory result (λ fed. fed ≡ line_answer (world_of w.now) self.old line.now) }
+        ensures after { OrNoMemory result (λ _. self.new ≡ after_line (world_of w.now) self.old line.now) }
+        ensures told { OrNoMemory result (λ fed. (lines : List (List ℕ)) →
+            rest (world_of w.now) self.old (line.now ∷ lines) ≡ answered_then fed (rest (world_of w.now) self.new lines)) }
+        ensures unchanged { UnchangedOnErr result self.new self.old }
+    {
+        match self.stage {
+            Stage::Going => {
+                let mut events = Vec::new(alloc);
+                let stop = feed_work(alloc, w, &mut self.work, line, &mut events)?;
+                self.stage = stage_after(stop);
+                Ok(Fed { events, stop })
+            }
+            Stage::Stopped(stop) => Ok(stopped(alloc, stop)),
+            Stage::Finished => Ok(nothing(alloc)),
+        }
+    }
+
+    /// The log ends: what the held lines still give. Its only error is want of memory, which leaves the session as it was.
+    pub fn finish(&mut self, alloc: Global, w: &World) -> Result<Fed, NoMemory>
+        ensures told { OrNoMemory result (λ fed. fed ≡ rest (world_of w.now) self.old []) }
+        ensures after { OrNoMemory result (λ _. self.new ≡ after_finish (world_of w.now) self.old) }
+        ensures unchanged { UnchangedOnErr result self.new self.old }
+    {
+        match self.stage {
+            Stage::Going => {
+                let fed = read_end(alloc, w, &self.work)?;
+                self.stage = stage_ended(fed.stop);
+                Ok(fed)
+            }
+            Stage::Stopped(stop) => Ok(stopped(alloc, stop)),
+            Stage::Finished => Ok(nothing(alloc)),
+        }
+    }
+}
+
+// No event, and no stop.
+fn nothing(alloc: Global) -> Fed
+    ensures { result ≡ ends_at AtEnd }
+{
+    Fed {
+        events: Vec::new(alloc),
+        stop: None,
+    }
+}
+
+// No event, and that stop.
+fn stopped(alloc: Global, stop: Stop) -> Fed
+    ensures { result ≡ ends_at (Stops (stop_is stop)) }
+{
+    Fed {
+        events: Vec::new(alloc),
+        stop: Some(stop),
+    }
+}
+
+// The stage after a line.
+fn stage_after(stop: Option<Stop>) -> Stage
+    ensures { result ≡ stage_after stop }
+{
+    match stop {
+        Some(stop) => Stage::Stopped(stop),
+        None => Stage::Going,
+    }
+}
+
+// The stage after the log's end.
+fn stage_ended(stop: Option<Stop>) -> Stage
+    ensures { result ≡ stage_ended stop }
+{
+    match stop {
+        Some(stop) => Stage::Stopped(stop),
+        None => Stage::Finished,
+    }
+}
+
+// A line comes in a session that goes on.
+fn feed_work(
+    alloc: Global,
+    w: &World,
+    t: &mut Work,
+    line: &[u8],
+    events: &mut Vec<Placed>,
+) -> Result<Option<Stop>, NoMemory>
+    requires room { uses t.old < greatest_number }
+    requires few { t.old.count < 2 ^ 63 }
+    requires fresh { events.old.items ≡ [] }
+    ensures given { OrNoMemory result (λ stop. reading_is events.new.items stop ≡ answer_of (fed_by row_of (world_of w.now) line.now t.old)) }
+    ensures after { OrNoMemory result (λ stop. session_is (stage_after stop) t.new
+        ≡ session_of (t.old.count + 1) (fed_by row_of (world_of w.now) line.now t.old)) }
+    ensures unchanged { UnchangedOnErr result t.new t.old }
+    ensures uses { uses t.new ≤ uses t.old + 1 }
+    ensures count { OrNoMemory result (λ _. t.new.count ≡ t.old.count + 1) }
+{
+    let count = t.count() + 1;
+    let stop = t.feed(alloc, w, line, events)?;
+    t.set_count(count);
+    Ok(stop)
+}

@@ -1,0 +1,4 @@
+-- Lemmas of this crate, by topic.
+pub mod Order
+pub mod Orders
+pub mod Ranges

@@ -1,0 +1,18 @@
+//! What is known while a log of strace(1) is read (model_strace/specs, Parts): the processes, the calls that aren't finished,
+//! the descriptors that are followed; and what the texts written to a process's map files and setgroups file give. Each
+//! change that needs memory leaves all as it was where there is none.
+#![tactic(auto)]
+
+mod descriptor;
+mod kept;
+mod parts;
+mod task;
+mod written;
+
+pub use descriptor::Descriptor;
+pub use parts::Parts;
+pub use task::Task;
+pub use written::{read_extents, read_written_word};
+
+#[cfg(test)]
+mod tests;

@@ -1,0 +1,269 @@
+// What is known while a log is read.
+ghost use Rattle.std.specs.Prelude.{◌≡◌, ◌<◌, length, option_map};
+ghost use Rattle.cm_base.specs.Limits.{greatest_number};
+ghost use Rattle.cm_base.specs.Outcome.{OrNoMemory, UnchangedOnErr};
+ghost use Rattle.cm_world.specs.World.{world_of};
+ghost use Rattle.model_strace.specs.Parts.{first_parts, task_of, is_known, space_of, shares_files, moved};
+ghost use Rattle.model_strace.specs.Parts.{moved_to_new, kept_of, keeping, without_kept, without_any_kept};
+ghost use Rattle.model_strace.specs.Parts.{descriptor_of, has_descriptor, without_descriptor, with_descriptor};
+ghost use Rattle.model_strace.specs.Parts.{after_exec, after_birth, after_user_birth, after_end};
+
+use crate::descriptor::Descriptor;
+use crate::kept::Kept;
+use crate::task::Task;
+use crate::{descriptor, kept, task};
+use cm_base::{NoMemory, Pid, SpaceId};
+use cm_world::World;
+use std::alloc::Global;
+use std::marker::Model;
+
+/// The processes, the calls that aren't finished, the descriptors that are followed, and how many user namespaces there are.
+#[derive(Debug, Drop)]
+pub struct Parts {
+    tasks: Vec<Task>,
+    kept: Vec<Kept>,
+    descriptors: Vec<Descriptor>,
+    spaces: u32,
+}
+
+impl Model for Parts {
+    ghost use Rattle.cm_strace_parts.specs.Below.{InOrder};
+    ghost use Rattle.model_strace.specs.Parts as model;
+
+    ghost Value = { model.Parts };
+
+    ghost view = { λ p. record { tasks = p.tasks.items; kept = p.kept.items; descriptors = p.descriptors.items; spaces = p.spaces } };
+
+    ghost invariant = { λ p. InOrder p.tasks.items p.kept.items p.descriptors.items };
+}
+
+// ---- what is known
+
+impl Parts {
+    /// What is known at the begin of a world's log. Its only error is want of memory.
+    pub fn first(alloc: Global, w: &World) -> Result<Parts, NoMemory>
+        ensures { OrNoMemory result (λ p. p ≡ first_parts (world_of w.now)) }
+    {
+        let start = &w.start;
+        let tasks = task::first_tasks(alloc, start.procs.items())?;
+        Ok(Parts {
+            tasks,
+            kept: Vec::new(alloc),
+            descriptors: Vec::new(alloc),
+            spaces: start.spaces.count(),
+        })
+    }
+
+    /// The same. Its only error is want of memory.
+    pub fn copy(&self, alloc: Global) -> Result<Parts, NoMemory>
+        ensures { OrNoMemory result (λ p. p ≡ self.now) }
+    {
+        let tasks = task::copy_list(alloc, &self.tasks)?;
+        let kept = kept::copy_list(alloc, &self.kept)?;
+        let descriptors = descriptor::copy_list(alloc, &self.descriptors)?;
+        Ok(Parts {
+            tasks,
+            kept,
+            descriptors,
+            spaces: self.spaces,
+        })
+    }
+
+    /// How many user namespaces there are.
+    pub fn spaces(&self) -> u32
+        ensures { result ≡ self.now.spaces }
+    {
+        self.spaces
+    }
+
+    /// The process of that pid.
+    pub fn task_of(&self, pid: Pid) -> Option<&Task>
+        ensures { option_map (λ task. task.now) result ≡ task_of pid self.now }
+    {
+        task::task_of(&self.tasks, pid)
+    }
+
+    /// The pid is known.
+    pub fn is_known(&self, pid: Pid) -> bool
+        ensures { result ≡ is_known pid self.now }
+    {
+        self.task_of(pid).is_some()
+    }
+
+    /// The user namespace of a process, the initial one where the pid isn't known.
+    pub fn space_of(&self, pid: Pid) -> SpaceId
+        ensures { result.0 ≡ space_of pid self.now }
+    {
+        match self.task_of(pid) {
+            Some(task) => task.space,
+            None => SpaceId(0),
+        }
+    }
+
+    /// The process shares its descriptors.
+    pub fn shares_files(&self, pid: Pid) -> bool
+        ensures { result ≡ shares_files pid self.now }
+    {
+        match self.task_of(pid) {
+            Some(task) => task.shares,
+            None => false,
+        }
+    }
+
+    /// The text that is kept of a process.
+    pub fn kept_of(&self, pid: Pid) -> Option<&[u8]>
+        ensures { option_map (λ text. text.now) result ≡ kept_of pid self.now }
+    {
+        match kept::kept_of(&self.kept, pid) {
+            Some(kept) => Some(kept.text()),
+            None => None,
+        }
+    }
+
+    /// The descriptor of that number of a process, where it is followed.
+    pub fn descriptor_of(&self, pid: Pid, number: u64) -> Option<&Descriptor>
+        ensures { option_map (λ d. d.now) result ≡ descriptor_of pid number self.now }
+    {
+        descriptor::descriptor_of(&self.descriptors, pid, number)
+    }
+
+    /// A descriptor of the process is followed.
+    pub fn has_descriptor(&self, pid: Pid) -> bool
+        ensures { result ≡ has_descriptor pid self.now }
+    {
+        descriptor::has_any(&self.descriptors, pid)
+    }
+
+    /// How many descriptors are followed.
+    pub fn descriptor_count(&self) -> usize
+        ensures { result ≡ length self.now.descriptors }
+    {
+        self.descriptors.len()
+    }
+}
+
+// ---- changes that take no memory
+
+impl Parts {
+    /// The process of that pid is in another user namespace.
+    pub fn move_to(&mut self, pid: Pid, space: SpaceId)
+        ensures { self.new ≡ moved pid space.0 self.old }
+    {
+        task::move_to(&mut self.tasks, pid, space);
+    }
+
+    /// The process of that pid is in a new user namespace, whose number there must be.
+    pub fn move_to_new(&mut self, pid: Pid)
+        requires { self.old.spaces < greatest_number }
+        ensures { self.new ≡ moved_to_new pid self.old }
+    {
+        task::move_to(&mut self.tasks, pid, SpaceId(self.spaces));
+        self.spaces += 1;
+    }
+
+    /// No text of the process is kept.
+    pub fn forget_kept(&mut self, pid: Pid)
+        ensures { self.new ≡ without_kept pid self.old }
+    {
+        kept::remove(&mut self.kept, pid);
+    }
+
+    /// No text is kept.
+    pub fn forget_all_kept(&mut self)
+        ensures { self.new ≡ without_any_kept self.old }
+    {
+        self.kept.clear();
+    }
+
+    /// The descriptor isn't followed any more.
+    pub fn forget_descriptor(&mut self, pid: Pid, number: u64)
+        ensures { self.new ≡ without_descriptor pid number self.old }
+    {
+        descriptor::remove(&mut self.descriptors, pid, number);
+    }
+
+    /// What an execve of the process leaves (execve(2), "Effect on process attributes").
+    pub fn execute(&mut self, pid: Pid)
+        ensures { self.new ≡ after_exec pid self.old }
+    {
+        descriptor::close_at_exec(&mut self.descriptors, pid);
+    }
+
+    /// What the end of a process leaves.
+    pub fn end(&mut self, pid: Pid)
+        ensures { self.new ≡ after_end pid self.old }
+    {
+        task::remove(&mut self.tasks, pid);
+        kept::remove(&mut self.kept, pid);
+        descriptor::remove_all(&mut self.descriptors, pid);
+    }
+}
+
+// ---- changes that may take memory
+
+impl Parts {
+    /// That text of the process is kept too. Its only error is want of memory, which leaves all as it was.
+    pub fn keep(&mut self, alloc: Global, pid: Pid, text: &[u8]) -> Result<(), NoMemory>
+        ensures kept { OrNoMemory result (λ _. self.new ≡ keeping pid text.now self.old) }
+        ensures unchanged { UnchangedOnErr result self.new self.old }
+    {
+        let new = Kept::new(alloc, pid, text)?;
+        kept::put(&mut self.kept, new)?;
+        Ok(())
+    }
+
+    /// The descriptor is followed, in the place of any of its number. Its only error is want of memory, which leaves all as
+    /// it was.
+    pub fn follow(&mut self, new: Descriptor) -> Result<(), NoMemory>
+        ensures followed { OrNoMemory result (λ _. self.new ≡ with_descriptor new self.old) }
+        ensures unchanged { UnchangedOnErr result self.new self.old }
+    {
+        self.descriptors.reserve(1)?;
+        descriptor::put(&mut self.descriptors, new);
+        Ok(())
+    }
+
+    /// What a birth leaves: the child in that user namespace, with the parent's descriptors or with copies of them. Its only
+    /// error is want of memory, which leaves all as it was.
+    pub fn bear(
+        &mut self,
+        alloc: Global,
+        parent: Pid,
+        child: Pid,
+        space: SpaceId,
+        shares: bool,
+    ) -> Result<(), NoMemory>
+        ensures born { OrNoMemory result (λ _. self.new ≡ after_birth parent child space.0 shares self.old) }
+        ensures unchanged { UnchangedOnErr result self.new self.old }
+    {
+        let copies = descriptor::copies_unless(alloc, &self.descriptors, parent, shares)?;
+        self.tasks.reserve(1)?;
+        self.descriptors.reserve(copies.len())?;
+        descriptor::put_copies(&mut self.descriptors, &copies, child);
+        let born = Task {
+            pid: child,
+            space,
+            shares,
+        };
+        task::bear(&mut self.tasks, parent, born);
+        Ok(())
+    }
+
+    /// The same of a birth in a new user namespace, whose number there must be. Its only error is want of memory, which leaves
+    /// all as it was.
+    pub fn bear_in_new(
+        &mut self,
+        alloc: Global,
+        parent: Pid,
+        child: Pid,
+        shares: bool,
+    ) -> Result<(), NoMemory>
+        requires { self.old.spaces < greatest_number }
+        ensures born { OrNoMemory result (λ _. self.new ≡ after_user_birth parent child shares self.old) }
+        ensures unchanged { UnchangedOnErr result self.new self.old }
+    {
+        self.bear(alloc, parent, child, SpaceId(self.spaces), shares)?;
+        self.spaces += 1;
+        Ok(())
+    }
+}
