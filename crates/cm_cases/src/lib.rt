@@ -23,6 +23,8 @@ mod sets;
 #[cfg(test)]
 mod spaces;
 #[cfg(test)]
+mod strace;
+#[cfg(test)]
 mod words;
 #[cfg(test)]
 mod worlds;

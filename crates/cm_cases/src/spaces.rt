@@ -373,7 +373,8 @@ fn a_map_has_340_extents_through_several_of_its_parent(rt: HostRuntime) -> Resul
     let alloc = rt.alloc();
     let map = "[[0, 100000, 170], [170, 200000, 170]]";
     let world = format!(in alloc;
-        "log = 'script'\nspace = [{{ name = 'box', parent = 'init', owner = 0, uid_map = {map}, gid_map = {map} }}]\nprocess = [{{ pid = 1, space = 'box', uid = 100000, gid = 100000, permitted = 'all', effective = 'all' }}]\n"
+        "log = 'script'\nspace = [{{ name = 'box', parent = 'init', owner = 0, uid_map = {map}, gid_map = {map} }}]\n\
+         process = [{{ pid = 1, space = 'box', uid = 100000, gid = 100000, permitted = 'all', effective = 'all' }}]\n"
     )?;
     let mut log = b"1 clone_user = 2\n".to_vec(alloc)?;
     log.extend_from_slice(&long_write(alloc, 341, "EINVAL")?)?;
@@ -385,7 +386,8 @@ fn a_map_has_340_extents_through_several_of_its_parent(rt: HostRuntime) -> Resul
     assert_eq!(rt; status, Status::Accepted);
     assert!(rt;
         text.ends_with(
-            b"\n> 2 #2 uid=200169,200169,200169,200169 gid=100000,100000,100000,100000 groups=- inh=0000000000000000 prm=0000000000000000 eff=0000000000000000 bnd=000001ffffffffff amb=0000000000000000 sec=00 nnp=0\nend 5\n"
+            b"\n> 2 #2 uid=200169,200169,200169,200169 gid=100000,100000,100000,100000 groups=- \
+              inh=0000000000000000 prm=0000000000000000 eff=0000000000000000 bnd=000001ffffffffff amb=0000000000000000 sec=00 nnp=0\nend 5\n"
         )
     );
     Ok(())

@@ -118,11 +118,13 @@ static BAD: [(&str, &str); 98] = [
         "space 2: NotMapped",
     ),
     (
-        "log = 'script'\nspace = [{ name = 'a', parent = 'init', owner = 0, uid_map = [[0, 1000, 10]], gid_map = [[0, 0, 1]] }, { name = 'b', parent = 'a', owner = 0, uid_map = [[0, 5, 6]] }]",
+        "log = 'script'\nspace = [{ name = 'a', parent = 'init', owner = 0, uid_map = [[0, 1000, 10]], gid_map = [[0, 0, 1]] }, \
+         { name = 'b', parent = 'a', owner = 0, uid_map = [[0, 5, 6]] }]",
         "space 2: NotMapped",
     ),
     (
-        "log = 'script'\nspace = [{ name = 'a', parent = 'init', owner = 0, uid_map = [[0, 0, 5], [5, 5, 5]] }, { name = 'b', parent = 'a', owner = 0, uid_map = [[0, 4, 2]] }]",
+        "log = 'script'\nspace = [{ name = 'a', parent = 'init', owner = 0, uid_map = [[0, 0, 5], [5, 5, 5]] }, \
+         { name = 'b', parent = 'a', owner = 0, uid_map = [[0, 4, 2]] }]",
         "space 2: NotMapped",
     ),
     (
@@ -187,7 +189,8 @@ static BAD: [(&str, &str); 98] = [
         "file 1: BadName",
     ),
     (
-        "log = 'script'\nfile = [{ path = '/a', uid = 0, gid = 0, mode = '755' }, { path = '/a', uid = 0, gid = 0, mode = '755', mount = 'm' }]\nmount = [{ name = 'm' }]",
+        "log = 'script'\nfile = [{ path = '/a', uid = 0, gid = 0, mode = '755' }, \
+         { path = '/a', uid = 0, gid = 0, mode = '755', mount = 'm' }]\nmount = [{ name = 'm' }]",
         "file 2: TwiceNamed",
     ),
     (
@@ -199,7 +202,9 @@ static BAD: [(&str, &str); 98] = [
         "file 1: NoInterpreter",
     ),
     (
-        "log = 'script'\nfile = [{ path = '/a', uid = 0, gid = 0, mode = '755' }, { path = '/b', uid = 0, gid = 0, mode = '755', interpreter = '/a' }, { path = '/c', uid = 0, gid = 0, mode = '755', interpreter = '/b' }]",
+        "log = 'script'\nfile = [{ path = '/a', uid = 0, gid = 0, mode = '755' }, \
+         { path = '/b', uid = 0, gid = 0, mode = '755', interpreter = '/a' }, \
+         { path = '/c', uid = 0, gid = 0, mode = '755', interpreter = '/b' }]",
         "file 3: NoInterpreter",
     ),
     (
@@ -406,17 +411,6 @@ fn bytes_that_are_no_text_are_no_world(rt: HostRuntime) -> Result<(), Fail> {
         Status::BadWorld,
         report,
     )
-}
-
-#[test]
-fn worlds_of_strace_are_not_built(rt: HostRuntime) -> Result<(), Fail> {
-    let alloc = rt.alloc();
-    let world = b"log = \"strace\"\n[[process]]\npid = 1\n";
-    check(&rt, alloc, world, b"", Status::NotBuilt, b"not built\n")?;
-    // A fault of the world comes before.
-    let world = b"log = \"strace\"\n[[process]]\npid = 0\n";
-    let report = b"bad world process 1: BadNumber\n";
-    check(&rt, alloc, world, b"", Status::BadWorld, report)
 }
 
 // A text, and the lines at its start.

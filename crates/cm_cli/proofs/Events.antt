@@ -1,5 +1,6 @@
 -- What an event adds to the report, to the run and to what is counted.
-use Rattle.std.proofs.Common.{◌≡◌, ◌≢◌, ℕ, ◌+◌, ◌&&◌, Bool, true, false, List, [], ◌∷◌, ◌++◌, Option, Some, None, refl, sym, ap, ◌∙◌, subst, append_assoc, append-nil}
+use Rattle.std.proofs.Common.{◌≡◌, ◌≢◌, ℕ, ◌+◌, ◌&&◌, Bool, true, false, List, [], ◌∷◌, ◌++◌, Option}
+use Rattle.std.proofs.Common.{Some, refl, sym, ap, ◌∙◌, subst, append_assoc, append-nil}
 use Rattle.cm_base.specs.declared.limited.Limited.{Limited}
 use Rattle.cm_base.specs.declared.status.Status.{Status}
 use Rattle.cm_base.specs.declared.status.Status.TheVariants as status
@@ -15,7 +16,7 @@ use Rattle.model_cred.specs.World.{World}
 use Rattle.model_run.specs.Step.{Outcome, Goes, NoProcess, NoSpace, PidInUse, Wrong, outcome}
 use Rattle.model_run.specs.RunBack.{are_setresuids, is_setresuid}
 use Rattle.model_report.specs.Causes.{RunWithin}
-use Rattle.model_report.specs.Replay.{Report, ReportLine, Plain, text_of, by_outcome, after, impossible, impossible_text, limit_hit, step_lines, replayed}
+use Rattle.model_report.specs.Replay.{Report, ReportLine, Plain, text_of, by_outcome, after, impossible_text, limit_hit, step_lines, replayed}
 use Rattle.model_report.specs.Replay.{exceeded, IsWithin, unless_exceeded}
 use Rattle.model_text.specs.Reading.{Placed, Reading, events_of, reads_on}
 
@@ -34,7 +35,8 @@ pub crowds : (w : World) (e : Placed) (l : Limited) (become : Outcome) (s : Stat
     → EndsWith w e status.Limit become × (event_lines w e become ≡ (limit_hit l).lines)
 crowds w e l become s is over =
     let given : (rest : State → Report) → by_outcome w e rest become ≡ limit_hit l
-    = λ rest. ap (λ (o : Outcome). by_outcome w e rest o) is ∙ ap (λ (found : Option Limited). unless_exceeded found (after (step_lines w s e) (rest s))) over in
+    = λ rest. ap (λ (o : Outcome). by_outcome w e rest o) is
+    ∙ ap (λ (found : Option Limited). unless_exceeded found (after (step_lines w s e) (rest s))) over in
     let lines : event_lines w e become ≡ (limit_hit l).lines = ap (λ (r : Report). r.lines) (given nothing) in (
       record { other = λ same. cc; report = λ rest. given rest ∙ ap (λ (ls : List ReportLine). record { status = status.Limit; lines = ls }) (sym lines) },
       lines,

@@ -1,5 +1,4 @@
 -- Lemmas of this crate, by topic.
-pub mod FirstLine
 pub mod ReportText
 pub mod Events
 pub mod Standing

@@ -1,6 +1,6 @@
 -- What two files come to, by how they were read.
-use Rattle.std.proofs.Common.{◌≡◌, ◌≤◌, nat_lt, ℕ, List, length, refl, sym, ap, ◌∙◌, inl, inr, true, false, cond, Bool, Option, None, Some, IfSome, IfOk}
-use Rattle.std.proofs.Common.{Result, Ok, Err, Vec, subst}
+use Rattle.std.proofs.Common.{◌≡◌, ◌≤◌, nat_lt, ℕ, List, length, sym, ap, ◌∙◌, inl, inr, cond, Bool, Option, None, Some, IfSome}
+use Rattle.std.proofs.Common.{Ok, Err, Vec}
 use Rattle.std.specs.declared.alloc.Global.{Global}
 use Rattle.cm_base.specs.Limited.{limit_number}
 use Rattle.cm_base.specs.declared.limited.Limited.TheVariants as limit
@@ -13,13 +13,12 @@ use Rattle.cm_cli.specs.declared.telling.Short.TheVariants as short
 use Rattle.cm_world.specs.World.{world_of}
 use Rattle.cm_world.specs.declared.world.World as code
 use Rattle.model_cred.specs.Process.{State}
-use Rattle.model_cred.specs.World.{LogForm}
 use Rattle.model_report.proofs.Statuses.{of_size, not_above, is_above}
 use Rattle.model_report.specs.Query.{Query}
 use Rattle.model_report.specs.Replay.{Report, limit_hit, IsWithin}
-use Rattle.model_report.specs.Report.{files_report, by_world, form_report, script_report}
+use Rattle.model_report.specs.Report.{files_report, by_world, text_report}
 use Rattle.model_report.specs.Report as whole
-use Rattle.model_text.specs.Reading.{script_reading}
+use Rattle.model_strace.specs.Logs.{log_reading}
 use Rattle.model_text.specs.WorldText.{WorldText, Reads, Bad, Exceeds, world_text, text_says_more}
 
 module _ (query : Option Query) (world log : List ℕ) where
@@ -28,20 +27,18 @@ module _ (query : Option Query) (world log : List ℕ) where
   by_text text read =
       of_size query world log read.size ∙ ap (λ (t : WorldText). by_world query (text_says_more world) t log) read.text_is
 
-  -- a world that was read has the report of a script log
-  by_script : (w : code.World) → IsWorldRead (Ok w) world
-      → files_report query world log ≡ script_report query (text_says_more world) (world_of w) log
-  by_script w (read, form, more) =
-      by_text (Reads (world_of w)) read ∙ ap (λ (f : LogForm). form_report query (text_says_more world) (world_of w) log f) form
+  -- a world that was read has the report of a log
+  by_world_read : (w : code.World) → IsWorldRead (Ok w) world → files_report query world log ≡ text_report query (text_says_more world) (world_of w) log
+  by_world_read w is = by_text (Reads (world_of w)) is.0
 
   -- the report of both is that of the world and the log that were read
   pub files_ready : (w : code.World) (text : Vec ℕ Global) → IsWorldRead (Ok w) world → IsLogRead (Ok text) log
       → files_report query world log ≡ log_report query w text.items
   files_ready w text is (size, same) =
-      let answer : Bool → List ℕ → Report = λ more bytes. whole.log_report query more (world_of w) (script_reading (world_of w) bytes) in
-      by_script w is
+      let answer : Bool → List ℕ → Report = λ more bytes. whole.log_report query more (world_of w) (log_reading (world_of w) bytes) in
+      by_world_read w is
       ∙ ap (λ (over : Bool). cond over (limit_hit limit.Log) (answer (text_says_more world) log)) (not_above (limit_number limit.Log) (length log) size)
-      ∙ ap (λ (more : Bool). answer more log) (sym is.2)
+      ∙ ap (λ (more : Bool). answer more log) (sym is.1)
       ∙ ap (λ (bytes : List ℕ). answer w.more bytes) (sym same)
 
   -- that of a world that is refused tells why, whatever the log
@@ -52,16 +49,15 @@ module _ (query : Option Query) (world log : List ℕ) where
       ∙ ap limit_hit (sym is)
   world_refused (short.Limit l) (inr read) = by_text (Exceeds l) read
   world_refused (short.BadWorld table row why) read = by_text (Bad table row why) read
-  world_refused short.NotBuilt (w, read, form) =
-      by_text (Reads w) read ∙ ap (λ (f : LogForm). form_report query (text_says_more world) w log f) form
+  world_refused short.NotBuilt never = absurd never
   world_refused short.Usage never = absurd never
 
   -- so does that of a log that is refused, after a world that was read
   pub log_refused : (why : Short) (w : code.World) → IsWorldRead (Ok w) world → IsLogRead (Err (unready.Refused why)) log
       → files_report query world log ≡ short_report why
   log_refused (short.Limit l) w read (is, over) =
-      by_script w read
-      ∙ ap (λ (b : Bool). cond b (limit_hit limit.Log) (whole.log_report query (text_says_more world) (world_of w) (script_reading (world_of w) log)))
+      by_world_read w read
+      ∙ ap (λ (b : Bool). cond b (limit_hit limit.Log) (whole.log_report query (text_says_more world) (world_of w) (log_reading (world_of w) log)))
       (is_above (limit_number limit.Log) (length log) over)
       ∙ ap limit_hit (sym is)
   log_refused (short.BadWorld table row why) w read never = absurd never
@@ -81,11 +77,6 @@ within_limits s processes spaces =
     ap (λ (over : Bool). cond over (Some limit.Processes) (cond (nat_lt (limit_number limit.Spaces) (length s.spaces)) (Some limit.Spaces) None))
     (not_above (limit_number limit.Processes) (length s.processes) processes)
     ∙ ap (λ (over : Bool). cond over (Some limit.Spaces) None) (not_above (limit_number limit.Spaces) (length s.spaces) spaces)
-
--- what holds of a world holds of the same one that is given on
-pub if_given_on : (w : code.World) (form : Type 0) (P : code.World → Type 0) (r : Result code.World Unready) → IfOk r (λ v. (v ≡ w) × form) → P w → IfOk r P
-if_given_on w form P (Ok v) is p = subst P (sym is.0) p
-if_given_on w form P (Err why) is p = tt
 
 -- a fact of what is told, from two
 pub if_both : {T : Type 0} {P Q R : T → Type 0} (o : Option T) → IfSome o P → IfSome o Q → ((x : T) → P x → Q x → R x) → IfSome o R

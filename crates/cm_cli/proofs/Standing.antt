@@ -1,5 +1,5 @@
 -- Where a replay stands among the events of a log.
-use Rattle.std.proofs.Common.{◌≡◌, ◌∙◌, ℕ, ◌+◌, ◌&&◌, Bool, List, ◌++◌, Option, sym}
+use Rattle.std.proofs.Common.{◌≡◌, ◌∙◌, ℕ, ◌+◌, ◌&&◌, List, ◌++◌, Option, sym}
 use Rattle.cm_cli.proofs.Events.{next_status, next_waits, run_on, told_on}
 use Rattle.cm_cli.proofs.Waiting.{sent_on, more_waits, waits_as}
 use Rattle.cm_cli.specs.Replay.{report_from, event_lines, IsTurn}

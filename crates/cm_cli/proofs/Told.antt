@@ -1,5 +1,5 @@
 -- A report that is told, or that stops.
-use Rattle.std.proofs.Common.{◌≡◌, ◌≢◌, ◌+◌, ℕ, List, [], ◌∷◌, ◌++◌, map, append-nil, append_assoc, le_of_eq, Option}
+use Rattle.std.proofs.Common.{◌≡◌, ◌≢◌, ◌+◌, ℕ, List, [], ◌∷◌, ◌++◌, append-nil, append_assoc, le_of_eq, Option}
 use Rattle.std.proofs.Common.{None, Some, Ok, Err, ◌⊎◌, inl, inr, ◌==◌, ◌&&◌, ◌||◌, not, Bool, true, false, cond, length}
 use Rattle.std.proofs.Common.{subst, refl, sym, ap, ◌∙◌}
 use Rattle.cm_base.specs.declared.limited.Limited.{Limited}
@@ -22,7 +22,8 @@ use Rattle.model_cred.specs.World.{World}
 use Rattle.model_run.specs.RunBack.{are_setresuids, run_back}
 use Rattle.model_run.specs.Step.{Outcome, Goes, NoProcess, NoSpace, PidInUse, Wrong, outcome}
 use Rattle.model_report.specs.Causes.{RunWithin}
-use Rattle.model_text.specs.Reading.{Placed, Stop, Fault, Limit, End, AtEnd, Stops, Reading, events_of, script_reading}
+use Rattle.model_text.specs.Reading.{Placed, Stop, Fault, Limit, End, AtEnd, Stops, Reading, events_of}
+use Rattle.model_strace.specs.Logs.{log_reading}
 use Rattle.model_report.proofs.Statuses as statuses
 use Rattle.model_report.specs.Query.{Query, asked_process, right_token}
 use Rattle.model_report.specs.Replay.{Report, text_of, after, not_built, state_after, replayed, by_end, stopped, by_outcome}
@@ -68,8 +69,8 @@ wants_memory same = record { later = le_of_eq (sym same); ok = tt; failed = λ i
 -- the text of the log's report: the start lines, and what is answered
 pub log_text : (query : Option Query) (w : code.World) (log : List ℕ)
     → text_of (log_report query w log).lines ≡ text_of (start_lines (world_of w)) ++ text_of
-    (answered query w.more (world_of w) (script_reading (world_of w) log)).lines
-log_text query w log = text_of_append (start_lines (world_of w)) (answered query w.more (world_of w) (script_reading (world_of w) log)).lines
+    (answered query w.more (world_of w) (log_reading (world_of w) log)).lines
+log_text query w log = text_of_append (start_lines (world_of w)) (answered query w.more (world_of w) (log_reading (world_of w) log)).lines
 
 -- the rest of a report after the replay
 stopped_rest : (query : Option Query) (more : Bool) (w : World) (st : Status) (s : State) → st ≢ answers.Accepted
@@ -131,14 +132,14 @@ is_answered (Some q) more w reading unknown st s is reached told =
 
 -- the text of the log's report: the start lines, the replay, and the answer
 pub log_whole : (query : Option Query) (w : code.World) (log : List ℕ) (unknown : Bool) (st : Status) (s : State)
-    → IsAnswered query w.more (world_of w) (script_reading (world_of w) log) unknown st s
+    → IsAnswered query w.more (world_of w) (log_reading (world_of w) log) unknown st s
     → text_of (log_report query w log).lines
     ≡ (text_of (start_lines (world_of w)) ++ text_of
-    (replay_of (world_of w) (script_reading (world_of w) log)).lines) ++ text_of (answer_to query unknown (world_of w) st s).lines
+    (replay_of (world_of w) (log_reading (world_of w) log)).lines) ++ text_of (answer_to query unknown (world_of w) st s).lines
 log_whole query w log unknown st s is =
     log_text query w log ∙ ap (λ (t : List ℕ). text_of (start_lines (world_of w)) ++ t) is.text
     ∙ sym (append_assoc (text_of (start_lines (world_of w)))
-    (text_of (replay_of (world_of w) (script_reading (world_of w) log)).lines) (text_of (answer_to query unknown (world_of w) st s).lines))
+    (text_of (replay_of (world_of w) (log_reading (world_of w) log)).lines) (text_of (answer_to query unknown (world_of w) st s).lines))
 
 goes_longer : (st : Status) (r next : Report) → (more : List ℕ) × (text_of (go_on st r next).lines ≡ text_of r.lines ++ more)
 goes_longer answers.Accepted r next = (text_of next.lines, text_of_append r.lines next.lines)
@@ -154,15 +155,15 @@ answered_longer (Some q) more w reading = goes_longer (replay_of w reading).stat
 pub log_longer : (query : Option Query) (w : code.World) (log : List ℕ) → (longer : List ℕ)
     × (text_of (log_report query w log).lines
     ≡ (text_of (start_lines (world_of w)) ++ text_of
-    (replay_of (world_of w) (script_reading (world_of w) log)).lines) ++ longer)
+    (replay_of (world_of w) (log_reading (world_of w) log)).lines) ++ longer)
 log_longer query w log =
     let longer : (rest : List ℕ) ×
-    (text_of (answered query w.more (world_of w) (script_reading (world_of w) log)).lines
-    ≡ text_of (replay_of (world_of w) (script_reading (world_of w) log)).lines ++ rest) = answered_longer query w.more
-    (world_of w) (script_reading (world_of w) log) in (
+    (text_of (answered query w.more (world_of w) (log_reading (world_of w) log)).lines
+    ≡ text_of (replay_of (world_of w) (log_reading (world_of w) log)).lines ++ rest) = answered_longer query w.more
+    (world_of w) (log_reading (world_of w) log) in (
       longer.0,
       log_text query w log ∙ ap (λ (t : List ℕ). text_of (start_lines (world_of w)) ++ t) longer.1
-          ∙ sym (append_assoc (text_of (start_lines (world_of w))) (text_of (replay_of (world_of w) (script_reading (world_of w) log)).lines) longer.0),
+          ∙ sym (append_assoc (text_of (start_lines (world_of w))) (text_of (replay_of (world_of w) (log_reading (world_of w) log)).lines) longer.0),
     )
 
 -- all of a text is written where nothing of it waits
@@ -280,4 +281,4 @@ log_not_usage query w log = of_answered (λ st. st ≢ answers.Usage) (record {
   limit = λ is. cc;
   bad_query = λ is. cc;
   not_built = λ is. cc;
-}) query w.more (world_of w) (script_reading (world_of w) log)
+}) query w.more (world_of w) (log_reading (world_of w) log)

@@ -73,7 +73,7 @@ pub record NoneRose (reads reads' : List ℕ → ℕ) (writes writes' : ℕ) : T
 -- isn't built)
 pub record IsValid (words : List (List ℕ)) (files : Files) : Type 0 where
   pub usage : ¬ Cause words (bytes_at files) answers.Usage
-  pub not_built : ¬ IsUnbuilt words (bytes_at files)
+  pub not_built : ¬ IsUnbuilt words
   pub limit : ¬ Cause words (bytes_at files) answers.Limit
   pub bad_world : ¬ Cause words (bytes_at files) answers.BadWorld
   pub bad_log : ¬ Cause words (bytes_at files) answers.BadLog

@@ -1,5 +1,4 @@
 -- What the contracts of this crate cite beside the definitions.
-pub mod Log
 pub mod Replay
 pub mod Sent
 pub mod Telling

@@ -15,7 +15,7 @@ use Rattle.cm_cli.specs.declared.telling.Short.TheVariants as short
 use Rattle.cm_io.specs.Shelf.{Rose}
 use Rattle.cm_io.specs.declared.whole.WholeError.{WholeError}
 use Rattle.cm_io.specs.declared.whole.WholeError.TheVariants as whole
-use Rattle.model_cred.specs.World.{World, Script, Strace}
+use Rattle.model_cred.specs.World.{World}
 use Rattle.model_report.specs.Query.{Query}
 use Rattle.model_report.specs.Replay.{Report}
 use Rattle.model_text.specs.WorldText.{WorldText, Reads, Bad, Exceeds, world_text, text_says_more}
@@ -25,9 +25,9 @@ pub record ReadsAs (bytes : List ℕ) (text : WorldText) : Type 0 where
   pub size : length bytes ≤ limit_number limit.World
   pub text_is : world_text bytes ≡ text
 
--- nothing in the bytes of a world is refused, and its logs are script logs
+-- nothing in the bytes of a world is refused
 abbrev pub WorldStands : List ℕ → Type 0
-WorldStands bytes = (w : World) × ReadsAs bytes (Reads w) × (w.form ≡ Script)
+WorldStands bytes = (w : World) × ReadsAs bytes (Reads w)
 
 -- the bytes of a world exceed the limit: their number does, or what they declare
 abbrev pub WorldExceeds : List ℕ → Limited → Type 0
@@ -35,10 +35,10 @@ WorldExceeds bytes l = ((l ≡ limit.World) × (limit_number limit.World < lengt
 
 -- what the bytes of a world come to
 abbrev pub IsWorldRead : Result code.World Unready → List ℕ → Type 0
-IsWorldRead (Ok w) bytes = ReadsAs bytes (Reads (world_of w)) × ((world_of w).form ≡ Script) × (w.more ≡ text_says_more bytes)
+IsWorldRead (Ok w) bytes = ReadsAs bytes (Reads (world_of w)) × (w.more ≡ text_says_more bytes)
 IsWorldRead (Err (unready.Refused (short.Limit l))) bytes = WorldExceeds bytes l
 IsWorldRead (Err (unready.Refused (short.BadWorld table row why))) bytes = ReadsAs bytes (Bad table row why)
-IsWorldRead (Err (unready.Refused short.NotBuilt)) bytes = (w : World) × ReadsAs bytes (Reads w) × (w.form ≡ Strace)
+IsWorldRead (Err (unready.Refused short.NotBuilt)) bytes = ⊥
 IsWorldRead (Err (unready.Refused short.Usage)) bytes = ⊥
 IsWorldRead (Err unready.ReadFault) bytes = Unit {0}
 IsWorldRead (Err unready.NoMemory) bytes = Unit {0}

@@ -17,7 +17,7 @@ use Rattle.model_report.specs.Query.{Query}
 use Rattle.model_report.specs.Replay.{Report, text_of, says, limit_hit, not_built}
 use Rattle.model_report.specs.Report.{verdict, usage, bad_world_text}
 use Rattle.model_report.specs.Report as whole
-use Rattle.model_text.specs.Reading.{script_reading}
+use Rattle.model_strace.specs.Logs.{log_reading}
 
 -- The status is that of a report: neither a fault of reading or writing, nor want of memory.
 pub record IsTold (answer : Status) : Type 0 where
@@ -48,7 +48,7 @@ short_report (short.Limit limit) = limit_hit limit
 
 -- the report of a log in the world, with what is asked after it
 abbrev pub log_report : Option Query → World → List ℕ → Report
-log_report query w log = whole.log_report query w.more (world_of w) (script_reading (world_of w) log)
+log_report query w log = whole.log_report query w.more (world_of w) (log_reading (world_of w) log)
 
 -- what comes after the replay of a log that ends so, in the state that it leads to: the status, and more lines
 abbrev pub answer_to : Option Query → Bool → model.World → Status → State → Report

@@ -4,8 +4,6 @@
 mod answer;
 mod commands;
 mod laws;
-mod lines;
-mod log;
 mod query;
 mod reading;
 mod replay;

@@ -3,8 +3,6 @@ ghost use Rattle.std.specs.Prelude.{◌≡◌, ◌≢◌, ◌≤◌, ◌⊎◌, 
 ghost use Rattle.cm_cli.specs.Reading.{IsWorldRead, IsLogRead, IsReady, FileFaults, FilesFaults, WorldStands, TakesFor, ReadsFor, unready_by};
 ghost use Rattle.cm_io.specs.Shelf.{bytes_at, Rose, TakesAtMost, ReadsOnly};
 ghost use Rattle.cm_base.specs.Limited.{limit_number};
-ghost use Rattle.cm_world.specs.World.{world_of};
-ghost use Rattle.model_cred.specs.World.{Script, Strace};
 ghost use Rattle.model_report.specs.Replay.{IsWithin};
 ghost use Rattle.model_report.specs.Report.{files_report};
 ghost use Rattle.model_report.specs.Query.{Query};
@@ -13,7 +11,7 @@ ghost use Rattle.model_run.specs.RunBack.{StateFollows};
 use crate::telling::Short;
 use cm_base::Limited;
 use cm_io::{Shelf, WholeError, read_whole};
-use cm_world::{LogForm, World, WorldError, read_world};
+use cm_world::{World, WorldError, read_world};
 use std::alloc::Global;
 
 /// The most bytes of a world.
@@ -42,6 +40,7 @@ pub(crate) fn read_files<H: Shelf>(
     // Where the world declares no more, the sets of each process follow its user ids. It is within the limits.
     ensures follows { IfOk result (λ read. read.0.more ≡ false → StateFollows read.0.start) }
     ensures within { IfOk result (λ read. IsWithin read.0.start) }
+    ensures size { IfOk result (λ read. length read.1.items ≤ limit_number Limited.Log) }
     ensures not_usage { result ≢ Err (Unready.Refused Short.Usage) }
     ensures held { H.held shelf.new ≡ H.held shelf.old }
     ensures faults { FilesFaults (H.faults shelf.old) (H.faults shelf.new) world.now log.now result }
@@ -90,7 +89,7 @@ fn read_world_text(alloc: Global, text: &[u8]) -> Result<World, Unready>
     ensures not_read_fault { result ≢ Err Unready.ReadFault }
 {
     match read_world(alloc, text) {
-        Ok(w) => with_script_logs(w),
+        Ok(w) => Ok(w),
         Err(WorldError::Bad { table, row, why }) => {
             Err(Unready::Refused(Short::BadWorld(table, row, why)))
         }
@@ -99,19 +98,9 @@ fn read_world_text(alloc: Global, text: &[u8]) -> Result<World, Unready>
     }
 }
 
-// The world, where its logs are script logs.
-fn with_script_logs(w: World) -> Result<World, Unready>
-    ensures script { IfOk result (λ v. (v ≡ w) × ((world_of w).form ≡ Script)) }
-    ensures strace { IfErr result (λ why. (why ≡ Unready.Refused Short.NotBuilt) × ((world_of w).form ≡ Strace)) }
-{
-    match w.form {
-        LogForm::Script => Ok(w),
-        LogForm::Strace => Err(Unready::Refused(Short::NotBuilt)),
-    }
-}
-
 fn read_log_file<H: Shelf>(alloc: Global, shelf: &mut H, name: &str) -> Result<Vec<u8>, Unready>
     ensures read { IfSome (H.held shelf.old) (λ files. IsLogRead result (bytes_at files name.now)) }
+    ensures size { IfOk result (λ text. length text.items ≤ limit_number Limited.Log) }
     ensures not_usage { result ≢ Err (Unready.Refused Short.Usage) }
     ensures held { H.held shelf.new ≡ H.held shelf.old }
     ensures faults { FileFaults (H.faults shelf.old) (H.faults shelf.new) name.now result }

@@ -2,10 +2,11 @@
 // the report are written.
 ghost use Rattle.std.specs.Prelude.{◌≡◌, ◌<◌, ◌+◌, ◌^◌, ◌++◌, ◌&&◌, true, length, IfOk, OnOk, OnErr};
 ghost use Rattle.cm_base.specs.Outcome.{OrNoMemory};
-ghost use Rattle.cm_cli.specs.Log.{left, end_of};
 ghost use Rattle.cm_cli.specs.Replay.{event_lines, IsTurn, report_from};
 ghost use Rattle.cm_cli.specs.Sent.{IsSent, IsFront};
 ghost use Rattle.cm_io.specs.Sink.{WriteFaults};
+ghost use Rattle.cm_log.specs.Left.{CanGoOn, left};
+ghost use Rattle.cm_strace.specs.Answers.{ending_is};
 ghost use Rattle.cm_world.specs.World.{world_of};
 ghost use Rattle.model_report.specs.Causes.{RunWithin};
 ghost use Rattle.model_report.specs.Replay.{text_of, by_end, exceeded, IsWithin};
@@ -13,11 +14,11 @@ ghost use Rattle.model_run.specs.Step.{outcome};
 ghost use Rattle.model_run.specs.RunBack.{are_setresuids, is_setresuid};
 ghost use Rattle.model_text.specs.Reading.{events_of};
 
-use crate::log::{Ending, Next, Placed, ScriptLog};
 use crate::sending::send_full;
 use crate::writing::{put_bad_log, put_end, put_impossible, put_limit, put_step};
 use cm_base::{Limited, NoMemory, Status};
 use cm_io::{Outside, Sink};
+use cm_log::{Log, Next, Placed, Stop};
 use cm_machine::Machine;
 use cm_state::{Call, State};
 use cm_world::World;
@@ -63,29 +64,28 @@ pub(crate) fn replay_log<K: Sink>(
     alloc: Global,
     w: &World,
     replay: &mut Replay,
-    log: ScriptLog<'_>,
+    log: &mut Log<'_>,
     text: &mut Vec<u8>,
     out: &mut K,
 ) -> Result<Status, Outside>
-    requires lines { log.number + length log.rest.now < 2 ^ 64 }
-    requires events { replay.old.events + length log.rest.now < 2 ^ 64 }
+    requires lines { CanGoOn log.old }
+    requires events { replay.old.events + length (left (world_of w.now) log.old).events < 2 ^ 64 }
     requires within { IsWithin replay.old.machine.state }
-    ensures status { IfOk result (λ status. (report_from (world_of w.now) replay.old (left (world_of w.now) log.entry)).status ≡ status) }
+    ensures status { IfOk result (λ status. (report_from (world_of w.now) replay.old (left (world_of w.now) log.old)).status ≡ status) }
     ensures sent { OnOk result (IsSent (K.written out.old) (K.written out.new) text.new.items
-        (text.old.items ++ text_of (report_from (world_of w.now) replay.old (left (world_of w.now) log.entry)).lines)) }
+        (text.old.items ++ text_of (report_from (world_of w.now) replay.old (left (world_of w.now) log.old)).lines)) }
     ensures stopped { OnErr result (IsFront (K.written out.old) (K.written out.new)
-        (text.old.items ++ text_of (report_from (world_of w.now) replay.old (left (world_of w.now) log.entry)).lines)) }
+        (text.old.items ++ text_of (report_from (world_of w.now) replay.old (left (world_of w.now) log.old)).lines)) }
     ensures cause { WriteFaults (K.faults out.old) (K.faults out.new) result }
     // Where the log is accepted, the machine is in the state that its events lead to.
     ensures reached { IfOk result (λ status. status ≡ Status.Accepted →
-        RunWithin (world_of w.now) replay.old.machine.state (events_of (left (world_of w.now) log.entry).events) replay.new.machine.state) }
+        RunWithin (world_of w.now) replay.old.machine.state (events_of (left (world_of w.now) log.old).events) replay.new.machine.state) }
     ensures setresuids { IfOk result (λ status. status ≡ Status.Accepted →
-        replay.new.setresuids ≡ (replay.old.setresuids && are_setresuids (events_of (left (world_of w.now) log.entry).events))) }
+        replay.new.setresuids ≡ (replay.old.setresuids && are_setresuids (events_of (left (world_of w.now) log.old).events))) }
 {
-    let mut log = log;
     loop {
         match log.next(alloc, w) {
-            Ok(Next::Event(event, after)) => {
+            Ok(Next::Event(event)) => {
                 match take_event(alloc, w, replay, &event, text) {
                     Ok(Turn::Goes) => let_go(event),
                     Ok(Turn::Ends(status)) => return Ok(status),
@@ -95,10 +95,9 @@ pub(crate) fn replay_log<K: Sink>(
                     Ok(()) => {}
                     Err(why) => return Err(why),
                 }
-                log = after;
             }
-            Ok(Next::Ends(ending)) => {
-                return match put_ending(text, replay.events, ending) {
+            Ok(Next::Ends(stop)) => {
+                return match put_ending(text, replay.events, stop) {
                     Ok(status) => Ok(status),
                     Err(NoMemory) => Err(Outside::NoMemory),
                 };
@@ -168,20 +167,20 @@ fn exceeded(state: &State) -> Option<Limited>
 }
 
 // The line that ends the report of a log, after so many events, and the report's status.
-fn put_ending(text: &mut Vec<u8>, events: u64, ending: Ending) -> Result<Status, NoMemory>
-    ensures status { OrNoMemory result (λ status. status ≡ (by_end events (end_of ending)).status) }
-    ensures text { OrNoMemory result (λ _. text.new.items ≡ text.old.items ++ text_of (by_end events (end_of ending)).lines) }
+fn put_ending(text: &mut Vec<u8>, events: u64, stop: Option<Stop>) -> Result<Status, NoMemory>
+    ensures status { OrNoMemory result (λ status. status ≡ (by_end events (ending_is stop)).status) }
+    ensures text { OrNoMemory result (λ _. text.new.items ≡ text.old.items ++ text_of (by_end events (ending_is stop)).lines) }
 {
-    match ending {
-        Ending::AtEnd => {
+    match stop {
+        None => {
             put_end(text, events)?;
             Ok(Status::Accepted)
         }
-        Ending::Fault(number, why) => {
+        Some(Stop::Fault(number, why)) => {
             put_bad_log(text, number, why)?;
             Ok(Status::BadLog)
         }
-        Ending::Limit(limit) => {
+        Some(Stop::Limit(limit)) => {
             put_limit(text, limit)?;
             Ok(Status::Limit)
         }

@@ -1,5 +1,6 @@
 // Telling a report: what is written goes to the sink, and the answer says how it went.
-ghost use Rattle.std.specs.Prelude.{◌≡◌, ◌++◌, ◌||◌, not, false, [], map, IfOk, OnOk, OnErr};
+ghost use Rattle.std.specs.Prelude.{◌≡◌, ◌≤◌, ◌++◌, ◌||◌, not, false, [], length, map, IfOk, OnOk, OnErr};
+ghost use Rattle.cm_base.specs.Limited.{limit_number};
 ghost use Rattle.cm_base.specs.Outcome.{OrNoMemory};
 ghost use Rattle.cm_cli.specs.Query.{query_if};
 ghost use Rattle.cm_cli.specs.Sent.{IsSent, IsFront};
@@ -11,13 +12,13 @@ ghost use Rattle.model_report.specs.Replay.{Credentials, text_of, IsWithin};
 ghost use Rattle.model_report.specs.Report.{start_lines};
 
 use crate::answer::{Asked, put_answer};
-use crate::log::ScriptLog;
 use crate::query::Query;
 use crate::replay::{Replay, replay_log};
 use crate::sending::{send, send_full};
 use crate::writing::{put_bad_world, put_limit, put_not_built, put_process, put_usage};
 use cm_base::{Limited, NoMemory, Status, Table, WorldFault};
 use cm_io::{Outside, Sink};
+use cm_log::Log;
 use cm_state::Proc;
 use cm_world::World;
 use std::alloc::Global;
@@ -78,6 +79,7 @@ pub(crate) fn tell_log<K: Sink>(
 ) -> Status
     requires follows { w.now.more ≡ false → StateFollows w.now.start }
     requires within { IsWithin w.now.start }
+    requires size { length log.now ≤ limit_number Limited.Log }
     ensures { TellsReport (log_report (query_if query.entry) w.now log.now) result
         (K.written out.old) (K.written out.new) (K.faults out.old) (K.faults out.new) }
 {
@@ -104,6 +106,7 @@ fn put_log<K: Sink>(
 ) -> Result<Status, Outside>
     requires follows { w.now.more ≡ false → StateFollows w.now.start }
     requires within { IsWithin w.now.start }
+    requires size { length log.now ≤ limit_number Limited.Log }
     requires empty { text.old.items ≡ [] }
     ensures status { IfOk result (λ status. (log_report (query_if query.entry) w.now log.now).status ≡ status) }
     ensures sent { OnOk result (IsSent (K.written out.old) (K.written out.new) text.new.items
@@ -120,8 +123,11 @@ fn put_log<K: Sink>(
         Ok(()) => {}
         Err(why) => return Err(why),
     }
-    let log = ScriptLog::new(log);
-    let end = match replay_log(alloc, w, &mut replay, log, text, out) {
+    let mut log = match Log::new(alloc, w, log) {
+        Ok(log) => log,
+        Err(NoMemory) => return Err(Outside::NoMemory),
+    };
+    let end = match replay_log(alloc, w, &mut replay, &mut log, text, out) {
         Ok(end) => end,
         Err(why) => return Err(why),
     };

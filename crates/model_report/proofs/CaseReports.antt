@@ -4,7 +4,7 @@ use Rattle.std.specs.Prelude.{codes, flat_map}
 use Rattle.cm_base.specs.declared.status.Status.{Status}
 use Rattle.model_cred.specs.World.{World}
 use Rattle.model_report.specs.Replay.{Report, text_of}
-use Rattle.model_report.specs.Report.{report, script_report}
+use Rattle.model_report.specs.Report.{report, text_report}
 use Rattle.model_text.proofs.PrintCases.{process_100}
 use Rattle.model_text.proofs.ProcessCases.{of_row}
 use Rattle.model_text.proofs.WorldCases.{world_with}
@@ -25,7 +25,7 @@ world_of_100 uid = world_with (process_100 uid ∷ [])
 
 -- the replay of a script log in a world has this status and these lines
 abbrev pub Replays : World → List ℕ → Status → List (List ℕ) → Type 0
-Replays w log st lines = Says (script_report None false w log) st lines
+Replays w log st lines = Says (text_report None false w log) st lines
 
 -- ---- whole commands
 -- the words `replay w l`

@@ -1,13 +1,14 @@
 -- What the report of a log says: a run of the events, the state that it reaches, the numbers of lines, and how it ends.
-use Rattle.std.proofs.Common.{◌≡◌, ℕ, inl, inr, length, List, [], ◌∷◌, ◌++◌, Option, None, Some, refl, sym, ◌∙◌, ap, subst, append_assoc, append-nil, All}
+use Rattle.std.proofs.Common.{◌≡◌, ℕ, Bool, inl, inr, length, List, [], ◌∷◌, ◌++◌, Option, None, Some, refl, sym, ◌∙◌, ap, subst, append_assoc, append-nil, All}
 use Rattle.std.proofs.lemmas.List.Elements.{All-nil, All-cons, All-head, All-tail}
 use Rattle.std.specs.Prelude.{codes}
+use Rattle.cm_base.specs.declared.faults.LineFault.{LineFault}
 use Rattle.cm_base.specs.declared.limited.Limited.{Limited}
 use Rattle.cm_base.specs.declared.status.Status.{Status}
 use Rattle.cm_base.specs.declared.status.Status.TheVariants as status
 use Rattle.model_cred.specs.Call.{Event}
 use Rattle.model_cred.specs.Process.{State}
-use Rattle.model_cred.specs.World.{World}
+use Rattle.model_cred.specs.World.{World, LogForm, Script, Strace}
 use Rattle.model_run.specs.Step.{outcome}
 use Rattle.model_run.specs.RunBack.{BringsBack}
 use Rattle.model_report.proofs.Lines.{IsWritten, plain_verdict, written_end, written_told, written_shows, written_true}
@@ -17,15 +18,19 @@ use Rattle.model_report.proofs.Verdicts.{log_verdict, no_shows}
 use Rattle.model_report.specs.Causes.{Begins, ComesTo, Cause, IsAccepted, IsStopped, IsImpossible, IsCrowded, AfterLog, IsYes, IsNo}
 use Rattle.model_report.specs.Command.{command_of, query_of}
 use Rattle.model_report.specs.Laws.{AcceptedIsRun, ImpossibleIsNoStep, YesIsNever, NoIsRun, ShowsRun, ReportTellsOfLog, TellsOfLog, EndCountsEvents}
-use Rattle.model_report.specs.Laws.{ImpossibleIsNumbered, BadLogIsNumbered, SameReadingSameReport, SameLogsSameReport, LineStandsFor, told_in}
+use Rattle.model_report.specs.Laws.{ImpossibleIsNumbered, BadLogIsNumbered, SameReadingSameReport}
+use Rattle.model_report.specs.Laws.{SameLogsSameReport, SameText, FormStandsFor, LineStandsFor, told_in}
 use Rattle.model_report.specs.Query.{Query}
 use Rattle.model_report.specs.Replay.{Report, ReportLine, Plain, at_line, bad_log_text, limit_text, impossible_text, reason, stopped}
 use Rattle.model_report.specs.Report.{report, replay_of, log_report, start_lines, run_verdict, run_lines}
-use Rattle.model_text.proofs.Numbers.{numbers_are_lines}
-use Rattle.model_text.specs.Cut.{lines_of}
-use Rattle.model_text.specs.Line.{Tells}
-use Rattle.model_text.specs.Numbers.{ReadsLines, NumbersAreLines}
-use Rattle.model_text.specs.Reading.{Placed, Stop, Fault, Limit, End, AtEnd, Stops, Reading, events_of, script_reading}
+use Rattle.model_report.proofs.Forms.{same_text}
+use Rattle.model_strace.proofs.LineNumbers as strace
+use Rattle.model_strace.specs.LineNumbers as strace_law
+use Rattle.model_strace.specs.Logs.{form_reading, log_reading}
+use Rattle.model_text.proofs.Numbers as script
+use Rattle.model_text.specs.Line.{Tells, Faulty}
+use Rattle.model_text.specs.Numbers.{NumbersAreLines}
+use Rattle.model_text.specs.Reading.{Placed, Stop, Fault, Limit, End, AtEnd, Stops, Reading, events_of}
 use Rattle.model_text.specs.WorldText.{text_says_more}
 
 -- what holds of all holds of the first ones
@@ -37,6 +42,20 @@ all_front P (e ∷ events) later all = All-cons P e events (All-head P e (events
 stop_line : (stop : Stop) → (text : List ℕ) × ((stopped stop).lines ≡ Plain text ∷ [])
 stop_line (Fault number why) = (_, refl)
 stop_line (Limit l) = (_, refl)
+
+-- the number of each event of a log's reading, and of a fault, is that of its line
+record Numbered (form : LogForm) (w : World) (log : List ℕ) : Type 0 where
+  events : All (λ e. FormStandsFor form w log e.line (Tells e.event)) (form_reading form w log).events
+  fault : (number : ℕ) (why : LineFault) → (form_reading form w log).ending ≡ Stops (Fault number why)
+      → FormStandsFor form w log number (Faulty why)
+
+numbered : (form : LogForm) (w : World) (log : List ℕ) → Numbered form w log
+unfolding NumbersAreLines strace_law.NumbersAreLines
+numbered Script w log = record {
+  events = (script.numbers_are_lines w log).events;
+  fault = λ number why is. ((script.numbers_are_lines w log).fault number why is).stands;
+}
+numbered Strace w log = record { events = (strace.numbers_are_lines w log).events; fault = (strace.numbers_are_lines w log).fault }
 
 module _ (words : List (List ℕ)) (bytes : List ℕ → List ℕ) where
   -- ---- the lines of a report, by how the log ends
@@ -187,17 +206,12 @@ module _ (words : List (List ℕ)) (bytes : List ℕ → List ℕ) where
         | inr breaks ↦ break_written w reading begins breaks breaks.why
       ]
 
-  -- the numbers of a log's events are those of its lines
-  numbers_of : (w : World) (log : List ℕ) → ReadsLines w 1 (lines_of log) (script_reading w log)
-  unfolding NumbersAreLines
-  numbers_of w log = numbers_are_lines w log
-
   tells_of_log : (w : World) (reading : Reading) (begins : Begins words bytes w reading) → TellsOfLog w (bytes begins.log) (report words bytes).lines
   tells_of_log w reading begins =
       let is : IsWrittenOf w reading.events (report words bytes).lines = begins_written w reading begins in
       let log : List ℕ = bytes begins.log in
       let told : told_in (report words bytes).lines ≡ is.told = written_told w is.told is.state is.end (report words bytes).lines is.written in
-      let order : (script_reading w log).events ≡ told_in (report words bytes).lines ++ is.untold
+      let order : (log_reading w log).events ≡ told_in (report words bytes).lines ++ is.untold
       = ap (λ (r : Reading). r.events) begins.reads ∙ is.order ∙ ap (λ (es : List Placed). es ++ is.untold) (sym told) in
       record {
         are_true = written_true w is.told is.state is.end (report words bytes).lines is.written;
@@ -205,7 +219,7 @@ module _ (words : List (List ℕ)) (bytes : List ℕ → List ℕ) where
         order = order;
         numbers =
             all_front (λ e. LineStandsFor w log e.line (Tells e.event)) (told_in (report words bytes).lines) is.untold
-            (subst (λ (es : List Placed). All (λ e. LineStandsFor w log e.line (Tells e.event)) es) order (numbers_of w log).events);
+            (subst (λ (es : List Placed). All (λ e. LineStandsFor w log e.line (Tells e.event)) es) order (numbered w.form w log).events);
       }
 
   -- where the status is 0, the log is accepted
@@ -278,7 +292,8 @@ unfolding ImpossibleIsNumbered impossible_written
 impossible_is_numbered words bytes is =
     let log : List ℕ = bytes is.begins.log in
     let all : All (λ e. LineStandsFor is.world log e.line (Tells e.event)) (is.before ++ is.event ∷ is.later)
-    = subst (λ (r : Reading). All (λ e. LineStandsFor is.world log e.line (Tells e.event)) r.events) is.begins.reads (numbers_of words bytes is.world log).events in (
+    = subst (λ (r : Reading). All (λ e. LineStandsFor is.world log e.line (Tells e.event)) r.events) is.begins.reads
+    (numbered is.world.form is.world log).events in (
       written_end is.world is.before is.state (why_of words bytes is) (report words bytes).lines (impossible_written words bytes is),
       all_there (λ e. LineStandsFor is.world log e.line (Tells e.event)) is.before is.event is.later all,
     )
@@ -292,14 +307,17 @@ unfolding BadLogIsNumbered stopped_written
 bad_log_is_numbered words bytes number why is = (
   written_end is.world is.comes.events is.state (bad_log_text number why) (report words bytes).lines
       (stopped_written words bytes (Fault number why) (bad_log_text number why) refl is),
-  ((numbers_of words bytes is.world (bytes is.comes.begins.log)).fault number why (ap (λ (r : Reading). r.ending) is.comes.begins.reads)).stands,
+  (numbered is.world.form is.world (bytes is.comes.begins.log)).fault number why (ap (λ (r : Reading). r.ending) is.comes.begins.reads),
 )
 
 pub same_reading_same_report : SameReadingSameReport
 unfolding SameReadingSameReport
-same_reading_same_report query more w one other events ending =
-    ap (λ (es : List Placed). log_report query more w (record { events = es; ending = one.ending })) events
-    ∙ ap (λ (e : End). log_report query more w (record { events = other.events; ending = e })) ending
+same_reading_same_report query more v w one other form events ending =
+    subst (λ (u : World). SameText (log_report query more v one) (log_report query more u other)) (sym form)
+    (subst (λ (r : Report). SameText (log_report query more v one) r)
+    (ap (λ (es : List Placed). log_report query more (record v { form = w.form }) (record { events = es; ending = one.ending })) events
+    ∙ ap (λ (e : End). log_report query more (record v { form = w.form }) (record { events = other.events; ending = e })) ending)
+    (same_text query more v w.form one))
 
 -- ---- what an audit says
 pub yes_is_never : YesIsNever
@@ -311,11 +329,10 @@ unfolding NoIsRun
 no_is_run words bytes said = no_by words bytes (caused words bytes status.No said)
 
 pub same_logs_same_report : SameLogsSameReport
-unfolding SameLogsSameReport
-same_logs_same_report words bytes other w one two first second world events ending =
+unfolding SameLogsSameReport SameReadingSameReport
+same_logs_same_report words bytes other v w one two first second form more events ending =
     let query : Option Query = query_of (command_of words) in
-    of_begins words bytes w one first
-    ∙ ap (λ (text : List ℕ). log_report query (text_says_more text) w one) world
-    ∙ ap (λ (es : List Placed). log_report query (text_says_more (other second.names.world)) w (record { events = es; ending = one.ending })) events
-    ∙ ap (λ (e : End). log_report query (text_says_more (other second.names.world)) w (record { events = two.events; ending = e })) ending
-    ∙ sym (of_begins words other w two second)
+    subst (λ (r : Report). SameText r (report words other)) (sym (of_begins words bytes v one first))
+    (subst (λ (r : Report). SameText (log_report query (text_says_more (bytes first.names.world)) v one) r) (sym (of_begins words other w two second))
+    (subst (λ (b : Bool). SameText (log_report query (text_says_more (bytes first.names.world)) v one) (log_report query b w two)) more
+    (same_reading_same_report query (text_says_more (bytes first.names.world)) v w one two form events ending)))

@@ -4,6 +4,7 @@ pub mod Showing
 pub mod Verdicts
 pub mod Lines
 pub mod Statuses
+pub mod Forms
 pub mod Endings
 pub mod CommandCases
 pub mod CaseReports

@@ -13,14 +13,15 @@ use Rattle.model_report.proofs.CaseReports.{AllSay, Replays, TextReplays, root_l
 use Rattle.model_report.proofs.CaseReports.{line_of, all_sets, world_of_100}
 use Rattle.model_report.specs.Query.{Query}
 use Rattle.model_report.specs.Replay.{Report, after, by_outcome, limit_hit, step_lines, unless_exceeded}
-use Rattle.model_report.specs.Report.{by_world, files_report, log_report, script_report}
+use Rattle.model_report.specs.Report.{by_world, files_report, log_report, text_report}
 use Rattle.model_run.proofs.Worlds.{new_space}
 use Rattle.model_run.specs.Step.{Goes}
 use Rattle.model_text.proofs.LimitCases.{with_rows}
 use Rattle.model_text.proofs.PrintCases.{print_on_literals, process_100}
 use Rattle.model_text.proofs.WorldCases.{world_on_literals, world_with}
 use Rattle.model_text.specs.Line.{Exceeds, script_line}
-use Rattle.model_text.specs.Reading.{Placed, Limit, Stops, ends_at, from_line, lines_reading, script_reading}
+use Rattle.model_text.specs.Reading.{Placed, Limit, Stops, ends_at, from_line, lines_reading}
+use Rattle.model_strace.specs.Logs.{log_reading}
 use Rattle.model_text.specs.WorldText.{table_world, text_as, text_says_more, world_text}
 
 pub each_limit_has_its_words : AllSay
@@ -53,18 +54,18 @@ a_world_of_one_byte_more_is_not query world log long = by_size query world log 1
 
 -- the same of a log
 by_log_size : (query : Option Query) (more : Bool) (w : World) (log : List ℕ) (size : ℕ) → length log ≡ size
-    → script_report query more w log ≡ cond (nat_lt (limit_number limit.Log) size) (limit_hit limit.Log)
-    (log_report query more w (script_reading w log))
+    → text_report query more w log ≡ cond (nat_lt (limit_number limit.Log) size) (limit_hit limit.Log)
+    (log_report query more w (log_reading w log))
 by_log_size query more w log size long =
     ap (λ (n : ℕ). cond (nat_lt (limit_number limit.Log) n) (limit_hit limit.Log)
-    (log_report query more w (script_reading w log))) long
+    (log_report query more w (log_reading w log))) long
 
 pub a_log_of_as_many_bytes_is_read : (query : Option Query) (more : Bool) (w : World) (log : List ℕ) → length log ≡ 67108864
-    → script_report query more w log ≡ log_report query more w (script_reading w log)
+    → text_report query more w log ≡ log_report query more w (log_reading w log)
 a_log_of_as_many_bytes_is_read query more w log long = by_log_size query more w log 67108864 long
 
 pub a_log_of_one_byte_more_is_not : (query : Option Query) (more : Bool) (w : World) (log : List ℕ) → length log ≡ 67108865
-    → script_report query more w log ≡ limit_hit limit.Log
+    → text_report query more w log ≡ limit_hit limit.Log
 a_log_of_one_byte_more_is_not query more w log long = by_log_size query more w log 67108865 long
 
 -- a line of one byte more than lines may have stops the reading, whatever it is

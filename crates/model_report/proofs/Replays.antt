@@ -1,6 +1,6 @@
 -- How a replay goes: over events that are a run within the limits it goes on from the state that the run reaches, with the
 -- lines of these events before the rest; and its events are such a run, or it breaks off at one of them.
-use Rattle.std.proofs.Common.{◌≡◌, ℕ, suc, ◌+◌, ◌⊎◌, inl, inr, length, List, [], ◌∷◌, ◌++◌, Option, Some, None, refl, sym, ◌∙◌, ap, subst, arith, append_assoc}
+use Rattle.std.proofs.Common.{◌≡◌, ℕ, suc, ◌+◌, ◌⊎◌, inl, inr, length, List, [], ◌∷◌, ◌++◌, Option, Some, None, refl, sym, ◌∙◌, ap, arith, append_assoc}
 use Rattle.cm_base.specs.declared.limited.Limited.{Limited}
 use Rattle.model_cred.specs.Call.{Event}
 use Rattle.model_cred.specs.Process.{State}

@@ -1,6 +1,6 @@
 -- What the lines of a report show: after lines that show a state, the lines of a step show the state that it leads to.
 use Rattle.std.proofs.Common.{◌≡◌, ◌≢◌, ℕ, suc, ◌==◌, ◌⊎◌, cond, inl, inr, List, [], ◌∷◌, ◌++◌, Option, Some, None, IsSomeAnd, refl, sym, ◌∙◌, ap, subst}
-use Rattle.std.proofs.Common.{arith, append_assoc, append-nil, map, false, true}
+use Rattle.std.proofs.Common.{arith, append_assoc, append-nil, map, false}
 use Rattle.std.proofs.lemmas.Bool.{cases_eq}
 use Rattle.std.specs.Prelude.{is_some}
 use Rattle.std.specs.Option.{option_or}

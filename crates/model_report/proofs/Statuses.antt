@@ -1,7 +1,6 @@
 -- Each status comes exactly by its cause.
 use Rattle.std.proofs.Common.{◌≡◌, ◌≢◌, Option, None, Some, ℕ, ◌+◌, ◌<◌, ◌≤◌, ◌||◌, not, inl, inr, Bool, true, false, cond, nat_lt, length, List, []}
 use Rattle.std.proofs.Common.{◌∷◌, ◌++◌, refl, sym, ◌∙◌, ap, subst, arith, append-nil}
-use Rattle.std.specs.Prelude.{codes}
 use Rattle.cm_base.specs.declared.limited.Limited.{Limited}
 use Rattle.cm_base.specs.declared.limited.Limited.TheVariants as limit
 use Rattle.cm_base.specs.declared.status.Status.{Status}
@@ -9,7 +8,7 @@ use Rattle.cm_base.specs.declared.status.Status.TheVariants as status
 use Rattle.cm_base.specs.Limited.{limit_number}
 use Rattle.model_cred.specs.Call.{Event}
 use Rattle.model_cred.specs.Process.{State}
-use Rattle.model_cred.specs.World.{World, LogForm, Script, Strace}
+use Rattle.model_cred.specs.World.{World}
 use Rattle.model_run.specs.Step.{outcome}
 use Rattle.model_run.specs.RunBack.{are_setresuids}
 use Rattle.model_report.proofs.Replays.{Breaks, Break, no_step, crowds, said, passed_lines, run_passes, run_of_within, run_after, runs_or_breaks, break_passes}
@@ -20,10 +19,11 @@ use Rattle.model_report.specs.Command.{Command, Replay, Audit, Later, NoForm, co
 use Rattle.model_report.specs.Laws.{EachByItsCause}
 use Rattle.model_report.specs.Query.{Query}
 use Rattle.model_report.specs.Replay.{Report, replayed, by_end, stopped, impossible, limit_hit, after}
-use Rattle.model_report.specs.Report.{report, command_report, files_report, form_report, script_report, log_report, replay_of, answered, go_on, verdict}
+use Rattle.model_report.specs.Report.{report, command_report, files_report, text_report, log_report, replay_of, answered, go_on, verdict}
 use Rattle.model_report.specs.Report.{verdict_after, start_lines, bad_world_text}
 use Rattle.model_report.specs.Report as report
-use Rattle.model_text.specs.Reading.{Placed, Stop, Fault, Limit, End, AtEnd, Stops, Reading, events_of, script_reading}
+use Rattle.model_text.specs.Reading.{Placed, Stop, Fault, Limit, End, AtEnd, Stops, Reading, events_of}
+use Rattle.model_strace.specs.Logs.{log_reading}
 use Rattle.model_text.specs.WorldText.{WorldText, Reads, Bad, Exceeds, world_text, text_says_more}
 
 -- ---- what a replay comes to
@@ -182,34 +182,27 @@ module _ (words : List (List ℕ)) (bytes : List ℕ → List ℕ) (w : World) w
       ]
 
 caused_by_log : (words : List (List ℕ)) (bytes : List ℕ → List ℕ) (log : List ℕ) (w : World) (query : Option Query)
-    → query_of (command_of words) ≡ query → (names : Names words bytes (Reads w) log) → w.form ≡ Script
+    → query_of (command_of words) ≡ query → (names : Names words bytes (Reads w) log)
     → (over : Bool) → nat_lt (limit_number limit.Log) (length (bytes log)) ≡ over
-    → Cause words bytes (script_report query (text_says_more (bytes names.world)) w (bytes log)).status
-caused_by_log words bytes log w query asked names form true is =
-    rw is (by_log (w, log, names, form, above_limit (limit_number limit.Log) (length (bytes log)) is))
-caused_by_log words bytes log w query asked names form false is =
-    let begins : Begins words bytes w (script_reading w (bytes log)) = record {
+    → Cause words bytes (text_report query (text_says_more (bytes names.world)) w (bytes log)).status
+caused_by_log words bytes log w query asked names true is =
+    rw is (by_log (w, log, names, above_limit (limit_number limit.Log) (length (bytes log)) is))
+caused_by_log words bytes log w query asked names false is =
+    let begins : Begins words bytes w (log_reading w (bytes log)) = record {
       log = log;
       names = names;
-      form = form;
       size = below_limit (limit_number limit.Log) (length (bytes log)) is;
       reads = refl;
     } in
-    rw is (caused_by_answer words bytes w (script_reading w (bytes log)) query asked begins)
-
-caused_by_form : (words : List (List ℕ)) (bytes : List ℕ → List ℕ) (log : List ℕ) (w : World) (query : Option Query)
-    → query_of (command_of words) ≡ query → (names : Names words bytes (Reads w) log) → (form : LogForm) → w.form ≡ form
-    → Cause words bytes (form_report query (text_says_more (bytes names.world)) w (bytes log) form).status
-caused_by_form words bytes log w query asked names Script is =
-    caused_by_log words bytes log w query asked names is (nat_lt (limit_number limit.Log) (length (bytes log))) refl
-caused_by_form words bytes log w query asked names Strace is = inl (inr (w, log, names, is))
+    rw is (caused_by_answer words bytes w (log_reading w (bytes log)) query asked begins)
 
 caused_by_world : (words : List (List ℕ)) (bytes : List ℕ → List ℕ) (log : List ℕ) (query : Option Query) (text : WorldText)
     → query_of (command_of words) ≡ query → (names : Names words bytes text log)
     → Cause words bytes (report.by_world query (text_says_more (bytes names.world)) text (bytes log)).status
 caused_by_world words bytes log query (Bad table row why) asked names = (table, row, why, log, names)
 caused_by_world words bytes log query (Exceeds l) asked names = by_row l log names
-caused_by_world words bytes log query (Reads w) asked names = caused_by_form words bytes log w query asked names w.form refl
+caused_by_world words bytes log query (Reads w) asked names =
+    caused_by_log words bytes log w query asked names (nat_lt (limit_number limit.Log) (length (bytes log))) refl
 
 caused_by_size : (words : List (List ℕ)) (bytes : List ℕ → List ℕ) (world log : List ℕ) (query : Option Query)
     → files_of (command_of words) ≡ Some (world, log) → query_of (command_of words) ≡ query
@@ -224,7 +217,7 @@ caused_by_size words bytes world log query command asked false is =
 caused_by_command : (words : List (List ℕ)) (bytes : List ℕ → List ℕ) (command : Command) → command_of words ≡ command
     → Cause words bytes (command_report command bytes).status
 caused_by_command words bytes NoForm is = is
-caused_by_command words bytes Later is = inl (inl is)
+caused_by_command words bytes Later is = inl is
 caused_by_command words bytes (Replay world log) is =
     caused_by_size words bytes world log None (ap files_of is) (ap query_of is) (nat_lt (limit_number limit.World) (length (bytes world))) refl
 caused_by_command words bytes (Audit world log pid right) is =
@@ -273,20 +266,13 @@ of_names words bytes text log names =
     of_files (command_of words) bytes names.world log names.command ∙ of_size (query_of (command_of words)) (bytes names.world) (bytes log) names.size
     ∙ ap (λ (t : WorldText). report.by_world (query_of (command_of words)) (text_says_more (bytes names.world)) t (bytes log)) names.reads
 
--- the report where they name a world of script logs
-of_script : (words : List (List ℕ)) (bytes : List ℕ → List ℕ) (w : World) (log : List ℕ) → (names : Names words bytes (Reads w) log) → w.form ≡ Script
-    → report words bytes ≡ script_report (query_of (command_of words)) (text_says_more (bytes names.world)) w (bytes log)
-of_script words bytes w log names form =
-    of_names words bytes (Reads w) log names
-    ∙ ap (λ (f : LogForm). form_report (query_of (command_of words)) (text_says_more (bytes names.world)) w (bytes log) f) form
-
 -- the report where the replay of a log begins
 pub of_begins : (words : List (List ℕ)) (bytes : List ℕ → List ℕ) (w : World) (reading : Reading) → (begins : Begins words bytes w reading)
     → report words bytes ≡ log_report (query_of (command_of words)) (text_says_more (bytes begins.names.world)) w reading
 of_begins words bytes w reading begins =
     let answer : Reading → Report = λ r. log_report (query_of (command_of words)) (text_says_more (bytes begins.names.world)) w r in
-    of_script words bytes w begins.log begins.names begins.form
-    ∙ ap (λ (over : Bool). cond over (limit_hit limit.Log) (answer (script_reading w (bytes begins.log))))
+    of_names words bytes (Reads w) begins.log begins.names
+    ∙ ap (λ (over : Bool). cond over (limit_hit limit.Log) (answer (log_reading w (bytes begins.log))))
     (not_above (limit_number limit.Log) (length (bytes begins.log)) begins.size)
     ∙ ap answer begins.reads
 
@@ -380,9 +366,9 @@ module _ (words : List (List ℕ)) (bytes : List ℕ → List ℕ) where
       ∙ ap (λ (b : Bool). (cond b (limit_hit limit.World) rest).status) (is_above (limit_number limit.World) (length (bytes world)) over)
 
   by_long_log : IsLongLog words bytes → (report words bytes).status ≡ status.Limit
-  by_long_log (w, log, names, form, over) =
-      let rest : Report = log_report (query_of (command_of words)) (text_says_more (bytes names.world)) w (script_reading w (bytes log)) in
-      status_of (report words bytes) _ (of_script words bytes w log names form)
+  by_long_log (w, log, names, over) =
+      let rest : Report = log_report (query_of (command_of words)) (text_says_more (bytes names.world)) w (log_reading w (bytes log)) in
+      status_of (report words bytes) _ (of_names words bytes (Reads w) log names)
       ∙ ap (λ (b : Bool). (cond b (limit_hit limit.Log) rest).status) (is_above (limit_number limit.Log) (length (bytes log)) over)
 
   by_limit : IsLimited words bytes → (report words bytes).status ≡ status.Limit
@@ -391,11 +377,6 @@ module _ (words : List (List ℕ)) (bytes : List ℕ → List ℕ) where
   by_limit (by_row l log names) = status_of (report words bytes) _ (of_names words bytes (Exceeds l) log names)
   by_limit (by_line l is) = by_stop (Limit l) is
   by_limit (by_step l is) = status_of (report words bytes) _ (of_crowded l is)
-
-  by_unbuilt_form : (w : World) (log : List ℕ) → Names words bytes (Reads w) log → w.form ≡ Strace → (report words bytes).status ≡ status.NotBuilt
-  by_unbuilt_form w log names form =
-      status_of (report words bytes) _ (of_names words bytes (Reads w) log names)
-      ∙ ap (λ (f : LogForm). (form_report (query_of (command_of words)) (text_says_more (bytes names.world)) w (bytes log) f).status) form
 
   -- the status whose cause holds is that of the report
   pub by_its_cause : (st : Status) → Cause words bytes st → (report words bytes).status ≡ st
@@ -408,8 +389,7 @@ module _ (words : List (List ℕ)) (bytes : List ℕ → List ℕ) where
   by_its_cause status.BadLog (number, why, is) = by_stop (Fault number why) is
   by_its_cause status.Usage is = status_of (report words bytes) _ (of_command words bytes NoForm is)
   by_its_cause status.Limit is = by_limit is
-  by_its_cause status.NotBuilt (inl (inl later)) = status_of (report words bytes) _ (of_command words bytes Later later)
-  by_its_cause status.NotBuilt (inl (inr (w, log, names, form))) = by_unbuilt_form w log names form
+  by_its_cause status.NotBuilt (inl later) = status_of (report words bytes) _ (of_command words bytes Later later)
   by_its_cause status.NotBuilt (inr (is, q, asked, h)) = by_verdict is q status.NotBuilt asked h
   by_its_cause _ never = absurd never
 

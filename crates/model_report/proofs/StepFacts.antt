@@ -1,7 +1,6 @@
 -- What a step does to the processes: they stay, its caller stands there anew, a child of its caller comes or its caller goes;
 -- all else stays. All that these laws need of the machine's definition of a step is here.
 use Rattle.std.proofs.Common.{◌≡◌, ◌≢◌, ℕ, ◌⊎◌, inl, inr, Bool, true, false, cond, List, Option, Some, None, refl, sym, ◌∙◌, ap, subst, arith, option_map}
-use Rattle.cm_base.specs.declared.errno.Errno.{Errno}
 use Rattle.cm_base.specs.declared.errno.Errno.TheVariants.{EAGAIN}
 use Rattle.cm_base.specs.declared.res.Res.{Res}
 use Rattle.cm_base.specs.declared.res.Res.TheVariants.{Done, Id, Child, Err}
@@ -13,7 +12,7 @@ use Rattle.model_rules.specs.Namespaces.{clone_user}
 use Rattle.model_run.specs.Outside.{comes_from_outside}
 use Rattle.model_run.specs.Ruling.{Ruling, ruling, own, reply_to, state_left, fork_child, clone_child, birth, birth_unless, spaces_left}
 use Rattle.model_run.specs.Same.{same_res}
-use Rattle.model_run.specs.Step.{Outcome, Goes, NoSpace, PidInUse, Wrong, Step, outcome_for, names_no_space, is_living_child, told_child, told_call}
+use Rattle.model_run.specs.Step.{Outcome, Goes, NoSpace, PidInUse, Wrong, Step, outcome_for, names_no_space, is_living_child, told_child}
 use Rattle.model_cred.proofs.Lookups.{pid_of_found, at_put_other, at_insert_other, IsLike, like_after_exit, at_without_other}
 
 -- ---- whether an event goes on

@@ -67,7 +67,8 @@ known_is words bytes is known =
 pub accepted_follows : (words : List (List ℕ)) (bytes : List ℕ → List ℕ) (is : IsAccepted words bytes) → IsKnown words bytes is → StateFollows is.state
 accepted_follows words bytes is known =
     reached_follows (bytes is.comes.begins.names.world) is.world
-    (events_of is.comes.events) is.state is.comes.begins.names.reads known.world known.events (run_of_within is.world is.world.start (events_of is.comes.events) is.state is.comes.run)
+    (events_of is.comes.events) is.state is.comes.begins.names.reads known.world known.events
+    (run_of_within is.world is.world.start (events_of is.comes.events) is.state is.comes.run)
 
 -- ---- the ids of rights
 id_is_id : (n : Option ℕ) (k : ℕ) → option_map Uid (option_and_then as_id n) ≡ Some (Uid k) → k < 4294967295
@@ -198,7 +199,8 @@ module _ (words : List (List ℕ)) (bytes : List ℕ → List ℕ) (is : IsAccep
   run_of_alone : (p : Process) (k : ℕ) → AsksAlone words bytes is q p k → RunIs is.world is.state p k (run_back p.cred p.pid k)
   run_of_alone p k asks = run_is is.world is.state q p k (accepted_follows words bytes is asks.known) asks.asks asks.alone
 
-  uid_cause : (p : Process) (k : ℕ) → Asks q is.world is.state p (Uid k) → (more one : Bool) → has_more words bytes is ≡ more → (length is.state.processes == 1) ≡ one
+  uid_cause : (p : Process) (k : ℕ) → Asks q is.world is.state p (Uid k) → (more one : Bool)
+      → has_more words bytes is ≡ more → (length is.state.processes == 1) ≡ one
       → VerdictCause words bytes is q (cond (not more && one) (run_verdict is.world p.pid (run_back p.cred p.pid k)) not_built).status
   uid_cause p k asks true one is_more is_one =
       (p, Uid k, asks, inr (inr (some_more (text_says_more (bytes is.comes.begins.names.world)) (are_setresuids (events_of is.comes.events)) is_more)))
@@ -247,7 +249,8 @@ module _ (words : List (List ℕ)) (bytes : List ℕ → List ℕ) (is : IsAccep
   no_status p k None never (run, back) = absurd (never run back)
   no_status p k (Some run) found back = refl
 
-  beyond_known : (p : Process) (right : Right) → HasMore words bytes is → (right_verdict (has_more words bytes is) is.world is.state p right).status ≡ status.NotBuilt
+  beyond_known : (p : Process) (right : Right) → HasMore words bytes is
+      → (right_verdict (has_more words bytes is) is.world is.state p right).status ≡ status.NotBuilt
   beyond_known p right more =
       beyond_one (has_more words bytes is) (length is.state.processes == 1) is.world is.state p right refl
       (ap (λ (b : Bool). not b && length is.state.processes == 1)
@@ -263,12 +266,15 @@ module _ (words : List (List ℕ)) (bytes : List ℕ → List ℕ) (is : IsAccep
       ap (λ (r : Report). r.status) (of_alone p k asks) ∙ yes_status p k (run_back p.cred p.pid k) (run_of_alone p k asks) never
   verdict_by status.No (p, k, asks, back) =
       ap (λ (r : Report). r.status) (of_alone p k asks) ∙ no_status p k (run_back p.cred p.pid k) (run_of_alone p k asks) back
-  verdict_by status.BadQuery (inl none) = ap (λ (o : Option Process). (asked_verdict (has_more words bytes is) is.world is.state o (right_token is.world.names q.right)).status) none
+  verdict_by status.BadQuery (inl none) =
+      ap (λ (o : Option Process).
+      (asked_verdict (has_more words bytes is) is.world is.state o (right_token is.world.names q.right)).status) none
   verdict_by status.BadQuery (inr (p, found, none)) =
       ap (λ (o : Option Process). (asked_verdict (has_more words bytes is) is.world is.state o (right_token is.world.names q.right)).status) found
       ∙ ap (λ (o : Option Right). (asked_verdict (has_more words bytes is) is.world is.state (Some p) o).status) none
   verdict_by status.NotBuilt (p, right, asks, inl other) =
-      ap (λ (r : Report). r.status) (of_asks (has_more words bytes is) is.world is.state q p right asks) ∙ beyond_uid (has_more words bytes is) is.world is.state p right other
+      ap (λ (r : Report). r.status) (of_asks (has_more words bytes is) is.world is.state q p right asks)
+      ∙ beyond_uid (has_more words bytes is) is.world is.state p right other
   verdict_by status.NotBuilt (p, right, asks, inr (inl more)) =
       ap (λ (r : Report). r.status) (of_asks (has_more words bytes is) is.world is.state q p right asks) ∙ beyond_several p right more
   verdict_by status.NotBuilt (p, right, asks, inr (inr more)) =

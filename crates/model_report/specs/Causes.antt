@@ -11,13 +11,14 @@ use Rattle.cm_base.specs.Limited.{limit_number}
 use Rattle.model_cred.specs.Call.{Event}
 use Rattle.model_cred.specs.Process.{Process, State}
 use Rattle.model_cred.specs.Right.{Right, Uid}
-use Rattle.model_cred.specs.World.{World, Script, Strace}
+use Rattle.model_cred.specs.World.{World}
 use Rattle.model_run.specs.Step.{Step}
 use Rattle.model_run.specs.RunBack.{are_setresuids, BringsBack, CanComeBack}
 use Rattle.model_report.specs.Command.{Later, NoForm, command_of, files_of, query_of}
 use Rattle.model_report.specs.Query.{Query, asked_process, right_token}
 use Rattle.model_report.specs.Replay.{exceeded, IsWithin}
-use Rattle.model_text.specs.Reading.{Placed, Stop, Fault, Limit, End, AtEnd, Stops, Reading, events_of, script_reading}
+use Rattle.model_strace.specs.Logs.{log_reading}
+use Rattle.model_text.specs.Reading.{Placed, Stop, Fault, Limit, End, AtEnd, Stops, Reading, events_of}
 use Rattle.model_text.specs.WorldText.{WorldText, Reads, Bad, Exceeds, world_text, text_says_more}
 
 -- The words, of a replay or of an audit, name a world, whose text is within its limit and reads so, and this log.
@@ -27,14 +28,13 @@ pub record Names (words : List (List ℕ)) (bytes : List ℕ → List ℕ) (text
   pub size : length (bytes world) ≤ limit_number limit.World
   pub reads : world_text (bytes world) ≡ text
 
--- The replay begins: the words name the world w, whose logs are script logs, and a log, which is within its limit and
--- reads so.
+-- The replay begins: the words name the world w and a log, which is within its limit and, in the form that w declares, reads
+-- so.
 pub record Begins (words : List (List ℕ)) (bytes : List ℕ → List ℕ) (w : World) (reading : Reading) : Type 0 where
   pub log : List ℕ
   pub names : Names words bytes (Reads w) log
-  pub form : w.form ≡ Script
   pub size : length (bytes log) ≤ limit_number limit.Log
-  pub reads : script_reading w (bytes log) ≡ reading
+  pub reads : log_reading w (bytes log) ≡ reading
 
 -- A run all of whose states, but the first, are within the limits of live processes and of spaces.
 abbrev pub RunWithin : World → State → List Event → State → Type 0
@@ -94,7 +94,7 @@ IsLongWorld words bytes =
 -- the words name a world, and the log is too long
 abbrev pub IsLongLog : List (List ℕ) → (List ℕ → List ℕ) → Type 0
 IsLongLog words bytes =
-    (w : World) × (log : List ℕ) × Names words bytes (Reads w) log × (w.form ≡ Script) × (limit_number limit.Log < length (bytes log))
+    (w : World) × (log : List ℕ) × Names words bytes (Reads w) log × (limit_number limit.Log < length (bytes log))
 
 -- The world or the log is too long; the world's text exceeds a limit; so does the log's, after a run; or a step of it would.
 pub data IsLimited (words : List (List ℕ)) (bytes : List ℕ → List ℕ) : Type 0 where
@@ -151,9 +151,9 @@ abbrev pub AfterLog : (words : List (List ℕ)) (bytes : List ℕ → List ℕ)
 AfterLog words bytes Answer = (is : IsAccepted words bytes) × (q : Query) × (query_of (command_of words) ≡ Some q) × Answer words bytes is q
 
 -- ---- the causes
--- Not built are the other commands, and logs as strace(1) writes them.
-abbrev pub IsUnbuilt : List (List ℕ) → (List ℕ → List ℕ) → Type 0
-IsUnbuilt words bytes = (command_of words ≡ Later) ⊎ ((w : World) × (log : List ℕ) × Names words bytes (Reads w) log × (w.form ≡ Strace))
+-- Not built are the other commands.
+abbrev pub IsUnbuilt : List (List ℕ) → Type 0
+IsUnbuilt words = command_of words ≡ Later
 
 -- The cause of each status that comes of the words and of the bytes of the files.
 abbrev pub Cause : List (List ℕ) → (List ℕ → List ℕ) → Status → Type 0
@@ -166,5 +166,5 @@ Cause words bytes status.BadLog = (number : ℕ) × (why : LineFault) × IsStopp
 Cause words bytes status.Usage = command_of words ≡ NoForm
 Cause words bytes status.Limit = IsLimited words bytes
 Cause words bytes status.BadQuery = AfterLog words bytes IsBadQuery
-Cause words bytes status.NotBuilt = IsUnbuilt words bytes ⊎ AfterLog words bytes IsBeyond
+Cause words bytes status.NotBuilt = IsUnbuilt words ⊎ AfterLog words bytes IsBeyond
 Cause words bytes _ = ⊥

@@ -6,18 +6,21 @@ use Rattle.cm_base.specs.declared.status.Status.{Status}
 use Rattle.cm_base.specs.declared.status.Status.TheVariants as status
 use Rattle.model_cred.specs.Call.{Event}
 use Rattle.model_cred.specs.Process.{Process, State, process_at}
-use Rattle.model_cred.specs.World.{World}
+use Rattle.model_cred.specs.World.{World, LogForm, Script, Strace}
 use Rattle.model_run.specs.Step.{Step, Run, outcome}
 use Rattle.model_run.specs.RunBack.{BringsBack}
 use Rattle.model_report.specs.Causes.{Begins, Cause, IsAccepted, IsImpossible, IsStopped, AsksAlone, IsYes}
 use Rattle.model_report.specs.Command.{command_of, query_of}
 use Rattle.model_report.specs.Query.{Query}
-use Rattle.model_report.specs.Replay.{ReportLine, Credentials, Told, Plain, at_line, bad_log_text, impossible_text, reason}
+use Rattle.model_report.specs.Replay.{Report, ReportLine, Credentials, Told, Plain, at_line, bad_log_text, impossible_text, reason, text_of}
 use Rattle.model_report.specs.Report.{report, log_report, run_lines}
 use Rattle.model_text.specs.Cut.{lines_of}
 use Rattle.model_text.specs.Line.{Line, Tells, Faulty}
+use Rattle.model_strace.specs.LineNumbers as strace
+use Rattle.model_strace.specs.Logs.{log_reading}
 use Rattle.model_text.specs.Numbers.{StandsFor}
-use Rattle.model_text.specs.Reading.{Placed, Fault, Reading, events_of, script_reading}
+use Rattle.model_text.specs.Reading.{Placed, Fault, Reading, events_of}
+use Rattle.model_text.specs.WorldText.{text_says_more}
 
 -- A status comes exactly by its cause, whatever the words and the files.
 unfoldable pub EachByItsCause : Type 0
@@ -69,16 +72,22 @@ AreTrue w s (Credentials v p ∷ lines) = (process_at s.processes p.pid ≡ Some
 AreTrue w s (Told v e ∷ lines) = (s' : State) × Step w s e.event s' × AreTrue w s' lines
 AreTrue w s (Plain text ∷ lines) = AreTrue w s lines
 
--- The line of the log with that number, the first one having 1, stands for this in the world.
+-- The line with that number of a log of that form, the first one having 1, stands for this in the world: by itself, or with
+-- what is known where it is read.
+abbrev pub FormStandsFor : LogForm → World → List ℕ → ℕ → Line → Type 0
+FormStandsFor Script w log number meaning = StandsFor w 1 (lines_of log) number meaning
+FormStandsFor Strace w log number meaning = strace.StandsFor w (lines_of log) number meaning
+
+-- The line of the world's log with that number stands for this.
 abbrev pub LineStandsFor : World → List ℕ → ℕ → Line → Type 0
-LineStandsFor w log number meaning = StandsFor w 1 (lines_of log) number meaning
+LineStandsFor w log number meaning = FormStandsFor w.form w log number meaning
 
 -- What the lines of a report say of a log in a world: they are true from the world's state on; they tell the first of the
 -- log's events, in their order and none left out; and the number of each is that of the line which tells it.
 pub record TellsOfLog (w : World) (log : List ℕ) (lines : List ReportLine) : Type 0 where
   pub are_true : AreTrue w w.start lines
   pub untold : List Placed
-  pub order : (script_reading w log).events ≡ told_in lines ++ untold
+  pub order : (log_reading w log).events ≡ told_in lines ++ untold
   pub numbers : All (λ e. LineStandsFor w log e.line (Tells e.event)) (told_in lines)
 
 -- The report tells so of the log whose replay begins.
@@ -112,19 +121,30 @@ BadLogIsNumbered = (words : List (List ℕ)) (bytes : List ℕ → List ℕ) (nu
     × LineStandsFor is.world (bytes is.comes.begins.log) number (Faulty why)
 
 -- ---- readings
--- Logs that read as the same events in the same places, and whose readings end alike, have the same report, whatever form
--- they have.
-unfoldable pub SameReadingSameReport : Type 0
-SameReadingSameReport = (query : Option Query) (more : Bool) (w : World) (one other : Reading) → one.events ≡ other.events → one.ending ≡ other.ending
-    → log_report query more w one ≡ log_report query more w other
+-- The reports have the same status and the same text.
+pub record SameText (one other : Report) : Type 0 where
+  pub status : one.status ≡ other.status
+  pub text : text_of one.lines ≡ text_of other.lines
 
--- So over one world's text: two logs whose replays begin, and which read as the same events in the same places and end
--- alike, have the same report, byte for byte.
+-- The worlds are the same but for the form of log that they declare.
+abbrev pub DifferInForm : World → World → Type 0
+DifferInForm v w = w ≡ record v { form = w.form }
+
+-- Logs that read as the same events in the same places, and whose readings end alike, have the same report, byte for byte,
+-- whatever forms their worlds declare.
+unfoldable pub SameReadingSameReport : Type 0
+SameReadingSameReport =
+    (query : Option Query) (more : Bool) (v w : World) (one other : Reading) → DifferInForm v w → one.events ≡ other.events → one.ending ≡ other.ending
+    → SameText (log_report query more v one) (log_report query more w other)
+
+-- So over the texts of worlds that differ in the form of log alone: two logs whose replays begin, and which read as the same
+-- events in the same places and end alike, have the same report, byte for byte.
 unfoldable pub SameLogsSameReport : Type 0
 SameLogsSameReport =
-    (words : List (List ℕ)) (bytes other : List ℕ → List ℕ) (w : World) (one two : Reading)
-    → (first : Begins words bytes w one) → (second : Begins words other w two) → bytes first.names.world ≡ other second.names.world
-    → one.events ≡ two.events → one.ending ≡ two.ending → report words bytes ≡ report words other
+    (words : List (List ℕ)) (bytes other : List ℕ → List ℕ) (v w : World) (one two : Reading)
+    → (first : Begins words bytes v one) → (second : Begins words other w two) → DifferInForm v w
+    → text_says_more (bytes first.names.world) ≡ text_says_more (other second.names.world)
+    → one.events ≡ two.events → one.ending ≡ two.ending → SameText (report words bytes) (report words other)
 
 -- ---- what an audit says
 -- Where an audit's status is 0, it writes yes: one process lives after the log, and no list of later setresuid calls of

@@ -11,13 +11,14 @@ use Rattle.cm_base.specs.Limited.{limit_number}
 use Rattle.model_cred.specs.Call.{Event}
 use Rattle.model_cred.specs.Process.{Process, State}
 use Rattle.model_cred.specs.Right.{Right, Cap, Uid, Gid}
-use Rattle.model_cred.specs.World.{World, LogForm, Script, Strace}
+use Rattle.model_cred.specs.World.{World}
 use Rattle.model_run.specs.RunBack.{are_setresuids, run_back}
 use Rattle.model_report.specs.Command.{Command, Replay, Audit, Later, NoForm, command_of}
 use Rattle.model_report.specs.Query.{Query, asked_process, right_token}
 use Rattle.model_report.specs.Replay.{ReportLine, Credentials, Plain, Report, says, after, at_line, not_built, limit_hit, replayed, state_after}
 use Rattle.model_text.specs.Print.{event_text}
-use Rattle.model_text.specs.Reading.{Reading, events_of, script_reading}
+use Rattle.model_strace.specs.Logs.{log_reading}
+use Rattle.model_text.specs.Reading.{Reading, events_of}
 use Rattle.model_text.specs.WorldText.{WorldText, Reads, Bad, Exceeds, world_text, text_says_more}
 
 -- ---- the answer to an audit
@@ -81,15 +82,10 @@ abbrev pub log_report : Option Query → Bool → World → Reading → Report
 log_report query more w reading = after (start_lines w) (answered query more w reading)
 
 -- ---- the report of a command, over texts
--- the report of a script log's text in a world
-abbrev pub script_report : Option Query → Bool → World → List ℕ → Report
-script_report query more w log =
-    if nat_lt (limit_number limit.Log) (length log) then limit_hit limit.Log else log_report query more w (script_reading w log)
-
--- the report of a log's text in a world with that form of logs (so far a log as strace(1) writes it isn't built)
-abbrev pub form_report : Option Query → Bool → World → List ℕ → LogForm → Report
-form_report query more w log Script = script_report query more w log
-form_report query more w log Strace = not_built
+-- the report of a log's text in a world, by what the form that the world declares reads it as
+abbrev pub text_report : Option Query → Bool → World → List ℕ → Report
+text_report query more w log =
+    if nat_lt (limit_number limit.Log) (length log) then limit_hit limit.Log else log_report query more w (log_reading w log)
 
 -- the line of a fault of a world, with its table and the number of its row
 abbrev pub bad_world_text : Table → ℕ → WorldFault → List ℕ
@@ -100,7 +96,7 @@ bad_world_text table row why =
 abbrev pub by_world : Option Query → Bool → WorldText → List ℕ → Report
 by_world query more (Bad table row why) log = says status.BadWorld (bad_world_text table row why)
 by_world query more (Exceeds l) log = limit_hit l
-by_world query more (Reads w) log = form_report query more w log w.form
+by_world query more (Reads w) log = text_report query more w log
 
 -- the report of a log by the world's text
 abbrev pub files_report : Option Query → List ℕ → List ℕ → Report

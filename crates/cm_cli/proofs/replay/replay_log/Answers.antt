@@ -1,10 +1,11 @@
-use Rattle.std.proofs.Common.{arith, refl}
+use Rattle.std.proofs.Common.{arith, ap, length, refl}
 use Rattle.cm_cli.proofs.Events.{next_waits}
 use Rattle.cm_cli.proofs.Standing.{Goes_on, stands_on}
 use Rattle.cm_cli.proofs.Waiting.{front_on, front_of_more, waits_as}
 use Rattle.cm_cli.proofs.replay.replay_log.Goals as goal
-use Rattle.cm_cli.specs.Log.{left}
+use Rattle.cm_log.specs.Left.{left}
 use Rattle.cm_world.specs.World.{world_of}
+use Rattle.model_text.specs.Reading.{Reading}
 
 pub returns-in-Err-send_full-clause-stopped : goal.returns-in-Err-send_full-clause-stopped
 returns-in-Err-send_full-clause-stopped g c =
@@ -12,7 +13,7 @@ returns-in-Err-send_full-clause-stopped g c =
     let is = rw c.in-Ok-Event.field-0-is at c.in-Ok-Event.ensures.next in
     let turn = rw c.in-Ok-Goes.field-0-is at c.in-Ok-Goes.ensures.turn in
     let events = (rw c.in-Ok-Goes.field-0-is at c.in-Ok-Goes.ensures.events) refl in
-    let waits = next_waits w c.loop-event.replay c.take_event.new.replay (left w c.loop-event.log) (left w c.in-Ok-Event.after)
+    let waits = next_waits w c.loop-event.replay c.take_event.new.replay (left w c.loop-event.log) (left w c.next.new.self)
     c.in-Ok-Event.event is turn events c.loop-event.text.items c.take_event.new.text.items c.in-Ok-Goes.ensures.lines in
     front_on (waits_as _ _ waits c.loop-event.invariant.stands.sent) (front_of_more c.in-Err-send_full.ensures.front _)
 
@@ -20,7 +21,7 @@ pub loop-event-preserved : goal.loop-event-preserved
 loop-event-preserved g c =
     let w = world_of c.args.w.now in
     let is = rw c.in-Ok-Event.field-0-is at c.in-Ok-Event.ensures.next in
-    let shorter = rw c.in-Ok-Event.field-0-is at c.in-Ok-Event.ensures.shorter in
+    let fewer = ap (λ (r : Reading). length r.events) is in
     let goes : Goes_on w c.loop-event.replay c.take_event.new.replay c.in-Ok-Event.event c.loop-event.text.items c.take_event.new.text.items
     = record {
       turn = rw c.in-Ok-Goes.field-0-is at c.in-Ok-Goes.ensures.turn;
@@ -29,9 +30,9 @@ loop-event-preserved g c =
       lines = c.in-Ok-Goes.ensures.lines;
     } in
     record {
-      stands = stands_on w c.args.replay.now (left w c.args.log) _ c.loop-event.replay c.take_event.new.replay (left w c.loop-event.log)
-          (left w c.in-Ok-Event.after) c.in-Ok-Event.event _ c.take_event.new.text.items _ is c.loop-event.invariant.stands goes
+      stands = stands_on w c.args.replay.now (left w c.args.log.now) _ c.loop-event.replay c.take_event.new.replay (left w c.loop-event.log)
+          (left w c.next.new.self) c.in-Ok-Event.event _ c.take_event.new.text.items _ is c.loop-event.invariant.stands goes
           c.in-Ok.ensures.sent c.in-Ok.ensures.cause.ok;
-      lines = omega (arith, shorter.1, c.loop-event.invariant.lines);
-      events = omega (arith, goes.events, shorter.0, c.loop-event.invariant.events);
+      lines = c.in-Ok-Event.ensures.room;
+      events = omega (arith, goes.events, fewer, c.loop-event.invariant.events);
     }

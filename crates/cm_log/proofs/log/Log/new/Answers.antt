@@ -1,0 +1,13 @@
+use Rattle.std.proofs.Common.{◌≤◌, length, subst, sym}
+use Rattle.cm_log.proofs.Few.{script_few, strace_few}
+use Rattle.cm_log.proofs.log.Log.new.Goals as goal
+use Rattle.cm_world.specs.World.{world_of}
+use Rattle.model_text.specs.Reading.{Reading}
+
+pub returns-in-Script-clause-few : goal.returns-in-Script-clause-few
+returns-in-Script-clause-few c = rw (c.new.ensures.rest) (script_few (world_of c.args.w.now) c.new.result.number c.args.text.now)
+
+pub returns-in_ok-log-in-Strace-clause-few : goal.returns-in_ok-log-in-Strace-clause-few
+returns-in_ok-log-in-Strace-clause-few c =
+    subst (λ (r : Reading). length r.events ≤ length c.args.text.now) (sym c.in_ok-log-in-Strace.ensures.reading)
+    (strace_few (world_of c.args.w.now) c.args.text.now)

@@ -1,0 +1,27 @@
+use Rattle.std.proofs.Common.{◌∙◌, ap, arith}
+use Rattle.cm_log.proofs.LeftAfter.{after_line_goes_on, after_line_left, long_line_left}
+use Rattle.cm_log.proofs.strace.StraceLog.read_line.Goals as goal
+use Rattle.cm_world.specs.World.{world_of}
+
+pub returns-then-line-gt-LINE_LIMIT-clause-left : goal.returns-then-line-gt-LINE_LIMIT-clause-left
+returns-then-line-gt-LINE_LIMIT-clause-left c =
+    long_line_left (world_of c.args.w.now) c.args.self.now c.args.line.now c.args.after.now c.requires.none c.requires.reads
+    c.requires.room.open_session c.requires.line (omega (arith, c.if-line-gt-LINE_LIMIT.true))
+
+pub returns-clause-left : goal.returns-clause-left
+returns-clause-left c =
+    after_line_left (world_of c.args.w.now) c.args.self.now
+    (record { tracer = c.take.new.self.tracer; rest = c.take.new.self.rest; waiting = c.take.new.self.waiting; phase = c.phase_after-self.result })
+    c.args.line.now c.args.after.now c.fed.inside.events.items c.fed.inside.stop
+    c.requires.none c.requires.reads c.requires.line (omega (arith, c.if-line-gt-LINE_LIMIT.false))
+    (c.take.ensures.tracer ∙ c.in_ok-fed.ensures.after) (ap (λ r. r.now) c.take.ensures.rest) c.take.ensures.events c.phase_after-self.ensures
+    (c.fed.view_is ∙ c.in_ok-fed.ensures.given)
+
+pub returns-clause-room : goal.returns-clause-room
+returns-clause-room c =
+    after_line_goes_on (world_of c.args.w.now) c.args.self.now
+    (record { tracer = c.take.new.self.tracer; rest = c.take.new.self.rest; waiting = c.take.new.self.waiting; phase = c.phase_after-self.result })
+    c.args.line.now c.args.after.now c.fed.inside.events.items c.fed.inside.stop
+    c.requires.room c.requires.reads c.requires.shorter
+    (c.take.ensures.tracer ∙ c.in_ok-fed.ensures.after) (ap (λ r. r.now) c.take.ensures.rest) c.phase_after-self.ensures
+    (c.fed.view_is ∙ c.in_ok-fed.ensures.given)

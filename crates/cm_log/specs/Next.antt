@@ -1,0 +1,11 @@
+-- What is read next of a log.
+use Rattle.std.specs.Prelude.{◌≡◌}
+use Rattle.cm_strace.specs.Answers.{ending_is}
+use Rattle.cm_log.specs.declared.next.Next.{Next}
+use Rattle.cm_log.specs.declared.next.Next.TheVariants as next
+use Rattle.model_text.specs.Reading.{Reading, ends_at, reads_on}
+
+-- The reading goes on with the event and with what is left after it, or it ends so.
+abbrev pub IsNext : Next → Reading → Reading → Type 0
+IsNext (next.Event e) reading left = reading ≡ reads_on e left
+IsNext (next.Ends stop) reading left = reading ≡ ends_at (ending_is stop)

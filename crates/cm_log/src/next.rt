@@ -1,0 +1,9 @@
+// What is read next of a log.
+use cm_strace::{Placed, Stop};
+
+/// What is read next: an event; or how the reading ends, at a stop or at the log's end.
+#[derive(Debug, Drop)]
+pub enum Next {
+    Event(Placed),
+    Ends(Option<Stop>),
+}
