@@ -5,17 +5,21 @@ same report.
   bench.py [--runs N] [--only PART] [--kind KIND] [--work FOLDER] [PROGRAM]
 
 PROGRAM is credaudit; left out, the one that was built in this repository, and `none` measures the plain program alone.
-Needs rustc. Each time is the least of N runs (5), the programs taking turns; output goes to /dev/null. PART is one of
-these, all being measured where it is left out:
+Needs rustc; scan needs grep too. Each time is the least of N runs (5), the programs taking turns; output goes to /dev/null.
+PART is one of these, all being measured where it is left out:
 
   ratio    a log of 64 MiB against `tuned` and `replay` of plain_replay.rs, once the reports are the same byte for byte;
            beside the least seconds the most, and the least and the most of the ratios to tuned, turn by turn
-  linear   logs of 1, 4, 16 and 64 MiB: seconds for each MiB
+  linear   logs of 1, 4, 16 and 64 MiB, of strace 32 and 64 MiB: milliseconds for each MiB. Of strace it is measured for all
+           three kinds: what takes a time that isn't linear in the held lines, or in the followed descriptors, shows itself
+           between the last two
+  scan     a log of strace of 64 MiB: seconds of `grep -c` for one of its words, of `tuned` and of credaudit, and MB a second
   memory   the peak (VmHWM of /proc/PID/status, read 500 times a second) on the log of 64 MiB
   world    the worlds of worlds.py with an empty log, one of 1 MiB for each table, against `tuned`, once the reports are the
            same byte for byte
 
-KIND is what the logs of ratio, linear and memory have (left out: ratio is measured for each, the others for the first):
+KIND is what the logs of ratio, linear, scan and memory have (left out: ratio is measured for each, linear and memory for
+setresuid and strace; scan takes strace where KIND is none of strace):
 
   setresuid   one process of root, whose effective id goes to another and back
   setuid      three processes; half of the lines are done, half are refused (EPERM, EINVAL)
@@ -23,6 +27,10 @@ KIND is what the logs of ratio, linear and memory have (left out: ratio is measu
   spaces      births and exits in 200 user namespaces and some 40 more, each with maps; joins, maps and words that ask for
               power along a chain of 32
   execve      children that execute files, of 4,096 on 64 mounts
+  strace      as a recording of strace -f is: 1,000 live processes, most of whose calls aren't listed or aren't followed;
+              births, exits, execves and some calls on credentials; up to 4,096 lines at a time stand before their birth
+  strace-held           the same with as many held lines 10 times as often, and up to 65,536 followed descriptors
+  strace-held-quarter   the same with a quarter of both
 
 The logs are made in FOLDER (a new one below /tmp where it is left out, removed at the end), 90 MB for a kind.
 """
@@ -39,10 +47,13 @@ from worlds import LOG_WORLDS, WORLDS
 HERE = os.path.dirname(os.path.abspath(__file__))
 BUILT = os.path.normpath(os.path.join(HERE, "..", "crates", "credaudit", "out", "credaudit"))
 MIB = 1 << 20
-SIZES = (1, 4, 16, 64)
-PARTS = ("ratio", "linear", "memory", "world")
-# Of each kind of log the number of events, which are more than fill 64 MiB.
-KINDS = {"setresuid": 2700000, "setuid": 3400000, "mixed": 3100000, "spaces": 3300000, "execve": 2100000}
+SIZES, STRACE_SIZES = (1, 4, 16, 64), (32, 64)
+PARTS = ("ratio", "linear", "scan", "memory", "world")
+# Of each kind of log the number of events, of strace that of lines, which are more than fill 64 MiB.
+STRACE = {"strace": 1000000, "strace-held": 1150000, "strace-held-quarter": 1150000}
+KINDS = {"setresuid": 2700000, "setuid": 3400000, "mixed": 3100000, "spaces": 3300000, "execve": 2100000, **STRACE}
+# Where a log may be cut: after a LF; one of strace after a line before which no line is held.
+CUT, STRACE_CUT = b"\n", b"\n100 gettid() = 100\n"
 
 
 def timed(words):
@@ -125,20 +136,22 @@ class Logs:
     """The world and the logs of one kind, these by MiB, and the commands that replay them."""
 
     def __init__(self, kind, plain, program, work):
-        self.plain, self.program = plain, program
+        self.kind, self.plain, self.program = kind, plain, program
+        self.sizes, self.cut = (STRACE_SIZES, STRACE_CUT) if kind in STRACE else (SIZES, CUT)
         self.world = write(os.path.join(work, f"{kind}.toml"), LOG_WORLDS[kind]())
-        self.files = {size: os.path.join(work, f"{kind}{size}.log") for size in SIZES}
+        self.files = {size: os.path.join(work, f"{kind}{size}.log") for size in self.sizes}
         if not all(map(os.path.exists, self.files.values())):
             self.make(kind)
 
     def make(self, kind):
         words = [self.plain, "gen", kind, str(KINDS[kind]), "7", self.world]
         text = subprocess.run(words, stdout=subprocess.PIPE, check=True).stdout
-        if len(text) < SIZES[-1] * MIB:
+        if len(text) < self.sizes[-1] * MIB:
             sys.exit(f"bench.py: a log of {len(text)} bytes of {kind} lines")
+        ends = {size: text.rindex(self.cut, 0, size * MIB) + len(self.cut) for size in self.sizes}
         for size, name in self.files.items():
             with open(name, "wb") as log:
-                log.write(text[:text.rindex(b"\n", 0, size * MIB) + 1])
+                log.write(text[:ends[size]])
 
     def commands(self, size, modes=("tuned",)):
         return commands_for(self.world, self.files[size], self.plain, self.program, modes)
@@ -170,10 +183,21 @@ def ratio(kind, logs, runs):
 
 
 def linear(logs, runs):
-    best = {size: least(logs.commands(size), runs) for size in SIZES}
-    print(f"{'log':24}" + "".join(f"{size:>8} MiB" for size in SIZES))
+    best = {size: least(logs.commands(size), runs) for size in logs.sizes}
+    print(f"{'log of ' + logs.kind + ' lines':34}" + "".join(f"{size:>8} MiB" for size in logs.sizes))
     for name in best[64]:
-        print(f"{name + ', ms for a MiB':24}" + "".join(f"{1000 * best[size][name] / size:12.2f}" for size in SIZES))
+        print(f"{name + ', ms for a MiB':34}" + "".join(f"{1000 * best[size][name] / size:12.2f}" for size in logs.sizes))
+    print()
+
+
+def scan(logs, runs):
+    # grep counts nothing where its output is /dev/null, so a shell takes it
+    grep = ["sh", "-c", 'test "$(grep -c "$0" "$1")" -gt 0', "setresuid", logs.files[64]]
+    every = seconds_of({"grep -c": grep, **logs.commands(64)}, runs)
+    print(f"log of {logs.length()} bytes of {logs.kind} lines")
+    print(f"{'program':24}{'seconds':>9}{'to':>9}{'MB of log/s':>13}")
+    for name, seconds in every.items():
+        print(f"{name:24}{min(seconds):9.3f}{max(seconds):9.3f}{logs.length() / 1e6 / min(seconds):13.1f}")
     print()
 
 
@@ -181,7 +205,7 @@ def memory(logs):
     for name, words in logs.commands(64).items():
         kib = peak(words)
         beyond = f", the log and {(kib - logs.length() / 1024) / 1024:.1f} MiB" if name == "credaudit" else ""
-        print(f"{name + ', peak':24}{kib:9} KiB{beyond}")
+        print(f"{name + ', peak, ' + logs.kind:34}{kib:9} KiB{beyond}")
     print()
 
 
@@ -203,10 +227,14 @@ def measure(program, asked, work):
     kinds = [asked.kind] if asked.kind else list(KINDS)
     for kind in kinds if "ratio" in parts else ():
         ratio(kind, Logs(kind, plain, program, work), asked.runs)
-    if "linear" in parts:
-        linear(Logs(kinds[0], plain, program, work), asked.runs)
-    if "memory" in parts:
-        memory(Logs(kinds[0], plain, program, work))
+    few = [asked.kind] if asked.kind else ["setresuid", "strace"]
+    for kind in few if "linear" in parts else ():
+        for one in STRACE if kind in STRACE else [kind]:
+            linear(Logs(one, plain, program, work), asked.runs)
+    if "scan" in parts:
+        scan(Logs(few[-1] if few[-1] in STRACE else "strace", plain, program, work), asked.runs)
+    for kind in few if "memory" in parts else ():
+        memory(Logs(kind, plain, program, work))
     if "world" in parts:
         large_worlds(plain, program, asked.runs, work)
 

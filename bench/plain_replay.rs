@@ -1,15 +1,17 @@
 //! The yardstick of credaudit's speed: a replay as a careful programmer would write it without proofs. No crates; its other
 //! files stand in plain/. `rustc -O plain_replay.rs`; bench.py builds and runs it.
 //!
-//!   plain_replay gen KIND N SEED WORLD   writes a script log of some N events to stdout
+//!   plain_replay gen KIND N SEED WORLD   writes a script log of some N events to stdout, or a log of strace of some N lines
 //!                                        KIND: setresuid | setuid | mixed | spaces | execve | comments
+//!                                        | strace | strace-held | strace-held-quarter
 //!   plain_replay replay WORLD LOG        "plain": BufReader, write!
 //!   plain_replay tuned  WORLD LOG        the same text; bytes read in pieces and printed by hand
 //!   plain_replay quiet  WORLD LOG        as tuned, but prints only the last line
+//!   plain_replay events WORLD LOG..      of logs of strace the events alone, and how the reading ends
 //!
-//! It reads the world's tables and keys, and of the calls setresuid, setuid, no_new_privs, fork, clone_user, unshare, setns,
-//! write_uid_map, write_gid_map, write_setgroups, execve and exit. On those its report is that of credaudit, byte for byte;
-//! of a bad world it says `bad world` alone. Statuses: 0, 3, 4, 5, 6, 9.
+//! It reads the world's tables and keys; of script logs the calls setresuid, setuid, no_new_privs, fork, clone_user, unshare,
+//! setns, write_uid_map, write_gid_map, write_setgroups, execve and exit; logs of strace whole. On those its report is that
+//! of credaudit, byte for byte; of a bad world it says `bad world` alone. Statuses: 0, 3, 4, 5, 6, 9.
 
 #[path = "plain/cred.rs"]
 mod cred;
@@ -17,6 +19,8 @@ mod cred;
 mod files;
 #[path = "plain/gen.rs"]
 mod gen;
+#[path = "plain/gen_strace.rs"]
+mod gen_strace;
 #[path = "plain/lines.rs"]
 mod lines;
 #[path = "plain/machine.rs"]
@@ -31,11 +35,19 @@ mod print;
 mod procs;
 #[path = "plain/space.rs"]
 mod space;
+#[path = "plain/strace.rs"]
+mod strace;
+#[path = "plain/strace_files.rs"]
+mod strace_files;
+#[path = "plain/strace_replay.rs"]
+mod strace_replay;
+#[path = "plain/strace_text.rs"]
+mod strace_text;
 #[path = "plain/world.rs"]
 mod world;
 
 use cred::Res;
-use lines::{parse, Event};
+use lines::{parse, Event, Lists};
 use machine::{Machine, Stop};
 use print::{print_cred, print_event, put_cred, put_event};
 use procs::Proc;
@@ -60,7 +72,7 @@ fn replay_plain(log: &str, w: &World, mut m: Machine) -> io::Result<u8> {
     for (pid, p) in m.procs.all() {
         print_cred(&mut out, w, pid, p)?;
     }
-    let (mut line, mut count, mut buf, mut list) = (0u64, 0u64, Vec::new(), Vec::new());
+    let (mut line, mut count, mut buf, mut list) = (0u64, 0u64, Vec::new(), Lists::default());
     loop {
         buf.clear();
         if inp.read_until(b'\n', &mut buf)? == 0 {
@@ -103,7 +115,7 @@ fn replay_tuned(log: &str, w: &World, mut m: Machine, print: bool) -> io::Result
         }
     }
     let mut buf = vec![0u8; 1 << 16];
-    let mut list = Vec::new();
+    let mut list = Lists::default();
     let (mut lo, mut hi) = (0usize, 0usize);
     let (mut line, mut count, mut end) = (0u64, 0u64, false);
     let mut from = 0; // place from which LF is looked for
@@ -168,6 +180,7 @@ fn replay_tuned(log: &str, w: &World, mut m: Machine, print: bool) -> io::Result
 
 fn usage() -> ! {
     eprintln!("usage: plain_replay gen KIND N SEED WORLD\n       plain_replay replay|tuned|quiet WORLD LOG");
+    eprintln!("       plain_replay events WORLD LOG..");
     exit(6)
 }
 
@@ -194,10 +207,15 @@ fn main() -> io::Result<()> {
         [mode @ ("replay" | "tuned" | "quiet"), world, log] => {
             let (w, m) = read_world(world)?;
             let status = match *mode {
+                _ if w.strace => strace_replay::replay(log, &w, m, mode)?,
                 "replay" => replay_plain(log, &w, m)?,
                 _ => replay_tuned(log, &w, m, *mode == "tuned")?,
             };
             exit(i32::from(status))
+        }
+        ["events", world, logs @ ..] => {
+            let (w, m) = read_world(world)?;
+            logs.iter().try_for_each(|log| strace_replay::events(log, &w, &m))
         }
         _ => usage(),
     }

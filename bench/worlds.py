@@ -6,7 +6,7 @@ key or header a line, and the tables in the order space, mount, file, process, f
 import sys
 
 MIB = 1 << 20
-HEAD = 'log = "script"\n'
+HEAD, STRACE = 'log = "script"\n', 'log = "strace"\n'
 CHAIN, SPACES, MOUNTS, FILES, PROCESSES, EXTENTS = 32, 200, 64, 4096, 4096, 340
 CALLS = ("setuid setreuid setresuid setfsuid setgid setregid setresgid setfsgid setgroups capset bset_drop amb_raise amb_lower"
          " amb_clear securebits keepcaps no_new_privs fork clone_user unshare setns write_uid_map write_gid_map"
@@ -117,6 +117,14 @@ def execve_of_log():
             + "".join(map(caller_row, range(60))))
 
 
+def strace_of_log():
+    """Root, a process that keeps descriptors and gives no birth, and 40 files, some with set-id bits or an attribute."""
+    keys = [dict(path=text(f"/usr/bin/prog{number}"), uid=0, gid=number % 3, mode=text(("0755", "0755", "4755", "2755")[number % 4]),
+                 caps=text(VERSION_2.format(1)) if number % 5 == 0 else None) for number in range(40)]
+    return (STRACE + "".join(row("file", **one) for one in keys)
+            + row("process", pid=100, uid=0, gid=0) + row("process", pid=101, uid=0, gid=0))
+
+
 # ---- worlds of 1 MiB -----------------------------------------------------------------------------------------------
 
 
@@ -183,6 +191,7 @@ LOG_WORLDS = {
     "mixed": lambda: processes(p100="0"),
     "spaces": spaces_of_log,
     "execve": execve_of_log,
+    **dict.fromkeys(("strace", "strace-held", "strace-held-quarter"), strace_of_log),
 }
 
 

@@ -49,7 +49,7 @@ ENDS = {
     0: rb"end %s\n" % NUMBER,
     3: rb"impossible line %s: (?:no process|no space|pid in use|the rules give (?:%s|%s))\n" % (NUMBER, NUMBER, ERROR),
     4: rb"bad world (?:whole|space|mount|file|process|filter) %s: %s\n" % (NUMBER, WORD),
-    5: rb"bad log line %s: (?:pid|call|shape|count|argument %s|result)\n" % (NUMBER, NUMBER),
+    5: rb"bad log line %s: (?:pid|call|shape|count|argument %s|result|superseded|unfinished|descriptor)\n" % (NUMBER, NUMBER),
     9: rb"limit [a-z]+ %s\n" % NUMBER,
     13: rb"not built\n",
 }

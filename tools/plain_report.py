@@ -1,6 +1,6 @@
 #!/usr/bin/env python3
-"""The report of a replay by plain_reader.py and plain_rules.py: what `credaudit replay WORLD LOG` ought to write, worked
-out without it. For mutate.py, and for whoever wants a second opinion on a report.
+"""The report of a replay by plain_reader.py, plain_strace.py and plain_rules.py: what `credaudit replay WORLD LOG` ought to
+write, worked out without it. For mutate.py, and for whoever wants a second opinion on a report.
 
   plain_report.py WORLD LOG    writes the report, and ends with its status
 
@@ -13,6 +13,7 @@ from dataclasses import dataclass
 from plain_reader import (BIRTHS, CAP_NUMBERS, LAST_ID, LIMITS, MAPS, NotJudged, Refused, digits, past_limit, read_line,
                           read_space, read_world, space_token)
 from plain_rules import Rules
+from plain_strace import reading
 from recordings import credentials, fields_from
 
 ANY = ("ENOMEM", "EAGAIN", "EINTR", "EFAULT", "EIO")
@@ -71,21 +72,47 @@ def lines_of(log):
     return lines if lines[-1] else lines[:-1]
 
 
+def told_at(number, refused):
+    """The refusal as a report tells it of that line."""
+    front = {3: f"impossible line {number}: ", 5: f"bad log line {number}: "}.get(refused.status, "")
+    return Refused(refused.status, front + refused.words)
+
+
+def script_events(world, log):
+    """The events of a script log, each with the number of its line, up to the refusal that is raised, where there is one."""
+    for number, line in enumerate(lines_of(log), 1):
+        try:
+            event = read_line(line, world)
+        except Refused as refused:
+            raise told_at(number, refused)
+        if event is not None:
+            yield number, event
+
+
+def strace_events(world, log):
+    """The same of a log of strace; plain_strace.py gives events as script lines."""
+    spaces = sorted(world.names, key=world.names.get)
+    processes = [{"pid": pid, "space": space_token(world, space)} for pid, (space, _) in world.state.processes.items()]
+    events, ending = reading({"space": [{"name": name} for name in spaces], "process": processes,
+                              "file": [{"path": path.decode()} for path in world.files]}, log)
+    for text in events:
+        number, line = text.encode("latin-1").split(b": ", 1)
+        yield int(number), read_line(line, world)
+    if ending != "end":
+        raise Refused(9 if ending.startswith("limit") else 5, ending)
+
+
 def replay(world, log, out):
     """Adds the report's lines to `out`, up to the refusal that it raises, where there is one; else the last state."""
     if len(log) > LIMITS["log"]:
         raise past_limit("log")
     rules, state, count = Rules(world.files), world.state, 0
     out.extend(credential_line(world, state, pid) for pid in sorted(state.processes))
-    for number, line in enumerate(lines_of(log), 1):
+    for number, event in (script_events if world.script else strace_events)(world, log):
         try:
-            event = read_line(line, world)
-            if event is None:
-                continue
             state = next_state(rules, state, event)
         except Refused as refused:
-            front = {3: f"impossible line {number}: ", 5: f"bad log line {number}: "}.get(refused.status, "")
-            raise Refused(refused.status, front + refused.words)
+            raise told_at(number, refused)
         count += 1
         out.append(b"%d: %s" % (number, event.written))
         out.extend(credential_line(world, state, pid) for pid in (event.pid, child_of(event)) if pid in state.processes)
@@ -106,8 +133,6 @@ def report(world, log):
     out, read, state, status = [], None, None, 0
     try:
         read = read_world(world)
-        if not read.script:
-            raise NotJudged("strace logs")
         state = replay(read, log, out)
     except Refused as refused:
         out.append(refused.words.encode())

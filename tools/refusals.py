@@ -1,7 +1,10 @@
 #!/usr/bin/env python3
-"""Runs the program's stored example again and again, with one thing refused each time, and counts what it answers.
+"""Runs two examples again and again, with one thing refused each time, and counts what the program answers.
 
-  refusals.py [--only allocations|calls] [--jobs N]
+  refusals.py [--only allocations|calls] [--form script|strace] [--jobs N]
+
+The examples are the program's stored one, of a script log, and tools/data/strace_run, of a log of strace with a birth, held
+lines, an unfinished call and a map; its report is that of plain_report.py. --form takes one of them.
 
 allocations   The Nth allocation is refused, for N = 1, 2, .. until three runs in a row answer as if none was, by
               `rt try --fail-alloc N`: an unproved build, made anew each time, so each run takes some 20 seconds. --jobs
@@ -22,7 +25,10 @@ import subprocess
 import sys
 import tempfile
 
+from plain_report import report
+
 CRATE = os.path.join(os.path.dirname(os.path.abspath(__file__)), "..", "crates", "credaudit")
+STRACE_RUN = os.path.join(os.path.dirname(os.path.abspath(__file__)), "data", "strace_run")
 IN_A_ROW = 3
 OPEN, READ, WRITE = ("openat", "open"), ("read", "pread64", "readv"), ("write", "writev")
 
@@ -36,13 +42,12 @@ def of_crate(name, otherwise=None):
 
 
 class Example:
-    """The stored run: its words, its files, and what it is to answer."""
+    """A run: its words, the folder of its files, and what it is to answer."""
 
-    def __init__(self):
-        self.words = of_crate("args").decode().split("\n")[:-1]
-        self.files = [word for word in self.words if os.path.exists(os.path.join(CRATE, "data", word))]
-        self.report = of_crate("stdout")
-        self.status = int(of_crate("status", b"0"))
+    def __init__(self, form, folder, words, answer, status):
+        self.form, self.folder, self.words = form, folder, words
+        self.files = [word for word in words if os.path.exists(os.path.join(folder, word))]
+        self.report, self.status = answer, status
 
     def answer(self, status, text, refusals):
         """What an answer is: one of the refusals, `whole`, or None where it is wrong."""
@@ -53,10 +58,27 @@ class Example:
         return f"status {status}, " + ("nothing written" if not text else "a front of the report")
 
 
+def stored():
+    return Example("script", os.path.join(CRATE, "data"), of_crate("args").decode().split("\n")[:-1], of_crate("stdout"),
+                   int(of_crate("status", b"0")))
+
+
+def of_strace():
+    words, texts = ["replay", "world.toml", "log"], []
+    for name in words[1:]:
+        with open(os.path.join(STRACE_RUN, name), "rb") as file:
+            texts.append(file.read())
+    seen = report(*texts)
+    return Example("strace", STRACE_RUN, words, seen.text, seen.status)
+
+
+EXAMPLES = {"script": stored, "strace": of_strace}
+
+
 def refused_allocation(example, number):
     words = ["rt", "try", "--fail-alloc", str(number)]
     for name in example.files:
-        words += ["--data", f"{name}=data/{name}"]
+        words += ["--data", f"{name}={os.path.relpath(os.path.join(example.folder, name), CRATE)}"]
     run = subprocess.run(words + ["--", *example.words], cwd=CRATE, stdin=subprocess.DEVNULL,
                          stdout=subprocess.PIPE, stderr=subprocess.PIPE)
     ended = re.search(rb"^run=ended status=(\d+)", run.stderr, re.MULTILINE)
@@ -81,7 +103,7 @@ def allocations(example, jobs):
                 if whole == IN_A_ROW:
                     break
     counts["whole report"] -= IN_A_ROW
-    show(f"allocations: {number - IN_A_ROW} refused, one a run", counts)
+    show(f"{example.form}, allocations: {number - IN_A_ROW} refused, one a run", counts)
     if spared[:-IN_A_ROW]:
         print("  (the whole report came where these were refused: " + ", ".join(spared[:-IN_A_ROW]) + ")")
     return good
@@ -91,9 +113,9 @@ def calls_of(example, program, work):
     """The calls on files and standard output that the program makes, after what the loader does before it."""
     trace = os.path.join(work, "trace")
     run = subprocess.run(["strace", "-o", trace, "-e", "trace=" + ",".join(OPEN + READ + WRITE), program, *example.words],
-                         cwd=os.path.join(CRATE, "data"), stdout=subprocess.PIPE)
+                         cwd=example.folder, stdout=subprocess.PIPE)
     if (run.returncode, run.stdout) != (example.status, example.report):
-        sys.exit("refusals.py: the built program doesn't answer the stored example under strace")
+        sys.exit(f"refusals.py: the built program doesn't answer the {example.form} example under strace")
     seen, own, calls = collections.Counter(), False, []
     for line in open(trace, errors="replace"):
         name = re.match(r"\w*", line).group()
@@ -107,7 +129,7 @@ def calls_of(example, program, work):
 
 def refused_call(example, program, name, number, error):
     words = ["strace", "-o", "/dev/null", "-e", f"trace={name}", "-e", f"inject={name}:error={error}:when={number}"]
-    run = subprocess.run([*words, program, *example.words], cwd=os.path.join(CRATE, "data"), stdout=subprocess.PIPE)
+    run = subprocess.run([*words, program, *example.words], cwd=example.folder, stdout=subprocess.PIPE)
     return run.returncode, run.stdout
 
 
@@ -128,7 +150,7 @@ def calls(example):
                 answer, good = None, False
             counts[answer or "wrong"] += 1
         kinds = [sum(name in kind for name, _ in made) for kind in (OPEN, READ, WRITE)]
-        show("calls: {} openings, {} reads and {} writes".format(*kinds) + f" ended in {error}, one a run", counts)
+        show(example.form + ", calls: {} openings, {} reads and {} writes".format(*kinds) + f" ended in {error}, one a run", counts)
     return good
 
 
@@ -141,14 +163,15 @@ def show(title, counts):
 
 
 def main():
-    ask = argparse.ArgumentParser(usage="refusals.py [--only allocations|calls] [--jobs N]")
+    ask = argparse.ArgumentParser(usage="refusals.py [--only allocations|calls] [--form script|strace] [--jobs N]")
     ask.add_argument("--only", choices=("allocations", "calls"))
+    ask.add_argument("--form", choices=EXAMPLES)
     ask.add_argument("--jobs", type=int, default=2)
-    asked, example = ask.parse_args(), Example()
-    good = True
-    if asked.only != "allocations":
-        good = calls(example)
-    if asked.only != "calls":
+    asked, good = ask.parse_args(), True
+    examples = [EXAMPLES[form]() for form in ([asked.form] if asked.form else EXAMPLES)]
+    for example in examples if asked.only != "allocations" else ():
+        good = calls(example) and good
+    for example in examples if asked.only != "calls" else ():
         good = allocations(example, asked.jobs) and good
     sys.exit(0 if good else 1)
 

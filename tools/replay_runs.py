@@ -26,7 +26,7 @@ import os
 import tempfile
 
 from recordings import (FS_ID_LEFT, HEAD, IMPOSSIBLE, Recordings, Tally, as_printed, credentials, difference, fields_of,
-                        fs_id_left, give_up, program_of, replay, row)
+                        fs_id_left, give_up, program_of, replay, row, runs_of)
 
 SECUREBITS, EXEC_BITS = 0xff, 0xf00
 CALLS = (
@@ -93,15 +93,7 @@ class Run:
 
 
 def read_runs(lines):
-    runs = []
-    for line in lines:
-        words = line.split()
-        if words[0] == "run":
-            runs.append(Run(words[1:]))
-        elif words[0] == "start":
-            runs[-1].begin(words[1:])
-        else:
-            runs[-1].add(words)
+    runs = runs_of(lines, Run)
     for run in runs:
         for event, following in zip(run.events, run.events[1:] + [None]):
             if event.by_rules and not (following and following.pid == event.pid and following.ends()):

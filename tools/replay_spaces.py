@@ -27,7 +27,7 @@ from dataclasses import replace
 
 from plain_rules import INITIAL, MINUS_ONE, SETFCAP, SYS_ADMIN, Refused, Rules, Space, State, unless, up
 from recordings import (ERRORS, FS_ID_LEFT, HEAD, OUTCOMES, Recordings, Tally, as_printed, credential_of, credentials,
-                        fields_from, fields_of, give_up, program_of, replay, row)
+                        fields_from, fields_of, give_up, program_of, replay, row, runs_of)
 
 CALLS = (
     "setuid setreuid setresuid setfsuid setgid setregid setresgid setfsgid setgroups capset bset_drop amb_raise amb_lower"
@@ -123,19 +123,6 @@ class Run:
             return event.before.processes[event.pid]
         pid, number = map(int, event.marks["opened"].split("@"))
         return self.states[number].processes[pid]
-
-
-def read_runs(lines):
-    runs = []
-    for line in lines:
-        words = line.split()
-        if words[0] == "run":
-            runs.append(Run(words[1:]))
-        elif words[0] == "start":
-            runs[-1].begin(words[1:])
-        else:
-            runs[-1].add(words)
-    return runs
 
 
 # ---- differences ---------------------------------------------------------------------------------------------------
@@ -364,7 +351,7 @@ def main():
     ask.add_argument("--write")
     ask.add_argument("--plain", action="store_true")
     asked = ask.parse_args()
-    kernel, runs = recordings.read(ask, asked, read_runs)
+    kernel, runs = recordings.read(ask, asked, lambda lines: runs_of(lines, Run))
     for run in runs:
         judge(run, tally)
     parts = [part for run in runs for part in parts_of(run)]

@@ -1,6 +1,6 @@
 """Worlds and logs as strangers might bring them, for mutate.py: those of examples/ and some built-in ones, which use every
 table, key and call and stand at the limits; and changes that cut, double, swap, flip and replace bytes, tokens, keys and
-rows of them.
+rows of them. Logs have both forms, script and strace; some of strace are drawn by draw_strace_logs.py.
 
 All that is drawn comes of the random.Random that is handed in, so a case can be made again from its number.
 """
@@ -8,6 +8,8 @@ import glob
 import os
 import re
 
+from draw_strace_logs import Draws
+from odd_strace_logs import LOGS
 from plain_reader import CALLS, ERRORS, KEYS
 from plain_rules import CAPABILITIES
 
@@ -148,6 +150,70 @@ EVERY_CALL = """; each call of the table
 104 exit = 0
 105 exit = 0
 """
+STRACE_TABLE = EVERY_TABLE.replace("script", "strace", 1)
+EVERY_STRACE_CALL = r"""103 setuid32(1000)                    = 0
+103 setreuid(-1, 1001)                = -1 EPERM (Operation not permitted)
+103 setresuid(1002, -1, -1 <unfinished ...>
+100 read(3,  <unfinished ...>
+103 <... setresuid resumed>)          = 0
+103 setfsuid(1001)                    = 1000
+103 setgid(1002)                      = 0
+103 setregid(1000, 1000)              = 0
+103 setresgid(-1, -1, 1000)           = 0
+103 setfsgid(5)                       = 1000
+100 <... read resumed>"\177ELF"..., 832) = 832
+101 setgroups(3, [5, 1, 65536])       = 0
+101 capset({version=V3, pid=0}, {effective=1<<CAP_SETUID|1<<CAP_KILL, permitted=1<<CAP_SETUID|1<<CAP_KILL, inheritable=0}) = 0
+100 prctl(PR_CAPBSET_DROP, CAP_SYS_TIME) = 0
+100 prctl(PR_CAPBSET_DROP, 0x2a /* CAP_??? */) = -1 EINVAL (Invalid argument)
+100 prctl(PR_CAP_AMBIENT, PR_CAP_AMBIENT_RAISE, CAP_KILL, 0, 0) = -1 EPERM (Operation not permitted)
+100 prctl(PR_CAP_AMBIENT, PR_CAP_AMBIENT_LOWER, CAP_KILL, 0, 0) = 0
+100 prctl(PR_CAP_AMBIENT, PR_CAP_AMBIENT_CLEAR_ALL, 0, 0, 0) = 0
+100 prctl(PR_SET_SECUREBITS, SECBIT_NO_SETUID_FIXUP|SECBIT_NO_CAP_AMBIENT_RAISE) = 0
+100 prctl(PR_SET_KEEPCAPS, 1)         = 0
+103 prctl(PR_SET_NO_NEW_PRIVS, 1, 0, 0, 0) = 0
+100 clone(child_stack=NULL, flags=CLONE_CHILD_CLEARTID|CLONE_CHILD_SETTID|SIGCHLD <unfinished ...>
+104 mmap(NULL, 8192, PROT_READ, MAP_PRIVATE, -1, 0) = 0x7f2a00000000
+104 clone3({flags=CLONE_NEWUSER, exit_signal=SIGCHLD, stack=NULL}, 88 <unfinished ...>
+105 execve("/bin/su", ["su", "a, b) = 0"], 0x7ffd /* 3 vars */) = 0
+104 <... clone3 resumed>)             = 105
+100 <... clone resumed>, child_tidptr=0x7f2a) = 104
+100 openat(AT_FDCWD, "/proc/105/uid_map", O_WRONLY|O_CLOEXEC) = 3
+100 write(3, "0 0 1\n10 1000 100\n", 18) = 18
+100 openat(AT_FDCWD, "/proc/self/task/105/gid_map", O_RDWR) = 4
+100 write(4, "", 0)                   = -1 EINVAL (Invalid argument)
+100 openat(AT_FDCWD, "/proc/105/setgroups", O_WRONLY) = 5
+100 write(5, "deny", 4)               = 4
+100 openat(AT_FDCWD, "/proc/101/ns/user", O_RDONLY|O_CLOEXEC) = 6
+100 setns(6, CLONE_NEWUSER)           = 0
+100 close(4)                          = 0
+103 execveat(AT_FDCWD, "/usr/game", [], NULL, 0) = -1 EACCES (Permission denied)
+103 dup2(3, 1)                        = 1
+103 fcntl(3, F_DUPFD_CLOEXEC, 0)      = 5
+104 unshare(CLONE_NEWUSER|CLONE_NEWNS) = 0
+105 --- SIGTERM {si_signo=SIGTERM} ---
+105 +++ killed by SIGTERM +++
+104 exit_group(0)                     = ?
+104 +++ exited with 0 +++
+"""
+SMALL_STRACE = """1 setuid(5) = 0
+2 setuid(5) = -1 EPERM (Operation not permitted)
+3 exit_group(0) = ?
+3 +++ exited with 0 +++
+1 setfsuid(0) = 5
+2 fork() = 3
+"""
+DRAWN_WORLD = """log = "strace"
+[[file]]
+path = "/bin/su"
+uid = 0
+gid = 0
+mode = "4755"
+[[process]]
+pid = 200
+uid = 0
+gid = 0
+"""
 SMALL = 'log = "script"\n[[process]]\npid = 1\n[[process]]\npid = 2\nuid = 1000\n'
 SMALL_LOG = "1 setuid 5 = 0\n2 setuid 5 = EPERM\n1 setfsuid 0 = 5\n2 fork = 3\n3 exit = 0\n"
 WEAK_LOG = "1 setresuid -1 7 -1 = 0\n1 setresuid -1 0 -1 = 0\n1 setresuid 5 5 5 = 0\n"
@@ -186,6 +252,22 @@ def at_the_limits():
     ]
 
 
+def strace_at_the_limits():
+    """Logs of strace that stand at a limit or exceed it, for a world with the process 200."""
+    def groups(count):
+        return f"200 setgroups({count}, [{', '.join(['7'] * count)}]) = 0\n"
+
+    def opens(count):
+        return "".join(f'200 openat(3, "/proc/self/ns/user", O_RDONLY) = {fd}\n' for fd in range(count))
+
+    chain_of_births = "".join(f"{pid} fork() = {pid + 1}\n" for pid in range(300, 1800))
+    return [
+        "300 x\n" * 4096 + "200 fork() = 300\n" + "301 x\n" * 4096 + "200 fork() = 301\n", "300 x\n" * 4097,
+        chain_of_births + "200 fork() = 300\n", groups(1024), groups(1025), opens(65536) + "200 setns(65535, 0) = -1 EINVAL\n",
+        opens(65537), opens(32769) + "200 fork() = 300\n", "200 " + "x" * 1048572 + "\n200 setuid(0) = 0\n", "200 " + "x" * 1048573,
+    ]
+
+
 def read(path):
     with open(path, "rb") as file:
         return file.read()
@@ -199,17 +281,31 @@ def examples():
             yield read(world), read(log)
 
 
+def recorded():
+    """Each recording of strace in examples/, with the world beside it."""
+    logs = glob.glob(os.path.join(EXAMPLES, "*", "*.strace")) + glob.glob(os.path.join(EXAMPLES, "strace", "*", "log"))
+    for log in sorted(logs):
+        yield read(os.path.join(os.path.dirname(log), "world.toml")).replace(b'"script"', b'"strace"', 1), read(log)
+
+
 class Strangers:
     """The texts that are changed, and what is drawn of them."""
     LIMITS = 0.005      # how often one of the large texts is drawn
+    STRACE = 0.2        # how often a log of strace is, half of them by draw_strace_logs.py
 
     def __init__(self):
         built_in = [(EVERY_TABLE, EVERY_CALL)] * 3 + [(SMALL, SMALL_LOG), (SMALL[:SMALL.rindex("[[")], WEAK_LOG)]
         self.texts = [(world.encode(), log.encode()) for world, log in built_in] + list(examples())
+        of_strace = [(STRACE_TABLE, EVERY_STRACE_CALL)] * 15 + [(SMALL.replace("script", "strace"), SMALL_STRACE)]
+        self.large_strace = [log.encode() for log in strace_at_the_limits()]
+        self.of_strace = [(world.encode(), log.encode()) for world, log in of_strace] + list(recorded())
+        self.odd_strace = [log.encode("latin-1") for log in LOGS if len(log) < 20000]
         self.large = [(world.encode(), log.encode()) for world, log in at_the_limits()]
 
     def draw(self, rng):
         """A changed world and a changed log; one of the two may be as it was."""
+        if rng.random() < self.STRACE:
+            return self.draw_strace(rng)
         is_large, which = rng.random() < self.LIMITS, rng.random()
         world, log = rng.choice(self.large if is_large else self.texts)
         if which < 0.6:
@@ -217,6 +313,20 @@ class Strangers:
         if which >= 0.5 and not is_large:
             log = changed(rng, log, LOG_CHANGES)
         return world, log
+
+    def draw_strace(self, rng):
+        if rng.random() < self.LIMITS:
+            return DRAWN_WORLD.encode(), rng.choice(self.large_strace)
+        if rng.random() < 0.5:
+            log = "".join(line + "\n" for line in Draws(rng.randrange(1 << 32), "any").log())
+            return DRAWN_WORLD.encode(), log.encode("latin-1")
+        if rng.random() < 0.3:
+            log = rng.choice(self.odd_strace)
+            return DRAWN_WORLD.encode(), changed(rng, log, STRACE_CHANGES) if rng.random() < 0.5 else log
+        world, log = rng.choice(self.of_strace)
+        if rng.random() < 0.2:
+            world = changed(rng, world, WORLD_CHANGES)
+        return world, changed(rng, log, STRACE_CHANGES)
 
 
 # ---- bytes ---------------------------------------------------------------------------------------------------------
@@ -300,6 +410,13 @@ VALUES = NUMBERS + LISTS + [f'"{text}"' for text in TEXTS] + ["true", "false", "
 LOG_TOKENS = [token.encode() for token in NUMBERS + NAMES + PATHS + SETS + list(ERRORS) + ["=", ";", "#9", "#300", "#4294967296", "#"]]
 LOG_TOKENS += list(CALLS) + [b"\xff", b"\x0b", b"x\x00y", b"\x7f"]
 
+STRACE_TOKENS = [token.encode() for token in (
+    NUMBERS + list(ERRORS) + PATHS + ["<unfinished ...>", "<... read resumed>", '"0 \\60 1"', '"\\400"', '"deny"', '"uid_map"']
+    + ['"/proc/self/uid_map"', '"/proc/104/ns/user"'] + list("()[]{},|=?")
+    + "0 = -1 NULL ... 104 201 +++ --- exited superseded CLONE_FILES CLONE_NEWUSER flags=CLONE_NEWUSER O_WRONLY O_RDWR O_CLOEXEC"
+      " SIGCHLD AT_FDCWD CAP_KILL 1<<CAP_KILL SECBIT_NOROOT ENOSYS ESRCH fork clone3 setns dup write pwrite64 open close setuid32"
+      " exit_group".split())]
+
 # Values of the kind that a key asks for, not all of them good ones.
 IDS = ["0", "1000", "100000", "100005", "4294967294", "4294967295", "-1"]
 FLAGS, SETS_QUOTED = ["true", "false", "1"], [f'"{text}"' for text in ["all", "none", *SETS]]
@@ -321,6 +438,7 @@ PLAUSIBLE = {
 
 WORLD_TOKEN = re.compile(rb'"[^"\n]*"|[A-Za-z0-9_.+-]+|\s+|.', re.DOTALL)
 LOG_TOKEN = re.compile(rb"[^ \t\r\n]+|[ \t\r]+|\n")
+STRACE_TOKEN = re.compile(rb'"(?:[^"\\\n]|\\.)*"|<?[A-Za-z0-9_.+-]+>?|[ \t\r]+|.', re.DOTALL)
 
 
 def replaced(rng, tokens, some):
@@ -429,6 +547,7 @@ def line_of(rng, text):
 # ---- changes -------------------------------------------------------------------------------------------------------
 
 WORLD_CHANGES = (of_bytes, of_tokens(WORLD_TOKEN, SOME_VALUES), of_keys, of_kinds, of_kinds, of_kinds, of_rows)
+STRACE_CHANGES = (of_bytes, *[of_tokens(STRACE_TOKEN, STRACE_TOKENS)] * 3, of_lines, of_lines)
 LOG_CHANGES = (of_bytes, of_tokens(LOG_TOKEN, LOG_TOKENS), of_tokens(LOG_TOKEN, LOG_TOKENS), of_lines, line_of)
 
 

@@ -1,6 +1,7 @@
 //! Logs of a kind, drawn from a seed. Those of spaces and execve have the results that the machine gives.
 use crate::cred::Res;
-use crate::lines::{Call, Event, PLAIN};
+use crate::gen_strace;
+use crate::lines::{Call, Event, Lists, PLAIN};
 use crate::machine::Machine;
 use crate::map::Extent;
 use crate::print::print_event;
@@ -8,15 +9,15 @@ use crate::space::Side;
 use crate::world::World;
 use std::io::{self, BufWriter, Write};
 
-struct Draws(u64);
+pub struct Draws(u64);
 
 impl Draws {
-    fn below(&mut self, m: u64) -> u64 {
+    pub fn below(&mut self, m: u64) -> u64 {
         self.0 = self.0.wrapping_mul(6364136223846793005).wrapping_add(1442695040888963407);
         (self.0 >> 32) % m
     }
 
-    fn number(&mut self, first: u32, count: u32) -> u32 {
+    pub fn number(&mut self, first: u32, count: u32) -> u32 {
         first + self.below(u64::from(count)) as u32
     }
 }
@@ -31,12 +32,13 @@ struct Lines<'a, O: Write> {
 
 impl<O: Write> Lines<'_, O> {
     fn call(&mut self, pid: u32, call: Call, list: &[Extent], child: u32) -> io::Result<Res> {
-        let res = self.m.answer(self.w, pid, call, list, child).expect("a caller that lives");
+        let lists = Lists { map: list.to_vec(), ..Lists::default() };
+        let res = self.m.answer(self.w, pid, call, &lists, child).expect("a caller that lives");
         let e = Event { pid, call, res };
         let mut text = Vec::new();
-        print_event(&mut text, self.w, 1, &e, list)?;
+        print_event(&mut text, self.w, 1, &e, &lists)?;
         self.out.write_all(&text[3..])?; // without the number of the line
-        if let Err(stop) = self.m.step(self.w, &e, list) {
+        if let Err(stop) = self.m.step(self.w, &e, &lists) {
             panic!("{}", stop.1);
         }
         self.left = self.left.saturating_sub(1);
@@ -149,6 +151,10 @@ pub fn generate(kind: &str, n: u64, seed: u64, w: &World, m: Machine) -> io::Res
         }
         "spaces" => spaces(&mut Lines { out: &mut o, w, m, left: n }, &mut d)?,
         "execve" => execve(&mut Lines { out: &mut o, w, m, left: n }, &mut d)?,
+        _ if gen_strace::sizes(kind).is_some() => {
+            let sizes = gen_strace::sizes(kind).expect("it is one");
+            gen_strace::generate(&mut o, w, m, n, d, sizes)?;
+        }
         "comments" => {
             let c = "; ".to_string() + &"x".repeat(1021);
             for _ in 0..n {

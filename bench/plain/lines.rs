@@ -11,7 +11,7 @@ pub const CALLS: [&[u8]; 26] = [
     b"clone_user", b"unshare", b"setns", b"write_uid_map", b"write_gid_map", b"write_setgroups", b"execve", b"exit",
 ];
 
-const CAPS: [&str; 41] = [
+pub const CAPS: [&str; 41] = [
     "CHOWN", "DAC_OVERRIDE", "DAC_READ_SEARCH", "FOWNER", "FSETID", "KILL", "SETGID", "SETUID", "SETPCAP",
     "LINUX_IMMUTABLE", "NET_BIND_SERVICE", "NET_BROADCAST", "NET_ADMIN", "NET_RAW", "IPC_LOCK", "IPC_OWNER", "SYS_MODULE",
     "SYS_RAWIO", "SYS_CHROOT", "SYS_PTRACE", "SYS_PACCT", "SYS_ADMIN", "SYS_BOOT", "SYS_NICE", "SYS_RESOURCE", "SYS_TIME",
@@ -19,7 +19,7 @@ const CAPS: [&str; 41] = [
     "WAKE_ALARM", "BLOCK_SUSPEND", "AUDIT_READ", "PERFMON", "BPF", "CHECKPOINT_RESTORE",
 ];
 
-const ERRNOS: [&str; 17] = [
+pub const ERRNOS: [&str; 17] = [
     "EPERM", "EINVAL", "ENOSPC", "ENOMEM", "EAGAIN", "EINTR", "EFAULT", "EIO", "ENOENT", "EACCES", "ENOTDIR", "ELOOP",
     "ENAMETOOLONG", "E2BIG", "ENOEXEC", "ETXTBSY", "ELIBBAD",
 ];
@@ -32,6 +32,7 @@ pub fn cap_of(name: &[u8]) -> Option<usize> {
 /// The file of an execve; this one isn't declared.
 pub const PLAIN: u32 = u32::MAX;
 
+/// Those from SetReUid on stand in logs of strace alone.
 #[derive(Clone, Copy)]
 pub enum Call {
     SetResUid([u32; 3]),
@@ -45,6 +46,29 @@ pub enum Call {
     WriteSetgroups(u32, bool),
     Exec(u32),
     Exit,
+    SetReUid([u32; 2]),
+    SetFsUid(u32),
+    SetGid(u32),
+    SetReGid([u32; 2]),
+    SetResGid([u32; 3]),
+    SetFsGid(u32),
+    SetGroups, // the list stands beside the event
+    CapSet,    // the sets stand beside the event
+    BsetDrop(u32),
+    AmbRaise(u32),
+    AmbLower(u32),
+    AmbClear,
+    SecureBits(u32),
+    KeepCaps(u32),
+}
+
+/// What stands beside an event: the lines of a written map; the ids of setgroups; the sets of capset (effective, permitted,
+/// inheritable).
+#[derive(Default)]
+pub struct Lists {
+    pub map: Vec<Extent>,
+    pub groups: Vec<u32>,
+    pub sets: [u64; 3],
 }
 
 #[derive(Clone, Copy)]
@@ -55,7 +79,7 @@ pub struct Event {
 }
 
 pub fn number(t: &[u8]) -> Option<u32> {
-    if t.is_empty() || t.len() > 20 {
+    if t.is_empty() {
         return None;
     }
     let mut n: u64 = 0;
@@ -71,11 +95,11 @@ pub fn number(t: &[u8]) -> Option<u32> {
     Some(n as u32)
 }
 
-fn id(t: &[u8]) -> Option<u32> {
+pub fn id(t: &[u8]) -> Option<u32> {
     if t == b"-1" { Some(NO_ID) } else { number(t) }
 }
 
-fn pid_of(t: &[u8]) -> Option<u32> {
+pub fn pid_of(t: &[u8]) -> Option<u32> {
     number(t).filter(|p| (1..=4_194_304).contains(p))
 }
 
@@ -126,8 +150,8 @@ fn first_fault(i: usize) -> impl FnOnce() -> String {
     move || format!("argument {i}")
 }
 
-/// One script line; the list of a written map comes into `list`.
-pub fn parse(line: &[u8], w: &World, list: &mut Vec<Extent>) -> Result<Option<Event>, String> {
+/// One script line; the list of a written map comes into `lists`.
+pub fn parse(line: &[u8], w: &World, lists: &mut Lists) -> Result<Option<Event>, String> {
     let mut tok: [&[u8]; FEW] = [b""; FEW];
     let (mut n, mut equals, mut last): (usize, usize, &[u8]) = (0, usize::MAX, b"");
     for t in tokens(line) {
@@ -178,7 +202,7 @@ pub fn parse(line: &[u8], w: &World, list: &mut Vec<Extent>) -> Result<Option<Ev
         b"write_uid_map" | b"write_gid_map" => {
             let side = if name == b"write_uid_map" { Side::Users } else { Side::Groups };
             let target = space_of(a, w).ok_or_else(first_fault(1))?;
-            extents(line, args - 1, list)?;
+            extents(line, args - 1, &mut lists.map)?;
             Call::WriteMap(side, target)
         }
         b"write_setgroups" => {

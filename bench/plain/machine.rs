@@ -1,7 +1,6 @@
 //! The machine: processes and spaces, and what becomes of an event.
 use crate::cred::{Caller, Cred, Res};
-use crate::lines::{Call, Event, PLAIN};
-use crate::map::Extent;
+use crate::lines::{Call, Event, Lists, PLAIN};
 use crate::procs::{Proc, Procs};
 use crate::space::{made, may_join, may_say, written, Member, Side, Space};
 use crate::world::World;
@@ -33,11 +32,13 @@ enum Change {
     Map(Side, u32, crate::map::Map),
     Word(u32, bool),
     Exit,
+    Fs(u32, Cred), // and the id from before
+    Groups(Rc<[u32]>),
 }
 
 fn is_outside(call: Call, error: &str) -> bool {
     let more = match call {
-        Call::Exit => return false,
+        Call::Exit | Call::SetFsUid(_) | Call::SetFsGid(_) => return false,
         Call::Unshare | Call::CloneUser | Call::SetNs(_) => error == "EINVAL",
         Call::Exec(_) => OF_EXEC.contains(&error),
         _ => false,
@@ -50,7 +51,7 @@ fn impossible(why: &str) -> Stop {
 }
 
 /// What the rules give a caller, and what that changes. A birth's own result is told elsewhere.
-fn rule(w: &World, spaces: &[Space], p: &Proc, call: Call, list: &[Extent]) -> Result<Change, Res> {
+fn rule(w: &World, spaces: &[Space], p: &Proc, call: Call, lists: &Lists) -> Result<Change, Res> {
     let own = &spaces[p.space as usize];
     let who = Member { space: p.space, cred: &p.cred };
     let done = |res: Res, change: Change| if res == Res::Done { Ok(change) } else { Err(res) };
@@ -63,7 +64,7 @@ fn rule(w: &World, spaces: &[Space], p: &Proc, call: Call, list: &[Extent]) -> R
         Call::Unshare => made(spaces, who).map(Change::Space),
         Call::SetNs(target) => done(may_join(spaces, who, target), Change::Join(target)),
         Call::WriteMap(side, target) => {
-            written(spaces, who, side, target, list).map(|map| Change::Map(side, target, map))
+            written(spaces, who, side, target, &lists.map).map(|map| Change::Map(side, target, map))
         }
         Call::WriteSetgroups(target, deny) => done(may_say(spaces, who, target, deny), Change::Word(target, deny)),
         Call::Exec(row) => {
@@ -73,6 +74,26 @@ fn rule(w: &World, spaces: &[Space], p: &Proc, call: Call, list: &[Extent]) -> R
             caller.exec(file).map(Change::Caller)
         }
         Call::Exit => Ok(Change::Exit),
+        Call::SetReUid(v) => p.cred.setreuid(own, v).map(Change::Caller),
+        Call::SetGid(k) => p.cred.setgid(own, k).map(Change::Caller),
+        Call::SetReGid(v) => p.cred.setregid(own, v).map(Change::Caller),
+        Call::SetResGid(v) => p.cred.setresgid(own, v).map(Change::Caller),
+        Call::SetFsUid(k) => {
+            let (was, cred) = p.cred.setfsuid(own, k);
+            Ok(Change::Fs(was, cred))
+        }
+        Call::SetFsGid(k) => {
+            let (was, cred) = p.cred.setfsgid(own, k);
+            Ok(Change::Fs(was, cred))
+        }
+        Call::SetGroups => p.cred.setgroups(own, &lists.groups).map(|groups| Change::Groups(groups.into())),
+        Call::CapSet => p.cred.capset(lists.sets).map(Change::Caller),
+        Call::BsetDrop(k) => p.cred.bset_drop(k).map(Change::Caller),
+        Call::AmbRaise(k) => p.cred.amb_raise(k).map(Change::Caller),
+        Call::AmbLower(k) => p.cred.amb_lower(k).map(Change::Caller),
+        Call::AmbClear => Ok(Change::Caller(Cred { amb: 0, ..p.cred })),
+        Call::SecureBits(bits) => p.cred.securebits(bits).map(Change::Caller),
+        Call::KeepCaps(n) => p.cred.keepcaps(n).map(Change::Caller),
     }
 }
 
@@ -86,16 +107,17 @@ impl Machine {
     }
 
     /// The result of a call, a birth having this child; nothing changes.
-    pub fn answer(&self, w: &World, pid: u32, call: Call, list: &[Extent], child: u32) -> Option<Res> {
-        Some(match rule(w, &self.spaces, self.procs.get(pid)?, call, list) {
+    pub fn answer(&self, w: &World, pid: u32, call: Call, lists: &Lists, child: u32) -> Option<Res> {
+        Some(match rule(w, &self.spaces, self.procs.get(pid)?, call, lists) {
             Ok(Change::Birth(_)) => Res::Child(child),
+            Ok(Change::Fs(was, _)) => Res::Id(was),
             Ok(_) => Res::Done,
             Err(res) => res,
         })
     }
 
     /// What becomes of an event: a step, or the reason why it is none.
-    pub fn step(&mut self, w: &World, e: &Event, list: &[Extent]) -> Result<(), Stop> {
+    pub fn step(&mut self, w: &World, e: &Event, lists: &Lists) -> Result<(), Stop> {
         if let Res::Child(c) = e.res {
             if self.procs.has(e.pid) && self.procs.has(c) {
                 return Err(impossible("pid in use"));
@@ -112,17 +134,22 @@ impl Machine {
                 return Ok(());
             }
         }
-        match (rule(w, &self.spaces, p, e.call, list), e.res) {
+        match (rule(w, &self.spaces, p, e.call, lists), e.res) {
             (Ok(Change::Caller(cred)), Res::Done) => {
                 p.cred = cred;
                 Ok(())
             }
             (Ok(Change::Birth(space)), Res::Child(c)) => self.birth(e.pid, c, space),
-            (Ok(change), Res::Done) if !matches!(change, Change::Birth(_)) => self.apply(e.pid, change),
+            (Ok(Change::Fs(was, cred)), Res::Id(told)) if was == told => {
+                p.cred = cred;
+                Ok(())
+            }
+            (Ok(change), Res::Done) if !matches!(change, Change::Birth(_) | Change::Fs(..)) => self.apply(e.pid, change),
             (Err(res), told) if res == told => Ok(()),
             (given, _) => {
                 let give = match given {
                     Ok(Change::Birth(_)) => Res::Child(self.least_free()),
+                    Ok(Change::Fs(was, _)) => Res::Id(was),
                     Ok(_) => Res::Done,
                     Err(res) => res,
                 };
@@ -164,7 +191,8 @@ impl Machine {
             Change::Map(Side::Groups, target, map) => self.spaces[target as usize].gids = Some(map),
             Change::Word(target, deny) => self.spaces[target as usize].deny = deny,
             Change::Exit => self.procs.remove(pid),
-            Change::Caller(_) | Change::Birth(_) => (),
+            Change::Groups(groups) => self.with(pid, |p| p.groups = groups),
+            Change::Caller(_) | Change::Birth(_) | Change::Fs(..) => (),
         }
         Ok(())
     }
@@ -179,7 +207,7 @@ impl Machine {
 pub fn res_text(r: Res) -> String {
     match r {
         Res::Done => "0".into(),
-        Res::Child(p) => p.to_string(),
+        Res::Child(p) | Res::Id(p) => p.to_string(),
         Res::Err(e) => e.into(),
     }
 }

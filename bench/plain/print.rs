@@ -1,8 +1,8 @@
 //! The report's lines, twice: by the formatting machinery, and by hand into a buffer of bytes.
 use crate::cred::Res;
-use crate::lines::{Call, Event, PLAIN};
+use crate::lines::{Call, Event, Lists, CAPS, PLAIN};
 use crate::machine::res_text;
-use crate::map::{Extent, NO_ID};
+use crate::map::NO_ID;
 use crate::procs::Proc;
 use crate::space::Side;
 use crate::world::World;
@@ -12,6 +12,10 @@ use std::io::{self, Write};
 
 fn id_text(k: u32) -> String {
     if k == NO_ID { "-1".into() } else { k.to_string() }
+}
+
+fn cap_text(k: u32) -> String {
+    CAPS.get(k as usize).map_or_else(|| k.to_string(), |name| format!("CAP_{name}"))
 }
 
 fn space_text(w: &World, s: u32) -> String {
@@ -33,7 +37,7 @@ pub fn print_cred(out: &mut impl Write, w: &World, pid: u32, p: &Proc) -> io::Re
     )
 }
 
-pub fn print_event(out: &mut impl Write, w: &World, line: u64, e: &Event, list: &[Extent]) -> io::Result<()> {
+pub fn print_event(out: &mut impl Write, w: &World, line: u64, e: &Event, lists: &Lists) -> io::Result<()> {
     write!(out, "{line}: {} ", e.pid)?;
     match e.call {
         Call::SetResUid(v) => write!(out, "setresuid {} {} {}", id_text(v[0]), id_text(v[1]), id_text(v[2]))?,
@@ -45,7 +49,7 @@ pub fn print_event(out: &mut impl Write, w: &World, line: u64, e: &Event, list: 
         Call::SetNs(s) => write!(out, "setns {}", space_text(w, s))?,
         Call::WriteMap(side, s) => {
             write!(out, "write_{}id_map {}", if side == Side::Users { "u" } else { "g" }, space_text(w, s))?;
-            for x in list {
+            for x in &lists.map {
                 write!(out, " {} {} {}", x.inside, x.outside, x.length)?;
             }
         }
@@ -54,6 +58,28 @@ pub fn print_event(out: &mut impl Write, w: &World, line: u64, e: &Event, list: 
         }
         Call::Exec(row) => write!(out, "execve {}", String::from_utf8_lossy(w.paths.get(row).unwrap_or(b"-")))?,
         Call::Exit => write!(out, "exit")?,
+        Call::SetReUid(v) => write!(out, "setreuid {} {}", id_text(v[0]), id_text(v[1]))?,
+        Call::SetFsUid(k) => write!(out, "setfsuid {}", id_text(k))?,
+        Call::SetGid(k) => write!(out, "setgid {}", id_text(k))?,
+        Call::SetReGid(v) => write!(out, "setregid {} {}", id_text(v[0]), id_text(v[1]))?,
+        Call::SetResGid(v) => write!(out, "setresgid {} {} {}", id_text(v[0]), id_text(v[1]), id_text(v[2]))?,
+        Call::SetFsGid(k) => write!(out, "setfsgid {}", id_text(k))?,
+        Call::SetGroups => {
+            write!(out, "setgroups")?;
+            for k in &lists.groups {
+                write!(out, " {}", id_text(*k))?;
+            }
+        }
+        Call::CapSet => {
+            let [eff, prm, inh] = lists.sets;
+            write!(out, "capset {eff:016x} {prm:016x} {inh:016x}")?;
+        }
+        Call::BsetDrop(k) => write!(out, "bset_drop {}", cap_text(k))?,
+        Call::AmbRaise(k) => write!(out, "amb_raise {}", cap_text(k))?,
+        Call::AmbLower(k) => write!(out, "amb_lower {}", cap_text(k))?,
+        Call::AmbClear => write!(out, "amb_clear")?,
+        Call::SecureBits(n) => write!(out, "securebits {n}")?,
+        Call::KeepCaps(n) => write!(out, "keepcaps {n}")?,
     }
     writeln!(out, " = {}", res_text(e.res))
 }
@@ -96,6 +122,24 @@ fn put_space(o: &mut Vec<u8>, w: &World, s: u32) {
 fn put_call(o: &mut Vec<u8>, w: &World, name: &[u8], s: u32) {
     o.extend_from_slice(name);
     put_space(o, w, s);
+}
+
+fn put_ids(o: &mut Vec<u8>, name: &[u8], ids: &[u32]) {
+    o.extend_from_slice(name);
+    for k in ids {
+        put_id(o, *k);
+    }
+}
+
+fn put_cap(o: &mut Vec<u8>, name: &[u8], k: u32) {
+    o.extend_from_slice(name);
+    match CAPS.get(k as usize) {
+        Some(cap) => {
+            o.extend_from_slice(b"CAP_");
+            o.extend_from_slice(cap.as_bytes());
+        }
+        None => put_dec(o, u64::from(k)),
+    }
 }
 
 fn put_hex16(o: &mut Vec<u8>, x: u64) {
@@ -141,7 +185,7 @@ pub fn put_cred(o: &mut Vec<u8>, w: &World, pid: u32, p: &Proc) {
     o.extend_from_slice(if c.nnp { b" nnp=1\n" } else { b" nnp=0\n" });
 }
 
-pub fn put_event(o: &mut Vec<u8>, w: &World, line: u64, e: &Event, list: &[Extent]) {
+pub fn put_event(o: &mut Vec<u8>, w: &World, line: u64, e: &Event, lists: &Lists) {
     put_dec(o, line);
     o.push(b':');
     put_number(o, e.pid);
@@ -166,7 +210,7 @@ pub fn put_event(o: &mut Vec<u8>, w: &World, line: u64, e: &Event, list: &[Exten
         Call::SetNs(s) => put_call(o, w, b" setns ", s),
         Call::WriteMap(side, s) => {
             put_call(o, w, if side == Side::Users { b" write_uid_map " } else { b" write_gid_map " }, s);
-            for x in list {
+            for x in &lists.map {
                 for k in [x.inside, x.outside, x.length] {
                     put_number(o, k);
                 }
@@ -181,11 +225,37 @@ pub fn put_event(o: &mut Vec<u8>, w: &World, line: u64, e: &Event, list: &[Exten
             o.extend_from_slice(if row == PLAIN { b"-" } else { w.paths.get(row).unwrap_or(b"-") });
         }
         Call::Exit => o.extend_from_slice(b" exit"),
+        Call::SetReUid(v) => put_ids(o, b" setreuid", &v),
+        Call::SetFsUid(k) => put_ids(o, b" setfsuid", &[k]),
+        Call::SetGid(k) => put_ids(o, b" setgid", &[k]),
+        Call::SetReGid(v) => put_ids(o, b" setregid", &v),
+        Call::SetResGid(v) => put_ids(o, b" setresgid", &v),
+        Call::SetFsGid(k) => put_ids(o, b" setfsgid", &[k]),
+        Call::SetGroups => put_ids(o, b" setgroups", &lists.groups),
+        Call::CapSet => {
+            o.extend_from_slice(b" capset");
+            for set in lists.sets {
+                o.push(b' ');
+                put_hex16(o, set);
+            }
+        }
+        Call::BsetDrop(k) => put_cap(o, b" bset_drop ", k),
+        Call::AmbRaise(k) => put_cap(o, b" amb_raise ", k),
+        Call::AmbLower(k) => put_cap(o, b" amb_lower ", k),
+        Call::AmbClear => o.extend_from_slice(b" amb_clear"),
+        Call::SecureBits(n) => {
+            o.extend_from_slice(b" securebits");
+            put_number(o, n);
+        }
+        Call::KeepCaps(n) => {
+            o.extend_from_slice(b" keepcaps");
+            put_number(o, n);
+        }
     }
     o.extend_from_slice(b" = ");
     match e.res {
         Res::Done => o.push(b'0'),
-        Res::Child(p) => put_dec(o, u64::from(p)),
+        Res::Child(p) | Res::Id(p) => put_dec(o, u64::from(p)),
         Res::Err(x) => o.extend_from_slice(x.as_bytes()),
     }
     o.push(b'\n');

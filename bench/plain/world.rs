@@ -17,6 +17,7 @@ pub struct World {
     pub files: Vec<File>,
     #[allow(dead_code)] // it binds no log
     pub filter: u32,
+    pub strace: bool, // the form of its logs
 }
 
 // ---- values: each reader takes its value off the front ------------------------
@@ -227,7 +228,7 @@ struct Reader {
     paths: Names,
     files: Vec<File>,
     filter: u32,
-    script: bool,
+    form: Option<bool>, // whether logs have the form strace
     list: Vec<Extent>,
 }
 
@@ -240,7 +241,11 @@ impl Reader {
     /// One key of the row.
     fn key<'a>(&mut self, row: &mut Row<'a>, key: &[u8], t: &mut Text<'a>) -> Option<()> {
         match row {
-            Row::Whole if key == b"log" => self.script = t.string()? == b"script",
+            Row::Whole if key == b"log" => {
+                let word = t.string()?;
+                self.form = Some(word == b"strace").filter(|strace| *strace || word == b"script");
+                self.form?;
+            }
             Row::Filter if key == b"exclude" => {
                 let mut set = 0;
                 t.array(|t| {
@@ -418,7 +423,7 @@ pub fn read(text: &[u8]) -> Option<(World, Machine)> {
         paths: Names::default(),
         files: Vec::new(),
         filter: 0,
-        script: false,
+        form: None,
         list: Vec::new(),
     };
     let mut row = Row::Whole;
@@ -442,6 +447,6 @@ pub fn read(text: &[u8]) -> Option<(World, Machine)> {
         }
     }
     r.end(row)?;
-    let world = World { spaces: r.spaces, paths: r.paths, files: r.files, filter: r.filter };
-    r.script.then_some((world, r.machine))
+    let world = World { spaces: r.spaces, paths: r.paths, files: r.files, filter: r.filter, strace: r.form? };
+    Some((world, r.machine))
 }

@@ -1,0 +1,694 @@
+"""A plain reader of logs of strace -f, written from the rules of docs/STRACE.md alone: a second writing of them, by which
+the program's own reading can be judged. Nothing is proved of it.
+
+    python3 tools/plain_strace.py WORLD LOG
+
+It prints each event as `LINE: EVENT`, the event in the script form, and then how the reading ends: `end`, or
+`bad log line LINE: FAULT`, or `limit NAME NUMBER`. Of the world it takes the processes with their spaces, the names of the
+spaces, and the paths of the files; it looks for no fault in the world.
+"""
+import re
+import sys
+import tomllib
+from dataclasses import dataclass
+
+BLANKS = " \t\r"
+GREATEST = 4294967295       # the greatest number, and -1 as an id
+LAST_PID = 4194304
+MOST_BYTES, MOST_GROUPS, MOST_HELD, MOST_DESCRIPTORS = 1048576, 1024, 4096, 65536
+ERRORS = ("EPERM EINVAL ENOSPC ENOMEM EAGAIN EINTR EFAULT EIO ENOENT EACCES ENOTDIR ELOOP ENAMETOOLONG E2BIG ENOEXEC ETXTBSY"
+          " ELIBBAD").split()
+CAPABILITIES = (
+    "CHOWN DAC_OVERRIDE DAC_READ_SEARCH FOWNER FSETID KILL SETGID SETUID SETPCAP LINUX_IMMUTABLE NET_BIND_SERVICE"
+    " NET_BROADCAST NET_ADMIN NET_RAW IPC_LOCK IPC_OWNER SYS_MODULE SYS_RAWIO SYS_CHROOT SYS_PTRACE SYS_PACCT SYS_ADMIN"
+    " SYS_BOOT SYS_NICE SYS_RESOURCE SYS_TIME SYS_TTY_CONFIG MKNOD LEASE AUDIT_WRITE AUDIT_CONTROL SETFCAP MAC_OVERRIDE"
+    " MAC_ADMIN SYSLOG WAKE_ALARM BLOCK_SUSPEND AUDIT_READ PERFMON BPF CHECKPOINT_RESTORE").split()
+SECUREBITS = {"NOROOT": 0x01, "NO_SETUID_FIXUP": 0x04, "KEEP_CAPS": 0x10, "NO_CAP_AMBIENT_RAISE": 0x40}
+ID_CALLS = {"setuid": 1, "setreuid": 2, "setresuid": 3, "setfsuid": 1, "setgid": 1, "setregid": 2, "setresgid": 3, "setfsgid": 1}
+BIRTHS = ("fork", "vfork", "clone", "clone3")
+LISTED = (*ID_CALLS, "setgroups", "capset", "prctl", *BIRTHS, "unshare", "setns", "execve", "execveat", "open", "openat",
+          "creat", "close", "dup", "dup2", "dup3", "fcntl", "write", "pwrite64")
+ESCAPES = {"n": "\n", "t": "\t", "v": "\v", "f": "\f", "r": "\r", "\\": "\\", '"': '"'}
+MAP_FILES = ("uid_map", "gid_map", "setgroups")
+
+
+class Fault(Exception):
+    """A line has the fault of this word."""
+
+
+class Limit(Exception):
+    """The limit of this name is exceeded."""
+
+
+class Stop(Exception):
+    """The reading ends so."""
+
+
+# ---- single words ----------------------------------------------------------------------------------------------------
+
+
+def decimal(text):
+    """The number that digits spell; all past the greatest count as one."""
+    digits = text.lstrip("0")
+    return min(int(digits or "0"), GREATEST + 1) if len(digits) <= 10 else GREATEST + 1
+
+
+def number(text):
+    """A decimal number within 32 bits, or None."""
+    return decimal(text) if re.fullmatch("[0-9]+", text) and decimal(text) <= GREATEST else None
+
+
+def identifier(text):
+    return GREATEST if text == "-1" else number(text)
+
+
+def pid_of(text):
+    n = number(text)
+    return n if n is not None and 1 <= n <= LAST_PID else None
+
+
+def hexadecimal(text):
+    good = re.fullmatch("0x[0-9a-fA-F]+", text) and int(text, 16) <= GREATEST
+    return int(text, 16) if good else None
+
+
+def capability(text):
+    """The capability that an argument names; a comment after it is passed over."""
+    comment = re.fullmatch(r"(.*?)/\*(.*?)\*/", text, re.S)
+    if comment and "*/" not in comment.group(2) and "/*" not in comment.group(1):
+        text = comment.group(1).strip(BLANKS)
+    if text.startswith("CAP_") and text[4:] in CAPABILITIES:
+        return CAPABILITIES.index(text[4:])
+    n = number(text)
+    return hexadecimal(text) if n is None else n
+
+
+def mask(text):
+    """A set of capabilities, or None."""
+    bits = 0
+    for term in text.split("|"):
+        term = term.strip(BLANKS)
+        if term == "0":
+            continue
+        if not term.startswith("1<<CAP_") or term[7:] not in CAPABILITIES:
+            return None
+        bits |= 1 << CAPABILITIES.index(term[7:])
+    return bits
+
+
+def securebits(text):
+    if text == "0":
+        return 0
+    if hexadecimal(text) is not None:
+        return hexadecimal(text)
+    bits = 0
+    for word in text.split("|"):
+        word = word.strip(BLANKS)
+        locked = word.endswith("_LOCKED")
+        name = word[:-7] if locked else word
+        if not name.startswith("SECBIT_") or name[7:] not in SECUREBITS:
+            return None
+        bits |= SECUREBITS[name[7:]] << locked
+    return bits
+
+
+def words(text):
+    return [word.strip(BLANKS) for word in text.split("|")]
+
+
+def member(name, text):
+    """VALUE of a text NAME=VALUE, or None."""
+    found = re.fullmatch(f"{name}[{BLANKS}]*=[{BLANKS}]*(.*)", text, re.S)
+    return found.group(1) if found else None
+
+
+def quoted(text):
+    """A quoted text: ("whole", its bytes), ("cut", None), or ("none", None)."""
+    none = ("none", None)
+    if not text.startswith('"'):
+        return none
+    out, i = [], 1
+    while True:
+        if i >= len(text):
+            return none
+        c = text[i]
+        if c == '"':
+            break
+        if c != "\\":
+            out.append(c)
+            i += 1
+            continue
+        octal = re.match("[0-7]{1,3}", text[i + 1:])
+        if octal:
+            if int(octal.group(), 8) > 255:
+                return none
+            out.append(chr(int(octal.group(), 8)))
+            i += 1 + octal.end()
+        elif text[i + 1:i + 2] in ESCAPES and i + 1 < len(text):
+            out.append(ESCAPES[text[i + 1]])
+            i += 2
+        else:
+            return none
+    tail = text[i + 1:].strip(BLANKS)
+    return ("whole", "".join(out)) if tail == "" else ("cut", None) if tail == "..." else none
+
+
+# ---- the parts of a call -----------------------------------------------------------------------------------------------
+
+
+def call_name(text):
+    """The name at the front, a final 32 dropped."""
+    name = re.match("[A-Za-z0-9_]*", text).group()
+    return name[:-2] if name.endswith("32") else name
+
+
+def shape(text):
+    """What stands between the parentheses, and the result."""
+    rest = text[re.match("[A-Za-z0-9_]*", text).end():].lstrip(BLANKS)
+    if not rest.startswith("("):
+        raise Fault("shape")
+    inner, best, closing, in_quotes, i = rest[1:], None, None, False, 0
+    while i < len(inner):
+        c = inner[i]
+        if in_quotes:
+            if c == "\\":
+                i += 1
+            elif c == '"':
+                in_quotes = False
+        elif c == '"':
+            in_quotes, closing = True, None
+        elif c == ")":
+            closing = i
+        elif c == "=" and closing is not None:
+            best, closing = (closing, i), None
+        elif c not in BLANKS:
+            closing = None
+        i += 1
+    if best is None:
+        raise Fault("shape")
+    return inner[:best[0]], inner[best[1] + 1:].strip(BLANKS)
+
+
+def pieces(text):
+    """The pieces between commas outside of brackets and quotes."""
+    text = text.strip(BLANKS)
+    if text == "":
+        return []
+    found, piece, depth, in_quotes, i = [], "", 0, False, 0
+    while i < len(text):
+        c = text[i]
+        if in_quotes:
+            if c == "\\":
+                piece += text[i:i + 2]
+                i += 2
+                continue
+            in_quotes = c != '"'
+        elif c == '"':
+            in_quotes = True
+        elif c in "([{":
+            depth += 1
+        elif c in ")]}":
+            depth = max(0, depth - 1)
+        elif c == "," and depth == 0:
+            found.append(piece.strip(BLANKS))
+            piece = ""
+            i += 1
+            continue
+        piece += c
+        i += 1
+    return found + [piece.strip(BLANKS)]
+
+
+def inside_first(text):
+    """What stands between a bracket at the front and the one that closes it, or all after it."""
+    depth, in_quotes, i = 0, False, 0
+    while i < len(text):
+        c = text[i]
+        if in_quotes:
+            if c == "\\":
+                i += 1
+            elif c == '"':
+                in_quotes = False
+        elif c == '"':
+            in_quotes = True
+        elif c in "([{":
+            depth += 1
+        elif c in ")]}":
+            depth -= 1
+            if depth == 0:
+                return text[1:i]
+        i += 1
+    return text[1:]
+
+
+def flags_of(arguments):
+    """The words of the first flags=.. among arguments, or among the members of one in braces."""
+    for argument in arguments:
+        found = member("flags", argument)
+        if found is None and argument.startswith("{"):
+            inner = [member("flags", m) for m in pieces(inside_first(argument))]
+            found = next((m for m in inner if m is not None), None)
+        if found is not None:
+            return words(found)
+    return []
+
+
+NO_RETURN, NUMBER, ERROR, OTHER = range(4)
+
+
+def outcome_of(text):
+    """What a result is: its kind, and the number or the error's name."""
+    if text.startswith("?"):
+        return NO_RETURN, None
+    if re.fullmatch("[0-9]+", text):
+        return NUMBER, decimal(text)
+    failed = re.match(f"-1[{BLANKS}]+([A-Za-z0-9_]*)", text)
+    if failed and failed.group(1) == "ENOSYS":
+        return NO_RETURN, None
+    return (ERROR, failed.group(1)) if failed and failed.group(1) in ERRORS else (OTHER, None)
+
+
+# ---- the reader --------------------------------------------------------------------------------------------------------
+
+
+@dataclass
+class Task:
+    space: int
+    shares: bool = False    # born with CLONE_FILES, or gave such a birth
+
+
+@dataclass
+class Descriptor:
+    file: str
+    space: int
+    until_exec: bool
+
+
+class Reader:
+    def __init__(self, world):
+        names = [row["name"] for row in world.get("space", [])]
+        numbers = {"init": 0, **{name: k + 1 for k, name in enumerate(names)}}
+        self.names = dict((k, name) for name, k in numbers.items())
+        self.files = {row["path"].encode().decode("latin-1") for row in world.get("file", [])}
+        self.tasks = {row["pid"]: Task(numbers[row.get("space", "init")]) for row in world.get("process", [])}
+        self.next_space = len(names) + 1
+        self.kept, self.held, self.descriptors = {}, [], {}
+        self.events, self.births = [], []
+
+    # ---- lines
+
+    def feed(self, n, line):
+        """Line n comes."""
+        if len(line) > MOST_BYTES:
+            raise Stop("limit line 1048576")
+        line = line.rstrip(BLANKS)
+        if line == "":
+            return
+        word = re.match(f"[^{BLANKS}]*", line).group()
+        pid = pid_of(word)
+        if pid is None:
+            raise Stop(f"bad log line {n}: pid")
+        body = line[len(word):].lstrip(BLANKS)
+        if pid in self.tasks:
+            self.read_on(n, pid, body)
+        else:
+            self.held.append((n, pid, body))
+            if len(self.held) > MOST_HELD:
+                raise Stop(f"limit held {MOST_HELD}")
+
+    def read_on(self, n, pid, body):
+        """A line is read, and then the held lines of the child that it may have given birth to."""
+        pids = [self.read(n, pid, body)]
+        while pids:
+            child = pids[-1] if pids[-1] in self.tasks else None
+            place = next((k for k, line in enumerate(self.held) if line[1] == child), None)
+            if place is None:
+                pids.pop()
+            else:
+                pids.append(self.read(*self.held.pop(place)))
+
+    def finish(self):
+        self.kept = {}
+        while self.held:
+            before = len(self.events)
+            self.read(*self.held.pop(0))
+            if len(self.events) > before:
+                return
+
+    def read(self, n, pid, body):
+        """A line is read now; a child that it gives birth to is answered."""
+        self.child = None
+        try:
+            self.body(n, pid, body)
+        except Fault as fault:
+            raise Stop(f"bad log line {n}: {fault}")
+        except Limit as limit:
+            raise Stop(f"limit {limit}")
+        return self.child
+
+    # ---- bodies
+
+    def body(self, n, pid, body):
+        if body.startswith("---"):
+            return
+        if body.startswith("+++"):
+            return self.end_mark(n, pid, body)
+        if body.endswith("<unfinished ...>"):
+            if pid in self.kept:
+                raise Fault("unfinished")
+            self.kept[pid] = body[:-len("<unfinished ...>")]
+            return
+        resumed = re.fullmatch(f"<\\.\\.\\.[{BLANKS}]*([^{BLANKS}]+)[{BLANKS}]+resumed>(.*)", body, re.S)
+        if resumed:
+            name = resumed.group(1)
+            name = name[:-2] if name.endswith("32") else name
+            if pid not in self.kept or call_name(self.kept[pid]) != name:
+                raise Fault("unfinished")
+            body = self.kept.pop(pid) + resumed.group(2)
+        self.call(n, pid, body)
+
+    def end_mark(self, n, pid, body):
+        b = f"[{BLANKS}]"
+        if re.fullmatch(rf"\+\+\+{b}*superseded({b}.*)?\+\+\+", body, re.S):
+            raise Fault("superseded")
+        if re.fullmatch(rf"\+\+\+{b}*(exited{b}+with{b}+[0-9]+{b}*|killed{b}+by({b}.*)?)\+\+\+", body, re.S):
+            self.event(n, pid, "exit = 0")
+            del self.tasks[pid]
+            self.kept.pop(pid, None)
+            self.descriptors = {key: d for key, d in self.descriptors.items() if key[0] != pid}
+
+    def event(self, n, pid, text):
+        self.events.append(f"{n}: {pid} {text}")
+        self.tasks.setdefault(pid, Task(0))
+
+    # ---- calls
+
+    def call(self, n, pid, text):
+        name = call_name(text)
+        if name not in LISTED:
+            return
+        inside, result = shape(text)
+        kind, value = outcome = outcome_of(result)
+        if kind == NO_RETURN:
+            return
+        arguments = pieces(inside)
+        if name in ID_CALLS:
+            self.ids(n, pid, name, arguments, outcome)
+        elif name in BIRTHS:
+            self.birth(n, pid, flags_of(arguments), outcome)
+        else:
+            handler = {"dup3": "dup2", "pwrite64": "write"}.get(name, name)
+            getattr(self, "call_" + handler)(n, pid, arguments, outcome)
+
+    @staticmethod
+    def need(arguments, k, read=lambda text: text):
+        """The argument of that number as what it is read for, or its fault."""
+        value = read(arguments[k - 1]) if len(arguments) >= k else None
+        if value is None:
+            raise Fault(f"argument {k}")
+        return value
+
+    @staticmethod
+    def plain(outcome):
+        """The result of a call that answers 0 or fails, as it is written."""
+        kind, value = outcome
+        if kind == NUMBER and value == 0:
+            return "0"
+        if kind == ERROR:
+            return value
+        raise Fault("result")
+
+    @staticmethod
+    def id_text(value):
+        return "-1" if value == GREATEST else str(value)
+
+    def ids(self, n, pid, name, arguments, outcome):
+        if name in ("setfsuid", "setfsgid"):
+            if outcome[0] != NUMBER or outcome[1] > GREATEST:
+                raise Fault("result")
+            result = str(outcome[1])
+        else:
+            result = self.plain(outcome)
+        values = [self.need(arguments, k + 1, identifier) for k in range(ID_CALLS[name])]
+        self.event(n, pid, f"{name} {' '.join(map(self.id_text, values))} = {result}")
+
+    def call_setgroups(self, n, pid, arguments, outcome):
+        result = self.plain(outcome)
+        count = self.need(arguments, 1, number)
+
+        def groups(text):
+            if text == "NULL":
+                ids = []
+            elif re.fullmatch(r"\[.*\]", text, re.S):
+                ids = [identifier(piece) for piece in pieces(text[1:-1])]
+            else:
+                return None
+            return ids if len(ids) == count and None not in ids else None
+
+        ids = self.need(arguments, 2, groups)
+        if len(ids) > MOST_GROUPS:
+            raise Limit(f"groups {MOST_GROUPS}")
+        self.event(n, pid, " ".join(["setgroups", *map(self.id_text, ids)]) + f" = {result}")
+
+    def call_capset(self, n, pid, arguments, outcome):
+        result = self.plain(outcome)
+
+        def header(text):
+            parts = pieces(text[1:-1]) if re.fullmatch(r"\{.*\}", text, re.S) else []
+            if len(parts) != 2 or not member("version", parts[0]):
+                return None
+            whose = number(member("pid", parts[1]) or "")
+            return True if whose in (0, pid) else None
+
+        def sets(text):
+            parts = pieces(text[1:-1]) if re.fullmatch(r"\{.*\}", text, re.S) else []
+            if len(parts) != 3:
+                return None
+            texts = [member(name, part) for name, part in zip(("effective", "permitted", "inheritable"), parts)]
+            masks = [None if t is None else mask(t) for t in texts]
+            return None if None in masks else masks
+
+        self.need(arguments, 1, header)
+        masks = self.need(arguments, 2, sets)
+        self.event(n, pid, " ".join(["capset", *(f"{m:016x}" for m in masks)]) + f" = {result}")
+
+    def call_prctl(self, n, pid, arguments, outcome):
+        option = self.need(arguments, 1)
+        numbers = {"PR_SET_KEEPCAPS": ("keepcaps", number), "PR_SET_NO_NEW_PRIVS": ("no_new_privs", number),
+                   "PR_SET_SECUREBITS": ("securebits", securebits)}
+        if option in numbers:
+            name, read = numbers[option]
+            result = self.plain(outcome)
+            self.event(n, pid, f"{name} {self.need(arguments, 2, read)} = {result}")
+        elif option == "PR_CAPBSET_DROP":
+            result = self.plain(outcome)
+            self.event(n, pid, f"bset_drop {self.cap_text(self.need(arguments, 2, capability))} = {result}")
+        elif option == "PR_CAP_AMBIENT":
+            what = self.need(arguments, 2)
+            if what in ("PR_CAP_AMBIENT_RAISE", "PR_CAP_AMBIENT_LOWER"):
+                result = self.plain(outcome)
+                name = "amb_raise" if what.endswith("RAISE") else "amb_lower"
+                self.event(n, pid, f"{name} {self.cap_text(self.need(arguments, 3, capability))} = {result}")
+            elif what == "PR_CAP_AMBIENT_CLEAR_ALL":
+                self.event(n, pid, f"amb_clear = {self.plain(outcome)}")
+
+    @staticmethod
+    def cap_text(k):
+        return "CAP_" + CAPABILITIES[k] if k < len(CAPABILITIES) else str(k)
+
+    # ---- births and spaces
+
+    def birth(self, n, pid, flags, outcome):
+        kind, value = outcome
+        user, shares = "CLONE_NEWUSER" in flags, "CLONE_FILES" in flags
+        name = "clone_user" if user else "fork"
+        if kind == ERROR:
+            if user:
+                self.event(n, pid, f"{name} = {value}")
+            return
+        if kind != NUMBER or not 1 <= value <= LAST_PID:
+            raise Fault("result")
+        own = [(key, d) for key, d in self.descriptors.items() if key[0] == pid]
+        if shares and own:
+            raise Fault("descriptor")
+        if not shares:
+            for (_, fd), d in own:
+                self.descriptors[value, fd] = d
+            self.count_descriptors()
+        self.event(n, pid, f"{name} = {value}")
+        self.tasks[pid].shares |= shares
+        space = self.tasks[pid].space
+        if user:
+            space = self.next_space
+            self.next_space += 1
+        self.tasks[value] = Task(space, shares)
+        self.child = value
+
+    def call_unshare(self, n, pid, arguments, outcome):
+        if not arguments or "CLONE_NEWUSER" not in words(arguments[0]):
+            return
+        result = self.plain(outcome)
+        self.event(n, pid, f"unshare = {result}")
+        if result == "0":
+            self.tasks[pid].space = self.next_space
+            self.next_space += 1
+
+    def token(self, space):
+        return self.names.get(space, f"#{space}")
+
+    def call_setns(self, n, pid, arguments, outcome):
+        fd, flags = number(self.need(arguments, 1)), self.need(arguments, 2)
+        d = self.descriptors.get((pid, fd))
+        if d is not None and d.file == "ns/user":
+            if flags in ("0", "CLONE_NEWUSER"):
+                result = self.plain(outcome)
+                self.event(n, pid, f"setns {self.token(d.space)} = {result}")
+                if result == "0":
+                    self.tasks[pid].space = d.space
+        elif outcome[0] == NUMBER and (flags == "0" or "CLONE_NEWUSER" in words(flags)):
+            raise Fault("descriptor")
+
+    # ---- execve
+
+    def call_execve(self, n, pid, arguments, outcome, place=1):
+        result = self.plain(outcome)
+        path = self.need(arguments, place, lambda text: quoted(text)[1])
+        self.event(n, pid, f"execve {path if path in self.files else '-'} = {result}")
+        if result == "0":
+            self.descriptors = {key: d for key, d in self.descriptors.items() if key[0] != pid or not d.until_exec}
+
+    def call_execveat(self, n, pid, arguments, outcome):
+        if self.need(arguments, 1) == "AT_FDCWD":
+            self.call_execve(n, pid, arguments, outcome, 2)
+        elif outcome[0] == NUMBER:
+            raise Fault("descriptor")
+
+    # ---- descriptors
+
+    def count_descriptors(self):
+        if len(self.descriptors) > MOST_DESCRIPTORS:
+            raise Limit(f"descriptors {MOST_DESCRIPTORS}")
+
+    @staticmethod
+    def number_at(arguments, k):
+        return number(arguments[k - 1]) if len(arguments) >= k else None
+
+    def call_open(self, n, pid, arguments, outcome, place=1):
+        flags = words(arguments[place]) if len(arguments) > place else []
+        self.opened(pid, arguments[place - 1:place], "O_WRONLY" in flags or "O_RDWR" in flags, "O_CLOEXEC" in flags, outcome)
+
+    def call_openat(self, n, pid, arguments, outcome):
+        self.call_open(n, pid, arguments, outcome, 2)
+
+    def call_creat(self, n, pid, arguments, outcome):
+        self.opened(pid, arguments[:1], True, False, outcome)
+
+    def opened(self, pid, path, writes, until_exec, outcome):
+        if outcome[0] != NUMBER:
+            return
+        path = quoted(path[0])[1] if path else None
+        followed = None if path is None else self.followed(pid, path, writes)
+        if followed == "relative":
+            raise Fault("descriptor")
+        self.descriptors.pop((pid, outcome[1]), None)
+        if followed is None:
+            return
+        whose, file = followed
+        if whose not in self.tasks or pid in self.tasks and self.tasks[pid].shares:
+            raise Fault("descriptor")
+        self.descriptors[pid, outcome[1]] = Descriptor(file, self.tasks[whose].space, until_exec)
+        self.count_descriptors()
+
+    @staticmethod
+    def followed(pid, path, writes):
+        """Whose file a path names and which one; "relative" for a relative path that may name one; else None."""
+        files = (*MAP_FILES, "ns/user") if writes else ("ns/user",)
+        if not path.startswith("/"):
+            return "relative" if any(path == f or path.endswith("/" + f) for f in files) else None
+        found = re.fullmatch("/proc/([^/]*)/task/([^/]*)/(.*)", path, re.S)
+        if found and found.group(3) in files:
+            process, thread = found.group(1), pid_of(found.group(2))
+            good = (process == "self" or pid_of(process) is not None) and thread is not None
+            return (thread, found.group(3)) if good else None
+        found = re.fullmatch("/proc/([^/]*)/(.*)", path, re.S)
+        if found and found.group(2) in files:
+            whose = pid if found.group(1) in ("self", "thread-self") else pid_of(found.group(1))
+            return None if whose is None else (whose, found.group(2))
+        return None
+
+    def call_close(self, n, pid, arguments, outcome):
+        if outcome[0] == NUMBER:
+            self.descriptors.pop((pid, self.number_at(arguments, 1)), None)
+
+    def call_dup(self, n, pid, arguments, outcome):
+        if outcome[0] == NUMBER and (pid, self.number_at(arguments, 1)) in self.descriptors:
+            raise Fault("descriptor")
+
+    def call_dup2(self, n, pid, arguments, outcome):
+        self.call_dup(n, pid, arguments, outcome)
+        if outcome[0] == NUMBER:
+            self.descriptors.pop((pid, outcome[1]), None)
+
+    def call_fcntl(self, n, pid, arguments, outcome):
+        if len(arguments) >= 2 and arguments[1] in ("F_DUPFD", "F_DUPFD_CLOEXEC"):
+            self.call_dup(n, pid, arguments, outcome)
+
+    def call_write(self, n, pid, arguments, outcome):
+        d = self.descriptors.get((pid, self.number_at(arguments, 1)))
+        if d is None or d.file == "ns/user":
+            return
+        kind, value = outcome
+        if kind == OTHER:
+            raise Fault("result")
+        state, text = quoted(self.need(arguments, 2))
+        if kind == NUMBER and state == "whole" and value != len(text):
+            raise Fault("result")
+        told = self.written(d, text) if state == "whole" else None
+        if told is None:
+            if kind == NUMBER:
+                raise Fault("argument 2")
+            return
+        self.event(n, pid, f"{told} = {'0' if kind == NUMBER else value}")
+
+    def written(self, d, text):
+        """The call that a text written to a map file, or to a setgroups file, is, or None."""
+        space = self.token(d.space)
+        if d.file == "setgroups":
+            word = text[:-1] if text.endswith("\n") else text
+            return f"write_setgroups {space} {word}" if word in ("allow", "deny") else None
+        lines = text.split("\n")
+        if lines[-1] == "":
+            lines.pop()
+        numbers = []
+        for line in lines:
+            row = [number(word) for word in re.split(f"[{BLANKS}]+", line.strip(BLANKS))]
+            if len(row) != 3 or None in row:
+                return None
+            numbers += row
+        return " ".join(["write_" + d.file, space, *map(str, numbers)])
+
+
+def reading(world, log):
+    """The events of a log's bytes, and how its reading ends."""
+    reader = Reader(world)
+    lines = log.decode("latin-1").split("\n")
+    if lines[-1] == "":
+        lines.pop()
+    try:
+        for k, line in enumerate(lines):
+            reader.feed(k + 1, line)
+        reader.finish()
+        ending = "end"
+    except Stop as stop:
+        ending = str(stop)
+    return reader.events, ending
+
+
+def main():
+    with open(sys.argv[1], "rb") as world, open(sys.argv[2], "rb") as log:
+        events, ending = reading(tomllib.load(world), log.read())
+    sys.stdout.buffer.write("".join(line + "\n" for line in events + [ending]).encode("latin-1"))
+
+
+if __name__ == "__main__":
+    main()

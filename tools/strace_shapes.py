@@ -1,0 +1,121 @@
+#!/usr/bin/env python3
+"""What stops a log of strace, and what is passed over in it: each shape of docs/STRACE.md, "Recording a log", as lines
+that strace wrote, and what plain_strace.py reads of them.
+
+  strace_shapes.py    compares each shape, and asks that docs/STRACE.md tells of it
+
+The lines are those of real recordings (strace 6.1), shortened where no rule reads them, with other pids; those of a
+row marked `made` are written by hand. A row is its name, the lines, the events that are read, and how the reading
+ends. Status 0: all are read so; 1: some are read otherwise.
+"""
+import os
+import sys
+
+from plain_strace import reading
+
+HERE = os.path.dirname(os.path.abspath(__file__))
+DOCUMENT = os.path.join(HERE, "..", "docs", "STRACE.md")
+WORLD = {"process": [{"pid": 100}]}
+LARGE_LIST = "[" + ", ".join(map(str, range(1, 33))) + ", ...]"
+THREAD = "CLONE_VM|CLONE_FS|CLONE_FILES|CLONE_SIGHAND|CLONE_THREAD|CLONE_SYSVSEM"
+
+
+def bad(line, fault):
+    return f"bad log line {line}: {fault}"
+
+
+STOPS = [
+    ("newuidmap", ['100 openat(3, "uid_map", O_WRONLY)    = 5'], [], bad(1, "descriptor")),
+    ("bwrap", ['100 openat(4, "uid_map", O_RDWR|O_CLOEXEC) = 5'], [], bad(1, "descriptor")),
+    ("runc", ['100 execveat(6, "", ["runc", "init"], 0x4dbc2e0 /* 8 vars */, AT_EMPTY_PATH) = 0'], [],
+     bad(1, "descriptor")),
+    ("a shell's redirection", [
+        '100 openat(AT_FDCWD, "/proc/100/uid_map", O_WRONLY|O_CREAT|O_TRUNC, 0666) = 3',
+        "100 fcntl(1, F_DUPFD, 10)             = 11",
+        "100 dup2(3, 1)                        = 1"], [], bad(3, "descriptor")),
+    ("nsenter -t PID", ['100 openat(AT_FDCWD, "/proc/4242/ns/user", O_RDONLY) = 3'], [], bad(1, "descriptor")),
+    ("nsenter -t PID", ["100 setns(3, CLONE_NEWUSER)           = 0"], [], bad(1, "descriptor")),
+    ("a thread and an open map file (made)", [
+        '100 openat(AT_FDCWD, "/proc/self/uid_map", O_WRONLY) = 3',
+        f"100 clone3({{flags={THREAD}, exit_signal=0}}, 88) = 101"], [], bad(2, "descriptor")),
+    ("a thread and an open map file (made)", [
+        f"100 clone3({{flags={THREAD}, exit_signal=0}}, 88) = 101",
+        '101 openat(AT_FDCWD, "/proc/self/uid_map", O_WRONLY) = 3'], ["1: 100 fork = 101"], bad(2, "descriptor")),
+    ("an execve by a thread that isn't the leader", [
+        f"100 clone3({{flags={THREAD}, exit_signal=0}}, 88) = 101",
+        '101 execve("/usr/bin/true", ["true"], 0x7ffd8990e358 /* 35 vars */ <pid changed to 100 ...>',
+        "100 +++ superseded by execve in pid 101 +++",
+        "100 <... execve resumed>)             = 0"], ["1: 100 fork = 101"], bad(2, "shape")),
+    ("an execve by a thread that isn't the leader", [
+        f"100 clone3({{flags={THREAD}, exit_signal=0}}, 88) = 101",
+        '101 execve("/usr/bin/true", ["true"], 0x7ffd8990e358 /* 35 vars */ <unfinished ...>',
+        "100 +++ superseded by execve in pid 101 +++"], ["1: 100 fork = 101"], bad(3, "superseded")),
+    ("a detached tracer's last line", ['100 write(1, "\\0\\0"..., 131072 <detached ...>'], [], bad(1, "shape")),
+    ("lost lines (made)", ["100 vfork( <unfinished ...>", "100 vfork( <unfinished ...>"], [], bad(2, "unfinished")),
+    ("lost lines (made)", ["100 <... vfork resumed>)              = 101"], [], bad(1, "unfinished")),
+    ("without -v", [f"100 setgroups(40, {LARGE_LIST}) = 0"], [], bad(1, "argument 2")),
+    ("a short -s", [
+        "100 unshare(CLONE_NEWUSER)            = 0",
+        '100 openat(AT_FDCWD, "/proc/self/uid_map", O_WRONLY|O_CLOEXEC) = 3',
+        '100 write(3, "0 0"..., 6)             = 6'], ["1: 100 unshare = 0"], bad(3, "argument 2")),
+    ("a capability that strace doesn't know (made)", [
+        "100 capset({version=_LINUX_CAPABILITY_VERSION_3, pid=0}, {effective=1<<CAP_CHOWN|0x20000000000,"
+        " permitted=1<<CAP_CHOWN, inheritable=0}) = 0"], [], bad(1, "argument 2")),
+    ("-T", ["100 setuid(7)                         = 0 <0.000012>"], [], bad(1, "result")),
+    ("--pidns-translation", [
+        "100 vfork( <unfinished ...>",
+        "100 <... vfork resumed>)              = 2 /* 27395 in strace's PID NS */"], [], bad(2, "result")),
+    ("without -f or -o", ["setuid(7)                               = 0"], [], bad(1, "pid")),
+    ("without -f or -o", ["[pid   100] setuid(7)                   = 0"], [], bad(1, "pid")),
+    ("--decode-pids=comm", ["100<nginx> setuid(7)                   = 0"], [], bad(1, "pid")),
+    ("-k", [
+        "100 setuid(7)                         = 0",
+        " > /usr/lib/x86_64-linux-gnu/libc.so.6(setuid+0x14) [0xd1594]"], ["1: 100 setuid 7 = 0"], bad(2, "pid")),
+]
+PASSED_OVER = [
+    ("-t, -r", ["100 00:13:52 setuid(7)                = 0"], [], "end"),
+    ("-t, -r", ["100      0.000059 setuid(7)           = 0"], [], "end"),
+    ("-i, -n", ["100 [00007f7d143bf594] setuid(7)      = 0"], [], "end"),
+    ("-i, -n", ["100 [ 105] setuid(7)                  = 0"], [], "end"),
+    ("-y, -yy", [
+        "100 unshare(CLONE_NEWUSER)            = 0",
+        '100 openat(AT_FDCWD</>, "/proc/self/uid_map", O_WRONLY|O_CLOEXEC) = 3</proc/100/uid_map>',
+        '100 write(3</proc/100/uid_map>, "0 0 1\\n", 6) = 6'], ["1: 100 unshare = 0"], "end"),
+    ("-X raw, -e raw=", ["100 prctl(0x8, 1)                     = 0"], [], "end"),
+    ("-X raw, -e raw=", ["100 unshare(0x10000000)               = 0"], [], "end"),
+    ("-X verbose", ["100 prctl(0x8 /* PR_SET_KEEPCAPS */, 1) = 0"], [], "end"),
+    ("-X verbose", ["100 unshare(0x10000000 /* CLONE_NEWUSER */) = 0"], [], "end"),
+    ("-qq", ["100 fork()                            = 101"], ["1: 100 fork = 101"], "end"),
+    ("a process in a PID namespace", [
+        "100 vfork()                           = 2",
+        '27323 execve("/usr/bin/true", ["true"], 0x7ffdb75cf060 /* 35 vars */) = 0'],
+     ["1: 100 fork = 2", "2: 27323 execve - = 0"], "end"),
+    ("openat2, writev, close_range (made)", [
+        '100 openat2(AT_FDCWD, "/proc/self/uid_map", {flags=O_WRONLY, resolve=0}, 24) = 3',
+        '100 writev(3, [{iov_base="0 0 1\\n", iov_len=6}], 1) = 6',
+        "100 close_range(3, 4294967295, 0)     = 0"], [], "end"),
+]
+
+
+def read(lines):
+    events, ending = reading(WORLD, "".join(line + "\n" for line in lines).encode())
+    return events, ending
+
+
+def main():
+    with open(DOCUMENT) as file:
+        document = file.read()
+    bad_rows = 0
+    for name, lines, events, ending in STOPS + PASSED_OVER:
+        found = read(lines)
+        wrong = [] if found == (events, ending) else [f"read as {found}, not as {(events, ending)}"]
+        wrong += [] if f"| {name.removesuffix(' (made)')} |" in document else ["docs/STRACE.md doesn't tell of it"]
+        bad_rows += bool(wrong)
+        print("".join(f"{name}: {one}\n" for one in wrong), end="")
+    print(f"{len(STOPS)} rows that stop a log, {len(PASSED_OVER)} that are passed over: "
+          + (f"{bad_rows} are read otherwise" if bad_rows else "all are read so"))
+    sys.exit(1 if bad_rows else 0)
+
+
+if __name__ == "__main__":
+    main()
