@@ -17,7 +17,7 @@ use Rattle.model_run.specs.Later.{is_member, Later}
 use Rattle.model_box.specs.Row.{Part, EffectiveUids, EffectiveGids, Groups, PermittedCaps, Row, Standing, space_under}
 use Rattle.model_box.specs.Files.{FilesFit}
 use Rattle.model_box.specs.Closed.{Closed}
-use Rattle.model_box.specs.Covers.{RowOf, Covers, StateFits}
+use Rattle.model_box.specs.Covers.{RowOf, Covers, CanStart, StateFits}
 use Rattle.model_box.specs.Covers as rows
 use Rattle.model_box.specs.Meets.{Meets, IsOverStanding}
 use Rattle.model_box.proofs.Trees.{Earlier, space_of_newest, space_of_older, at_or_above_low, power_cases}
@@ -53,13 +53,17 @@ all_named P (x ∷ ps) all q p at = go (eqb x.pid q) at (λ rest. all_named P ps
   go true same rest = let is : x ≡ p = cc in rw is at (all 0 x (omega arith))
   go false same rest = rest same
 
+-- later runs can start from a state that fits
+pub fits_starts : (s : State) → StateFits s → CanStart s
+fits_starts s fits = record { earlier = tree_earlier s.spaces fits.tree; stands = fits.stands; included = fits.included }
+
 -- what the query keeps, as a run keeps it
-pub kept_at_start : (s : State) (members : List ℕ) (bounds : Row → Part → ℕ → Type 0) → StateFits s
+pub kept_at_start : (s : State) (members : List ℕ) (bounds : Row → Part → ℕ → Type 0) → CanStart s
     → Covers s s members bounds → Kept s.spaces s members bounds
 kept_at_start s members bounds fits covers = record {
   spaces = record {
-    before = tree_earlier s.spaces fits.tree;
-    earlier = tree_earlier s.spaces fits.tree;
+    before = fits.earlier;
+    earlier = fits.earlier;
     grown = covers.spaces_stay.grown;
     stay = covers.spaces_stay.stay;
     deny = covers.spaces_stay.deny;
@@ -86,7 +90,7 @@ covers_kept old s members bounds kept = record {
 }
 
 module _ (permitted : CallKind → Bool) (w : World) (s : State) (members : List ℕ) (bounds : Row → Part → ℕ → Type 0)
-    (fits_now : StateFits s) (files_fit : FilesFit w.files s.spaces) (covers : Covers s s members bounds)
+    (fits_now : CanStart s) (files_fit : FilesFit w.files s.spaces) (covers : Covers s s members bounds)
     (closed : Closed permitted w.files s.spaces bounds) where
   -- Bounds that cover the members at the query and are closed cover them after every later run.
   pub soundness : (events : List Event) (later : State) (members_then : List ℕ) → Later permitted w s members events later members_then

@@ -1,6 +1,6 @@
 -- The start bounds, the rows by number, and what the rules read.
 use Rattle.std.proofs.Common.{◌≡◌, ℕ, zero, suc, ◌+◌, ◌*◌, ◌/◌, ◌%◌, ◌<◌, Bool, false, ◌||◌, Some, List, length, refl, sym, ◌∙◌, inl, inr, arith}
-use Rattle.std.specs.Prelude.{IsTrue}
+use Rattle.std.specs.Prelude.{IsTrue, All}
 use Rattle.std.proofs.lemmas.Bool.{false≢true, ltb-true, lt-ltb}
 use Rattle.cm_filter.specs.declared.kind.CallKind.{CallKind}
 use Rattle.cm_filter.specs.declared.kind.CallKind.TheVariants as kind
@@ -27,13 +27,14 @@ module _ (s : State) (members : List ℕ) (bounds : Row → Part → ℕ → Typ
   none_later n a (child _ p _ late parent up) = let here : n < length s.spaces = has_parent_stands s.spaces n p parent in omega arith
   none_later n a (deeper _ p _ late parent up) = let here : n < length s.spaces = has_parent_stands s.spaces n p parent in omega arith
 
-  -- Bounds that hold the start bounds cover the members at the query.
-  pub covers_start : StateFits s → HoldsStart s members bounds → Covers s s members bounds
-  covers_start fits within = record {
+  -- Bounds that hold the start bounds cover the members at the query, where each process is in a space that stands.
+  pub covers_standing : All (λ p. p.space < length s.spaces) s.processes → HoldsStart s members bounds
+      → Covers s s members bounds
+  covers_standing standing within = record {
     members_in =
         λ pid p row member at is part x has.
         members_in pid p row member at is
-        (all_named (λ (q : Process). q.space < length s.spaces) s.processes fits.stands pid p at) part x has;
+        (all_named (λ (q : Process). q.space < length s.spaces) s.processes standing pid p at) part x has;
     spaces_stay = record {
       grown = omega arith;
       stay = λ n low. record { parent = refl; owner = refl; uids = λ map written. written; gids = λ map written. written; deny = λ word. word };
@@ -58,6 +59,9 @@ module _ (s : State) (members : List ℕ) (bounds : Row → Part → ℕ → Typ
         let low : IsTrue (stands s.spaces a) = lt-ltb a (length s.spaces) (rw two.0 at two.1) in
         rw two.0 (record { uids = λ x out. within (Standing a) low MappedUids x (inr out); gids = λ x out. within (Standing a) low MappedGids x (inr out) })
     maps_in n (Fresh a) is = absurd (none_later n a is)
+
+  pub covers_start : StateFits s → HoldsStart s members bounds → Covers s s members bounds
+  covers_start fits within = covers_standing fits.stands within
 
   -- And the other way: they hold the start bounds.
   pub holds_start : Covers s s members bounds → HoldsStart s members bounds

@@ -15,11 +15,13 @@ use Rattle.model_box.proofs.Worlds.{files_fit, run_fits, state_fits}
 
 pub soundness : Soundness
 soundness permitted w s members bounds fits files covers closed events later members_then run =
-    ends.soundness permitted w s members (tested bounds) fits files covers closed events later members_then run
+    ends.soundness permitted w s members (tested bounds) (ends.fits_starts s fits) files covers closed
+    events later members_then run
 
 pub exclusion : Exclusion
 exclusion permitted w s members bounds right fits files standing covers closed apart events later members_then run pid member =
-    ends.exclusion permitted w s members (tested bounds) fits files covers closed right standing apart events later members_then run pid member
+    ends.exclusion permitted w s members (tested bounds) (ends.fits_starts s fits) files covers closed right standing apart
+    events later members_then run pid member
 
 pub covers_at_start : CoversAtStart
 covers_at_start s members bounds fits = (starts.covers_start s members (tested bounds) fits, starts.holds_start s members (tested bounds))

@@ -11,10 +11,7 @@ use Rattle.model_cred.specs.Space.{Space, Spaces, space_at, space_of, no_space, 
 use Rattle.model_rules.specs.Power.{over, gives_power, is_owned}
 use Rattle.model_box.specs.Row.{Row, Standing, Fresh}
 use Rattle.model_box.specs.Covers.{RowOf, own, child, deeper}
-
--- the parent of each space is earlier
-abbrev pub Earlier : Spaces → Type 0
-Earlier spaces = (n p : ℕ) → (space_of spaces n).parent ≡ Some p → p < n
+pub use Rattle.model_box.specs.Covers.{Earlier}
 
 -- ---- tests over lists
 pub any_item : (test : ℕ → Bool) (xs : List ℕ) → IsTrue (list_any test xs)

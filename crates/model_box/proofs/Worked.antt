@@ -23,7 +23,7 @@ use Rattle.model_box.specs.Meets.{Meets, IsOverStanding}
 use Rattle.model_box.specs.Covers.{StateFits}
 use Rattle.model_box.specs.Start.{HoldsStart, SpaceMaps}
 use Rattle.model_box.specs.Example.{plain_cred, plain_process, plain_state, all_permitted, plain_bounds, PlainStaysPlain}
-use Rattle.model_box.proofs.Excludes.{exclusion}
+use Rattle.model_box.proofs.Excludes.{exclusion, fits_starts}
 use Rattle.model_box.proofs.Starts.{covers_start}
 use Rattle.model_box.proofs.Trees.{space_of_older}
 
@@ -221,7 +221,7 @@ plain_stays_plain w files events later members run pid member =
     (λ id other. never (Uid id) tt (no_uid id other), λ capability. never (Cap capability 0) refl (no_cap capability)) where
       never : (right : Right) → IsOverStanding first_spaces right → (Meets first_spaces plain_bounds right → ⊥) → process_holds later pid right ≡ false
       never right standing apart =
-          exclusion all_permitted w plain_state (100 ∷ []) plain_bounds plain_fits files
+          exclusion all_permitted w plain_state (100 ∷ []) plain_bounds (fits_starts plain_state plain_fits) files
           (covers_start plain_state (100 ∷ []) plain_bounds plain_fits start_within) (plain_closed w.files)
           right standing apart events later members run pid member
 

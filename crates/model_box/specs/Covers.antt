@@ -79,3 +79,13 @@ pub record StateFits (s : State) : Type 0 where
   pub tree : IsTree s.spaces
   pub stands : All (λ p. p.space < length s.spaces) s.processes
   pub included : All (λ p. Included p.cred) s.processes
+
+-- The parent of each space is an earlier one.
+abbrev pub Earlier : Spaces → Type 0
+Earlier spaces = (n p : ℕ) → (space_of spaces n).parent ≡ Some p → p < n
+
+-- What later runs start from, which is less: code that holds a state sees it part by part.
+pub record CanStart (s : State) : Type 0 where
+  pub earlier : Earlier s.spaces
+  pub stands : All (λ p. p.space < length s.spaces) s.processes
+  pub included : All (λ p. Included p.cred) s.processes
