@@ -67,8 +67,9 @@ pub fn same_reading_same_report()
     ensures { SameReadingSameReport }
 {}
 
-/// Over one world's text two logs that read as the same events in the same places, and end alike, have the same report, byte
-/// for byte.
+/// Over the texts of two worlds that differ in the form of log alone, and that both say more than the weak audit knows or
+/// neither, two logs that read as the same events in the same places, and end alike, have the same report, byte for byte.
+/// One world's text for both is such a case.
 #[tactic(auto, using(model_report::proofs::Endings::same_logs_same_report))]
 pub fn same_logs_same_report()
     ensures { SameLogsSameReport }

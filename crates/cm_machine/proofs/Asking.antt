@@ -16,7 +16,8 @@ use Rattle.cm_base.specs.declared.res.Res.TheVariants as res
 use Rattle.cm_machine.proofs.Changing.{get_put, put_back, same_put, same_there, undone_is}
 use Rattle.cm_machine.proofs.Groups.{fs_fixed, gids_keep, uids_keep}
 use Rattle.cm_machine.specs.Asking.{IsAsked, CanKeep, pid_number, change_by, groups_change, birth_change, inner_birth_change, where_done}
-use Rattle.cm_machine.specs.Asking.{cred_after, kept, undone, undone_cred, born_inside}
+use Rattle.cm_machine.specs.Asking.{cred_after, kept, makes_new, undone, undone_cred, born_inside}
+use Rattle.cm_machine.specs.Outcomes.{takes_memory}
 use Rattle.cm_machine.specs.declared.change.Change.{Change}
 use Rattle.cm_machine.specs.declared.change.Change.TheVariants as change
 use Rattle.cm_machine.specs.declared.ruling.Asked.{Asked}
@@ -387,6 +388,33 @@ module _ (w : World) (s : State) (call : Call) (child : Option ℕ) (at : ℕ) (
       (subst (λ (ch : Change). CanKeep ch (with_cred s old leaves)) (sym (by asked made))
       (can_is w s old call (pid_number child) (same_put s at old up h is) (free_number s.processes child free) stand room))
   asked_can (Err why) free stand room answers change cred = tt
+
+-- ---- what can want memory
+
+where_made : (P : Type 0) (r : Res) (to_make : Change) → (makes_new to_make ≡ true → P) → makes_new (where_done r to_make) ≡ true → P
+where_made P res.Done to_make old is = old is
+where_made P (res.Id n) to_make old is = absurd (cc)
+where_made P (res.Child n) to_make old is = absurd (cc)
+where_made P (res.Err e) to_make old is = absurd (cc)
+
+-- a call of which a process or a space is still to be made can
+made_takes : (spaces : Spaces) (call : Call) (r : Res) (c : Credential)
+    → makes_new (change_by spaces (call_of call) r c) ≡ true → takes_memory (call_of call) ≡ true
+made_takes spaces (SetGroups ids) r c is = refl
+made_takes spaces Fork r c is = refl
+made_takes spaces CloneUser r c is = refl
+made_takes spaces Unshare r c is = refl
+made_takes spaces (SetNs m) r c is = where_made _ r (change.Join m) (λ new. absurd (cc)) is
+made_takes spaces (WriteUidMap m given) r c is = refl
+made_takes spaces (WriteGidMap m given) r c is = refl
+made_takes spaces (WriteSetgroups m deny) r c is = where_made _ r (change.Word m deny) (λ new. absurd (cc)) is
+made_takes spaces call r c is = absurd (cc)
+
+pub asked_takes : (r : Result Asked NoMemory) (spaces : Spaces) (call : Call) (c : Credential)
+    → OrNoMemory r (λ asked. asked.change ≡ change_by spaces (call_of call) asked.res c)
+    → OrNoMemory r (λ asked. makes_new asked.change ≡ true → takes_memory (call_of call) ≡ true)
+asked_takes (Ok asked) spaces call c change = λ is. made_takes spaces call asked.res c (sym (ap makes_new change) ∙ is)
+asked_takes (Err why) spaces call c change = tt
 
 -- ---- what is left of it
 

@@ -3,10 +3,9 @@ use Rattle.std.proofs.Common.{◌≡◌, ◌≢◌, ℕ, zero, suc, ◌<◌, ◌
 use Rattle.std.proofs.Common.{Option, Some, None, refl, sym, ◌∙◌, ap, inl, inr, arith}
 use Rattle.std.specs.Prelude.{nat_le, is_some, SomeIff}
 use Rattle.std.proofs.lemmas.Bool.{cases_Bool, cases_order, cases_lt, cond-true, cond-false, eq-eqb, le-leb, leb-true, and_parts, and_from}
-use Rattle.cm_machine.specs.Asking.{pid_option}
 use Rattle.cm_state.proofs.Places.{ascending, not_found}
 use Rattle.cm_state.specs.Places.{pid_at}
-use Rattle.model_cred.specs.Process.{Process, State, Ascends, process_at, is_alive, is_pid}
+use Rattle.model_cred.specs.Process.{Process, State, Ascends, as_pid, process_at, is_alive, is_pid}
 use Rattle.model_laws.proofs.Pids.{free_is_least}
 use Rattle.model_laws.specs.Owns.{IsLeastFree}
 use Rattle.model_run.specs.Ruling.{free_pid}
@@ -92,7 +91,7 @@ none_is s n low free no_pid =
 
 -- the pid of that number is the least free one
 pub free_option : (s : State) (n : ℕ) (o : Option ℕ) → 1 ≤ n → ((pid : ℕ) → 1 ≤ pid → pid < n → is_alive s.processes pid ≡ true)
-    → is_alive s.processes n ≡ false → SomeIff o ((1 ≤ n) × (n ≤ 4194304)) n → o ≡ pid_option (free_pid s)
+    → is_alive s.processes n ≡ false → SomeIff o ((1 ≤ n) × (n ≤ 4194304)) n → o ≡ as_pid (free_pid s)
 free_option s n o low before free is =
     elim (cases_Bool (is_pid (free_pid s))) [
       | inl a_pid ↦

@@ -1,5 +1,5 @@
 -- What is asked of the rules for a call of a process, and what becomes of what the call has changed.
-use Rattle.std.specs.Prelude.{◌≡◌, ℕ, ◌<◌, false, length, List, ◌∷◌, [], Option, Some, None, slice_get, unwrap_or, if◌then◌else◌}
+use Rattle.std.specs.Prelude.{◌≡◌, ℕ, ◌<◌, Bool, true, false, length, List, ◌∷◌, [], Option, Some, slice_get, unwrap_or}
 use Rattle.cm_base.specs.Limits.{greatest_number}
 use Rattle.cm_base.specs.declared.res.Res.{Res}
 use Rattle.cm_base.specs.declared.res.Res.TheVariants.{Done, Child}
@@ -11,7 +11,7 @@ use Rattle.cm_nscalls.specs.File.{file_of}
 use Rattle.cm_nscalls.specs.declared.file.MapFile.TheVariants as file
 use Rattle.model_cred.specs.Call.{Call, SetGroups, Fork, CloneUser, Unshare, SetNs, WriteUidMap, WriteGidMap, WriteSetgroups, Exit}
 use Rattle.model_cred.specs.Credential.{Credential}
-use Rattle.model_cred.specs.Process.{Process, State, is_alive, is_pid, insert_process, put_process}
+use Rattle.model_cred.specs.Process.{Process, State, is_alive, insert_process, put_process}
 use Rattle.model_cred.specs.Space.{Spaces, put_space, space_of}
 use Rattle.model_cred.specs.World.{World}
 use Rattle.model_rules.specs.Maps.{UidMap, GidMap, with_map}
@@ -23,10 +23,6 @@ use Rattle.model_run.specs.Step.{told_child, told_rules}
 -- the number of a child's pid, 0 (which is no pid) where there is none
 abbrev pub pid_number : Option ℕ → ℕ
 pid_number child = unwrap_or child 0
-
--- the pid of that number, if it is one
-abbrev pub pid_option : ℕ → Option ℕ
-pid_option n = if is_pid n then Some n else None
 
 -- the state of these processes and spaces
 abbrev pub state_of : List Process → Spaces → State
@@ -143,6 +139,13 @@ kept (change.Map which n map) p s = record s { spaces = put_space n.0 (with_map 
 kept (change.Word n deny) p s = record s { spaces = put_space n.0 (record (space_of s.spaces n.0) { deny = deny }) s.spaces }
 kept change.Exit p s = state_without s p
 kept _ p s = s
+
+-- what is still to be made of the change is a process or a space
+abbrev pub makes_new : Change → Bool
+makes_new (change.Birth pid) = true
+makes_new (change.InnerBirth pid) = true
+makes_new change.Space = true
+makes_new _ = false
 
 -- What is still to be made of the change can be made: a child that is to be born has a pid that isn't alive, a space that is
 -- to be joined or written stands, and there is room for one that is to be made.

@@ -1,10 +1,10 @@
 -- What the end of a step shows of the event, and what an own step is.
-use Rattle.std.specs.Prelude.{◌≡◌, ℕ, false, Result, Ok, Some}
+use Rattle.std.specs.Prelude.{◌≡◌, ℕ, Bool, true, false, Result, Ok, Some}
 use Rattle.std.specs.declared.result.Result.TheVariants.{Err}
 use Rattle.cm_base.specs.declared.res.Res.{Res}
 use Rattle.cm_machine.specs.declared.error.StepError.{StepError}
 use Rattle.cm_machine.specs.declared.error.StepError.TheVariants as error
-use Rattle.model_cred.specs.Call.{Call}
+use Rattle.model_cred.specs.Call.{Call, SetGroups, Fork, CloneUser, Unshare, WriteUidMap, WriteGidMap}
 use Rattle.model_cred.specs.Process.{Process, State, process_at}
 use Rattle.model_cred.specs.World.{World}
 use Rattle.model_run.specs.Ruling.{own}
@@ -27,6 +27,16 @@ pub record IsOwn (w : World) (s : State) (pid : ℕ) (call : Call) (answer : Res
   pub stands : names_no_space s.spaces call ≡ false
   pub answers : answer ≡ (own w s caller call).res
   pub leads : after ≡ (own w s caller call).state
+
+-- The call can want memory: it carries a list, or makes a process or a space. No other call takes any.
+abbrev pub takes_memory : Call → Bool
+takes_memory (SetGroups ids) = true
+takes_memory Fork = true
+takes_memory CloneUser = true
+takes_memory Unshare = true
+takes_memory (WriteUidMap n given) = true
+takes_memory (WriteGidMap n given) = true
+takes_memory _ = false
 
 -- the reason why a call isn't answered: no such process, no such space, or want of memory
 abbrev pub IsNoAnswer : StepError → Type 0

@@ -2,9 +2,9 @@
 // the rules' own, the change is kept, and else it is undone. A birth, an exit and what a call does to the spaces are made
 // as they are kept, since their answers are known before: an exit can't be undone, as nothing shows which children had the
 // one that is gone, and what was never made needs no undoing.
-ghost use Rattle.std.specs.Prelude.{◌≡◌, ◌<◌, length, OnErr};
+ghost use Rattle.std.specs.Prelude.{◌≡◌, ◌<◌, length, true, OnErr};
 ghost use Rattle.cm_base.specs.Outcome.{OrNoMemory, UnchangedOnErr};
-ghost use Rattle.cm_machine.specs.Asking.{CanKeep, OfCaller, kept, undone, undone_cred};
+ghost use Rattle.cm_machine.specs.Asking.{CanKeep, OfCaller, kept, makes_new, undone, undone_cred};
 ghost use Rattle.model_cred.specs.Process.{Process};
 
 use crate::births::{clone_as, fork_as};
@@ -56,6 +56,7 @@ pub(crate) fn keep(
     ensures kept { OrNoMemory result (λ _. OfCaller state.old at (λ p. state.new ≡ kept change p state.old)) }
     ensures unchanged { UnchangedOnErr result state.new state.old }
     ensures nothing { OnErr result ((p : Process) → undone change p state.old ≡ state.old) }
+    ensures memory { OnErr result (makes_new change ≡ true) }
 {
     match change {
         Change::Birth(pid) => fork_as(alloc, state, at, pid),

@@ -3,7 +3,7 @@ ghost use Rattle.std.specs.Prelude.{◌≡◌, ◌<◌, None, true, false, lengt
 ghost use Rattle.cm_base.specs.Limits.{greatest_number};
 ghost use Rattle.cm_base.specs.Outcome.{OrNoMemory, UnchangedOnErr};
 ghost use Rattle.cm_base.specs.declared.errno.Errno.{Errno};
-ghost use Rattle.cm_machine.specs.Outcomes.{IsOwn, IsNoAnswer};
+ghost use Rattle.cm_machine.specs.Outcomes.{IsOwn, IsNoAnswer, takes_memory};
 ghost use Rattle.cm_state.specs.Call.{call_of};
 ghost use Rattle.cm_world.specs.World.{world_of};
 ghost use Rattle.model_run.specs.Family.{family};
@@ -42,14 +42,15 @@ impl Machine {
     /// the pid is alive; NoSpace exactly where the call names a user namespace that doesn't stand; PidInUse exactly where
     /// the result is a child that is alive; Wrong exactly where the result is neither an error from outside that the call
     /// may answer, which changes nothing (choice), nor what the rules give (with the process's own answer); NoMemory may
-    /// come with any event. The machine is as it was after each, and after a step whose result is an error. Fewer than
-    /// 4294967295 spaces stand before it.
+    /// come with a call that carries a list or makes a process or a space, and with no other. The machine is as it was
+    /// after each, and after a step whose result is an error. Fewer than 4294967295 spaces stand before it.
     pub fn step(&mut self, alloc: Global, w: &World, e: &Event) -> Result<(), StepError>
         requires room { length self.old.state.spaces < greatest_number }
         ensures goes { IfOk result (λ _. outcome (world_of w.now) self.old.state e.now ≡ outcome.Goes self.new.state) }
         ensures no_process { result ≡ Err StepError.NoProcess → outcome (world_of w.now) self.old.state e.now ≡ outcome.NoProcess }
         ensures no_space { result ≡ Err StepError.NoSpace → outcome (world_of w.now) self.old.state e.now ≡ outcome.NoSpace }
         ensures pid_in_use { result ≡ Err StepError.PidInUse → outcome (world_of w.now) self.old.state e.now ≡ outcome.PidInUse }
+        ensures no_memory { result ≡ Err StepError.NoMemory → takes_memory e.now.call ≡ true }
         ensures wrong { (given : Res) → result ≡ Err (StepError.Wrong given) → outcome (world_of w.now) self.old.state e.now ≡ outcome.Wrong given }
         ensures unchanged { UnchangedOnErr result self.new self.old }
         ensures told_error { (error : Errno) → e.now.res ≡ Res.Err error → self.new ≡ self.old }
@@ -60,8 +61,9 @@ impl Machine {
     /// Makes the call of the process as the rules give it, and says what it answers, an error of the rules too. The child
     /// of fork has the least pid that isn't alive, or the answer is EAGAIN where all are (choice). The errors are NoProcess
     /// exactly where no process of the pid is alive, NoSpace exactly where the call names a user namespace that doesn't
-    /// stand, and NoMemory, which may come with any call. The machine is as it was after each, and after an error that
-    /// the rules answer. Fewer than 4294967295 spaces stand before it.
+    /// stand, and NoMemory, which may come with a call that carries a list or makes a process or a space, and with no
+    /// other. The machine is as it was after each, and after an error that the rules answer. Fewer than 4294967295 spaces
+    /// stand before it.
     pub fn answer(
         &mut self,
         alloc: Global,
@@ -74,6 +76,7 @@ impl Machine {
         ensures no_process { result ≡ Err StepError.NoProcess → process_at self.old.state.processes pid ≡ None }
         ensures no_space { result ≡ Err StepError.NoSpace → (is_alive self.old.state.processes pid ≡ true)
             × (names_no_space self.old.state.spaces (call_of call.now) ≡ true) }
+        ensures no_memory { result ≡ Err StepError.NoMemory → takes_memory (call_of call.now) ≡ true }
         ensures no_other { IfErr result IsNoAnswer }
         ensures unchanged { UnchangedOnErr result self.new self.old }
         ensures refused { (error : Errno) → result ≡ Ok (Res.Err error) → self.new ≡ self.old }

@@ -1,8 +1,9 @@
 // The own step of a process: its call as the rules give it, whatever was told.
-ghost use Rattle.std.specs.Prelude.{◌≡◌, ◌<◌, length, false};
+ghost use Rattle.std.specs.Prelude.{◌≡◌, ◌<◌, length, true, false, OnErr};
 ghost use Rattle.cm_base.specs.Limits.{greatest_number};
 ghost use Rattle.cm_base.specs.Outcome.{OrNoMemory, UnchangedOnErr};
 ghost use Rattle.cm_machine.specs.Asking.{OfCaller};
+ghost use Rattle.cm_machine.specs.Outcomes.{takes_memory};
 ghost use Rattle.cm_state.specs.Call.{call_of};
 ghost use Rattle.cm_world.specs.World.{world_of};
 ghost use Rattle.model_run.specs.Ruling.{own};
@@ -29,6 +30,7 @@ pub(crate) fn make_own(
     requires room { length state.old.spaces < greatest_number }
     ensures own { OrNoMemory result (λ res. OfCaller state.old at (λ p.
         record { res = res; state = state.new } ≡ own (world_of w.now) state.old p (call_of call.now))) }
+    ensures memory { OnErr result (takes_memory (call_of call.now) ≡ true) }
     ensures unchanged { UnchangedOnErr result state.new state.old }
 {
     let child = own_pid(&state.procs, call);

@@ -1,7 +1,7 @@
 // The pid of a child that no one tells: the least one that isn't alive (choice).
 ghost use Rattle.std.specs.Prelude.{◌≡◌, ℕ, ◌<◌, ◌≤◌, true, false, IfSome};
-ghost use Rattle.cm_machine.specs.Asking.{pid_option, state_of};
-ghost use Rattle.model_cred.specs.Process.{Ascends, is_alive, is_pid};
+ghost use Rattle.cm_machine.specs.Asking.{state_of};
+ghost use Rattle.model_cred.specs.Process.{Ascends, as_pid, is_alive, is_pid};
 ghost use Rattle.model_cred.specs.Space.{Spaces};
 ghost use Rattle.model_run.specs.Ruling.{free_pid};
 
@@ -11,7 +11,7 @@ use cm_state::{Proc, Procs};
 /// The least pid that isn't alive. None exactly where all are.
 pub(crate) fn least_free(procs: &Procs) -> Option<Pid>
     requires { Ascends procs.now }
-    ensures least { (spaces : Spaces) → result ≡ pid_option (free_pid (state_of procs.now spaces)) }
+    ensures least { (spaces : Spaces) → result ≡ as_pid (free_pid (state_of procs.now spaces)) }
     ensures free { IfSome result (λ pid. is_alive procs.now pid ≡ false) }
 {
     Pid::new(first_gap(procs.items()))

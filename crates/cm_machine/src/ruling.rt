@@ -1,10 +1,11 @@
 // The rules are asked here, and here alone: what they answer a call of a process, and what the call changes. `ask` is
 // `ruling` of the definitions, but that a birth, an exit and what a call does to the spaces are still to be made, and any
 // change can be undone.
-ghost use Rattle.std.specs.Prelude.{◌≡◌, ◌<◌, ℕ, length, List, false, IfSome};
+ghost use Rattle.std.specs.Prelude.{◌≡◌, ◌<◌, ℕ, length, List, true, false, IfSome, OnErr};
 ghost use Rattle.cm_base.specs.Limits.{greatest_number};
 ghost use Rattle.cm_base.specs.Outcome.{OrNoMemory, UnchangedOnErr};
-ghost use Rattle.cm_machine.specs.Asking.{AsksRules, CanKeep, change_by, cred_after, groups_change, pid_number, state_of, where_done};
+ghost use Rattle.cm_machine.specs.Asking.{AsksRules, CanKeep, change_by, cred_after, groups_change, makes_new, pid_number, state_of, where_done};
+ghost use Rattle.cm_machine.specs.Outcomes.{takes_memory};
 ghost use Rattle.cm_base.specs.declared.errno.Errno.{Errno};
 ghost use Rattle.cm_base.specs.declared.res.Res.TheVariants.{Done};
 ghost use Rattle.cm_machine.specs.declared.change.Change.TheVariants as change;
@@ -44,7 +45,7 @@ pub(crate) struct Asked {
 }
 
 /// Asks the rules for the call of the process at this place, a birth with that pid for its child. Its only error is want
-/// of memory, which changes nothing.
+/// of memory, of a call that can want it, which changes nothing.
 #[inline]
 pub(crate) fn ask(
     alloc: Global,
@@ -61,6 +62,8 @@ pub(crate) fn ask(
     ensures asked { OrNoMemory result (λ asked. AsksRules asked at state.new state.old
         (λ p. ruling (world_of w.now) state.old p (call_of call.now) (pid_number child))) }
     ensures can { OrNoMemory result (λ asked. CanKeep asked.change state.new) }
+    ensures made { OrNoMemory result (λ asked. makes_new asked.change ≡ true → takes_memory (call_of call.now) ≡ true) }
+    ensures memory { OnErr result (takes_memory (call_of call.now) ≡ true) }
     ensures still { at < length state.new.processes }
     ensures unchanged { UnchangedOnErr result state.new state.old }
 {
@@ -86,6 +89,7 @@ fn ask_caller(
     ensures cred { OrNoMemory result (λ _. p.new.cred ≡ cred_after (world_of w.now) spaces.now p.old (call_of call.now)) }
     ensures change { OrNoMemory result (λ asked. asked.change ≡ change_by spaces.now (call_of call.now) asked.res p.old.cred) }
     ensures rest { p.new ≡ record p.old { cred = p.new.cred } }
+    ensures memory { OnErr result (takes_memory (call_of call.now) ≡ true) }
     ensures unchanged { UnchangedOnErr result p.new p.old }
 {
     let at = p.space;

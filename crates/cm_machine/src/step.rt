@@ -1,9 +1,9 @@
 // A step: the event of a process with the result that is told.
-ghost use Rattle.std.specs.Prelude.{◌≡◌, ◌<◌, length, false};
+ghost use Rattle.std.specs.Prelude.{◌≡◌, ◌<◌, length, true, false};
 ghost use Rattle.cm_base.specs.Limits.{greatest_number};
 ghost use Rattle.cm_base.specs.Outcome.{UnchangedOnErr};
 ghost use Rattle.cm_machine.specs.Asking.{OfCaller};
-ghost use Rattle.cm_machine.specs.Outcomes.{Becomes};
+ghost use Rattle.cm_machine.specs.Outcomes.{Becomes, takes_memory};
 ghost use Rattle.cm_world.specs.World.{world_of};
 ghost use Rattle.model_cred.specs.Process.{Ascends};
 ghost use Rattle.model_run.specs.Step.{outcome, is_living_child, names_no_space as model_names_no_space, told_call};
@@ -29,6 +29,7 @@ pub(crate) fn take_step(
 ) -> Result<(), StepError>
     requires room { length state.old.spaces < greatest_number }
     ensures becomes { Becomes result state.new (outcome (world_of w.now) state.old e.now) }
+    ensures memory { result ≡ Err StepError.NoMemory → takes_memory e.now.call ≡ true }
     ensures unchanged { UnchangedOnErr result state.new state.old }
 {
     let Some(at) = state.procs.find(e.pid) else {
@@ -71,6 +72,7 @@ fn told_call(
     requires room { length state.old.spaces < greatest_number }
     ensures becomes { OfCaller state.old at (λ p.
         Becomes result state.new (told_call (world_of w.now) state.old p e.now.call e.now.res)) }
+    ensures memory { result ≡ Err StepError.NoMemory → takes_memory e.now.call ≡ true }
     ensures unchanged { UnchangedOnErr result state.new state.old }
 {
     if from_outside(&e.call, &e.res) {

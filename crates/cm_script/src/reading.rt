@@ -1,5 +1,5 @@
 // A line of a script log: PID CALL ARGUMENTS = RESULT, its tokens parted by blanks (choice).
-ghost use Rattle.std.specs.Prelude.{◌≡◌, ◌^◌, ◌<◌, Some, Ok, length, option_map};
+ghost use Rattle.std.specs.Prelude.{◌≡◌, ◌≢◌, ◌^◌, ◌<◌, Some, Ok, length, option_map};
 ghost use Rattle.cm_script.specs.Lines.{IsRead};
 ghost use Rattle.cm_script.specs.Steps.{arguments_in};
 ghost use Rattle.cm_state.specs.Call.{call_of};
@@ -75,14 +75,15 @@ fn read_after_name(
     read_outcome(pid, kind, call, outcome)
 }
 
-// The event of a call, by the token of its result.
+// The event of a call, by the token of its result. It takes no memory.
 fn read_outcome(
     pid: Pid,
     kind: CallKind,
     call: Call,
     token: &[u8],
 ) -> Result<Option<Event>, LineError>
-    ensures { IsRead result (outcome_line pid kind (Ok (call_of call)) token.now) }
+    ensures read { IsRead result (outcome_line pid kind (Ok (call_of call)) token.now) }
+    ensures no_memory { result ≢ Err LineError.NoMemory }
 {
     let Some(res) = read_result(kind, token) else {
         return Err(LineError::Bad(LineFault::Outcome));

@@ -1,6 +1,6 @@
 use Rattle.std.proofs.Common.{◌≡◌, List, slice_set, ◌∙◌, ap, subst}
 use Rattle.cm_base.specs.Outcome.{OrNoMemory}
-use Rattle.cm_machine.proofs.Asking.{asked_is, asked_can}
+use Rattle.cm_machine.proofs.Asking.{asked_is, asked_can, asked_takes}
 use Rattle.cm_machine.proofs.Changing.{put_keeps, stands_at}
 use Rattle.cm_machine.proofs.ruling.ask.Goals as goal
 use Rattle.cm_machine.specs.Asking.{AsksRules, pid_number}
@@ -42,3 +42,6 @@ returns-clause-can c =
     (rw c.procs.view_is c.state.invariant.0) (rw items c.requires.here) c.index_mut-p.ensures.value c.ask_caller.ensures.rest
     c.ask_caller.result (rw items c.requires.fresh) (rw spaces c.requires.stands) (rw spaces c.requires.room)
     (c.ask_caller.ensures.res c.procs.inside.list.items) c.ask_caller.ensures.change c.ask_caller.ensures.cred
+
+pub returns-clause-made : goal.returns-clause-made
+returns-clause-made c = asked_takes c.ask_caller.result c.state.inside.spaces c.args.call.now c.index_mut-p.result.now.cred c.ask_caller.ensures.change
