@@ -1,4 +1,3 @@
 -- Lemmas of this crate, by topic.
-pub mod FirstLine
 pub mod Few
 pub mod LeftAfter

@@ -2,7 +2,6 @@
 //! and in model_strace/specs (Lines, Logs).
 #![tactic(auto)]
 
-mod lines;
 mod log;
 mod next;
 mod script;

@@ -8,12 +8,12 @@ ghost use Rattle.cm_world.specs.World.{world_of};
 ghost use Rattle.model_cred.specs.World as model;
 ghost use Rattle.model_text.specs.Reading.{script_reading, log_line};
 
-use crate::lines::next_line;
 use crate::next::Next;
 use cm_base::{Limited, NoMemory};
 use cm_script::{LineError, read_line};
 use cm_state::Event;
 use cm_strace::{Placed, Stop};
+use cm_tokens::next_line;
 use cm_world::World;
 use std::alloc::Global;
 

@@ -8,10 +8,10 @@ ghost use Rattle.model_strace.specs.Lines.{strace_reading};
 ghost use Rattle.model_strace.specs.Rest.{first_session};
 ghost use Rattle.model_text.specs.Cut.{lines_of};
 
-use crate::lines::next_line;
 use crate::next::Next;
 use cm_base::{Limited, NoMemory};
 use cm_strace::{Placed, Stop, Tracer};
+use cm_tokens::next_line;
 use cm_world::World;
 use std::alloc::Global;
 

@@ -1,3 +1,4 @@
 -- Lemmas of this crate, by topic.
+pub mod FirstLine
 pub mod FirstToken
 pub mod Cuts

@@ -2,8 +2,10 @@
 ghost use Rattle.std.specs.Prelude.{◌≡◌, ◌≤◌, ◌<◌, ◌+◌, ◌≢◌, ℕ, [], ◌∷◌, length, MatchOption, slice_index};
 ghost use Rattle.model_text.specs.Cut.{lines_of};
 
+use memchr::memchr;
+
 /// The first line of a text, without its LF, and what follows it. None exactly where the text is empty.
-pub(crate) fn next_line(text: &[u8]) -> Option<(&[u8], &[u8])>
+pub fn next_line(text: &[u8]) -> Option<(&[u8], &[u8])>
     ensures line { MatchOption result (lines_of text.now ≡ []) (λ p. lines_of text.now ≡ p.0.now ∷ lines_of p.1.now) }
     ensures shorter { MatchOption result (text.now ≡ []) (λ p. length p.1.now + 1 ≤ length text.now) }
 {
@@ -23,10 +25,8 @@ fn line_len(text: &[u8]) -> usize
     ensures line { (k : ℕ) → k < result → slice_index text.now k ≢ 10 }
     ensures ended { result < length text.now → slice_index text.now result ≡ 10 }
 {
-    for (i, byte) in text.iter().enumerate() {
-        if *byte == b'\n' {
-            return i;
-        }
+    match memchr(b'\n', text) {
+        Some(at) => at,
+        None => text.len(),
     }
-    text.len()
 }

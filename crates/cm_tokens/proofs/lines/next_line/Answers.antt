@@ -1,6 +1,6 @@
 use Rattle.std.proofs.Common.{arith}
-use Rattle.cm_log.proofs.FirstLine.{first_line_whole, first_line_cut}
-use Rattle.cm_log.proofs.lines.next_line.Goals as goal
+use Rattle.cm_tokens.proofs.FirstLine.{first_line_whole, first_line_cut}
+use Rattle.cm_tokens.proofs.lines.next_line.Goals as goal
 
 pub returns-in-empty-clause-line : goal.returns-in-empty-clause-line
 returns-in-empty-clause-line c =
