@@ -1,3 +1,4 @@
 -- Lemmas of this crate, by topic.
+pub mod FirstBytes
 pub mod IdCalls
 pub mod ReadTexts

@@ -1,5 +1,5 @@
 // The arguments of a call by their numbers, from 1 on.
-ghost use Rattle.std.specs.Prelude.{◌≡◌, ◌-◌, option_map, slice_get};
+ghost use Rattle.std.specs.Prelude.{◌≡◌, ◌≤◌, ◌+◌, ◌-◌, option_map, slice_get};
 ghost use Rattle.cm_strace_calls.specs.Told.{and_make};
 ghost use Rattle.cm_strace_text.specs.Depths.{arguments_in};
 ghost use Rattle.model_strace.specs.Calls.{needed, read_argument, text_of, number_of};
@@ -39,6 +39,21 @@ pub(crate) fn text_of(number: u32, arguments: Option<&[u8]>) -> &[u8]
         Some(text) => text,
         None => &[],
     }
+}
+
+/// The texts of the argument of that number and of the next one, empty ones where they are missing.
+pub(crate) fn two_texts(number: u32, arguments: Option<&[u8]>) -> (&[u8], &[u8])
+    requires { 1 ≤ number }
+    ensures first { result.0.now ≡ text_of number (arguments_in arguments.entry) }
+    ensures second { result.1.now ≡ text_of (number + 1) (arguments_in arguments.entry) }
+{
+    let Some((text, rest)) = next_argument(arguments) else {
+        return (&[], &[]);
+    };
+    if number <= 1 {
+        return (text, text_of(1, rest));
+    }
+    two_texts(number - 1, rest)
 }
 
 /// The number that the argument of that number is. None exactly where it is none.

@@ -1,13 +1,13 @@
 // What the text of a call tells: by its name, then by its shape, then by its result and its arguments.
-ghost use Rattle.std.specs.Prelude.{◌≡◌};
+ghost use Rattle.std.specs.Prelude.{◌≡◌, is_some};
 ghost use Rattle.cm_base.specs.Outcome.{OrNoMemory};
 ghost use Rattle.cm_strace_calls.specs.Told.{listed_is, told_is};
 ghost use Rattle.cm_strace_text.specs.Depths.{arguments_in};
 ghost use Rattle.cm_strace_text.specs.Outcomes.{outcome_is};
 ghost use Rattle.cm_world.specs.World.{world_of};
-ghost use Rattle.model_strace.specs.Calls.{call_told, written_told, outcome_told, returned};
+ghost use Rattle.model_strace.specs.Calls.{call_told, listed_named, written_told, outcome_told, returned};
 ghost use Rattle.model_strace.specs.Outcome.{outcome_of};
-ghost use Rattle.model_strace.specs.Written.{arguments_of, written_of};
+ghost use Rattle.model_strace.specs.Written.{arguments_of, call_name, written_of};
 
 use crate::arguments::text_of;
 use crate::births::{read_birth, read_setns, read_unshare};
@@ -23,6 +23,16 @@ use cm_strace_text::{
 };
 use cm_world::World;
 use std::alloc::Global;
+
+/// The text is one of a call that is read.
+pub fn is_read(text: &[u8]) -> bool
+    ensures { result ≡ is_some (listed_named (call_name text.now)) }
+{
+    match Listed::from_name(call_name(text)) {
+        Some(_) => true,
+        None => false,
+    }
+}
 
 /// What the text of a call of a process tells.
 pub fn read_call<'a>(

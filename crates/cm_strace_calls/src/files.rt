@@ -7,19 +7,17 @@ ghost use Rattle.model_strace.specs.Outcome.{success};
 ghost use Rattle.model_strace.specs.Calls.{Opens, where_some, opening, open_told, creat_told, close_told, dup_told};
 ghost use Rattle.model_strace.specs.Calls.{dup_to_told, makes_copy, fcntl_told, write_told};
 
-use crate::arguments::{argument, number_of, text_of};
+use crate::arguments::{argument, number_of, text_of, two_texts};
 use crate::told::{Opening, Told};
 use cm_strace_text::{Outcome, has_flag};
 
 /// open(2): the path stands as the argument of that number, the flags after it.
 pub(crate) fn read_open<'a>(number: u32, arguments: Option<&'a [u8]>, outcome: Outcome) -> Told<'a>
-    requires { number ≤ 2 }
+    requires { 1 ≤ number }
     ensures { told_is result ≡ open_told number (arguments_in arguments.entry) (outcome_is outcome) }
 {
-    opened(
-        outcome,
-        opening(text_of(number, arguments), text_of(number + 1, arguments)),
-    )
+    let (path, flags) = two_texts(number, arguments);
+    opened(outcome, opening(path, flags))
 }
 
 /// creat is an open for writing.

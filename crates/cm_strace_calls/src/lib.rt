@@ -14,7 +14,7 @@ mod listed;
 mod prctl;
 mod told;
 
-pub use call::read_call;
+pub use call::{is_read, read_call};
 pub use listed::{IdCall, Listed};
 pub use told::{Opening, Told};
 

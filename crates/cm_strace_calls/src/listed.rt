@@ -1,5 +1,5 @@
 // The calls that are read, by their names.
-ghost use Rattle.std.specs.Prelude.{◌≡◌, find, bytes_eq, option_map};
+ghost use Rattle.std.specs.Prelude.{◌≡◌, Some, bytes_eq, find, option_map, slice_get};
 ghost use Rattle.cm_strace_calls.specs.Told.{listed_is};
 ghost use Rattle.cm_strace_text.specs.Tables.{rows_of};
 ghost use Rattle.model_strace.specs.Calls.{listed_named};
@@ -39,7 +39,34 @@ pub enum Listed {
     Write,
 }
 
-const CALLS: [(&str, Listed); 29] = [
+// The calls by the first bytes of their names: most calls that aren't read begin with none of these, and are told so at
+// once.
+const CALLS_OF_C: [(&str, Listed); 5] = [
+    ("capset", Listed::SetsCaps),
+    ("clone", Listed::Birth),
+    ("clone3", Listed::Birth),
+    ("creat", Listed::Creat),
+    ("close", Listed::Close),
+];
+
+const CALLS_OF_D: [(&str, Listed); 3] = [
+    ("dup", Listed::Dup),
+    ("dup2", Listed::DupTo),
+    ("dup3", Listed::DupTo),
+];
+
+const CALLS_OF_E: [(&str, Listed); 2] = [
+    ("execve", Listed::Execve),
+    ("execveat", Listed::ExecveAt),
+];
+
+const CALLS_OF_F: [(&str, Listed); 2] = [("fork", Listed::Birth), ("fcntl", Listed::Fcntl)];
+
+const CALLS_OF_O: [(&str, Listed); 2] = [("open", Listed::OpenFile), ("openat", Listed::OpenAt)];
+
+const CALLS_OF_P: [(&str, Listed); 2] = [("prctl", Listed::Prctl), ("pwrite64", Listed::Write)];
+
+const CALLS_OF_S: [(&str, Listed); 10] = [
     ("setuid", Listed::SetsIds(IdCall::SetUid)),
     ("setreuid", Listed::SetsIds(IdCall::SetReUid)),
     ("setresuid", Listed::SetsIds(IdCall::SetResUid)),
@@ -49,34 +76,44 @@ const CALLS: [(&str, Listed); 29] = [
     ("setresgid", Listed::SetsIds(IdCall::SetResGid)),
     ("setfsgid", Listed::SetsIds(IdCall::SetFsGid)),
     ("setgroups", Listed::SetsGroups),
-    ("capset", Listed::SetsCaps),
-    ("prctl", Listed::Prctl),
-    ("fork", Listed::Birth),
-    ("vfork", Listed::Birth),
-    ("clone", Listed::Birth),
-    ("clone3", Listed::Birth),
-    ("unshare", Listed::Unshare),
     ("setns", Listed::SetNs),
-    ("execve", Listed::Execve),
-    ("execveat", Listed::ExecveAt),
-    ("open", Listed::OpenFile),
-    ("openat", Listed::OpenAt),
-    ("creat", Listed::Creat),
-    ("close", Listed::Close),
-    ("dup", Listed::Dup),
-    ("dup2", Listed::DupTo),
-    ("dup3", Listed::DupTo),
-    ("fcntl", Listed::Fcntl),
-    ("write", Listed::Write),
-    ("pwrite64", Listed::Write),
 ];
+
+const CALLS_OF_U: [(&str, Listed); 1] = [("unshare", Listed::Unshare)];
+
+const CALLS_OF_V: [(&str, Listed); 1] = [("vfork", Listed::Birth)];
+
+const CALLS_OF_W: [(&str, Listed); 1] = [("write", Listed::Write)];
 
 impl Listed {
     /// The call of that name. None exactly where it isn't read.
     pub fn from_name(name: &[u8]) -> Option<Listed>
         ensures { option_map listed_is result ≡ listed_named name.now }
     {
-        call_named(name, &CALLS)
+        match name.first() {
+            Some(first) => call_begun(*first, name),
+            None => None,
+        }
+    }
+}
+
+// The call of that name, which begins with that byte.
+fn call_begun(first: u8, name: &[u8]) -> Option<Listed>
+    requires { slice_get name.now 0 ≡ Some first }
+    ensures { option_map listed_is result ≡ listed_named name.now }
+{
+    match first {
+        b'c' => call_named(name, &CALLS_OF_C),
+        b'd' => call_named(name, &CALLS_OF_D),
+        b'e' => call_named(name, &CALLS_OF_E),
+        b'f' => call_named(name, &CALLS_OF_F),
+        b'o' => call_named(name, &CALLS_OF_O),
+        b'p' => call_named(name, &CALLS_OF_P),
+        b's' => call_named(name, &CALLS_OF_S),
+        b'u' => call_named(name, &CALLS_OF_U),
+        b'v' => call_named(name, &CALLS_OF_V),
+        b'w' => call_named(name, &CALLS_OF_W),
+        _ => None,
     }
 }
 

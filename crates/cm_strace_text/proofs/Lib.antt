@@ -1,10 +1,11 @@
 -- Lemmas of this crate, by topic.
 pub mod Cuts
-pub mod FirstLine
 pub mod HexDigits
 pub mod Items
 pub mod MarkPlaces
+pub mod NameEnds
 pub mod PathNames
 pub mod QuoteSteps
 pub mod Singles
+pub mod Stops
 pub mod Words

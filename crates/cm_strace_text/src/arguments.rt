@@ -1,6 +1,7 @@
 //! The arguments of a call, which commas part, and the members of a structure, which stand alike between braces.
-ghost use Rattle.std.specs.Prelude.{◌≡◌, ◌<◌, ◌≤◌, ◌^◌, ◌+◌, ◌&&◌, ◌∷◌, [], MatchOption, length, option_map};
+ghost use Rattle.std.specs.Prelude.{◌≡◌, ◌<◌, ◌≤◌, ◌^◌, ◌+◌, ◌&&◌, ◌∷◌, [], false, MatchOption, IsTrue, drop, length, option_map};
 ghost use Rattle.cm_strace_text.specs.Depths.{depth_is, brackets, ends_at, len_to, parts_in, parts_after, arguments_in};
+ghost use Rattle.cm_strace_text.specs.declared.arguments.End.{End};
 ghost use Rattle.model_strace.specs.Written as model;
 ghost use Rattle.model_strace.specs.Written.{opens, closes, depth_after, is_outside, comma_parts, arguments_of, before_closing};
 
@@ -75,13 +76,47 @@ fn len_to(end: End, text: &[u8]) -> usize
     ensures within { result ≤ length text.now }
 {
     let mut depth = Depth::Open(0);
-    for at in 0..text.len() {
-        if ends_here(end, depth, text[at]) {
+    let mut at = next_stop(depth, text, 0);
+    while at < text.len() {
+        let byte = text[at];
+        if ends_here(end, depth, byte) {
             return at;
         }
-        depth = depth_after(depth, text[at]);
+        depth = depth_after(depth, byte);
+        at = next_stop(depth, text, at + 1);
     }
     text.len()
+}
+
+// The first place from that one on whose byte isn't passed over, or the text's end.
+#[inline]
+#[tactic(auto, using(crate::proofs::Stops::calm_end))]
+fn next_stop(depth: Depth, text: &[u8], from: usize) -> usize
+    requires { from ≤ length text.now }
+    ensures same { (end : End) → result + len_to (ends_at end) (depth_is depth) (drop result text.now)
+        ≡ from + len_to (ends_at end) (depth_is depth) (drop from text.now) }
+    ensures after { from ≤ result }
+    ensures within { result ≤ length text.now }
+{
+    for at in from..text.len() {
+        if !is_calm(depth, text[at]) {
+            return at;
+        }
+    }
+    text.len()
+}
+
+// The byte leaves the reader where it is, and is no end.
+#[inline]
+fn is_calm(depth: Depth, byte: u8) -> bool
+    ensures stays { IsTrue result → depth_after (depth_is depth) byte ≡ depth_is depth }
+    ensures no_end { IsTrue result → (end : End) → (is_outside (depth_is depth) && ends_at end byte) ≡ false }
+{
+    match depth {
+        Depth::Open(_) => byte != b'"' && byte != b',' && !opens(byte) && !closes(byte),
+        Depth::InQuotes(_) => byte != b'"' && byte != b'\\',
+        Depth::InEscape(_) => false,
+    }
 }
 
 #[inline]

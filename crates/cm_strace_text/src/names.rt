@@ -1,5 +1,5 @@
 // Names of calls and of errors: letters, digits and `_`.
-ghost use Rattle.std.specs.Prelude.{◌≡◌, ◌≤◌, length, drop};
+ghost use Rattle.std.specs.Prelude.{◌≡◌, ◌≤◌, ◌++◌, ℕ, List, IsTrue, length, drop};
 ghost use Rattle.std.specs.List.{prefix_len};
 ghost use Rattle.model_strace.specs.Marks.{is_word_byte, name_at};
 ghost use Rattle.model_strace.specs.Written.{without_32, call_name};
@@ -13,6 +13,14 @@ pub(crate) fn cut_name(text: &[u8]) -> (&[u8], &[u8])
     ensures rest { result.1.now ≡ drop (length (name_at text.now)) text.now }
 {
     text.split_at(name_len(text))
+}
+
+/// Another byte follows the name at the text's front: then it is the same one, whatever comes after the text.
+#[tactic(auto, using(crate::proofs::NameEnds::name_stays))]
+pub fn ends_name(text: &[u8]) -> bool
+    ensures { IsTrue result → (more : List ℕ) → name_at (text.now ++ more) ≡ name_at text.now }
+{
+    name_len(text) < text.len()
 }
 
 // How many bytes the name at the text's front has.

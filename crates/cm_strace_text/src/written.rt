@@ -1,5 +1,5 @@
 // The parts of a call as strace(1) writes it: NAME(ARGUMENTS) = RESULT.
-ghost use Rattle.std.specs.Prelude.{◌≡◌, ◌<◌, ℕ, IfSome, length, option_map};
+ghost use Rattle.std.specs.Prelude.{◌≡◌, ◌<◌, ◌≤◌, ℕ, None, IfSome, IsTrue, drop, length, option_map};
 ghost use Rattle.cm_strace_text.specs.Places.{place_is, written_is};
 ghost use Rattle.model_strace.specs.Written as model;
 ghost use Rattle.model_strace.specs.Written.{plain_after, place_after, sign_here, last_sign, parts_of, written_of};
@@ -55,11 +55,45 @@ fn last_sign(text: &[u8]) -> Option<(usize, usize)>
 {
     let mut place = Place::Plain;
     let mut last = None;
-    for at in 0..text.len() {
-        last = sign_here(place, at, text[at]).or(last);
-        place = place_after(place, at, text[at]);
+    let mut at = next_stop(place, text, 0);
+    while at < text.len() {
+        let byte = text[at];
+        last = sign_here(place, at, byte).or(last);
+        place = place_after(place, at, byte);
+        at = next_stop(place, text, at + 1);
     }
     last
+}
+
+// The first place from that one on whose byte isn't passed over, or the text's end.
+#[inline]
+#[tactic(auto, using(crate::proofs::Stops::calm_sign))]
+fn next_stop(place: Place, text: &[u8], from: usize) -> usize
+    requires { from ≤ length text.now }
+    ensures same { last_sign (place_is place) result (drop result text.now)
+        ≡ last_sign (place_is place) from (drop from text.now) }
+    ensures after { from ≤ result }
+    ensures within { result ≤ length text.now }
+{
+    for at in from..text.len() {
+        if !is_calm(place, text[at]) {
+            return at;
+        }
+    }
+    text.len()
+}
+
+// The byte leaves the reader where it is, and is no sign.
+#[inline]
+fn is_calm(place: Place, byte: u8) -> bool
+    ensures stays { IsTrue result → (at : ℕ) → place_after (place_is place) at byte ≡ place_is place }
+    ensures no_sign { IsTrue result → (at : ℕ) → sign_here (place_is place) at byte ≡ None }
+{
+    match place {
+        Place::Plain => byte != b'"' && byte != b')',
+        Place::Quoted => byte != b'"' && byte != b'\\',
+        Place::After(_) | Place::Escaped => false,
+    }
 }
 
 // These places, where the byte at a place is the sign.

@@ -1,4 +1,4 @@
-use Rattle.std.proofs.Common.{◌≡◌, ◌<◌, IfSome, drop}
+use Rattle.std.proofs.Common.{◌≡◌, ◌<◌, ◌≤◌, ◌-◌, IfSome, drop, length}
 use Rattle.std.specs.Option.{option_or}
 use Rattle.cm_strace_text.proofs.written.last_sign.Given as goal
 use Rattle.cm_strace_text.specs.Places.{place_is, IsBefore}
@@ -10,4 +10,8 @@ invariant-loop-at l = record {
   places : option_or (last_sign (place_is l.place) l.at (drop l.at l.text)) l.last ≡ last_sign Plain 0 l.text;
   within : IfSome l.last (λ places. (places.0 < places.1) × (places.1 < l.at));
   before : IsBefore l.place l.at;
+  inside : l.at ≤ length l.text;
 }
+
+abbrev pub decreases-loop-at : goal.decreases-loop-at
+decreases-loop-at l = length l.text - l.at
