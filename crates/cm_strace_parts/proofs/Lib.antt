@@ -1,4 +1,6 @@
 -- Lemmas of this crate, by topic.
 pub mod Order
 pub mod Orders
-pub mod Ranges
+pub mod Among
+pub mod Lists
+pub mod ListOrders

@@ -1,13 +1,13 @@
--- The orders of processes, kept texts and descriptors, and the places in them.
-use Rattle.std.proofs.Common.{◌≡◌, ℕ, ◌+◌, Bool, true, List, [], ◌∷◌, map, arith}
-use Rattle.cm_strace_parts.specs.Below.{task_below, kept_below, descriptor_below, of_below}
+-- The orders of processes, kept texts, descriptors and their lists, and the places in them.
+use Rattle.std.proofs.Common.{◌≡◌, ℕ, Bool, true, false, List, [], ◌∷◌, map, arith}
+use Rattle.cm_strace_parts.specs.Below.{task_below, kept_below}
+use Rattle.cm_strace_parts.specs.Lists.{Fd, Files, is_fd, fd_before, fd_below, is_files, files_before, files_below}
 use Rattle.cm_strace_parts.specs.Order.{AllSay, Ascends, IsOrder, HasPlace, IsPlaceOf}
 use Rattle.cm_strace_parts.proofs.Order.{all_along}
-use Rattle.cm_strace_parts.proofs.Ranges.{StandTogether}
 use Rattle.model_cred.specs.Process as model
 use Rattle.model_cred.specs.Process.{Process}
-use Rattle.model_strace.specs.Parts.{Task, first_task, is_task, task_before, moved_task, sharing_task, Kept, is_kept, kept_before}
-use Rattle.model_strace.specs.Parts.{Descriptor, is_descriptor, is_of, descriptor_before}
+use Rattle.model_strace.specs.Parts.{Task, first_task, is_task, task_before, moved_task, sharing_task, Kept, is_kept}
+use Rattle.model_strace.specs.Parts.{kept_before}
 
 -- ---- processes
 pub task_order : IsOrder task_before
@@ -31,15 +31,18 @@ task_place_of new pid same = record {
 }
 
 -- a change of its user namespace leaves a process in its place
-pub moved_keeps : (pid space : ℕ) (x y : Task) → task_before (moved_task pid space x) (moved_task pid space y) ≡ task_before x y
+pub moved_keeps : (pid space : ℕ) (x y : Task) → task_before (moved_task pid space x) (moved_task pid space y)
+    ≡ task_before x y
 moved_keeps pid space x y = grind arith
 
 -- the same of a birth that it gives
-pub sharing_keeps : (pid : ℕ) (shares : Bool) (x y : Task) → task_before (sharing_task pid shares x) (sharing_task pid shares y) ≡ task_before x y
+pub sharing_keeps : (pid : ℕ) (shares : Bool) (x y : Task) → task_before (sharing_task pid shares x)
+    (sharing_task pid shares y) ≡ task_before x y
 sharing_keeps pid shares x y = grind arith
 
 -- a process comes before the later ones of a world's start
-lower_first : (p : Process) (ps : List Process) → model.Ascends (p ∷ ps) → AllSay (task_before (first_task p)) true (map first_task ps)
+lower_first : (p : Process) (ps : List Process) → model.Ascends (p ∷ ps)
+    → AllSay (task_before (first_task p)) true (map first_task ps)
 lower_first p [] up = tt
 lower_first p (q ∷ ps) up =
     let first : task_before (first_task p) (first_task q) ≡ true = grind (arith, up.0) in (
@@ -75,36 +78,49 @@ kept_place_of new pid same = record {
   higher = λ x h g. grind (arith, h, g, same);
 }
 
--- ---- descriptors
-pub descriptor_order : IsOrder descriptor_before
-descriptor_order = record {
+-- ---- the descriptors of a process
+pub fd_order : IsOrder fd_before
+fd_order = record {
   further = λ x y z h g. grind (arith, h, g);
   alike = λ x y z h g l. grind (arith, h, g, l);
 }
 
-pub descriptor_place : (pid number : ℕ) → HasPlace descriptor_before (descriptor_below pid number) (is_descriptor pid number)
-descriptor_place pid number = record {
+pub fd_place : (number : ℕ) → HasPlace fd_before (fd_below number) (is_fd number)
+fd_place number = record {
   closed = λ x y h g. grind (arith, h, g);
   apart = λ x h. grind (arith, h);
   beyond = λ x y h g. grind (arith, h, g);
 }
 
-pub descriptor_place_of : (new : Descriptor) (pid number : ℕ) → pid ≡ new.pid → number ≡ new.number
-    → IsPlaceOf descriptor_before (descriptor_below pid number) (is_descriptor pid number) new
-descriptor_place_of new pid number same equal = record {
-  lower = λ x h. (grind (arith, h, same, equal), grind (arith, h, same, equal));
-  equal = λ x h. (grind (arith, h, same, equal), grind (arith, h, same, equal));
-  higher = λ x h g. grind (arith, h, g, same, equal);
+pub fd_place_of : (new : Fd) (number : ℕ) → number ≡ new.number → IsPlaceOf fd_before (fd_below number) (is_fd number) new
+fd_place_of new number same = record {
+  lower = λ x h. (grind (arith, h, same), grind (arith, h, same));
+  equal = λ x h. (grind (arith, h, same), grind (arith, h, same));
+  higher = λ x h g. grind (arith, h, g, same);
 }
 
--- what comes before a descriptor of a process with a lower pid is one too
-pub of_closed : (pid : ℕ) (x y : Descriptor) → descriptor_before x y ≡ true → of_below pid y ≡ true → of_below pid x ≡ true
-of_closed pid x y h g = grind (arith, h, g)
+-- of two in order, the other one doesn't come first
+pub fd_apart : (x y : Fd) → fd_before x y ≡ true → fd_before y x ≡ false
+fd_apart x y h = grind (arith, h)
 
--- the descriptors of a process stand together
-pub of_together : (pid : ℕ) → StandTogether (of_below pid) (of_below (pid + 1)) (is_of pid)
-of_together pid = record {
-  lower = λ x h. (grind (arith, h), grind (arith, h));
-  here = λ x h g. grind (arith, h, g);
-  higher = λ x h. grind (arith, h);
+-- ---- those of all processes
+pub files_order : IsOrder files_before
+files_order = record {
+  further = λ x y z h g. grind (arith, h, g);
+  alike = λ x y z h g l. grind (arith, h, g, l);
+}
+
+pub files_place : (pid : ℕ) → HasPlace files_before (files_below pid) (is_files pid)
+files_place pid = record {
+  closed = λ x y h g. grind (arith, h, g);
+  apart = λ x h. grind (arith, h);
+  beyond = λ x y h g. grind (arith, h, g);
+}
+
+pub files_place_of : (new : Files) (pid : ℕ) → pid ≡ new.pid
+    → IsPlaceOf files_before (files_below pid) (is_files pid) new
+files_place_of new pid same = record {
+  lower = λ x h. (grind (arith, h, same), grind (arith, h, same));
+  equal = λ x h. (grind (arith, h, same), grind (arith, h, same));
+  higher = λ x h g. grind (arith, h, g, same);
 }

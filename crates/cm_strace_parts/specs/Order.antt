@@ -29,13 +29,14 @@ StandsAt same (x ∷ xs) zero = (same x ≡ true) × AllSay same false xs
 StandsAt same (x ∷ xs) (suc at) = (same x ≡ false) × StandsAt same xs at
 
 -- ---- orders
--- What comes before what comes before a third comes before the third; and two that come in no order come before the same.
+-- What comes before what comes before a third comes before the third; and two that come in no order come before the
+-- same.
 pub record IsOrder {A : Type 0} (before : A → A → Bool) : Type 0 where
   pub further : (x y z : A) → before x y ≡ true → before y z ≡ true → before x z ≡ true
   pub alike : (x y z : A) → before x y ≡ false → before y x ≡ false → before y z ≡ true → before x z ≡ true
 
--- What is looked for has a place: what comes before one below is below, no one below is it, and behind one that isn't below
--- no other one is.
+-- What is looked for has a place: what comes before one below is below, no one below is it, and behind one that
+-- isn't below no other one is.
 pub record HasPlace {A : Type 0} (before : A → A → Bool) (below same : A → Bool) : Type 0 where
   pub closed : (x y : A) → before x y ≡ true → below y ≡ true → below x ≡ true
   pub apart : (x : A) → below x ≡ true → same x ≡ false

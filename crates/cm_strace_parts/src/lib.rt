@@ -1,9 +1,11 @@
-//! What is known while a log of strace(1) is read (model_strace/specs, Parts): the processes, the calls that aren't finished,
-//! the descriptors that are followed; and what the texts written to a process's map files and setgroups file give. Each
-//! change that needs memory leaves all as it was where there is none.
+//! What is known while a log of strace(1) is read (model_strace/specs, Parts): the processes, the calls that aren't
+//! finished, the descriptors that are followed; and what the texts written to a process's map files and setgroups
+//! file give. Each change that needs memory leaves all as it was where there is none.
 #![tactic(auto)]
 
 mod descriptor;
+mod fd;
+mod files;
 mod kept;
 mod parts;
 mod task;

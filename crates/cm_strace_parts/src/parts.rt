@@ -9,32 +9,40 @@ ghost use Rattle.model_strace.specs.Parts.{descriptor_of, has_descriptor, withou
 ghost use Rattle.model_strace.specs.Parts.{after_exec, after_birth, after_user_birth, after_end};
 
 use crate::descriptor::Descriptor;
+use crate::files::Files;
 use crate::kept::Kept;
 use crate::task::Task;
-use crate::{descriptor, kept, task};
+use crate::{files, kept, task};
 use cm_base::{NoMemory, Pid, SpaceId};
 use cm_world::World;
 use std::alloc::Global;
 use std::marker::Model;
 
-/// The processes, the calls that aren't finished, the descriptors that are followed, and how many user namespaces there are.
+/// The processes, the calls that aren't finished, the descriptors that are followed, and how many user namespaces
+/// there are.
 #[derive(Debug, Drop)]
 pub struct Parts {
     tasks: Vec<Task>,
     kept: Vec<Kept>,
-    descriptors: Vec<Descriptor>,
+    files: Vec<Files>,
     spaces: u32,
 }
 
 impl Model for Parts {
     ghost use Rattle.cm_strace_parts.specs.Below.{InOrder};
+    ghost use Rattle.cm_strace_parts.specs.Lists.{descriptors_in};
     ghost use Rattle.model_strace.specs.Parts as model;
 
     ghost Value = { model.Parts };
 
-    ghost view = { λ p. record { tasks = p.tasks.items; kept = p.kept.items; descriptors = p.descriptors.items; spaces = p.spaces } };
+    ghost view = { λ p. record {
+      tasks = p.tasks.items;
+      kept = p.kept.items;
+      descriptors = descriptors_in p.files.items;
+      spaces = p.spaces;
+    } };
 
-    ghost invariant = { λ p. InOrder p.tasks.items p.kept.items p.descriptors.items };
+    ghost invariant = { λ p. InOrder p.tasks.items p.kept.items p.files.items };
 }
 
 // ---- what is known
@@ -49,7 +57,7 @@ impl Parts {
         Ok(Parts {
             tasks,
             kept: Vec::new(alloc),
-            descriptors: Vec::new(alloc),
+            files: Vec::new(alloc),
             spaces: start.spaces.count(),
         })
     }
@@ -60,11 +68,11 @@ impl Parts {
     {
         let tasks = task::copy_list(alloc, &self.tasks)?;
         let kept = kept::copy_list(alloc, &self.kept)?;
-        let descriptors = descriptor::copy_list(alloc, &self.descriptors)?;
+        let files = files::copy_list(alloc, &self.files)?;
         Ok(Parts {
             tasks,
             kept,
-            descriptors,
+            files,
             spaces: self.spaces,
         })
     }
@@ -121,24 +129,24 @@ impl Parts {
     }
 
     /// The descriptor of that number of a process, where it is followed.
-    pub fn descriptor_of(&self, pid: Pid, number: u64) -> Option<&Descriptor>
-        ensures { option_map (λ d. d.now) result ≡ descriptor_of pid number self.now }
+    pub fn descriptor_of(&self, pid: Pid, number: u64) -> Option<Descriptor>
+        ensures { result ≡ descriptor_of pid number self.now }
     {
-        descriptor::descriptor_of(&self.descriptors, pid, number)
+        files::descriptor_of(&self.files, pid, number)
     }
 
     /// A descriptor of the process is followed.
     pub fn has_descriptor(&self, pid: Pid) -> bool
         ensures { result ≡ has_descriptor pid self.now }
     {
-        descriptor::has_any(&self.descriptors, pid)
+        files::has_any(&self.files, pid)
     }
 
     /// How many descriptors are followed.
-    pub fn descriptor_count(&self) -> usize
+    pub fn descriptor_count(&self) -> u128
         ensures { result ≡ length self.now.descriptors }
     {
-        self.descriptors.len()
+        files::count(&self.files)
     }
 }
 
@@ -175,27 +183,13 @@ impl Parts {
         self.kept.clear();
     }
 
-    /// The descriptor isn't followed any more.
-    pub fn forget_descriptor(&mut self, pid: Pid, number: u64)
-        ensures { self.new ≡ without_descriptor pid number self.old }
-    {
-        descriptor::remove(&mut self.descriptors, pid, number);
-    }
-
-    /// What an execve of the process leaves (execve(2), "Effect on process attributes").
-    pub fn execute(&mut self, pid: Pid)
-        ensures { self.new ≡ after_exec pid self.old }
-    {
-        descriptor::close_at_exec(&mut self.descriptors, pid);
-    }
-
     /// What the end of a process leaves.
     pub fn end(&mut self, pid: Pid)
         ensures { self.new ≡ after_end pid self.old }
     {
         task::remove(&mut self.tasks, pid);
         kept::remove(&mut self.kept, pid);
-        descriptor::remove_all(&mut self.descriptors, pid);
+        files::remove(&mut self.files, pid);
     }
 }
 
@@ -212,19 +206,39 @@ impl Parts {
         Ok(())
     }
 
-    /// The descriptor is followed, in the place of any of its number. Its only error is want of memory, which leaves all as
-    /// it was.
-    pub fn follow(&mut self, new: Descriptor) -> Result<(), NoMemory>
+    /// The descriptor is followed, in the place of any of its number. Its only error is want of memory, which leaves
+    /// all as it was.
+    pub fn follow(&mut self, alloc: Global, new: Descriptor) -> Result<(), NoMemory>
         ensures followed { OrNoMemory result (λ _. self.new ≡ with_descriptor new self.old) }
         ensures unchanged { UnchangedOnErr result self.new self.old }
     {
-        self.descriptors.reserve(1)?;
-        descriptor::put(&mut self.descriptors, new);
-        Ok(())
+        files::follow(&mut self.files, alloc, &new)
     }
 
-    /// What a birth leaves: the child in that user namespace, with the parent's descriptors or with copies of them. Its only
-    /// error is want of memory, which leaves all as it was.
+    /// The descriptor isn't followed any more. Its only error is want of memory, which leaves all as it was.
+    pub fn forget_descriptor(
+        &mut self,
+        alloc: Global,
+        pid: Pid,
+        number: u64,
+    ) -> Result<(), NoMemory>
+        ensures forgotten { OrNoMemory result (λ _. self.new ≡ without_descriptor pid number self.old) }
+        ensures unchanged { UnchangedOnErr result self.new self.old }
+    {
+        files::forget(&mut self.files, alloc, pid, number)
+    }
+
+    /// What an execve of the process leaves (execve(2), "Effect on process attributes"). Its only error is want of
+    /// memory, which leaves all as it was.
+    pub fn execute(&mut self, alloc: Global, pid: Pid) -> Result<(), NoMemory>
+        ensures executed { OrNoMemory result (λ _. self.new ≡ after_exec pid self.old) }
+        ensures unchanged { UnchangedOnErr result self.new self.old }
+    {
+        files::execute(&mut self.files, alloc, pid)
+    }
+
+    /// What a birth leaves: the child in that user namespace, with the parent's descriptors or with copies of them.
+    /// Its only error is want of memory, which leaves all as it was.
     pub fn bear(
         &mut self,
         alloc: Global,
@@ -236,10 +250,8 @@ impl Parts {
         ensures born { OrNoMemory result (λ _. self.new ≡ after_birth parent child space.0 shares self.old) }
         ensures unchanged { UnchangedOnErr result self.new self.old }
     {
-        let copies = descriptor::copies_unless(alloc, &self.descriptors, parent, shares)?;
         self.tasks.reserve(1)?;
-        self.descriptors.reserve(copies.len())?;
-        descriptor::put_copies(&mut self.descriptors, &copies, child);
+        files::bear_unless(&mut self.files, alloc, parent, child, shares)?;
         let born = Task {
             pid: child,
             space,
@@ -249,8 +261,8 @@ impl Parts {
         Ok(())
     }
 
-    /// The same of a birth in a new user namespace, whose number there must be. Its only error is want of memory, which leaves
-    /// all as it was.
+    /// The same of a birth in a new user namespace, whose number there must be. Its only error is want of memory,
+    /// which leaves all as it was.
     pub fn bear_in_new(
         &mut self,
         alloc: Global,

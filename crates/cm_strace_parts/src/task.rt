@@ -1,5 +1,6 @@
 // The processes that are known, by ascending pids.
-ghost use Rattle.std.specs.Prelude.{◌≡◌, ◌<◌, false, find, filter, map, not, option_map, length, IfSome, IfNone, vec_len, vec_capacity};
+ghost use Rattle.std.specs.Prelude.{◌≡◌, ◌<◌, false, find, filter, map, not, option_map, length, IfSome, IfNone};
+ghost use Rattle.std.specs.Prelude.{vec_len, vec_capacity};
 ghost use Rattle.cm_base.specs.Outcome.{OrNoMemory};
 ghost use Rattle.cm_strace_parts.specs.Below.{task_below};
 ghost use Rattle.cm_strace_parts.specs.Order.{Ascends, AllSay, IsCut, StandsAt, is_at};
@@ -10,8 +11,8 @@ use cm_state::Proc;
 use std::alloc::Global;
 use std::marker::Model;
 
-/// A process: its pid, the number of its user namespace, and whether it shares its descriptors, since it was born so or has
-/// given such a birth (clone(2), CLONE_FILES).
+/// A process: its pid, the number of its user namespace, and whether it shares its descriptors, since it was born so
+/// or has given such a birth (clone(2), CLONE_FILES).
 #[derive(Debug, Drop)]
 pub struct Task {
     pub pid: Pid,

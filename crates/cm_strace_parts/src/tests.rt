@@ -77,15 +77,15 @@ fn calls_that_are_not_finished(rt: HostRuntime) -> Result<(), Fail> {
 fn descriptors(rt: HostRuntime) -> Result<(), Fail> {
     let mut parts = first(&rt, rt.alloc())?;
     let (a, b, c) = (pid(7)?, pid(9)?, pid(8)?);
-    parts.follow(map_file(a, 5, false))?;
-    parts.follow(map_file(a, 3, true))?;
+    parts.follow(rt.alloc(), map_file(a, 5, false))?;
+    parts.follow(rt.alloc(), map_file(a, 3, true))?;
     assert!(rt; parts.has_descriptor(a) && !parts.has_descriptor(b));
     parts.bear(rt.alloc(), a, c, SpaceId(1), false)?;
     assert!(rt; parts.descriptor_count() == 4);
     let other = parts.copy(rt.alloc())?;
-    parts.execute(c);
+    parts.execute(rt.alloc(), c)?;
     assert!(rt; parts.descriptor_of(c, 3).is_none() && parts.descriptor_of(c, 5).is_some());
-    parts.forget_descriptor(a, 3);
+    parts.forget_descriptor(rt.alloc(), a, 3)?;
     assert!(rt; parts.descriptor_of(a, 3).is_none() && parts.descriptor_count() == 2);
     parts.end(a);
     assert!(rt; !parts.has_descriptor(a) && parts.descriptor_count() == 1);

@@ -8,12 +8,12 @@ ghost use Rattle.model_text.specs.Token.{number_token};
 use cm_base::NoMemory;
 use cm_idmap::Extent;
 use cm_state::Extents;
-use cm_strace_text::{before_mark, next_line};
-use cm_tokens::{next_token, read_number, read_word};
+use cm_strace_text::before_mark;
+use cm_tokens::{next_line, next_token, read_number, read_word};
 use std::alloc::Global;
 
-/// The extents of a text that is written to a map file, one on each line. None exactly where a line isn't three numbers. Its
-/// only error is want of memory.
+/// The extents of a text that is written to a map file, one on each line. None exactly where a line isn't three
+/// numbers. Its only error is want of memory.
 pub fn read_extents(alloc: Global, text: &[u8]) -> Result<Option<Extents>, NoMemory>
     ensures { OrNoMemory result (λ extents. extents ≡ written_extents text.now) }
 {
@@ -49,8 +49,8 @@ fn read_extent(line: &[u8]) -> Option<Extent>
     })
 }
 
-/// The word of a text that is written to a setgroups file, which a LF may follow: "deny" where it is true, else "allow". None
-/// exactly where it is none of them.
+/// The word of a text that is written to a setgroups file, which a LF may follow: "deny" where it is true, else
+/// "allow". None exactly where it is none of them.
 pub fn read_written_word(text: &[u8]) -> Option<bool>
     ensures { result ≡ written_word text.now }
 {

@@ -8,7 +8,8 @@ use Rattle.model_strace.specs.Parts.{kept_before}
 
 pub returns : goal.returns
 returns c =
-    let closed = parted kept_before (kept_below c.args.pid) c.args.list.now (kept_place c.args.pid).closed c.requires in
+    let closed = parted kept_before (kept_below c.args.pid) c.args.list.now
+    (kept_place c.args.pid).closed c.requires in
     let point = IsPartitionPoint-from_clause (kept_below c.args.pid) c.args.list.now c.partition_point.result
     c.partition_point.ensures.partitioned closed (λ a r q k. search rules) in
     cut_at (kept_below c.args.pid) c.args.list.now c.partition_point.result c.partition_point.ensures.bound point

@@ -6,16 +6,21 @@ use Rattle.model_strace.specs.Parts.{Task, is_task, task_before, sharing_task}
 
 pub returns-in-Some-clause-items : goal.returns-in-Some-clause-items
 returns-in-Some-clause-items c =
-    changes_one (is_task c.args.pid) (λ (task : Task). record task { shares = task.shares || c.args.shares }) c.args.list.now.items _ _ _
+    changes_one (is_task c.args.pid) (λ (task : Task). record task { shares = task.shares || c.args.shares })
+    c.args.list.now.items _ _ _
     (rw c.deref.ensures.value at c.in-Some.ensures.found) c.task.view_is c.index_mut-task.ensures.value
 
 pub returns-in-Some-clause-ascends : goal.returns-in-Some-clause-ascends
 returns-in-Some-clause-ascends c =
-    let is = changes_one (is_task c.args.pid) (λ (task : Task). record task { shares = task.shares || c.args.shares }) c.args.list.now.items _ _ _
+    let is = changes_one (is_task c.args.pid) (λ (task : Task). record task {
+      shares = task.shares || c.args.shares;
+    }) c.args.list.now.items _ _ _
     (rw c.deref.ensures.value at c.in-Some.ensures.found) c.task.view_is c.index_mut-task.ensures.value in
-    rw is (map_ascends task_before (sharing_task c.args.pid c.args.shares) c.args.list.now.items (sharing_keeps c.args.pid c.args.shares) c.requires)
+    rw is (map_ascends task_before (sharing_task c.args.pid c.args.shares) c.args.list.now.items
+    (sharing_keeps c.args.pid c.args.shares) c.requires)
 
 pub returns-in-None-clause-items : goal.returns-in-None-clause-items
 returns-in-None-clause-items c =
-    sym (changes_none (is_task c.args.pid) (λ (task : Task). record task { shares = task.shares || c.args.shares }) c.args.list.now.items
+    sym (changes_none (is_task c.args.pid) (λ (task : Task). record task { shares = task.shares || c.args.shares })
+    c.args.list.now.items
     (rw c.deref.ensures.value at c.in-None.ensures.none))

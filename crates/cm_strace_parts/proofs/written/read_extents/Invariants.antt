@@ -6,7 +6,8 @@ use Rattle.model_text.specs.Cut.{lines_of}
 
 -- the extents so far, and those of the rest, are those of the text
 abbrev pub invariant-loop-line : goal.invariant-loop-line
-invariant-loop-line l = option_map (λ more. l.list.items ++ more) (extents_of (lines_of l.rest)) ≡ written_extents l.text
+invariant-loop-line l = option_map (λ more. l.list.items ++ more) (extents_of (lines_of l.rest))
+    ≡ written_extents l.text
 
 abbrev pub decreases-loop-line : goal.decreases-loop-line
 decreases-loop-line l = length l.rest

@@ -5,5 +5,5 @@ pub invariant_of-result : goal.invariant_of-result
 invariant_of-result c = record {
   tasks = rw (c.in_ok-tasks.ensures, c.items.ensures) (first_ascends _ c.start.invariant.0);
   kept = rw c.new.ensures.items tt;
-  descriptors = rw c.new-2.ensures.items tt;
+  files = rw c.new-2.ensures.items (record { processes = tt; each = tt });
 }

@@ -1,7 +1,0 @@
-use Rattle.std.proofs.Common.{not, rules}
-use Rattle.std.proofs.lemmas.Fn.{filter_same}
-use Rattle.cm_strace_parts.proofs.descriptor.retain_others.Goals as goal
-use Rattle.model_strace.specs.Parts.{is_of}
-
-pub returns : goal.returns
-returns c = filter_same _ (λ d. not (is_of c.args.pid d)) _ (λ x b q r. (search rules, search rules)) _ _ c.retain.ensures.filtered

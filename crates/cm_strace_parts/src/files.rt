@@ -1,0 +1,462 @@
+// The descriptors that are followed, in a list for each process that has some, by ascending pids. A copy shares the
+// lists, and so does a child that has copies of its parent's: each is copied once it is changed.
+ghost use Rattle.std.specs.Prelude.{◌≡◌, ◌==◌, ◌∷◌, [], ◌<◌, false, find, filter, map, not, length, IfSome, IfNone};
+ghost use Rattle.std.specs.Prelude.{if◌then◌else◌, option_map};
+ghost use Rattle.std.specs.List.{list_any};
+ghost use Rattle.cm_base.specs.Outcome.{OrNoMemory, UnchangedOnErr};
+ghost use Rattle.cm_strace_parts.specs.Lists.{is_fd, fd_before, is_files, files_before, files_below};
+ghost use Rattle.cm_strace_parts.specs.Lists.{fds_of, descriptors_in, ListsInOrder};
+ghost use Rattle.cm_strace_parts.specs.Order.{Ascends, AllSay, IsCut, StandsAt, is_at};
+ghost use Rattle.model_strace.specs.Parts.{is_descriptor, is_of, is_closed_at_exec, copied_to, descriptor_before};
+ghost use Rattle.model_strace.specs.Parts.{put, put_all};
+
+use crate::descriptor::Descriptor;
+use crate::fd;
+use crate::fd::Fd;
+use cm_base::{NoMemory, Pid};
+use std::alloc::Global;
+use std::marker::Model;
+use std::rc::Rc;
+
+/// The descriptors of a process, and how many there are.
+#[derive(Debug, Drop)]
+pub struct Files {
+    pid: Pid,
+    len: usize,
+    fds: Rc<Vec<Fd>>,
+}
+
+impl Model for Files {
+    ghost use Rattle.std.specs.Prelude.{◌≡◌, length};
+    ghost use Rattle.cm_strace_parts.specs.Lists as lists;
+
+    ghost Value = { lists.Files };
+
+    ghost view = { λ f. record { pid = f.pid; fds = f.fds.value.items } };
+
+    ghost invariant = { λ f. f.len ≡ length f.fds.value.items };
+}
+
+// ---- those of a process
+
+impl Files {
+    // One descriptor of a process. Its only error is want of memory.
+    fn one(alloc: Global, pid: Pid, new: Fd) -> Result<Files, NoMemory>
+        ensures { OrNoMemory result (λ f. f ≡ record { pid = pid; fds = new ∷ [] }) }
+    {
+        let mut list = Vec::new(alloc);
+        list.push(new)?;
+        let fds = Rc::new(alloc, list)?;
+        Ok(Files::of(pid, fds))
+    }
+
+    // That list of a process.
+    fn of(pid: Pid, fds: Rc<Vec<Fd>>) -> Files
+        ensures { result ≡ record { pid = pid; fds = fds.value.items } }
+    {
+        let len = fd::count(&fds);
+        Files { pid, len, fds }
+    }
+
+    // The same, with the same list. Its only error is want of memory.
+    fn copy(&self) -> Result<Files, NoMemory>
+        ensures { OrNoMemory result (λ f. f ≡ self.now) }
+    {
+        let fds = self.fds.clone()?;
+        Ok(Files {
+            pid: self.pid,
+            len: self.len,
+            fds,
+        })
+    }
+
+    // The list, shared. Its only error is want of memory.
+    fn share(&self) -> Result<Rc<Vec<Fd>>, NoMemory>
+        ensures { OrNoMemory result (λ fds. fds.value.items ≡ self.now.fds) }
+    {
+        Ok(self.fds.clone()?)
+    }
+
+    // They are those of that process.
+    fn is(&self, pid: Pid) -> bool
+        ensures { result ≡ is_files pid self.now }
+    {
+        self.pid == pid
+    }
+
+    // They are those of a process with a lower pid.
+    fn is_below(&self, pid: Pid) -> bool
+        ensures { result ≡ files_below pid self.now }
+    {
+        self.pid.number() < pid.number()
+    }
+
+    // How many there are.
+    fn len(&self) -> usize
+        ensures { result ≡ length self.now.fds }
+    {
+        self.len
+    }
+
+    // The list.
+    fn list(&self) -> &[Fd]
+        ensures { result.now ≡ self.now.fds }
+    {
+        &self.fds
+    }
+
+    // The descriptor in its place, instead of that of its number. Its only error is want of memory, which leaves all
+    // as it was.
+    fn put(&mut self, alloc: Global, new: Fd) -> Result<(), NoMemory>
+        requires { Ascends fd_before self.old.fds }
+        ensures items { OrNoMemory result (λ _. self.new ≡ record self.old { fds = put fd_before new self.old.fds }) }
+        ensures unchanged { UnchangedOnErr result self.new self.old }
+    {
+        match Rc::get_mut(&mut self.fds) {
+            Some(list) => fd::put(list, new)?,
+            None => {
+                let mut list = fd::copy_list(alloc, &self.fds)?;
+                fd::put(&mut list, new)?;
+                self.fds = Rc::new(alloc, list)?;
+            }
+        }
+        self.len = fd::count(&self.fds);
+        Ok(())
+    }
+
+    // Copies of descriptors, each in its place: their list where there are no other ones. Its only error is want of
+    // memory, which leaves all as it was.
+    fn put_all(&mut self, alloc: Global, news: Rc<Vec<Fd>>) -> Result<(), NoMemory>
+        requires ascends { Ascends fd_before self.old.fds }
+        requires up { Ascends fd_before news.value.items }
+        ensures items { OrNoMemory result (λ _. self.new
+            ≡ record self.old { fds = put_all fd_before news.value.items self.old.fds }) }
+        ensures unchanged { UnchangedOnErr result self.new self.old }
+    {
+        if self.list().is_empty() {
+            self.len = fd::count(&news);
+            self.fds = news;
+            return Ok(());
+        }
+        let mut list = fd::copy_list(alloc, &self.fds)?;
+        fd::put_all(&mut list, &news)?;
+        let len = fd::count(&list);
+        self.fds = Rc::new(alloc, list)?;
+        self.len = len;
+        Ok(())
+    }
+
+    // That descriptor isn't followed any more. Its only error is want of memory, which leaves all as it was.
+    fn forget(&mut self, alloc: Global, number: u64) -> Result<(), NoMemory>
+        requires { Ascends fd_before self.old.fds }
+        ensures items { OrNoMemory result (λ _. self.new
+            ≡ record self.old { fds = filter (λ fd. not (is_fd number fd)) self.old.fds }) }
+        ensures unchanged { UnchangedOnErr result self.new self.old }
+    {
+        if fd::of_number(&self.fds, number).is_none() {
+            return Ok(());
+        }
+        match Rc::get_mut(&mut self.fds) {
+            Some(list) => fd::remove(list, number),
+            None => {
+                let mut list = fd::copy_list(alloc, &self.fds)?;
+                fd::remove(&mut list, number);
+                self.fds = Rc::new(alloc, list)?;
+            }
+        }
+        self.len = fd::count(&self.fds);
+        Ok(())
+    }
+
+    // What an execve leaves. Its only error is want of memory, which leaves all as it was.
+    fn execute(&mut self, alloc: Global) -> Result<(), NoMemory>
+        ensures items { OrNoMemory result (λ _. self.new
+            ≡ record self.old { fds = filter (λ fd. not fd.until_exec) self.old.fds }) }
+        ensures unchanged { UnchangedOnErr result self.new self.old }
+    {
+        if !fd::any_until_exec(&self.fds) {
+            return Ok(());
+        }
+        match Rc::get_mut(&mut self.fds) {
+            Some(list) => fd::close_at_exec(list),
+            None => {
+                let mut list = fd::copy_list(alloc, &self.fds)?;
+                fd::close_at_exec(&mut list);
+                self.fds = Rc::new(alloc, list)?;
+            }
+        }
+        self.len = fd::count(&self.fds);
+        Ok(())
+    }
+}
+
+// ---- those of all processes
+
+// The same, with the same lists. Its only error is want of memory.
+pub(crate) fn copy_list(alloc: Global, list: &[Files]) -> Result<Vec<Files>, NoMemory>
+    ensures { OrNoMemory result (λ made. made.items ≡ list.now) }
+{
+    let mut made = Vec::with_capacity(alloc, list.len())?;
+    for files in list {
+        let files = files.copy()?;
+        made.push(files)?;
+    }
+    Ok(made)
+}
+
+// The place of a pid: the processes before it have lower ones.
+fn place(list: &[Files], pid: Pid) -> usize
+    requires { Ascends files_before list.now }
+    ensures { IsCut (files_below pid) list.now result }
+{
+    list.partition_point(|files| files.is_below(pid))
+}
+
+// The descriptors of the process stand at the place.
+fn is_at(list: &[Files], at: usize, pid: Pid) -> bool
+    ensures { result ≡ is_at (is_files pid) list.now at }
+{
+    match list.get(at) {
+        Some(files) => files.is(pid),
+        None => false,
+    }
+}
+
+// The place of the process, where it has descriptors.
+fn find(list: &[Files], pid: Pid) -> Option<usize>
+    requires { Ascends files_before list.now }
+    ensures found { IfSome result (λ at. StandsAt (is_files pid) list.now at) }
+    ensures within { IfSome result (λ at. at < length list.now) }
+    ensures none { IfNone result (AllSay (is_files pid) false list.now) }
+{
+    let at = place(list, pid);
+    if is_at(list, at, pid) { Some(at) } else { None }
+}
+
+// The descriptors of a process, where it has a list.
+fn of_process(list: &[Files], pid: Pid) -> Option<&Files>
+    requires { Ascends files_before list.now }
+    ensures some { IfSome result (λ f. f.now.fds ≡ fds_of pid list.now) }
+    ensures none { IfNone result (fds_of pid list.now ≡ []) }
+{
+    match find(list, pid) {
+        Some(at) => Some(&list[at]),
+        None => None,
+    }
+}
+
+// The descriptor of that number of a process, where it is followed, without the process.
+fn fd_of(list: &[Files], pid: Pid, number: u64) -> Option<&Fd>
+    requires { ListsInOrder list.now }
+    ensures { option_map (λ fd. fd.now) result ≡ find (is_fd number) (fds_of pid list.now) }
+{
+    match of_process(list, pid) {
+        Some(files) => fd::of_number(files.list(), number),
+        None => None,
+    }
+}
+
+// The descriptor of that number of a process, where it is followed.
+pub(crate) fn descriptor_of(list: &[Files], pid: Pid, number: u64) -> Option<Descriptor>
+    requires { ListsInOrder list.now }
+    ensures { result ≡ find (is_descriptor pid number) (descriptors_in list.now) }
+{
+    match fd_of(list, pid, number) {
+        Some(fd) => Some(fd.descriptor(pid)),
+        None => None,
+    }
+}
+
+// A descriptor of the process is followed.
+pub(crate) fn has_any(list: &[Files], pid: Pid) -> bool
+    requires { ListsInOrder list.now }
+    ensures { result ≡ list_any (is_of pid) (descriptors_in list.now) }
+{
+    match of_process(list, pid) {
+        Some(files) => !files.list().is_empty(),
+        None => false,
+    }
+}
+
+// How many descriptors are followed.
+pub(crate) fn count(list: &[Files]) -> u128
+    ensures { result ≡ length (descriptors_in list.now) }
+{
+    let mut sum = 0;
+    for files in list {
+        sum += files.len() as u128;
+    }
+    sum
+}
+
+// The descriptor is followed, in the place of any of its number. Its only error is want of memory, which leaves all
+// as it was.
+pub(crate) fn follow(list: &mut Vec<Files>, alloc: Global, new: &Descriptor) -> Result<(), NoMemory>
+    requires { ListsInOrder list.old.items }
+    ensures items { OrNoMemory result (λ _. descriptors_in list.new.items
+        ≡ put descriptor_before new.now (descriptors_in list.old.items)) }
+    ensures unchanged { UnchangedOnErr result list.new.items list.old.items }
+    ensures ordered { ListsInOrder list.new.items }
+{
+    put_fd(list, alloc, new.pid, Fd::of(new))?;
+    Ok(())
+}
+
+// The descriptor in its place among those of the process. Its only error is want of memory, which leaves all as it
+// was.
+fn put_fd(list: &mut Vec<Files>, alloc: Global, pid: Pid, new: Fd) -> Result<(), NoMemory>
+    requires { ListsInOrder list.old.items }
+    ensures items { OrNoMemory result (λ _. list.new.items ≡ put files_before
+        (record { pid = pid; fds = put fd_before new (fds_of pid list.old.items) }) list.old.items) }
+    ensures unchanged { UnchangedOnErr result list.new.items list.old.items }
+{
+    let at = place(list, pid);
+    if is_at(list, at, pid) {
+        list[at].put(alloc, new)?;
+    } else {
+        let files = Files::one(alloc, pid, new)?;
+        list.insert(at, files)?;
+    }
+    Ok(())
+}
+
+// A child has copies of its parent's descriptors. Its only error is want of memory, which leaves all as it was.
+pub(crate) fn bear(
+    list: &mut Vec<Files>,
+    alloc: Global,
+    parent: Pid,
+    child: Pid,
+) -> Result<(), NoMemory>
+    requires { ListsInOrder list.old.items }
+    ensures items { OrNoMemory result (λ _. descriptors_in list.new.items ≡ put_all descriptor_before
+        (map (copied_to child) (filter (is_of parent) (descriptors_in list.old.items)))
+        (descriptors_in list.old.items)) }
+    ensures unchanged { UnchangedOnErr result list.new.items list.old.items }
+    ensures ordered { ListsInOrder list.new.items }
+{
+    match of_process(list, parent) {
+        Some(files) => {
+            let news = files.share()?;
+            put_fds(list, alloc, child, news)?;
+        }
+        None => {}
+    }
+    Ok(())
+}
+
+// The same, unless the child shares them.
+pub(crate) fn bear_unless(
+    list: &mut Vec<Files>,
+    alloc: Global,
+    parent: Pid,
+    child: Pid,
+    shares: bool,
+) -> Result<(), NoMemory>
+    requires { ListsInOrder list.old.items }
+    ensures items { OrNoMemory result (λ _. descriptors_in list.new.items
+        ≡ (if shares then descriptors_in list.old.items else put_all descriptor_before
+        (map (copied_to child) (filter (is_of parent) (descriptors_in list.old.items)))
+        (descriptors_in list.old.items))) }
+    ensures unchanged { UnchangedOnErr result list.new.items list.old.items }
+    ensures ordered { ListsInOrder list.new.items }
+{
+    if shares {
+        return Ok(());
+    }
+    bear(list, alloc, parent, child)
+}
+
+// Copies of descriptors in their places among those of the process. Its only error is want of memory, which leaves
+// all as it was.
+fn put_fds(
+    list: &mut Vec<Files>,
+    alloc: Global,
+    pid: Pid,
+    news: Rc<Vec<Fd>>,
+) -> Result<(), NoMemory>
+    requires ordered { ListsInOrder list.old.items }
+    requires up { Ascends fd_before news.value.items }
+    ensures items { OrNoMemory result (λ _. list.new.items ≡ put files_before
+        (record { pid = pid; fds = put_all fd_before news.value.items (fds_of pid list.old.items) }) list.old.items) }
+    ensures unchanged { UnchangedOnErr result list.new.items list.old.items }
+{
+    let at = place(list, pid);
+    if is_at(list, at, pid) {
+        list[at].put_all(alloc, news)?;
+    } else {
+        list.insert(at, Files::of(pid, news))?;
+    }
+    Ok(())
+}
+
+// That descriptor isn't followed any more. Its only error is want of memory, which leaves all as it was.
+pub(crate) fn forget(
+    list: &mut Vec<Files>,
+    alloc: Global,
+    pid: Pid,
+    number: u64,
+) -> Result<(), NoMemory>
+    requires { ListsInOrder list.old.items }
+    ensures items { OrNoMemory result (λ _. descriptors_in list.new.items
+        ≡ filter (λ d. not (is_descriptor pid number d)) (descriptors_in list.old.items)) }
+    ensures unchanged { UnchangedOnErr result list.new.items list.old.items }
+    ensures ordered { ListsInOrder list.new.items }
+{
+    let at = place(list, pid);
+    if is_at(list, at, pid) {
+        list[at].forget(alloc, number)?;
+        drop_empty(list, at);
+    }
+    Ok(())
+}
+
+// What an execve of the process leaves. Its only error is want of memory, which leaves all as it was.
+pub(crate) fn execute(list: &mut Vec<Files>, alloc: Global, pid: Pid) -> Result<(), NoMemory>
+    requires { ListsInOrder list.old.items }
+    ensures items { OrNoMemory result (λ _. descriptors_in list.new.items
+        ≡ filter (λ d. not (is_closed_at_exec pid d)) (descriptors_in list.old.items)) }
+    ensures unchanged { UnchangedOnErr result list.new.items list.old.items }
+    ensures ordered { ListsInOrder list.new.items }
+{
+    let at = place(list, pid);
+    if is_at(list, at, pid) {
+        list[at].execute(alloc)?;
+        drop_empty(list, at);
+    }
+    Ok(())
+}
+
+// There are no descriptors in the list at the place.
+fn is_empty_at(list: &[Files], at: usize) -> bool
+    ensures { result ≡ is_at (λ f. length f.fds == 0) list.now at }
+{
+    match list.get(at) {
+        Some(files) => files.list().is_empty(),
+        None => false,
+    }
+}
+
+// The list at the place goes if it has no descriptors.
+fn drop_empty(list: &mut Vec<Files>, at: usize)
+    requires { ListsInOrder list.old.items }
+    ensures items { descriptors_in list.new.items ≡ descriptors_in list.old.items }
+    ensures ordered { ListsInOrder list.new.items }
+{
+    if is_empty_at(list, at) {
+        list.remove(at);
+    }
+}
+
+// None of the process is followed any more.
+pub(crate) fn remove(list: &mut Vec<Files>, pid: Pid)
+    requires { ListsInOrder list.old.items }
+    ensures items { descriptors_in list.new.items ≡ filter (λ d. not (is_of pid d)) (descriptors_in list.old.items) }
+    ensures ordered { ListsInOrder list.new.items }
+{
+    match find(list, pid) {
+        Some(at) => {
+            list.remove(at);
+        }
+        None => {}
+    }
+}
