@@ -20,7 +20,8 @@ use Rattle.model_strace.specs.Rest.{Work, read_fed, released}
 use Rattle.model_strace.specs.Turn.{Turn, turn}
 
 -- no line is next after a deed that no lines wait for
-pub born_alone : (born : Option ℕ) (d : Deed) (lines : List Line) (p : Parts) → BornOf (given.On born) d → awaits lines d ≡ false
+pub born_alone : (born : Option ℕ) (d : Deed) (lines : List Line) (p : Parts) → BornOf (given.On born) d
+    → awaits lines d ≡ false
     → next_line p lines (born_is born) ≡ None
 born_alone born (deed.Acts (act.Bears birth)) lines p is alone =
     ap (λ b. next_line p lines (born_is b)) is ∙ next_none p lines birth.child (any_none birth.child lines alone)
@@ -45,15 +46,18 @@ act_waits (deed.Refused why) new old is waits = absurd is
 act_waits (deed.Exceeds limit) new old is waits = absurd is
 
 -- a line is read where its step is known
-pub concluded_read : (w : World) (pid : ℕ) (body : List ℕ) (step : Step) (now old : Work) → now ≡ record old { parts = now.parts }
+pub concluded_read : (w : World) (pid : ℕ) (body : List ℕ) (step : Step) (now old : Work) → now
+    ≡ record old { parts = now.parts }
     → step_is pid step now.parts ≡ turn w pid body old.parts
-    → concluded w pid step now ≡ read_fed w (record { number = old.count + 1; pid = pid; body = body }) (record old { count = old.count + 1 })
+    → concluded w pid step now ≡ read_fed w (record { number = old.count + 1; pid = pid; body = body })
+    (record old { count = old.count + 1 })
 concluded_read w pid body step now old others is =
     ap (concluded w pid step) others
-    ∙ ap (λ (t : Turn). and_then (given_at (old.count + 1) t)
-    (λ r. released w (length old.held) r.born (record old { parts = r.parts; count = old.count + 1 }))) is
+    ∙ ap (λ (t : Turn). and_then (given_at (old.count + 1) t) (λ r. released w (length old.held) r.born
+    (record old { parts = r.parts; count = old.count + 1 }))) is
 
 -- what holds at each world holds at one
-pub at_world : {T E : Type 0} (r : Result T E) (P : World → T → Type 0) (w : World) → OrNoMemory r (λ x. (v : World) → P v x) → OrNoMemory r (P w)
+pub at_world : {T E : Type 0} (r : Result T E) (P : World → T → Type 0) (w : World)
+    → OrNoMemory r (λ x. (v : World) → P v x) → OrNoMemory r (P w)
 at_world (Ok x) P w h = h w
 at_world (Err e) P w h = h

@@ -3,3 +3,7 @@ pub mod Resumed
 pub mod HeldLines
 pub mod Released
 pub mod Concluded
+pub mod Quiet
+pub mod Taken
+pub mod Retained
+pub mod Dues

@@ -11,50 +11,60 @@ use Rattle.model_text.specs.Reading.{Placed, Stop}
 
 -- ---- events before events
 -- events come before all that follows
-preceded_twice : {S : Type 0} (es fs : List Placed) (a : After S) → preceded es (preceded fs a) ≡ preceded (es ++ fs) a
+preceded_twice : {S : Type 0} (es fs : List Placed) (a : After S) → preceded es (preceded fs a) ≡ preceded (es
+    ++ fs) a
 preceded_twice es fs (Goes gs s) = ap (λ l. Goes l s) (sym (append_assoc es fs gs))
 preceded_twice es fs (Halts gs stop) = ap (λ l. Halts l stop) (sym (append_assoc es fs gs))
 
 -- events come before one thing after another
-pub preceded_then : {S T : Type 0} (es : List Placed) (a : After S) (next : S → After T) → preceded es (and_then a next) ≡ and_then (preceded es a) next
+pub preceded_then : {S T : Type 0} (es : List Placed) (a : After S) (next : S → After T)
+    → preceded es (and_then a next) ≡ and_then (preceded es a) next
 preceded_then es (Goes fs s) next = preceded_twice es fs (next s)
 preceded_then es (Halts fs stop) next = refl
 
 -- what goes on after the first thing
-pub goes_then : {S T : Type 0} (es fs : List Placed) (a : After S) (s : S) (next : S → After T) → Goes fs s ≡ preceded es a
+pub goes_then : {S T : Type 0} (es fs : List Placed) (a : After S) (s : S) (next : S → After T) → Goes fs s
+    ≡ preceded es a
     → preceded fs (next s) ≡ preceded es (and_then a next)
 goes_then es fs a s next is = ap (λ b. and_then b next) is ∙ sym (preceded_then es a next)
 
 -- where nothing follows the first thing
-pub goes_alone : {S T : Type 0} (es fs : List Placed) (a : After S) (s : S) (next : S → After T) (t : T) → Goes fs s ≡ preceded es a → next s ≡ Goes [] t
+pub goes_alone : {S T : Type 0} (es fs : List Placed) (a : After S) (s : S) (next : S → After T) (t : T)
+    → Goes fs s ≡ preceded es a → next s ≡ Goes [] t
     → Goes fs t ≡ preceded es (and_then a next)
 goes_alone es fs a s next t is none =
     ap (λ l. Goes l t) (sym (append-nil fs)) ∙ ap (preceded fs) (sym none) ∙ goes_then es fs a s next is
 
 -- what stops at the first thing
-pub halts_then : {S T : Type 0} (es fs : List Placed) (a : After S) (stop : Stop) (next : S → After T) → Halts fs stop ≡ preceded es a
+pub halts_then : {S T : Type 0} (es fs : List Placed) (a : After S) (stop : Stop) (next : S → After T)
+    → Halts fs stop ≡ preceded es a
     → Halts fs stop ≡ preceded es (and_then a next)
 halts_then es fs a stop next is = ap (λ b. and_then b next) is ∙ sym (preceded_then es a next)
 
 -- ---- held lines
 -- without a next line nothing more is read
-pub released_none : (w : World) (left : ℕ) (pids : List ℕ) (t : Work) → next_line t.parts t.held pids ≡ None → released w left pids t ≡ Goes [] t
+pub released_none : (w : World) (left : ℕ) (pids : List ℕ) (t : Work) → next_line t.parts t.held pids ≡ None
+    → released w left pids t ≡ Goes [] t
 released_none w zero pids t none = refl
 released_none w (suc left) pids t none = ap (λ x. then_released w x t (λ pids' t'. released w left pids' t')) none
 
 -- no line of a child is next where none is held
-pub next_none : (p : Parts) (lines : List Line) (pid : ℕ) → find (is_line_of pid) lines ≡ None → next_line p lines (pid ∷ []) ≡ None
+pub next_none : (p : Parts) (lines : List Line) (pid : ℕ) → find (is_line_of pid) lines ≡ None
+    → next_line p lines (pid ∷ []) ≡ None
 next_none p lines pid none =
-    elim (is_known pid p) as (λ b. cond b (option_or (next_with (pid ∷ []) (find (is_line_of pid) lines)) None) None ≡ None) [
+    elim (is_known pid p) as (λ b. cond b (option_or (next_with (pid ∷ []) (find
+    (is_line_of pid) lines)) None) None ≡ None) [
       | true ↦ ap (λ l. option_or (next_with (pid ∷ []) l) None) none
       | false ↦ refl
     ]
 
 -- the next line is read, and then the others
-pub released_next : (w : World) (left : ℕ) (pids : List ℕ) (t : Work) (l : Line) (rest : List ℕ) → length t.held ≡ suc left
+pub released_next : (w : World) (left : ℕ) (pids : List ℕ) (t : Work) (l : Line) (rest : List ℕ) → length t.held
+    ≡ suc left
     → next_line t.parts t.held pids ≡ Some (record { line = l; pids = rest })
     → released w (length t.held) pids t
-    ≡ and_then (read_line w l t.parts) (λ r. released w left (r.born ++ rest) (record t { parts = r.parts; held = without_first l.pid t.held }))
+    ≡ and_then (read_line w l t.parts) (λ r. released w left (r.born
+    ++ rest) (record t { parts = r.parts; held = without_first l.pid t.held }))
 released_next w left pids t l rest size next =
     ap (λ n. released w n pids t) size ∙ ap (λ x. then_released w x t (λ pids' t'. released w left pids' t')) next
 
@@ -66,7 +76,8 @@ first_is (x ∷ pids) pid is = let e : x ≡ pid = cc in ap (λ y. y ∷ pids) e
 
 -- the next line is one of the first pid
 pub next_of_first : (p : Parts) (lines : List Line) (pid : ℕ) (pids : List ℕ) (l : Line)
-    → cond (is_known pid p) (find (is_line_of pid) lines) None ≡ Some l → next_line p lines (pid ∷ pids) ≡ Some (record { line = l; pids = pid ∷ pids })
+    → cond (is_known pid p) (find (is_line_of pid) lines) None ≡ Some l → next_line p lines (pid ∷ pids)
+    ≡ Some (record { line = l; pids = pid ∷ pids })
 next_of_first p lines pid pids l is =
     (elim (is_known pid p) as (λ b. cond b (find (is_line_of pid) lines) None ≡ Some l
     → cond b (option_or (next_with (pid ∷ pids) (find (is_line_of pid) lines)) (next_line p lines pids))
@@ -77,20 +88,24 @@ next_of_first p lines pid pids l is =
 
 -- the next line is one of the later pids
 pub next_of_later : (p : Parts) (lines : List Line) (pid : ℕ) (pids : List ℕ)
-    → cond (is_known pid p) (find (is_line_of pid) lines) None ≡ None → next_line p lines (pid ∷ pids) ≡ next_line p lines pids
+    → cond (is_known pid p) (find (is_line_of pid) lines) None ≡ None → next_line p lines (pid ∷ pids)
+    ≡ next_line p lines pids
 next_of_later p lines pid pids is =
     (elim (is_known pid p) as (λ b. cond b (find (is_line_of pid) lines) None ≡ None
-    → cond b (option_or (next_with (pid ∷ pids) (find (is_line_of pid) lines)) (next_line p lines pids)) (next_line p lines pids) ≡ next_line p lines pids) [
+    → cond b (option_or (next_with (pid ∷ pids) (find (is_line_of pid) lines)) (next_line p lines pids))
+    (next_line p lines pids) ≡ next_line p lines pids) [
       | true ↦ λ h. ap (λ x. option_or (next_with (pid ∷ pids) x) (next_line p lines pids)) h
       | false ↦ λ h. refl
     ]) is
 
 -- no pid stands first where there is none
-pub none_first : (p : Parts) (lines : List Line) (pids : List ℕ) → slice_get pids 0 ≡ None → next_line p lines pids ≡ None
+pub none_first : (p : Parts) (lines : List Line) (pids : List ℕ) → slice_get pids 0 ≡ None → next_line p lines pids
+    ≡ None
 none_first p lines [] none = refl
 none_first p lines (pid ∷ pids) none = absurd (cc)
 
 -- the same lines of the same pids
-pub released_same : (w : World) (m n : ℕ) (ps qs : List ℕ) (t u : Work) → m ≡ n → ps ≡ qs → t ≡ u → released w m ps t ≡ released w n qs u
+pub released_same : (w : World) (m n : ℕ) (ps qs : List ℕ) (t u : Work) → m ≡ n → ps ≡ qs → t ≡ u
+    → released w m ps t ≡ released w n qs u
 released_same w m n ps qs t u size pids work =
     ap (λ k. released w k ps t) size ∙ ap (λ l. released w n l t) pids ∙ ap (released w n qs) work

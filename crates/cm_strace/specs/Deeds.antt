@@ -15,7 +15,8 @@ use Rattle.model_strace.specs.Turn.{Turn, Quiet, Refused, Exceeds, gives, done, 
 -- what an act of a process does
 abbrev pub act_is : ℕ → Act → Parts → Turn
 act_is pid (act.Does call answer) p = done pid (call_of call) answer p
-act_is pid (act.Bears birth) p = gives_birth pid birth.child birth.user (with_child pid birth.child birth.user birth.shares p)
+act_is pid (act.Bears birth) p = gives_birth pid birth.child birth.user
+    (with_child pid birth.child birth.user birth.shares p)
 act_is pid act.Ends p = gives (after_end pid p) pid model.Exit res.Done
 
 -- what a deed of a process does, where it has changed the parts quietly

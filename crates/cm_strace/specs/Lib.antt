@@ -4,3 +4,6 @@ pub mod Deeds
 pub mod Given
 pub mod Works
 pub mod Stages
+pub mod Taken
+pub mod Queues
+pub mod Drafts

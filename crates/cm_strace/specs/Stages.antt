@@ -24,8 +24,8 @@ abbrev pub stage_ended : Option Stop → Stage
 stage_ended None = stage.Finished
 stage_ended (Some stop) = stage.Stopped stop
 
--- There is room for the numbers of the user namespaces that may still come: a session begins with fewer than 2^31 of them,
--- and is fed at most 2^31 lines, each of which makes one more at most.
+-- There is room for the numbers of the user namespaces that may still come: a session begins with fewer than 2^31 of
+-- them, and is fed at most 2^31 lines, each of which makes one more at most.
 abbrev pub IsRoomy : Stage → Work → Type 0
 IsRoomy stage.Going t = (uses t < 2 ^ 31 + t.count) × (t.count ≤ 2 ^ 31)
 IsRoomy _ t = Unit {0}

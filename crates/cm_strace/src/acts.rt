@@ -1,6 +1,7 @@
-// Acts are made: the event gets its place, and the parts change as the call has changed what is known. Whatever memory this
-// takes is asked for first.
-ghost use Rattle.std.specs.Prelude.{◌≡◌, ◌++◌, ◌∷◌, [], ◌<◌, ◌≤◌, ◌+◌, if◌then◌else◌, nat_lt, length, OnErr, vec_len, vec_capacity};
+// Acts are made: the event gets its place, and the parts change as the call has changed what is known. Whatever
+// memory this takes is asked for first.
+ghost use Rattle.std.specs.Prelude.{◌≡◌, ◌++◌, ◌∷◌, [], ◌<◌, ◌≤◌, ◌+◌, if◌then◌else◌, nat_lt, length, OnErr, vec_len};
+ghost use Rattle.std.specs.Prelude.{vec_capacity};
 ghost use Rattle.cm_base.specs.Limited.{limit_number};
 ghost use Rattle.cm_base.specs.Limits.{greatest_number};
 ghost use Rattle.cm_base.specs.Outcome.{OrNoMemory, UnchangedOnErr};
@@ -8,7 +9,7 @@ ghost use Rattle.cm_base.specs.declared.limited.Limited.TheVariants.{Descriptors
 ghost use Rattle.cm_base.specs.declared.res.Res.TheVariants.{Done};
 ghost use Rattle.cm_state.specs.Call.{call_of};
 ghost use Rattle.cm_strace.specs.Deeds.{act_is, step_is, IsAct};
-ghost use Rattle.cm_strace.specs.Given.{given_is, BornOf};
+ghost use Rattle.cm_strace.specs.Given.{given_is, placed_at, BornOf};
 ghost use Rattle.model_strace.specs.After.{preceded};
 ghost use Rattle.model_strace.specs.Lines.{given_at};
 ghost use Rattle.model_strace.specs.Parts.{without_kept};
@@ -81,8 +82,9 @@ fn make(
     events.reserve(1)?;
     match act {
         Act::Does(call, answer) => {
+            change(alloc, parts, pid, &call, &answer)?;
             forget(parts, pid, resumed);
-            does(parts, pid, call, answer, number, events);
+            put_event(events, number, pid, call, answer);
             Ok(Given::On(None))
         }
         Act::Ends => {
@@ -108,48 +110,51 @@ fn make(
     }
 }
 
-// A call with its result. There is room for its event.
-fn does(parts: &mut Parts, pid: Pid, call: Call, answer: Res, number: u64, events: &mut Vec<Placed>)
-    requires spaces { parts.old.spaces < greatest_number }
-    requires room { vec_len events.old < vec_capacity events.old }
-    ensures changed { parts.new ≡ after_call pid (call_of call) answer parts.old }
-    ensures event { events.new.items ≡ events.old.items ++ record { line = number; event = record { pid = pid; call = call_of call; res = answer } } ∷ [] }
-    ensures spaces { parts.new.spaces ≤ parts.old.spaces + 1 }
-{
-    change(parts, pid, &call, &answer);
-    put_event(events, number, pid, call, answer);
-}
-
 // The descriptors exceed their limit.
 fn has_too_many(parts: &Parts) -> bool
     ensures { result ≡ nat_lt (limit_number Descriptors) (length parts.now.descriptors) }
 {
-    parts.descriptor_count() as u64 > Limited::Descriptors.number()
+    parts.descriptor_count() > u128::from(Limited::Descriptors.number())
 }
 
-// What is known after a call: unshare and setns move the process to another user namespace, execve closes descriptors.
-fn change(parts: &mut Parts, pid: Pid, call: &Call, answer: &Res)
+// What is known after a call: unshare and setns move the process to another user namespace, execve closes
+// descriptors. Its only error is want of memory, which leaves the parts as they were.
+fn change(
+    alloc: Global,
+    parts: &mut Parts,
+    pid: Pid,
+    call: &Call,
+    answer: &Res,
+) -> Result<(), NoMemory>
     requires { parts.old.spaces < greatest_number }
-    ensures changed { parts.new ≡ after_call pid (call_of call.now) answer.now parts.old }
+    ensures changed { OrNoMemory result (λ _. parts.new ≡ after_call pid (call_of call.now) answer.now parts.old) }
+    ensures unchanged { UnchangedOnErr result parts.new parts.old }
     ensures spaces { parts.new.spaces ≤ parts.old.spaces + 1 }
 {
     match answer {
-        Res::Done => change_done(parts, pid, call),
-        Res::Id(_) | Res::Child(_) | Res::Err(_) => {}
+        Res::Done => change_done(alloc, parts, pid, call),
+        Res::Id(_) | Res::Child(_) | Res::Err(_) => Ok(()),
     }
 }
 
 // The same after one that is done.
-fn change_done(parts: &mut Parts, pid: Pid, call: &Call)
+fn change_done(alloc: Global, parts: &mut Parts, pid: Pid, call: &Call) -> Result<(), NoMemory>
     requires { parts.old.spaces < greatest_number }
-    ensures changed { parts.new ≡ after_call pid (call_of call.now) Done parts.old }
+    ensures changed { OrNoMemory result (λ _. parts.new ≡ after_call pid (call_of call.now) Done parts.old) }
+    ensures unchanged { UnchangedOnErr result parts.new parts.old }
     ensures spaces { parts.new.spaces ≤ parts.old.spaces + 1 }
 {
     match call {
-        Call::Unshare => parts.move_to_new(pid),
-        Call::SetNs(space) => parts.move_to(pid, *space),
-        Call::Exec(_) => parts.execute(pid),
-        _ => {}
+        Call::Unshare => {
+            parts.move_to_new(pid);
+            Ok(())
+        }
+        Call::SetNs(space) => {
+            parts.move_to(pid, *space);
+            Ok(())
+        }
+        Call::Exec(_) => parts.execute(alloc, pid),
+        _ => Ok(()),
     }
 }
 
@@ -178,7 +183,7 @@ fn bear(
 // One event more, for which there is room.
 fn put_event(events: &mut Vec<Placed>, number: u64, pid: Pid, call: Call, answer: Res)
     requires { vec_len events.old < vec_capacity events.old }
-    ensures { events.new.items ≡ events.old.items ++ record { line = number; event = record { pid = pid; call = call_of call; res = answer } } ∷ [] }
+    ensures { events.new.items ≡ events.old.items ++ placed_at number pid (call_of call) answer ∷ [] }
 {
     let event = Event {
         pid,

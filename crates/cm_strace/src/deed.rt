@@ -1,4 +1,5 @@
-// What a line does, as far as it is done later: an act is made once its event has a place and all memory for it is there.
+// What a line does, as far as it is done later: an act is made once its event has a place and all memory for it is
+// there.
 use crate::placed::Stop;
 use cm_base::{Limited, LineFault, Pid, Res};
 use cm_state::Call;

@@ -1,10 +1,11 @@
-//! A session of a reader of strace(1), which is fed line by line: what each line gives is the reading of model_strace/specs
-//! (Turn, Lines, Rest).
+//! A session of a reader of strace(1), which is fed line by line: what each line gives is the reading of
+//! model_strace/specs (Turn, Lines, Rest).
 #![tactic(auto)]
 
 mod acts;
 mod agenda;
 mod deed;
+mod draft;
 mod ending;
 mod line;
 mod opens;
@@ -13,6 +14,7 @@ mod stage;
 mod step;
 mod told;
 mod tracer;
+mod waiting;
 mod work;
 mod writes;
 

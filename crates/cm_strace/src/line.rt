@@ -1,9 +1,11 @@
 // Lines that are held: those of pids that aren't known yet, in the order in which they came.
-ghost use Rattle.std.specs.Prelude.{◌≡◌, ◌<◌, ◌≤◌, ◌+◌, find, is_some, if◌then◌else◌, length, position, IfSome, IfNone};
+ghost use Rattle.std.specs.Prelude.{◌≡◌, ◌<◌, ◌≤◌, ◌+◌, true, false, find, length, slice_get, slice_set};
+ghost use Rattle.std.specs.Prelude.{IfSome, IfNone, None};
 ghost use Rattle.std.specs.List.{list_any};
 ghost use Rattle.cm_base.specs.Limits.{greatest_number};
 ghost use Rattle.cm_base.specs.Outcome.{OrNoMemory};
 ghost use Rattle.cm_strace.specs.Given.{given_is};
+ghost use Rattle.cm_strace.specs.Taken.{NextFlag, untaken, waits_before};
 ghost use Rattle.cm_world.specs.World.{world_of};
 ghost use Rattle.model_strace.specs.After.{preceded};
 ghost use Rattle.model_strace.specs.Lines.{given_at, is_line_of, read_line};
@@ -19,14 +21,13 @@ use cm_strace_parts::Parts;
 use cm_world::World;
 use std::alloc::Global;
 use std::marker::Model;
-use std::rc::Rc;
 
-/// A line: its number in the log, its pid and its body. A copy shares its body.
+/// A line: its number in the log, its pid and its body.
 #[derive(Debug, Drop)]
 pub(crate) struct Line {
     number: u64,
     pid: Pid,
-    body: Rc<Vec<u8>>,
+    body: Vec<u8>,
 }
 
 impl Model for Line {
@@ -34,7 +35,7 @@ impl Model for Line {
 
     ghost Value = { model.Line };
 
-    ghost view = { λ l. record { number = l.number; pid = l.pid; body = l.body.value.items } };
+    ghost view = { λ l. record { number = l.number; pid = l.pid; body = l.body.items } };
 }
 
 impl Line {
@@ -42,21 +43,8 @@ impl Line {
     pub(crate) fn new(alloc: Global, number: u64, pid: Pid, body: &[u8]) -> Result<Line, NoMemory>
         ensures { OrNoMemory result (λ l. l ≡ record { number = number; pid = pid; body = body.now }) }
     {
-        let bytes = Vec::from_slice(alloc, body)?;
-        let body = Rc::new(alloc, bytes)?;
+        let body = Vec::from_slice(alloc, body)?;
         Ok(Line { number, pid, body })
-    }
-
-    // The same line. Its only error is want of memory.
-    fn copy(&self) -> Result<Line, NoMemory>
-        ensures { OrNoMemory result (λ l. l ≡ self.now) }
-    {
-        let body = self.body.clone()?;
-        Ok(Line {
-            number: self.number,
-            pid: self.pid,
-            body,
-        })
     }
 
     // The line is one of that pid.
@@ -102,18 +90,6 @@ fn read(
     conclude(alloc, parts, pid, step, number, events)
 }
 
-// The same lines. Its only error is want of memory.
-pub(crate) fn copy_list(alloc: Global, list: &[Line]) -> Result<Vec<Line>, NoMemory>
-    ensures { OrNoMemory result (λ made. made.items ≡ list.now) }
-{
-    let mut made = Vec::with_capacity(alloc, list.len())?;
-    for l in list {
-        let l = l.copy()?;
-        made.push(l)?;
-    }
-    Ok(made)
-}
-
 // A line of that pid is held.
 pub(crate) fn has_line(list: &[Line], pid: Pid) -> bool
     ensures { result ≡ list_any (is_line_of pid) list.now }
@@ -121,23 +97,41 @@ pub(crate) fn has_line(list: &[Line], pid: Pid) -> bool
     list.iter().any(|l| l.is_of(pid))
 }
 
-// The place of the first line of that pid.
-fn place_of(list: &[Line], pid: Pid) -> Option<usize>
-    ensures { result ≡ position (is_line_of pid) list.now }
+// The place of the first line of a pid that wasn't taken, where none of these stands before `from`.
+pub(crate) fn next_place(lines: &[Line], taken: &[bool], pid: Pid, from: usize) -> Option<usize>
+    requires flags { length taken.now ≡ length lines.now }
+    requires none { waits_before pid from lines.now taken.now ≡ false }
+    ensures within { IfSome result (λ at. at < length lines.now) }
+    ensures line { IfSome result (λ at. slice_get lines.now at
+        ≡ find (is_line_of pid) (untaken lines.now taken.now)) }
+    ensures rest { IfSome result (λ at. untaken lines.now (slice_set taken.now at true)
+        ≡ without_first pid (untaken lines.now taken.now)) }
+    ensures past { IfSome result (λ at. waits_before pid (at + 1) lines.now (slice_set taken.now at true)
+        ≡ false) }
+    ensures none { IfNone result (find (is_line_of pid) (untaken lines.now taken.now) ≡ None) }
 {
-    list.iter().position(|l| l.is_of(pid))
+    for at in from..lines.len() {
+        if lines[at].is_of(pid) && !taken[at] {
+            return Some(at);
+        }
+    }
+    None
 }
 
-// The first line of that pid is taken out.
-pub(crate) fn take_first(list: &mut Vec<Line>, pid: Pid) -> Option<Line>
-    ensures line { result ≡ find (is_line_of pid) list.old.items }
-    ensures rest { list.new.items ≡ without_first pid list.old.items }
-    ensures own { IfSome result (λ l. l.pid ≡ pid) }
-    ensures none { IfNone result (list.new.items ≡ list.old.items) }
-    ensures fewer { length list.new.items + (if is_some result then 1 else 0) ≡ length list.old.items }
+// The lines that were taken go out, the others stay in their order.
+pub(crate) fn remove_taken(lines: &mut Vec<Line>, taken: &[bool])
+    requires flags { length taken.now ≡ length lines.old.items }
+    ensures { lines.new.items ≡ untaken lines.old.items taken.now }
 {
-    match place_of(list, pid) {
-        Some(at) => Some(list.remove(at)),
-        None => None,
-    }
+    let mut flags = taken.iter();
+    lines.retain(
+        |_line: &Line| -> bool
+            ensures { NextFlag flags.entry.rest.now result flags.exit.rest.now }
+        {
+            match flags.next() {
+                Some(taken) => !*taken,
+                None => true,
+            }
+        },
+    );
 }

@@ -1,4 +1,5 @@
-// The open of a file: it is followed where it is one of a process's map files, its setgroups file, or its user namespace.
+// The open of a file: it is followed where it is one of a process's map files, its setgroups file, or its user
+// namespace.
 ghost use Rattle.std.specs.Prelude.{◌≡◌, ℕ, Some};
 ghost use Rattle.cm_base.specs.Outcome.{OrNoMemory, UnchangedOnErr};
 ghost use Rattle.cm_strace.specs.Deeds.{deed_is, Waits};
@@ -30,9 +31,9 @@ pub(crate) fn opens(
     ensures spaces { parts.new.spaces ≡ parts.old.spaces }
 {
     match read_quote(alloc, opening.path)? {
-        Quote::Bytes(path) => opens_path(parts, pid, opening, number, &path),
+        Quote::Bytes(path) => opens_path(alloc, parts, pid, opening, number, &path),
         Quote::Shortened | Quote::NoText => {
-            parts.forget_descriptor(pid, number);
+            parts.forget_descriptor(alloc, pid, number)?;
             Ok(Deed::Quiet)
         }
     }
@@ -40,6 +41,7 @@ pub(crate) fn opens(
 
 // The same of a path that can be read, by the file that it names where it is absolute.
 fn opens_path(
+    alloc: Global,
     parts: &mut Parts,
     pid: Pid,
     opening: Opening<'_>,
@@ -54,37 +56,47 @@ fn opens_path(
 {
     match file_at(pid, path) {
         Some(named) => if named.file.is_followed(opening.writes) {
-            opens_of(parts, pid, number, opening.until_exec, named)
+            opens_of(alloc, parts, pid, number, opening.until_exec, named)
         } else {
-            parts.forget_descriptor(pid, number);
+            parts.forget_descriptor(alloc, pid, number)?;
             Ok(Deed::Quiet)
         },
-        None => Ok(opens_other(parts, pid, number, opening.writes, path)),
+        None => opens_other(alloc, parts, pid, number, opening.writes, path),
     }
 }
 
 // Another file: a relative path that may name a file which is followed can't be told from one that does.
-fn opens_other(parts: &mut Parts, pid: Pid, number: u64, writes: bool, path: &[u8]) -> Deed
-    ensures turn { deed_is pid result parts.new ≡ opens_other pid number writes (relative_file path.now) parts.old }
-    ensures waits { Waits result parts.new parts.old }
+fn opens_other(
+    alloc: Global,
+    parts: &mut Parts,
+    pid: Pid,
+    number: u64,
+    writes: bool,
+    path: &[u8],
+) -> Result<Deed, NoMemory>
+    ensures turn { OrNoMemory result (λ deed. deed_is pid deed parts.new
+        ≡ opens_other pid number writes (relative_file path.now) parts.old) }
+    ensures unchanged { UnchangedOnErr result parts.new parts.old }
+    ensures waits { OrNoMemory result (λ deed. Waits deed parts.new parts.old) }
     ensures spaces { parts.new.spaces ≡ parts.old.spaces }
 {
     match relative_file(path) {
         Some(file) => if file.is_followed(writes) {
-            Deed::Refused(LineFault::Descriptor)
+            Ok(Deed::Refused(LineFault::Descriptor))
         } else {
-            parts.forget_descriptor(pid, number);
-            Deed::Quiet
+            parts.forget_descriptor(alloc, pid, number)?;
+            Ok(Deed::Quiet)
         },
         None => {
-            parts.forget_descriptor(pid, number);
-            Deed::Quiet
+            parts.forget_descriptor(alloc, pid, number)?;
+            Ok(Deed::Quiet)
         }
     }
 }
 
 // A file of a process: it can be followed where the process is known and the opener shares no descriptors.
 fn opens_of(
+    alloc: Global,
     parts: &mut Parts,
     pid: Pid,
     number: u64,
@@ -111,18 +123,18 @@ fn opens_of(
         space,
         until_exec,
     };
-    follows(parts, new)
+    follows(alloc, parts, new)
 }
 
 // A descriptor more, unless they exceed their limit then.
-fn follows(parts: &mut Parts, new: Descriptor) -> Result<Deed, NoMemory>
+fn follows(alloc: Global, parts: &mut Parts, new: Descriptor) -> Result<Deed, NoMemory>
     ensures turn { OrNoMemory result (λ deed. (pid : ℕ) → deed_is pid deed parts.new ≡ follows new parts.old) }
     ensures unchanged { UnchangedOnErr result parts.new parts.old }
     ensures waits { OrNoMemory result (λ deed. Waits deed parts.new parts.old) }
     ensures spaces { parts.new.spaces ≡ parts.old.spaces }
 {
-    parts.follow(new)?;
-    if parts.descriptor_count() as u64 > Limited::Descriptors.number() {
+    parts.follow(alloc, new)?;
+    if parts.descriptor_count() > u128::from(Limited::Descriptors.number()) {
         return Ok(Deed::Exceeds(Limited::Descriptors));
     }
     Ok(Deed::Quiet)

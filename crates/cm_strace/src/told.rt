@@ -1,5 +1,5 @@
 // What a call that is told does to what is known (model_strace/specs, Turn). What gives an event is left to be done.
-ghost use Rattle.std.specs.Prelude.{◌≡◌, ℕ, Some, option_map};
+ghost use Rattle.std.specs.Prelude.{◌≡◌, ℕ, Some};
 ghost use Rattle.cm_base.specs.Outcome.{OrNoMemory, UnchangedOnErr};
 ghost use Rattle.cm_base.specs.declared.res.Res.TheVariants.{Child};
 ghost use Rattle.cm_state.specs.Call.{call_of};
@@ -7,7 +7,8 @@ ghost use Rattle.cm_strace.specs.Deeds.{deed_is, Waits};
 ghost use Rattle.cm_strace_calls.specs.Told.{told_is};
 ghost use Rattle.cm_strace_text.specs.Outcomes.{outcome_is};
 ghost use Rattle.model_strace.specs.Parts.{Parts, descriptor_of};
-ghost use Rattle.model_strace.specs.Turn.{told_turn, birth_call, bears, followed, for_space, joins_unknown, joins, copies, copies_to};
+ghost use Rattle.model_strace.specs.Turn.{told_turn, birth_call, bears, followed, for_space, joins_unknown, joins};
+ghost use Rattle.model_strace.specs.Turn.{copies, copies_to};
 
 use crate::deed::{Act, Birth, Deed};
 use crate::opens::opens;
@@ -26,7 +27,8 @@ pub(crate) fn take(
     pid: Pid,
     told: Told<'_>,
 ) -> Result<Deed, NoMemory>
-    ensures turn { OrNoMemory result (λ deed. deed_is pid deed parts.new ≡ told_turn pid (told_is told.entry) parts.old) }
+    ensures turn { OrNoMemory result (λ deed. deed_is pid deed parts.new
+        ≡ told_turn pid (told_is told.entry) parts.old) }
     ensures unchanged { UnchangedOnErr result parts.new parts.old }
     ensures waits { OrNoMemory result (λ deed. Waits deed parts.new parts.old) }
     ensures spaces { parts.new.spaces ≡ parts.old.spaces }
@@ -40,11 +42,11 @@ pub(crate) fn take(
         Told::Joins(number, flags, outcome) => Ok(joins(parts, pid, number, flags, outcome)),
         Told::Opens(opening, number) => opens(alloc, parts, pid, opening, number),
         Told::Closes(number) => {
-            parts.forget_descriptor(pid, u64::from(number));
+            parts.forget_descriptor(alloc, pid, u64::from(number))?;
             Ok(Deed::Quiet)
         }
         Told::Copies(number) => Ok(copies(parts, pid, number)),
-        Told::CopiesTo(from, number) => Ok(copies_to(parts, pid, from, number)),
+        Told::CopiesTo(from, number) => copies_to(alloc, parts, pid, from, number),
         Told::Writes(number, text, outcome) => writes(alloc, parts, pid, number, text, outcome),
     }
 }
@@ -85,8 +87,8 @@ fn bears_child(parts: &Parts, pid: Pid, user: bool, shares: bool, child: Pid) ->
 // ---- setns(2)
 
 // The descriptor of that number, where there is a number and it is followed.
-fn followed(parts: &Parts, pid: Pid, number: Option<u32>) -> Option<&Descriptor>
-    ensures { option_map (λ d. d.now) result ≡ followed pid number parts.now }
+fn followed(parts: &Parts, pid: Pid, number: Option<u32>) -> Option<Descriptor>
+    ensures { result ≡ followed pid number parts.now }
 {
     match number {
         Some(number) => parts.descriptor_of(pid, u64::from(number)),
@@ -95,8 +97,8 @@ fn followed(parts: &Parts, pid: Pid, number: Option<u32>) -> Option<&Descriptor>
 }
 
 // The same, where it is for a user namespace.
-fn for_space(parts: &Parts, pid: Pid, number: Option<u32>) -> Option<&Descriptor>
-    ensures { option_map (λ d. d.now) result ≡ for_space (followed pid number parts.now) }
+fn for_space(parts: &Parts, pid: Pid, number: Option<u32>) -> Option<Descriptor>
+    ensures { result ≡ for_space (followed pid number parts.now) }
 {
     match followed(parts, pid, number) {
         Some(d) => if d.file.is_space() { Some(d) } else { None },
@@ -106,10 +108,11 @@ fn for_space(parts: &Parts, pid: Pid, number: Option<u32>) -> Option<&Descriptor
 
 // A setns on a descriptor.
 fn joins(parts: &Parts, pid: Pid, number: Option<u32>, flags: &[u8], outcome: Outcome) -> Deed
-    ensures { deed_is pid result parts.now ≡ joins pid (for_space (followed pid number parts.now)) flags.now (outcome_is outcome) parts.now }
+    ensures { deed_is pid result parts.now ≡ joins pid (for_space (followed pid number parts.now)) flags.now
+        (outcome_is outcome) parts.now }
 {
     match for_space(parts, pid, number) {
-        Some(d) => joins_known(d, flags, outcome),
+        Some(d) => joins_known(&d, flags, outcome),
         None => joins_unknown(flags, outcome.success()),
     }
 }
@@ -154,17 +157,26 @@ fn copies(parts: &Parts, pid: Pid, number: u32) -> Deed
     }
 }
 
-// A copy that takes the place of another descriptor.
-fn copies_to(parts: &mut Parts, pid: Pid, from: Option<u32>, number: u64) -> Deed
-    ensures turn { deed_is pid result parts.new ≡ copies_to pid (followed pid from parts.old) number parts.old }
-    ensures waits { Waits result parts.new parts.old }
+// A copy that takes the place of another descriptor. Its only error is want of memory, which leaves the parts as they
+// were.
+fn copies_to(
+    alloc: Global,
+    parts: &mut Parts,
+    pid: Pid,
+    from: Option<u32>,
+    number: u64,
+) -> Result<Deed, NoMemory>
+    ensures turn { OrNoMemory result (λ deed. deed_is pid deed parts.new
+        ≡ copies_to pid (followed pid from parts.old) number parts.old) }
+    ensures unchanged { UnchangedOnErr result parts.new parts.old }
+    ensures waits { OrNoMemory result (λ deed. Waits deed parts.new parts.old) }
     ensures spaces { parts.new.spaces ≡ parts.old.spaces }
 {
     match followed(parts, pid, from) {
-        Some(_) => Deed::Refused(LineFault::Descriptor),
+        Some(_) => Ok(Deed::Refused(LineFault::Descriptor)),
         None => {
-            parts.forget_descriptor(pid, number);
-            Deed::Quiet
+            parts.forget_descriptor(alloc, pid, number)?;
+            Ok(Deed::Quiet)
         }
     }
 }

@@ -8,7 +8,8 @@ ghost use Rattle.cm_strace.specs.Works.{uses};
 ghost use Rattle.cm_world.specs.World.{world_of};
 ghost use Rattle.model_strace.specs.Body.{row_of};
 ghost use Rattle.model_strace.specs.Lines.{reading};
-ghost use Rattle.model_strace.specs.Rest.{answer_of, fed_by, first_session, lines_fed, rest, line_answer, after_line, after_finish, answered_then, session_of};
+ghost use Rattle.model_strace.specs.Rest.{answer_of, fed_by, first_session, lines_fed, rest, line_answer, after_line};
+ghost use Rattle.model_strace.specs.Rest.{after_finish, answered_then, session_of};
 ghost use Rattle.model_text.specs.Reading.{AtEnd, Stops, ends_at};
 
 use crate::ending::read_end;
@@ -20,8 +21,8 @@ use cm_world::World;
 use std::alloc::Global;
 use std::marker::Model;
 
-/// A session: it is fed a log line by line, and keeps what is known and the lines that wait for their process to be born. Once
-/// stopped it answers that stop, and once the log has ended nothing more.
+/// A session: it is fed a log line by line, and keeps what is known and the lines that wait for their process to be
+/// born. Once stopped it answers that stop, and once the log has ended nothing more.
 #[derive(Debug, Drop)]
 pub struct Tracer {
     work: Work,
@@ -44,7 +45,8 @@ impl Tracer {
     pub fn new(alloc: Global, w: &World) -> Result<Tracer, NoMemory>
         requires { length w.now.start.spaces < 2 ^ 31 }
         ensures first { OrNoMemory result (λ t. t ≡ first_session (world_of w.now)) }
-        ensures reading { OrNoMemory result (λ t. (lines : List (List ℕ)) → rest (world_of w.now) t lines ≡ reading (world_of w.now) lines) }
+        ensures reading { OrNoMemory result (λ t. (lines : List (List ℕ)) → rest (world_of w.now) t lines
+            ≡ reading (world_of w.now) lines) }
     {
         let work = Work::first(alloc, w)?;
         Ok(Tracer {
@@ -60,14 +62,15 @@ impl Tracer {
         self.work.count()
     }
 
-    /// A line comes, without its LF: its events, those of the held lines that come after a birth, and the stop where there is
-    /// one. Its only error is want of memory, which leaves the session as it was.
+    /// A line comes, without its LF: its events, those of the held lines that come after a birth, and the stop where
+    /// there is one. Its only error is want of memory, which leaves the session as it was.
     pub fn feed_line(&mut self, alloc: Global, w: &World, line: &[u8]) -> Result<Fed, NoMemory>
         requires { lines_fed self.old < 2 ^ 31 }
         ensures given { OrNoMemory result (λ fed. fed ≡ line_answer (world_of w.now) self.old line.now) }
         ensures after { OrNoMemory result (λ _. self.new ≡ after_line (world_of w.now) self.old line.now) }
         ensures told { OrNoMemory result (λ fed. (lines : List (List ℕ)) →
-            rest (world_of w.now) self.old (line.now ∷ lines) ≡ answered_then fed (rest (world_of w.now) self.new lines)) }
+            rest (world_of w.now) self.old (line.now ∷ lines) ≡ answered_then fed (rest
+            (world_of w.now) self.new lines)) }
         ensures unchanged { UnchangedOnErr result self.new self.old }
     {
         match self.stage {
@@ -82,7 +85,8 @@ impl Tracer {
         }
     }
 
-    /// The log ends: what the held lines still give. Its only error is want of memory, which leaves the session as it was.
+    /// The log ends: what the held lines still give. Its only error is want of memory, which leaves the session as
+    /// it was.
     pub fn finish(&mut self, alloc: Global, w: &World) -> Result<Fed, NoMemory>
         ensures told { OrNoMemory result (λ fed. fed ≡ rest (world_of w.now) self.old []) }
         ensures after { OrNoMemory result (λ _. self.new ≡ after_finish (world_of w.now) self.old) }
@@ -151,7 +155,8 @@ fn feed_work(
     requires room { uses t.old < greatest_number }
     requires few { t.old.count < 2 ^ 63 }
     requires fresh { events.old.items ≡ [] }
-    ensures given { OrNoMemory result (λ stop. reading_is events.new.items stop ≡ answer_of (fed_by row_of (world_of w.now) line.now t.old)) }
+    ensures given { OrNoMemory result (λ stop. reading_is events.new.items stop
+        ≡ answer_of (fed_by row_of (world_of w.now) line.now t.old)) }
     ensures after { OrNoMemory result (λ stop. session_is (stage_after stop) t.new
         ≡ session_of (t.old.count + 1) (fed_by row_of (world_of w.now) line.now t.old)) }
     ensures unchanged { UnchangedOnErr result t.new t.old }

@@ -26,14 +26,14 @@ pub(crate) fn writes(
     outcome: Outcome,
 ) -> Result<Deed, NoMemory>
     ensures { OrNoMemory result (λ deed. deed_is pid deed parts.now
-        ≡ writes pid (descriptor_of pid number parts.now) (option_map
-        (λ t. t.now) text.entry) (outcome_is outcome) parts.now) }
+        ≡ writes pid (descriptor_of pid number parts.now) (option_map (λ t. t.now) text.entry)
+        (outcome_is outcome) parts.now) }
 {
     match parts.descriptor_of(pid, u64::from(number)) {
         Some(d) => if d.file.is_space() {
             Ok(Deed::Quiet)
         } else {
-            writes_argument(alloc, d, text, outcome)
+            writes_argument(alloc, &d, text, outcome)
         },
         None => Ok(Deed::Quiet),
     }
@@ -70,7 +70,8 @@ fn writes_text(
     quote: &Quote,
     outcome: Outcome,
 ) -> Result<Deed, NoMemory>
-    ensures { OrNoMemory result (λ deed. (pid : ℕ) (p : Parts) → deed_is pid deed p ≡ writes_text pid d.now (quote_is quote.now) (outcome_is outcome) p) }
+    ensures { OrNoMemory result (λ deed. (pid : ℕ) (p : Parts) → deed_is pid deed p
+        ≡ writes_text pid d.now (quote_is quote.now) (outcome_is outcome) p) }
 {
     match outcome {
         Outcome::Number(n) => wrote(alloc, d, u64::from(n), quote),
@@ -85,7 +86,8 @@ const PAST: u64 = 4_294_967_296;
 
 // A write that answers a number: a success writes the whole text.
 fn wrote(alloc: Global, d: &Descriptor, n: u64, quote: &Quote) -> Result<Deed, NoMemory>
-    ensures { OrNoMemory result (λ deed. (pid : ℕ) (p : Parts) → deed_is pid deed p ≡ wrote pid d.now n (quote_is quote.now) p) }
+    ensures { OrNoMemory result (λ deed. (pid : ℕ) (p : Parts) → deed_is pid deed p
+        ≡ wrote pid d.now n (quote_is quote.now) p) }
 {
     let Quote::Bytes(text) = quote else {
         return Ok(Deed::Refused(LineFault::Argument(2)));
@@ -101,7 +103,8 @@ fn wrote(alloc: Global, d: &Descriptor, n: u64, quote: &Quote) -> Result<Deed, N
 
 // A write that fails.
 fn failed(alloc: Global, d: &Descriptor, e: Errno, quote: &Quote) -> Result<Deed, NoMemory>
-    ensures { OrNoMemory result (λ deed. (pid : ℕ) (p : Parts) → deed_is pid deed p ≡ failed_write pid d.now (res.Err e) (quote_is quote.now) p) }
+    ensures { OrNoMemory result (λ deed. (pid : ℕ) (p : Parts) → deed_is pid deed p
+        ≡ failed_write pid d.now (res.Err e) (quote_is quote.now) p) }
 {
     let Quote::Bytes(text) = quote else {
         return Ok(Deed::Quiet);

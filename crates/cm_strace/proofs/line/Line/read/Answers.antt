@@ -1,4 +1,4 @@
 use Rattle.cm_strace.proofs.line.Line.read.Goals as goal
 
 pub returns-clause-given : goal.returns-clause-given
-returns-clause-given c = rw (← c.self.view_is) (rw (c.deref-2.ensures.value, c.deref.ensures) at c.read.ensures.given)
+returns-clause-given c = rw (← c.self.view_is) (rw c.deref.ensures.value at c.read.ensures.given)

@@ -13,8 +13,10 @@ returns-in-On-clause-done c w =
     let after : Read = record { parts = c.conclude.new.parts; born = born_is c.in-On.field-0 } in
     let then : Work = record { parts = c.conclude.new.parts; held = t.held.items; count = t.count + 1 } in
     rw (← c.self.view_is)
-    (goes_alone c.args.events.now.items c.conclude.new.events.items (given_at (t.count + 1) (step_is c.args.pid c.args.step t.parts)) after
-    (λ r. released w (length t.held.items) r.born (record then { parts = r.parts })) then (rw c.in-On.is at c.in_ok-conclude.ensures.given)
+    (goes_alone c.args.events.now.items c.conclude.new.events.items (given_at (t.count + 1)
+    (step_is c.args.pid c.args.step t.parts)) after
+    (λ r. released w (length t.held.items) r.born (record then { parts = r.parts })) then
+    (rw c.in-On.is at c.in_ok-conclude.ensures.given)
     (released_none w (length t.held.items) (born_is c.in-On.field-0) then
     (born_alone c.in-On.field-0 c.args.step.deed t.held.items c.conclude.new.parts
     (rw c.in-On.is at c.in_ok-conclude.ensures.born) (rw (← c.self.view_is) at c.requires.alone))))
