@@ -1,0 +1,147 @@
+-- The ids and the capabilities that programs give: those of the table's rows, and none past its end.
+use Rattle.std.proofs.Common.{◌≡◌, ℕ, ◌<◌, ◌≤◌, List, length, inl, inr, arith, sym, ap, subst}
+use Rattle.std.specs.Prelude.{◌↔◌, IsTrue}
+use Rattle.std.proofs.lemmas.Bool.{cases_lt, false≢true}
+use Rattle.std.proofs.lemmas.Option.{slice_get_past}
+use Rattle.model_cred.specs.Files.{FileTable}
+use Rattle.model_cred.specs.Space.{Spaces}
+use Rattle.model_rules.specs.FileView.{FileView, plain_view, view, view_in}
+use Rattle.model_box.specs.Closed.{OwnerByFile, GroupByFile, CapByFile}
+use Rattle.model_box.specs.Bounds.{BoxRow, row_in}
+use Rattle.model_box.specs.Files.{is_program, CanRun, FileGives, TakesCan}
+use Rattle.model_box.specs.Row.{Part, Row, PermittedCaps, row_number}
+use Rattle.cm_box_rows.specs.declared.kind.Kind.{Kind}
+use Rattle.cm_box_rows.specs.declared.kind.Kind.TheVariants.{Users}
+use Rattle.cm_box_rows.specs.declared.kind.Kind.TheVariants as kinds
+use Rattle.cm_box_rows.specs.Programs.{Given, GivenByFile, CapGiven}
+use Rattle.cm_box_rows.specs.Rows.{RowHolds, RowsHold}
+use Rattle.cm_box_rows.proofs.Gathered.{GivenBelow, gathered_all}
+
+-- past the end of the table a row is as a plain file
+view_past : (files : FileTable) (k : ℕ) → length files.rows ≤ k → view files k ≡ plain_view
+view_past files k past = ap (view_in files) (slice_get_past files.rows k past)
+
+-- a plain file gives no id
+none_given : (kind : Kind) (spaces : Spaces) (n : ℕ) (row : Part → ℕ → Type 0) (x : ℕ)
+    → Given kind spaces n row plain_view x → ⊥
+none_given Users spaces n row x given = given.1.2
+none_given kinds.Groups spaces n row x given = given.1.2
+
+-- the file of the table is a program, and gives the id
+abbrev pub IdGiven : Kind → FileTable → Spaces → ℕ → (Part → ℕ → Type 0) → ℕ → ℕ → Type 0
+IdGiven kind files spaces n row k x = IsTrue (is_program files k) × Given kind spaces n row (view files k) x
+
+module _ (kind : Kind) (files : FileTable) (spaces : Spaces) (n : ℕ) (row : Part → ℕ → Type 0) where
+  no_id : (k x : ℕ) → length files.rows ≤ k → IdGiven kind files spaces n row k x → ⊥
+  no_id k x past given = none_given kind spaces n row x (rw (view_past files k past) at given.1)
+
+  -- the ids that were gathered from the table's rows are those that programs give
+  pub all_ids : (Set : ℕ → Type 0) (end : ℕ) → length files.rows ≤ end
+      → ((x : ℕ) → Set x ↔ GivenBelow (IdGiven kind files spaces n row) end x)
+      → (x : ℕ) → Set x ↔ GivenByFile kind files spaces n row x
+  all_ids Set end all so_far x = (to, from) where
+    gathered : Set x ↔ ((k : ℕ) × IdGiven kind files spaces n row k x)
+    gathered =
+        gathered_all (IdGiven kind files spaces n row) Set end so_far (λ k y past. no_id k y (omega arith)) x
+
+    to : Set x → GivenByFile kind files spaces n row x
+    to has =
+        let given : (k : ℕ) × IdGiven kind files spaces n row k x = gathered.0 has in
+        (given.0, given.1.0, given.1.1)
+
+    from : GivenByFile kind files spaces n row x → Set x
+    from by = gathered.1 (by.0, (by.1, by.2))
+
+module _ (files : FileTable) (spaces : Spaces) (bounds : Row → Part → ℕ → Type 0) (row : Row) where
+  -- a plain file's attribute takes no effect
+  none_taken : TakesCan spaces bounds row plain_view → ⊥
+  none_taken takes = false≢true takes.1
+
+  no_cap : (k x : ℕ) → length files.rows ≤ k → CapGiven files spaces bounds row k x → ⊥
+  no_cap k x past given = none_taken (rw (view_past files k past) at given.2)
+
+  -- the capabilities that were gathered from the table's rows are those that programs bring
+  pub all_caps : (Set : ℕ → Type 0) (n : ℕ) → length files.rows ≤ n
+      → ((x : ℕ) → Set x ↔ GivenBelow (CapGiven files spaces bounds row) n x)
+      → (x : ℕ) → Set x ↔ CapByFile files spaces bounds row x
+  all_caps Set n all so_far x = (to, from) where
+    gathered : Set x ↔ ((k : ℕ) × CapGiven files spaces bounds row k x)
+    gathered =
+        gathered_all (CapGiven files spaces bounds row) Set n so_far (λ k y past. no_cap k y (omega arith)) x
+
+    to : Set x → CapByFile files spaces bounds row x
+    to has =
+        let given : (k : ℕ) × CapGiven files spaces bounds row k x = gathered.0 has in
+        (given.0, given.1.0, given.1.1, given.1.2, given.1.3)
+
+    from : CapByFile files spaces bounds row x → Set x
+    from by = gathered.1 (by.0, (by.1, by.2, by.3, by.4))
+
+  -- a set that holds what each of the table's rows brings holds what programs bring
+  pub each_cap : (Set : ℕ → Type 0) (n : ℕ) → length files.rows ≤ n
+      → ((k : ℕ) → k < n → (x : ℕ) → CapGiven files spaces bounds row k x → Set x)
+      → (x : ℕ) → CapByFile files spaces bounds row x → Set x
+  each_cap Set n all each x by = elim (cases_lt by.0 n) [
+    | inl low ↦ each by.0 low x (by.1, by.2, by.3, by.4)
+    | inr past ↦ absurd (no_cap by.0 x (omega arith) (by.1, by.2, by.3, by.4))
+  ]
+
+-- a row of bounds, and a file of the table
+module _ (rows : List BoxRow) (row : Row) (r : BoxRow) (r_is : r ≡ row_in rows (row_number row)) where
+  caps_there : (x : ℕ) → RowHolds r PermittedCaps x ↔ RowsHold rows row PermittedCaps x
+  caps_there x = (
+    λ held. subst (λ (s : BoxRow). RowHolds s PermittedCaps x) r_is held,
+    λ held. subst (λ (s : BoxRow). RowHolds s PermittedCaps x) (sym r_is) held,
+  )
+
+  module _ (files : FileTable) (k : ℕ) (f : FileView) (f_is : f ≡ view files k) where
+    can_there : CanRun (RowHolds r) f → CanRun (RowsHold rows row) (view files k)
+    can_there can =
+        let here : CanRun (RowsHold rows row) f = subst (λ (s : BoxRow). CanRun (RowHolds s) f) r_is can in
+        subst (λ (v : FileView). CanRun (RowsHold rows row) v) f_is here
+
+    gives_there : (x : ℕ) → FileGives (RowHolds r) f x → FileGives (RowsHold rows row) (view files k) x
+    gives_there x gives =
+        let here : FileGives (RowsHold rows row) f x = subst (λ (s : BoxRow). FileGives (RowHolds s) f x) r_is gives in
+        subst (λ (v : FileView). FileGives (RowsHold rows row) v x) f_is here
+
+    gives_here : (x : ℕ) → FileGives (RowsHold rows row) (view files k) x → FileGives (RowHolds r) f x
+    gives_here x gives =
+        let here : FileGives (RowHolds r) (view files k) x =
+        subst (λ (s : BoxRow). FileGives (RowHolds s) (view files k) x) (sym r_is) gives in
+        subst (λ (v : FileView). FileGives (RowHolds r) v x) (sym f_is) here
+
+    -- the file is a program that a member may run, and its attribute can take effect: it brings what its sets can
+    module _ (spaces : Spaces) (program : IsTrue (is_program files k)) (takes : TakesCan spaces (RowsHold rows) row f)
+        (can : CanRun (RowHolds r) f) where
+      pub cap_here : (x : ℕ) → FileGives (RowHolds r) f x ↔ CapGiven files spaces (RowsHold rows) row k x
+      cap_here x = (to, λ given. gives_here x given.3) where
+        to : FileGives (RowHolds r) f x → CapGiven files spaces (RowsHold rows) row k x
+        to gives = (
+          program,
+          can_there can,
+          subst (λ (v : FileView). TakesCan spaces (RowsHold rows) row v) f_is takes,
+          gives_there x gives,
+        )
+
+      pub caps_here : ((x : ℕ) → FileGives (RowHolds r) f x → RowHolds r PermittedCaps x)
+          ↔ ((x : ℕ) → CapGiven files spaces (RowsHold rows) row k x → RowsHold rows row PermittedCaps x)
+      caps_here = (
+        λ held x given. (caps_there x).0 (held x ((cap_here x).1 given)),
+        λ held x gives. (caps_there x).1 (held x ((cap_here x).0 gives)),
+      )
+
+-- the owners and the groups
+pub owners : (files : FileTable) (spaces : Spaces) (n : ℕ) (row : Part → ℕ → Type 0) (x : ℕ)
+    → GivenByFile Users files spaces n row x ↔ OwnerByFile files spaces n row x
+owners files spaces n row x = (
+  λ given. (given.0, given.1, given.2.0, given.2.1, given.2.2, given.2.3),
+  λ by. (by.0, by.1, (by.2, by.3, by.4, by.5)),
+)
+
+pub groups : (files : FileTable) (spaces : Spaces) (n : ℕ) (row : Part → ℕ → Type 0) (x : ℕ)
+    → GivenByFile kinds.Groups files spaces n row x ↔ GroupByFile files spaces n row x
+groups files spaces n row x = (
+  λ given. (given.0, given.1, given.2.0, given.2.1, given.2.2, given.2.3, given.2.4),
+  λ by. (by.0, by.1, (by.2, by.3, by.4, by.5, by.6)),
+)

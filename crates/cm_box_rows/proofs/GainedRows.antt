@@ -1,0 +1,149 @@
+-- Rows that hold what calls add, and nothing besides.
+use Rattle.std.proofs.Common.{◌≡◌, ℕ, Bool, true, false, Ok, Err, sym, subst, ◌∙◌, inl, inr}
+use Rattle.std.specs.Prelude.{◌↔◌, IsTrue, List, Result}
+use Rattle.std.proofs.lemmas.Bool.{false≢true}
+use Rattle.cm_base.specs.Outcome.{OrNoMemory}
+use Rattle.cm_sets.specs.Sets.{AreSame, InEither}
+use Rattle.cm_base.specs.CapSet.{holds}
+use Rattle.cm_idset.specs.Held.{Held}
+use Rattle.model_cred.specs.Intervals.{Interval}
+use Rattle.model_box.specs.Bounds.{BoxRow, no_row}
+use Rattle.model_box.specs.Row.{Part, Uids, EffectiveUids, FsUids, Gids, EffectiveGids, FsGids, Groups}
+use Rattle.model_box.specs.Row.{MappedGids, PermittedCaps, InheritableCaps, BoundingCaps, RootCounts, LockClear}
+use Rattle.model_box.specs.Gains.{Settable, SpreadsUid, SpreadsGid, SettableUid, SettableGid, GainsFsUid, GainsFsGid}
+use Rattle.model_box.specs.Gains.{GainsGroups, GainsInheritable, GainsRoot}
+use Rattle.model_rules.specs.Caps.{cap_setgid, cap_setpcap}
+use Rattle.cm_box_rows.specs.Rows.{RowHolds, AreSameRows}
+use Rattle.cm_box_rows.proofs.RowParts.{nothing, raised_is}
+
+-- what can be set is the same where the capability is told by a test
+pub settable_told : (Old Mapped : ℕ → Type 0) (P Q : Type 0) → P ↔ Q
+    → AreSame (Settable Old Mapped P) (Settable Old Mapped Q)
+settable_told Old Mapped P Q same x = (
+  λ can. elim can [ inl own ↦ inl own | inr all ↦ inr (same.0 all.0, all.1) ],
+  λ can. elim can [ inl own ↦ inl own | inr all ↦ inr (same.1 all.0, all.1) ],
+)
+
+-- sets that hold the same, one after the other
+pub same_on : {One Two Three : ℕ → Type 0} → AreSame One Two → AreSame Two Three → AreSame One Three
+same_on a b x = (λ held. (b x).0 ((a x).0 held), λ held. (a x).1 ((b x).1 held))
+
+-- so too what is set, of a set that holds it
+pub settable_is : (Set Old Mapped : ℕ → Type 0) (P Q : Type 0) → P ↔ Q → AreSame Set (Settable Old Mapped P)
+    → AreSame Set (Settable Old Mapped Q)
+settable_is Set Old Mapped P Q told same = same_on same (settable_told Old Mapped P Q told)
+
+module _ (row : Part → ℕ → Type 0) where
+  -- new ids that are the same spread the same
+  pub spreads_uid_same : (Set New : ℕ → Type 0) (gained : Part → ℕ → Type 0) → AreSame Set New
+      → AreSameRows gained (SpreadsUid row Set)
+      → AreSameRows gained (SpreadsUid row New)
+  spreads_uid_same Set New gained same is EffectiveUids x = (
+    λ has. (same x).0 ((is EffectiveUids x).0 has),
+    λ has. (is EffectiveUids x).1 ((same x).1 has),
+  )
+  spreads_uid_same Set New gained same is Uids x = (
+    λ has. elim ((is Uids x).0 has) [ inl old ↦ inl old | inr new ↦ inr ((same x).0 new) ],
+    λ has. (is Uids x).1 (elim has [ inl old ↦ inl old | inr new ↦ inr ((same x).1 new) ]),
+  )
+  spreads_uid_same Set New gained same is FsUids x = (
+    λ has. elim ((is FsUids x).0 has) [ inl old ↦ inl old | inr new ↦ inr ((same x).0 new) ],
+    λ has. (is FsUids x).1 (elim has [ inl old ↦ inl old | inr new ↦ inr ((same x).1 new) ]),
+  )
+  spreads_uid_same Set New gained same is part x = is part x
+
+  pub spreads_gid_same : (Set New : ℕ → Type 0) (gained : Part → ℕ → Type 0) → AreSame Set New
+      → AreSameRows gained (SpreadsGid row Set)
+      → AreSameRows gained (SpreadsGid row New)
+  spreads_gid_same Set New gained same is EffectiveGids x = (
+    λ has. (same x).0 ((is EffectiveGids x).0 has),
+    λ has. (is EffectiveGids x).1 ((same x).1 has),
+  )
+  spreads_gid_same Set New gained same is Gids x = (
+    λ has. elim ((is Gids x).0 has) [ inl old ↦ inl old | inr new ↦ inr ((same x).0 new) ],
+    λ has. (is Gids x).1 (elim has [ inl old ↦ inl old | inr new ↦ inr ((same x).1 new) ]),
+  )
+  spreads_gid_same Set New gained same is FsGids x = (
+    λ has. elim ((is FsGids x).0 has) [ inl old ↦ inl old | inr new ↦ inr ((same x).0 new) ],
+    λ has. (is FsGids x).1 (elim has [ inl old ↦ inl old | inr new ↦ inr ((same x).1 new) ]),
+  )
+  spreads_gid_same Set New gained same is part x = is part x
+
+  -- a row of three sets of ids, of the new effective ids and those besides
+  pub uids_row : (ids effective fs : List Interval) (New : ℕ → Type 0)
+      → AreSame (Held ids) (InEither (row EffectiveUids) New)
+      → AreSame (Held effective) New → AreSame (Held fs) (InEither (row EffectiveUids) New)
+      → AreSameRows (RowHolds (record no_row { uids = ids; effective_uids = effective; fs_uids = fs }))
+      (SpreadsUid row New)
+  uids_row ids effective fs New three one last Uids x = three x
+  uids_row ids effective fs New three one last EffectiveUids x = one x
+  uids_row ids effective fs New three one last FsUids x = last x
+  uids_row ids effective fs New three one last part x = nothing part x
+
+  pub gids_row : (ids effective fs : List Interval) (New : ℕ → Type 0)
+      → AreSame (Held ids) (InEither (row EffectiveGids) New)
+      → AreSame (Held effective) New → AreSame (Held fs) (InEither (row EffectiveGids) New)
+      → AreSameRows (RowHolds (record no_row { gids = ids; effective_gids = effective; fs_gids = fs }))
+      (SpreadsGid row New)
+  gids_row ids effective fs New three one last Gids x = three x
+  gids_row ids effective fs New three one last EffectiveGids x = one x
+  gids_row ids effective fs New three one last FsGids x = last x
+  gids_row ids effective fs New three one last part x = nothing part x
+
+  -- rows of one set
+  pub fs_uids_row : (fs : List Interval) → AreSame (Held fs) (SettableUid row)
+      → AreSameRows (RowHolds (record no_row { fs_uids = fs })) (GainsFsUid row)
+  fs_uids_row fs same FsUids x = same x
+  fs_uids_row fs same part x = nothing part x
+
+  pub fs_gids_row : (fs : List Interval) → AreSame (Held fs) (SettableGid row)
+      → AreSameRows (RowHolds (record no_row { fs_gids = fs })) (GainsFsGid row)
+  fs_gids_row fs same FsGids x = same x
+  fs_gids_row fs same part x = nothing part x
+
+  pub groups_row : (groups : List Interval) → row PermittedCaps cap_setgid
+      → AreSame (Held groups) (InEither (row MappedGids) (row MappedGids))
+      → AreSameRows (RowHolds (record no_row { groups = groups })) (GainsGroups row)
+  groups_row groups can same Groups x = (
+    λ held. (can, elim ((same x).0 held) [ inl a ↦ a | inr b ↦ b ]),
+    λ has. (same x).1 (inl has.1),
+  )
+  groups_row groups can same part x = nothing part x
+
+  pub inheritable_row : (word : ℕ)
+      → ((x : ℕ) → IsTrue (holds word x)
+      ↔ Settable (row PermittedCaps) (row BoundingCaps) (row PermittedCaps cap_setpcap) x)
+      → AreSameRows (RowHolds (record no_row { inheritable = word })) (GainsInheritable row)
+  inheritable_row word same InheritableCaps x = same x
+  inheritable_row word same part x = nothing part x
+
+  pub root_row : (flag : Bool) → IsTrue flag ↔ (row PermittedCaps cap_setpcap × row LockClear 0)
+      → AreSameRows (RowHolds (record no_row { root_counts = flag })) (GainsRoot row)
+  root_row flag told RootCounts x = (
+    λ held. let two = (raised_is flag x).0 held in (two.0, (told.0 two.1).0, (told.0 two.1).1),
+    λ has. (raised_is flag x).1 (has.0, told.1 (has.1, has.2)),
+  )
+  root_row flag told part x = nothing part x
+
+-- what holds of a row that is made over the least one
+pub over : (base : BoxRow) (with : BoxRow → BoxRow) (Q : Part → ℕ → Type 0) → base ≡ no_row
+    → AreSameRows (RowHolds (with no_row)) Q
+    → AreSameRows (RowHolds (with base)) Q
+over base with Q is same = subst (λ (b : BoxRow). AreSameRows (RowHolds (with b)) Q) (sym is) same
+
+-- what a call gives or not, and what follows of what it gives
+pub or_more : {T E : Type 0} (r : Result T E) (P Q : T → Type 0) → OrNoMemory r P → ((x : T) → P x → Q x)
+    → OrNoMemory r Q
+or_more (Ok x) P Q is more = more x is
+or_more (Err e) P Q is more = is
+
+-- a test and a flag, as one test
+pub both_then : (r h k : Bool) (P : Type 0) → IsTrue h ↔ P → h ≡ true → r ≡ k → IsTrue r ↔ (P × IsTrue k)
+both_then r h k P told is same = (λ one. (told.0 is, sym same ∙ one), λ both. same ∙ both.1)
+
+pub both_else : (r h k : Bool) (P : Type 0) → IsTrue h ↔ P → h ≡ false → r ≡ false → IsTrue r ↔ (P × IsTrue k)
+both_else r h k P told is same = (
+  λ one. absurd (false≢true (sym same ∙ one)),
+  λ both. absurd
+      (false≢true (sym is ∙ told.1 both.0)),
+)

@@ -1,0 +1,20 @@
+-- Lemmas on one row of bounds, by topic.
+pub mod AddedRows
+pub mod ByFiles
+pub mod CallRules
+pub mod Chains
+pub mod CredParts
+pub mod GainedRows
+pub mod Gathered
+pub mod Joining
+pub mod MapLines
+pub mod Mapping
+pub mod MemberParts
+pub mod MemberRows
+pub mod NewIds
+pub mod OtherIds
+pub mod OutsideIds
+pub mod RowParts
+pub mod Settable
+pub mod Spreading
+pub mod Tests

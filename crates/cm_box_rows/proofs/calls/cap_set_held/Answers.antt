@@ -1,0 +1,7 @@
+use Rattle.cm_box_rows.specs.contracts.row.BoxRow.{the_view}
+use Rattle.cm_box_rows.proofs.CallRules.{cap_set}
+use Rattle.cm_box_rows.proofs.calls.cap_set_held.Goals as goal
+
+pub returns : goal.returns
+returns c = rw (← c.row.view_is) (cap_set (the_view c.row.inside) c.holds.result c.settable_within.result
+    c.holds.ensures c.settable_within.ensures)

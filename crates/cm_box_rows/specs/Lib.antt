@@ -1,0 +1,6 @@
+-- The words of the contracts on one row of bounds.
+pub mod Rows
+pub mod Members
+pub mod Programs
+pub mod Rights
+pub mod Spread

@@ -1,0 +1,54 @@
+-- What the members of a row can do with one file, one by one.
+use Rattle.std.specs.Prelude.{◌≡◌, ◌⊎◌, ℕ, IsTrue, Some}
+use Rattle.cm_box_rows.specs.declared.kind.Kind.{Kind}
+use Rattle.cm_box_rows.specs.declared.kind.Kind.TheVariants.{Users}
+use Rattle.cm_box_rows.specs.declared.kind.Kind.TheVariants as kinds
+use Rattle.model_cred.specs.Files.{FileTable}
+use Rattle.model_cred.specs.Space.{Spaces}
+use Rattle.model_rules.specs.Caps.{cap_dac_override}
+use Rattle.model_rules.specs.FileView.{FileView, has_bit, view}
+use Rattle.model_box.specs.Files.{IdIn, HasOther, CanRun, SetIdCan, TakesCan, FileGives, is_program}
+use Rattle.model_box.specs.Row.{Part, FsUids, FsGids, Groups, MappedUids, MappedGids, PermittedCaps, Row}
+
+-- The owner's bit can be the one that counts.
+abbrev pub AsOwner : (Part → ℕ → Type 0) → FileView → Type 0
+AsOwner row f = IdIn f.owner (row FsUids) × IsTrue (has_bit f 0o100)
+
+-- The group's bit can be.
+abbrev pub AsGroup : (Part → ℕ → Type 0) → FileView → Type 0
+AsGroup row f =
+    (IdIn f.group (row FsGids) ⊎ IdIn f.group (row Groups)) × HasOther (row FsUids) f.owner × IsTrue (has_bit f 0o010)
+
+-- The bit of the others can be.
+abbrev pub AsOther : (Part → ℕ → Type 0) → FileView → Type 0
+AsOther row f = HasOther (row FsUids) f.owner × HasOther (row FsGids) f.group × IsTrue (has_bit f 0o001)
+
+-- CAP_DAC_OVERRIDE allows it.
+abbrev pub ByOverride : (Part → ℕ → Type 0) → FileView → Type 0
+ByOverride row f =
+    row PermittedCaps cap_dac_override × IdIn f.owner (row MappedUids) × IdIn f.group (row MappedGids)
+    × IsTrue (has_bit f 0o111)
+
+-- The file gives its owner by its set-user-ID bit.
+abbrev pub OwnerGiven : Spaces → ℕ → (Part → ℕ → Type 0) → FileView → ℕ → Type 0
+OwnerGiven spaces n row f x = CanRun row f × SetIdCan spaces n row f × IsTrue (has_bit f 0o4000) × (f.owner ≡ Some x)
+
+-- The file gives its group by its set-group-ID bit.
+abbrev pub GroupGiven : Spaces → ℕ → (Part → ℕ → Type 0) → FileView → ℕ → Type 0
+GroupGiven spaces n row f x =
+    CanRun row f × SetIdCan spaces n row f × IsTrue (has_bit f 0o2000) × IsTrue (has_bit f 0o010) × (f.group ≡ Some x)
+
+-- the id that a file gives, of users or of groups
+abbrev pub Given : Kind → Spaces → ℕ → (Part → ℕ → Type 0) → FileView → ℕ → Type 0
+Given Users = OwnerGiven
+Given kinds.Groups = GroupGiven
+
+-- A program gives the id.
+abbrev pub GivenByFile : Kind → FileTable → Spaces → ℕ → (Part → ℕ → Type 0) → ℕ → Type 0
+GivenByFile kind files spaces n row x = (k : ℕ) × IsTrue (is_program files k) × Given kind spaces n row (view files k) x
+
+-- The file of the table is a program, and brings the capability by its attribute.
+abbrev pub CapGiven : FileTable → Spaces → (Row → Part → ℕ → Type 0) → Row → ℕ → ℕ → Type 0
+CapGiven files spaces bounds row k x =
+    IsTrue (is_program files k) × CanRun (bounds row) (view files k) × TakesCan spaces bounds row (view files k)
+    × FileGives (bounds row) (view files k) x
