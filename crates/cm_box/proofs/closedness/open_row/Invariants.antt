@@ -1,0 +1,10 @@
+use Rattle.std.proofs.Common.{ℕ, ◌<◌}
+use Rattle.cm_box.proofs.closedness.open_row.Given as goal
+use Rattle.cm_box_rows.specs.Rows.{RowsHold}
+use Rattle.cm_box.specs.Rules.{rule_of}
+use Rattle.cm_filter.specs.Filters.{permits}
+use Rattle.model_box.specs.Closed.{ClosedAt}
+use Rattle.model_box.specs.Row.{row_at}
+
+abbrev pub invariant-loop-y : goal.invariant-loop-y
+invariant-loop-y l = (z : ℕ) → z < l.y → ClosedAt (permits l.f) l.files l.st.spaces (RowsHold l.b) (rule_of l.x) (row_at z)

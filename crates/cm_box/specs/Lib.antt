@@ -1,0 +1,4 @@
+-- The words of the contracts on bounds.
+pub mod Places
+pub mod Rules
+pub mod Closing

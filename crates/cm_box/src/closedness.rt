@@ -1,0 +1,293 @@
+// Whether bounds are closed.
+ghost use Rattle.std.specs.Prelude.{◌≡◌, ◌↔◌, ℕ, ◌<◌, ◌*◌, ◌^◌, IsTrue, IfNone, IfSome, length};
+ghost use Rattle.cm_filter.specs.Filters.{permits};
+ghost use Rattle.cm_box.specs.Places.{row_of};
+ghost use Rattle.cm_box_rows.specs.Rows.{RowHolds, RowsHold, HoldsAll};
+ghost use Rattle.cm_box.specs.Rules.{rule_of, is_permitted};
+ghost use Rattle.cm_box.specs.Closing.{Gains, GroupsAllowed, CreateHeld, JoinHeld, UidMapHeld, GidMapHeld};
+ghost use Rattle.cm_box.specs.Closing.{ClosedIn, IsFirstOpenRow, IsFirstOpen};
+ghost use Rattle.cm_box_rows.specs.Spread.{CanMakeIn};
+ghost use Rattle.model_box.specs.Closed.{Closed, ClosedAt, ByMaps, OwnerByFile, GroupByFile};
+ghost use Rattle.model_box.specs.Gains.{SpreadsUid, SpreadsGid};
+ghost use Rattle.model_box.specs.Spread.{Brings};
+ghost use Rattle.model_box.specs.Row.{HasMembers, space_under};
+
+use crate::caps::{caps_by_files_held, caps_by_root_held};
+use crate::joins::joins_held;
+use crate::place::Place;
+use crate::rules::RULES;
+use crate::{Bounds, BoxRow, Rule};
+use cm_base::SpaceId;
+use cm_box_rows::{
+    Kind, brings_held, can_make, cap_set_held, fresh_gids_held, fresh_uids_held, given_within,
+    new_gids_held, new_uids_held, secure_bits_held, set_fs_gid_held, set_fs_uid_held, set_gid_held,
+    set_groups_held, set_uid_held, spread_held,
+};
+use cm_files::FileTable;
+use cm_filter::{CallKind, Filter};
+use cm_sets::SetLike;
+use cm_state::{Spaces, State};
+
+// A call is permitted on which the rule rests.
+pub(crate) fn permits_rule(f: Filter, x: Rule) -> bool
+    ensures { result ≡ is_permitted (permits f) (rule_of x) }
+{
+    match x {
+        Rule::SetUid => f.permits(CallKind::SetUid)
+            || f.permits(CallKind::SetReUid)
+            || f.permits(CallKind::SetResUid),
+        Rule::SetFsUid => f.permits(CallKind::SetFsUid),
+        Rule::SetGid => f.permits(CallKind::SetGid)
+            || f.permits(CallKind::SetReGid)
+            || f.permits(CallKind::SetResGid),
+        Rule::SetFsGid => f.permits(CallKind::SetFsGid),
+        Rule::SetGroups => f.permits(CallKind::SetGroups),
+        Rule::CapSet => f.permits(CallKind::CapSet),
+        Rule::SecureBits => f.permits(CallKind::SecureBits),
+        Rule::ExecUid => f.permits(CallKind::Exec),
+        Rule::ExecGid => f.permits(CallKind::Exec),
+        Rule::ExecCaps => f.permits(CallKind::Exec),
+        Rule::ExecRoot => f.permits(CallKind::Exec),
+        Rule::Create => f.permits(CallKind::Unshare) || f.permits(CallKind::CloneUser),
+        Rule::Join => f.permits(CallKind::SetNs),
+        Rule::Maps => f.permits(CallKind::WriteUidMap) || f.permits(CallKind::WriteGidMap),
+    }
+}
+
+// The row holds what its members can gain by one of the first eleven rules.
+fn gains_held(st: &State, files: &FileTable, b: &Bounds, x: Rule, at: Place) -> bool
+    requires rows { length b.now ≡ 2 * length st.now.spaces }
+    requires few { length st.now.spaces < 2 ^ 31 }
+    requires stands { space_under (row_of at) < length st.now.spaces }
+    ensures { IsTrue result ↔ HoldsAll (RowsHold b.now (row_of at))
+        (Gains files.now st.now.spaces (RowsHold b.now) (rule_of x) (row_of at)) }
+{
+    let row = b.row(at);
+    match x {
+        Rule::SetUid => set_uid_held(row),
+        Rule::SetFsUid => set_fs_uid_held(row),
+        Rule::SetGid => set_gid_held(row),
+        Rule::SetFsGid => set_fs_gid_held(row),
+        Rule::SetGroups => groups_held(&st.spaces, at.space(), row),
+        Rule::CapSet => cap_set_held(row),
+        Rule::SecureBits => secure_bits_held(row),
+        Rule::ExecUid => exec_uid_held(files, &st.spaces, at.space(), row),
+        Rule::ExecGid => exec_gid_held(files, &st.spaces, at.space(), row),
+        Rule::ExecCaps => caps_by_files_held(files, &st.spaces, b, at),
+        Rule::ExecRoot => caps_by_root_held(&st.spaces, b, at),
+        Rule::Create => true,
+        Rule::Join => true,
+        Rule::Maps => true,
+    }
+}
+
+// The row holds what comes by setgroups(2), which the word "deny" of the space excludes.
+fn groups_held(spaces: &Spaces, n: SpaceId, row: &BoxRow) -> bool
+    requires { n.0 < length spaces.now }
+    ensures { IsTrue result ↔ HoldsAll (RowHolds row.now) (GroupsAllowed spaces.now n.0 (RowHolds row.now)) }
+{
+    let space = spaces.standing(n);
+    if space.deny {
+        return true;
+    }
+    set_groups_held(row)
+}
+
+// The row holds the owners that programs give, and the effective ids are among the real, saved and fs ids.
+fn exec_uid_held(files: &FileTable, spaces: &Spaces, n: SpaceId, row: &BoxRow) -> bool
+    requires { n.0 < length spaces.now }
+    ensures { IsTrue result ↔ HoldsAll (RowHolds row.now)
+        (SpreadsUid (RowHolds row.now) (OwnerByFile files.now spaces.now n.0 (RowHolds row.now))) }
+{
+    if !given_within(Kind::Users, files, spaces, n, row, &row.eu) {
+        return false;
+    }
+    spread_held(&row.u, &row.eu, &row.fu)
+}
+
+// The groups alike.
+fn exec_gid_held(files: &FileTable, spaces: &Spaces, n: SpaceId, row: &BoxRow) -> bool
+    requires { n.0 < length spaces.now }
+    ensures { IsTrue result ↔ HoldsAll (RowHolds row.now)
+        (SpreadsGid (RowHolds row.now) (GroupByFile files.now spaces.now n.0 (RowHolds row.now))) }
+{
+    if !given_within(Kind::Groups, files, spaces, n, row, &row.eg) {
+        return false;
+    }
+    spread_held(&row.g, &row.eg, &row.fg)
+}
+
+// The fresh row of a space holds what its makers bring.
+fn create_held(spaces: &Spaces, b: &Bounds, at: Place) -> bool
+    requires rows { length b.now ≡ 2 * length spaces.now }
+    requires few { length spaces.now < 2 ^ 31 }
+    requires stands { space_under (row_of at) < length spaces.now }
+    ensures { IsTrue result ↔ CreateHeld spaces.now (RowsHold b.now) (row_of at) }
+{
+    match at {
+        Place::Standing(_) => true,
+        Place::Fresh(n) => made_held(spaces, n, b.row(Place::Standing(n)), b.row(at)),
+    }
+}
+
+// The fresh row holds what the members of the standing row bring, if they can make a space.
+fn made_held(spaces: &Spaces, n: SpaceId, row: &BoxRow, fresh: &BoxRow) -> bool
+    requires { n.0 < length spaces.now }
+    ensures { IsTrue result ↔ (CanMakeIn spaces.now n.0 (RowHolds row.now)
+        → HoldsAll (RowHolds fresh.now) (Brings (RowHolds row.now))) }
+{
+    if !can_make(spaces, n, row) {
+        return true;
+    }
+    brings_held(row, fresh)
+}
+
+// The row of a standing space holds what those above it bring that can join it.
+fn join_held(spaces: &Spaces, b: &Bounds, at: Place) -> bool
+    requires rows { length b.now ≡ 2 * length spaces.now }
+    requires few { length spaces.now < 2 ^ 31 }
+    requires stands { space_under (row_of at) < length spaces.now }
+    ensures { IsTrue result ↔ JoinHeld spaces.now (RowsHold b.now) (row_of at) }
+{
+    match at {
+        Place::Standing(n) => joins_held(spaces, b, n, b.row(at)),
+        Place::Fresh(_) => true,
+    }
+}
+
+// The row holds what can come into the maps that aren't written.
+fn maps_held(f: Filter, spaces: &Spaces, b: &Bounds, at: Place) -> bool
+    requires rows { length b.now ≡ 2 * length spaces.now }
+    requires few { length spaces.now < 2 ^ 31 }
+    requires stands { space_under (row_of at) < length spaces.now }
+    ensures { IsTrue result ↔ HoldsAll (RowsHold b.now (row_of at))
+        (ByMaps (permits f) spaces.now (RowsHold b.now) (row_of at)) }
+{
+    match at {
+        Place::Standing(n) => {
+            if f.permits(CallKind::WriteUidMap) && !uid_map_held(spaces, b, n) {
+                return false;
+            }
+            !f.permits(CallKind::WriteGidMap) || gid_map_held(spaces, b, n)
+        }
+        Place::Fresh(n) => {
+            let fresh = b.row(at);
+            if fresh.eu.is_empty() {
+                return true;
+            }
+            let row = b.row(Place::Standing(n));
+            if f.permits(CallKind::WriteUidMap) && !fresh_uids_held(row, fresh) {
+                return false;
+            }
+            !f.permits(CallKind::WriteGidMap) || fresh_gids_held(row, fresh)
+        }
+    }
+}
+
+// The row of a standing space maps the user ids that can come into its map from its parent, where it isn't written.
+fn uid_map_held(spaces: &Spaces, b: &Bounds, n: SpaceId) -> bool
+    requires rows { length b.now ≡ 2 * length spaces.now }
+    requires few { length spaces.now < 2 ^ 31 }
+    requires stands { n.0 < length spaces.now }
+    ensures { IsTrue result ↔ UidMapHeld spaces.now (RowsHold b.now) n.0 }
+{
+    let space = spaces.standing(n);
+    if space.uids.is_some() {
+        return true;
+    }
+    match spaces.parent(n) {
+        Some(q) => new_uids_held(
+            b.row(Place::Standing(n)),
+            b.row(Place::Standing(q)),
+            space.owner,
+        ),
+        None => true,
+    }
+}
+
+// The group ids alike.
+fn gid_map_held(spaces: &Spaces, b: &Bounds, n: SpaceId) -> bool
+    requires rows { length b.now ≡ 2 * length spaces.now }
+    requires few { length spaces.now < 2 ^ 31 }
+    requires stands { n.0 < length spaces.now }
+    ensures { IsTrue result ↔ GidMapHeld spaces.now (RowsHold b.now) n.0 }
+{
+    let space = spaces.standing(n);
+    if space.gids.is_some() {
+        return true;
+    }
+    match spaces.parent(n) {
+        Some(q) => new_gids_held(
+            b.row(Place::Standing(n)),
+            b.row(Place::Standing(q)),
+            space.owner,
+        ),
+        None => true,
+    }
+}
+
+// The rule is closed at the row.
+fn closed_at(st: &State, files: &FileTable, f: Filter, b: &Bounds, x: Rule, at: Place) -> bool
+    requires rows { length b.now ≡ 2 * length st.now.spaces }
+    requires few { length st.now.spaces < 2 ^ 31 }
+    requires stands { space_under (row_of at) < length st.now.spaces }
+    ensures { IsTrue result ↔ ClosedAt (permits f) files.now st.now.spaces (RowsHold b.now) (rule_of x) (row_of at) }
+{
+    if !permits_rule(f, x) {
+        return true;
+    }
+    match x {
+        Rule::Create => create_held(&st.spaces, b, at),
+        Rule::Join => join_held(&st.spaces, b, at),
+        Rule::Maps => maps_held(f, &st.spaces, b, at),
+        _ => members_gain_held(st, files, b, x, at),
+    }
+}
+
+// The row holds what its members can gain by one of the first eleven rules, if it has any.
+fn members_gain_held(st: &State, files: &FileTable, b: &Bounds, x: Rule, at: Place) -> bool
+    requires rows { length b.now ≡ 2 * length st.now.spaces }
+    requires few { length st.now.spaces < 2 ^ 31 }
+    requires stands { space_under (row_of at) < length st.now.spaces }
+    ensures { IsTrue result ↔ (HasMembers (RowsHold b.now (row_of at)) → HoldsAll (RowsHold b.now (row_of at))
+        (Gains files.now st.now.spaces (RowsHold b.now) (rule_of x) (row_of at))) }
+{
+    let row = b.row(at);
+    if row.eu.is_empty() {
+        return true;
+    }
+    gains_held(st, files, b, x, at)
+}
+
+// The first row at which the rule isn't closed.
+fn open_row(st: &State, files: &FileTable, f: Filter, b: &Bounds, x: Rule) -> Option<u32>
+    requires rows { length b.now ≡ 2 * length st.now.spaces }
+    requires few { length st.now.spaces < 2 ^ 31 }
+    ensures none { IfNone result (ClosedIn (permits f) files.now st.now.spaces (RowsHold b.now) (rule_of x)) }
+    ensures first { IfSome result (IsFirstOpenRow (permits f) files.now st.now.spaces (RowsHold b.now) (rule_of x)) }
+{
+    for y in 0..2 * st.spaces.count() {
+        if !closed_at(st, files, f, b, x, Place::of_number(y)) {
+            return Some(y);
+        }
+    }
+    None
+}
+
+/// The first rule and row at which the bounds aren't closed under the filter, by rule and then by row; None exactly
+/// where they are closed. The bounds have two rows for each space, and fewer than 2^31 spaces stand. It takes no memory.
+pub fn closed(st: &State, files: &FileTable, f: Filter, b: &Bounds) -> Option<(Rule, u32)>
+    requires rows { length b.now ≡ 2 * length st.now.spaces }
+    requires few { length st.now.spaces < 2 ^ 31 }
+    ensures none { IfNone result (Closed (permits f) files.now st.now.spaces (RowsHold b.now)) }
+    ensures first { IfSome result (λ found. IsFirstOpen (permits f) files.now st.now.spaces (RowsHold b.now)
+        (rule_of found.0) found.1) }
+{
+    for k in 0..RULES {
+        let x = Rule::of_number(k);
+        if let Some(y) = open_row(st, files, f, b, x) {
+            return Some((x, y));
+        }
+    }
+    None
+}
