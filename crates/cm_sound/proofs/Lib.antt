@@ -1,0 +1,4 @@
+-- What rows exclude, and the states after logs.
+pub mod Never
+pub mod Parents
+pub mod AfterLogs
