@@ -17,6 +17,9 @@ PART is one of these, all being measured where it is left out:
   memory   the peak (VmHWM of /proc/PID/status, read 500 times a second) on the log of 64 MiB
   world    the worlds of worlds.py with an empty log, one of 1 MiB for each table, against `tuned`, once the reports are the
            same byte for byte
+  bounds   of the least closed bounds of 256 members in 256 spaces with 4,096 files: milliseconds of a pass of `closed` and of
+           `check` in the built program of crates/judge_bench, against those of plain_replay.rs, once their numbers on the
+           bounds are the same. It is processor time, and needs Linux's /proc/PID/schedstat
 
 KIND is what the logs of ratio, linear, scan and memory have (left out: ratio is measured for each, linear and memory for
 setresuid and strace; scan takes strace where KIND is none of strace):
@@ -42,13 +45,14 @@ import sys
 import tempfile
 import time
 
-from worlds import LOG_WORLDS, WORLDS
+from passes import bounds
+from worlds import BOUNDS_WORLDS, LOG_WORLDS, WORLDS
 
 HERE = os.path.dirname(os.path.abspath(__file__))
 BUILT = os.path.normpath(os.path.join(HERE, "..", "crates", "credaudit", "out", "credaudit"))
 MIB = 1 << 20
 SIZES, STRACE_SIZES = (1, 4, 16, 64), (32, 64)
-PARTS = ("ratio", "linear", "scan", "memory", "world")
+PARTS = ("ratio", "linear", "scan", "memory", "world", "bounds")
 # Of each kind of log the number of events, of strace that of lines, which are more than fill 64 MiB.
 STRACE = {"strace": 1000000, "strace-held": 1150000, "strace-held-quarter": 1150000}
 KINDS = {"setresuid": 2700000, "setuid": 3400000, "mixed": 3100000, "spaces": 3300000, "execve": 2100000, **STRACE}
@@ -237,6 +241,8 @@ def measure(program, asked, work):
         memory(Logs(kind, plain, program, work))
     if "world" in parts:
         large_worlds(plain, program, asked.runs, work)
+    for name, make in BOUNDS_WORLDS.items() if "bounds" in parts else ():
+        bounds(name, write(os.path.join(work, f"{name}.toml"), make()), plain, program, asked.runs)
 
 
 def main():
@@ -248,7 +254,7 @@ def main():
     ask.add_argument("program", nargs="?", default=BUILT)
     asked = ask.parse_args()
     program = None if asked.program == "none" else os.path.abspath(asked.program)
-    if program and not os.access(program, os.X_OK):
+    if program and asked.only != "bounds" and not os.access(program, os.X_OK):
         sys.exit(f"bench.py: {program} isn't there: build it first, with make at the top of the repository")
     if asked.work:
         os.makedirs(asked.work, exist_ok=True)

@@ -8,11 +8,17 @@
 //!   plain_replay tuned  WORLD LOG        the same text; bytes read in pieces and printed by hand
 //!   plain_replay quiet  WORLD LOG        as tuned, but prints only the last line
 //!   plain_replay events WORLD LOG..      of logs of strace the events alone, and how the reading ends
+//!   plain_replay bounds WORLD N M        the least closed bounds of the world's processes, by a few numbers; then whether they
+//!                                        are closed, N times, and a certificate's judgement, M times (plain/bounds.rs)
 //!
 //! It reads the world's tables and keys; of script logs the calls setresuid, setuid, no_new_privs, fork, clone_user, unshare,
 //! setns, write_uid_map, write_gid_map, write_setgroups, execve and exit; logs of strace whole. On those its report is that
 //! of credaudit, byte for byte; of a bad world it says `bad world` alone. Statuses: 0, 3, 4, 5, 6, 9.
 
+#[path = "plain/bounds.rs"]
+mod bounds;
+#[path = "plain/bounds_rules.rs"]
+mod bounds_rules;
 #[path = "plain/cred.rs"]
 mod cred;
 #[path = "plain/files.rs"]
@@ -21,6 +27,8 @@ mod files;
 mod gen;
 #[path = "plain/gen_strace.rs"]
 mod gen_strace;
+#[path = "plain/ids.rs"]
+mod ids;
 #[path = "plain/lines.rs"]
 mod lines;
 #[path = "plain/machine.rs"]
@@ -180,7 +188,7 @@ fn replay_tuned(log: &str, w: &World, mut m: Machine, print: bool) -> io::Result
 
 fn usage() -> ! {
     eprintln!("usage: plain_replay gen KIND N SEED WORLD\n       plain_replay replay|tuned|quiet WORLD LOG");
-    eprintln!("       plain_replay events WORLD LOG..");
+    eprintln!("       plain_replay events WORLD LOG..\n       plain_replay bounds WORLD N M");
     exit(6)
 }
 
@@ -216,6 +224,10 @@ fn main() -> io::Result<()> {
         ["events", world, logs @ ..] => {
             let (w, m) = read_world(world)?;
             logs.iter().try_for_each(|log| strace_replay::events(log, &w, &m))
+        }
+        ["bounds", world, closed_runs, check_runs] => {
+            let (w, m) = read_world(world)?;
+            bounds::bounds(&w, &m, num(closed_runs) as u32, num(check_runs) as u32)
         }
         _ => usage(),
     }

@@ -1,4 +1,4 @@
-"""The worlds that bench.py measures with: those of its logs, and one of 1 MiB for each table. For plain_replay.rs too, so one
+"""The worlds that bench.py measures with: those of its logs, those of bounds, and one of 1 MiB for each table. For plain_replay.rs too, so one
 key or header a line, and the tables in the order space, mount, file, process, filter.
 
   worlds.py NAME      writes the world of that name to standard output
@@ -125,6 +125,69 @@ def strace_of_log():
             + row("process", pid=100, uid=0, gid=0) + row("process", pid=101, uid=0, gid=0))
 
 
+# ---- worlds of bounds ----------------------------------------------------------------------------------------------
+
+
+def maps_of_tree(count):
+    """Of a binary tree of spaces the length of each one's map, and its outside ids as the initial space has them: halves of
+    its parent's. Some maps aren't written, nor those below them."""
+    maps = [(0, 4294967295)]
+    for number in range(1, count):
+        above = maps[(number - 1) // 2]
+        half = above[1] // 2 - 1 if above else 0
+        maps.append(None if number % 17 == 16 or not above else (above[0] + 1 + number % 2 * half, half))
+    return maps
+
+
+def tree_row(number, maps, owner):
+    above, own, parent = maps[(number - 1) // 2], maps[number], (number - 1) // 2
+    lines = f"[[0, {own[0] - above[0]}, {own[1]}]]" if own else None
+    return row("space", name=text(f"s{number}"), parent=text(f"s{parent}" if parent else "init"), owner=owner, uid_map=lines,
+               gid_map=lines, setgroups=text("deny") if number % 3 == 0 else None)
+
+
+def mount_of_bounds(number, spaces):
+    return row("mount", name=text(f"m{number}"), space=text(f"s{number}") if number % 7 == 0 and number < spaces else None,
+               nosuid=flag(number % 9 == 0), noexec=flag(number % 13 == 0))
+
+
+def file_of_bounds(number, owners):
+    """Of 64 one is set-user-ID, one set-group-ID, one has an attribute, and four are scripts, the first with all of these."""
+    mode = {0: "4755", 1: "2755", 8: "6755"}.get(number % 64, "0755")
+    caps = VERSION_2.format(1 << number // 64 % 8) if number % 64 in (2, 8) else None
+    runs = text(f"/bin/{number - 1}") if number % 16 == 8 else None
+    mount = number // 64 % MOUNTS
+    return row("file", path=text(f"/bin/{number}"), mount=text(f"m{mount}") if mount else None, uid=number % owners,
+               gid=number % (owners // 2), mode=text(mode), caps=caps and text(caps), interpreter=runs)
+
+
+def member_row(number, spaces, maps, keys):
+    space = number * 7 % spaces
+    own = (maps[space] or (5000, 0))[0] + 1000 + number
+    return row("process", pid=100 + number, space=text(f"s{space}") if space else None, uid=own, gid=own, groups=f"[{own + 7}]",
+               **keys)
+
+
+def of_bounds(members, files, spaces, owners, owner, **keys):
+    maps = maps_of_tree(spaces)
+    calls = ", ".join(map(text, ("setreuid", "unshare", "keepcaps")))
+    return (HEAD + "".join(tree_row(number, maps, owner(number)) for number in range(1, spaces))
+            + "".join(mount_of_bounds(number, spaces) for number in range(1, MOUNTS))
+            + "".join(file_of_bounds(number, owners) for number in range(files))
+            + "".join(member_row(number, spaces, maps, keys) for number in range(members))
+            + f"[filter]\nexclude = [{calls}]\n")
+
+
+def bounds_of_all(members=256, files=FILES, spaces=256):
+    """Members in a tree of spaces, and programs that make them root: in the end most rows hold all that there is."""
+    return of_bounds(members, files, spaces, 200, lambda number: 1000 + number)
+
+
+def bounds_of_scattered_ids(members=256, files=FILES, spaces=256):
+    """The same with owners that no member can become, without root and capabilities: sets of many ids that lie apart."""
+    return of_bounds(members, files, spaces, 4096, lambda number: 4000000000, bounding=text("none"), securebits=3)
+
+
 # ---- worlds of 1 MiB -----------------------------------------------------------------------------------------------
 
 
@@ -185,6 +248,7 @@ WORLDS = {
     "space": spaces_below_one_another, "space-flat": spaces_side_by_side, "mount": mounts, "file": files,
     "process": many_processes, "filter": names_of_filter,
 }
+BOUNDS_WORLDS = {"bounds": bounds_of_all, "bounds-scattered": bounds_of_scattered_ids}
 LOG_WORLDS = {
     "setresuid": lambda: processes(p100="0"),
     "setuid": lambda: processes(p100="0", p101="[1000, 1001, 1002, 1001]", p102="1000"),
@@ -196,7 +260,7 @@ LOG_WORLDS = {
 
 
 def main():
-    every = {**LOG_WORLDS, **WORLDS}
+    every = {**LOG_WORLDS, **BOUNDS_WORLDS, **WORLDS}
     if len(sys.argv) != 2 or sys.argv[1] not in every:
         sys.exit("usage: worlds.py " + "|".join(every))
     sys.stdout.write(every[sys.argv[1]]())

@@ -162,28 +162,33 @@ def call_name(text):
     return name[:-2] if name.endswith("32") else name
 
 
+def outside_quotes(text):
+    """The characters outside of quotes, each with its place; of a quoted text its first quote alone."""
+    in_quotes, i = False, 0
+    while i < len(text):
+        c = text[i]
+        if not in_quotes:
+            yield i, c
+        if c == '"':
+            in_quotes = not in_quotes
+        elif in_quotes and c == "\\":
+            i += 1
+        i += 1
+
+
 def shape(text):
     """What stands between the parentheses, and the result."""
     rest = text[re.match("[A-Za-z0-9_]*", text).end():].lstrip(BLANKS)
     if not rest.startswith("("):
         raise Fault("shape")
-    inner, best, closing, in_quotes, i = rest[1:], None, None, False, 0
-    while i < len(inner):
-        c = inner[i]
-        if in_quotes:
-            if c == "\\":
-                i += 1
-            elif c == '"':
-                in_quotes = False
-        elif c == '"':
-            in_quotes, closing = True, None
-        elif c == ")":
+    inner, best, closing = rest[1:], None, None
+    for i, c in outside_quotes(inner):
+        if c == ")":
             closing = i
         elif c == "=" and closing is not None:
             best, closing = (closing, i), None
         elif c not in BLANKS:
             closing = None
-        i += 1
     if best is None:
         raise Fault("shape")
     return inner[:best[0]], inner[best[1] + 1:].strip(BLANKS)
@@ -194,50 +199,28 @@ def pieces(text):
     text = text.strip(BLANKS)
     if text == "":
         return []
-    found, piece, depth, in_quotes, i = [], "", 0, False, 0
-    while i < len(text):
-        c = text[i]
-        if in_quotes:
-            if c == "\\":
-                piece += text[i:i + 2]
-                i += 2
-                continue
-            in_quotes = c != '"'
-        elif c == '"':
-            in_quotes = True
-        elif c in "([{":
+    found, begin, depth = [], 0, 0
+    for i, c in outside_quotes(text):
+        if c in "([{":
             depth += 1
         elif c in ")]}":
             depth = max(0, depth - 1)
         elif c == "," and depth == 0:
-            found.append(piece.strip(BLANKS))
-            piece = ""
-            i += 1
-            continue
-        piece += c
-        i += 1
-    return found + [piece.strip(BLANKS)]
+            found.append(text[begin:i].strip(BLANKS))
+            begin = i + 1
+    return found + [text[begin:].strip(BLANKS)]
 
 
 def inside_first(text):
     """What stands between a bracket at the front and the one that closes it, or all after it."""
-    depth, in_quotes, i = 0, False, 0
-    while i < len(text):
-        c = text[i]
-        if in_quotes:
-            if c == "\\":
-                i += 1
-            elif c == '"':
-                in_quotes = False
-        elif c == '"':
-            in_quotes = True
-        elif c in "([{":
+    depth = 0
+    for i, c in outside_quotes(text):
+        if c in "([{":
             depth += 1
         elif c in ")]}":
             depth -= 1
             if depth == 0:
                 return text[1:i]
-        i += 1
     return text[1:]
 
 

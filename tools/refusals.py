@@ -1,14 +1,13 @@
 #!/usr/bin/env python3
 """Runs two examples again and again, with one thing refused each time, and counts what the program answers.
 
-  refusals.py [--only allocations|calls] [--form script|strace] [--jobs N]
+  refusals.py [--only allocations|calls] [--form script|strace]
 
 The examples are the program's stored one, of a script log, and tools/data/strace_run, of a log of strace with a birth, held
 lines, an unfinished call and a map; its report is that of plain_report.py. --form takes one of them.
 
-allocations   The Nth allocation is refused, for N = 1, 2, .. until three runs in a row answer as if none was, by
-              `rt try --fail-alloc N`: an unproved build, made anew each time, so each run takes some 20 seconds. --jobs
-              has several at once (2).
+allocations   Each of the allocations that the built program asks for is refused, one a run (tools/refuse.c, preloaded; needs
+              cc).
 calls         Each opening, read and write that the built program makes of its files and of standard output ends in an
               error, one a run, by the fault injection of strace (needed for this part alone); then each is
               interrupted once (EINTR), which mustn't be seen.
@@ -18,7 +17,6 @@ nothing of it; or the whole report with its own status. Any other one is printed
 """
 import argparse
 import collections
-import concurrent.futures
 import os
 import re
 import subprocess
@@ -27,9 +25,10 @@ import tempfile
 
 from plain_report import report
 
-CRATE = os.path.join(os.path.dirname(os.path.abspath(__file__)), "..", "crates", "credaudit")
-STRACE_RUN = os.path.join(os.path.dirname(os.path.abspath(__file__)), "data", "strace_run")
-IN_A_ROW = 3
+HERE = os.path.dirname(os.path.abspath(__file__))
+CRATE = os.path.abspath(os.path.join(HERE, "..", "crates", "credaudit"))
+PROGRAM = os.path.join(CRATE, "out", "credaudit")
+STRACE_RUN = os.path.join(HERE, "data", "strace_run")
 OPEN, READ, WRITE = ("openat", "open"), ("read", "pread64", "readv"), ("write", "writev")
 
 
@@ -75,44 +74,43 @@ def of_strace():
 EXAMPLES = {"script": stored, "strace": of_strace}
 
 
-def refused_allocation(example, number):
-    words = ["rt", "try", "--fail-alloc", str(number)]
-    for name in example.files:
-        words += ["--data", f"{name}={os.path.relpath(os.path.join(example.folder, name), CRATE)}"]
-    run = subprocess.run(words + ["--", *example.words], cwd=CRATE, stdin=subprocess.DEVNULL,
-                         stdout=subprocess.PIPE, stderr=subprocess.PIPE)
-    ended = re.search(rb"^run=ended status=(\d+)", run.stderr, re.MULTILINE)
-    if not ended:
-        sys.exit("refusals.py: rt try gave no answer:\n" + run.stderr.decode(errors="replace"))
-    return int(ended.group(1)), run.stdout
+def with_allocations(example, shim, refused=None):
+    """The status, what was written, and how many allocations were asked for, where the one of that number is refused."""
+    more = {"LD_PRELOAD": shim, **({"ONE": str(refused)} if refused else {})}
+    run = subprocess.run([PROGRAM, *example.words], cwd=example.folder, stdin=subprocess.DEVNULL, capture_output=True,
+                         env={**os.environ, **more})
+    asked = re.search(rb"^asked (\d+)$", run.stderr, re.MULTILINE)
+    if not asked:
+        sys.exit("refusals.py: the program's allocations weren't counted: " + run.stderr.decode(errors="replace"))
+    return run.returncode, run.stdout, int(asked.group(1))
 
 
-def allocations(example, jobs):
-    counts, whole, number, good, spared = collections.Counter(), 0, 0, True, []
-    with concurrent.futures.ThreadPoolExecutor(jobs) as pool:
-        while whole < IN_A_ROW:
-            numbers = range(number + 1, number + 1 + jobs)
-            for number, got in zip(numbers, pool.map(lambda n: refused_allocation(example, n), numbers)):
-                answer = example.answer(*got, {10})
-                if answer is None:
-                    print(f"allocation {number}: status {got[0]}, {len(got[1])} bytes that are no right answer")
-                    good = False
-                whole = whole + 1 if answer == "whole report" else 0
-                spared += [str(number)] if whole else []
-                counts[answer or "wrong"] += 1
-                if whole == IN_A_ROW:
-                    break
-    counts["whole report"] -= IN_A_ROW
-    show(f"{example.form}, allocations: {number - IN_A_ROW} refused, one a run", counts)
-    if spared[:-IN_A_ROW]:
-        print("  (the whole report came where these were refused: " + ", ".join(spared[:-IN_A_ROW]) + ")")
+def allocations(example):
+    counts, good, spared = collections.Counter(), True, []
+    with tempfile.TemporaryDirectory() as work:
+        shim = os.path.join(work, "refuse.so")
+        subprocess.run(["cc", "-O2", "-shared", "-fPIC", os.path.join(HERE, "refuse.c"), "-o", shim], check=True)
+        status, text, most = with_allocations(example, shim)
+        if (status, text) != (example.status, example.report):
+            sys.exit(f"refusals.py: the built program doesn't answer the {example.form} example")
+        for number in range(1, most + 1):
+            status, text, _ = with_allocations(example, shim, number)
+            answer = example.answer(status, text, {10})
+            if answer is None:
+                print(f"allocation {number}: status {status}, {len(text)} bytes that are no right answer")
+                good = False
+            spared += [str(number)] if answer == "whole report" else []
+            counts[answer or "wrong"] += 1
+    show(f"{example.form}, allocations: {most} refused, one a run", counts)
+    if spared:
+        print("  (the whole report came where these were refused: " + ", ".join(spared) + ")")
     return good
 
 
-def calls_of(example, program, work):
+def calls_of(example, work):
     """The calls on files and standard output that the program makes, after what the loader does before it."""
     trace = os.path.join(work, "trace")
-    run = subprocess.run(["strace", "-o", trace, "-e", "trace=" + ",".join(OPEN + READ + WRITE), program, *example.words],
+    run = subprocess.run(["strace", "-o", trace, "-e", "trace=" + ",".join(OPEN + READ + WRITE), PROGRAM, *example.words],
                          cwd=example.folder, stdout=subprocess.PIPE)
     if (run.returncode, run.stdout) != (example.status, example.report):
         sys.exit(f"refusals.py: the built program doesn't answer the {example.form} example under strace")
@@ -127,23 +125,21 @@ def calls_of(example, program, work):
     return calls
 
 
-def refused_call(example, program, name, number, error):
+def refused_call(example, name, number, error):
     words = ["strace", "-o", "/dev/null", "-e", f"trace={name}", "-e", f"inject={name}:error={error}:when={number}"]
-    run = subprocess.run([*words, program, *example.words], cwd=example.folder, stdout=subprocess.PIPE)
+    run = subprocess.run([*words, PROGRAM, *example.words], cwd=example.folder, stdout=subprocess.PIPE)
     return run.returncode, run.stdout
 
 
 def calls(example):
-    program, good = os.path.abspath(os.path.join(CRATE, "out", "credaudit")), True
-    if not os.access(program, os.X_OK):
-        sys.exit("refusals.py: the program isn't built: run make first")
+    good = True
     with tempfile.TemporaryDirectory() as work:
-        made = calls_of(example, program, work)
+        made = calls_of(example, work)
     for error in ("EIO", "EINTR"):
         counts = collections.Counter()
         for name, number in made:
             fault = set() if error == "EINTR" else {8} if name in WRITE else {7}
-            got = refused_call(example, program, name, number, error)
+            got = refused_call(example, name, number, error)
             answer = example.answer(*got, fault)
             if answer is None or (error == "EIO" and answer == "whole report"):
                 print(f"{name} {number} with {error}: status {got[0]}, {len(got[1])} bytes that are no right answer")
@@ -163,16 +159,17 @@ def show(title, counts):
 
 
 def main():
-    ask = argparse.ArgumentParser(usage="refusals.py [--only allocations|calls] [--form script|strace] [--jobs N]")
+    ask = argparse.ArgumentParser(usage="refusals.py [--only allocations|calls] [--form script|strace]")
     ask.add_argument("--only", choices=("allocations", "calls"))
     ask.add_argument("--form", choices=EXAMPLES)
-    ask.add_argument("--jobs", type=int, default=2)
     asked, good = ask.parse_args(), True
+    if not os.access(PROGRAM, os.X_OK):
+        sys.exit("refusals.py: the program isn't built: run make first")
     examples = [EXAMPLES[form]() for form in ([asked.form] if asked.form else EXAMPLES)]
     for example in examples if asked.only != "allocations" else ():
         good = calls(example) and good
     for example in examples if asked.only != "calls" else ():
-        good = allocations(example, asked.jobs) and good
+        good = allocations(example) and good
     sys.exit(0 if good else 1)
 
 

@@ -48,6 +48,10 @@ impl Map {
         Map(vec![Extent { inside: 0, outside: 0, length: NO_ID }])
     }
 
+    pub fn extents(&self) -> &[Extent] {
+        &self.0
+    }
+
     fn at(&self, inside: u32) -> Option<&Extent> {
         let after = self.0.partition_point(|e| e.inside <= inside);
         let e = &self.0[after.checked_sub(1)?];

@@ -74,17 +74,35 @@ fn after_quote(text: &[u8], mut i: usize) -> usize {
     i
 }
 
+/// The bytes outside of quotes, each with its place; of a quoted text its first quote alone.
+struct OutsideQuotes<'a> {
+    text: &'a [u8],
+    at: usize,
+}
+
+fn outside_quotes(text: &[u8]) -> OutsideQuotes<'_> {
+    OutsideQuotes { text, at: 0 }
+}
+
+impl Iterator for OutsideQuotes<'_> {
+    type Item = (usize, u8);
+
+    fn next(&mut self) -> Option<(usize, u8)> {
+        let (i, b) = (self.at, *self.text.get(self.at)?);
+        self.at = if b == b'"' { after_quote(self.text, i + 1) } else { i + 1 };
+        Some((i, b))
+    }
+}
+
 /// What stands between the parentheses of a call, and its result.
 pub fn shape(call: &[u8]) -> Option<(&[u8], &[u8])> {
     let inner = without_front(&call[name_length(call)..]).strip_prefix(b"(")?;
-    let (mut best, mut closing, mut i) = (None, None, 0);
-    while let Some(b) = inner.get(i) {
-        i += 1;
+    let (mut best, mut closing) = (None, None);
+    for (i, b) in outside_quotes(inner) {
         match b {
-            b'"' => (i, closing) = (after_quote(inner, i), None),
-            b')' => closing = Some(i - 1),
-            b'=' => best = closing.take().map(|at| (at, i)).or(best),
-            b if is_blank(*b) => (),
+            b')' => closing = Some(i),
+            b'=' => best = closing.take().map(|at| (at, i + 1)).or(best),
+            b if is_blank(b) => (),
             _ => closing = None,
         }
     }
@@ -103,16 +121,14 @@ impl<'a> Iterator for Pieces<'a> {
 
     fn next(&mut self) -> Option<&'a [u8]> {
         let text = self.0?;
-        let (mut depth, mut i) = (0usize, 0);
-        while let Some(b) = text.get(i) {
-            i += 1;
+        let mut depth = 0usize;
+        for (i, b) in outside_quotes(text) {
             match b {
-                b'"' => i = after_quote(text, i),
                 b'(' | b'[' | b'{' => depth += 1,
                 b')' | b']' | b'}' => depth = depth.saturating_sub(1),
                 b',' if depth == 0 => {
-                    self.0 = Some(&text[i..]);
-                    return Some(trimmed(&text[..i - 1]));
+                    self.0 = Some(&text[i + 1..]);
+                    return Some(trimmed(&text[..i]));
                 }
                 _ => (),
             }
@@ -124,13 +140,11 @@ impl<'a> Iterator for Pieces<'a> {
 
 /// What stands between a bracket at the front and the one that closes it, or else all after it.
 fn bracketed(text: &[u8]) -> &[u8] {
-    let (mut depth, mut i) = (0usize, 0);
-    while let Some(b) = text.get(i) {
-        i += 1;
+    let mut depth = 0usize;
+    for (i, b) in outside_quotes(text) {
         match b {
-            b'"' => i = after_quote(text, i),
             b'(' | b'[' | b'{' => depth += 1,
-            b')' | b']' | b'}' if depth == 1 => return &text[1..i - 1],
+            b')' | b']' | b'}' if depth == 1 => return &text[1..i],
             b')' | b']' | b'}' => depth -= 1,
             _ => (),
         }

@@ -15,8 +15,7 @@ pub struct World {
     pub spaces: Names, // of the declared spaces, the initial one among them
     pub paths: Names,
     pub files: Vec<File>,
-    #[allow(dead_code)] // it binds no log
-    pub filter: u32,
+    pub filter: u32, // the calls that are excluded; it binds no log
     pub strace: bool, // the form of its logs
 }
 
