@@ -1,7 +1,6 @@
 -- Each step keeps what a state keeps.
-use Rattle.std.proofs.Common.{◌≡◌, ℕ, ◌<◌, ◌≤◌, not, Bool, true, false, List, [], ◌∷◌, length, Some, if◌then◌else◌, refl, sym, inl, inr, subst, arith}
+use Rattle.std.proofs.Common.{◌≡◌, ℕ, ◌<◌, ◌≤◌, Bool, true, false, List, [], ◌∷◌, length, Some, if◌then◌else◌, refl, sym, inl, inr, subst, arith}
 use Rattle.std.specs.Prelude.{All}
-use Rattle.std.proofs.lemmas.Bool.{not-false, ltb-true}
 use Rattle.std.proofs.lemmas.List.Elements.{All-weaker}
 use Rattle.cm_base.specs.declared.errno.Errno.TheVariants.{EPERM, ENOSPC, EAGAIN}
 use Rattle.cm_base.specs.declared.res.Res.{Res}
@@ -17,6 +16,7 @@ use Rattle.model_cred.specs.IdMap.{extents_of}
 use Rattle.model_cred.specs.Process.{Process, State, KeepsState, process_at, put_process, insert_process, without_process, is_alive, is_pid}
 use Rattle.model_cred.specs.Space.{Spaces, KeepsSpace, space_of, stands}
 use Rattle.model_cred.specs.World.{World}
+use Rattle.model_rules.proofs.Spaces.{keeps_space_of, stands_there}
 use Rattle.model_rules.specs.Answer.{Answer, done}
 use Rattle.model_rules.specs.Maps.{UidMap, GidMap, Written}
 use Rattle.model_rules.specs.Namespaces.{unshare, clone_user, join, as_newcomer}
@@ -33,7 +33,7 @@ use Rattle.model_laws.proofs.Credentials.{good_execve, keeps_newcomer}
 use Rattle.model_laws.proofs.Ids.{setresid_ids, setreid_ids, setid_ids}
 use Rattle.model_cred.proofs.Orders.{ascends_forth, ascends_back, ascends_put, ascends_insert, ascends_without, all_put, all_insert, all_without, all_found}
 use Rattle.model_laws.proofs.StepParts.{Stepped, Answers, stepped}
-use Rattle.model_laws.proofs.Trees.{KeepsTree, keeps_space_of, keeps_created, GoodWrite, good_map, good_word}
+use Rattle.model_laws.proofs.Trees.{KeepsTree, keeps_created, GoodWrite, good_map, good_word}
 
 -- What a reply leaves: the caller is in a space that stands and keeps what a credential keeps, and the spaces are a tree
 -- of as many or more.
@@ -65,10 +65,6 @@ joined Done at target count there other = other
 joined (Id n) at target count there other = there
 joined (Child n) at target count there other = there
 joined (Err e) at target count there other = there
-
--- a space that is named stands
-stands_there : (spaces : Spaces) (n : ℕ) → not (stands spaces n) ≡ false → n < length spaces
-stands_there spaces n is = ltb-true n (length spaces) (not-false (stands spaces n) is)
 
 writes_good : (spaces : Spaces) (at : ℕ) (c : Credential) (a : Written) → at < length spaces → Keeps c
     → GoodWrite spaces a → GoodReply spaces (writes at c a) a.spaces

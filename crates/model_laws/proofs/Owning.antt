@@ -115,7 +115,8 @@ own_told w s pid p call lives =
           ∙ cond-true (same_res r.res r.res) (Goes r.state) (Wrong r.res) (same_itself r.res)
     ]
 
-own_step : (w : World) (s : State) (e : Event) (p : Process) → process_at s.processes e.pid ≡ Some p → names_no_space s.spaces e.call ≡ false
+-- the own step is a step
+pub own_step : (w : World) (s : State) (e : Event) (p : Process) → process_at s.processes e.pid ≡ Some p → names_no_space s.spaces e.call ≡ false
     → e.res ≡ (own w s p e.call).res → Step w s e (own w s p e.call).state
 own_step w s e p lives named told =
     let fresh : is_living_child s.processes e.res ≡ false

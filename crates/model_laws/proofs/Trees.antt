@@ -1,7 +1,6 @@
 -- Each call keeps the tree of spaces and what each space keeps.
 use Rattle.std.proofs.Common.{◌≡◌, ℕ, ◌+◌, ◌-◌, ◌<◌, ◌≤◌, ◌&&◌, Bool, true, false, List, [], ◌∷◌}
 use Rattle.std.proofs.Common.{length, Option, Some, None, if◌then◌else◌, refl, sym, ◌∙◌, inl, inr, subst, arith}
-use Rattle.std.proofs.Common.{lit<}
 use Rattle.std.specs.Prelude.{nat_le, not, All, IfSome, option_and_then, option_map}
 use Rattle.std.proofs.lemmas.Bool.{cases_Bool, cases_eq, leb-true, not-false, cond_both, cond-true, cond-false, and_parts}
 use Rattle.std.proofs.lemmas.List.Elements.{All-head, All-tail, All-nil, All-cons}
@@ -13,30 +12,18 @@ use Rattle.model_cred.specs.Credential.{Credential, Keeps}
 use Rattle.model_cred.specs.IdMap.{Extent, HasIds, extents_of}
 use Rattle.model_cred.specs.MapFault.{IsMap, is_map}
 use Rattle.model_rules.proofs.Downs.{stored_is_map}
-use Rattle.model_cred.specs.Space.{Space, Spaces, KeepsSpace, IsTree, space_of, no_space, put_space}
+use Rattle.model_rules.proofs.Spaces.{keeps_space_of}
+use Rattle.model_cred.specs.Space.{Space, Spaces, KeepsSpace, IsTree, space_of, put_space}
 use Rattle.model_rules.specs.Maps.{MapFile, UidMap, GidMap, Written, write_done, write_refused, write_map, write_stored}
 use Rattle.model_rules.specs.Maps.{write_setgroups, map_of, with_map, parent_map, extent_down, list_down}
 use Rattle.model_rules.specs.Namespaces.{created_by}
-use Rattle.model_cred.proofs.Trees.{space_of_newest, space_of_older, put_newest, put_older, tree_put, tree_grows}
+use Rattle.model_cred.proofs.Trees.{put_newest, put_older, tree_put, tree_grows}
 use Rattle.model_laws.proofs.Ids.{FitsIds}
 
 -- a tree and what each of its spaces keeps
 pub record KeepsTree (spaces : Spaces) : Type 0 where
   pub tree : IsTree spaces
   pub each : All KeepsSpace spaces
-
--- what stands in the place of a space keeps it too
-keeps_no_space : KeepsSpace no_space
-keeps_no_space = record { owner = lit< tt; uids = All-nil FitsIds; gids = All-nil FitsIds; uid_map = tt; gid_map = tt }
-
--- each space that is looked up keeps what a space keeps
-pub keeps_space_of : (spaces : Spaces) (n : ℕ) → All KeepsSpace spaces → KeepsSpace (space_of spaces n)
-keeps_space_of [] n each = keeps_no_space
-keeps_space_of (t ∷ older) n each =
-    elim (cases_eq n (length older)) [
-      | inl same ↦ subst KeepsSpace (sym (space_of_newest t older n same)) (All-head KeepsSpace t older each)
-      | inr other ↦ subst KeepsSpace (sym (space_of_older t older n other)) (keeps_space_of older n (All-tail KeepsSpace t older each))
-    ]
 
 all_put : (n : ℕ) (new : Space) (spaces : Spaces) → KeepsSpace new → All KeepsSpace spaces → All KeepsSpace (put_space n new spaces)
 all_put n new [] keeps each = each

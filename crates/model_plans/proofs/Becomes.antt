@@ -1,22 +1,20 @@
 -- Who may make an id its effective one has it after the move.
-use Rattle.std.proofs.Common.{◌≡◌, ◌⊎◌, ℕ, ◌==◌, ◌&&◌, ◌||◌, not, Bool, true, false, List, [], ◌∷◌, Option, None, Some}
+use Rattle.std.proofs.Common.{◌≡◌, ◌⊎◌, ℕ, ◌==◌, ◌&&◌, ◌||◌, Bool, true, false, List, [], ◌∷◌, Option, None, Some}
 use Rattle.std.proofs.Common.{if◌then◌else◌, refl, sym, ap, ◌∙◌, inl, inr}
 use Rattle.std.specs.Prelude.{find, Result, Ok}
 use Rattle.std.specs.declared.result.Result.TheVariants.{Err}
 use Rattle.std.proofs.lemmas.Bool.{cases_Bool, cond-true, cond-false, eqb-true, eq-eqb, and_from, or_cases, or_left, or_right}
 use Rattle.std.proofs.lemmas.Bool.{not-true}
-use Rattle.cm_base.specs.CapSet.{none}
 use Rattle.cm_base.specs.declared.errno.Errno.{Errno}
 use Rattle.cm_base.specs.declared.errno.Errno.TheVariants.{EPERM}
 use Rattle.model_cred.specs.Call.{Call, kind_of}
 use Rattle.model_cred.specs.Credential.{Credential, FourIds, is_one_of_three, all_four}
 use Rattle.model_cred.specs.IdMap.{Extent, up, down, extents_of}
 use Rattle.model_cred.specs.Space.{Space}
-use Rattle.model_rules.specs.Fixups.{fixed_up, following_effective, after_losing_root}
-use Rattle.model_rules.specs.Securebits.{has_flag, keep_caps, no_setuid_fixup}
 use Rattle.model_rules.specs.SetId.{minus_one, asked, one_mapped, both_mapped, all_mapped, setresid, setreid, setid, saved_after}
 use Rattle.model_rules.specs.SetId.{with_uids, with_gids, has_setuid, has_setgid}
-use Rattle.model_rules.specs.Zero.{zero_of, is_zero, has_zero}
+use Rattle.model_rules.specs.Zero.{zero_of}
+use Rattle.model_laws.proofs.SavedIds.{fixed_uid}
 use Rattle.model_plans.specs.Move.{Seat, Setting, uid_calls, gid_calls, calls_with, becoming, becoming_uid, becoming_gid, space_at_seat}
 use Rattle.model_plans.specs.Move.{sought_uid, sought_gid}
 use Rattle.model_plans.specs.Walk.{seat_after}
@@ -111,36 +109,10 @@ gives_setid map privileged old inside id stands other allowed = by privileged al
     }
 
 -- ---- what they leave
--- the fixups leave the user ids
-uid_losing : (s : Space) (old : FourIds) (c : Credential) → (after_losing_root s old c).uid ≡ c.uid
-uid_losing s old c = by (has_zero s old && not (has_zero s c.uid)) (has_flag c keep_caps)
-  where
-    by : (a b : Bool)
-        → (if a then (if b then record c { ambient = none } else record c { permitted = none; effective = none; ambient = none }) else c).uid ≡ c.uid
-    by true true = refl
-    by true false = refl
-    by false b = refl
-
-uid_following : (s : Space) (old : FourIds) (c : Credential) → (following_effective s old c).uid ≡ c.uid
-uid_following s old c = by (is_zero s old.effective && not (is_zero s c.uid.effective)) (not (is_zero s old.effective) && is_zero s c.uid.effective)
-  where
-    by : (a b : Bool)
-        → (if a then record c { effective = none } else if b then record c { effective = c.permitted } else c).uid ≡ c.uid
-    by true b = refl
-    by false true = refl
-    by false false = refl
-
-uid_fixed : (s : Space) (old : FourIds) (c : Credential) → (fixed_up s old c).uid ≡ c.uid
-uid_fixed s old c =
-    elim (has_flag c no_setuid_fixup) as (λ (b : Bool). (if b then c else following_effective s old (after_losing_root s old c)).uid ≡ c.uid) [
-      | true ↦ refl
-      | false ↦ uid_following s old (after_losing_root s old c) ∙ uid_losing s old c
-    ]
-
 uid_made : (s : Space) (c : Credential) (r : Result FourIds Errno) (id : ℕ) → Gives id r → (with_uids s c r).cred.uid.effective ≡ id
 uid_made s c r id gives =
     ap (λ (x : Result FourIds Errno). (with_uids s c x).cred.uid.effective) gives.done
-    ∙ ap (λ (ids : FourIds). ids.effective) (uid_fixed s c.uid (record c { uid = gives.ids }))
+    ∙ ap (λ (ids : FourIds). ids.effective) (fixed_uid s c.uid (record c { uid = gives.ids }))
     ∙ gives.effective
 
 gid_made : (c : Credential) (r : Result FourIds Errno) (id : ℕ) → Gives id r → (with_gids c r).cred.gid.effective ≡ id

@@ -16,9 +16,8 @@ use Rattle.model_cred.specs.Space.{Spaces, stands}
 use Rattle.model_cred.specs.World.{World}
 use Rattle.model_run.specs.Later.{Later, is_member, members_after, members_with}
 use Rattle.model_run.specs.Ruling.{Ruling, own}
-use Rattle.model_run.specs.Step.{Step, names_no_space}
-use Rattle.model_laws.specs.Owns.{OwnIsStep}
-use Rattle.model_laws.proofs.Owning.{own_is_step}
+use Rattle.model_run.specs.Step.{names_no_space}
+use Rattle.model_laws.proofs.Owning.{own_step}
 use Rattle.model_laws.proofs.Results.{IsRuled, reply_plain}
 use Rattle.model_plans.specs.Move.{MayCall, seat_of, Setting, Move, Raise, BecomeZero, BecomeSought, BecomeGroup, TakeGroup}
 use Rattle.model_plans.specs.Move.{RunFile, JoinSpace, call_of}
@@ -44,12 +43,6 @@ alone_members : (members : List ℕ) (pid : ℕ) (call : Call) (r : Res) → cha
     → members_after members pid call r ≡ members
 alone_members members pid Exit r alone ruled = absurd (cc)
 alone_members members pid _ r alone ruled = members_stay members r ruled
-
--- the own step is a step
-own_goes : (w : World) (s : State) (e : Event) (p : Process) → process_at s.processes e.pid ≡ Some p
-    → names_no_space s.spaces e.call ≡ false → e.res ≡ (own w s p e.call).res → Step w s e (own w s p e.call).state
-unfolding OwnIsStep
-own_goes = own_is_step
 
 -- ---- moves
 -- the spaces that moves are to join stand
@@ -80,7 +73,7 @@ later_call permitted w s right members pid p moves (Some call) lives member plai
       r.state,
       member,
       is.1,
-      own_goes w s e p lives is.2 refl,
+      own_step w s e p lives is.2 refl,
       subst (λ (ms : List ℕ). Later (permitted pid) w r.state ms made.events made.state members)
           (sym (alone_members members pid call r.res is.0 ruled))
           (rest r.state (ap (λ (x : Ruling). x.state.spaces) alone)),

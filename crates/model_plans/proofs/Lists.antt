@@ -5,11 +5,8 @@ use Rattle.std.specs.Prelude.{find, All, Any}
 use Rattle.std.specs.List.{flat_map, range_with_len}
 use Rattle.std.specs.Option.{option_or}
 use Rattle.std.proofs.lemmas.List.Elements.{All-head, All-tail, All-cons, All-nil, All-append}
+use Rattle.model_rules.proofs.Options.{both_none, or_assoc}
 use Rattle.model_plans.specs.PlanRun.{first_some}
-
-or_assoc : {B : Type 0} (a b c : Option B) → option_or (option_or a b) c ≡ option_or a (option_or b c)
-or_assoc None b c = refl
-or_assoc (Some x) b c = refl
 
 pub first_append : {A B : Type 0} (f : A → Option B) (xs ys : List A) → first_some f (xs ++ ys) ≡ option_or (first_some f xs) (first_some f ys)
 first_append f [] ys = refl
@@ -74,14 +71,10 @@ map_find h test (x ∷ xs) =
     ]
 
 -- ---- no answer
-or_none : {B : Type 0} (a b : Option B) → option_or a b ≡ None → (a ≡ None) × (b ≡ None)
-or_none None b is = (refl, is)
-or_none (Some x) b is = absurd (cc)
-
 pub all_none : {A B : Type 0} (f : A → Option B) (xs : List A) → first_some f xs ≡ None → All (λ x. f x ≡ None) xs
 all_none f [] is = All-nil (λ x. f x ≡ None)
 all_none f (x ∷ xs) is =
-    let (here, later) = or_none (f x) (first_some f xs) is in
+    let (here, later) = both_none (f x) (first_some f xs) is in
     All-cons (λ x. f x ≡ None) x xs here (all_none f xs later)
 
 pub none_of : {A B : Type 0} (f : A → Option B) (xs : List A) → All (λ x. f x ≡ None) xs → first_some f xs ≡ None

@@ -2,12 +2,12 @@
 use Rattle.std.proofs.Common.{◌≡◌, ◌≢◌, ℕ, suc, ◌==◌, ◌⊎◌, cond, inl, inr, List, [], ◌∷◌, ◌++◌, Option, Some, None, IsSomeAnd, refl, sym, ◌∙◌, ap, subst}
 use Rattle.std.proofs.Common.{arith, append_assoc, append-nil, map, false}
 use Rattle.std.proofs.lemmas.Bool.{cases_eq}
-use Rattle.std.specs.Prelude.{is_some}
 use Rattle.std.specs.Option.{option_or}
 use Rattle.cm_base.specs.declared.res.Res.{Res}
 use Rattle.cm_base.specs.declared.res.Res.TheVariants.{Child}
 use Rattle.model_cred.specs.Process.{Process, State, Ascends, process_at, is_alive}
 use Rattle.model_cred.specs.World.{World}
+use Rattle.model_rules.proofs.Options.{none_there, or_none, or_assoc}
 use Rattle.model_run.specs.Step.{Step, Run}
 use Rattle.model_report.proofs.Replays.{passed_lines, passed_step}
 use Rattle.model_cred.proofs.Lookups.{pid_of_found, IsLike}
@@ -19,10 +19,6 @@ use Rattle.model_cred.proofs.Finds.{dead_below}
 use Rattle.model_cred.proofs.Orders.{AscendsFrom, ascends_forth}
 
 -- ---- the last credential lines
-or_assoc : (a b c : Option Process) → option_or (option_or a b) c ≡ option_or a (option_or b c)
-or_assoc None b c = refl
-or_assoc (Some p) b c = refl
-
 -- the last credential line of two lists of lines is that of the second, where there is one
 pub last_append : (pid : ℕ) (first second : List ReportLine)
     → last_credentials pid (first ++ second) ≡ option_or (last_credentials pid second) (last_credentials pid first)
@@ -131,15 +127,7 @@ run_shows w (e ∷ events) from to run before shows =
 
 -- ---- the credential lines at the start
 not_found : (pid : ℕ) (ps : List Process) → is_alive ps pid ≡ false → process_at ps pid ≡ None
-not_found pid ps free = none (process_at ps pid) free
-  where
-    none : (o : Option Process) → is_some o ≡ false → o ≡ None
-    none None free = refl
-    none (Some p) there = absurd (cc)
-
-or_none : (o : Option Process) → option_or o None ≡ o
-or_none None = refl
-or_none (Some p) = refl
+not_found pid ps free = none_there (process_at ps pid) free
 
 -- the last credential line of a process that has its pid alone shows it
 shows_from : (w : World) (low : ℕ) (ps : List Process) → AscendsFrom low ps → (pid : ℕ) → last_credentials pid (map (Credentials w) ps) ≡ process_at ps pid

@@ -1,14 +1,15 @@
 -- A list of extents that is a map, taken down through a map, is again a map.
 use Rattle.std.proofs.Common.{◌≡◌, ℕ, suc, ◌+◌, ◌-◌, ◌≤◌, ◌==◌, ◌&&◌, ◌||◌, Bool, true, false, length, List, [], ◌∷◌}
-use Rattle.std.proofs.Common.{Option, None, Some, if◌then◌else◌, refl, sym, ap, subst, ◌∙◌, inl, inr, arith}
+use Rattle.std.proofs.Common.{Option, None, Some, refl, sym, ap, subst, ◌∙◌, inl, inr, arith}
 use Rattle.std.specs.Prelude.{nat_le, nat_lt, is_none, option_map, option_and_then, IfSome}
 use Rattle.std.specs.Option.{option_or}
 use Rattle.std.proofs.lemmas.List.Elements.{All-nil, All-cons}
-use Rattle.std.proofs.lemmas.Bool.{cases_Bool, and_parts, or_parts, leb-true, ltb-false, cond-true, cond-false}
+use Rattle.std.proofs.lemmas.Bool.{cases_Bool, and_parts, or_parts, or_from, leb-true, ltb-false, cond-true, cond-false}
 use Rattle.cm_base.specs.Limits.{id_count}
 use Rattle.model_cred.specs.IdMap.{Extent, HasIds, extents_of}
 use Rattle.model_cred.specs.MapFault.{Empty, TooMany, ZeroLength, PastEnd, Overlap, IsMap, map_fault, extent_fault}
 use Rattle.model_cred.specs.MapFault.{first_extent_fault, ranges_meet, extents_meet, overlap_with, first_overlap, most_extents}
+use Rattle.model_rules.proofs.Options.{both_none, not_some, none_is}
 use Rattle.model_rules.specs.Maps.{extent_down, list_down}
 
 -- the outside range of the extent lies in the inside range of the other
@@ -22,14 +23,6 @@ through p e = record e { outside = p.outside + (e.outside - p.inside) }
 -- two ranges are apart
 abbrev Apart : ℕ → ℕ → ℕ → ℕ → Type 0
 Apart first count other other_count = ranges_meet first count other other_count ≡ false
-
-or_none : {A : Type 0} (x y : Option A) → option_or x y ≡ None → (x ≡ None) × (y ≡ None)
-or_none None y is = (refl, is)
-or_none (Some a) y is = absurd (cc)
-
-not_some : {A : Type 0} (b : Bool) (a : A) (rest : Option A) → (if b then Some a else rest) ≡ None → (b ≡ false) × (rest ≡ None)
-not_some true a rest is = absurd (cc)
-not_some false a rest is = (refl, is)
 
 -- an extent that is taken down keeps its inside and its length, and its outside range lies in that of an extent of the map
 -- that holds it
@@ -48,7 +41,8 @@ first_step p e d map within is =
 later_step : (p e d : Extent) (map : List Extent) → lies_within p e ≡ false → extent_down (p ∷ map) e ≡ Some d → extent_down map e ≡ Some d
 later_step p e d map without is = sym (cond-false (lies_within p e) (Some (through p e)) (extent_down map e) without) ∙ is
 
-same_sides : (map : List Extent) (e d : Extent) → extent_down map e ≡ Some d → (d.inside ≡ e.inside) × (d.length ≡ e.length)
+-- an extent that is taken down keeps its inside ids
+pub same_sides : (map : List Extent) (e d : Extent) → extent_down map e ≡ Some d → (d.inside ≡ e.inside) × (d.length ≡ e.length)
 same_sides [] e d is = absurd (cc)
 same_sides (p ∷ map) e d is =
     elim (cases_Bool (lies_within p e)) [
@@ -68,13 +62,13 @@ outside_ends i p is =
 ends_within : (i : ℕ) (map : List Extent) → first_extent_fault i map ≡ None → HasIds map
 ends_within i [] fine = All-nil (λ (p : Extent). p.outside + p.length ≤ id_count)
 ends_within i (p ∷ map) fine =
-    let parts = or_none (extent_fault i p) (first_extent_fault (i + 1) map) fine in
+    let parts = both_none (extent_fault i p) (first_extent_fault (i + 1) map) fine in
     All-cons (λ (p : Extent). p.outside + p.length ≤ id_count) p map (outside_ends i p parts.0) (ends_within (i + 1) map parts.1)
 
 down_ends : (i : ℕ) (map : List Extent) (e d : Extent) → first_extent_fault i map ≡ None → extent_down map e ≡ Some d → d.outside + d.length ≤ id_count
 down_ends i [] e d fine is = absurd (cc)
 down_ends i (p ∷ map) e d fine is =
-    let parts = or_none (extent_fault i p) (first_extent_fault (i + 1) map) fine in
+    let parts = both_none (extent_fault i p) (first_extent_fault (i + 1) map) fine in
     elim (cases_Bool (lies_within p e)) [
       | inl within ↦
           let down = first_step p e d map within is in
@@ -111,7 +105,7 @@ down_apart : (i : ℕ) (map : List Extent) (e f d g : Extent) → first_overlap 
     → Apart e.outside e.length f.outside f.length → Apart d.outside d.length g.outside g.length
 down_apart i [] e f d g none is are apart = absurd (cc)
 down_apart i (p ∷ map) e f d g none is are apart =
-    let parts = or_none (overlap_with i p (i + 1) map) (first_overlap (i + 1) map) none in
+    let parts = both_none (overlap_with i p (i + 1) map) (first_overlap (i + 1) map) none in
     elim (cases_Bool (lies_within p e)) [
       | inl within ↦
           let down = first_step p e d map within is in
@@ -163,9 +157,6 @@ length_down map (e ∷ given) out is =
     let s = step_of map e given out is in
     ap suc (length_down map given s.tail s.rest_is) ∙ ap length s.out_is
 
-or_false : (a b : Bool) → a ≡ false → b ≡ false → (a || b) ≡ false
-or_false a b first second = ap (λ x. x || b) first ∙ second
-
 within_ids : (n : ℕ) → n ≤ id_count → nat_lt id_count n ≡ false
 within_ids n low = grind (arith, low)
 
@@ -180,14 +171,14 @@ extent_fine i map e d fine is given_fine =
     let inside : nat_lt id_count (d.inside + d.length) ≡ false = within_ids (d.inside + d.length) (omega (arith, low, sides.0, sides.1)) in
     let outside : nat_lt id_count (d.outside + d.length) ≡ false = within_ids (d.outside + d.length) (down_ends 0 map e d fine is) in
     cond-false (d.length == 0) (Some (ZeroLength i)) _ not_zero
-    ∙ cond-false (nat_lt id_count (d.inside + d.length) || nat_lt id_count (d.outside + d.length)) (Some (PastEnd i)) None (or_false _ _ inside outside)
+    ∙ cond-false (nat_lt id_count (d.inside + d.length) || nat_lt id_count (d.outside + d.length)) (Some (PastEnd i)) None (or_from _ _ inside outside)
 
 extents_fine : (i : ℕ) (map given out : List Extent) → first_extent_fault 0 map ≡ None → first_extent_fault i given ≡ None → list_down map given ≡ Some out
     → first_extent_fault i out ≡ None
 extents_fine i map [] out fine none is = let it : [] ≡ out = cc in subst (λ l. first_extent_fault i l ≡ None) it refl
 extents_fine i map (e ∷ given) out fine none is =
     let s = step_of map e given out is in
-    let parts = or_none (extent_fault i e) (first_extent_fault (i + 1) given) none in
+    let parts = both_none (extent_fault i e) (first_extent_fault (i + 1) given) none in
     let head : extent_fault i s.head ≡ None = extent_fine i map e s.head fine s.first_is parts.0 in
     let tail : first_extent_fault (i + 1) s.tail ≡ None = extents_fine (i + 1) map given s.tail fine parts.1 s.rest_is in
     subst (λ l. first_extent_fault i l ≡ None) s.out_is (ap (λ o. option_or o (first_extent_fault (i + 1) s.tail)) head ∙ tail)
@@ -200,7 +191,7 @@ meet_none map e f d g none is are apart =
     let left = same_sides map e d is in
     let right = same_sides map f g are in
     let inside : ranges_meet d.inside d.length g.inside g.length ≡ false = rw (left.0, left.1, right.0, right.1) parts.0 in
-    or_false _ _ inside (down_apart 0 map e f d g none is are parts.1)
+    or_from _ _ inside (down_apart 0 map e f d g none is are parts.1)
 
 overlap_none : (i j : ℕ) (map : List Extent) (e d : Extent) (given out : List Extent) → first_overlap 0 map ≡ None → extent_down map e ≡ Some d
     → overlap_with i e j given ≡ None → list_down map given ≡ Some out → overlap_with i d j out ≡ None
@@ -217,14 +208,10 @@ overlaps_none : (i : ℕ) (map given out : List Extent) → first_overlap 0 map 
 overlaps_none i map [] out none apart is = let it : [] ≡ out = cc in subst (λ l. first_overlap i l ≡ None) it refl
 overlaps_none i map (e ∷ given) out none apart is =
     let s = step_of map e given out is in
-    let parts = or_none (overlap_with i e (i + 1) given) (first_overlap (i + 1) given) apart in
+    let parts = both_none (overlap_with i e (i + 1) given) (first_overlap (i + 1) given) apart in
     let head : overlap_with i s.head (i + 1) s.tail ≡ None = overlap_none i (i + 1) map e s.head given s.tail none s.first_is parts.0 s.rest_is in
     let tail : first_overlap (i + 1) s.tail ≡ None = overlaps_none (i + 1) map given s.tail none parts.1 s.rest_is in
     subst (λ l. first_overlap i l ≡ None) s.out_is (ap (λ o. option_or o (first_overlap (i + 1) s.tail)) head ∙ tail)
-
-none_is : {A : Type 0} (x : Option A) → is_none x ≡ true → x ≡ None
-none_is None is = refl
-none_is (Some a) is = absurd (cc)
 
 -- a list without a fault has an extent, not too many, none with a fault of its own, and no two that meet
 record Faultless (list : List Extent) : Type 0 where
@@ -237,7 +224,7 @@ faultless : (list : List Extent) → IsMap list → Faultless list
 faultless list is =
     let some = not_some (length list == 0) Empty _ (none_is (map_fault list) is) in
     let few = not_some (nat_lt most_extents (length list)) TooMany _ some.1 in
-    let parts = or_none (first_extent_fault 0 list) (first_overlap 0 list) few.1 in
+    let parts = both_none (first_extent_fault 0 list) (first_overlap 0 list) few.1 in
     record { some = some.0; few = few.0; fine = parts.0; apart = parts.1 }
 
 is_faultless : (list : List Extent) → Faultless list → map_fault list ≡ None

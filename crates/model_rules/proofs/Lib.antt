@@ -1,2 +1,5 @@
 -- Lemmas of this crate, by topic.
 pub mod Downs
+pub mod Options
+pub mod Ranges
+pub mod Spaces

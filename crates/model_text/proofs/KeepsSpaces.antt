@@ -1,18 +1,19 @@
 -- The spaces that a world's text declares keep what spaces keep: they form a tree, and each map is a map of ids.
-use Rattle.std.proofs.Common.{◌≡◌, ℕ, ◌+◌, ◌<◌, ◌≤◌, ◌||◌, false, List, [], ◌∷◌, ◌++◌, length, Option, Some, None, Ok}
-use Rattle.std.proofs.Common.{IfSome, codes, refl, sym, subst, inl, inr, lit<, arith, All}
-use Rattle.std.proofs.lemmas.Bool.{cases_eq, not-false, or_parts}
+use Rattle.std.proofs.Common.{◌≡◌, ◌+◌, ◌<◌, ◌≤◌, ◌||◌, false, List, [], ◌++◌, length, Option, Some, None, Ok}
+use Rattle.std.proofs.Common.{IfSome, codes, refl, subst, lit<, arith, All}
+use Rattle.std.proofs.lemmas.Bool.{not-false, or_parts}
 use Rattle.std.proofs.lemmas.List.{length_push}
-use Rattle.std.proofs.lemmas.List.Elements.{All-nil, All-cons, All-head, All-tail}
+use Rattle.std.proofs.lemmas.List.Elements.{All-nil, All-cons}
 use Rattle.std.specs.Prelude.{unwrap_or, option_map}
 use Rattle.cm_base.specs.Limits.{id_count}
 use Rattle.cm_base.specs.declared.faults.Table.TheVariants as table
 use Rattle.cm_base.specs.declared.limited.Limited.TheVariants as limit
-use Rattle.model_cred.proofs.Trees.{space_of_newest, space_of_older, tree_grows}
+use Rattle.model_cred.proofs.Trees.{tree_grows}
 use Rattle.model_cred.specs.IdMap.{Extent, HasIds, extents_of}
 use Rattle.model_cred.specs.MapFault.{IsMap, is_map}
-use Rattle.model_cred.specs.Space.{Space, Spaces, IsTree, KeepsSpace, initial_space, no_space, space_of}
+use Rattle.model_cred.specs.Space.{Space, IsTree, KeepsSpace, initial_space}
 use Rattle.model_rules.proofs.Downs.{map_has_ids, stored_is_map}
+use Rattle.model_rules.proofs.Spaces.{keeps_space_of}
 use Rattle.model_rules.specs.Maps.{list_down}
 use Rattle.model_text.proofs.Rows.{any_rows, none_stands, read_ok, rows_keep, unless_ok}
 use Rattle.model_text.proofs.Values.{number_or_within, or_default, space_within}
@@ -56,15 +57,6 @@ keeps_space s owner uids gids = record {
   uid_map = uids;
   gid_map = gids;
 }
-
--- so does the space of a number, where each space does
-keeps_space_of : (spaces : Spaces) (n : ℕ) → All KeepsSpace spaces → KeepsSpace (space_of spaces n)
-keeps_space_of [] n each = keeps_space no_space (lit< tt) tt tt
-keeps_space_of (t ∷ older) n each =
-    elim (cases_eq n (length older)) [
-      | inl same ↦ subst KeepsSpace (sym (space_of_newest t older n same)) (All-head KeepsSpace t older each)
-      | inr other ↦ subst KeepsSpace (sym (space_of_older t older n other)) (keeps_space_of older n (All-tail KeepsSpace t older each))
-    ]
 
 -- The declared spaces are one more than their names, form a tree, and each keeps what a space keeps.
 pub record KeepsDeclared (d : Declared) : Type 0 where

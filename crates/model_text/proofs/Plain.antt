@@ -1,15 +1,16 @@
 -- Where a world's text says no more than the pids and the user ids of processes, the state at its start has the initial space
 -- alone, and the sets of each process follow its user ids.
-use Rattle.std.proofs.Common.{◌≡◌, ℕ, ◌==◌, ◌&&◌, ◌||◌, Bool, true, false, cond, List, [], ◌∷◌, Option, Some, None, Ok, refl, sym, ◌∙◌, ap, subst, arith}
-use Rattle.std.specs.Prelude.{codes, is_some, unwrap_or, nat_lt}
+use Rattle.std.proofs.Common.{◌≡◌, ℕ, ◌==◌, ◌&&◌, Bool, true, false, cond, List, [], ◌∷◌, Option, Some, None, Ok, refl, sym, ◌∙◌, ap, subst, arith}
+use Rattle.std.specs.Prelude.{codes, unwrap_or, nat_lt}
 use Rattle.std.specs.Str.{is_utf8}
+use Rattle.std.proofs.lemmas.Bool.{or_parts}
 use Rattle.cm_base.specs.CapSet.{full, none}
 use Rattle.cm_base.specs.declared.faults.Table.TheVariants as table
 use Rattle.cm_base.specs.declared.limited.Limited.TheVariants as limit
-use Rattle.model_cred.specs.Credential.{Credential, FourIds}
-use Rattle.model_cred.specs.Process.{Process, State, insert_process}
-use Rattle.model_cred.specs.Space.{first_spaces}
+use Rattle.model_cred.specs.Credential.{FourIds}
+use Rattle.model_cred.specs.Process.{Process, insert_process}
 use Rattle.model_cred.specs.World.{World}
+use Rattle.model_rules.proofs.Options.{none_there}
 use Rattle.model_run.specs.RunBack.{has_root, SetsFollowIds, AllFollow, StateFollows}
 use Rattle.model_text.proofs.Defaults.{default_cred}
 use Rattle.model_text.proofs.Rows.{AllRows, rows_keep, read_ok}
@@ -19,20 +20,12 @@ use Rattle.model_text.specs.SpaceText.{Declared, none_declared, space_row}
 use Rattle.model_text.specs.Refusal.{rows_from}
 use Rattle.model_text.specs.Toml.{has_key, has_key_of, array_items}
 use Rattle.model_text.specs.WorldText.{Reads, world_text, text_says_more, document_says_more, says_more}
-use Rattle.model_text.specs.WorldText.{row_has, some_row_has, further_keys, further_tables, rows_at}
+use Rattle.model_text.specs.WorldText.{some_row_has, further_keys, further_tables, rows_at}
 use Rattle.toml.specs.Data.{Data, Items, no_items, item, Members, get_member}
 use Rattle.toml.specs.Data as toml
 use Rattle.toml.specs.Parse.{parse_document}
 
 -- ---- keys that a table doesn't have
-either_false : (a b : Bool) → (a || b) ≡ false → (a ≡ false) × (b ≡ false)
-either_false true b is = absurd (cc)
-either_false false b is = (refl, is)
-
-is_none : (value : Option Data) → is_some value ≡ false → value ≡ None
-is_none None is = refl
-is_none (Some value) is = absurd (cc)
-
 -- a table that has none of the keys has no value of each
 AllAbsent : List (List ℕ) → Members → Type 0
 AllAbsent [] row = Unit {0}
@@ -42,8 +35,8 @@ all_absent : (keys : List (List ℕ)) (row : Members) → has_key_of keys row �
 unfolding AllAbsent
 all_absent [] row is = tt
 all_absent (key ∷ keys) row is =
-    let parts : (has_key key row ≡ false) × (has_key_of keys row ≡ false) = either_false (has_key key row) (has_key_of keys row) is in
-    (is_none (get_member key row) parts.0, all_absent keys row parts.1)
+    let parts : (has_key key row ≡ false) × (has_key_of keys row ≡ false) = or_parts (has_key key row) (has_key_of keys row) is in
+    (none_there (get_member key row) parts.0, all_absent keys row parts.1)
 
 -- the row has none of the keys beyond its pid and its user ids
 IsPlain : Members → Type 0
@@ -54,7 +47,7 @@ unfolding IsPlain
 rows_plain no_items is = tt
 rows_plain (item (toml.table row) rows) is =
     let parts : (has_key_of further_keys row ≡ false) × (some_row_has further_keys rows ≡ false)
-    = either_false (has_key_of further_keys row) (some_row_has further_keys rows) is in
+    = or_parts (has_key_of further_keys row) (some_row_has further_keys rows) is in
     (parts.0, rows_plain rows parts.1)
 rows_plain (item _ rows) is = rows_plain rows is
 
@@ -129,7 +122,7 @@ start_follows bytes w is plain =
     let d : Declares bytes w = declares bytes w is in
     let m : Made d.top w = d.made in
     let parts : (has_key_of further_tables d.top ≡ false) × (some_row_has further_keys (rows_at (codes "process") d.top) ≡ false)
-    = either_false (has_key_of further_tables d.top) (some_row_has further_keys (rows_at (codes "process") d.top))
+    = or_parts (has_key_of further_tables d.top) (some_row_has further_keys (rows_at (codes "process") d.top))
     (plain_document bytes d.top d.utf8 d.document plain) in
     let absent : AllAbsent further_tables d.top = all_absent further_tables d.top parts.0 in
     let spaces = read_ok table.Space limit.Spaces 1 space_row none_declared (rows_at (codes "space") d.top) m.declared m.spaces_read in

@@ -3,6 +3,7 @@ use Rattle.std.proofs.Common.{◌≡◌, ◌⊎◌, ℕ, zero, suc, ◌+◌, ◌
 use Rattle.std.proofs.lemmas.Bool.{eqb-true, eq-eqb, false≢true}
 use Rattle.model_cred.specs.IdMap.{is_the}
 use Rattle.model_cred.proofs.Chains.{the_is, is_the_same}
+use Rattle.model_verdict.proofs.Sums.{earlier_or_here}
 
 -- it is so, or it isn't
 abbrev pub Decided : Type 0 → Type 0
@@ -97,11 +98,8 @@ pub record FirstOf (P : ℕ → Type 0) : Type 0 where
   pub is : P at
   pub earlier : (x : ℕ) → x < at → P x → ⊥
 
-less_or_same : (x k : ℕ) → x < suc k → (x < k) ⊎ (x ≡ k)
-less_or_same x k low = grind (arith, low)
-
 none_more : (P : ℕ → Type 0) (k : ℕ) → ((x : ℕ) → x < k → P x → ⊥) → (P k → ⊥) → (x : ℕ) → x < suc k → P x → ⊥
-none_more P k none last x low is = elim (less_or_same x k low) [
+none_more P k none last x low is = elim (earlier_or_here x k low) [
   | inl earlier ↦ none x earlier is
   | inr same ↦ last (subst P same is)
 ]

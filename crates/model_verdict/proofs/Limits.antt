@@ -11,7 +11,8 @@ use Rattle.model_cred.specs.Credential.{Credential, FourIds, AreIds, AscendFrom,
 use Rattle.model_cred.specs.Files.{FileTable}
 use Rattle.model_cred.specs.IdMap.{Extent, HasIds, extents_of, is_outside, lies_in}
 use Rattle.model_cred.specs.Process.{Process, State, KeepsState}
-use Rattle.model_cred.specs.Space.{Space, Spaces, KeepsSpace, space_of, no_space}
+use Rattle.model_cred.specs.Space.{Space, Spaces, KeepsSpace, space_of}
+use Rattle.model_rules.proofs.Spaces.{keeps_space_of}
 use Rattle.model_rules.specs.FileView.{view}
 use Rattle.model_box.specs.Row.{Part, Uids, EffectiveUids, FsUids, Gids, EffectiveGids, FsGids, Groups, MappedUids, MappedGids}
 use Rattle.model_box.specs.Row.{PermittedCaps, InheritableCaps, BoundingCaps, NewPrivs, RootCounts, LockClear, Row, Standing, Fresh}
@@ -24,7 +25,6 @@ use Rattle.model_box.specs.Gains.{SettableUid, SettableGid, SpreadsUid, SpreadsG
 use Rattle.model_box.specs.Spread.{Brings}
 use Rattle.model_box.specs.Start.{StartHas, SpaceMaps}
 use Rattle.model_box.proofs.Excludes.{all_named}
-use Rattle.model_verdict.proofs.Decided.{all_spaces}
 
 -- ---- what rules add
 module _ (row : Part → ℕ → Type 0) (limit : ℕ) (low : (part : Part) (x : ℕ) → row part x → x < limit) (caps : cap_count ≤ limit) where
@@ -199,15 +199,6 @@ outside_low (e ∷ map) x ids held = elim (cases_Bool (lies_in e.outside e.lengt
       (sym (cond-false (lies_in e.outside e.length x) true (is_outside map x) later) ∙ held)
 ]
 
-no_ids : KeepsSpace no_space
-no_ids = record {
-  owner = omega arith;
-  uids = λ k d low. absurd (omega (arith, low));
-  gids = λ k d low. absurd (omega (arith, low));
-  uid_map = tt;
-  gid_map = tt;
-}
-
 space_low : (space : Space) → KeepsSpace space → (part : Part) (x : ℕ) → SpaceMaps space part x → x < id_count
 space_low space keeps MappedUids x held = outside_low (extents_of space.uids) x keeps.uids held
 space_low space keeps MappedGids x held = outside_low (extents_of space.gids) x keeps.gids held
@@ -217,5 +208,5 @@ pub start_low : (s : State) (members : List ℕ) → KeepsState s → (row : Row
 start_low s members keeps (Standing n) part x (inl (pid, p, member, at, space, has)) =
     cred_low p.cred (all_named (λ (q : Process). Keeps q.cred) s.processes keeps.credentials pid p at) part x has
 start_low s members keeps (Standing n) part x (inr maps) =
-    space_low (space_of s.spaces n) (all_spaces KeepsSpace s.spaces n no_ids keeps.spaces) part x maps
+    space_low (space_of s.spaces n) (keeps_space_of s.spaces n keeps.spaces) part x maps
 start_low s members keeps (Fresh n) part x wrong = absurd wrong

@@ -1,51 +1,30 @@
 -- In a map each outside id has an inside id that stands for it, and goes back to it.
-use Rattle.std.proofs.Common.{◌≡◌, ℕ, ◌+◌, ◌-◌, ◌<◌, ◌≤◌, ◌==◌, ◌&&◌, ◌||◌, Bool, true, false, List, [], ◌∷◌, Option, None, Some}
-use Rattle.std.proofs.Common.{if◌then◌else◌, option_map, option_and_then, refl, sym, ap, ◌∙◌, inl, inr, subst, arith, length, get_or, IfSome}
-use Rattle.std.specs.Prelude.{nat_lt, nat_le, is_none}
-use Rattle.std.specs.Option.{option_or}
-use Rattle.std.proofs.lemmas.Bool.{cases_Bool, and_parts, and_from, or_parts, cond-true, cond-false, ltb-true, ltb-false, leb-true, lt-ltb, le-leb}
+use Rattle.std.proofs.Common.{◌≡◌, ℕ, ◌+◌, ◌-◌, ◌<◌, ◌≤◌, ◌==◌, ◌||◌, true, false, List, [], ◌∷◌, Option, None, Some}
+use Rattle.std.proofs.Common.{option_map, option_and_then, refl, sym, ap, ◌∙◌, inl, inr, subst, arith, length, get_or, IfSome}
+use Rattle.std.specs.Prelude.{nat_lt}
+use Rattle.std.proofs.lemmas.Bool.{cases_Bool, and_from, or_parts, cond-true, cond-false, ltb-false, lt-ltb}
 use Rattle.cm_base.specs.Limits.{id_count}
 use Rattle.model_cred.specs.IdMap.{Extent, extents_of, lies_in, up, down, is_outside}
 use Rattle.model_cred.specs.MapFault.{map_fault, IsMap, extent_fault, first_extent_fault, ranges_meet, extents_meet, overlap_with, first_overlap}
 use Rattle.model_cred.specs.MapFault.{Empty, TooMany, ZeroLength, PastEnd, Overlap, most_extents}
+use Rattle.model_rules.proofs.Downs.{same_sides}
+use Rattle.model_rules.proofs.Options.{both_none, not_some, none_is}
+use Rattle.model_rules.proofs.Ranges.{lies_parts, lies_from}
 use Rattle.model_rules.specs.SetId.{is_given}
 use Rattle.model_rules.specs.Maps.{extent_down, list_down}
-use Rattle.model_cred.specs.Process.{State, KeepsState}
 use Rattle.model_cred.specs.Space.{KeepsSpace}
-use Rattle.model_verdict.specs.Back.{TakesBack, TakeBack, MapsTakeBack, KeptTakeBack}
-
--- ---- tests
--- no answer by a test: the test fails, and there is none after it
-not_some : {A : Type 0} (b : Bool) (x : A) (rest : Option A) → (if b then Some x else rest) ≡ None → (b ≡ false) × (rest ≡ None)
-not_some true x rest is = absurd (cc)
-not_some false x rest is = (refl, is)
-
-none_both : {A : Type 0} (a b : Option A) → option_or a b ≡ None → (a ≡ None) × (b ≡ None)
-none_both None b is = (refl, is)
-none_both (Some x) b is = absurd (cc)
-
-none_is : {A : Type 0} (x : Option A) → is_none x ≡ true → x ≡ None
-none_is None is = refl
-none_is (Some a) is = absurd (cc)
+use Rattle.model_verdict.specs.Back.{TakesBack, MapsTakeBack, KeptTakeBack}
 
 some_same : (m n : ℕ) → Some m ≡ Some n → m ≡ n
 some_same m n is = cc
 
 -- ---- numbers
-lies_low : (first length id : ℕ) → lies_in first length id ≡ true → (first ≤ id) × (id < first + length)
-lies_low first length id is =
-    let both = and_parts (nat_le first id) (nat_lt id (first + length)) is in
-    (leb-true first id both.0, ltb-true id (first + length) both.1)
-
-lies_there : (first length id : ℕ) → first ≤ id → id < first + length → lies_in first length id ≡ true
-lies_there first length id low high = and_from _ _ (le-leb first id low) (lt-ltb id (first + length) high)
-
 -- a number of one of two ranges that have none in common isn't in the other
 apart_lies : (first length other other_length n : ℕ) → ranges_meet first length other other_length ≡ false → other ≤ n → n < other + other_length
     → lies_in first length n ≡ false
 apart_lies first length other other_length n apart low high = elim (cases_Bool (lies_in first length n)) [
   | inl is ↦
-      let here = lies_low first length n is in
+      let here = lies_parts first length n is in
       let met : ranges_meet first length other other_length ≡ true
       = and_from _ _ (lt-ltb first (other + other_length) (omega (arith, here.0, here.1, low, high)))
       (lt-ltb other (first + length) (omega (arith, here.0, here.1, low, high))) in
@@ -81,15 +60,15 @@ fine_low i e fine =
 tidy_of : (i : ℕ) (map : List Extent) → first_extent_fault i map ≡ None → first_overlap i map ≡ None → Tidy map
 tidy_of i [] fine apart = tt
 tidy_of i (e ∷ map) fine apart =
-    let fines = none_both (extent_fault i e) (first_extent_fault (i + 1) map) fine in
-    let aparts = none_both (overlap_with i e (i + 1) map) (first_overlap (i + 1) map) apart in
+    let fines = both_none (extent_fault i e) (first_extent_fault (i + 1) map) fine in
+    let aparts = both_none (overlap_with i e (i + 1) map) (first_overlap (i + 1) map) apart in
     (fine_low i e fines.0, away_of i (i + 1) e map aparts.0, tidy_of (i + 1) map fines.1 aparts.1)
 
 pub map_is_tidy : (map : List Extent) → IsMap map → Tidy map
 map_is_tidy map is =
     let some = not_some (length map == 0) Empty _ (none_is (map_fault map) is) in
     let few = not_some (nat_lt most_extents (length map)) TooMany _ some.1 in
-    let parts = none_both (first_extent_fault 0 map) (first_overlap 0 map) few.1 in
+    let parts = both_none (first_extent_fault 0 map) (first_overlap 0 map) few.1 in
     tidy_of 0 map parts.0 parts.1
 
 -- ---- up and down
@@ -98,7 +77,7 @@ up_apart : (e : Extent) (map : List Extent) (id n : ℕ) → Away e map → up m
 up_apart e [] id n away is = absurd (cc)
 up_apart e (f ∷ map) id n (apart, away) is = elim (cases_Bool (lies_in f.outside f.length id)) [
   | inl here ↦
-      let low = lies_low f.outside f.length id here in
+      let low = lies_parts f.outside f.length id here in
       let value : f.inside + (id - f.outside) ≡ n
       = some_same _ _ (sym (cond-true (lies_in f.outside f.length id) (Some (f.inside + (id - f.outside))) (up map id) here) ∙ is) in
       apart_lies e.inside e.length f.inside f.length n apart (omega (arith, value)) (omega (arith, value, low.0, low.1))
@@ -115,10 +94,10 @@ record Back (map : List Extent) (id : ℕ) : Type 0 where
 
 back_head : (e : Extent) (map : List Extent) (id : ℕ) → e.inside + e.length ≤ id_count → lies_in e.outside e.length id ≡ true → Back (e ∷ map) id
 back_head e map id fits here =
-    let low = lies_low e.outside e.length id here in
+    let low = lies_parts e.outside e.length id here in
     let inside : ℕ = e.inside + (id - e.outside) in
     let there : lies_in e.inside e.length inside ≡ true
-    = lies_there e.inside e.length inside (omega arith) (omega (arith, low.0, low.1)) in
+    = lies_from e.inside e.length inside (omega arith) (omega (arith, low.0, low.1)) in
     let same : e.outside + (inside - e.inside) ≡ id = omega (arith, low.0, low.1) in
     record {
       inside = inside;
@@ -158,17 +137,6 @@ unfolding MapsTakeBack
 maps_take_back map is = tidy_back map (map_is_tidy map is)
 
 -- ---- what is stored of a map that is written
--- an extent that is taken down keeps its inside ids
-same_sides : (map : List Extent) (e d : Extent) → extent_down map e ≡ Some d → (d.inside ≡ e.inside) × (d.length ≡ e.length)
-same_sides [] e d is = absurd (cc)
-same_sides (p ∷ map) e d is = by (nat_le p.inside e.outside && nat_le (e.outside + e.length) (p.inside + p.length)) is (same_sides map e d) where
-  by : (b : Bool) → (if b then Some (record e { outside = p.outside + (e.outside - p.inside) }) else extent_down map e) ≡ Some d
-      → (extent_down map e ≡ Some d → (d.inside ≡ e.inside) × (d.length ≡ e.length)) → (d.inside ≡ e.inside) × (d.length ≡ e.length)
-  by true here rest =
-      let same : record e { outside = p.outside + (e.outside - p.inside) } ≡ d = cc in
-      (sym (ap (λ (x : Extent). x.inside) same), sym (ap (λ (x : Extent). x.length) same))
-  by false later rest = rest later
-
 -- the parts of a list that is taken down
 record Parts (first : Option Extent) (rest : Option (List Extent)) (out : List Extent) : Type 0 where
   head : Extent

@@ -21,7 +21,8 @@ sum_low g (suc n) most low =
     let last : g n ≤ most = low n (omega arith) in
     grind (arith, rest, last)
 
-earlier_or_here : (i n : ℕ) → i < suc n → (i < n) ⊎ (i ≡ n)
+-- a number below the next one is below it or is it
+pub earlier_or_here : (i n : ℕ) → i < suc n → (i < n) ⊎ (i ≡ n)
 earlier_or_here i n low = grind (arith, low)
 
 -- where no term falls and the sum doesn't grow, no term grows
