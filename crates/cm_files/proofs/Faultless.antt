@@ -1,10 +1,10 @@
 -- Mounts and files without a fault: each row's mount is there, each interpreter is a row that is no script, and no two rows
 -- have one path.
-use Rattle.std.proofs.Common.{◌≡◌, ℕ, zero, suc, ◌+◌, ◌<◌, ◌++◌, Bool, true, false, not, length, take, drop, List, [], ◌∷◌, Option, Some, None}
-use Rattle.std.proofs.Common.{if◌then◌else◌, refl, sym, ap, ◌∙◌, arith, get_or, append_assoc, subst}
-use Rattle.std.specs.Prelude.{All, IfSome, IsSomeAnd, bytes_eq, map, is_none, nat_lt, slice_get}
+use Rattle.std.proofs.Common.{◌≡◌, ℕ, zero, suc, ◌+◌, ◌<◌, ◌++◌, true, false, not, length, take, drop, List, [], ◌∷◌, Option, Some, None}
+use Rattle.std.proofs.Common.{refl, sym, ap, ◌∙◌, arith, get_or, append_assoc, subst}
+use Rattle.std.specs.Prelude.{All, IfSome, IsSomeAnd, bytes_eq, map, nat_lt, slice_get}
 use Rattle.std.specs.Option.{option_or}
-use Rattle.std.proofs.lemmas.Bool.{false≢true, ltb-true}
+use Rattle.std.proofs.lemmas.Bool.{false≢true, not-false, ltb-true}
 use Rattle.std.proofs.lemmas.List.{append-nil, get_or-take, get_or_default, length-take, take_more}
 use Rattle.std.proofs.Math.Seq.{drop-cons}
 use Rattle.std.proofs.lemmas.List.Folds.{list_any_at}
@@ -15,23 +15,8 @@ use Rattle.cm_files.specs.Table.{KeepsTable, PathsDiffer, seen_on}
 use Rattle.cm_files.specs.declared.fault.BadFiles.{BadFiles}
 use Rattle.cm_files.specs.declared.fault.BadFiles.TheVariants.{Twice, NoMount, NoInterpreter}
 use Rattle.model_cred.specs.Files.{FileRow, IsProgram, KeepsMount, KeepsRow, Mount}
+use Rattle.model_rules.proofs.Options.{both_none, not_some, none_is}
 use Rattle.model_rules.specs.FileView.{FileView}
-
-or_none : {A : Type 0} (x y : Option A) → option_or x y ≡ None → (x ≡ None) × (y ≡ None)
-or_none None y is = (refl, is)
-or_none (Some a) y is = absurd (cc)
-
-not_some : {A : Type 0} (b : Bool) (a : A) (rest : Option A) → (if b then Some a else rest) ≡ None → (b ≡ false) × (rest ≡ None)
-not_some true a rest is = absurd (cc)
-not_some false a rest is = (refl, is)
-
-none_is : {A : Type 0} (o : Option A) → is_none o ≡ true → o ≡ None
-none_is None is = refl
-none_is (Some a) wrong = absurd (false≢true wrong)
-
-true_from_not : (b : Bool) → not b ≡ false → b ≡ true
-true_from_not true is = refl
-true_from_not false wrong = absurd (false≢true (sym wrong))
 
 -- The row is without a fault after those before it.
 record IsFine (mounts : ℕ) (before : List FileRow) (row : FileRow) : Type 0 where
@@ -44,17 +29,17 @@ fine mounts before row is =
     let first = not_some (has_path row.path before) (Twice (length before)) _ is in
     let second = not_some (not (nat_lt row.mount mounts)) (NoMount (length before)) _ first.1 in
     let third = not_some (not (fits_interpreter before row.interpreter)) (NoInterpreter (length before)) None second.1 in
-    record { path = first.0; mount = true_from_not _ second.0; interpreter = true_from_not _ third.0 }
+    record { path = first.0; mount = not-false _ second.0; interpreter = not-false _ third.0 }
 
 -- each row is without a fault after those before it
 each_fine : (mounts : ℕ) (before rows : List FileRow) → first_fault mounts before rows ≡ None → (k : ℕ) → k < length rows
     → row_fault mounts (before ++ take k rows) (get_or rows k no_row) ≡ None
 each_fine mounts before [] is k within = absurd (omega (arith, within))
 each_fine mounts before (row ∷ rows) is zero within =
-    ap (λ l. row_fault mounts l row) (append-nil before) ∙ (or_none (row_fault mounts before row) _ is).0
+    ap (λ l. row_fault mounts l row) (append-nil before) ∙ (both_none (row_fault mounts before row) _ is).0
 each_fine mounts before (row ∷ rows) is (suc k) within =
     ap (λ l. row_fault mounts l (get_or rows k no_row)) (sym (append_assoc before (row ∷ []) (take k rows)))
-    ∙ each_fine mounts (before ++ row ∷ []) rows (or_none (row_fault mounts before row) _ is).1 k (omega arith)
+    ∙ each_fine mounts (before ++ row ∷ []) rows (both_none (row_fault mounts before row) _ is).1 k (omega arith)
 
 -- a row without a fault leaves the fault to those after it
 pub fault_more : (mounts : ℕ) (rows : List FileRow) (n : ℕ) (fault : Option BadFiles) → n < length rows

@@ -42,9 +42,9 @@ first_fault mounts before (row ∷ rows) = option_or (row_fault mounts before ro
 abbrev pub files_fault : List Mount → List FileRow → Option BadFiles
 files_fault mounts rows = first_fault (length mounts) [] rows
 
--- The answer tells this fault; want of memory tells nothing.
-abbrev pub Tells : BadFiles → Option BadFiles → Type 0
-Tells NoMemory fault = Unit {0}
-Tells (Twice n) fault = fault ≡ Some (Twice n)
-Tells (NoMount n) fault = fault ≡ Some (NoMount n)
-Tells (NoInterpreter n) fault = fault ≡ Some (NoInterpreter n)
+-- The error diagnoses this fault; want of memory diagnoses nothing.
+abbrev pub Diagnoses : BadFiles → Option BadFiles → Type 0
+Diagnoses NoMemory fault = Unit {0}
+Diagnoses (Twice n) fault = fault ≡ Some (Twice n)
+Diagnoses (NoMount n) fault = fault ≡ Some (NoMount n)
+Diagnoses (NoInterpreter n) fault = fault ≡ Some (NoInterpreter n)

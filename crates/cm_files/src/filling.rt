@@ -1,6 +1,6 @@
 // Filling a table: row by row the index grows, and the view of the row is worked out.
 ghost use Rattle.std.specs.Prelude.{◌≡◌, ◌+◌, ◌<◌, ◌^◌, ◌++◌, ◌∷◌, [], None, All, IfErr, IfOk, OnOk, length, map, take, slice_index_or};
-ghost use Rattle.cm_files.specs.Fault.{Tells, first_fault, row_fault};
+ghost use Rattle.cm_files.specs.Fault.{Diagnoses, first_fault, row_fault};
 ghost use Rattle.cm_files.specs.Index.{IsIndex, no_row};
 ghost use Rattle.cm_files.specs.Table.{seen_on};
 ghost use Rattle.model_cred.specs.Files.{KeepsRow};
@@ -25,7 +25,7 @@ pub(crate) fn fill(alloc: Global, mounts: &[Mount], rows: &[FileRow]) -> Result<
     ensures seen { IfOk result (λ filled. filled.views.items ≡ map (seen_on mounts.now) rows.now) }
     ensures keeps { OnOk result (All KeepsRow rows.now) }
     ensures fine { OnOk result (first_fault (length mounts.now) [] rows.now ≡ None) }
-    ensures refused { IfErr result (λ e. Tells e (first_fault (length mounts.now) [] rows.now)) }
+    ensures refused { IfErr result (λ e. Diagnoses e (first_fault (length mounts.now) [] rows.now)) }
 {
     let mut filled = Filled {
         order: Vec::with_capacity(alloc, rows.len())?,
@@ -54,7 +54,7 @@ fn add_row(
     ensures seen { OnOk result (filled.new.views.items ≡ filled.old.views.items ++ seen_on mounts.now (slice_index_or rows.now n no_row) ∷ []) }
     ensures keeps { OnOk result (KeepsRow (slice_index_or rows.now n no_row)) }
     ensures fine { OnOk result (row_fault (length mounts.now) (take n rows.now) (slice_index_or rows.now n no_row) ≡ None) }
-    ensures refused { IfErr result (λ e. Tells e (row_fault (length mounts.now) (take n rows.now) (slice_index_or rows.now n no_row))) }
+    ensures refused { IfErr result (λ e. Diagnoses e (row_fault (length mounts.now) (take n rows.now) (slice_index_or rows.now n no_row))) }
 {
     let Some(place) = free_place(rows, &filled.order, n) else {
         return Err(BadFiles::Twice(n as u32));

@@ -70,7 +70,7 @@ fn see_optional(pair: &Option<MapPair>)
 }
 
 // The same of two maps.
-#[tactic(auto, using(cm_idmap::proofs::Faultless::map_has_ids))]
+#[tactic(auto, using(model_rules::proofs::Downs::map_has_ids))]
 fn see_pair(pair: &MapPair)
     ensures { KeepsPair pair.now }
 {

@@ -1,6 +1,6 @@
 // The table of declared mounts and files.
 ghost use Rattle.std.specs.Prelude.{◌≡◌, ◌<◌, ◌^◌, None, IfErr, IfOk, OnOk, length, map, unwrap_or};
-ghost use Rattle.cm_files.specs.Fault.{Tells, files_fault};
+ghost use Rattle.cm_files.specs.Fault.{Diagnoses, files_fault};
 ghost use Rattle.cm_files.specs.Table.{PathsDiffer, seen_on};
 ghost use Rattle.model_cred.specs.Files.{FileTable, IsDeclared, KeepsFiles, file_named};
 ghost use Rattle.model_rules.specs.Exec.{interpreter_of};
@@ -50,7 +50,7 @@ impl FileTable {
         requires rows { length rows.items < 2 ^ 32 }
         ensures made { IfOk result (λ t. t ≡ record { mounts = mounts.items; rows = rows.items }) }
         ensures fine { OnOk result (files_fault mounts.items rows.items ≡ None) }
-        ensures refused { IfErr result (λ e. Tells e (files_fault mounts.items rows.items)) }
+        ensures refused { IfErr result (λ e. Diagnoses e (files_fault mounts.items rows.items)) }
     {
         let filled = match fill(alloc, &mounts, &rows) {
             Ok(filled) => filled,

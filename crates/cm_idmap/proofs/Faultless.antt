@@ -1,32 +1,19 @@
 -- What a list without a fault is like: each extent ends within the ids, and no two have an id in common.
-use Rattle.std.proofs.Common.{◌≡◌, ℕ, ◌+◌, ◌≤◌, ◌==◌, ◌||◌, Bool, true, false, length, List, [], ◌∷◌, Option, None, Some, if◌then◌else◌, arith}
-use Rattle.std.specs.Prelude.{nat_lt, is_none, All}
-use Rattle.std.specs.Option.{option_or}
+use Rattle.std.proofs.Common.{◌≡◌, ℕ, ◌+◌, ◌≤◌, ◌==◌, ◌||◌, false, length, List, [], ◌∷◌, None, arith}
+use Rattle.std.specs.Prelude.{nat_lt, All}
 use Rattle.std.proofs.lemmas.Bool.{or_parts, ltb-false}
 use Rattle.std.proofs.lemmas.List.Elements.{All-cons}
 use Rattle.cm_base.specs.Limits.{id_count}
-use Rattle.model_cred.specs.IdMap.{Extent, HasIds}
+use Rattle.model_cred.specs.IdMap.{Extent}
 use Rattle.model_cred.specs.MapFault.{Empty, TooMany, ZeroLength, PastEnd, Overlap, IsMap, map_fault, extent_fault}
 use Rattle.model_cred.specs.MapFault.{first_extent_fault, ranges_meet, extents_meet, overlap_with, first_overlap}
+use Rattle.model_rules.proofs.Options.{both_none, not_some, none_is}
 use Rattle.cm_idmap.proofs.Sides.{AllApart}
 
 -- The extent ends within the ids on both sides.
 pub record Fits (e : Extent) : Type 0 where
   pub inside : e.inside + e.length ≤ id_count
   pub outside : e.outside + e.length ≤ id_count
-
-or_none : {A : Type 0} (x y : Option A) → option_or x y ≡ None → (x ≡ None) × (y ≡ None)
-or_none None y is = (cc, is)
-or_none (Some a) y is = absurd (cc)
-
-none_is : {A : Type 0} (x : Option A) → is_none x ≡ true → x ≡ None
-none_is None is = cc
-none_is (Some a) is = absurd (cc)
-
--- a test that passes gives no fault only where it fails
-not_some : {A : Type 0} (b : Bool) (a : A) (rest : Option A) → (if b then Some a else rest) ≡ None → (b ≡ false) × (rest ≡ None)
-not_some true a rest is = absurd (cc)
-not_some false a rest is = (cc, is)
 
 extent_fits : (i : ℕ) (e : Extent) → extent_fault i e ≡ None → Fits e
 extent_fits i e is =
@@ -38,7 +25,7 @@ extent_fits i e is =
 all_fit : (i : ℕ) (list : List Extent) → first_extent_fault i list ≡ None → All Fits list
 all_fit i [] is = λ k d below. absurd (omega (arith, below))
 all_fit i (e ∷ list) is =
-    let parts : (extent_fault i e ≡ None) × (first_extent_fault (i + 1) list ≡ None) = or_none _ _ is in
+    let parts : (extent_fault i e ≡ None) × (first_extent_fault (i + 1) list ≡ None) = both_none _ _ is in
     All-cons Fits e list (extent_fits i e parts.0) (all_fit (i + 1) list parts.1)
 
 none_meets : (i j : ℕ) (e : Extent) (list : List Extent) → overlap_with i e j list ≡ None → All (λ f. extents_meet e f ≡ false) list
@@ -54,13 +41,13 @@ apart_parts e f is = or_parts _ _ is
 all_apart : (i : ℕ) (list : List Extent) → first_overlap i list ≡ None → AllApart (λ e. e.inside) list × AllApart (λ e. e.outside) list
 all_apart i [] is = (tt, tt)
 all_apart i (e ∷ list) is =
-    let parts : (overlap_with i e (i + 1) list ≡ None) × (first_overlap (i + 1) list ≡ None) = or_none _ _ is in
+    let parts : (overlap_with i e (i + 1) list ≡ None) × (first_overlap (i + 1) list ≡ None) = both_none _ _ is in
     let none : All (λ f. extents_meet e f ≡ false) list = none_meets i (i + 1) e list parts.0 in
     let rest : AllApart (λ e. e.inside) list × AllApart (λ e. e.outside) list = all_apart (i + 1) list parts.1 in
     ((λ k d below. (apart_parts e _ (none k d below)).0, rest.0), (λ k d below. (apart_parts e _ (none k d below)).1, rest.1))
 
 faults_of : (list : List Extent) → map_fault list ≡ None → (first_extent_fault 0 list ≡ None) × (first_overlap 0 list ≡ None)
-faults_of list is = or_none _ _ (not_some (nat_lt 340 (length list)) TooMany _ (not_some (length list == 0) Empty _ is).1).1
+faults_of list is = both_none _ _ (not_some (nat_lt 340 (length list)) TooMany _ (not_some (length list == 0) Empty _ is).1).1
 
 -- each extent of a map ends within the ids
 pub map_fits : (map : List Extent) → IsMap map → All Fits map
@@ -69,7 +56,3 @@ map_fits map is = all_fit 0 map (faults_of map (none_is _ is)).0
 -- no two extents of a map have an inside id in common, and none an outside id
 pub map_apart : (map : List Extent) → IsMap map → AllApart (λ e. e.inside) map × AllApart (λ e. e.outside) map
 map_apart map is = all_apart 0 map (faults_of map (none_is _ is)).1
-
--- the outside ids of a map are ids
-pub map_has_ids : (map : List Extent) → IsMap map → HasIds map
-map_has_ids map is k d below = (map_fits map is k d below).outside

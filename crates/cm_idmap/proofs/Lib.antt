@@ -1,4 +1,4 @@
 pub mod Faultless
 pub mod Refused
-mod Sides
+pub mod Sides
 pub mod Taken

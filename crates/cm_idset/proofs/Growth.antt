@@ -1,25 +1,18 @@
 -- Lists of intervals that grow at their end.
-use Rattle.std.proofs.Common.{◌≡◌, ℕ, zero, suc, ◌+◌, ◌-◌, ◌<◌, ◌≤◌, ◌||◌, Bool, true, false, List, [], ◌∷◌, ◌++◌}
-use Rattle.std.proofs.Common.{length, take, drop, get_or, set, Option, Some, max, refl, sym, ap, subst, ◌∙◌, arith}
+use Rattle.std.proofs.Common.{◌≡◌, ℕ, ◌+◌, ◌-◌, ◌<◌, ◌≤◌, ◌||◌, Bool, true, false, List, [], ◌∷◌, ◌++◌}
+use Rattle.std.proofs.Common.{length, take, get_or, set, Option, refl, sym, ap, subst, ◌∙◌, arith}
 use Rattle.std.specs.Prelude.{IsTrue, nat_le}
 use Rattle.std.specs.Option.{option_map_or}
 use Rattle.std.proofs.lemmas.Bool.{leb-true, leb-false}
 use Rattle.std.proofs.lemmas.Bool.Decides.{nat_tests}
-use Rattle.std.proofs.lemmas.List.{drop_more, take_all, take_more, take_more_set, length-set}
+use Rattle.std.proofs.lemmas.List.{take_all, take_more, take_more_set, length-set}
 use Rattle.std.proofs.lemmas.Option.{slice_get-get_or}
+use Rattle.std.proofs.Math.Bool.{or_assoc, or-false}
 use Rattle.cm_base.specs.Limits.{id_count}
 use Rattle.model_cred.specs.Intervals.{Interval, is_between, ids_hold, ascend_from, IsCanonical}
 use Rattle.cm_idset.specs.Order.{AllBegun, InOrderFrom, Continues, CanTake, Taken, last_reaches}
 use Rattle.cm_idset.specs.Pairs.{joined, reaches}
 use Rattle.model_cred.proofs.Intervals.{ascend_parts, ascend_made}
-
-or_assoc : (p q r : Bool) → ((p || q) || r) ≡ (p || (q || r))
-or_assoc true q r = refl
-or_assoc false q r = refl
-
-or_false : (p : Bool) → (p || false) ≡ p
-or_false true = refl
-or_false false = refl
 
 -- two lists, one after the other, hold what the one or the other holds
 pub held_appended : (xs ys : List Interval) (id : ℕ) → ids_hold (xs ++ ys) id ≡ (ids_hold xs id || ids_hold ys id)
@@ -28,7 +21,7 @@ held_appended (x ∷ xs) ys id = ap (λ (b : Bool). is_between x id || b) (held_
     ∙ sym (or_assoc (is_between x id) (ids_hold xs id) (ids_hold ys id))
 
 pub held_pushed : (xs : List Interval) (i : Interval) (id : ℕ) → ids_hold (xs ++ i ∷ []) id ≡ (ids_hold xs id || is_between i id)
-held_pushed xs i id = held_appended xs (i ∷ []) id ∙ ap (λ (b : Bool). ids_hold xs id || b) (or_false (is_between i id))
+held_pushed xs i id = held_appended xs (i ∷ []) id ∙ ap (λ (b : Bool). ids_hold xs id || b) (or-false (is_between i id))
 
 -- Each interval ends before the number, with a number between.
 abbrev pub AllBefore : ℕ → List Interval → Type 0

@@ -1,20 +1,20 @@
 -- What an id map makes of a list of intervals, line by line, and that it is what `down` gives of the ids held.
 use Rattle.std.proofs.Common.{◌≡◌, ℕ, zero, suc, ◌+◌, ◌-◌, ◌<◌, ◌≤◌, ◌⊎◌, ◌&&◌, ◌||◌, Bool, true, false, List, [], ◌∷◌, ◌++◌, Option, Some, None}
 use Rattle.std.proofs.Common.{length, drop, get_or, max, min, refl, sym, ap, subst, ◌∙◌, inl, inr, arith}
-use Rattle.std.specs.Prelude.{IsTrue, nat_le, nat_lt, All, Any}
+use Rattle.std.specs.Prelude.{IsTrue, nat_lt, All}
 use Rattle.std.specs.Option.{option_to_list}
 use Rattle.std.proofs.lemmas.Bool.{cases_Bool, and_parts, and_from, or_cases, or_left, or_right}
-use Rattle.std.proofs.lemmas.Bool.{cond-true, cond-false, ltb-true, ltb-false, leb-true, lt-ltb, le-leb}
+use Rattle.std.proofs.lemmas.Bool.{cond-true, cond-false, ltb-true, ltb-false}
 use Rattle.std.proofs.lemmas.Bool.Decides.{nat_tests}
 use Rattle.std.proofs.lemmas.List.{append-nil, drop_all, get_or_default}
 use Rattle.std.proofs.lemmas.List.Elements.{All-cons, All-append, All-nil}
 use Rattle.cm_base.specs.Limits.{id_count}
-use Rattle.cm_base.proofs.CapSets.{same_tests}
 use Rattle.cm_sets.specs.Sets.{AreSame}
-use Rattle.model_cred.specs.IdMap.{Extent, lies_in, down, Maps, TakesTo}
+use Rattle.model_cred.specs.IdMap.{Extent, lies_in, Maps, TakesTo}
 use Rattle.model_cred.specs.MapFault.{IsMap}
-use Rattle.model_cred.specs.Intervals.{Interval, is_between, ids_hold, ascend_from, IsCanonical}
-use Rattle.model_cred.proofs.Intervals.{ascend_parts, between_parts, between_from}
+use Rattle.model_cred.specs.Intervals.{Interval, is_between, ids_hold}
+use Rattle.model_rules.proofs.Ranges.{lies_parts, lies_from}
+use Rattle.cm_idmap.proofs.Sides.{later}
 use Rattle.cm_idmap.proofs.Taken.{down_maps, fits_at}
 use Rattle.cm_idset.specs.Held.{Held}
 use Rattle.cm_idset.specs.Image.{InImage, image_of, images, all_images}
@@ -92,15 +92,6 @@ images_of_ids e [] fits = All-nil IsOfIds
 images_of_ids e (i ∷ list) fits = All-append IsOfIds (option_to_list (image_of e i)) (images e list) (image_of_ids e i fits) (images_of_ids e list fits)
 
 -- ---- all lines
-later : (P : Extent → Type 0) (e : Extent) (map : List Extent) → Any P map → Any P (e ∷ map)
-later P e map (k, x, below, is, holds) = (suc k, x, omega (arith, below), is, holds)
-
-lies_parts : (first count id : ℕ) → IsTrue (lies_in first count id) → (first ≤ id) × (id < first + count)
-lies_parts first count id is = grind (arith, nat_tests)
-
-lies_from : (first count id : ℕ) → first ≤ id → id < first + count → IsTrue (lies_in first count id)
-lies_from first count id low high = grind (arith, nat_tests)
-
 -- what is made comes of an id that is held, by a line that takes it there
 comes : (map : List Extent) (list : List Interval) (out : ℕ) → Held (all_images map list) out → (id : ℕ) × Held list id × Maps map id out
 comes [] list out held = absurd (cc)

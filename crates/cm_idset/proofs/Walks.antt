@@ -5,6 +5,7 @@ use Rattle.std.proofs.Common.{◌∙◌, subst, inl, inr, arith}
 use Rattle.std.specs.Prelude.{IsTrue, nat_lt, nat_le}
 use Rattle.std.proofs.lemmas.Bool.{cases_Bool, cases_lt, cond-true, cond-false, leb-true, leb-false, and_parts, and_from, or_right, ltb-true, ltb-false}
 use Rattle.std.proofs.lemmas.Bool.Decides.{nat_tests}
+use Rattle.std.proofs.Math.Bool.{or_assoc}
 use Rattle.std.proofs.Math.Nat.{max_comm, min_comm}
 use Rattle.std.proofs.lemmas.List.{append-nil}
 use Rattle.cm_sets.specs.Sets.{InBoth, HoldsSome}
@@ -148,10 +149,6 @@ common_turned : (x y : Interval) → in_common y x ≡ in_common x y
 common_turned x y =
     ap (λ (n : ℕ). span n (min y.last x.last)) (max_comm y.first x.first) ∙ ap (λ (n : ℕ). span (max x.first y.first) n) (min_comm y.last x.last)
 
-or_assoc : (p q r : Bool) → (p || (q || r)) ≡ ((p || q) || r)
-or_assoc true q r = refl
-or_assoc false q r = refl
-
 -- the list with what two first intervals have in common, of which the first ends first
 made_more : (x y : Interval) (out xs ys : List Interval) → IsCanonical out → IsCanonical (x ∷ xs) → IsCanonical (y ∷ ys)
     → ((id : ℕ) → IsTrue (ids_hold (x ∷ xs) id) → IsTrue (ids_hold (y ∷ ys) id) → AllBefore id out) → IsCanonical (out ++ option_to_list (in_common x y))
@@ -188,7 +185,7 @@ met_here one other out x y xs ys ends m =
       one_is = rest_canonical x xs m.one_is;
       other_is = m.other_is;
       same = λ id. m.same id ∙ ap (λ (b : Bool). ids_hold out id || b) (step x y xs ys m.other_is ends id)
-          ∙ or_assoc (ids_hold out id) (is_between x id && is_between y id) (ids_hold xs id && ids_hold (y ∷ ys) id)
+          ∙ sym (or_assoc (ids_hold out id) (is_between x id && is_between y id) (ids_hold xs id && ids_hold (y ∷ ys) id))
           ∙ ap (λ (b : Bool). b || (ids_hold xs id && ids_hold (y ∷ ys) id))
           (sym (held_appended out (option_to_list (in_common x y)) id ∙ ap (λ (b : Bool). ids_hold out id || b) (common_holds x y id)));
       before = before;

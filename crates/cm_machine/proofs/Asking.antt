@@ -4,7 +4,7 @@ use Rattle.std.proofs.Common.{if◌then◌else◌, refl, sym, ◌∙◌, ap, sub
 use Rattle.std.proofs.lemmas.List.{length-set, get_or-set_same}
 use Rattle.std.specs.Prelude.{nat_lt, is_none, Result, Ok, IfSome, OnErr}
 use Rattle.std.specs.declared.result.Result.TheVariants.{Err}
-use Rattle.std.proofs.lemmas.Bool.{cond_both, ltb-true, not-false}
+use Rattle.std.proofs.lemmas.Bool.{cond_both}
 use Rattle.cm_base.specs.Limits.{greatest_number}
 use Rattle.cm_base.specs.declared.errno.Errno.TheVariants.{EAGAIN, EPERM, EINVAL, EACCES, ENOSPC}
 use Rattle.cm_base.specs.Outcome.{OrNoMemory}
@@ -37,8 +37,9 @@ use Rattle.model_cred.specs.Credential.{Credential}
 use Rattle.model_cred.specs.Files.{FileTable}
 use Rattle.model_cred.specs.Process.{Process, State, Ascends, is_alive, is_pid, put_process, insert_process}
 use Rattle.model_cred.specs.IdMap.{Extent, extents_of}
-use Rattle.model_cred.specs.Space.{Space, Spaces, level, space_of, stands}
+use Rattle.model_cred.specs.Space.{Space, Spaces, level, space_of}
 use Rattle.model_cred.specs.World.{World}
+use Rattle.model_rules.proofs.Spaces.{stands_there}
 use Rattle.model_rules.specs.Answer.{Answer, done, refused}
 use Rattle.model_rules.specs.Caps.{cap_sys_admin}
 use Rattle.model_rules.specs.Exec.{execve, may_exec, own_sets, run_file, would_lack, cred_after as exec_cred}
@@ -285,10 +286,6 @@ done_can (res.Id n) to_make t can = tt
 done_can (res.Child n) to_make t can = tt
 done_can (res.Err e) to_make t can = tt
 
--- a space that is named stands
-named_stands : (spaces : Spaces) (n : ℕ) → not (stands spaces n) ≡ false → n < length spaces
-named_stands spaces n is = ltb-true n (length spaces) (not-false (stands spaces n) is)
-
 can_is : (w : World) (s : State) (p : Process) (call : Call) (n : ℕ) → with_cred s p p.cred ≡ s → (is_pid n ≡ true → is_alive s.processes n ≡ false)
     → names_no_space s.spaces (call_of call) ≡ false → length s.spaces < greatest_number
     → CanKeep (change_by s.spaces (call_of call) (ruling w s p (call_of call) n).res p.cred) (with_cred s p (cred_after w s.spaces p (call_of call)))
@@ -300,12 +297,12 @@ can_is w s p CloneUser n same free stand room =
     inner_can n s (with_cred s p p.cred) p (spaces_left s p model.CloneUser) (clone_user s.spaces p.space p.cred)
     (λ is. ap (λ (t : State). is_alive t.processes n) same ∙ free is) room
 can_is w s p Unshare n same free stand room = done_can _ change.Space (with_cred s p p.cred) room
-can_is w s p (SetNs m) n same free stand room = done_can _ (change.Join m) (with_cred s p p.cred) (named_stands s.spaces m.0 stand)
+can_is w s p (SetNs m) n same free stand room = done_can _ (change.Join m) (with_cred s p p.cred) (stands_there s.spaces m.0 stand)
 can_is w s p (WriteUidMap m given) n same free stand room =
-    done_can _ (change.Map file.UidMap m (stored_list UidMap s.spaces m.0 given)) (with_cred s p p.cred) (named_stands s.spaces m.0 stand)
+    done_can _ (change.Map file.UidMap m (stored_list UidMap s.spaces m.0 given)) (with_cred s p p.cred) (stands_there s.spaces m.0 stand)
 can_is w s p (WriteGidMap m given) n same free stand room =
-    done_can _ (change.Map file.GidMap m (stored_list GidMap s.spaces m.0 given)) (with_cred s p p.cred) (named_stands s.spaces m.0 stand)
-can_is w s p (WriteSetgroups m deny) n same free stand room = done_can _ (change.Word m deny) (with_cred s p p.cred) (named_stands s.spaces m.0 stand)
+    done_can _ (change.Map file.GidMap m (stored_list GidMap s.spaces m.0 given)) (with_cred s p p.cred) (stands_there s.spaces m.0 stand)
+can_is w s p (WriteSetgroups m deny) n same free stand room = done_can _ (change.Word m deny) (with_cred s p p.cred) (stands_there s.spaces m.0 stand)
 can_is w s p call n same free stand room = tt
 
 free_number : (processes : List Process) (child : Option ℕ) → IfSome child (λ pid. is_alive processes pid ≡ false)

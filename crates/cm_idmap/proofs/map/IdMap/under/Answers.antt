@@ -3,7 +3,7 @@ use Rattle.std.specs.Prelude.{is_none, option_map}
 use Rattle.model_cred.specs.MapFault.{IsMap}
 use Rattle.model_rules.specs.Maps.{list_down}
 use Rattle.model_rules.proofs.Downs.{down_is_map, nothing_under}
-use Rattle.cm_idmap.proofs.Faultless.{map_has_ids}
+use Rattle.model_rules.proofs.Downs.{map_has_ids}
 use Rattle.cm_idmap.proofs.map.IdMap.under.Goals as goal
 
 pub returns-in_default : goal.returns-in_default
