@@ -11,7 +11,7 @@ use crate::parts::next_argument;
 use cm_base::{CapWord, FileRef, LineFault, SpaceId};
 use cm_files::FileTable;
 use cm_tokens::{read_cap, read_id, read_number, read_word};
-use cm_world::{Names, read_cap_text};
+use cm_values::{Names, read_cap_text};
 
 /// An id.
 #[inline]

@@ -1,14 +1,13 @@
 // Files in script lines: a path, or `-` for the plain file.
 ghost use Rattle.std.specs.Prelude.{◌≡◌, ◌++◌, option_map, slice_get};
-ghost use Rattle.std.specs.List.{list_all};
 ghost use Rattle.cm_base.specs.Outcome.{OrNoMemory};
 ghost use Rattle.cm_script.specs.Paths.{declared_path};
-ghost use Rattle.model_text.specs.NameText.{is_path, is_path_byte};
 ghost use Rattle.model_text.specs.Token.{file_text, file_token};
 
 use crate::numbers::put;
 use cm_base::{FileRef, NoMemory};
 use cm_files::{FileRow, FileTable};
+use cm_values::is_path;
 
 /// The file that a token stands for: the plain one for `-`, and for a path that isn't declared. None exactly where the token
 /// is neither `-` nor a path.
@@ -23,24 +22,6 @@ pub(crate) fn read_file(token: &[u8], files: &FileTable) -> Option<FileRef>
     } else {
         None
     }
-}
-
-// The token keeps the rule of paths.
-#[tactic(auto, unfolding(model_text::specs::NameText::is_path))]
-fn is_path(token: &[u8]) -> bool
-    ensures { result ≡ is_path token.now }
-{
-    1 <= token.len()
-        && token.len() <= 4095
-        && are_path_bytes(token)
-        && token != b"-".as_slice()
-        && token != b"=".as_slice()
-}
-
-fn are_path_bytes(token: &[u8]) -> bool
-    ensures { result ≡ list_all is_path_byte token.now }
-{
-    token.iter().all(|byte| 33 <= *byte && *byte != 127)
 }
 
 /// The path of a file; `-` for the plain one, and for a row that the table doesn't have.

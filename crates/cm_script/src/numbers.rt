@@ -7,7 +7,7 @@ ghost use Rattle.model_text.specs.SpaceToken.{space_token};
 ghost use Rattle.model_text.specs.Token.{id_text};
 
 use cm_base::{ALL_CAPS, MINUS_ONE, NoMemory, SpaceId};
-use cm_world::Names;
+use cm_values::Names;
 use itoa::Buffer;
 
 const DIGITS: [u8; 16] = *b"0123456789abcdef";

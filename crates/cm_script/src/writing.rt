@@ -15,7 +15,8 @@ use cm_base::{CAP_COUNT, Cap, CapWord, FileRef, NoMemory, Res, SpaceId};
 use cm_files::FileTable;
 use cm_idmap::Extent;
 use cm_state::{Call, Event};
-use cm_world::{Names, World};
+use cm_values::Names;
+use cm_world::World;
 use std::alloc::Global;
 
 /// The event as a script line, without LF: a space by its name in the world, a file by its path there. Its only error is want

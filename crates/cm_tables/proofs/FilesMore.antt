@@ -1,44 +1,15 @@
--- Declared files: which of them has a path, and one more without a fault.
-use Rattle.std.proofs.Common.{◌≡◌, ℕ, suc, ◌+◌, Bool, true, false, List, [], ◌∷◌, ◌++◌, length, append_assoc, cond}
-use Rattle.std.proofs.Common.{Option, None, Some, Result, Ok, Err, refl, sym, ap, ◌∙◌, inl, inr, arith}
-use Rattle.std.specs.Prelude.{IfSome, bytes_eq, is_some, nat_lt, not, position}
-use Rattle.std.specs.List.{list_any, prefix_len}
+-- Declared files: one more without a fault, and the table of all.
+use Rattle.std.proofs.Common.{◌≡◌, ℕ, List, [], ◌∷◌, ◌++◌, append_assoc}
+use Rattle.std.proofs.Common.{Option, None, Some, Result, Ok, Err, refl, sym, ap, ◌∙◌}
+use Rattle.std.specs.Prelude.{IfSome}
 use Rattle.std.specs.Option.{option_or}
-use Rattle.std.proofs.lemmas.Bool.{cases_Bool, cases_lt, lt-ltb, le-ltb}
 use Rattle.std.proofs.lemmas.List.{append-nil}
-use Rattle.cm_files.specs.Fault.{Tells, first_fault, has_path, row_fault}
+use Rattle.cm_files.specs.Fault.{Diagnoses, first_fault, row_fault}
 use Rattle.cm_files.specs.declared.fault.BadFiles.{BadFiles}
 use Rattle.cm_files.specs.declared.fault.BadFiles.TheVariants.{Twice, NoMount, NoInterpreter, NoMemory}
-use Rattle.model_cred.specs.Files.{FileRow, FileTable, Mount, row_named}
+use Rattle.model_cred.specs.Files.{FileRow, FileTable, Mount}
 use Rattle.model_text.specs.Refusal.{Refusal, then_read}
 use Rattle.cm_tables.specs.Tables.{table_with}
-
--- ---- which has a path
--- a place in a list with one element more before it
-shifted : (place count : ℕ) → is_some (cond (nat_lt (1 + place) (suc count)) (Some (1 + place)) None)
-    ≡ is_some (cond (nat_lt place count) (Some place) None)
-shifted place count =
-    elim (cases_lt place count) [
-      | inl within ↦ let more : nat_lt (1 + place) (suc count) ≡ true = lt-ltb (1 + place) (suc count) (omega arith) in
-          let less : nat_lt place count ≡ true = lt-ltb place count within in
-          rw (more, less)
-      | inr past ↦ let more : nat_lt (1 + place) (suc count) ≡ false = le-ltb (1 + place) (suc count) (omega arith) in
-          let less : nat_lt place count ≡ false = le-ltb place count past in
-          rw (more, less)
-    ]
-
--- there is a first one exactly where there is one
-pub named_or_not : {A : Type 0} (p : A → Bool) (xs : List A) → is_some (position p xs) ≡ list_any p xs
-named_or_not p [] = refl
-named_or_not p (x ∷ xs) =
-    elim (cases_Bool (p x)) [
-      | inl here ↦ let within : nat_lt 0 (suc (length xs)) ≡ true = lt-ltb 0 (suc (length xs)) (omega arith) in
-          rw (here, within)
-      | inr later ↦ rw later (shifted (prefix_len (λ y. not (p y)) xs) (length xs) ∙ named_or_not p xs)
-    ]
-
-pub path_named : (rows : List FileRow) (path : List ℕ) → is_some (row_named rows path) ≡ has_path path rows
-path_named rows path = named_or_not (λ (row : FileRow). bytes_eq row.path path) rows
 
 -- ---- one file more
 both_none : {A : Type 0} (x y : Option A) → option_or x y ≡ None → (x ≡ None) × (y ≡ None)
@@ -60,7 +31,7 @@ none_more mounts before (first ∷ rows) row is none =
 
 -- ---- the table
 -- an answer that tells of no fault is want of memory
-pub tells_memory : (e : BadFiles) → Tells e None → e ≡ NoMemory
+pub tells_memory : (e : BadFiles) → Diagnoses e None → e ≡ NoMemory
 tells_memory NoMemory tells = refl
 tells_memory (Twice n) tells = absurd (cc)
 tells_memory (NoMount n) tells = absurd (cc)

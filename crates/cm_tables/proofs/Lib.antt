@@ -1,10 +1,6 @@
 -- Lemmas of this crate, by topic.
-pub mod SpaceNames
-pub mod CapTexts
 pub mod FilesMore
 pub mod Checks
-pub mod FirstPlaces
-pub mod Fours
 pub mod Texts
 pub mod Unknown
 pub mod Rows

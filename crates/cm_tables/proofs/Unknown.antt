@@ -6,7 +6,7 @@ use Rattle.cm_filter.specs.Filters.{filter_of, filter_of_names, unless_unknown}
 use Rattle.cm_filter.specs.Kinds.{kind_named}
 use Rattle.model_text.specs.Refusal.{Fault}
 use Rattle.cm_tables.specs.RowChecks.{filter_excluding}
-use Rattle.cm_tables.proofs.FirstPlaces.{any_placed}
+use Rattle.cm_values.proofs.FirstPlaces.{any_placed}
 
 -- the name is no call's
 abbrev is_unknown : List ℕ → Bool

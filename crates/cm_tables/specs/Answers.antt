@@ -1,14 +1,8 @@
 -- What the readers of tables answer.
-use Rattle.std.specs.Prelude.{◌≡◌, Bool, true, Option, Some, None, IfSome, Result, Ok, Err}
-use Rattle.cm_rows.specs.declared.error.RowError.{RowError}
-use Rattle.cm_rows.specs.Answers.{cause_of}
+use Rattle.std.specs.Prelude.{◌≡◌, Option, Some, None, IfSome, Result, Ok, Err}
 use Rattle.cm_tables.specs.declared.error.WorldError.{WorldError}
 use Rattle.cm_tables.specs.declared.error.WorldError.TheVariants as code
-use Rattle.model_text.specs.Refusal.{Cause, Refusal, At, Past}
-
--- The row is refused for this cause, which stands; at want of memory nothing is said.
-abbrev pub Refuses : Cause → Bool → RowError → Type 0
-Refuses cause stands e = IfSome (cause_of e) (λ c. (c ≡ cause) × (stands ≡ true))
+use Rattle.model_text.specs.Refusal.{Refusal, At, Past}
 
 -- the refusal that an error tells, none at want of memory
 abbrev pub refusal_of : WorldError → Option Refusal

@@ -1,5 +1,4 @@
 -- What the readers of tables answer, and words on the parts of a row.
 pub mod Answers
-pub mod MountMaps
 pub mod RowChecks
 pub mod Tables

@@ -1,5 +1,6 @@
 // The files that a world's text declares (inode(7)), and the table that they make with the declared mounts.
 ghost use Rattle.std.specs.Prelude.{◌≡◌, ◌+◌, ◌<◌, ◌^◌, ◌++◌, ◌∷◌, [], None, IfOk, length};
+ghost use Rattle.cm_base.specs.Limited.{limit_number};
 ghost use Rattle.cm_base.specs.Outcome.{OrNoMemory};
 ghost use Rattle.cm_base.specs.declared.faults.Table.TheVariants as table;
 ghost use Rattle.cm_base.specs.declared.limited.Limited.TheVariants as limit;
@@ -14,13 +15,11 @@ ghost use Rattle.model_text.specs.Refusal.{first_standing, read_rows, row_of, th
 ghost use Rattle.toml.specs.View.{items_view, table_view, view};
 
 use crate::error::in_row;
-use crate::file_parts::{caps_of_row, has_path, interpreter_of_row, mode_of_text};
-use crate::kept_text::kept;
-use crate::name_rules::is_path;
 use crate::{Mounts, WorldError};
 use cm_base::{Kgid, Kuid, Limited, NoMemory, Table as TableName, WorldFault};
 use cm_files::{BadFiles, FileRow, FileTable, Mount};
 use cm_rows::{Key, Kind, LAST_ID, Need, RowError, check_keys, number_or, text_or};
+use cm_values::{caps_of_row, has_path, interpreter_of_row, is_path, kept, mode_of_text};
 use std::alloc::Global;
 use std::marker::Model;
 use toml::{Table, Value};
@@ -145,7 +144,7 @@ fn files_of_rows(alloc: Global, mounts: &Mounts, rows: &[Value]) -> Result<Files
         (read_rows table.File limit.Files 0 (model.file_row mounts.now) [] (items_view rows.now)) }
     ensures fine { IfOk result (λ files. first_fault (length mounts.now) [] files ≡ None) }
 {
-    if rows.len() > 4096 {
+    if rows.len() as u64 > Limited::Files.number() {
         return Err(WorldError::Limit(Limited::Files));
     }
     let mut files = Files::none(alloc);
@@ -160,7 +159,7 @@ fn files_of_rows(alloc: Global, mounts: &Mounts, rows: &[Value]) -> Result<Files
 
 /// The files with that of one row more, which is a table.
 fn with_row(alloc: Global, mounts: &Mounts, files: Files, row: &Value) -> Result<Files, RowError>
-    requires few { length files < 4096 }
+    requires few { length files < limit_number limit.Files }
     requires fine { first_fault (length mounts.now) [] files ≡ None }
     ensures gives { Gives result (row_of (model.file_row mounts.now files) (view row.now)) }
     ensures one { IfOk result (λ more. length more ≡ length files + 1) }
@@ -174,7 +173,7 @@ fn with_row(alloc: Global, mounts: &Mounts, files: Files, row: &Value) -> Result
 
 /// The files with that of one row more.
 fn with_file(alloc: Global, mounts: &Mounts, files: Files, row: &Table) -> Result<Files, RowError>
-    requires few { length files < 4096 }
+    requires few { length files < limit_number limit.Files }
     requires fine { first_fault (length mounts.now) [] files ≡ None }
     ensures gives { Gives result (model.file_row mounts.now files (table_view row.now)) }
     ensures one { IfOk result (λ more. length more ≡ length files + 1) }
@@ -188,7 +187,7 @@ fn with_file(alloc: Global, mounts: &Mounts, files: Files, row: &Table) -> Resul
 
 /// The same, where the faults of the row's keys don't stand.
 fn with_own(alloc: Global, mounts: &Mounts, files: Files, row: &Table) -> Result<Files, RowError>
-    requires few { length files < 4096 }
+    requires few { length files < limit_number limit.Files }
     requires fine { first_fault (length mounts.now) [] files ≡ None }
     ensures gives { Gives result (unless (first_standing (model.file_checks mounts.now files (table_view row.now)))
         (files ++ model.file_declared mounts.now files (table_view row.now) ∷ [])) }

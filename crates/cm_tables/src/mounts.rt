@@ -1,5 +1,6 @@
 // The mounts that a world's text declares (mount(2)). The mount `root` always stands as the first.
 ghost use Rattle.std.specs.Prelude.{◌≡◌, ◌+◌, ◌<◌, ◌^◌, ◌++◌, ◌∷◌, [], IfOk, IfSome, bytes_eq, codes, length, map};
+ghost use Rattle.cm_base.specs.Limited.{limit_number};
 ghost use Rattle.cm_base.specs.Outcome.{OrNoMemory};
 ghost use Rattle.cm_base.specs.declared.faults.Table.TheVariants as table;
 ghost use Rattle.cm_base.specs.declared.limited.Limited.TheVariants as limit;
@@ -12,16 +13,13 @@ ghost use Rattle.model_text.specs.NameText.{is_one_of};
 ghost use Rattle.model_text.specs.Refusal.{first_standing, read_rows, row_of, unless};
 ghost use Rattle.toml.specs.View.{items_view, table_view, view};
 
+use crate::WorldError;
 use crate::error::in_row;
-use crate::kept_text::kept;
-use crate::mount_maps::{MountMaps, maps_of_row};
-use crate::name_rules::is_name;
-use crate::row_space::space_of_row;
-use crate::{Names, WorldError};
 use cm_base::{Limited, NoMemory, SpaceId, Table as TableName, WorldFault};
 use cm_files::{MapPair, Mount};
 use cm_idmap::IdMap;
 use cm_rows::{Key, Kind, Need, RowError, check_keys, flag_at, text_or};
+use cm_values::{MountMaps, Names, is_name, kept, maps_of_row, space_of_row};
 use std::alloc::Global;
 use std::marker::Model;
 use toml::{Table, Value};
@@ -139,7 +137,7 @@ pub fn read_mounts(alloc: Global, names: &Names, rows: &[Value]) -> Result<Mount
     ensures { Answers result
         (read_rows table.Mount limit.Mounts 1 (model.mount_row names.now) model.root_alone (items_view rows.now)) }
 {
-    if rows.len() > 63 {
+    if rows.len() as u64 >= Limited::Mounts.number() {
         return Err(WorldError::Limit(Limited::Mounts));
     }
     let mut mounts = Mounts::root(alloc)?;
@@ -154,7 +152,7 @@ pub fn read_mounts(alloc: Global, names: &Names, rows: &[Value]) -> Result<Mount
 
 /// The mounts with that of one row more, which is a table.
 fn with_row(alloc: Global, names: &Names, mounts: Mounts, row: &Value) -> Result<Mounts, RowError>
-    requires { length mounts < 64 }
+    requires { length mounts < limit_number limit.Mounts }
     ensures gives { Gives result (row_of (model.mount_row names.now mounts) (view row.now)) }
     ensures one { IfOk result (λ more. length more ≡ length mounts + 1) }
 {
@@ -166,7 +164,7 @@ fn with_row(alloc: Global, names: &Names, mounts: Mounts, row: &Value) -> Result
 
 /// The mounts with that of one row more.
 fn with_mount(alloc: Global, names: &Names, mounts: Mounts, row: &Table) -> Result<Mounts, RowError>
-    requires { length mounts < 64 }
+    requires { length mounts < limit_number limit.Mounts }
     ensures gives { Gives result (model.mount_row names.now mounts (table_view row.now)) }
     ensures one { IfOk result (λ more. length more ≡ length mounts + 1) }
 {
@@ -178,7 +176,7 @@ fn with_mount(alloc: Global, names: &Names, mounts: Mounts, row: &Table) -> Resu
 
 /// The same, where the faults of the row's keys don't stand.
 fn with_own(alloc: Global, names: &Names, mounts: Mounts, row: &Table) -> Result<Mounts, RowError>
-    requires { length mounts < 64 }
+    requires { length mounts < limit_number limit.Mounts }
     ensures gives { Gives result (unless (first_standing (model.mount_checks names.now mounts (table_view row.now)))
         (mounts ++ model.mount_declared names.now (table_view row.now) ∷ [])) }
     ensures one { IfOk result (λ more. length more ≡ length mounts + 1) }

@@ -14,16 +14,15 @@ ghost use Rattle.model_text.specs.Refusal.{first_standing, read_rows, row_of, un
 ghost use Rattle.toml.specs.View.{items_view, table_view, view};
 
 use crate::error::in_row;
-use crate::flags::{no_new_privs_of, securebits_of};
-use crate::ids::{groups_of, ids_at};
-use crate::row_space::space_of_row;
-use crate::sets::{FiveSets, sets_declared};
 use crate::{Declared, WorldError};
 use cm_base::{Kgid, Kuid, Limited, NoMemory, Pid, SpaceId, Table as TableName, WorldFault};
 use cm_rows::{
     Key, Kind, LAST_ID, Need, RowError, items_at, number_at, number_or, range_fault, shape_fault,
 };
 use cm_state::{Cred, Proc, Procs};
+use cm_values::{
+    FiveSets, groups_of, ids_at, no_new_privs_of, securebits_of, sets_declared, space_of_row,
+};
 use std::alloc::Global;
 use toml::{Table, Value};
 
@@ -83,7 +82,7 @@ pub fn read_processes(
     ensures ordered { IfOk result (λ procs. Ascends procs) }
     ensures stands { IfOk result (λ procs. All (λ p. p.space < length declared.now.spaces) procs) }
 {
-    if rows.len() > 4096 {
+    if rows.len() as u64 > Limited::Processes.number() {
         return Err(WorldError::Limit(Limited::Processes));
     }
     let mut procs = Procs::from_vec(Vec::new(alloc));
@@ -157,7 +156,7 @@ fn check_row(row: &Table, keys: &[Key]) -> Result<(), RowError>
 fn has_many_groups(row: &Table) -> bool
     ensures { result ≡ model.has_many_groups (table_view row.now) }
 {
-    items_at(row, "groups").len() > 1024
+    items_at(row, "groups").len() as u64 > Limited::Groups.number()
 }
 
 /// The processes with that of one row more, where the faults of its keys don't stand.
@@ -186,7 +185,7 @@ fn with_one(procs: Procs, p: Proc) -> Result<Procs, NoMemory>
     requires ordered { Ascends procs }
     requires fresh { is_alive procs p.pid ≡ false }
     ensures placed { OrNoMemory result (λ made. made ≡ insert_process p procs) }
-    ensures ordered { IfOk result (λ made. Ascends made) }
+    ensures ordered { OrNoMemory result (λ made. Ascends made) }
 {
     let mut procs = procs;
     procs.insert(p)?;

@@ -1,5 +1,6 @@
 // The user namespaces, called spaces here, that a world's text declares.
 ghost use Rattle.std.specs.Prelude.{◌≡◌, ◌+◌, ◌<◌, ◌≤◌, ◌++◌, ◌∷◌, [], Some, IfOk, IfSome, IsSomeAnd, length, option_map};
+ghost use Rattle.cm_base.specs.Limited.{limit_number};
 ghost use Rattle.cm_base.specs.Limits.{id_count};
 ghost use Rattle.cm_base.specs.Outcome.{OrNoMemory};
 ghost use Rattle.cm_base.specs.declared.faults.Table.TheVariants as table;
@@ -11,15 +12,14 @@ ghost use Rattle.model_text.specs.Refusal.{first_standing, read_rows, row_of, un
 ghost use Rattle.model_text.specs.SpaceText as model;
 ghost use Rattle.toml.specs.View.{items_view, table_view, view};
 
+use crate::WorldError;
 use crate::error::in_row;
-use crate::maps::{map_at, stored_under};
-use crate::name_rules::is_name;
-use crate::{Names, WorldError};
 use cm_base::{Kuid, Limited, NoMemory, SpaceId, Table as TableName, WorldFault};
 use cm_rows::{
     Key, Kind, LAST_ID, Need, RowError, check_keys, flag_at, is_text_at, number_or, text_or,
 };
 use cm_state::{Space, Spaces};
+use cm_values::{Names, is_name, map_at, stored_under};
 use std::alloc::Global;
 use std::marker::Model;
 use toml::{Table, Value};
@@ -79,7 +79,7 @@ impl Declared {
     /// One space more. Its only error is want of memory.
     fn with(self, alloc: Global, name: &str, space: Space) -> Result<Declared, NoMemory>
         requires parent { IsSomeAnd space.parent (λ p. p < length self.spaces) }
-        requires room { length self.names < 255 }
+        requires room { length self.names + 1 < limit_number limit.Spaces }
         ensures { OrNoMemory result (λ d. d ≡ record { names = self.names ++ name.now ∷ []; spaces = space ∷ self.spaces }) }
     {
         let Declared {
@@ -96,7 +96,7 @@ impl Declared {
 pub fn read_spaces(alloc: Global, rows: &[Value]) -> Result<Declared, WorldError>
     ensures { Answers result (read_rows table.Space limit.Spaces 1 model.space_row model.none_declared (items_view rows.now)) }
 {
-    if rows.len() > 255 {
+    if rows.len() as u64 >= Limited::Spaces.number() {
         return Err(WorldError::Limit(Limited::Spaces));
     }
     let mut declared = Declared::none(alloc)?;
@@ -111,7 +111,7 @@ pub fn read_spaces(alloc: Global, rows: &[Value]) -> Result<Declared, WorldError
 
 /// The spaces with that of one row more, which is a table.
 fn with_row(alloc: Global, declared: Declared, row: &Value) -> Result<Declared, RowError>
-    requires { length declared.names < 255 }
+    requires { length declared.names + 1 < limit_number limit.Spaces }
     ensures gives { Gives result (row_of (model.space_row declared) (view row.now)) }
     ensures one { IfOk result (λ d. length d.names ≡ length declared.names + 1) }
 {
@@ -123,7 +123,7 @@ fn with_row(alloc: Global, declared: Declared, row: &Value) -> Result<Declared, 
 
 /// The spaces with that of one row more.
 fn with_space(alloc: Global, declared: Declared, row: &Table) -> Result<Declared, RowError>
-    requires { length declared.names < 255 }
+    requires { length declared.names + 1 < limit_number limit.Spaces }
     ensures gives { Gives result (model.space_row declared (table_view row.now)) }
     ensures one { IfOk result (λ d. length d.names ≡ length declared.names + 1) }
 {
@@ -135,7 +135,7 @@ fn with_space(alloc: Global, declared: Declared, row: &Table) -> Result<Declared
 
 /// The same, where the faults of the row's keys don't stand.
 fn with_own(alloc: Global, declared: Declared, row: &Table) -> Result<Declared, RowError>
-    requires { length declared.names < 255 }
+    requires { length declared.names + 1 < limit_number limit.Spaces }
     ensures gives { Gives result (unless (first_standing (model.space_checks declared (table_view row.now)))
         (record {
           names = declared.names ++ model.name_of (table_view row.now) ∷ [];

@@ -9,7 +9,7 @@ mod reading;
 mod tables;
 mod world;
 
-pub use cm_tables::{Names, WorldError, read_cap_text};
+pub use cm_tables::WorldError;
 pub use laws::read_worlds_keep;
 pub use reading::read_world;
 pub use world::{LogForm, World};

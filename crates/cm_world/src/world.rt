@@ -2,7 +2,7 @@
 use cm_files::FileTable;
 use cm_filter::Filter;
 use cm_state::State;
-use cm_tables::Names;
+use cm_values::Names;
 
 /// The form of a log (choice).
 #[derive(Clone, Copy, Debug, PartialEq, Eq)]

@@ -5,8 +5,8 @@ use Rattle.model_text.specs.FileText.{file_row}
 use Rattle.cm_tables.proofs.Rows.{past_limit, read_all, read_refused}
 use Rattle.cm_tables.proofs.files.files_of_rows.Goals as goal
 
-pub returns-then-rows-gt4096-clause-answers : goal.returns-then-rows-gt4096-clause-answers
-returns-then-rows-gt4096-clause-answers c = past_limit table.File (file_row c.args.mounts.now) [] c.args.rows.now limit.Files 0 (omega arith)
+pub returns-then-rows-number-clause-answers : goal.returns-then-rows-number-clause-answers
+returns-then-rows-number-clause-answers c = past_limit table.File (file_row c.args.mounts.now) [] c.args.rows.now limit.Files 0 (omega arith)
 
 pub returns-in-Err-clause-answers : goal.returns-in-Err-clause-answers
 returns-in-Err-clause-answers c =

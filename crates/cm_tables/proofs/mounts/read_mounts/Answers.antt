@@ -5,8 +5,8 @@ use Rattle.model_text.specs.MountText.{mount_row, root_alone}
 use Rattle.cm_tables.proofs.Rows.{past_limit, read_all, read_refused}
 use Rattle.cm_tables.proofs.mounts.read_mounts.Goals as goal
 
-pub returns-then-rows-gt63 : goal.returns-then-rows-gt63
-returns-then-rows-gt63 c = past_limit table.Mount (mount_row c.args.names.now) root_alone c.args.rows.now limit.Mounts 1 (omega arith)
+pub returns-then-rows-number : goal.returns-then-rows-number
+returns-then-rows-number c = past_limit table.Mount (mount_row c.args.names.now) root_alone c.args.rows.now limit.Mounts 1 (omega arith)
 
 pub returns-in-Err : goal.returns-in-Err
 returns-in-Err c =

@@ -5,8 +5,8 @@ use Rattle.model_text.specs.ProcessText.{process_row}
 use Rattle.cm_tables.proofs.Rows.{past_limit, read_all, read_refused}
 use Rattle.cm_tables.proofs.processes.read_processes.Goals as goal
 
-pub returns-then-rows-gt4096-clause-answers : goal.returns-then-rows-gt4096-clause-answers
-returns-then-rows-gt4096-clause-answers c =
+pub returns-then-rows-number-clause-answers : goal.returns-then-rows-number-clause-answers
+returns-then-rows-number-clause-answers c =
     past_limit table.Process (process_row c.args.declared.now.names) [] c.args.rows.now limit.Processes 0 (omega arith)
 
 pub returns-in-Err-clause-answers : goal.returns-in-Err-clause-answers

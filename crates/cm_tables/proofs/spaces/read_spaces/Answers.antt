@@ -5,8 +5,8 @@ use Rattle.model_text.specs.SpaceText.{none_declared, space_row}
 use Rattle.cm_tables.proofs.Rows.{past_limit, read_all, read_refused}
 use Rattle.cm_tables.proofs.spaces.read_spaces.Goals as goal
 
-pub returns-then-rows-gt255 : goal.returns-then-rows-gt255
-returns-then-rows-gt255 c = past_limit table.Space space_row none_declared c.args.rows.now limit.Spaces 1 (omega arith)
+pub returns-then-rows-number : goal.returns-then-rows-number
+returns-then-rows-number c = past_limit table.Space space_row none_declared c.args.rows.now limit.Spaces 1 (omega arith)
 
 pub returns-in-Err : goal.returns-in-Err
 returns-in-Err c =
