@@ -1,21 +1,11 @@
--- Where the code's reader of a call is, in the words of the definitions.
-use Rattle.std.specs.Prelude.{ℕ, ◌<◌}
-use Rattle.cm_strace_text.specs.declared.written.Place.{Place}
-use Rattle.cm_strace_text.specs.declared.written.Place.TheVariants as code
+-- The parts of a call in the code, and its signs from a place on, in the words of the definitions.
+use Rattle.std.specs.Prelude.{ℕ, drop, List, Option}
 use Rattle.cm_strace_text.specs.declared.written.Written.{Written}
 use Rattle.model_strace.specs.Written as model
 
--- the place of the definitions
-abbrev pub place_is : Place → model.Place
-place_is code.Plain = model.Plain
-place_is (code.After paren) = model.After paren
-place_is code.Quoted = model.Quoted
-place_is code.Escaped = model.Escaped
-
--- the parenthesis that a reader stands after comes before that place
-abbrev pub IsBefore : Place → ℕ → Type 0
-IsBefore (code.After paren) at = paren < at
-IsBefore _ at = Unit {0}
+-- the places of the last sign in what stands from a place on
+abbrev pub sign_from : model.Place → ℕ → List ℕ → Option (ℕ × ℕ)
+sign_from place at text = model.last_sign place at (drop at text)
 
 -- the parts of the definitions
 abbrev pub written_is : Written → model.Written

@@ -8,7 +8,7 @@ use cm_tokens::{is_blank, token_len};
 
 /// The text without the blanks at its front.
 #[inline]
-pub(crate) fn without_front(text: &[u8]) -> &[u8]
+pub fn without_front(text: &[u8]) -> &[u8]
     ensures { result.now ≡ without_front text.now }
 {
     let mut rest = text;
@@ -46,7 +46,7 @@ fn end_len(text: &[u8]) -> usize
 }
 
 /// The text without the blanks at both ends.
-pub(crate) fn trimmed(text: &[u8]) -> &[u8]
+pub fn trimmed(text: &[u8]) -> &[u8]
     ensures { result.now ≡ trimmed text.now }
 {
     without_front(without_end(text))

@@ -29,6 +29,7 @@ pub enum Body<'a> {
 }
 
 /// What a body is: one that begins with `---` tells of a signal, one between two marks `+++` of an end.
+#[inline]
 pub fn read_body(text: &[u8]) -> Body<'_>
     ensures { body_is result ≡ body_of text.now }
 {
@@ -130,6 +131,7 @@ fn is_number(text: &[u8]) -> bool
 }
 
 // A body that tells of a call, or of a part of one: one that isn't finished comes before one that is resumed.
+#[inline]
 fn call_body(text: &[u8]) -> Body<'_>
     ensures { body_is result ≡ call_body text.now }
 {

@@ -1,37 +1,24 @@
-//! Lines of strace(1), piece by piece: a line's pid and body, the parts of a call, its arguments and its result. What a line
-//! stands for is in model_strace/specs; nothing here knows of processes or descriptors.
+//! Lines of strace(1), piece by piece: a line's pid and body, the parts of a call, its arguments, marks, names and
+//! quoted texts. What a line stands for is in model_strace/specs; what arguments and results stand for is read by
+//! cm_strace_values.
 #![tactic(auto)]
 
 mod arguments;
 mod blanks;
 mod body;
-mod caps;
-mod flags;
-mod hex;
-mod lists;
 mod marks;
 mod members;
 mod names;
-mod outcome;
-mod paths;
 mod quoted;
 mod row;
-mod sets;
 mod written;
 
 pub use arguments::{next_argument, read_arguments};
+pub use blanks::{trimmed, without_front};
 pub use body::{Body, read_body};
-pub use caps::{Sets, read_capability, read_header, read_sets};
-pub use flags::{birth_flags, has_flag};
-pub use lists::read_id_list;
-pub use marks::before_mark;
-pub use names::{call_name, ends_name, without_32};
-pub use outcome::{Outcome, read_outcome};
-pub use paths::{Followed, Named, file_at, relative_file};
+pub use marks::{after_mark, before_mark, cut_at};
+pub use members::{bracketed, bracketed_whole, value_of};
+pub use names::{call_name, cut_name, ends_name, without_32};
 pub use quoted::{Quote, read_quote};
 pub use row::{Row, read_row};
-pub use sets::read_securebits;
 pub use written::{Written, read_written};
-
-#[cfg(test)]
-mod tests;

@@ -4,7 +4,7 @@ ghost use Rattle.model_strace.specs.Marks.{after_mark, before_mark, cut_at};
 
 /// What follows the mark at the text's front. None exactly where it isn't there.
 #[inline]
-pub(crate) fn after_mark<'a>(mark: &[u8], text: &'a [u8]) -> Option<&'a [u8]>
+pub fn after_mark<'a>(mark: &[u8], text: &'a [u8]) -> Option<&'a [u8]>
     ensures { option_map (λ rest. rest.now) result ≡ after_mark mark.now text.now }
 {
     if !text.starts_with(mark) {
@@ -27,7 +27,7 @@ pub fn before_mark<'a>(mark: &[u8], text: &'a [u8]) -> Option<&'a [u8]>
 }
 
 /// What precedes and what follows the first place of a mark. None exactly where it has none.
-pub(crate) fn cut_at<'a>(mark: &[u8], text: &'a [u8]) -> Option<(&'a [u8], &'a [u8])>
+pub fn cut_at<'a>(mark: &[u8], text: &'a [u8]) -> Option<(&'a [u8], &'a [u8])>
     ensures { option_map (λ sides. (sides.0.now, sides.1.now)) result ≡ cut_at mark.now text.now }
 {
     for at in 0..text.len() {

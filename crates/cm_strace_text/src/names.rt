@@ -6,9 +6,9 @@ ghost use Rattle.model_strace.specs.Written.{without_32, call_name};
 
 use crate::marks::before_mark;
 
-/// The name at the text's front, and what follows it.
+/// The name at the text's front, an empty one where there is none, and what follows it.
 #[tactic(auto, using(crate::proofs::Cuts::front_len))]
-pub(crate) fn cut_name(text: &[u8]) -> (&[u8], &[u8])
+pub fn cut_name(text: &[u8]) -> (&[u8], &[u8])
     ensures name { result.0.now ≡ name_at text.now }
     ensures rest { result.1.now ≡ drop (length (name_at text.now)) text.now }
 {

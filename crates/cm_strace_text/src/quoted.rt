@@ -1,5 +1,5 @@
 // Quoted texts as strace(1) writes them, with its escapes.
-ghost use Rattle.std.specs.Prelude.{◌≡◌, ◌==◌, [], Some, IfOk, find, option_map};
+ghost use Rattle.std.specs.Prelude.{◌≡◌, ◌==◌, [], Some, find, option_map};
 ghost use Rattle.cm_base.specs.Outcome.{OrNoMemory};
 ghost use Rattle.cm_strace_text.specs.Quotes.{reach_is, step_is, preceded, quote_is, IsShort, GoesShort};
 ghost use Rattle.cm_strace_text.specs.declared.quoted.Reach.TheVariants.{Octal};
@@ -91,7 +91,7 @@ impl Quote {
 fn unquote(alloc: Global, text: &[u8]) -> Result<Option<(Vec<u8>, &[u8])>, NoMemory>
     ensures { OrNoMemory result (λ read. option_map (λ sides. (sides.0.items, sides.1.now)) read ≡ unquoted model.Text text.now) }
 {
-    let mut bytes = Vec::new(alloc);
+    let mut bytes = Vec::with_capacity(alloc, text.len())?;
     let mut reach = Reach::Text;
     let mut rest = text;
     while let [byte, after @ ..] = rest {
@@ -110,7 +110,7 @@ fn unquote(alloc: Global, text: &[u8]) -> Result<Option<(Vec<u8>, &[u8])>, NoMem
 // One byte more.
 fn take_byte(bytes: &mut Vec<u8>, reach: Reach, byte: u8) -> Result<Move, NoMemory>
     requires { IsShort reach }
-    ensures short { IfOk result (λ move. GoesShort move) }
+    ensures short { OrNoMemory result (λ move. GoesShort move) }
     ensures step { OrNoMemory result (λ move. step_is bytes.new.items move ≡ preceded bytes.old.items (step (reach_is reach) byte)) }
 {
     match reach {
@@ -122,7 +122,7 @@ fn take_byte(bytes: &mut Vec<u8>, reach: Reach, byte: u8) -> Result<Move, NoMemo
 
 // One byte more after whole bytes.
 fn take_text(bytes: &mut Vec<u8>, byte: u8) -> Result<Move, NoMemory>
-    ensures short { IfOk result (λ move. GoesShort move) }
+    ensures short { OrNoMemory result (λ move. GoesShort move) }
     ensures step { OrNoMemory result (λ move. step_is bytes.new.items move ≡ preceded bytes.old.items (text_step [] byte)) }
 {
     match byte {
@@ -137,7 +137,7 @@ fn take_text(bytes: &mut Vec<u8>, byte: u8) -> Result<Move, NoMemory>
 
 // One byte more after a backslash.
 fn take_escape(bytes: &mut Vec<u8>, byte: u8) -> Result<Move, NoMemory>
-    ensures short { IfOk result (λ move. GoesShort move) }
+    ensures short { OrNoMemory result (λ move. GoesShort move) }
     ensures step { OrNoMemory result (λ move. step_is bytes.new.items move ≡ preceded bytes.old.items (slash_step byte)) }
 {
     if is_octal(byte) {
@@ -179,7 +179,7 @@ fn is_octal(byte: u8) -> bool
 // One byte more after octal digits.
 fn take_octal(bytes: &mut Vec<u8>, value: u32, more: u32, byte: u8) -> Result<Move, NoMemory>
     requires { IsShort (Octal value more) }
-    ensures short { IfOk result (λ move. GoesShort move) }
+    ensures short { OrNoMemory result (λ move. GoesShort move) }
     ensures step { OrNoMemory result (λ move. step_is bytes.new.items move ≡ preceded bytes.old.items (step (model.Octal value more) byte)) }
 {
     if more > 0 && is_octal(byte) {
@@ -190,7 +190,7 @@ fn take_octal(bytes: &mut Vec<u8>, value: u32, more: u32, byte: u8) -> Result<Mo
 
 // One byte more after the last octal digit: their value is one byte.
 fn end_octal(bytes: &mut Vec<u8>, value: u32, byte: u8) -> Result<Move, NoMemory>
-    ensures short { IfOk result (λ move. GoesShort move) }
+    ensures short { OrNoMemory result (λ move. GoesShort move) }
     ensures step { OrNoMemory result (λ move. step_is bytes.new.items move ≡ preceded bytes.old.items (octal_end value byte)) }
 {
     match u8::try_from(value) {

@@ -1,8 +1,9 @@
 // The parts of a call as strace(1) writes it: NAME(ARGUMENTS) = RESULT.
-ghost use Rattle.std.specs.Prelude.{◌≡◌, ◌<◌, ◌≤◌, ℕ, None, IfSome, IsTrue, drop, length, option_map};
-ghost use Rattle.cm_strace_text.specs.Places.{place_is, written_is};
-ghost use Rattle.model_strace.specs.Written as model;
-ghost use Rattle.model_strace.specs.Written.{plain_after, place_after, sign_here, last_sign, parts_of, written_of};
+ghost use Rattle.std.specs.Prelude.{◌≡◌, ◌<◌, ◌≤◌, ℕ, false, IfSome, length, option_map, slice_index};
+ghost use Rattle.std.specs.Option.{option_or};
+ghost use Rattle.cm_strace_text.specs.Places.{sign_from, written_is};
+ghost use Rattle.model_strace.specs.Written.{Plain, After, Quoted, last_sign, parts_of, written_of};
+ghost use Rattle.model_text.specs.Cut.{is_blank};
 
 use crate::blanks::without_front;
 use crate::marks::after_mark;
@@ -14,16 +15,6 @@ use cm_tokens::is_blank;
 pub struct Written<'a> {
     pub inside: &'a [u8],
     pub result: &'a [u8],
-}
-
-// Where a reader of a call is: in no quotes; in none, after a closing parenthesis at that place and blanks alone; in quotes;
-// in quotes, after a backslash.
-#[derive(Clone, Copy)]
-enum Place {
-    Plain,
-    After(usize),
-    Quoted,
-    Escaped,
 }
 
 /// The parts of a call. None exactly where it hasn't the shape of one.
@@ -49,105 +40,89 @@ fn parts_of(text: &[u8]) -> Option<Written<'_>>
 }
 
 // The places of the last closing parenthesis outside of quotes that an equals sign follows, and of that sign.
+#[tactic(auto, using(crate::proofs::SignSteps::quote_begins, crate::proofs::SignSteps::paren_stands, crate::proofs::SignSteps::plain_passes, crate::proofs::SignSteps::none_left))]
 fn last_sign(text: &[u8]) -> Option<(usize, usize)>
-    ensures places { result ≡ last_sign model.Plain 0 text.now }
+    ensures places { result ≡ last_sign Plain 0 text.now }
     ensures within { IfSome result (λ places. (places.0 < places.1) × (places.1 < length text.now)) }
 {
-    let mut place = Place::Plain;
     let mut last = None;
-    let mut at = next_stop(place, text, 0);
+    let mut at = 0;
     while at < text.len() {
-        let byte = text[at];
-        last = sign_here(place, at, byte).or(last);
-        place = place_after(place, at, byte);
-        at = next_stop(place, text, at + 1);
+        match text[at] {
+            b'"' => at = quote_end(text, at + 1),
+            b')' => {
+                let sign = blanks_end(text, at + 1);
+                last = sign_at(text, at, sign).or(last);
+                at = sign;
+            }
+            _ => at += 1,
+        }
     }
     last
 }
 
-// The first place from that one on whose byte isn't passed over, or the text's end.
+// The place after the quote that ends a quoted text, which goes on at that place, or the text's end.
 #[inline]
-#[tactic(auto, using(crate::proofs::Stops::calm_sign))]
-fn next_stop(place: Place, text: &[u8], from: usize) -> usize
+#[tactic(auto, using(crate::proofs::SignSteps::quote_ends, crate::proofs::SignSteps::quoted_passes, crate::proofs::SignSteps::quote_open))]
+fn quote_end(text: &[u8], from: usize) -> usize
     requires { from ≤ length text.now }
-    ensures same { last_sign (place_is place) result (drop result text.now)
-        ≡ last_sign (place_is place) from (drop from text.now) }
+    ensures same { sign_from Quoted from text.now ≡ sign_from Plain result text.now }
     ensures after { from ≤ result }
     ensures within { result ≤ length text.now }
 {
+    let mut at = from;
+    while at < text.len() {
+        match text[at] {
+            b'"' => return at + 1,
+            b'\\' => at = escape_end(text, at),
+            _ => at += 1,
+        }
+    }
+    text.len()
+}
+
+// The place after a backslash in quotes and the byte that follows it, where one does.
+#[inline]
+#[tactic(auto, using(crate::proofs::SignSteps::escape_stands, crate::proofs::SignSteps::slash_ends))]
+fn escape_end(text: &[u8], at: usize) -> usize
+    requires within { at < length text.now }
+    requires slash { slice_index text.now at ≡ 92 }
+    ensures same { sign_from Quoted at text.now ≡ sign_from Quoted result text.now }
+    ensures after { at < result }
+    ensures within { result ≤ length text.now }
+{
+    if at + 1 < text.len() { at + 2 } else { at + 1 }
+}
+
+// The first place from that one on which has no blank, or the text's end.
+#[inline]
+#[tactic(auto, using(crate::proofs::SignSteps::blank_passes))]
+fn blanks_end(text: &[u8], from: usize) -> usize
+    requires { from ≤ length text.now }
+    ensures same { (paren : ℕ) → sign_from (After paren) from text.now ≡ sign_from (After paren) result text.now }
+    ensures after { from ≤ result }
+    ensures within { result ≤ length text.now }
+    ensures ended { result < length text.now → is_blank (slice_index text.now result) ≡ false }
+{
     for at in from..text.len() {
-        if !is_calm(place, text[at]) {
+        if !is_blank(text[at]) {
             return at;
         }
     }
     text.len()
 }
 
-// The byte leaves the reader where it is, and is no sign.
+// The places of a parenthesis and of the first byte after it that is no blank, where that is the sign.
 #[inline]
-fn is_calm(place: Place, byte: u8) -> bool
-    ensures stays { IsTrue result → (at : ℕ) → place_after (place_is place) at byte ≡ place_is place }
-    ensures no_sign { IsTrue result → (at : ℕ) → sign_here (place_is place) at byte ≡ None }
+#[tactic(auto, using(crate::proofs::SignSteps::sign_stands, crate::proofs::SignSteps::no_sign_stands, crate::proofs::SignSteps::no_sign_ends))]
+fn sign_at(text: &[u8], paren: usize, at: usize) -> Option<(usize, usize)>
+    requires { at < length text.now → is_blank (slice_index text.now at) ≡ false }
+    ensures same { sign_from (After paren) at text.now ≡ option_or (sign_from Plain at text.now) result }
+    ensures places { IfSome result (λ places. (places.0 ≡ paren) × (places.1 ≡ at) × (at < length text.now)) }
 {
-    match place {
-        Place::Plain => byte != b'"' && byte != b')',
-        Place::Quoted => byte != b'"' && byte != b'\\',
-        Place::After(_) | Place::Escaped => false,
-    }
-}
-
-// These places, where the byte at a place is the sign.
-#[inline]
-fn sign_here(place: Place, at: usize, byte: u8) -> Option<(usize, usize)>
-    ensures { result ≡ sign_here (place_is place) at byte }
-{
-    match place {
-        Place::After(paren) => if byte == b'=' {
-            Some((paren, at))
-        } else {
-            None
-        },
-        _ => None,
-    }
-}
-
-// Where the reader is after the byte at a place.
-#[inline]
-fn place_after(place: Place, at: usize, byte: u8) -> Place
-    ensures { place_is result ≡ place_after (place_is place) at byte }
-{
-    match place {
-        Place::Plain => plain_after(at, byte),
-        Place::After(_) => if is_blank(byte) {
-            place
-        } else {
-            plain_after(at, byte)
-        },
-        Place::Quoted => quoted_after(byte),
-        Place::Escaped => Place::Quoted,
-    }
-}
-
-// The same in no quotes, after a byte that is no blank.
-#[inline]
-fn plain_after(at: usize, byte: u8) -> Place
-    ensures { place_is result ≡ plain_after at byte }
-{
-    match byte {
-        b'"' => Place::Quoted,
-        b')' => Place::After(at),
-        _ => Place::Plain,
-    }
-}
-
-// The same in quotes.
-#[inline]
-fn quoted_after(byte: u8) -> Place
-    ensures { (at : ℕ) → place_is result ≡ place_after model.Quoted at byte }
-{
-    match byte {
-        b'"' => Place::Plain,
-        b'\\' => Place::Escaped,
-        _ => Place::Quoted,
+    if at < text.len() && text[at] == b'=' {
+        Some((paren, at))
+    } else {
+        None
     }
 }

@@ -1,15 +1,14 @@
-use Rattle.std.proofs.Common.{◌≡◌, ◌<◌, ◌≤◌, ◌-◌, IfSome, drop, length}
+use Rattle.std.proofs.Common.{◌≡◌, ◌<◌, ◌≤◌, ◌-◌, IfSome, length}
 use Rattle.std.specs.Option.{option_or}
 use Rattle.cm_strace_text.proofs.written.last_sign.Given as goal
-use Rattle.cm_strace_text.specs.Places.{place_is, IsBefore}
+use Rattle.cm_strace_text.specs.Places.{sign_from}
 use Rattle.model_strace.specs.Written.{Plain, last_sign}
 
 -- the last places in what is left, or the last ones so far, are those in all
 abbrev pub invariant-loop-at : goal.invariant-loop-at
 invariant-loop-at l = record {
-  places : option_or (last_sign (place_is l.place) l.at (drop l.at l.text)) l.last ≡ last_sign Plain 0 l.text;
-  within : IfSome l.last (λ places. (places.0 < places.1) × (places.1 < l.at));
-  before : IsBefore l.place l.at;
+  places : option_or (sign_from Plain l.at l.text) l.last ≡ last_sign Plain 0 l.text;
+  within : IfSome l.last (λ places. (places.0 < places.1) × (places.1 < length l.text));
   inside : l.at ≤ length l.text;
 }
 
