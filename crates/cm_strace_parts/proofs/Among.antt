@@ -41,15 +41,15 @@ filter_none keeps [] all = refl
 filter_none keeps (x ∷ xs) all = cond-false (keeps x) (x ∷ filter keeps xs) (filter keeps xs) all.0
     ∙ filter_none keeps xs all.1
 
--- what is left behind those that are kept
-pub filter_behind : {A : Type 0} (keeps : A → Bool) (front xs : List A) → AllSay keeps true front
+-- what is left after those that are kept
+pub filter_after : {A : Type 0} (keeps : A → Bool) (front xs : List A) → AllSay keeps true front
     → filter keeps (front ++ xs) ≡ front ++ filter keeps xs
-filter_behind keeps [] xs all = refl
-filter_behind keeps (x ∷ front) xs all =
+filter_after keeps [] xs all = refl
+filter_after keeps (x ∷ front) xs all =
     cond-true (keeps x) (x ∷ filter keeps (front ++ xs)) (filter keeps (front ++ xs)) all.0
-    ∙ ap (λ l. x ∷ l) (filter_behind keeps front xs all.1)
+    ∙ ap (λ l. x ∷ l) (filter_after keeps front xs all.1)
 
--- what is left behind those that aren't
+-- what is left after those that aren't
 pub filter_past : {A : Type 0} (keeps : A → Bool) (front xs : List A) → AllSay keeps false front
     → filter keeps (front ++ xs) ≡ filter keeps xs
 filter_past keeps [] xs none = refl
@@ -72,7 +72,7 @@ filter_before keeps (x ∷ xs) back all =
 pub filter_among : {A : Type 0} (keeps : A → Bool) (front xs back : List A) → AllSay keeps true front
     → AllSay keeps true back → filter keeps (front ++ (xs ++ back)) ≡ front ++ (filter keeps xs ++ back)
 filter_among keeps front xs back all every =
-    filter_behind keeps front (xs ++ back) all ∙ ap (λ l. front ++ l) (filter_before keeps xs back every)
+    filter_after keeps front (xs ++ back) all ∙ ap (λ l. front ++ l) (filter_before keeps xs back every)
 
 -- a filter that keeps none of those around, and all others, leaves these
 pub filter_only : {A : Type 0} (keeps : A → Bool) (front xs back : List A) → AllSay keeps false front
@@ -120,7 +120,7 @@ filter_changed keeps left change (x ∷ xs) same =
     ]) (same x)
 
 -- ---- what is found
--- the same is found behind things that aren't it
+-- the same is found after things that aren't it
 pub find_past : {A : Type 0} (same : A → Bool) (front xs : List A) → AllSay same false front
     → find same (front ++ xs) ≡ find same xs
 find_past same [] xs none = refl
@@ -159,14 +159,14 @@ any_none test [] none = refl
 any_none test (x ∷ xs) none = ap (λ b. b || list_any test xs) none.0 ∙ any_none test xs none.1
 
 -- ---- what is put
--- a thing is put behind those that come before it
-pub put_behind : {A : Type 0} (before : A → A → Bool) (new : A) (front xs : List A)
+-- a thing is put after those that come before it
+pub put_after : {A : Type 0} (before : A → A → Bool) (new : A) (front xs : List A)
     → AllSay (λ x. before x new) true front → AllSay (before new) false front
     → put before new (front ++ xs) ≡ front ++ put before new xs
-put_behind before new [] xs lower apart = refl
-put_behind before new (x ∷ front) xs lower apart =
+put_after before new [] xs lower apart = refl
+put_after before new (x ∷ front) xs lower apart =
     cond-false (before new x) _ _ apart.0 ∙ cond-true (before x new) _ _ lower.0
-    ∙ ap (λ l. x ∷ l) (put_behind before new front xs lower.1 apart.1)
+    ∙ ap (λ l. x ∷ l) (put_after before new front xs lower.1 apart.1)
 
 -- a thing is put before those that come after it
 pub put_before : {A : Type 0} (before : A → A → Bool) (new : A) (xs back : List A) → AllSay (before new) true back
@@ -190,7 +190,7 @@ pub put_among : {A : Type 0} (before : A → A → Bool) (new : A) (front xs bac
     → AllSay (λ x. before x new) true front → AllSay (before new) false front → AllSay (before new) true back
     → put before new (front ++ (xs ++ back)) ≡ front ++ (put before new xs ++ back)
 put_among before new front xs back lower apart higher =
-    put_behind before new front (xs ++ back) lower apart
+    put_after before new front (xs ++ back) lower apart
     ∙ ap (λ l. front ++ l) (put_before before new xs back higher)
 
 -- changed things are put as they are where the change keeps the order
@@ -212,17 +212,17 @@ put_changed before later change new (x ∷ xs) same =
     ]) (same new x)
 
 -- ---- more of them
--- Each of the new ones comes behind all that stand there.
+-- Each of the new ones comes after all that stand there.
 abbrev pub Follow : {A : Type 0} → (A → A → Bool) → List A → List A → Type 0
 Follow before front [] = Unit {0}
 Follow before front (new ∷ news) = AllSay (λ x. before x new) true front × Follow before front news
 
 follow_more : {A : Type 0} (before : A → A → Bool) (new : A) (front news : List A) → AllSay (before new) true news
     → Follow before front news → Follow before (front ++ new ∷ []) news
-follow_more before new front [] first behind = tt
-follow_more before new front (next ∷ news) first behind = (
-  all_append (λ x. before x next) true front (new ∷ []) behind.0 (first.0, tt),
-  follow_more before new front news first.1 behind.1,
+follow_more before new front [] first after = tt
+follow_more before new front (next ∷ news) first after = (
+  all_append (λ x. before x next) true front (new ∷ []) after.0 (first.0, tt),
+  follow_more before new front news first.1 after.1,
 )
 
 follow_nothing : {A : Type 0} (before : A → A → Bool) (news : List A) → Follow before [] news
@@ -240,10 +240,10 @@ put_last before new (x ∷ front) apart lower =
 put_all_last : {A : Type 0} (before : A → A → Bool) (news front : List A)
     → ((x y : A) → before x y ≡ true → before y x ≡ false) → Ascends before news → Follow before front news
     → put_all before news front ≡ front ++ news
-put_all_last before [] front apart up behind = sym (append-nil front)
-put_all_last before (new ∷ news) front apart up behind =
-    ap (put_all before news) (put_last before new front apart behind.0)
-    ∙ put_all_last before news (front ++ new ∷ []) apart up.1 (follow_more before new front news up.0 behind.1)
+put_all_last before [] front apart up after = sym (append-nil front)
+put_all_last before (new ∷ news) front apart up after =
+    ap (put_all before news) (put_last before new front apart after.0)
+    ∙ put_all_last before news (front ++ new ∷ []) apart up.1 (follow_more before new front news up.0 after.1)
     ∙ append_assoc front (new ∷ []) news
 
 -- things in their order are put as they are where there are no other ones

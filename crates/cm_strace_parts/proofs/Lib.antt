@@ -1,5 +1,6 @@
 -- Lemmas of this crate, by topic.
 pub mod Order
+pub mod Parted
 pub mod Orders
 pub mod Among
 pub mod Lists

@@ -1,5 +1,6 @@
 -- The descriptors of a process among those of all.
-use Rattle.std.proofs.Common.{◌≡◌, ℕ, zero, suc, ◌<◌, ◌+◌, take, get_or, ◌==◌, Bool, true, false, not, cond, filter, find, map, nat_lt, length}
+use Rattle.std.proofs.Common.{◌≡◌, ℕ, zero, suc, ◌<◌, ◌+◌, ◌==◌, Bool, true, false, not, cond, nat_lt}
+use Rattle.std.proofs.Common.{take, get_or, filter, find, map, length}
 use Rattle.std.proofs.Common.{List, [], ◌∷◌, ◌++◌, refl, sym, ◌∙◌, ap, arith, append_assoc}
 use Rattle.std.specs.Prelude.{option_map}
 use Rattle.std.specs.List.{list_any, remove}
@@ -9,14 +10,14 @@ use Rattle.cm_strace_parts.specs.Lists.{Fd, Files, of_process, descriptors_in, i
 use Rattle.cm_strace_parts.specs.Lists.{fds_of}
 use Rattle.cm_strace_parts.specs.Order.{AllSay, Ascends, is_at}
 use Rattle.cm_strace_parts.proofs.Among.{all_append, all_changed, filter_among, filter_only, filter_changed, find_past}
-use Rattle.cm_strace_parts.proofs.Among.{find_before, find_changed, any_past, any_none, put_among, put_changed, filter_past, filter_behind}
+use Rattle.cm_strace_parts.proofs.Among.{find_before, find_changed, any_past, any_none, put_among, put_changed, filter_past, filter_after}
 use Rattle.cm_strace_parts.proofs.Among.{put_all_among, put_all_changed}
 use Rattle.cm_strace_parts.proofs.Order.{all_along}
 use Rattle.model_strace.specs.Parts.{Descriptor, is_of, is_descriptor, copied_to, descriptor_before}
 use Rattle.model_strace.specs.Parts.{put, put_all}
 
 -- ---- where they stand
--- How the descriptors of a process stand: behind those of lower pids, and before those of higher ones. Other ones of the
+-- How the descriptors of a process stand: after those of lower pids, and before those of higher ones. Other ones of the
 -- process stand in their place.
 pub record Stand (pid : ℕ) (fs : List Files) : Type 0 where
   pub front : List Descriptor
@@ -238,7 +239,7 @@ others_in pid (f ∷ fs) =
     ≡ filter (λ d. not (is_of pid d)) (own ++ descriptors_in fs)) [
       | true ↦ λ h. others_in pid fs ∙ sym (filter_past (λ d. not (is_of pid d)) own (descriptors_in fs)
           (all_changed (λ d. not (is_of pid d)) false (of_process f.pid) f.fds (λ fd. grind (arith, h))))
-      | false ↦ λ h. ap (λ l. own ++ l) (others_in pid fs) ∙ sym (filter_behind (λ d. not (is_of pid d)) own
+      | false ↦ λ h. ap (λ l. own ++ l) (others_in pid fs) ∙ sym (filter_after (λ d. not (is_of pid d)) own
           (descriptors_in fs) (all_changed (λ d. not (is_of pid d)) true (of_process f.pid) f.fds (λ fd. grind (arith, h))))
     ]) refl
 

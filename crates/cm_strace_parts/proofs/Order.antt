@@ -2,7 +2,7 @@
 use Rattle.std.proofs.Common.{◌≡◌, ℕ, zero, suc, ◌<◌, ◌≤◌, Bool, true, false, not, cond, filter, find, map, length}
 use Rattle.std.proofs.Common.{List, []}
 use Rattle.std.proofs.Common.{◌∷◌, Some, None, refl, sym, ◌∙◌, ap, arith, get_or, slice_set}
-use Rattle.std.specs.Prelude.{Result, Ok, Err, is_ok, IsOk}
+use Rattle.std.specs.Prelude.{Result, Ok, Err, IfOk, IsOk}
 use Rattle.std.specs.List.{insert, remove}
 use Rattle.std.specs.List.Sorted.{IsPartitionPoint, IsPartitionedBy}
 use Rattle.std.proofs.lemmas.Bool.{cond-true, cond-false, not_from_true, not_from_false}
@@ -276,7 +276,7 @@ put_between before below same new (x ∷ xs) (suc at) place cut isnt =
     (place.lower x cut.0).0
     ∙ cond-true (before x new) (x ∷ put before new xs) (new ∷ xs) (place.lower x cut.0).1)
 
--- what was inserted where there was room
-pub inserted : {A T E : Type 0} (r : Result T E) (xs ys zs : List A) → zs ≡ cond (is_ok r) xs ys → IsOk r → zs ≡ xs
-inserted (Ok x) xs ys zs is ok = is
-inserted (Err e) xs ys zs is ok = absurd (cc)
+-- what holds if there is an answer holds where there is one
+pub of_ok : {T E : Type 0} (r : Result T E) (P : Type 0) → IfOk r (λ _. P) → IsOk r → P
+of_ok (Ok x) P is ok = is
+of_ok (Err e) P is ok = absurd (cc)

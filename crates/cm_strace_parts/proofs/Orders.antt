@@ -1,35 +1,59 @@
--- The orders of processes, kept texts, descriptors and their lists, and the places in them.
-use Rattle.std.proofs.Common.{◌≡◌, ℕ, Bool, true, false, List, [], ◌∷◌, map, arith}
-use Rattle.cm_strace_parts.specs.Below.{task_below, kept_below}
-use Rattle.cm_strace_parts.specs.Lists.{Fd, Files, is_fd, fd_before, fd_below, is_files, files_before, files_below}
-use Rattle.cm_strace_parts.specs.Order.{AllSay, Ascends, IsOrder, HasPlace, IsPlaceOf}
-use Rattle.cm_strace_parts.proofs.Order.{all_along}
+-- The orders of processes, descriptors and their lists, and the places in them.
+use Rattle.std.proofs.Common.{◌≡◌, ℕ, Bool, true, false, List, [], ◌∷◌, map, slice_set, arith}
+use Rattle.std.specs.List.{insert}
+use Rattle.cm_strace_parts.specs.Lists.{Fd, Files, fd_before, is_files, files_before, files_below}
+use Rattle.cm_strace_parts.specs.Order.{AllSay, Ascends, IsCut, is_at, IsOrder, HasPlace, IsPlaceOf}
+use Rattle.cm_strace_parts.specs.Order.{before_by, below_by, has_number}
+use Rattle.cm_strace_parts.proofs.Order.{all_along, put_instead, put_between, put_ascends}
 use Rattle.model_cred.specs.Process as model
 use Rattle.model_cred.specs.Process.{Process}
-use Rattle.model_strace.specs.Parts.{Task, first_task, is_task, task_before, moved_task, sharing_task, Kept, is_kept}
-use Rattle.model_strace.specs.Parts.{kept_before}
+use Rattle.model_strace.specs.Parts.{Task, first_task, task_before, moved_task, sharing_task, put}
 
--- ---- processes
-pub task_order : IsOrder task_before
-task_order = record {
+-- ---- by numbers
+pub by_order : {A : Type 0} (number : A → ℕ) → IsOrder (before_by number)
+by_order number = record {
   further = λ x y z h g. grind (arith, h, g);
   alike = λ x y z h g l. grind (arith, h, g, l);
 }
 
-pub task_place : (pid : ℕ) → HasPlace task_before (task_below pid) (is_task pid)
-task_place pid = record {
+pub by_place : {A : Type 0} (number : A → ℕ) (n : ℕ) → HasPlace (before_by number) (below_by number n)
+    (has_number number n)
+by_place number n = record {
   closed = λ x y h g. grind (arith, h, g);
   apart = λ x h. grind (arith, h);
   beyond = λ x y h g. grind (arith, h, g);
 }
 
-pub task_place_of : (new : Task) (pid : ℕ) → pid ≡ new.pid → IsPlaceOf task_before (task_below pid) (is_task pid) new
-task_place_of new pid same = record {
+pub by_place_of : {A : Type 0} (number : A → ℕ) (new : A) (n : ℕ) → n ≡ number new
+    → IsPlaceOf (before_by number) (below_by number n) (has_number number n) new
+by_place_of number new n same = record {
   lower = λ x h. (grind (arith, h, same), grind (arith, h, same));
   equal = λ x h. (grind (arith, h, same), grind (arith, h, same));
   higher = λ x h g. grind (arith, h, g, same);
 }
 
+-- a thing is put instead of the one of its number
+pub put_instead_by : {A : Type 0} (number : A → ℕ) (new : A) (n : ℕ) (xs : List A) (at : ℕ) → n ≡ number new
+    → IsCut (below_by number n) xs at → is_at (has_number number n) xs at ≡ true
+    → slice_set xs at new ≡ put (before_by number) new xs
+put_instead_by number new n xs at same cut is =
+    put_instead (before_by number) (below_by number n) (has_number number n) new xs at (by_place_of number new n same)
+    cut is
+
+-- a thing is put before the one at its place
+pub put_between_by : {A : Type 0} (number : A → ℕ) (new : A) (n : ℕ) (xs : List A) (at : ℕ) → n ≡ number new
+    → IsCut (below_by number n) xs at → is_at (has_number number n) xs at ≡ false
+    → insert xs at new ≡ put (before_by number) new xs
+put_between_by number new n xs at same cut isnt =
+    put_between (before_by number) (below_by number n) (has_number number n) new xs at (by_place_of number new n same)
+    cut isnt
+
+-- with one more in its place they ascend
+pub put_ascends_by : {A : Type 0} (number : A → ℕ) (new : A) (xs : List A) → Ascends (before_by number) xs
+    → Ascends (before_by number) (put (before_by number) new xs)
+put_ascends_by number new xs up = put_ascends (before_by number) new xs (by_order number) up
+
+-- ---- processes
 -- a change of its user namespace leaves a process in its place
 pub moved_keeps : (pid space : ℕ) (x y : Task) → task_before (moved_task pid space x) (moved_task pid space y)
     ≡ task_before x y
@@ -39,6 +63,9 @@ moved_keeps pid space x y = grind arith
 pub sharing_keeps : (pid : ℕ) (shares : Bool) (x y : Task) → task_before (sharing_task pid shares x)
     (sharing_task pid shares y) ≡ task_before x y
 sharing_keeps pid shares x y = grind arith
+
+task_order : IsOrder task_before
+task_order = by_order (λ (task : Task). task.pid)
 
 -- a process comes before the later ones of a world's start
 lower_first : (p : Process) (ps : List Process) → model.Ascends (p ∷ ps)
@@ -57,70 +84,20 @@ first_ascends [] up = tt
 first_ascends (p ∷ []) up = (tt, tt)
 first_ascends (p ∷ q ∷ ps) up = (lower_first p (q ∷ ps) up, first_ascends (q ∷ ps) up.1)
 
--- ---- calls that aren't finished
-pub kept_order : IsOrder kept_before
-kept_order = record {
-  further = λ x y z h g. grind (arith, h, g);
-  alike = λ x y z h g l. grind (arith, h, g, l);
-}
-
-pub kept_place : (pid : ℕ) → HasPlace kept_before (kept_below pid) (is_kept pid)
-kept_place pid = record {
-  closed = λ x y h g. grind (arith, h, g);
-  apart = λ x h. grind (arith, h);
-  beyond = λ x y h g. grind (arith, h, g);
-}
-
-pub kept_place_of : (new : Kept) (pid : ℕ) → pid ≡ new.pid → IsPlaceOf kept_before (kept_below pid) (is_kept pid) new
-kept_place_of new pid same = record {
-  lower = λ x h. (grind (arith, h, same), grind (arith, h, same));
-  equal = λ x h. (grind (arith, h, same), grind (arith, h, same));
-  higher = λ x h g. grind (arith, h, g, same);
-}
-
--- ---- the descriptors of a process
+-- ---- the descriptors
 pub fd_order : IsOrder fd_before
-fd_order = record {
-  further = λ x y z h g. grind (arith, h, g);
-  alike = λ x y z h g l. grind (arith, h, g, l);
-}
-
-pub fd_place : (number : ℕ) → HasPlace fd_before (fd_below number) (is_fd number)
-fd_place number = record {
-  closed = λ x y h g. grind (arith, h, g);
-  apart = λ x h. grind (arith, h);
-  beyond = λ x y h g. grind (arith, h, g);
-}
-
-pub fd_place_of : (new : Fd) (number : ℕ) → number ≡ new.number → IsPlaceOf fd_before (fd_below number) (is_fd number) new
-fd_place_of new number same = record {
-  lower = λ x h. (grind (arith, h, same), grind (arith, h, same));
-  equal = λ x h. (grind (arith, h, same), grind (arith, h, same));
-  higher = λ x h g. grind (arith, h, g, same);
-}
+fd_order = by_order (λ (fd : Fd). fd.number)
 
 -- of two in order, the other one doesn't come first
 pub fd_apart : (x y : Fd) → fd_before x y ≡ true → fd_before y x ≡ false
 fd_apart x y h = grind (arith, h)
 
--- ---- those of all processes
 pub files_order : IsOrder files_before
-files_order = record {
-  further = λ x y z h g. grind (arith, h, g);
-  alike = λ x y z h g l. grind (arith, h, g, l);
-}
+files_order = by_order (λ (f : Files). f.pid)
 
 pub files_place : (pid : ℕ) → HasPlace files_before (files_below pid) (is_files pid)
-files_place pid = record {
-  closed = λ x y h g. grind (arith, h, g);
-  apart = λ x h. grind (arith, h);
-  beyond = λ x y h g. grind (arith, h, g);
-}
+files_place = by_place (λ (f : Files). f.pid)
 
 pub files_place_of : (new : Files) (pid : ℕ) → pid ≡ new.pid
     → IsPlaceOf files_before (files_below pid) (is_files pid) new
-files_place_of new pid same = record {
-  lower = λ x h. (grind (arith, h, same), grind (arith, h, same));
-  equal = λ x h. (grind (arith, h, same), grind (arith, h, same));
-  higher = λ x h g. grind (arith, h, g, same);
-}
+files_place_of = by_place_of (λ (f : Files). f.pid)

@@ -4,8 +4,8 @@ use Rattle.cm_strace_parts.specs.Order.{Ascends}
 use Rattle.model_strace.specs.Files.{Followed}
 use Rattle.model_strace.specs.Parts.{Descriptor}
 
--- A descriptor of a process: its number, the file that it is for, the user namespace of that file's process at the open,
--- and whether an execve closes it.
+-- A descriptor of a process: its number, the file that it is for, the user namespace of that file's process at the
+-- open, and whether an execve closes it.
 pub record Fd : Type 0 where
   pub number : ℕ
   pub file : Followed
@@ -45,10 +45,6 @@ is_fd number fd = fd.number == number
 -- the descriptor comes before the other one
 abbrev pub fd_before : Fd → Fd → Bool
 fd_before fd other = nat_lt fd.number other.number
-
--- the descriptor has a lower number
-abbrev pub fd_below : ℕ → Fd → Bool
-fd_below number fd = nat_lt fd.number number
 
 -- they are those of that process
 abbrev pub is_files : ℕ → Files → Bool

@@ -1,6 +1,6 @@
 // A descriptor that is followed.
 use cm_base::{Pid, SpaceId};
-use cm_strace_text::Followed;
+use cm_strace_values::Followed;
 use std::marker::Model;
 
 /// A descriptor that is followed: whose it is, its number, the file that it is for, the user namespace of that file's
@@ -15,7 +15,7 @@ pub struct Descriptor {
 }
 
 impl Model for Descriptor {
-    ghost use Rattle.cm_strace_text.specs.Paths.{followed_is};
+    ghost use Rattle.cm_strace_values.specs.Paths.{followed_is};
     ghost use Rattle.model_strace.specs.Parts as model;
 
     ghost Value = { model.Descriptor };

@@ -1,18 +1,19 @@
 // The descriptors that are followed, in a list for each process that has some, by ascending pids. A copy shares the
 // lists, and so does a child that has copies of its parent's: each is copied once it is changed.
-ghost use Rattle.std.specs.Prelude.{◌≡◌, ◌==◌, ◌∷◌, [], ◌<◌, false, find, filter, map, not, length, IfSome, IfNone};
+ghost use Rattle.std.specs.Prelude.{◌≡◌, ◌==◌, ◌∷◌, [], find, filter, map, not, length, IfSome, IfNone};
 ghost use Rattle.std.specs.Prelude.{if◌then◌else◌, option_map};
 ghost use Rattle.std.specs.List.{list_any};
 ghost use Rattle.cm_base.specs.Outcome.{OrNoMemory, UnchangedOnErr};
-ghost use Rattle.cm_strace_parts.specs.Lists.{is_fd, fd_before, is_files, files_before, files_below};
+ghost use Rattle.cm_strace_parts.specs.Lists.{is_fd, fd_before, files_before};
 ghost use Rattle.cm_strace_parts.specs.Lists.{fds_of, descriptors_in, ListsInOrder};
-ghost use Rattle.cm_strace_parts.specs.Order.{Ascends, AllSay, IsCut, StandsAt, is_at};
+ghost use Rattle.cm_strace_parts.specs.Order.{Ascends, is_at};
 ghost use Rattle.model_strace.specs.Parts.{is_descriptor, is_of, is_closed_at_exec, copied_to, descriptor_before};
 ghost use Rattle.model_strace.specs.Parts.{put, put_all};
 
 use crate::descriptor::Descriptor;
-use crate::fd;
 use crate::fd::Fd;
+use crate::search::Numbered;
+use crate::{fd, ordered};
 use cm_base::{NoMemory, Pid};
 use std::alloc::Global;
 use std::marker::Model;
@@ -77,20 +78,6 @@ impl Files {
         Ok(self.fds.clone()?)
     }
 
-    // They are those of that process.
-    fn is(&self, pid: Pid) -> bool
-        ensures { result ≡ is_files pid self.now }
-    {
-        self.pid == pid
-    }
-
-    // They are those of a process with a lower pid.
-    fn is_below(&self, pid: Pid) -> bool
-        ensures { result ≡ files_below pid self.now }
-    {
-        self.pid.number() < pid.number()
-    }
-
     // How many there are.
     fn len(&self) -> usize
         ensures { result ≡ length self.now.fds }
@@ -113,10 +100,10 @@ impl Files {
         ensures unchanged { UnchangedOnErr result self.new self.old }
     {
         match Rc::get_mut(&mut self.fds) {
-            Some(list) => fd::put(list, new)?,
+            Some(list) => ordered::put(list, new)?,
             None => {
                 let mut list = fd::copy_list(alloc, &self.fds)?;
-                fd::put(&mut list, new)?;
+                ordered::put(&mut list, new)?;
                 self.fds = Rc::new(alloc, list)?;
             }
         }
@@ -153,14 +140,14 @@ impl Files {
             ≡ record self.old { fds = filter (λ fd. not (is_fd number fd)) self.old.fds }) }
         ensures unchanged { UnchangedOnErr result self.new self.old }
     {
-        if fd::of_number(&self.fds, number).is_none() {
+        if ordered::get(&self.fds, number).is_none() {
             return Ok(());
         }
         match Rc::get_mut(&mut self.fds) {
-            Some(list) => fd::remove(list, number),
+            Some(list) => ordered::remove(list, number),
             None => {
                 let mut list = fd::copy_list(alloc, &self.fds)?;
-                fd::remove(&mut list, number);
+                ordered::remove(&mut list, number);
                 self.fds = Rc::new(alloc, list)?;
             }
         }
@@ -190,6 +177,14 @@ impl Files {
     }
 }
 
+impl Numbered for Files {
+    ghost number = { λ files. files.pid };
+
+    fn number(&self) -> u64 {
+        u64::from(self.pid.number())
+    }
+}
+
 // ---- those of all processes
 
 // The same, with the same lists. Its only error is want of memory.
@@ -204,42 +199,13 @@ pub(crate) fn copy_list(alloc: Global, list: &[Files]) -> Result<Vec<Files>, NoM
     Ok(made)
 }
 
-// The place of a pid: the processes before it have lower ones.
-fn place(list: &[Files], pid: Pid) -> usize
-    requires { Ascends files_before list.now }
-    ensures { IsCut (files_below pid) list.now result }
-{
-    list.partition_point(|files| files.is_below(pid))
-}
-
-// The descriptors of the process stand at the place.
-fn is_at(list: &[Files], at: usize, pid: Pid) -> bool
-    ensures { result ≡ is_at (is_files pid) list.now at }
-{
-    match list.get(at) {
-        Some(files) => files.is(pid),
-        None => false,
-    }
-}
-
-// The place of the process, where it has descriptors.
-fn find(list: &[Files], pid: Pid) -> Option<usize>
-    requires { Ascends files_before list.now }
-    ensures found { IfSome result (λ at. StandsAt (is_files pid) list.now at) }
-    ensures within { IfSome result (λ at. at < length list.now) }
-    ensures none { IfNone result (AllSay (is_files pid) false list.now) }
-{
-    let at = place(list, pid);
-    if is_at(list, at, pid) { Some(at) } else { None }
-}
-
 // The descriptors of a process, where it has a list.
 fn of_process(list: &[Files], pid: Pid) -> Option<&Files>
     requires { Ascends files_before list.now }
     ensures some { IfSome result (λ f. f.now.fds ≡ fds_of pid list.now) }
     ensures none { IfNone result (fds_of pid list.now ≡ []) }
 {
-    match find(list, pid) {
+    match ordered::find(list, pid) {
         Some(at) => Some(&list[at]),
         None => None,
     }
@@ -251,7 +217,7 @@ fn fd_of(list: &[Files], pid: Pid, number: u64) -> Option<&Fd>
     ensures { option_map (λ fd. fd.now) result ≡ find (is_fd number) (fds_of pid list.now) }
 {
     match of_process(list, pid) {
-        Some(files) => fd::of_number(files.list(), number),
+        Some(files) => ordered::get(files.list(), number),
         None => None,
     }
 }
@@ -310,8 +276,8 @@ fn put_fd(list: &mut Vec<Files>, alloc: Global, pid: Pid, new: Fd) -> Result<(),
         (record { pid = pid; fds = put fd_before new (fds_of pid list.old.items) }) list.old.items) }
     ensures unchanged { UnchangedOnErr result list.new.items list.old.items }
 {
-    let at = place(list, pid);
-    if is_at(list, at, pid) {
+    let at = ordered::place(list, pid);
+    if ordered::is_at(list, at, pid) {
         list[at].put(alloc, new)?;
     } else {
         let files = Files::one(alloc, pid, new)?;
@@ -380,8 +346,8 @@ fn put_fds(
         (record { pid = pid; fds = put_all fd_before news.value.items (fds_of pid list.old.items) }) list.old.items) }
     ensures unchanged { UnchangedOnErr result list.new.items list.old.items }
 {
-    let at = place(list, pid);
-    if is_at(list, at, pid) {
+    let at = ordered::place(list, pid);
+    if ordered::is_at(list, at, pid) {
         list[at].put_all(alloc, news)?;
     } else {
         list.insert(at, Files::of(pid, news))?;
@@ -402,8 +368,8 @@ pub(crate) fn forget(
     ensures unchanged { UnchangedOnErr result list.new.items list.old.items }
     ensures ordered { ListsInOrder list.new.items }
 {
-    let at = place(list, pid);
-    if is_at(list, at, pid) {
+    let at = ordered::place(list, pid);
+    if ordered::is_at(list, at, pid) {
         list[at].forget(alloc, number)?;
         drop_empty(list, at);
     }
@@ -418,8 +384,8 @@ pub(crate) fn execute(list: &mut Vec<Files>, alloc: Global, pid: Pid) -> Result<
     ensures unchanged { UnchangedOnErr result list.new.items list.old.items }
     ensures ordered { ListsInOrder list.new.items }
 {
-    let at = place(list, pid);
-    if is_at(list, at, pid) {
+    let at = ordered::place(list, pid);
+    if ordered::is_at(list, at, pid) {
         list[at].execute(alloc)?;
         drop_empty(list, at);
     }
@@ -453,10 +419,5 @@ pub(crate) fn remove(list: &mut Vec<Files>, pid: Pid)
     ensures items { descriptors_in list.new.items ≡ filter (λ d. not (is_of pid d)) (descriptors_in list.old.items) }
     ensures ordered { ListsInOrder list.new.items }
 {
-    match find(list, pid) {
-        Some(at) => {
-            list.remove(at);
-        }
-        None => {}
-    }
+    ordered::remove(list, pid);
 }

@@ -7,7 +7,9 @@ mod descriptor;
 mod fd;
 mod files;
 mod kept;
+mod ordered;
 mod parts;
+mod search;
 mod task;
 mod written;
 

@@ -12,7 +12,7 @@ use crate::descriptor::Descriptor;
 use crate::files::Files;
 use crate::kept::Kept;
 use crate::task::Task;
-use crate::{files, kept, task};
+use crate::{files, kept, ordered, task};
 use cm_base::{NoMemory, Pid, SpaceId};
 use cm_world::World;
 use std::alloc::Global;
@@ -29,7 +29,7 @@ pub struct Parts {
 }
 
 impl Model for Parts {
-    ghost use Rattle.cm_strace_parts.specs.Below.{InOrder};
+    ghost use Rattle.cm_strace_parts.specs.InOrder.{InOrder};
     ghost use Rattle.cm_strace_parts.specs.Lists.{descriptors_in};
     ghost use Rattle.model_strace.specs.Parts as model;
 
@@ -88,7 +88,7 @@ impl Parts {
     pub fn task_of(&self, pid: Pid) -> Option<&Task>
         ensures { option_map (λ task. task.now) result ≡ task_of pid self.now }
     {
-        task::task_of(&self.tasks, pid)
+        ordered::get(&self.tasks, pid)
     }
 
     /// The pid is known.
@@ -122,7 +122,7 @@ impl Parts {
     pub fn kept_of(&self, pid: Pid) -> Option<&[u8]>
         ensures { option_map (λ text. text.now) result ≡ kept_of pid self.now }
     {
-        match kept::kept_of(&self.kept, pid) {
+        match ordered::get(&self.kept, pid) {
             Some(kept) => Some(kept.text()),
             None => None,
         }
@@ -173,7 +173,7 @@ impl Parts {
     pub fn forget_kept(&mut self, pid: Pid)
         ensures { self.new ≡ without_kept pid self.old }
     {
-        kept::remove(&mut self.kept, pid);
+        ordered::remove(&mut self.kept, pid);
     }
 
     /// No text is kept.
@@ -187,8 +187,8 @@ impl Parts {
     pub fn end(&mut self, pid: Pid)
         ensures { self.new ≡ after_end pid self.old }
     {
-        task::remove(&mut self.tasks, pid);
-        kept::remove(&mut self.kept, pid);
+        ordered::remove(&mut self.tasks, pid);
+        ordered::remove(&mut self.kept, pid);
         files::remove(&mut self.files, pid);
     }
 }
@@ -202,7 +202,7 @@ impl Parts {
         ensures unchanged { UnchangedOnErr result self.new self.old }
     {
         let new = Kept::new(alloc, pid, text)?;
-        kept::put(&mut self.kept, new)?;
+        ordered::put(&mut self.kept, new)?;
         Ok(())
     }
 

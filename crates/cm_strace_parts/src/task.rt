@@ -1,11 +1,12 @@
 // The processes that are known, by ascending pids.
-ghost use Rattle.std.specs.Prelude.{◌≡◌, ◌<◌, false, find, filter, map, not, option_map, length, IfSome, IfNone};
+ghost use Rattle.std.specs.Prelude.{◌≡◌, ◌<◌, map};
 ghost use Rattle.std.specs.Prelude.{vec_len, vec_capacity};
 ghost use Rattle.cm_base.specs.Outcome.{OrNoMemory};
-ghost use Rattle.cm_strace_parts.specs.Below.{task_below};
-ghost use Rattle.cm_strace_parts.specs.Order.{Ascends, AllSay, IsCut, StandsAt, is_at};
-ghost use Rattle.model_strace.specs.Parts.{first_task, is_task, task_before, moved_task, sharing_task, put};
+ghost use Rattle.cm_strace_parts.specs.Order.{Ascends};
+ghost use Rattle.model_strace.specs.Parts.{first_task, task_before, moved_task, sharing_task, put};
 
+use crate::ordered;
+use crate::search::Numbered;
 use cm_base::{NoMemory, Pid, SpaceId};
 use cm_state::Proc;
 use std::alloc::Global;
@@ -13,7 +14,7 @@ use std::marker::Model;
 
 /// A process: its pid, the number of its user namespace, and whether it shares its descriptors, since it was born so
 /// or has given such a birth (clone(2), CLONE_FILES).
-#[derive(Debug, Drop)]
+#[derive(Clone, Copy, Debug)]
 pub struct Task {
     pub pid: Pid,
     pub space: SpaceId,
@@ -26,32 +27,15 @@ impl Model for Task {
     ghost Value = { model.Task };
 
     ghost view = { λ task. record { pid = task.pid; space = task.space.0; shares = task.shares } };
+
+    ghost inverse = { λ task. record { pid = task.pid; space = record { 0 = task.space }; shares = task.shares } };
 }
 
-impl Task {
-    // The same process.
-    fn copy(&self) -> Task
-        ensures { result ≡ self.now }
-    {
-        Task {
-            pid: self.pid,
-            space: self.space,
-            shares: self.shares,
-        }
-    }
+impl Numbered for Task {
+    ghost number = { λ task. task.pid };
 
-    // The process is that of this pid.
-    fn is(&self, pid: Pid) -> bool
-        ensures { result ≡ is_task pid self.now }
-    {
-        self.pid == pid
-    }
-
-    // The process has a lower pid.
-    fn is_below(&self, pid: Pid) -> bool
-        ensures { result ≡ task_below pid self.now }
-    {
-        self.pid.number() < pid.number()
+    fn number(&self) -> u64 {
+        u64::from(self.pid.number())
     }
 }
 
@@ -75,51 +59,7 @@ pub(crate) fn first_tasks(alloc: Global, list: &[Proc]) -> Result<Vec<Task>, NoM
 pub(crate) fn copy_list(alloc: Global, list: &[Task]) -> Result<Vec<Task>, NoMemory>
     ensures { OrNoMemory result (λ made. made.items ≡ list.now) }
 {
-    let mut made = Vec::with_capacity(alloc, list.len())?;
-    for task in list {
-        made.push(task.copy())?;
-    }
-    Ok(made)
-}
-
-// The place of a pid: the processes before it have lower ones.
-fn place(list: &[Task], pid: Pid) -> usize
-    requires { Ascends task_before list.now }
-    ensures { IsCut (task_below pid) list.now result }
-{
-    list.partition_point(|task| task.is_below(pid))
-}
-
-// The process of the pid stands at the place.
-fn is_at(list: &[Task], at: usize, pid: Pid) -> bool
-    ensures { result ≡ is_at (is_task pid) list.now at }
-{
-    match list.get(at) {
-        Some(task) => task.is(pid),
-        None => false,
-    }
-}
-
-// The place of the process of that pid, where it is known.
-fn find(list: &[Task], pid: Pid) -> Option<usize>
-    requires { Ascends task_before list.now }
-    ensures found { IfSome result (λ at. StandsAt (is_task pid) list.now at) }
-    ensures within { IfSome result (λ at. at < length list.now) }
-    ensures none { IfNone result (AllSay (is_task pid) false list.now) }
-{
-    let at = place(list, pid);
-    if is_at(list, at, pid) { Some(at) } else { None }
-}
-
-// The process of that pid.
-pub(crate) fn task_of(list: &[Task], pid: Pid) -> Option<&Task>
-    requires { Ascends task_before list.now }
-    ensures { option_map (λ task. task.now) result ≡ find (is_task pid) list.now }
-{
-    match find(list, pid) {
-        Some(at) => Some(&list[at]),
-        None => None,
-    }
+    Ok(Vec::from_slice(alloc, list)?)
 }
 
 // The process of that pid in another user namespace.
@@ -128,7 +68,7 @@ pub(crate) fn move_to(list: &mut Vec<Task>, pid: Pid, space: SpaceId)
     ensures items { list.new.items ≡ map (moved_task pid space.0) list.old.items }
     ensures ascends { Ascends task_before list.new.items }
 {
-    match find(list, pid) {
+    match ordered::find(list, pid) {
         Some(at) => {
             let task = &mut list[at];
             task.space = space;
@@ -145,27 +85,12 @@ fn share(list: &mut Vec<Task>, pid: Pid, shares: bool)
     ensures len { vec_len list.new ≡ vec_len list.old }
     ensures capacity { vec_capacity list.new ≡ vec_capacity list.old }
 {
-    match find(list, pid) {
+    match ordered::find(list, pid) {
         Some(at) => {
             let task = &mut list[at];
             task.shares |= shares;
         }
         None => {}
-    }
-}
-
-// The process in its place, instead of any of its pid. There is room for one more.
-fn put(list: &mut Vec<Task>, new: Task)
-    requires ascends { Ascends task_before list.old.items }
-    requires room { vec_len list.old < vec_capacity list.old }
-    ensures items { list.new.items ≡ put task_before new list.old.items }
-    ensures ascends { Ascends task_before list.new.items }
-{
-    let at = place(list, new.pid);
-    if is_at(list, at, new.pid) {
-        list[at] = new;
-    } else {
-        let _ = list.insert(at, new);
     }
 }
 
@@ -178,19 +103,5 @@ pub(crate) fn bear(list: &mut Vec<Task>, parent: Pid, child: Task)
 {
     let shares = child.shares;
     share(list, parent, shares);
-    put(list, child);
-}
-
-// The process of that pid has ended.
-pub(crate) fn remove(list: &mut Vec<Task>, pid: Pid)
-    requires { Ascends task_before list.old.items }
-    ensures items { list.new.items ≡ filter (λ task. not (is_task pid task)) list.old.items }
-    ensures ascends { Ascends task_before list.new.items }
-{
-    match find(list, pid) {
-        Some(at) => {
-            list.remove(at);
-        }
-        None => {}
-    }
+    let _ = ordered::put(list, child);
 }

@@ -1,7 +1,7 @@
 // What is known along a log, call by call, by hand.
 use crate::{Descriptor, Parts, read_extents, read_written_word};
 use cm_base::{Pid, SpaceId};
-use cm_strace_text::Followed;
+use cm_strace_values::Followed;
 use cm_world::read_world;
 use std::alloc::Global;
 use std::process::Abort;

@@ -1,5 +1,5 @@
-use Rattle.std.proofs.Common.{sym, ◌∙◌, ap, ◌+◌, length, take, List, arith}
-use Rattle.cm_strace_parts.specs.Lists.{Fd, descriptors_in}
+use Rattle.std.proofs.Common.{sym, ◌∙◌, ap, ◌+◌, length, take, arith}
+use Rattle.cm_strace_parts.specs.Lists.{descriptors_in}
 use Rattle.cm_strace_parts.proofs.Lists.{count_more}
 use Rattle.cm_strace_parts.proofs.files.count.Goals as goal
 

@@ -1,9 +1,17 @@
 use Rattle.std.proofs.Common.{sym, ◌∙◌, arith}
 use Rattle.cm_strace_parts.specs.Lists.{fd_before, files_below}
 use Rattle.cm_strace_parts.proofs.ListOrders.{ascends_at, changed_here, inserted_here}
-use Rattle.cm_strace_parts.proofs.Order.{cut_within}
+use Rattle.cm_strace_parts.proofs.Order.{at_within, cut_within}
 use Rattle.cm_strace_parts.proofs.files.put_fd.Goals as goal
 use Rattle.model_strace.specs.Parts.{put}
+
+pub place-at-requires : goal.place-at-requires
+place-at-requires c = rw c.deref.ensures.value c.requires.processes
+
+pub index_mut-requires : goal.index_mut-requires
+index_mut-requires c =
+    let within = at_within _ c.deref-2.result.now c.place-at.result (sym c.is_at.ensures ∙ c.if-is_at.true) in
+    omega (arith, within, c.deref-2.ensures.len)
 
 pub put-requires : goal.put-requires
 put-requires c =

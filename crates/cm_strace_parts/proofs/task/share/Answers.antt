@@ -4,6 +4,9 @@ use Rattle.cm_strace_parts.proofs.Orders.{sharing_keeps}
 use Rattle.cm_strace_parts.proofs.task.share.Goals as goal
 use Rattle.model_strace.specs.Parts.{Task, is_task, task_before, sharing_task}
 
+pub find-requires : goal.find-requires
+find-requires c = rw c.deref.ensures.value c.requires
+
 pub returns-in-Some-clause-items : goal.returns-in-Some-clause-items
 returns-in-Some-clause-items c =
     changes_one (is_task c.args.pid) (λ (task : Task). record task { shares = task.shares || c.args.shares })

@@ -1,0 +1,96 @@
+-- What a search has found where a list is parted by what is below.
+use Rattle.std.proofs.Common.{◌≡◌, ◌<◌, ◌≤◌, ◌+◌, ◌-◌, ◌*◌, ℕ, Bool, true, false, cond, List, length, get_or}
+use Rattle.std.proofs.Common.{refl, sym, ◌∙◌, ap, arith}
+use Rattle.std.specs.List.{AllWithin}
+use Rattle.std.specs.List.Sorted.{IsPartitionedBy}
+use Rattle.std.proofs.lemmas.List.{get_or_default}
+use Rattle.cm_strace_parts.specs.Order.{Ascends, IsBetween, IsCut, before_by, below_by}
+use Rattle.cm_strace_parts.proofs.Order.{parted, cut_at}
+
+-- a list that ascends by numbers is parted by each number
+pub parted_by : {A : Type 0} (number : A → ℕ) (n : ℕ) (xs : List A)
+    → Ascends (before_by number) xs → IsPartitionedBy (below_by number n) xs
+parted_by number n xs up = parted (before_by number) (below_by number n) xs
+    (λ x y h g. grind (arith, h, g)) up
+
+-- before one that is below all are
+lower_ones : {A : Type 0} (below : A → Bool) (xs : List A) (at end : ℕ) (d : A) → IsPartitionedBy below xs
+    → at < length xs → end ≤ at → below (get_or xs at d) ≡ true → AllWithin (λ x. below x ≡ true) xs 0 end
+lower_ones below xs at end d parts within before is k e low lt =
+    parts k at e (omega arith) within (ap below (get_or_default xs at e d within) ∙ is)
+
+-- after one that isn't below none is
+higher_ones : {A : Type 0} (below : A → Bool) (xs : List A) (at from : ℕ) (d : A) → IsPartitionedBy below xs
+    → at ≤ from → below (get_or xs at d) ≡ false → AllWithin (λ x. below x ≡ false) xs from (length xs)
+higher_ones below xs at from d parts after isnt k e low lt =
+    (elim (below (get_or xs k e)) as (λ b. below (get_or xs k e) ≡ b → b ≡ false) [
+      | true ↦ λ is. sym (parts at k e (omega arith) lt is)
+          ∙ (ap below (get_or_default xs at e d (omega arith)) ∙ isnt)
+      | false ↦ λ is. refl
+    ]) refl
+
+-- three answers narrow the places
+narrowed_by : {A : Type 0} (below : A → Bool) (xs : List A) (from step left : ℕ) (d : A) → IsPartitionedBy below xs
+    → from + 3 * step < length xs → 4 * step ≤ left → IsBetween below xs from (from + left) → (a b c : Bool)
+    → below (get_or xs (from + step) d) ≡ a → below (get_or xs (from + 2 * step) d) ≡ b
+    → below (get_or xs (from + 3 * step) d) ≡ c
+    → IsBetween below xs (from + (cond a 1 0 + cond b 1 0 + cond c 1 0) * step)
+    (from + (cond a 1 0 + cond b 1 0 + cond c 1 0) * step + (left - 3 * step))
+narrowed_by below xs from step left d parts within gap old true true true ha hb hc = (
+  lower_ones below xs (from + 3 * step) (from + 3 * step) d parts within (omega arith) hc,
+  λ k e low lt. old.1 k e (omega arith) lt,
+)
+narrowed_by below xs from step left d parts within gap old true true false ha hb hc = (
+  lower_ones below xs (from + 2 * step) (from + 2 * step) d parts (omega arith) (omega arith) hb,
+  higher_ones below xs (from + 3 * step) (from + 2 * step + (left - 3 * step)) d parts (omega arith) hc,
+)
+narrowed_by below xs from step left d parts within gap old true false true ha hb hc = (
+  lower_ones below xs (from + 3 * step) (from + 2 * step) d parts within (omega arith) hc,
+  higher_ones below xs (from + 2 * step) (from + 2 * step + (left - 3 * step)) d parts (omega arith) hb,
+)
+narrowed_by below xs from step left d parts within gap old true false false ha hb hc = (
+  lower_ones below xs (from + step) (from + 1 * step) d parts (omega arith) (omega arith) ha,
+  higher_ones below xs (from + 2 * step) (from + 1 * step + (left - 3 * step)) d parts (omega arith) hb,
+)
+narrowed_by below xs from step left d parts within gap old false true true ha hb hc = (
+  lower_ones below xs (from + 3 * step) (from + 2 * step) d parts within (omega arith) hc,
+  higher_ones below xs (from + step) (from + 2 * step + (left - 3 * step)) d parts (omega arith) ha,
+)
+narrowed_by below xs from step left d parts within gap old false true false ha hb hc = (
+  lower_ones below xs (from + 2 * step) (from + 1 * step) d parts (omega arith) (omega arith) hb,
+  higher_ones below xs (from + step) (from + 1 * step + (left - 3 * step)) d parts (omega arith) ha,
+)
+narrowed_by below xs from step left d parts within gap old false false true ha hb hc = (
+  lower_ones below xs (from + 3 * step) (from + 1 * step) d parts within (omega arith) hc,
+  higher_ones below xs (from + step) (from + 1 * step + (left - 3 * step)) d parts (omega arith) ha,
+)
+narrowed_by below xs from step left d parts within gap old false false false ha hb hc = (
+  λ k e low lt. old.0 k e low (omega arith),
+  higher_ones below xs (from + step) (from + 0 * step + (left - 3 * step)) d parts (omega arith) ha,
+)
+
+-- the same of the numbers that stand for the answers
+pub narrowed : {A : Type 0} (below : A → Bool) (xs : List A) (from step left : ℕ) → IsPartitionedBy below xs
+    → from + 3 * step < length xs → 4 * step ≤ left → IsBetween below xs from (from + left) → (r s t : ℕ)
+    → ((d : A) → r ≡ cond (below (get_or xs (from + step) d)) 1 0)
+    → ((d : A) → s ≡ cond (below (get_or xs (from + 2 * step) d)) 1 0)
+    → ((d : A) → t ≡ cond (below (get_or xs (from + 3 * step) d)) 1 0)
+    → IsBetween below xs (from + (r + s + t) * step) (from + (r + s + t) * step + (left - 3 * step))
+narrowed below xs from step left parts within gap old r s t rs ss ts = (
+  λ k e low lt. (narrowed_by below xs from step left e parts within gap old _ _ _ refl refl refl).0 k e low
+      (rw (rs e) at (rw (ss e) at (rw (ts e) at lt))),
+  λ k e low lt. (narrowed_by below xs from step left e parts within gap old _ _ _ refl refl refl).1 k e
+      (rw (rs e) at (rw (ss e) at (rw (ts e) at low))) lt,
+)
+
+-- the one after those that are below isn't
+pub cut_here : {A : Type 0} (below : A → Bool) (xs : List A) (at end : ℕ) (d : A) → IsPartitionedBy below xs
+    → IsBetween below xs at end → at < length xs → below (get_or xs at d) ≡ false → IsCut below xs at
+cut_here below xs at end d parts between within isnt = cut_at below xs at (omega arith)
+    (between.0, higher_ones below xs at at d parts (omega arith) isnt)
+
+-- no other one is left
+pub cut_end : {A : Type 0} (below : A → Bool) (xs : List A) (at end : ℕ) → IsBetween below xs at end → end ≤ at
+    → at ≤ length xs → IsCut below xs at
+cut_end below xs at end between past within = cut_at below xs at within
+    (between.0, λ k e low lt. between.1 k e (omega arith) lt)

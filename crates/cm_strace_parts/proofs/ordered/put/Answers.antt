@@ -1,0 +1,39 @@
+use Rattle.std.proofs.Common.{sym, ◌∙◌, arith}
+use Rattle.cm_strace_parts.specs.Order.{below_by}
+use Rattle.cm_strace_parts.proofs.Order.{cut_within}
+use Rattle.cm_strace_parts.proofs.Orders.{put_instead_by, put_between_by, put_ascends_by}
+use Rattle.cm_strace_parts.proofs.ordered.put.Goals as goal
+
+pub insert-requires : goal.insert-requires
+insert-requires g c =
+    let within = cut_within (below_by g.T.Numbered.number c.number-number.result) c.deref.result.now c.place-at.result
+    c.place-at.ensures in
+    omega (arith, within, c.deref.ensures.len)
+
+pub returns-then-is_at-clause-items : goal.returns-then-is_at-clause-items
+returns-then-is_at-clause-items g c =
+    put_instead_by g.T.Numbered.number c.args.new c.number-number.result c.args.list.now.items c.place-at.result
+    c.number-number.ensures (rw c.deref.ensures.value at c.place-at.ensures)
+    (sym (rw c.deref-2.ensures.value at c.is_at.ensures) ∙ c.if-is_at.true)
+
+pub returns-then-is_at-clause-ascends : goal.returns-then-is_at-clause-ascends
+returns-then-is_at-clause-ascends g c =
+    let is = put_instead_by g.T.Numbered.number c.args.new c.number-number.result c.args.list.now.items
+    c.place-at.result c.number-number.ensures (rw c.deref.ensures.value at c.place-at.ensures)
+    (sym (rw c.deref-2.ensures.value at c.is_at.ensures) ∙ c.if-is_at.true) in
+    rw is (put_ascends_by g.T.Numbered.number c.args.new c.args.list.now.items c.requires)
+
+pub returns-in_ok-insert-clause-items : goal.returns-in_ok-insert-clause-items
+returns-in_ok-insert-clause-items g c =
+    c.in_ok-insert.ensures.items
+    ∙ put_between_by g.T.Numbered.number c.args.new c.number-number.result c.args.list.now.items c.place-at.result
+    c.number-number.ensures (rw c.deref.ensures.value at c.place-at.ensures)
+    (sym (rw c.deref-2.ensures.value at c.is_at.ensures) ∙ c.if-is_at.false)
+
+pub returns-in_ok-insert-clause-ascends : goal.returns-in_ok-insert-clause-ascends
+returns-in_ok-insert-clause-ascends g c =
+    let is = c.in_ok-insert.ensures.items
+    ∙ put_between_by g.T.Numbered.number c.args.new c.number-number.result c.args.list.now.items c.place-at.result
+    c.number-number.ensures (rw c.deref.ensures.value at c.place-at.ensures)
+    (sym (rw c.deref-2.ensures.value at c.is_at.ensures) ∙ c.if-is_at.false) in
+    rw is (put_ascends_by g.T.Numbered.number c.args.new c.args.list.now.items c.requires)
