@@ -7,3 +7,4 @@ pub mod Quiet
 pub mod Taken
 pub mod Retained
 pub mod Dues
+pub mod Elsewhere

@@ -2,8 +2,10 @@
 pub mod Answers
 pub mod Deeds
 pub mod Given
+pub mod Heard
 pub mod Works
 pub mod Stages
 pub mod Taken
 pub mod Queues
 pub mod Drafts
+pub mod Elsewhere

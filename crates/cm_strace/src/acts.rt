@@ -15,7 +15,7 @@ ghost use Rattle.model_strace.specs.Lines.{given_at};
 ghost use Rattle.model_strace.specs.Parts.{without_kept};
 ghost use Rattle.model_strace.specs.Turn.{after_call, with_child};
 
-use crate::deed::{Act, Birth, Deed, Given, Step};
+use crate::deed::{Act, Birth, Deed, Given, Origin, Step};
 use crate::placed::{Placed, Stop};
 use crate::told::birth_call;
 use cm_base::{Limited, NoMemory, Pid, Res};
@@ -27,14 +27,13 @@ use std::alloc::Global;
 pub(crate) fn conclude(
     alloc: Global,
     parts: &mut Parts,
-    pid: Pid,
+    origin: Origin,
     step: Step,
-    number: u64,
     events: &mut Vec<Placed>,
 ) -> Result<Given, NoMemory>
     requires { parts.old.spaces < greatest_number }
     ensures given { OrNoMemory result (λ given. given_is given events.new.items parts.new
-        ≡ preceded events.old.items (given_at number (step_is pid step parts.old))) }
+        ≡ preceded events.old.items (given_at origin.line (step_is origin.pid step parts.old))) }
     ensures born { OrNoMemory result (λ given. BornOf given step.deed) }
     ensures unchanged { UnchangedOnErr result parts.new parts.old }
     ensures acts { OnErr result (IsAct step.deed) }
@@ -43,12 +42,12 @@ pub(crate) fn conclude(
     let Step { deed, resumed } = step;
     match deed {
         Deed::Quiet => {
-            forget(parts, pid, resumed);
+            forget(parts, origin.pid, resumed);
             Ok(Given::On(None))
         }
-        Deed::Refused(why) => Ok(Given::Halts(Stop::Fault(number, why))),
+        Deed::Refused(why) => Ok(Given::Halts(Stop::Fault(origin.line, why))),
         Deed::Exceeds(limit) => Ok(Given::Halts(Stop::Limit(limit))),
-        Deed::Acts(act) => make(alloc, parts, pid, act, resumed, number, events),
+        Deed::Acts(act) => make(alloc, parts, origin, act, resumed, events),
     }
 }
 
@@ -65,32 +64,32 @@ fn forget(parts: &mut Parts, pid: Pid, resumed: bool)
 fn make(
     alloc: Global,
     parts: &mut Parts,
-    pid: Pid,
+    origin: Origin,
     act: Act,
     resumed: bool,
-    number: u64,
     events: &mut Vec<Placed>,
 ) -> Result<Given, NoMemory>
     requires { parts.old.spaces < greatest_number }
     ensures given { OrNoMemory result (λ given. given_is given events.new.items parts.new
-        ≡ preceded events.old.items (given_at number (act_is pid act
-        (if resumed then without_kept pid parts.old else parts.old)))) }
+        ≡ preceded events.old.items (given_at origin.line (act_is origin.pid act
+        (if resumed then without_kept origin.pid parts.old else parts.old)))) }
     ensures born { OrNoMemory result (λ given. BornOf given (Deed.Acts act)) }
     ensures unchanged { UnchangedOnErr result parts.new parts.old }
     ensures spaces { parts.new.spaces ≤ parts.old.spaces + 1 }
 {
     events.reserve(1)?;
+    let pid = origin.pid;
     match act {
         Act::Does(call, answer) => {
             change(alloc, parts, pid, &call, &answer)?;
             forget(parts, pid, resumed);
-            put_event(events, number, pid, call, answer);
+            put_event(events, origin, call, answer);
             Ok(Given::On(None))
         }
         Act::Ends => {
             forget(parts, pid, resumed);
             parts.end(pid);
-            put_event(events, number, pid, Call::Exit, Res::Done);
+            put_event(events, origin, Call::Exit, Res::Done);
             Ok(Given::On(None))
         }
         Act::Bears(birth) => {
@@ -104,7 +103,7 @@ fn make(
             if has_too_many(parts) {
                 return Ok(Given::Halts(Stop::Limit(Limited::Descriptors)));
             }
-            put_event(events, number, pid, birth_call(user), Res::Child(child));
+            put_event(events, origin, birth_call(user), Res::Child(child));
             Ok(Given::On(Some(child)))
         }
     }
@@ -181,17 +180,17 @@ fn bear(
 }
 
 // One event more, for which there is room.
-fn put_event(events: &mut Vec<Placed>, number: u64, pid: Pid, call: Call, answer: Res)
+fn put_event(events: &mut Vec<Placed>, origin: Origin, call: Call, answer: Res)
     requires { vec_len events.old < vec_capacity events.old }
-    ensures { events.new.items ≡ events.old.items ++ placed_at number pid (call_of call) answer ∷ [] }
+    ensures { events.new.items ≡ events.old.items ++ placed_at origin.line origin.pid (call_of call) answer ∷ [] }
 {
     let event = Event {
-        pid,
+        pid: origin.pid,
         call,
         res: answer,
     };
     events.push_reserved(Placed {
-        line: number,
+        line: origin.line,
         event,
     });
 }

@@ -37,6 +37,13 @@ pub(crate) struct Step {
     pub(crate) resumed: bool,
 }
 
+/// Whose a line is: its number in the log, and the process that it tells of.
+#[derive(Clone, Copy, Debug)]
+pub(crate) struct Origin {
+    pub(crate) line: u64,
+    pub(crate) pid: Pid,
+}
+
 /// What a line gave: it goes on, a child being born or none; or it stops the reading.
 #[derive(Clone, Copy, Debug)]
 pub(crate) enum Given {

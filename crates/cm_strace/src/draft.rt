@@ -10,7 +10,7 @@ ghost use Rattle.model_strace.specs.After.{preceded};
 ghost use Rattle.model_strace.specs.Rest.{released};
 
 use crate::acts::conclude;
-use crate::deed::{Given, Step};
+use crate::deed::{Given, Origin, Step};
 use crate::placed::{Placed, Stop};
 use crate::waiting::Waiting;
 use cm_base::{NoMemory, Pid};
@@ -46,7 +46,8 @@ impl<'a> Draft<'a> {
         ensures counted { OrNoMemory result (λ stop. IfNone stop (self.new.count ≡ self.old.count + 1)) }
     {
         let number = self.count + 1;
-        match conclude(alloc, &mut self.parts, pid, step, number, events)? {
+        let origin = Origin { line: number, pid };
+        match conclude(alloc, &mut self.parts, origin, step, events)? {
             Given::On(born) => {
                 self.count = number;
                 self.waiting.put(born)?;

@@ -8,12 +8,11 @@ ghost use Rattle.cm_strace.specs.Given.{given_is};
 ghost use Rattle.cm_strace.specs.Taken.{NextFlag, untaken, waits_before};
 ghost use Rattle.cm_world.specs.World.{world_of};
 ghost use Rattle.model_strace.specs.After.{preceded};
-ghost use Rattle.model_strace.specs.Lines.{given_at, is_line_of, read_line};
+ghost use Rattle.model_strace.specs.Lines.{is_line_of, read_line};
 ghost use Rattle.model_strace.specs.Rest.{without_first};
-ghost use Rattle.model_strace.specs.Turn.{turn};
 
 use crate::acts::conclude;
-use crate::deed::Given;
+use crate::deed::{Given, Origin};
 use crate::placed::Placed;
 use crate::step::read_step;
 use cm_base::{NoMemory, Pid};
@@ -54,6 +53,16 @@ impl Line {
         self.pid == pid
     }
 
+    // Whose it is.
+    fn origin(&self) -> Origin
+        ensures { result ≡ record { line = self.now.number; pid = self.now.pid } }
+    {
+        Origin {
+            line: self.number,
+            pid: self.pid,
+        }
+    }
+
     // The line is read. Its only error is want of memory.
     pub(crate) fn read(
         &self,
@@ -67,27 +76,9 @@ impl Line {
             ≡ preceded events.old.items (read_line (world_of w.now) self.now parts.old)) }
         ensures spaces { parts.new.spaces ≤ parts.old.spaces + 1 }
     {
-        read(alloc, w, parts, self.number, self.pid, &self.body, events)
+        let step = read_step(alloc, w, parts, self.pid, &self.body)?;
+        conclude(alloc, parts, self.origin(), step, events)
     }
-}
-
-// The line of that number, pid and body is read. Its only error is want of memory.
-fn read(
-    alloc: Global,
-    w: &World,
-    parts: &mut Parts,
-    number: u64,
-    pid: Pid,
-    body: &[u8],
-    events: &mut Vec<Placed>,
-) -> Result<Given, NoMemory>
-    requires { parts.old.spaces < greatest_number }
-    ensures given { OrNoMemory result (λ given. given_is given events.new.items parts.new
-        ≡ preceded events.old.items (given_at number (turn (world_of w.now) pid body.now parts.old))) }
-    ensures spaces { parts.new.spaces ≤ parts.old.spaces + 1 }
-{
-    let step = read_step(alloc, w, parts, pid, body)?;
-    conclude(alloc, parts, pid, step, number, events)
 }
 
 // A line of that pid is held.

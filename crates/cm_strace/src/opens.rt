@@ -1,19 +1,23 @@
 // The open of a file: it is followed where it is one of a process's map files, its setgroups file, or its user
 // namespace.
-ghost use Rattle.std.specs.Prelude.{◌≡◌, ℕ, Some};
+ghost use Rattle.std.specs.Prelude.{◌≡◌, ℕ, Some, IsTrue};
 ghost use Rattle.cm_base.specs.Outcome.{OrNoMemory, UnchangedOnErr};
 ghost use Rattle.cm_strace.specs.Deeds.{deed_is, Waits};
+ghost use Rattle.cm_strace.specs.Elsewhere.{IsOther};
 ghost use Rattle.cm_strace_calls.specs.Told.{opening_is};
-ghost use Rattle.cm_strace_text.specs.Paths.{followed_is};
+ghost use Rattle.cm_strace_values.specs.Paths.{followed_is};
 ghost use Rattle.model_strace.specs.Files.{file_at, relative_file};
-ghost use Rattle.model_strace.specs.Parts.{task_of};
-ghost use Rattle.model_strace.specs.Turn.{follows, opens_of, opens_other, opens_path, opens};
+ghost use Rattle.model_strace.specs.Calls as model;
+ghost use Rattle.model_strace.specs.Parts.{Parts, task_of, without_descriptor};
+ghost use Rattle.model_strace.specs.Quoted.{quote_of, whole_text};
+ghost use Rattle.model_strace.specs.Turn.{Quiet, follows, opens_of, opens_other, opens_path, opens};
 
 use crate::deed::Deed;
 use cm_base::{Limited, LineFault, NoMemory, Pid};
 use cm_strace_calls::Opening;
 use cm_strace_parts::{Descriptor, Parts};
-use cm_strace_text::{Named, Quote, file_at, read_quote, relative_file};
+use cm_strace_text::{Quote, read_quote};
+use cm_strace_values::{Named, file_at, relative_file};
 use std::alloc::Global;
 
 /// A path is opened as that descriptor. Its only error is want of memory, which leaves the parts as they were.
@@ -30,6 +34,10 @@ pub(crate) fn opens(
     ensures waits { OrNoMemory result (λ deed. Waits deed parts.new parts.old) }
     ensures spaces { parts.new.spaces ≡ parts.old.spaces }
 {
+    if leads_elsewhere(opening.path) {
+        parts.forget_descriptor(alloc, pid, number)?;
+        return Ok(Deed::Quiet);
+    }
     match read_quote(alloc, opening.path)? {
         Quote::Bytes(path) => opens_path(alloc, parts, pid, opening, number, &path),
         Quote::Shortened | Quote::NoText => {
@@ -37,6 +45,24 @@ pub(crate) fn opens(
             Ok(Deed::Quiet)
         }
     }
+}
+
+// The path begins as one of a file outside of /proc, which isn't followed.
+fn leads_elsewhere(text: &[u8]) -> bool
+    ensures { IsTrue result → (pid number : ℕ) (o : model.Opening) (p : Parts)
+        → opens pid number o (whole_text (quote_of text.now)) p ≡ Quiet (without_descriptor pid number p) }
+{
+    match text {
+        [b'"', b'/', byte, ..] => begins_other(*byte),
+        _ => false,
+    }
+}
+
+// No path in /proc begins with a slash and this byte, nor does a quoted text end at it.
+fn begins_other(byte: u8) -> bool
+    ensures { IsTrue result → IsOther byte }
+{
+    byte != b'p' && byte != b'/' && byte != b'\\' && byte != b'"'
 }
 
 // The same of a path that can be read, by the file that it names where it is absolute.
@@ -55,13 +81,13 @@ fn opens_path(
     ensures spaces { parts.new.spaces ≡ parts.old.spaces }
 {
     match file_at(pid, path) {
-        Some(named) => if named.file.is_followed(opening.writes) {
-            opens_of(alloc, parts, pid, number, opening.until_exec, named)
+        Some(named) => if named.file.is_followed(opening.writes()) {
+            opens_of(alloc, parts, pid, number, opening.until_exec(), named)
         } else {
             parts.forget_descriptor(alloc, pid, number)?;
             Ok(Deed::Quiet)
         },
-        None => opens_other(alloc, parts, pid, number, opening.writes, path),
+        None => opens_other(alloc, parts, pid, number, opening.writes(), path),
     }
 }
 

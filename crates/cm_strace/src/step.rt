@@ -1,13 +1,15 @@
 // What a line of a process does to what is known (model_strace/specs, Turn). What gives an event is left to be done.
-ghost use Rattle.std.specs.Prelude.{◌≡◌, ℕ, ◌++◌, false, option_map, IsTrue, List};
+ghost use Rattle.std.specs.Prelude.{◌≡◌, ℕ, ◌++◌, false, option_map, IsTrue, List, Some};
 ghost use Rattle.std.specs.declared.vec.Vec.{Vec};
 ghost use Rattle.std.specs.declared.alloc.Global.{Global};
 ghost use Rattle.cm_base.specs.Outcome.{OrNoMemory, UnchangedOnErr};
 ghost use Rattle.cm_strace.specs.Deeds.{begun_text, step_is, Waits};
+ghost use Rattle.cm_strace.specs.Heard.{heard_turn};
+ghost use Rattle.cm_strace_calls.specs.Told.{listed_is};
 ghost use Rattle.cm_strace_text.specs.Lines.{body_is};
 ghost use Rattle.cm_world.specs.World.{world_of};
 ghost use Rattle.model_cred.specs.World as model;
-ghost use Rattle.model_strace.specs.Calls.{call_told};
+ghost use Rattle.model_strace.specs.Calls.{call_told, listed_told};
 ghost use Rattle.model_strace.specs.Parts as known;
 ghost use Rattle.model_strace.specs.Parts.{kept_of, without_kept};
 ghost use Rattle.model_strace.specs.Turn.{Quiet, begins, body_turn, resumes, told_turn, turn};
@@ -15,11 +17,49 @@ ghost use Rattle.model_strace.specs.Turn.{Quiet, begins, body_turn, resumes, tol
 use crate::deed::{Act, Deed, Step};
 use crate::told::take;
 use cm_base::{LineFault, NoMemory, Pid};
-use cm_strace_calls::{is_read, read_call};
+use cm_strace_calls::{Listed, named_call, read_call, read_named};
 use cm_strace_parts::Parts;
 use cm_strace_text::{Body, call_name, ends_name, read_body, without_32};
 use cm_world::World;
 use std::alloc::Global;
+
+/// What a body tells, before anything that is known is looked at: nothing, a call that is read, an end, or a part of a
+/// call.
+#[derive(Clone, Copy, Debug)]
+pub(crate) enum Heard<'a> {
+    Nothing,
+    Call(Listed, &'a [u8]),
+    Ends,
+    Superseded,
+    Begun(&'a [u8]),
+    Resumed(&'a [u8], &'a [u8]),
+}
+
+/// What a body tells.
+pub(crate) fn hear(body: Body<'_>) -> Heard<'_>
+    ensures { (w : model.World) (pid : ℕ) (p : known.Parts)
+        → heard_turn w pid result p ≡ body_turn w pid (body_is body.entry) p }
+{
+    match body {
+        Body::Silent => Heard::Nothing,
+        Body::Ends => Heard::Ends,
+        Body::Superseded => Heard::Superseded,
+        Body::Begun(text) => Heard::Begun(text),
+        Body::Resumed(name, rest) => Heard::Resumed(name, rest),
+        Body::Whole(text) => hear_whole(text),
+    }
+}
+
+// The same of a whole call.
+fn hear_whole(text: &[u8]) -> Heard<'_>
+    ensures { (w : model.World) (pid : ℕ) (p : known.Parts)
+        → heard_turn w pid result p ≡ told_turn pid (call_told w pid text.now) p }
+{
+    match named_call(text) {
+        Some(call) => Heard::Call(call, text),
+        None => Heard::Nothing,
+    }
+}
 
 /// What a line of a process does. Its only error is want of memory, which leaves the parts as they were.
 pub(crate) fn read_step(
@@ -35,42 +75,30 @@ pub(crate) fn read_step(
     ensures waits { OrNoMemory result (λ step. Waits step.deed parts.new parts.old) }
     ensures spaces { parts.new.spaces ≡ parts.old.spaces }
 {
-    body_step(alloc, w, parts, pid, read_body(body))
-}
-
-/// The body tells nothing, whatever is known: it is of a signal, or of a call that isn't read.
-pub(crate) fn is_quiet(body: Body<'_>) -> bool
-    ensures { IsTrue result → (w : model.World) (pid : ℕ) (p : known.Parts)
-        → body_turn w pid (body_is body.entry) p ≡ Quiet p }
-{
-    match body {
-        Body::Silent => true,
-        Body::Whole(text) => !is_read(text),
-        Body::Ends | Body::Superseded | Body::Begun(_) | Body::Resumed(_, _) => false,
-    }
+    heard_step(alloc, w, parts, pid, hear(read_body(body)))
 }
 
 /// What a body of a process does. Its only error is want of memory, which leaves the parts as they were.
-pub(crate) fn body_step(
+pub(crate) fn heard_step(
     alloc: Global,
     w: &World,
     parts: &mut Parts,
     pid: Pid,
-    body: Body<'_>,
+    heard: Heard<'_>,
 ) -> Result<Step, NoMemory>
     ensures turn { OrNoMemory result (λ step. step_is pid step parts.new
-        ≡ body_turn (world_of w.now) pid (body_is body.entry) parts.old) }
+        ≡ heard_turn (world_of w.now) pid heard.entry parts.old) }
     ensures unchanged { UnchangedOnErr result parts.new parts.old }
     ensures waits { OrNoMemory result (λ step. Waits step.deed parts.new parts.old) }
     ensures spaces { parts.new.spaces ≡ parts.old.spaces }
 {
-    match body {
-        Body::Silent => Ok(plain(Deed::Quiet)),
-        Body::Ends => Ok(plain(Deed::Acts(Act::Ends))),
-        Body::Superseded => Ok(plain(Deed::Refused(LineFault::Superseded))),
-        Body::Begun(text) => begin(alloc, parts, pid, text),
-        Body::Resumed(name, rest) => resume(alloc, w, parts, pid, name, rest),
-        Body::Whole(text) => whole(alloc, w, parts, pid, text),
+    match heard {
+        Heard::Nothing => Ok(plain(Deed::Quiet)),
+        Heard::Ends => Ok(plain(Deed::Acts(Act::Ends))),
+        Heard::Superseded => Ok(plain(Deed::Refused(LineFault::Superseded))),
+        Heard::Begun(text) => begin(alloc, parts, pid, text),
+        Heard::Resumed(name, rest) => resume(alloc, w, parts, pid, name, rest),
+        Heard::Call(call, text) => whole(alloc, w, parts, pid, call, text),
     }
 }
 
@@ -100,21 +128,22 @@ fn begin(alloc: Global, parts: &mut Parts, pid: Pid, text: &[u8]) -> Result<Step
     Ok(plain(Deed::Quiet))
 }
 
-// A whole call.
+// A whole call that is read.
 fn whole(
     alloc: Global,
     w: &World,
     parts: &mut Parts,
     pid: Pid,
+    call: Listed,
     text: &[u8],
 ) -> Result<Step, NoMemory>
     ensures turn { OrNoMemory result (λ step. step_is pid step parts.new
-        ≡ told_turn pid (call_told (world_of w.now) pid text.now) parts.old) }
+        ≡ told_turn pid (listed_told (world_of w.now) pid (Some (listed_is call)) text.now) parts.old) }
     ensures unchanged { UnchangedOnErr result parts.new parts.old }
     ensures waits { OrNoMemory result (λ step. Waits step.deed parts.new parts.old) }
     ensures spaces { parts.new.spaces ≡ parts.old.spaces }
 {
-    let told = read_call(alloc, w, pid, text)?;
+    let told = read_named(alloc, w, pid, call, text)?;
     let deed = take(alloc, parts, pid, told)?;
     Ok(plain(deed))
 }
@@ -163,7 +192,7 @@ fn begins_unread(kept: &[u8], name: &[u8]) -> bool
     ensures { IsTrue result → (w : model.World) (pid : ℕ) (rest : List ℕ) (p : known.Parts)
         → resumes w pid name.now rest (Some kept.now) p ≡ Quiet (without_kept pid p) }
 {
-    ends_name(kept) && !is_read(kept) && call_name(kept) == without_32(name)
+    ends_name(kept) && named_call(kept).is_none() && call_name(kept) == without_32(name)
 }
 
 // The text of a call of that name whose begin is kept, with its rest.

@@ -5,7 +5,7 @@ ghost use Rattle.cm_base.specs.declared.res.Res.TheVariants.{Child};
 ghost use Rattle.cm_state.specs.Call.{call_of};
 ghost use Rattle.cm_strace.specs.Deeds.{deed_is, Waits};
 ghost use Rattle.cm_strace_calls.specs.Told.{told_is};
-ghost use Rattle.cm_strace_text.specs.Outcomes.{outcome_is};
+ghost use Rattle.cm_strace_values.specs.Outcomes.{outcome_is};
 ghost use Rattle.model_strace.specs.Parts.{Parts, descriptor_of};
 ghost use Rattle.model_strace.specs.Turn.{told_turn, birth_call, bears, followed, for_space, joins_unknown, joins};
 ghost use Rattle.model_strace.specs.Turn.{copies, copies_to};
@@ -17,7 +17,7 @@ use cm_base::{LineFault, NoMemory, Pid, Res};
 use cm_state::Call;
 use cm_strace_calls::Told;
 use cm_strace_parts::{Descriptor, Parts};
-use cm_strace_text::{Outcome, has_flag};
+use cm_strace_values::{Outcome, has_flag};
 use std::alloc::Global;
 
 /// What a call that is told does. Its only error is want of memory, which leaves the parts as they were.

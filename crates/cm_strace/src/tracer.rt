@@ -63,25 +63,33 @@ impl Tracer {
     }
 
     /// A line comes, without its LF: its events, those of the held lines that come after a birth, and the stop where
-    /// there is one. Its only error is want of memory, which leaves the session as it was.
-    pub fn feed_line(&mut self, alloc: Global, w: &World, line: &[u8]) -> Result<Fed, NoMemory>
+    /// there is one. The events are all that the caller's list holds then. Its only error is want of memory, which
+    /// leaves the session as it was.
+    pub fn feed_line(
+        &mut self,
+        alloc: Global,
+        w: &World,
+        line: &[u8],
+        events: &mut Vec<Placed>,
+    ) -> Result<Option<Stop>, NoMemory>
         requires { lines_fed self.old < 2 ^ 31 }
-        ensures given { OrNoMemory result (λ fed. fed ≡ line_answer (world_of w.now) self.old line.now) }
+        ensures given { OrNoMemory result (λ stop. reading_is events.new.items stop
+            ≡ line_answer (world_of w.now) self.old line.now) }
         ensures after { OrNoMemory result (λ _. self.new ≡ after_line (world_of w.now) self.old line.now) }
-        ensures told { OrNoMemory result (λ fed. (lines : List (List ℕ)) →
-            rest (world_of w.now) self.old (line.now ∷ lines) ≡ answered_then fed (rest
-            (world_of w.now) self.new lines)) }
+        ensures told { OrNoMemory result (λ stop. (lines : List (List ℕ)) →
+            rest (world_of w.now) self.old (line.now ∷ lines) ≡ answered_then (reading_is events.new.items stop)
+            (rest (world_of w.now) self.new lines)) }
         ensures unchanged { UnchangedOnErr result self.new self.old }
     {
+        events.clear();
         match self.stage {
             Stage::Going => {
-                let mut events = Vec::new(alloc);
-                let stop = feed_work(alloc, w, &mut self.work, line, &mut events)?;
+                let stop = feed_work(alloc, w, &mut self.work, line, events)?;
                 self.stage = stage_after(stop);
-                Ok(Fed { events, stop })
+                Ok(stop)
             }
-            Stage::Stopped(stop) => Ok(stopped(alloc, stop)),
-            Stage::Finished => Ok(nothing(alloc)),
+            Stage::Stopped(stop) => Ok(Some(stop)),
+            Stage::Finished => Ok(None),
         }
     }
 

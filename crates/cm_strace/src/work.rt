@@ -7,25 +7,24 @@ ghost use Rattle.cm_base.specs.Outcome.{OrNoMemory, UnchangedOnErr};
 ghost use Rattle.cm_strace.specs.Deeds.{IsAct, Waits, step_is};
 ghost use Rattle.cm_strace.specs.Drafts.{work_of};
 ghost use Rattle.cm_strace.specs.Given.{after_is};
+ghost use Rattle.cm_strace.specs.Heard.{heard_turn};
 ghost use Rattle.cm_strace.specs.Works.{awaits, concluded, uses};
-ghost use Rattle.cm_strace_text.specs.Lines.{body_is};
 ghost use Rattle.cm_world.specs.World.{world_of};
 ghost use Rattle.model_cred.specs.World as model;
 ghost use Rattle.model_strace.specs.After.{preceded};
 ghost use Rattle.model_strace.specs.Body.{row_of};
 ghost use Rattle.model_strace.specs.Rest.{first_work, read_fed, held_fed, fed_by};
-ghost use Rattle.model_strace.specs.Turn.{body_turn};
 
 use crate::acts::conclude;
-use crate::deed::{Act, Deed, Given, Step};
+use crate::deed::{Act, Deed, Given, Origin, Step};
 use crate::draft::Draft;
 use crate::line::{Line, has_line, remove_taken};
 use crate::placed::{Placed, Stop};
-use crate::step::{body_step, is_quiet};
+use crate::step::{Heard, hear, heard_step};
 use crate::waiting::Waiting;
 use cm_base::{Limited, LineFault, NoMemory, Pid};
 use cm_strace_parts::Parts;
-use cm_strace_text::{Body, Row, read_body, read_row};
+use cm_strace_text::{Row, read_body, read_row};
 use cm_world::World;
 use std::alloc::Global;
 use std::marker::Model;
@@ -156,8 +155,8 @@ impl Work {
         ensures uses { uses self.new ≤ uses self.old + 1 }
         ensures counted { OrNoMemory result (λ stop. IfNone stop (self.new.count ≡ self.old.count + 1)) }
     {
-        let told = read_body(body);
-        if is_quiet(told) {
+        let told = hear(read_body(body));
+        if let Heard::Nothing = told {
             self.pass();
             return Ok(None);
         }
@@ -178,15 +177,21 @@ impl Work {
     }
 
     // What the line does to the parts. Its only error is want of memory, which leaves them as they were.
-    fn step(&mut self, alloc: Global, w: &World, pid: Pid, body: Body<'_>) -> Result<Step, NoMemory>
+    fn step(
+        &mut self,
+        alloc: Global,
+        w: &World,
+        pid: Pid,
+        told: Heard<'_>,
+    ) -> Result<Step, NoMemory>
         ensures turn { OrNoMemory result (λ step. step_is pid step self.new.parts
-            ≡ body_turn (world_of w.now) pid (body_is body.entry) self.old.parts) }
+            ≡ heard_turn (world_of w.now) pid told.entry self.old.parts) }
         ensures unchanged { UnchangedOnErr result self.new self.old }
         ensures waits { OrNoMemory result (λ step. Waits step.deed self.new self.old) }
         ensures others { self.new ≡ record self.old { parts = self.new.parts } }
         ensures spaces { self.new.parts.spaces ≡ self.old.parts.spaces }
     {
-        body_step(alloc, w, &mut self.parts, pid, body)
+        heard_step(alloc, w, &mut self.parts, pid, told)
     }
 
     // The step of a line is done in place, where no line waits for a child of it.
@@ -208,7 +213,8 @@ impl Work {
         ensures counted { OrNoMemory result (λ stop. IfNone stop (self.new.count ≡ self.old.count + 1)) }
     {
         let number = self.count + 1;
-        match conclude(alloc, &mut self.parts, pid, step, number, events)? {
+        let origin = Origin { line: number, pid };
+        match conclude(alloc, &mut self.parts, origin, step, events)? {
             Given::On(_) => {
                 self.count = number;
                 Ok(None)

@@ -1,10 +1,11 @@
 // A write to a descriptor: to a map file or a setgroups file that is followed it is a call of its own.
-ghost use Rattle.std.specs.Prelude.{◌≡◌, ℕ, option_map};
+ghost use Rattle.std.specs.Prelude.{◌≡◌, ℕ, option_map, slice_get};
 ghost use Rattle.cm_base.specs.Outcome.{OrNoMemory};
 ghost use Rattle.cm_base.specs.declared.res.Res.TheVariants as res;
 ghost use Rattle.cm_state.specs.Call.{call_of};
 ghost use Rattle.cm_strace.specs.Deeds.{deed_is};
-ghost use Rattle.cm_strace_text.specs.Outcomes.{outcome_is};
+ghost use Rattle.cm_strace_text.specs.Depths.{arguments_in};
+ghost use Rattle.cm_strace_values.specs.Outcomes.{outcome_is};
 ghost use Rattle.cm_strace_text.specs.Quotes.{quote_is};
 ghost use Rattle.model_strace.specs.Parts.{Parts, descriptor_of};
 ghost use Rattle.model_strace.specs.Turn.{written_call, wrote, failed_write, writes_text, writes_argument, writes};
@@ -13,27 +14,29 @@ use crate::deed::{Act, Deed};
 use cm_base::{Errno, LineFault, NoMemory, Pid, Res};
 use cm_state::Call;
 use cm_strace_parts::{Descriptor, Parts, read_extents, read_written_word};
-use cm_strace_text::{Followed, Outcome, Quote, read_quote};
+use cm_strace_text::{Quote, next_argument, read_quote};
+use cm_strace_values::{Followed, Outcome};
 use std::alloc::Global;
 
-/// A write to that descriptor, of a text where one is given. Its only error is want of memory.
+/// A write to that descriptor, of the text that is the first of the arguments that are left. Its only error is want of
+/// memory.
 pub(crate) fn writes(
     alloc: Global,
     parts: &Parts,
     pid: Pid,
     number: u32,
-    text: Option<&[u8]>,
+    left: Option<&[u8]>,
     outcome: Outcome,
 ) -> Result<Deed, NoMemory>
     ensures { OrNoMemory result (λ deed. deed_is pid deed parts.now
-        ≡ writes pid (descriptor_of pid number parts.now) (option_map (λ t. t.now) text.entry)
+        ≡ writes pid (descriptor_of pid number parts.now) (slice_get (arguments_in left.entry) 0)
         (outcome_is outcome) parts.now) }
 {
     match parts.descriptor_of(pid, u64::from(number)) {
         Some(d) => if d.file.is_space() {
             Ok(Deed::Quiet)
         } else {
-            writes_argument(alloc, &d, text, outcome)
+            writes_argument(alloc, &d, left, outcome)
         },
         None => Ok(Deed::Quiet),
     }
@@ -43,14 +46,14 @@ pub(crate) fn writes(
 fn writes_argument(
     alloc: Global,
     d: &Descriptor,
-    text: Option<&[u8]>,
+    left: Option<&[u8]>,
     outcome: Outcome,
 ) -> Result<Deed, NoMemory>
     ensures { OrNoMemory result (λ deed. (pid : ℕ) (p : Parts) → deed_is pid deed p
-        ≡ writes_argument pid d.now (option_map (λ t. t.now) text.entry) (outcome_is outcome) p) }
+        ≡ writes_argument pid d.now (slice_get (arguments_in left.entry) 0) (outcome_is outcome) p) }
 {
-    match text {
-        Some(text) => {
+    match next_argument(left) {
+        Some((text, _)) => {
             let quote = read_quote(alloc, text)?;
             writes_text(alloc, d, &quote, outcome)
         }

@@ -1,5 +1,5 @@
 -- What the code is told by a line of a call, in the words of the definitions.
-use Rattle.std.specs.Prelude.{Result, Ok, Err, option_map}
+use Rattle.std.specs.Prelude.{Result, Ok, Err, slice_get}
 use Rattle.std.specs.Result.{result_map_both}
 use Rattle.cm_filter.specs.declared.kind.CallKind.{CallKind}
 use Rattle.cm_filter.specs.declared.kind.CallKind.TheVariants as kind
@@ -11,9 +11,9 @@ use Rattle.cm_strace_calls.specs.declared.listed.Listed.TheVariants as listed
 use Rattle.cm_strace_calls.specs.declared.told.Opening.{Opening}
 use Rattle.cm_strace_calls.specs.declared.told.Told.{Told}
 use Rattle.cm_strace_calls.specs.declared.told.Told.TheVariants as told
-use Rattle.cm_strace_text.specs.Outcomes.{outcome_is}
+use Rattle.cm_strace_text.specs.Depths.{arguments_in}
+use Rattle.cm_strace_values.specs.Outcomes.{outcome_is}
 use Rattle.model_strace.specs.Calls as model
-use Rattle.model_strace.specs.Quoted.{quote_of, whole_text}
 
 -- the kind of a call that sets ids
 abbrev pub id_kind : IdCall → CallKind
@@ -46,13 +46,9 @@ listed_is listed.DupTo = model.DupTo
 listed_is listed.Fcntl = model.Fcntl
 listed_is listed.Write = model.Write
 
--- the open of the definitions: its path is still quoted in the code
+-- the open of the definitions: its path is still quoted in the code, and its flags are a text
 abbrev pub opening_is : Opening → model.Opening
-opening_is opening = record {
-  path = whole_text (quote_of opening.path.now);
-  writes = opening.writes;
-  until_exec = opening.until_exec;
-}
+opening_is opening = model.opening opening.path.now opening.flags.now
 
 -- what is told, in the words of the definitions
 abbrev pub told_is : Told → model.Told
@@ -66,7 +62,7 @@ told_is (told.Opens opening number) = model.Opens (opening_is opening) number
 told_is (told.Closes number) = model.Closes number
 told_is (told.Copies number) = model.Copies number
 told_is (told.CopiesTo from number) = model.CopiesTo from number
-told_is (told.Writes number text outcome) = model.Writes number (option_map (λ t. t.now) text) (outcome_is outcome)
+told_is (told.Writes number left outcome) = model.Writes number (slice_get (arguments_in left) 0) (outcome_is outcome)
 
 -- what is made of what was read
 abbrev pub and_make : {A B E : Type 0} → (A → B) → Result A E → Result B E

@@ -7,7 +7,8 @@ ghost use Rattle.model_strace.specs.Numbers.{capability, securebits};
 ghost use Rattle.model_text.specs.Token.{id_token, number_token};
 
 use cm_base::LineFault;
-use cm_strace_text::{next_argument, read_capability, read_securebits};
+use cm_strace_text::next_argument;
+use cm_strace_values::{read_capability, read_securebits};
 use cm_tokens::{read_id, read_number};
 
 /// The argument of that number. None exactly where it is missing.

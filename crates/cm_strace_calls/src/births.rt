@@ -2,14 +2,14 @@
 ghost use Rattle.std.specs.Prelude.{◌≡◌};
 ghost use Rattle.cm_strace_calls.specs.Told.{told_is};
 ghost use Rattle.cm_strace_text.specs.Depths.{arguments_in};
-ghost use Rattle.cm_strace_text.specs.Outcomes.{outcome_is};
+ghost use Rattle.cm_strace_values.specs.Outcomes.{outcome_is};
 ghost use Rattle.model_strace.specs.Calls.{birth_told, birth_with, unshare_told, setns_told};
 
 use crate::arguments::needed;
 use crate::told::Told;
 use cm_base::{LineFault, Res};
 use cm_state::Call;
-use cm_strace_text::{Outcome, has_flag};
+use cm_strace_values::{Outcome, has_flag};
 use cm_tokens::read_number;
 
 /// A birth with these flags.

@@ -1,36 +1,40 @@
 // What the text of a call tells: by its name, then by its shape, then by its result and its arguments.
-ghost use Rattle.std.specs.Prelude.{◌≡◌, is_some};
+ghost use Rattle.std.specs.Prelude.{◌≡◌, Some, option_map};
 ghost use Rattle.cm_base.specs.Outcome.{OrNoMemory};
 ghost use Rattle.cm_strace_calls.specs.Told.{listed_is, told_is};
 ghost use Rattle.cm_strace_text.specs.Depths.{arguments_in};
-ghost use Rattle.cm_strace_text.specs.Outcomes.{outcome_is};
+ghost use Rattle.cm_strace_values.specs.Outcomes.{outcome_is};
 ghost use Rattle.cm_world.specs.World.{world_of};
-ghost use Rattle.model_strace.specs.Calls.{call_told, listed_named, written_told, outcome_told, returned};
+ghost use Rattle.model_strace.specs.Calls.{call_told, listed_named, listed_told, outcome_told, returned};
 ghost use Rattle.model_strace.specs.Outcome.{outcome_of};
-ghost use Rattle.model_strace.specs.Written.{arguments_of, call_name, written_of};
+ghost use Rattle.model_strace.specs.Written.{arguments_of, call_name};
 
 use crate::arguments::text_of;
 use crate::births::{read_birth, read_setns, read_unshare};
 use crate::files::{
     read_close, read_creat, read_dup, read_dup_to, read_fcntl, read_open, read_write,
 };
-use crate::listed::Listed;
+use crate::listed::{Listed, begins_unread};
 use crate::told::Told;
 use crate::{caps, exec, groups, ids, prctl};
 use cm_base::{LineFault, NoMemory, Pid};
-use cm_strace_text::{
-    Outcome, Written, birth_flags, call_name, read_arguments, read_outcome, read_written,
-};
+use cm_strace_text::{Written, call_name, read_arguments, read_written};
+use cm_strace_values::{Outcome, birth_flags, read_outcome};
 use cm_world::World;
 use std::alloc::Global;
 
-/// The text is one of a call that is read.
-pub fn is_read(text: &[u8]) -> bool
-    ensures { result ≡ is_some (listed_named (call_name text.now)) }
+/// The call that a text names. None exactly where it isn't read; most of these texts are told by their first byte.
+#[inline]
+pub fn named_call(text: &[u8]) -> Option<Listed>
+    ensures { option_map listed_is result ≡ listed_named (call_name text.now) }
 {
-    match Listed::from_name(call_name(text)) {
-        Some(_) => true,
-        None => false,
+    match text {
+        [first, ..] => if begins_unread(*first) {
+            None
+        } else {
+            Listed::from_name(call_name(text))
+        },
+        [] => None,
     }
 }
 
@@ -43,14 +47,14 @@ pub fn read_call<'a>(
 ) -> Result<Told<'a>, NoMemory>
     ensures { OrNoMemory result (λ told. told_is told ≡ call_told (world_of w.now) pid text.now) }
 {
-    match Listed::from_name(call_name(text)) {
-        Some(call) => read_listed(alloc, w, pid, call, text),
+    match named_call(text) {
+        Some(call) => read_named(alloc, w, pid, call, text),
         None => Ok(Told::Nothing),
     }
 }
 
-// The same of a call that is read.
-fn read_listed<'a>(
+/// The same of a call whose name is read already.
+pub fn read_named<'a>(
     alloc: Global,
     w: &World,
     pid: Pid,
@@ -58,7 +62,7 @@ fn read_listed<'a>(
     text: &'a [u8],
 ) -> Result<Told<'a>, NoMemory>
     ensures { OrNoMemory result (λ told. told_is told
-        ≡ written_told (world_of w.now) pid (listed_is call) (written_of text.now)) }
+        ≡ listed_told (world_of w.now) pid (Some (listed_is call)) text.now) }
 {
     match read_written(text) {
         Some(parts) => read_parts(alloc, w, pid, call, parts),

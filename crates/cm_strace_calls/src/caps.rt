@@ -3,8 +3,8 @@ ghost use Rattle.std.specs.Prelude.{◌≡◌};
 ghost use Rattle.cm_state.specs.Call.{call_of};
 ghost use Rattle.cm_strace_calls.specs.Told.{and_make, then_read, told_is};
 ghost use Rattle.cm_strace_text.specs.Depths.{arguments_in};
-ghost use Rattle.cm_strace_text.specs.Outcomes.{outcome_is};
-ghost use Rattle.cm_strace_text.specs.Structures.{sets_is};
+ghost use Rattle.cm_strace_values.specs.Outcomes.{outcome_is};
+ghost use Rattle.cm_strace_values.specs.Structures.{sets_is};
 ghost use Rattle.model_strace.specs.Calls.{caps_call, caps_told, own_header, read_argument};
 ghost use Rattle.model_strace.specs.Numbers.{sets_of};
 
@@ -12,7 +12,7 @@ use crate::arguments::needed;
 use crate::told::Told;
 use cm_base::{LineFault, Pid, Res};
 use cm_state::Call;
-use cm_strace_text::{Outcome, Sets, read_header, read_sets};
+use cm_strace_values::{Outcome, Sets, read_header, read_sets};
 
 /// A line of capset.
 pub(crate) fn read<'a>(pid: Pid, arguments: Option<&[u8]>, outcome: Outcome) -> Told<'a>

@@ -1,50 +1,47 @@
 // Calls on descriptors: one that fails tells nothing, nor does one of a number that can't be read.
 ghost use Rattle.std.specs.Prelude.{◌≡◌, ◌≤◌};
-ghost use Rattle.cm_strace_calls.specs.Told.{opening_is, told_is};
+ghost use Rattle.cm_strace_calls.specs.Told.{told_is};
 ghost use Rattle.cm_strace_text.specs.Depths.{arguments_in};
-ghost use Rattle.cm_strace_text.specs.Outcomes.{outcome_is};
-ghost use Rattle.model_strace.specs.Outcome.{success};
-ghost use Rattle.model_strace.specs.Calls.{Opens, where_some, opening, open_told, creat_told, close_told, dup_told};
+ghost use Rattle.cm_strace_values.specs.Outcomes.{outcome_is};
+ghost use Rattle.model_strace.specs.Calls.{open_told, creat_told, close_told, dup_told};
 ghost use Rattle.model_strace.specs.Calls.{dup_to_told, makes_copy, fcntl_told, write_told};
 
-use crate::arguments::{argument, number_of, text_of, two_texts};
+use crate::arguments::{number_of, text_of, two_texts};
 use crate::told::{Opening, Told};
-use cm_strace_text::{Outcome, has_flag};
+use cm_strace_text::next_argument;
+use cm_strace_values::Outcome;
+use cm_tokens::read_number;
 
 /// open(2): the path stands as the argument of that number, the flags after it.
 pub(crate) fn read_open<'a>(number: u32, arguments: Option<&'a [u8]>, outcome: Outcome) -> Told<'a>
     requires { 1 ≤ number }
     ensures { told_is result ≡ open_told number (arguments_in arguments.entry) (outcome_is outcome) }
 {
-    let (path, flags) = two_texts(number, arguments);
-    opened(outcome, opening(path, flags))
+    match outcome.success() {
+        Some(opened) => {
+            let (path, flags) = two_texts(number, arguments);
+            Told::Opens(Opening { path, flags }, opened)
+        }
+        None => Told::Nothing,
+    }
 }
 
 /// creat is an open for writing.
 pub(crate) fn read_creat<'a>(arguments: Option<&'a [u8]>, outcome: Outcome) -> Told<'a>
     ensures { told_is result ≡ creat_told (arguments_in arguments.entry) (outcome_is outcome) }
 {
-    opened(outcome, opening(text_of(1, arguments), b"O_WRONLY"))
-}
-
-// An open that succeeds.
-fn opened<'a>(outcome: Outcome, opening: Opening<'a>) -> Told<'a>
-    ensures { told_is result ≡ where_some (success (outcome_is outcome)) (Opens (opening_is opening.entry)) }
-{
     match outcome.success() {
-        Some(number) => Told::Opens(opening, number),
+        Some(opened) => {
+            let path = text_of(1, arguments);
+            Told::Opens(
+                Opening {
+                    path,
+                    flags: b"O_WRONLY",
+                },
+                opened,
+            )
+        }
         None => Told::Nothing,
-    }
-}
-
-// The open of a path with these flags.
-fn opening<'a>(path: &'a [u8], flags: &[u8]) -> Opening<'a>
-    ensures { opening_is result ≡ opening path.now flags.now }
-{
-    Opening {
-        path,
-        writes: has_flag(b"O_WRONLY", flags) || has_flag(b"O_RDWR", flags),
-        until_exec: has_flag(b"O_CLOEXEC", flags),
     }
 }
 
@@ -100,8 +97,11 @@ fn makes_copy(command: &[u8]) -> bool
 pub(crate) fn read_write<'a>(arguments: Option<&'a [u8]>, outcome: Outcome) -> Told<'a>
     ensures { told_is result ≡ write_told (arguments_in arguments.entry) (outcome_is outcome) }
 {
-    match number_of(1, arguments) {
-        Some(number) => Told::Writes(number, argument(2, arguments), outcome),
+    let Some((first, left)) = next_argument(arguments) else {
+        return Told::Nothing;
+    };
+    match read_number(first) {
+        Some(number) => Told::Writes(number, left, outcome),
         None => Told::Nothing,
     }
 }

@@ -3,14 +3,14 @@ ghost use Rattle.std.specs.Prelude.{◌≡◌, ◌==◌, length, if◌then◌els
 ghost use Rattle.cm_base.specs.Outcome.{OrNoMemory};
 ghost use Rattle.cm_strace_calls.specs.Told.{told_is};
 ghost use Rattle.cm_strace_text.specs.Depths.{arguments_in};
-ghost use Rattle.cm_strace_text.specs.Outcomes.{outcome_is};
+ghost use Rattle.cm_strace_values.specs.Outcomes.{outcome_is};
 ghost use Rattle.model_strace.specs.Calls.{Faulty, then_tells, read_argument, ids_of_length, groups_told, groups_call};
 
 use crate::arguments::{argument, number};
 use crate::told::Told;
 use cm_base::{Limited, LineFault, NoMemory, Res};
 use cm_state::{Call, Ids};
-use cm_strace_text::{Outcome, read_id_list};
+use cm_strace_values::{Outcome, read_id_list};
 use std::alloc::Global;
 
 /// A line of setgroups.

@@ -3,7 +3,7 @@ ghost use Rattle.std.specs.Prelude.{◌≡◌};
 ghost use Rattle.cm_state.specs.Call.{call_of};
 ghost use Rattle.cm_strace_calls.specs.Told.{and_make, id_kind, told_is};
 ghost use Rattle.cm_strace_text.specs.Depths.{arguments_in};
-ghost use Rattle.cm_strace_text.specs.Outcomes.{outcome_is};
+ghost use Rattle.cm_strace_values.specs.Outcomes.{outcome_is};
 ghost use Rattle.model_cred.specs.World.{World};
 ghost use Rattle.model_strace.specs.Calls.{ids_result, ids_read, ids_told};
 
@@ -12,7 +12,7 @@ use crate::listed::IdCall;
 use crate::told::Told;
 use cm_base::{LineFault, Res};
 use cm_state::Call;
-use cm_strace_text::Outcome;
+use cm_strace_values::Outcome;
 
 /// A line of such a call.
 pub(crate) fn read<'a>(call: IdCall, arguments: Option<&[u8]>, outcome: Outcome) -> Told<'a>

@@ -14,7 +14,7 @@ mod listed;
 mod prctl;
 mod told;
 
-pub use call::{is_read, read_call};
+pub use call::{named_call, read_call, read_named};
 pub use listed::{IdCall, Listed};
 pub use told::{Opening, Told};
 

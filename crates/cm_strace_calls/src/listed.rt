@@ -1,7 +1,7 @@
 // The calls that are read, by their names.
-ghost use Rattle.std.specs.Prelude.{◌≡◌, Some, bytes_eq, find, option_map, slice_get};
+ghost use Rattle.std.specs.Prelude.{◌≡◌, ◌∷◌, ℕ, List, None, Some, IsTrue, bytes_eq, find, option_map, slice_get};
 ghost use Rattle.cm_strace_calls.specs.Told.{listed_is};
-ghost use Rattle.cm_strace_text.specs.Tables.{rows_of};
+ghost use Rattle.cm_strace_values.specs.Tables.{rows_of};
 ghost use Rattle.model_strace.specs.Calls.{listed_named};
 
 /// One of the eight calls that set ids.
@@ -94,6 +94,17 @@ impl Listed {
             Some(first) => call_begun(*first, name),
             None => None,
         }
+    }
+}
+
+/// No call that is read has a name that begins with that byte.
+#[inline]
+pub(crate) fn begins_unread(first: u8) -> bool
+    ensures { IsTrue result → (name : List ℕ) → listed_named (first ∷ name) ≡ None }
+{
+    match first {
+        b'c' | b'd' | b'e' | b'f' | b'o' | b'p' | b's' | b'u' | b'v' | b'w' => false,
+        _ => true,
     }
 }
 

@@ -4,7 +4,7 @@ ghost use Rattle.cm_state.specs.Call.{call_of};
 ghost use Rattle.cm_strace_calls.specs.Made.{made_call};
 ghost use Rattle.cm_strace_calls.specs.Told.{told_is};
 ghost use Rattle.cm_strace_text.specs.Depths.{arguments_in};
-ghost use Rattle.cm_strace_text.specs.Outcomes.{outcome_is};
+ghost use Rattle.cm_strace_values.specs.Outcomes.{outcome_is};
 ghost use Rattle.model_cred.specs.Call.{AmbClear};
 ghost use Rattle.model_strace.specs.Calls.{Does, with_result, plain_call, prctl_told, option_told, ambient_told};
 ghost use Rattle.model_strace.specs.Outcome.{plain_result};
@@ -13,7 +13,7 @@ use crate::arguments::{bits, capability, needed, number};
 use crate::told::Told;
 use cm_base::LineFault;
 use cm_state::Call;
-use cm_strace_text::Outcome;
+use cm_strace_values::Outcome;
 
 /// A line of prctl.
 pub(crate) fn read<'a>(arguments: Option<&[u8]>, outcome: Outcome) -> Told<'a>

@@ -1,6 +1,7 @@
 // Each call of the table, as strace(1) writes its lines, with what docs/STRACE.md says of them.
 use crate::{Told, read_call};
 use cm_base::Pid;
+use cm_strace_text::next_argument;
 use cm_world::read_world;
 use std::alloc::Global;
 use std::process::Abort;
@@ -26,11 +27,15 @@ fn shown(alloc: Global, told: &Told<'_>) -> Result<String, Fail> {
             let path = words(opening.path)?;
             format!(in alloc;
                 "Opens({path}, {}, {}, {number})",
-                opening.writes, opening.until_exec
+                opening.writes(),
+                opening.until_exec()
             )?
         },
-        Told::Writes(number, Some(text), outcome) => {
-            format!(in alloc; "Writes({number}, {}, {outcome:?})", words(text)?)?
+        Told::Writes(number, left, outcome) => match next_argument(*left) {
+            Some((text, _)) => {
+                format!(in alloc; "Writes({number}, {}, {outcome:?})", words(text)?)?
+            },
+            None => format!(in alloc; "Writes({number}, None, {outcome:?})")?,
         },
         other => format!(in alloc; "{other:?}")?,
     })

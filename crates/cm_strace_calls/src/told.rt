@@ -1,15 +1,32 @@
 // What a line of a call tells.
+ghost use Rattle.std.specs.Prelude.{◌≡◌};
+ghost use Rattle.cm_strace_calls.specs.Told.{opening_is};
+
 use cm_base::{Limited, LineFault, Res};
 use cm_state::Call;
-use cm_strace_text::Outcome;
+use cm_strace_values::{Outcome, has_flag};
 
-/// The open of a file: its path as it stands in quotes, whether it is opened for writing, and whether an execve closes
-/// it (open(2), O_CLOEXEC).
+/// The open of a file: its path as it stands in quotes, and its flags.
 #[derive(Clone, Copy, Debug)]
 pub struct Opening<'a> {
     pub path: &'a [u8],
-    pub writes: bool,
-    pub until_exec: bool,
+    pub flags: &'a [u8],
+}
+
+impl<'a> Opening<'a> {
+    /// The file is opened for writing (open(2), "DESCRIPTION").
+    pub fn writes(self) -> bool
+        ensures { result ≡ (opening_is self.entry).writes }
+    {
+        has_flag(b"O_WRONLY", self.flags) || has_flag(b"O_RDWR", self.flags)
+    }
+
+    /// An execve closes it (open(2), O_CLOEXEC).
+    pub fn until_exec(self) -> bool
+        ensures { result ≡ (opening_is self.entry).until_exec }
+    {
+        has_flag(b"O_CLOEXEC", self.flags)
+    }
 }
 
 /// What a line tells.
@@ -36,6 +53,6 @@ pub enum Told<'a> {
     Copies(u32),
     /// One was copied to that descriptor.
     CopiesTo(Option<u32>, u64),
-    /// That descriptor was written to, where a text is given.
+    /// That descriptor was written to: the arguments after its number.
     Writes(u32, Option<&'a [u8]>, Outcome),
 }

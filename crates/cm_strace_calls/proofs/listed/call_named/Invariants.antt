@@ -2,7 +2,7 @@ use Rattle.std.proofs.Common.{◌≡◌, drop}
 use Rattle.std.specs.Prelude.{find, bytes_eq}
 use Rattle.cm_strace_calls.proofs.listed.call_named.Given as goal
 use Rattle.cm_strace_calls.specs.Told.{listed_is}
-use Rattle.cm_strace_text.specs.Tables.{rows_of}
+use Rattle.cm_strace_values.specs.Tables.{rows_of}
 
 -- no call before this place has the name
 abbrev pub invariant-loop-call : goal.invariant-loop-call
