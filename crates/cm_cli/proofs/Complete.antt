@@ -2,8 +2,9 @@
 use Rattle.std.proofs.Common.{◌≡◌, ◌≢◌, ◌⊎◌, ℕ, List, Option, None, Some, inl, inr, refl, sym, subst, ◌∙◌}
 use Rattle.cm_base.specs.declared.status.Status.{Status}
 use Rattle.cm_base.specs.declared.status.Status.TheVariants as answers
+use Rattle.cm_cli.proofs.Told.{of_report}
 use Rattle.cm_cli.specs.Answers.{report_over, ComesByCause, IsValid, IsCompleted, SaysYes, SaysNo, NoneRose, NamesFault}
-use Rattle.cm_cli.specs.Telling.{IsTold}
+use Rattle.cm_cli.specs.Telling.{IsOfReport}
 use Rattle.cm_io.specs.Shelf.{Files, bytes_at, Rose}
 use Rattle.model_report.proofs.Endings.{yes_is_never, no_is_run}
 use Rattle.model_report.proofs.Statuses.{each_by_its_cause}
@@ -18,17 +19,14 @@ pub by_cause : (words : List (List ℕ)) (files : Files) (answer : Status) → a
 unfolding EachByItsCause
 by_cause words files answer is st = rw is (each_by_its_cause words (bytes_at files) st)
 
-told : (st : Status) → st ≢ answers.ReadFault → st ≢ answers.WriteFault → st ≢ answers.NoMemory → IsTold st
-told st a b c = record { not_read_fault = a; not_write_fault = b; not_memory = c }
-
 T : Status → Type 0
 T st = (st ≢ answers.ReadFault) × (st ≢ answers.WriteFault) × (st ≢ answers.NoMemory)
 
 -- the cause of the answer, where it is a status of a report
-cause_of : (words : List (List ℕ)) (files : Files) (answer : Status) → (IsTold answer → ComesByCause words files answer)
+cause_of : (words : List (List ℕ)) (files : Files) (answer : Status) → (IsOfReport answer → ComesByCause words files answer)
     → T answer → Cause words (bytes_at files) answer
 unfolding T
-cause_of words files answer by (a, b, c) = (by (told answer a b c) answer).0 refl
+cause_of words files answer by (a, b, c) = (by (of_report answer a b c) answer).0 refl
 
 -- a replay that asks nothing has no answer to an audit
 asks_nothing : (words : List (List ℕ)) (bytes : List ℕ → List ℕ)
@@ -64,7 +62,7 @@ no_memory None = inr refl
 no_memory (Some q) = inr (inr (inr refl))
 
 -- valid input, where each answer of a report has its cause, and none of the faults is answered
-valid_completed : (words : List (List ℕ)) (files : Files) (answer : Status) → (IsTold answer → ComesByCause words files answer)
+valid_completed : (words : List (List ℕ)) (files : Files) (answer : Status) → (IsOfReport answer → ComesByCause words files answer)
     → answer ≢ answers.ReadFault → answer ≢ answers.WriteFault → IsValid words files
     → (answer ≡ answers.NoMemory) ⊎ (answer ≢ answers.NoMemory) → IsCompleted (query_of (command_of words)) answer
 unfolding T
@@ -78,12 +76,12 @@ wants_memory _ = inr (λ e. cc)
 
 -- and no fault was counted
 pub completed : (words : List (List ℕ)) (files : Files) (answer : Status) (reads reads' : List ℕ → ℕ) (writes writes' : ℕ)
-    → (IsTold answer → answer ≡ (report_over words files).status)
+    → (IsOfReport answer → answer ≡ (report_over words files).status)
     → (answer ≡ answers.ReadFault → NamesFault (command_of words) reads reads')
     → (answer ≡ answers.WriteFault → Rose writes writes') → IsValid words files → NoneRose reads reads' writes writes'
     → IsCompleted (query_of (command_of words)) answer
 completed words files answer reads reads' writes writes' is read write valid none =
-    valid_completed words files answer (λ is_told. by_cause words files answer (is is_told))
+    valid_completed words files answer (λ tells. by_cause words files answer (is tells))
     (λ fault. let named = read fault in elim named.rose [
       | inl world ↦ none.reads_same named.world world
       | inr log ↦ none.reads_same named.log log
@@ -91,14 +89,14 @@ completed words files answer reads reads' writes writes' is read write valid non
     (λ fault. none.writes_same (write fault)) valid (wants_memory answer)
 
 -- what an audit says, where the answer is the report's status
-pub says_yes : (words : List (List ℕ)) (files : Files) (answer : Status) → (IsTold answer → answer ≡ (report_over words files).status)
+pub says_yes : (words : List (List ℕ)) (files : Files) (answer : Status) → (IsOfReport answer → answer ≡ (report_over words files).status)
     → answer ≡ answers.Accepted → SaysYes words files
 unfolding YesIsNever
 says_yes words files answer is said q asked =
-    yes_is_never words (bytes_at files) q asked (sym (is (subst IsTold (sym said) (told answers.Accepted (λ e. cc) (λ e. cc) (λ e. cc)))) ∙ said)
+    yes_is_never words (bytes_at files) q asked (sym (is (subst IsOfReport (sym said) (of_report answers.Accepted (λ e. cc) (λ e. cc) (λ e. cc)))) ∙ said)
 
-pub says_no : (words : List (List ℕ)) (files : Files) (answer : Status) → (IsTold answer → answer ≡ (report_over words files).status)
+pub says_no : (words : List (List ℕ)) (files : Files) (answer : Status) → (IsOfReport answer → answer ≡ (report_over words files).status)
     → answer ≡ answers.No → SaysNo words files
 unfolding NoIsRun
 says_no words files answer is said =
-    no_is_run words (bytes_at files) (sym (is (subst IsTold (sym said) (told answers.No (λ e. cc) (λ e. cc) (λ e. cc)))) ∙ said)
+    no_is_run words (bytes_at files) (sym (is (subst IsOfReport (sym said) (of_report answers.No (λ e. cc) (λ e. cc) (λ e. cc)))) ∙ said)

@@ -5,7 +5,7 @@ use Rattle.cm_base.specs.declared.status.Status.{Status}
 use Rattle.cm_base.specs.declared.status.Status.TheVariants as answers
 use Rattle.cm_cli.specs.Answers.{asking, AnswersReport, CountsReads}
 use Rattle.cm_cli.specs.Reading.{WorldStands}
-use Rattle.cm_cli.specs.Telling.{IsTold, TellsReport, short_report}
+use Rattle.cm_cli.specs.Telling.{IsOfReport, TellsReport, short_report}
 use Rattle.cm_cli.specs.declared.telling.Short.{Short}
 use Rattle.cm_cli.specs.declared.telling.Short.TheVariants as short
 use Rattle.cm_io.specs.Shelf.{Files, bytes_at, Rose}
@@ -40,20 +40,20 @@ asking_names : (query : Option Query) (world log : List ℕ) → files_of (askin
 asking_names None world log = refl
 asking_names (Some q) world log = refl
 
-told_usage : IsTold answers.Usage
-told_usage = record { not_read_fault = λ e. cc; not_write_fault = λ e. cc; not_memory = λ e. cc }
+usage_of_report : IsOfReport answers.Usage
+usage_of_report = record { not_read_fault = λ e. cc; not_write_fault = λ e. cc; not_memory = λ e. cc }
 
 -- the files were read, and a report was told
 pub log_answers : (held : Option Files) (query : Option Query) (world log : List ℕ) (r : Report) (answer : Status) (w w' : Option (List ℕ)) (f f' : ℕ)
     → IfSome held (λ files. files_report query (bytes_at files world) (bytes_at files log) ≡ r) → r.status ≢ answers.Usage
     → TellsReport r answer w w' f f' → AnswersReport held (asking query world log) answer w w'
 log_answers held query world log r answer w w' f f' ready not_usage told = record {
-  status = if_told held ready (λ files is is_told.
-      told.status is_told ∙ ap (λ (q : Report). q.status) (sym (asking_report query world log (bytes_at files) ∙ is)));
+  status = if_told held ready (λ files is tells.
+      told.status tells ∙ ap (λ (q : Report). q.status) (sym (asking_report query world log (bytes_at files) ∙ is)));
   text = if_told held ready (λ files is.
       rw (asking_report query world log (bytes_at files) ∙ is) (record { whole = told.text; front = told.front }));
   silent = λ fault. absurd (told.never_read_fault fault);
-  usage = λ is. absurd (not_usage (sym (told.status (subst IsTold (sym is) told_usage)) ∙ is));
+  usage = λ is. absurd (not_usage (sym (told.status (subst IsOfReport (sym is) usage_of_report)) ∙ is));
   no_form = λ is. absurd (asking_has_form query world log is);
 }
 

@@ -9,7 +9,7 @@ use Rattle.cm_cli.proofs.ReportText.{text_of_append}
 use Rattle.cm_cli.specs.Sent.{IsSent, IsFront}
 use Rattle.cm_cli.specs.Replay.{report_from}
 use Rattle.cm_cli.specs.declared.replay.Replay.{Replay}
-use Rattle.cm_cli.specs.Telling.{IsTold, TellsReport, stopped_by, log_report, answer_to}
+use Rattle.cm_cli.specs.Telling.{IsOfReport, TellsReport, stopped_by, log_report, answer_to}
 use Rattle.cm_io.specs.Sink.{then_written, WriteFaults}
 use Rattle.cm_io.specs.declared.outside.Outside.{Outside}
 use Rattle.cm_io.specs.declared.outside.Outside.TheVariants as outside
@@ -172,7 +172,7 @@ all_written w w' whole sent = sent.written ∙ ap (then_written w) (sym (append-
 
 -- a report that is told whole
 pub tells_whole : (r : Report) (answer : Status) (w w' : Option (List ℕ)) (f f' : ℕ) → r.status ≡ answer
-    → IsTold r.status → IsSent w w' [] (text_of r.lines) → f' ≡ f → TellsReport r answer w w' f f'
+    → IsOfReport r.status → IsSent w w' [] (text_of r.lines) → f' ≡ f → TellsReport r answer w w' f f'
 tells_whole r answer w w' f f' is told sent same = record {
   status = λ _. sym is;
   text = λ _. all_written w w' (text_of r.lines) sent;
@@ -256,19 +256,19 @@ module _ (P : Status → Type 0) (holds : HoldsOfLogs P) where
       going_on replay.status replay (verdict_after more w (events_of reading.events) q) (of_replay w w.start 0 reading.events reading.ending)
       (of_asked (more_after more reading) w s (asked_process s q.pid) (right_token w.names q.right))
 
--- each is that of a report
-is_told : (st : Status) → st ≢ answers.ReadFault → st ≢ answers.WriteFault → st ≢ answers.NoMemory → IsTold st
-is_told st a b c = record { not_read_fault = a; not_write_fault = b; not_memory = c }
+-- a status that is none of these three is that of a report
+pub of_report : (st : Status) → st ≢ answers.ReadFault → st ≢ answers.WriteFault → st ≢ answers.NoMemory → IsOfReport st
+of_report st a b c = record { not_read_fault = a; not_write_fault = b; not_memory = c }
 
-pub answered_told : (query : Option Query) (more : Bool) (w : World) (reading : Reading) → IsTold (answered query more w reading).status
-answered_told query more w reading = of_answered IsTold (record {
-  accepted = is_told answers.Accepted (λ e. cc) (λ e. cc) (λ e. cc);
-  no = is_told answers.No (λ e. cc) (λ e. cc) (λ e. cc);
-  impossible = is_told answers.Impossible (λ e. cc) (λ e. cc) (λ e. cc);
-  bad_log = is_told answers.BadLog (λ e. cc) (λ e. cc) (λ e. cc);
-  limit = is_told answers.Limit (λ e. cc) (λ e. cc) (λ e. cc);
-  bad_query = is_told answers.BadQuery (λ e. cc) (λ e. cc) (λ e. cc);
-  not_built = is_told answers.NotBuilt (λ e. cc) (λ e. cc) (λ e. cc);
+pub answered_of_report : (query : Option Query) (more : Bool) (w : World) (reading : Reading) → IsOfReport (answered query more w reading).status
+answered_of_report query more w reading = of_answered IsOfReport (record {
+  accepted = of_report answers.Accepted (λ e. cc) (λ e. cc) (λ e. cc);
+  no = of_report answers.No (λ e. cc) (λ e. cc) (λ e. cc);
+  impossible = of_report answers.Impossible (λ e. cc) (λ e. cc) (λ e. cc);
+  bad_log = of_report answers.BadLog (λ e. cc) (λ e. cc) (λ e. cc);
+  limit = of_report answers.Limit (λ e. cc) (λ e. cc) (λ e. cc);
+  bad_query = of_report answers.BadQuery (λ e. cc) (λ e. cc) (λ e. cc);
+  not_built = of_report answers.NotBuilt (λ e. cc) (λ e. cc) (λ e. cc);
 }) query more w reading
 
 -- and none is that of the usage

@@ -4,7 +4,7 @@ use Rattle.cm_base.specs.declared.status.Status.{Status}
 use Rattle.cm_base.specs.declared.status.Status.TheVariants as answers
 use Rattle.cm_cli.specs.Reading.{WorldStands}
 use Rattle.cm_cli.specs.Sent.{IsFront}
-use Rattle.cm_cli.specs.Telling.{IsTold}
+use Rattle.cm_cli.specs.Telling.{IsOfReport}
 use Rattle.cm_io.specs.Shelf.{Files, bytes_at, Rose}
 use Rattle.cm_io.specs.Sink.{then_written}
 use Rattle.model_report.specs.Causes.{Cause, IsAccepted, IsUnbuilt, IsYes}
@@ -25,7 +25,7 @@ asking (Some q) world log = Audit world log q.pid q.right
 
 -- With the status of a report all of its text is written, with any other a front of it.
 pub record WritesReport (r : Report) (answer : Status) (written written' : Option (List ℕ)) : Type 0 where
-  pub whole : IsTold answer → written' ≡ then_written written (text_of r.lines)
+  pub whole : IsOfReport answer → written' ≡ then_written written (text_of r.lines)
   pub front : IsFront written written' (text_of r.lines)
 
 -- the answers that words of no form may have
@@ -36,7 +36,7 @@ IsUsageAnswer answer = (answer ≡ answers.Usage) ⊎ (answer ≡ answers.WriteF
 -- written; after a read fault nothing is. Words of no form give the usage, and no other words do.
 pub record AnswersReport (held : Option Files) (command : Command) (answer : Status) (written written' : Option (List ℕ))
     : Type 0 where
-  pub status : IfSome held (λ files. IsTold answer → answer ≡ (command_report command (bytes_at files)).status)
+  pub status : IfSome held (λ files. IsOfReport answer → answer ≡ (command_report command (bytes_at files)).status)
   pub text : IfSome held (λ files. WritesReport (command_report command (bytes_at files)) answer written written')
   pub silent : answer ≡ answers.ReadFault → written' ≡ written
   pub usage : answer ≡ answers.Usage → command ≡ NoForm

@@ -20,7 +20,7 @@ use Rattle.model_report.specs.Report as whole
 use Rattle.model_strace.specs.Logs.{log_reading}
 
 -- The status is that of a report: neither a fault of reading or writing, nor want of memory.
-pub record IsTold (answer : Status) : Type 0 where
+pub record IsOfReport (answer : Status) : Type 0 where
   pub not_read_fault : answer ≢ answers.ReadFault
   pub not_write_fault : answer ≢ answers.WriteFault
   pub not_memory : answer ≢ answers.NoMemory
@@ -33,8 +33,8 @@ pub record CountsWrites (answer : Status) (before now : ℕ) : Type 0 where
 
 -- The answer tells the report: with its status all of its text is written, with any other a front of it.
 pub record TellsReport (r : Report) (answer : Status) (written written' : Option (List ℕ)) (faults faults' : ℕ) : Type 0 where
-  pub status : IsTold answer → answer ≡ r.status
-  pub text : IsTold answer → written' ≡ then_written written (text_of r.lines)
+  pub status : IsOfReport answer → answer ≡ r.status
+  pub text : IsOfReport answer → written' ≡ then_written written (text_of r.lines)
   pub front : IsFront written written' (text_of r.lines)
   pub never_read_fault : answer ≢ answers.ReadFault
   pub counts : CountsWrites answer faults faults'

@@ -4,7 +4,7 @@ ghost use Rattle.cm_cli.specs.Answers.{asking, AnswersReport, CountsReads, NoneR
 ghost use Rattle.cm_cli.specs.Answers.{IsValid, ComesByCause, IsCompleted, SaysYes, SaysNo};
 ghost use Rattle.cm_cli.specs.Query.{query_if};
 ghost use Rattle.cm_cli.specs.Reading.{TakesFor, ReadsFor};
-ghost use Rattle.cm_cli.specs.Telling.{IsTold, CountsWrites};
+ghost use Rattle.cm_cli.specs.Telling.{IsOfReport, CountsWrites};
 ghost use Rattle.cm_cli.specs.Words.{bytes_of, command_in, command_view};
 ghost use Rattle.model_report.specs.Command.{files_of, query_of};
 
@@ -45,7 +45,7 @@ pub fn run<H: Shelf, K: Sink>(
 
     // Each answer of a report has its cause in the words and the files, and each cause its answer.
     ensures answers { IfSome (H.held shelf.old) (λ files.
-        IsTold result → ComesByCause (bytes_of words.now.items) files result) }
+        IsOfReport result → ComesByCause (bytes_of words.now.items) files result) }
 
     // What an audit says: with status 0, which writes yes, no list of later setresuid calls of the one process that
     // lives after the log ends where it has the user id that is asked for; with status 1 the lines that are written
@@ -85,7 +85,7 @@ pub fn run_surely(
         (⟦<SureShelf as Shelf>⟧.reads shelf.old) (⟦<SureShelf as Shelf>⟧.reads shelf.new) }
     ensures held { ⟦<SureShelf as Shelf>⟧.held shelf.new ≡ ⟦<SureShelf as Shelf>⟧.held shelf.old }
     ensures answers { IfSome (⟦<SureShelf as Shelf>⟧.held shelf.old) (λ files.
-        IsTold result → ComesByCause (bytes_of words.now.items) files result) }
+        IsOfReport result → ComesByCause (bytes_of words.now.items) files result) }
     ensures yes { IfSome (⟦<SureShelf as Shelf>⟧.held shelf.old) (λ files.
         result ≡ Status.Accepted → SaysYes (bytes_of words.now.items) files) }
     ensures no { IfSome (⟦<SureShelf as Shelf>⟧.held shelf.old) (λ files.

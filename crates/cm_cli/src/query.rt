@@ -5,7 +5,7 @@ ghost use Rattle.model_report.specs.Query.{rest_after, id_number, cap_text, righ
 
 use cm_base::{Cap, Kgid, Kuid, read_u32};
 use cm_state::Right;
-use cm_world::Names;
+use cm_values::Names;
 
 /// The words of a query.
 #[derive(Clone, Copy, Debug)]

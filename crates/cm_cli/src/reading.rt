@@ -14,12 +14,6 @@ use cm_io::{Shelf, WholeError, read_whole};
 use cm_world::{World, WorldError, read_world};
 use std::alloc::Global;
 
-/// The most bytes of a world.
-const WORLD_LIMIT: usize = 1_048_576;
-
-/// The most bytes of a log.
-const LOG_LIMIT: usize = 67_108_864;
-
 /// Why there is nothing to replay: a report of one piece tells it, a read failed, or there was no memory.
 #[derive(Clone, Copy, Debug)]
 pub(crate) enum Unready {
@@ -71,8 +65,9 @@ fn read_world_file<H: Shelf>(alloc: Global, shelf: &mut H, name: &str) -> Result
     ensures takes { TakesAtMost (H.taken shelf.old) (H.taken shelf.new) name.now (limit_number Limited.World + 1) }
     ensures reads { ReadsOnly (H.reads shelf.old) (H.reads shelf.new) name.now }
 {
+    let limit = Limited::World.number() as usize;
     let mut text = Vec::new(alloc);
-    match read_whole(alloc, shelf, name, WORLD_LIMIT, &mut text) {
+    match read_whole(alloc, shelf, name, limit, &mut text) {
         Ok(()) => {}
         Err(why) => return Err(unread(why, Short::Limit(Limited::World))),
     }
@@ -107,8 +102,9 @@ fn read_log_file<H: Shelf>(alloc: Global, shelf: &mut H, name: &str) -> Result<V
     ensures takes { TakesAtMost (H.taken shelf.old) (H.taken shelf.new) name.now (limit_number Limited.Log + 1) }
     ensures reads { ReadsOnly (H.reads shelf.old) (H.reads shelf.new) name.now }
 {
+    let limit = Limited::Log.number() as usize;
     let mut text = Vec::new(alloc);
-    match read_whole(alloc, shelf, name, LOG_LIMIT, &mut text) {
+    match read_whole(alloc, shelf, name, limit, &mut text) {
         Ok(()) => Ok(text),
         Err(why) => Err(unread(why, Short::Limit(Limited::Log))),
     }

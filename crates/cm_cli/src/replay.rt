@@ -157,9 +157,9 @@ fn take_event(
 fn exceeded(state: &State) -> Option<Limited>
     ensures { result ≡ exceeded state.now }
 {
-    if state.procs.items().len() > 4096 {
+    if state.procs.items().len() as u64 > Limited::Processes.number() {
         Some(Limited::Processes)
-    } else if state.spaces.count() > 256 {
+    } else if u64::from(state.spaces.count()) > Limited::Spaces.number() {
         Some(Limited::Spaces)
     } else {
         None

@@ -2,6 +2,7 @@
 //! and in model_strace/specs (Lines, Logs).
 #![tactic(auto)]
 
+mod limits;
 mod log;
 mod next;
 mod script;

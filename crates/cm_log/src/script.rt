@@ -8,6 +8,7 @@ ghost use Rattle.cm_world.specs.World.{world_of};
 ghost use Rattle.model_cred.specs.World as model;
 ghost use Rattle.model_text.specs.Reading.{script_reading, log_line};
 
+use crate::limits::LINE_LIMIT;
 use crate::next::Next;
 use cm_base::{Limited, NoMemory};
 use cm_script::{LineError, read_line};
@@ -16,9 +17,6 @@ use cm_strace::{Placed, Stop};
 use cm_tokens::next_line;
 use cm_world::World;
 use std::alloc::Global;
-
-/// The most bytes of a line.
-const LINE_LIMIT: usize = 1_048_576;
 
 /// What is left of a script log: its text from a line on, which has that number.
 #[derive(Debug, Drop)]

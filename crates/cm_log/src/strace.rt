@@ -8,15 +8,13 @@ ghost use Rattle.model_strace.specs.Lines.{strace_reading};
 ghost use Rattle.model_strace.specs.Rest.{first_session};
 ghost use Rattle.model_text.specs.Cut.{lines_of};
 
+use crate::limits::LINE_LIMIT;
 use crate::next::Next;
 use cm_base::{Limited, NoMemory};
 use cm_strace::{Placed, Stop, Tracer};
 use cm_tokens::next_line;
 use cm_world::World;
 use std::alloc::Global;
-
-/// The most bytes of a line.
-const LINE_LIMIT: usize = 1_048_576;
 
 /// Whether a log is still read, or how its reading ended.
 #[derive(Clone, Copy, Debug)]
@@ -105,10 +103,10 @@ impl<'a> StraceLog<'a> {
             self.phase = Phase::Ended(Some(Stop::Limit(Limited::Line)));
             return Ok(());
         }
-        let fed = self.tracer.feed_line(alloc, w, line)?;
+        let stop = self.tracer.feed_line(alloc, w, line, &mut self.waiting)?;
         self.rest = after;
-        self.take(fed.events);
-        self.phase = phase_after(fed.stop);
+        self.turn_waiting();
+        self.phase = phase_after(stop);
         Ok(())
     }
 
@@ -123,19 +121,20 @@ impl<'a> StraceLog<'a> {
         ensures room { OrNoMemory result (λ _. StraceCanGoOn self.new) }
     {
         let fed = self.tracer.finish(alloc, w)?;
-        self.take(fed.events);
+        self.waiting = fed.events;
+        self.turn_waiting();
         self.phase = Phase::Ended(fed.stop);
         Ok(())
     }
 
-    // Takes the events that the session gave.
-    fn take(&mut self, events: Vec<Placed>)
-        ensures events { reverse self.new.waiting.items ≡ events.items }
+    // The events that the session gave wait from now on, the last one first.
+    #[inline]
+    fn turn_waiting(&mut self)
+        ensures events { reverse self.new.waiting.items ≡ self.old.waiting.items }
         ensures tracer { self.new.tracer ≡ self.old.tracer }
         ensures rest { self.new.rest ≡ self.old.rest }
         ensures phase { self.new.phase ≡ self.old.phase }
     {
-        self.waiting = events;
         self.waiting.reverse();
     }
 }

@@ -1,5 +1,5 @@
 use Rattle.std.proofs.Common.{◌∙◌}
-use Rattle.cm_cli.proofs.Told.{stops, tells_whole, answered_told}
+use Rattle.cm_cli.proofs.Told.{stops, tells_whole, answered_of_report}
 use Rattle.cm_cli.proofs.Waiting.{front_on, sent_on}
 use Rattle.cm_cli.proofs.telling.tell_log.Goals as goal
 use Rattle.cm_cli.specs.Query.{query_if}
@@ -12,7 +12,7 @@ returns-in-Ok-send g c =
     let w = world_of c.args.w.now in
     let sent = rw c.in-Ok-send.ensures.empty at (sent_on c.in-Ok.ensures.sent c.in-Ok-send.ensures.sent) in
     tells_whole (log_report (query_if c.args.query) c.args.w.now c.args.log.now) c.in-Ok.status _ _ _ _ c.in-Ok.ensures.status
-    (answered_told (query_if c.args.query) c.args.w.now.more w (log_reading w c.args.log.now)) sent
+    (answered_of_report (query_if c.args.query) c.args.w.now.more w (log_reading w c.args.log.now)) sent
     (c.in-Ok-send.ensures.cause.ok ∙ c.in-Ok.ensures.cause.ok)
 
 pub returns : goal.returns

@@ -11,17 +11,28 @@ returns-then-line-gt-LINE_LIMIT-clause-left c =
 pub returns-clause-left : goal.returns-clause-left
 returns-clause-left c =
     after_line_left (world_of c.args.w.now) c.args.self.now
-    (record { tracer = c.take.new.self.tracer; rest = c.take.new.self.rest; waiting = c.take.new.self.waiting; phase = c.phase_after-self.result })
-    c.args.line.now c.args.after.now c.fed.inside.events.items c.fed.inside.stop
+    (record {
+      tracer = c.turn_waiting.new.self.tracer;
+      rest = c.turn_waiting.new.self.rest;
+      waiting = c.turn_waiting.new.self.waiting;
+      phase = c.phase_after-self.result;
+    })
+    c.args.line.now c.args.after.now c.feed_line.new.events.items c.in_ok-stop.stop
     c.requires.none c.requires.reads c.requires.line (omega (arith, c.if-line-gt-LINE_LIMIT.false))
-    (c.take.ensures.tracer ∙ c.in_ok-fed.ensures.after) (ap (λ r. r.now) c.take.ensures.rest) c.take.ensures.events c.phase_after-self.ensures
-    (c.fed.view_is ∙ c.in_ok-fed.ensures.given)
+    (c.turn_waiting.ensures.tracer ∙ c.in_ok-stop.ensures.after) (ap (λ r. r.now) c.turn_waiting.ensures.rest)
+    c.turn_waiting.ensures.events c.phase_after-self.ensures
+    c.in_ok-stop.ensures.given
 
 pub returns-clause-room : goal.returns-clause-room
 returns-clause-room c =
     after_line_goes_on (world_of c.args.w.now) c.args.self.now
-    (record { tracer = c.take.new.self.tracer; rest = c.take.new.self.rest; waiting = c.take.new.self.waiting; phase = c.phase_after-self.result })
-    c.args.line.now c.args.after.now c.fed.inside.events.items c.fed.inside.stop
+    (record {
+      tracer = c.turn_waiting.new.self.tracer;
+      rest = c.turn_waiting.new.self.rest;
+      waiting = c.turn_waiting.new.self.waiting;
+      phase = c.phase_after-self.result;
+    })
+    c.args.line.now c.args.after.now c.feed_line.new.events.items c.in_ok-stop.stop
     c.requires.room c.requires.reads c.requires.shorter
-    (c.take.ensures.tracer ∙ c.in_ok-fed.ensures.after) (ap (λ r. r.now) c.take.ensures.rest) c.phase_after-self.ensures
-    (c.fed.view_is ∙ c.in_ok-fed.ensures.given)
+    (c.turn_waiting.ensures.tracer ∙ c.in_ok-stop.ensures.after) (ap (λ r. r.now) c.turn_waiting.ensures.rest) c.phase_after-self.ensures
+    c.in_ok-stop.ensures.given
