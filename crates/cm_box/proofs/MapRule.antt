@@ -1,77 +1,69 @@
--- The rule on maps at one row: what its test looks at.
-use Rattle.std.proofs.Common.{ℕ, Bool, false}
+-- The rule on maps at one row, of users' ids and of groups' alike.
+use Rattle.std.proofs.Common.{◌≡◌, ℕ, Bool, false, ◌∙◌}
 use Rattle.std.specs.Prelude.{◌↔◌, IsTrue}
+use Rattle.std.proofs.lemmas.Bool.{false≢true}
 use Rattle.cm_filter.specs.declared.kind.CallKind.{CallKind}
-use Rattle.cm_filter.specs.declared.kind.CallKind.TheVariants as kind
+use Rattle.cm_sets.specs.Sets.{AreSame, IsWithin}
 use Rattle.model_cred.specs.Space.{Spaces}
 use Rattle.model_box.specs.Closed.{ByMaps}
 use Rattle.model_box.specs.Row.{Part, MappedUids, MappedGids, Row, Standing, Fresh, HasMembers}
-use Rattle.cm_box.specs.Closing.{UidMapHeld, GidMapHeld}
+use Rattle.cm_box_rows.specs.declared.kind.Kind.{Kind}
+use Rattle.cm_box_rows.specs.declared.kind.Kind.TheVariants.{Users}
+use Rattle.cm_box_rows.specs.declared.kind.Kind.TheVariants as kinds
+use Rattle.cm_box_rows.specs.Kinds.{mapped}
 use Rattle.cm_box_rows.specs.Rows.{HoldsAll}
-use Rattle.cm_box_rows.proofs.Spreading.{refused}
-use Rattle.cm_box_rows.proofs.Tests.{no}
-use Rattle.cm_box_rows.specs.Spread.{FreshUidBy, FreshGidBy}
+use Rattle.cm_box_rows.specs.Spread.{FreshIdBy}
+use Rattle.cm_box.specs.Mapping.{IdsWritten, call_for}
 
 module _ (permitted : CallKind → Bool) (spaces : Spaces) (bounds : Row → Part → ℕ → Type 0) where
-  standing_maps : (n : ℕ)
-      → ((IsTrue (permitted kind.WriteUidMap) → UidMapHeld spaces bounds n) × (IsTrue (permitted kind.WriteGidMap) → GidMapHeld spaces bounds n))
-      ↔ HoldsAll (bounds (Standing n)) (ByMaps permitted spaces bounds (Standing n))
-  standing_maps n = (to, from) where
-    to : (IsTrue (permitted kind.WriteUidMap) → UidMapHeld spaces bounds n) × (IsTrue (permitted kind.WriteGidMap) → GidMapHeld spaces bounds n)
-        → HoldsAll (bounds (Standing n)) (ByMaps permitted spaces bounds (Standing n))
-    to both MappedUids x (can, missing, (q, parent, new)) = both.0 can missing q parent x new
-    to both MappedGids x (can, missing, (q, parent, new)) = both.1 can missing q parent x new
-    to both _ x none = absurd none
+  -- what comes to both maps is all that comes
+  pub both_maps : (row : Row) → IsWithin (ByMaps permitted spaces bounds row MappedUids) (bounds row MappedUids)
+      → IsWithin (ByMaps permitted spaces bounds row MappedGids) (bounds row MappedGids)
+      → HoldsAll (bounds row) (ByMaps permitted spaces bounds row)
+  both_maps (Standing n) uids gids MappedUids x by = uids x by
+  both_maps (Standing n) uids gids MappedGids x by = gids x by
+  both_maps (Standing n) uids gids _ x none = absurd none
+  both_maps (Fresh n) uids gids MappedUids x by = uids x by
+  both_maps (Fresh n) uids gids MappedGids x by = gids x by
+  both_maps (Fresh n) uids gids _ x none = absurd none
 
-    from : HoldsAll (bounds (Standing n)) (ByMaps permitted spaces bounds (Standing n))
-        → (IsTrue (permitted kind.WriteUidMap) → UidMapHeld spaces bounds n) × (IsTrue (permitted kind.WriteGidMap) → GidMapHeld spaces bounds n)
-    from all = (
-      λ can missing q parent x new. all MappedUids x (can, missing, (q, parent, new)),
-      λ can missing q parent x new. all MappedGids x (can, missing, (q, parent, new)),
-    )
+  -- what comes to one
+  abbrev pub Comes : Kind → Row → ℕ → Type 0
+  Comes kind row = ByMaps permitted spaces bounds row (mapped kind)
 
-  fresh_maps : (n : ℕ)
-      → (HasMembers (bounds (Fresh n))
-      → (IsTrue (permitted kind.WriteUidMap) → (x : ℕ) → FreshUidBy (bounds (Standing n)) x → bounds (Fresh n) MappedUids x)
-      × (IsTrue (permitted kind.WriteGidMap) → (x : ℕ) → FreshGidBy (bounds (Standing n)) (bounds (Fresh n)) x → bounds (Fresh n) MappedGids x))
-      ↔ HoldsAll (bounds (Fresh n)) (ByMaps permitted spaces bounds (Fresh n))
-  fresh_maps n = (to, from) where
-    to : (HasMembers (bounds (Fresh n))
-        → (IsTrue (permitted kind.WriteUidMap) → (x : ℕ) → FreshUidBy (bounds (Standing n)) x → bounds (Fresh n) MappedUids x)
-        × (IsTrue (permitted kind.WriteGidMap) → (x : ℕ) → FreshGidBy (bounds (Standing n)) (bounds (Fresh n)) x → bounds (Fresh n) MappedGids x))
-        → HoldsAll (bounds (Fresh n)) (ByMaps permitted spaces bounds (Fresh n))
-    to both MappedUids x (can, some, new) = (both some).0 can x new
-    to both MappedGids x (can, some, new) = (both some).1 can x new
-    to both _ x none = absurd none
+  by_standing : (kind : Kind) (n x : ℕ)
+      → Comes kind (Standing n) x ↔ (IsTrue (permitted (call_for kind)) × IdsWritten kind spaces bounds n x)
+  by_standing Users n x = (λ by. (by.0, (by.1, by.2)), λ by. (by.0, by.1.0, by.1.1))
+  by_standing kinds.Groups n x = (λ by. (by.0, (by.1, by.2)), λ by. (by.0, by.1.0, by.1.1))
 
-    from : HoldsAll (bounds (Fresh n)) (ByMaps permitted spaces bounds (Fresh n)) → HasMembers (bounds (Fresh n))
-        → (IsTrue (permitted kind.WriteUidMap) → (x : ℕ) → FreshUidBy (bounds (Standing n)) x → bounds (Fresh n) MappedUids x)
-        × (IsTrue (permitted kind.WriteGidMap) → (x : ℕ) → FreshGidBy (bounds (Standing n)) (bounds (Fresh n)) x → bounds (Fresh n) MappedGids x)
-    from all some = (λ can x new. all MappedUids x (can, some, new), λ can x new. all MappedGids x (can, some, new))
+  by_fresh : (kind : Kind) (n x : ℕ)
+      → Comes kind (Fresh n) x
+      ↔ (IsTrue (permitted (call_for kind)) × HasMembers (bounds (Fresh n))
+      × FreshIdBy kind (bounds (Standing n)) (bounds (Fresh n)) x)
+  by_fresh Users n x = (λ by. by, λ by. by)
+  by_fresh kinds.Groups n x = (λ by. by, λ by. by)
 
-  -- as the answers of tests
-  pub standing_not : (n : ℕ) → IsTrue (permitted kind.WriteUidMap) → IsTrue false ↔ UidMapHeld spaces bounds n
-      → IsTrue false ↔ HoldsAll (bounds (Standing n)) (ByMaps permitted spaces bounds (Standing n))
-  standing_not n can told =
-      no (HoldsAll (bounds (Standing n)) (ByMaps permitted spaces bounds (Standing n)))
-      (λ all. refused (UidMapHeld spaces bounds n) told (((standing_maps n).1 all).0 can))
+  -- nothing comes while its call isn't permitted, and to a fresh row while it has no members
+  pub none_called : (kind : Kind) (row : Row) → false ≡ permitted (call_for kind) → (x : ℕ) → Comes kind row x → ⊥
+  none_called kind (Standing n) out x by = false≢true (out ∙ ((by_standing kind n x).0 by).0)
+  none_called kind (Fresh n) out x by = false≢true (out ∙ ((by_fresh kind n x).0 by).0)
 
-  pub standing_rest : (n : ℕ) (b : Bool) → (IsTrue (permitted kind.WriteUidMap) → UidMapHeld spaces bounds n)
-      → IsTrue (permitted kind.WriteGidMap)
-      → IsTrue b ↔ GidMapHeld spaces bounds n
-      → IsTrue b ↔ HoldsAll (bounds (Standing n)) (ByMaps permitted spaces bounds (Standing n))
-  standing_rest n b uids can told = (λ is. (standing_maps n).0 (uids, λ _. told.0 is), λ all. told.1 (((standing_maps n).1 all).1 can))
+  pub none_there : (kind : Kind) (n : ℕ) → (HasMembers (bounds (Fresh n)) → ⊥) → (x : ℕ) → Comes kind (Fresh n) x → ⊥
+  none_there kind n none x by = none ((by_fresh kind n x).0 by).1
 
-  pub fresh_not : (n : ℕ) → HasMembers (bounds (Fresh n)) → IsTrue (permitted kind.WriteUidMap)
-      → IsTrue false ↔ ((x : ℕ) → FreshUidBy (bounds (Standing n)) x → bounds (Fresh n) MappedUids x)
-      → IsTrue false ↔ HoldsAll (bounds (Fresh n)) (ByMaps permitted spaces bounds (Fresh n))
-  fresh_not n some can told =
-      no (HoldsAll (bounds (Fresh n)) (ByMaps permitted spaces bounds (Fresh n)))
-      (λ all. refused ((x : ℕ) → FreshUidBy (bounds (Standing n)) x → bounds (Fresh n) MappedUids x) told (((fresh_maps n).1 all some).0 can))
+  -- else it is what can be written
+  pub comes_standing : (kind : Kind) (n : ℕ) → IsTrue (permitted (call_for kind))
+      → AreSame (IdsWritten kind spaces bounds n) (Comes kind (Standing n))
+  comes_standing kind n can x = (λ new. (by_standing kind n x).1 (can, new), λ by. ((by_standing kind n x).0 by).1)
 
-  pub fresh_rest : (n : ℕ) (b : Bool) → HasMembers (bounds (Fresh n))
-      → (IsTrue (permitted kind.WriteUidMap) → (x : ℕ) → FreshUidBy (bounds (Standing n)) x → bounds (Fresh n) MappedUids x)
-      → IsTrue (permitted kind.WriteGidMap)
-      → IsTrue b ↔ ((x : ℕ) → FreshGidBy (bounds (Standing n)) (bounds (Fresh n)) x → bounds (Fresh n) MappedGids x)
-      → IsTrue b ↔ HoldsAll (bounds (Fresh n)) (ByMaps permitted spaces bounds (Fresh n))
-  fresh_rest n b some uids can told = (λ is. (fresh_maps n).0 (λ _. (uids, λ _. told.0 is)), λ all. told.1 (((fresh_maps n).1 all some).1 can))
+  pub comes_fresh : (kind : Kind) (n : ℕ) → IsTrue (permitted (call_for kind)) → HasMembers (bounds (Fresh n))
+      → AreSame (FreshIdBy kind (bounds (Standing n)) (bounds (Fresh n))) (Comes kind (Fresh n))
+  comes_fresh kind n can some x =
+      (λ new. (by_fresh kind n x).1 (can, some, new), λ by. ((by_fresh kind n x).0 by).2)
+
+-- sets that hold the same are within the same bounds
+pub same_within : (Set Other Bound : ℕ → Type 0) → AreSame Set Other → IsWithin Set Bound ↔ IsWithin Other Bound
+same_within Set Other Bound same = (
+  λ within x has. within x ((same x).1 has),
+  λ within x has. within x ((same x).0 has),
+)

@@ -65,7 +65,8 @@ module _ (permitted : CallKind → Bool) (files : FileTable) (spaces : Spaces) (
   pub all_rows_closed : (rule : Rule) (y : ℕ) → 2 * length spaces ≤ y → RowsClosedBefore rule y
       → ClosedIn permitted files spaces bounds rule
   all_rows_closed rule y up before row there =
-      all_rows (ClosedAt permitted files spaces bounds rule) (length spaces) (λ z low. before z (omega arith)) row (ltb-true (space_under row) (length spaces) there)
+      all_rows (ClosedAt permitted files spaces bounds rule) (length spaces) (λ z low. before z (omega arith)) row
+      (ltb-true (space_under row) (length spaces) there)
 
   pub next_row_closed : (rule : Rule) (y : ℕ) → ClosedAt permitted files spaces bounds rule (row_at y)
       → RowsClosedBefore rule y → RowsClosedBefore rule (y + 1)

@@ -46,25 +46,34 @@ joined_at rows y more wider Added low added joined = record { there = there; els
 -- what is joined to bounds that hold the same as others is joined to those
 module _ (permitted : CallKind → Bool) (files : FileTable) (spaces : Spaces) (rows copy : List BoxRow)
     (same : (y : ℕ) → AreSameRows (RowHolds (row_in copy y)) (RowHolds (row_in rows y))) where
+  -- what the rule adds to the row of that number, by the bounds of these rows
+  abbrev AddedBy : List BoxRow → Rule → ℕ → Part → ℕ → Type 0
+  AddedBy list rule y = Adds permitted files spaces (RowsHold list) rule (row_at y)
+
+  added_same : (rule : Rule) (y : ℕ) → AreSameRows (AddedBy copy rule y) (AddedBy rows rule y)
+  added_same rule y part x = (
+    adds_more permitted files spaces (RowsHold copy) (RowsHold rows) (λ row p k. (same (row_number row) p k).0) rule
+        (row_at y) part x,
+    adds_more permitted files spaces (RowsHold rows) (RowsHold copy) (λ row p k. (same (row_number row) p k).1) rule
+        (row_at y) part x,
+  )
+
   pub joined_to_copy : (rule : Rule) (y : ℕ) (new : List BoxRow)
-      → IsJoinedAt y (RowsHold copy) (Adds permitted files spaces (RowsHold copy) rule (row_at y)) (RowsHold new)
-      → IsJoinedAt y (RowsHold rows) (Adds permitted files spaces (RowsHold rows) rule (row_at y)) (RowsHold new)
+      → IsJoinedAt y (RowsHold copy) (AddedBy copy rule y) (RowsHold new)
+      → IsJoinedAt y (RowsHold rows) (AddedBy rows rule y) (RowsHold new)
   joined_to_copy rule y new joined = record { there = there; elsewhere = elsewhere } where
-    there : (part : Part) (x : ℕ) → RowsHold new (row_at y) part x
-        ↔ (RowsHold rows (row_at y) part x ⊎ Adds permitted files spaces (RowsHold rows) rule (row_at y) part x)
+    there : (part : Part) (x : ℕ)
+        → RowsHold new (row_at y) part x ↔ (RowsHold rows (row_at y) part x ⊎ AddedBy rows rule y part x)
     there part x = (to, from) where
-      to : RowsHold new (row_at y) part x
-          → RowsHold rows (row_at y) part x ⊎ Adds permitted files spaces (RowsHold rows) rule (row_at y) part x
+      to : RowsHold new (row_at y) part x → RowsHold rows (row_at y) part x ⊎ AddedBy rows rule y part x
       to held = elim ((joined.there part x).0 held) [
         | inl old ↦ inl ((same (row_number (row_at y)) part x).0 old)
-        | inr more ↦ inr (adds_more permitted files spaces (RowsHold copy) (RowsHold rows) (λ row p k. (same (row_number row) p k).0) rule (row_at y) part x more)
+        | inr more ↦ inr ((added_same rule y part x).0 more)
       ]
 
-      from : RowsHold rows (row_at y) part x ⊎ Adds permitted files spaces (RowsHold rows) rule (row_at y) part x
-          → RowsHold new (row_at y) part x
+      from : RowsHold rows (row_at y) part x ⊎ AddedBy rows rule y part x → RowsHold new (row_at y) part x
       from (inl old) = (joined.there part x).1 (inl ((same (row_number (row_at y)) part x).1 old))
-      from (inr more) =
-          (joined.there part x).1 (inr (adds_more permitted files spaces (RowsHold rows) (RowsHold copy) (λ row p k. (same (row_number row) p k).1) rule (row_at y) part x more))
+      from (inr more) = (joined.there part x).1 (inr ((added_same rule y part x).1 more))
 
     elsewhere : (row : Row) → row_number row ≢ y → (part : Part) (x : ℕ)
         → RowsHold new row part x ↔ RowsHold rows row part x

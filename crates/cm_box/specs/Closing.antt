@@ -1,12 +1,14 @@
 -- The rules, each told by what it adds where a call is permitted and the row has members; and the first that is open.
-use Rattle.std.specs.Prelude.{◌≡◌, ◌≢◌, ◌↔◌, ◌⊎◌, ℕ, ◌<◌, Bool, not, IsTrue, is_none, Some}
+use Rattle.std.specs.Prelude.{◌≢◌, ◌↔◌, ◌⊎◌, ℕ, ◌<◌, Bool, not, IsTrue}
 use Rattle.cm_filter.specs.declared.kind.CallKind.{CallKind}
 use Rattle.model_cred.specs.Files.{FileTable}
 use Rattle.model_cred.specs.Space.{Spaces, space_of, stands}
 use Rattle.model_box.specs.Closed.{OwnerByFile, GroupByFile, CapByFile, CapByRoot, OnlyCaps, ClosedAt}
-use Rattle.model_box.specs.Gains.{SettableUid, SettableGid, SpreadsUid, SpreadsGid, GainsFsUid, GainsFsGid, GainsGroups, GainsInheritable, GainsRoot}
-use Rattle.model_box.specs.Row.{Part, MappedUids, MappedGids, Row, Standing, Fresh, row_at, row_number, space_under, HasMembers}
-use Rattle.model_box.specs.Spread.{Brings, NewUid, NewGid}
+use Rattle.model_box.specs.Gains.{SettableUid, SettableGid, SpreadsUid, SpreadsGid, GainsFsUid, GainsFsGid}
+use Rattle.model_box.specs.Gains.{GainsGroups, GainsInheritable, GainsRoot}
+use Rattle.model_box.specs.Row.{Part, HasMembers}
+use Rattle.model_box.specs.Row.{Row, Standing, Fresh, row_at, row_number, space_under}
+use Rattle.model_box.specs.Spread.{Brings}
 use Rattle.cm_box_rows.specs.Rows.{HoldsAll}
 use Rattle.cm_box_rows.specs.Spread.{CanMakeIn, MadeIn, JoinsHeld, ByJoiningTo}
 use Rattle.model_box.specs.Rule as model
@@ -25,8 +27,10 @@ Gains files spaces bounds model.SetFsGid row = GainsFsGid (bounds row)
 Gains files spaces bounds model.SetGroups row = GroupsAllowed spaces (space_under row) (bounds row)
 Gains files spaces bounds model.CapSet row = GainsInheritable (bounds row)
 Gains files spaces bounds model.SecureBits row = GainsRoot (bounds row)
-Gains files spaces bounds model.ExecUid row = SpreadsUid (bounds row) (OwnerByFile files spaces (space_under row) (bounds row))
-Gains files spaces bounds model.ExecGid row = SpreadsGid (bounds row) (GroupByFile files spaces (space_under row) (bounds row))
+Gains files spaces bounds model.ExecUid row =
+    SpreadsUid (bounds row) (OwnerByFile files spaces (space_under row) (bounds row))
+Gains files spaces bounds model.ExecGid row =
+    SpreadsGid (bounds row) (GroupByFile files spaces (space_under row) (bounds row))
 Gains files spaces bounds model.ExecCaps row = OnlyCaps (CapByFile files spaces bounds row)
 Gains files spaces bounds model.ExecRoot row = OnlyCaps (CapByRoot spaces bounds row)
 Gains files spaces bounds model.Create row = λ part x. ⊥
@@ -47,56 +51,38 @@ abbrev pub ByJoins : Spaces → (Row → Part → ℕ → Type 0) → Row → Pa
 ByJoins spaces bounds (Standing n) part x = ByJoiningTo spaces bounds n part x
 ByJoins spaces bounds (Fresh n) part x = ⊥
 
--- what can come into the map of user ids of a standing space
-abbrev pub UidsWritten : Spaces → (Row → Part → ℕ → Type 0) → ℕ → ℕ → Type 0
-UidsWritten spaces bounds n x =
-    IsTrue (is_none (space_of spaces n).uids)
-    × ((q : ℕ) × ((space_of spaces n).parent ≡ Some q) × NewUid bounds n q (space_of spaces n).owner x)
-
--- the same of its map of group ids
-abbrev pub GidsWritten : Spaces → (Row → Part → ℕ → Type 0) → ℕ → ℕ → Type 0
-GidsWritten spaces bounds n x =
-    IsTrue (is_none (space_of spaces n).gids)
-    × ((q : ℕ) × ((space_of spaces n).parent ≡ Some q) × NewGid bounds n q (space_of spaces n).owner x)
-
 -- The rule is closed at each row of a standing space.
 abbrev pub ClosedIn : (CallKind → Bool) → FileTable → Spaces → (Row → Part → ℕ → Type 0) → model.Rule → Type 0
-ClosedIn permitted files spaces bounds rule = (row : Row) → IsTrue (stands spaces (space_under row)) → ClosedAt permitted files spaces bounds rule row
+ClosedIn permitted files spaces bounds rule =
+    (row : Row) → IsTrue (stands spaces (space_under row)) → ClosedAt permitted files spaces bounds rule row
 
 -- The rule is open at the row of that number, which is of a standing space, and closed at each earlier one.
-pub record IsFirstOpenRow (permitted : CallKind → Bool) (files : FileTable) (spaces : Spaces) (bounds : Row → Part → ℕ → Type 0) (rule : model.Rule) (y : ℕ) : Type 0 where
+pub record IsFirstOpenRow (permitted : CallKind → Bool) (files : FileTable) (spaces : Spaces)
+    (bounds : Row → Part → ℕ → Type 0) (rule : model.Rule) (y : ℕ) : Type 0 where
   pub stands : IsTrue (stands spaces (space_under (row_at y)))
   pub unmet : ClosedAt permitted files spaces bounds rule (row_at y) → ⊥
   pub earlier : (z : ℕ) → z < y → ClosedAt permitted files spaces bounds rule (row_at z)
 
 -- So it is, and each earlier rule is closed.
-pub record IsFirstOpen (permitted : CallKind → Bool) (files : FileTable) (spaces : Spaces) (bounds : Row → Part → ℕ → Type 0) (rule : model.Rule) (y : ℕ) : Type 0 where
+pub record IsFirstOpen (permitted : CallKind → Bool) (files : FileTable) (spaces : Spaces)
+    (bounds : Row → Part → ℕ → Type 0) (rule : model.Rule) (y : ℕ) : Type 0 where
   pub row : IsFirstOpenRow permitted files spaces bounds rule y
-  pub earlier : (other : model.Rule) → rule_number other < rule_number rule → ClosedIn permitted files spaces bounds other
+  pub earlier : (other : model.Rule) → rule_number other < rule_number rule
+      → ClosedIn permitted files spaces bounds other
 
 -- The row holds what the makers of later spaces bring.
 abbrev pub CreateHeld : Spaces → (Row → Part → ℕ → Type 0) → Row → Type 0
 CreateHeld spaces bounds (Standing n) = Unit {0}
-CreateHeld spaces bounds (Fresh n) = CanMakeIn spaces n (bounds (Standing n)) → HoldsAll (bounds (Fresh n)) (Brings (bounds (Standing n)))
+CreateHeld spaces bounds (Fresh n) =
+    CanMakeIn spaces n (bounds (Standing n)) → HoldsAll (bounds (Fresh n)) (Brings (bounds (Standing n)))
 
 -- The row holds what comes by joining.
 abbrev pub JoinHeld : Spaces → (Row → Part → ℕ → Type 0) → Row → Type 0
 JoinHeld spaces bounds (Standing n) = JoinsHeld spaces bounds (bounds (Standing n)) n
 JoinHeld spaces bounds (Fresh n) = Unit {0}
 
--- The row of a standing space holds what can come into its map of user ids.
-abbrev pub UidMapHeld : Spaces → (Row → Part → ℕ → Type 0) → ℕ → Type 0
-UidMapHeld spaces bounds n =
-    IsTrue (is_none (space_of spaces n).uids) → (q : ℕ) → (space_of spaces n).parent ≡ Some q
-    → (x : ℕ) → NewUid bounds n q (space_of spaces n).owner x → bounds (Standing n) MappedUids x
-
--- The same of its map of group ids.
-abbrev pub GidMapHeld : Spaces → (Row → Part → ℕ → Type 0) → ℕ → Type 0
-GidMapHeld spaces bounds n =
-    IsTrue (is_none (space_of spaces n).gids) → (q : ℕ) → (space_of spaces n).parent ≡ Some q
-    → (x : ℕ) → NewGid bounds n q (space_of spaces n).owner x → bounds (Standing n) MappedGids x
-
 -- The new bounds are the old ones, with what is added to the row of that number.
-pub record IsJoinedAt (y : ℕ) (old : Row → Part → ℕ → Type 0) (Added : Part → ℕ → Type 0) (new : Row → Part → ℕ → Type 0) : Type 0 where
+pub record IsJoinedAt (y : ℕ) (old : Row → Part → ℕ → Type 0) (Added : Part → ℕ → Type 0)
+    (new : Row → Part → ℕ → Type 0) : Type 0 where
   pub there : (part : Part) (x : ℕ) → new (row_at y) part x ↔ (old (row_at y) part x ⊎ Added part x)
   pub elsewhere : (row : Row) → row_number row ≢ y → (part : Part) (x : ℕ) → new row part x ↔ old row part x

@@ -2,3 +2,4 @@
 pub mod Places
 pub mod Rules
 pub mod Closing
+pub mod Mapping

@@ -8,25 +8,26 @@ ghost use Rattle.cm_box.specs.Places.{row_of};
 ghost use Rattle.cm_box_rows.specs.Rows.{RowHolds, RowsHold, AreSameRows};
 ghost use Rattle.cm_box.specs.Rules.{rule_of};
 ghost use Rattle.cm_box.specs.Closing.{Gains, GainsOfMembers, GroupsAllowed, ByMaking, ByJoins, IsJoinedAt};
-ghost use Rattle.cm_box.specs.Closing.{UidsWritten, GidsWritten};
+ghost use Rattle.cm_box.specs.Mapping.{IdsWritten};
+ghost use Rattle.cm_box_rows.specs.Kinds.{SpreadsId, mapped};
+ghost use Rattle.cm_box_rows.specs.Programs.{GivenByFile};
 ghost use Rattle.cm_box_rows.specs.Spread.{MadeIn};
-ghost use Rattle.model_box.specs.Closed.{Adds, ByMaps, OnlyCaps, OwnerByFile, GroupByFile, CapByFile, CapByRoot};
-ghost use Rattle.model_box.specs.Gains.{SpreadsUid, SpreadsGid};
-ghost use Rattle.model_box.specs.Row.{MappedUids, MappedGids, row_at, space_under};
+ghost use Rattle.model_box.specs.Closed.{Adds, ByMaps, OnlyCaps, CapByFile, CapByRoot};
+ghost use Rattle.model_box.specs.Row.{row_at, space_under};
 
 use crate::caps::{caps_by_files, caps_by_root};
 use crate::closedness::permits_rule;
 use crate::joins::joins_gained;
+use crate::maps::{is_written, map_call};
 use crate::place::Place;
-use crate::{Bounds, BoxRow, Rule};
+use crate::{Bounds, BoxRow, Rule, Setting};
 use cm_base::{NoMemory, SpaceId};
 use cm_box_rows::{
-    Kind, brought, can_make, cap_set_gained, fresh_gids, fresh_uids, gids_gained, ids_given,
-    new_gids, new_uids, secure_bits_gained, set_fs_gid_gained, set_fs_uid_gained, set_gid_gained,
-    set_groups_gained, set_uid_gained, uids_gained,
+    Kind, brought, can_make, cap_set_gained, fresh_ids, ids_gained, ids_given, new_ids,
+    secure_bits_gained, set_fs_gained, set_groups_gained, set_ids_gained,
 };
 use cm_files::FileTable;
-use cm_filter::{CallKind, Filter};
+use cm_filter::Filter;
 use cm_idset::IdSet;
 use cm_sets::SetLike;
 use cm_state::{Spaces, State};
@@ -38,44 +39,36 @@ pub fn rule(
     alloc: Global,
     x: Rule,
     row: u32,
-    st: &State,
-    files: &FileTable,
-    f: Filter,
+    s: &Setting<'_>,
     b: &Bounds,
 ) -> Result<Bounds, NoMemory>
-    requires rows { length b.now ≡ 2 * length st.now.spaces }
-    requires few { length st.now.spaces < 2 ^ 31 }
+    requires rows { length b.now ≡ 2 * length s.now.state.now.spaces }
+    requires few { length s.now.state.now.spaces < 2 ^ 31 }
     requires there { row < length b.now }
     ensures count { OrNoMemory result (λ new. length new ≡ length b.now) }
     ensures joined { OrNoMemory result (λ new. IsJoinedAt row (RowsHold b.now)
-        (Adds (permits f) files.now st.now.spaces (RowsHold b.now) (rule_of x) (row_at row)) (RowsHold new)) }
+        (Adds (permits s.now.filter) s.now.files.now s.now.state.now.spaces (RowsHold b.now) (rule_of x)
+        (row_at row)) (RowsHold new)) }
 {
     let mut new = b.copy(alloc)?;
-    apply(alloc, x, row, st, files, f, &mut new)?;
+    apply(alloc, x, row, s, &mut new)?;
     Ok(new)
 }
 
 // Joins what the rule adds to the row into it, in place. Its only error is want of memory, which leaves the bounds as
 // they were.
-pub(crate) fn apply(
-    alloc: Global,
-    x: Rule,
-    row: u32,
-    st: &State,
-    files: &FileTable,
-    f: Filter,
-    b: &mut Bounds,
-) -> Result<(), NoMemory>
-    requires rows { length b.old ≡ 2 * length st.now.spaces }
-    requires few { length st.now.spaces < 2 ^ 31 }
+fn apply(alloc: Global, x: Rule, row: u32, s: &Setting<'_>, b: &mut Bounds) -> Result<(), NoMemory>
+    requires rows { length b.old ≡ 2 * length s.now.state.now.spaces }
+    requires few { length s.now.state.now.spaces < 2 ^ 31 }
     requires there { row < length b.old }
     ensures count { length b.new ≡ length b.old }
     ensures unchanged { UnchangedOnErr result b.new b.old }
     ensures joined { OrNoMemory result (λ _. IsJoinedAt row (RowsHold b.old)
-        (Adds (permits f) files.now st.now.spaces (RowsHold b.old) (rule_of x) (row_at row)) (RowsHold b.new)) }
+        (Adds (permits s.now.filter) s.now.files.now s.now.state.now.spaces (RowsHold b.old) (rule_of x)
+        (row_at row)) (RowsHold b.new)) }
 {
     let at = Place::of_number(row);
-    let more = added(alloc, st, files, f, b, x, at)?;
+    let more = added(alloc, s, b, x, at)?;
     let wider = b.row(at).joined(alloc, &more)?;
     put(b, row, wider);
     Ok(())
@@ -90,29 +83,22 @@ fn put(b: &mut Bounds, y: u32, row: BoxRow)
 }
 
 // What the rule adds to the row, as a row.
-fn added(
-    alloc: Global,
-    st: &State,
-    files: &FileTable,
-    f: Filter,
-    b: &Bounds,
-    x: Rule,
-    at: Place,
-) -> Result<BoxRow, NoMemory>
-    requires rows { length b.now ≡ 2 * length st.now.spaces }
-    requires few { length st.now.spaces < 2 ^ 31 }
-    requires stands { space_under (row_of at) < length st.now.spaces }
-    ensures { OrNoMemory result (λ row. AreSameRows (RowHolds row)
-        (Adds (permits f) files.now st.now.spaces (RowsHold b.now) (rule_of x) (row_of at))) }
+fn added(alloc: Global, s: &Setting<'_>, b: &Bounds, x: Rule, at: Place) -> Result<BoxRow, NoMemory>
+    requires rows { length b.now ≡ 2 * length s.now.state.now.spaces }
+    requires few { length s.now.state.now.spaces < 2 ^ 31 }
+    requires stands { space_under (row_of at) < length s.now.state.now.spaces }
+    ensures { OrNoMemory result (λ row. AreSameRows (RowHolds row) (Adds (permits s.now.filter) s.now.files.now
+        s.now.state.now.spaces (RowsHold b.now) (rule_of x) (row_of at))) }
 {
-    if !permits_rule(f, x) {
+    if !permits_rule(s.filter, x) {
         return Ok(BoxRow::least(alloc));
     }
+    let st = s.state;
     match x {
         Rule::Create => made(alloc, &st.spaces, b, at),
         Rule::Join => joined(alloc, &st.spaces, b, at),
-        Rule::Maps => mapped(alloc, f, &st.spaces, b, at),
-        _ => gained_by_members(alloc, st, files, b, x, at),
+        Rule::Maps => written(alloc, s.filter, &st.spaces, b, at),
+        _ => gained_by_members(alloc, st, s.files, b, x, at),
     }
 }
 
@@ -156,15 +142,15 @@ fn gained(
     let row = b.row(at);
     let n = at.space();
     match x {
-        Rule::SetUid => set_uid_gained(alloc, row),
-        Rule::SetFsUid => set_fs_uid_gained(alloc, row),
-        Rule::SetGid => set_gid_gained(alloc, row),
-        Rule::SetFsGid => set_fs_gid_gained(alloc, row),
+        Rule::SetUid => set_ids_gained(alloc, Kind::Users, row),
+        Rule::SetFsUid => set_fs_gained(alloc, Kind::Users, row),
+        Rule::SetGid => set_ids_gained(alloc, Kind::Groups, row),
+        Rule::SetFsGid => set_fs_gained(alloc, Kind::Groups, row),
         Rule::SetGroups => groups_gained(alloc, &st.spaces, n, row),
         Rule::CapSet => cap_set_gained(alloc, row),
         Rule::SecureBits => Ok(secure_bits_gained(alloc, row)),
-        Rule::ExecUid => exec_uid_gained(alloc, files, &st.spaces, n, row),
-        Rule::ExecGid => exec_gid_gained(alloc, files, &st.spaces, n, row),
+        Rule::ExecUid => exec_ids_gained(alloc, Kind::Users, files, &st.spaces, n, row),
+        Rule::ExecGid => exec_ids_gained(alloc, Kind::Groups, files, &st.spaces, n, row),
         Rule::ExecCaps => exec_caps_gained(alloc, files, &st.spaces, b, at),
         Rule::ExecRoot => exec_root_gained(alloc, &st.spaces, b, at),
         _ => Ok(BoxRow::least(alloc)),
@@ -188,9 +174,10 @@ fn groups_gained(
     set_groups_gained(alloc, row)
 }
 
-// By set-user-ID programs, with what becomes of the effective ids.
-fn exec_uid_gained(
+// By set-user-ID or set-group-ID programs, with what becomes of the effective ids.
+fn exec_ids_gained(
     alloc: Global,
+    kind: Kind,
     files: &FileTable,
     spaces: &Spaces,
     n: SpaceId,
@@ -198,26 +185,10 @@ fn exec_uid_gained(
 ) -> Result<BoxRow, NoMemory>
     requires { n.0 < length spaces.now }
     ensures { OrNoMemory result (λ r. AreSameRows (RowHolds r)
-        (SpreadsUid (RowHolds row.now) (OwnerByFile files.now spaces.now n.0 (RowHolds row.now)))) }
+        (SpreadsId kind (RowHolds row.now) (GivenByFile kind files.now spaces.now n.0 (RowHolds row.now)))) }
 {
-    let eu = ids_given(alloc, Kind::Users, files, spaces, n, row)?;
-    uids_gained(alloc, row, eu)
-}
-
-// By set-group-ID programs alike.
-fn exec_gid_gained(
-    alloc: Global,
-    files: &FileTable,
-    spaces: &Spaces,
-    n: SpaceId,
-    row: &BoxRow,
-) -> Result<BoxRow, NoMemory>
-    requires { n.0 < length spaces.now }
-    ensures { OrNoMemory result (λ r. AreSameRows (RowHolds r)
-        (SpreadsGid (RowHolds row.now) (GroupByFile files.now spaces.now n.0 (RowHolds row.now)))) }
-{
-    let eg = ids_given(alloc, Kind::Groups, files, spaces, n, row)?;
-    gids_gained(alloc, row, eg)
+    let new = ids_given(alloc, kind, files, spaces, n, row)?;
+    ids_gained(alloc, kind, row, new)
 }
 
 // By the attributes of programs.
@@ -299,7 +270,7 @@ fn joined(alloc: Global, spaces: &Spaces, b: &Bounds, at: Place) -> Result<BoxRo
 }
 
 // By writing maps.
-fn mapped(
+fn written(
     alloc: Global,
     f: Filter,
     spaces: &Spaces,
@@ -312,8 +283,8 @@ fn mapped(
     ensures { OrNoMemory result (λ row. AreSameRows (RowHolds row)
         (ByMaps (permits f) spaces.now (RowsHold b.now) (row_of at))) }
 {
-    let mu = uids_mapped(alloc, f, spaces, b, at)?;
-    let mg = gids_mapped(alloc, f, spaces, b, at)?;
+    let mu = ids_mapped(alloc, Kind::Users, f, spaces, b, at)?;
+    let mg = ids_mapped(alloc, Kind::Groups, f, spaces, b, at)?;
     Ok(BoxRow {
         mu,
         mg,
@@ -321,9 +292,10 @@ fn mapped(
     })
 }
 
-// The user ids that can come into the maps of the row.
-fn uids_mapped(
+// The ids that can come into the maps of the row.
+fn ids_mapped(
     alloc: Global,
+    kind: Kind,
     f: Filter,
     spaces: &Spaces,
     b: &Bounds,
@@ -333,88 +305,44 @@ fn uids_mapped(
     requires few { length spaces.now < 2 ^ 31 }
     requires stands { space_under (row_of at) < length spaces.now }
     ensures { OrNoMemory result (λ ids. AreSame (Held ids)
-        (ByMaps (permits f) spaces.now (RowsHold b.now) (row_of at) MappedUids)) }
+        (ByMaps (permits f) spaces.now (RowsHold b.now) (row_of at) (mapped kind))) }
 {
-    if !f.permits(CallKind::WriteUidMap) {
+    if !f.permits(map_call(kind)) {
         return Ok(IdSet::empty(alloc));
     }
     match at {
-        Place::Standing(n) => uids_written(alloc, spaces, b, n),
+        Place::Standing(n) => ids_written(alloc, kind, spaces, b, n),
         Place::Fresh(n) => {
             let fresh = b.row(at);
             if fresh.eu.is_empty() {
                 return Ok(IdSet::empty(alloc));
             }
-            fresh_uids(alloc, b.row(Place::Standing(n)))
+            fresh_ids(alloc, kind, b.row(Place::Standing(n)), fresh)
         }
     }
 }
 
-// The group ids alike.
-fn gids_mapped(
+// The ids that can come into the map of a standing space, if it isn't written.
+fn ids_written(
     alloc: Global,
-    f: Filter,
+    kind: Kind,
     spaces: &Spaces,
     b: &Bounds,
-    at: Place,
+    n: SpaceId,
 ) -> Result<IdSet, NoMemory>
     requires rows { length b.now ≡ 2 * length spaces.now }
     requires few { length spaces.now < 2 ^ 31 }
-    requires stands { space_under (row_of at) < length spaces.now }
-    ensures { OrNoMemory result (λ ids. AreSame (Held ids)
-        (ByMaps (permits f) spaces.now (RowsHold b.now) (row_of at) MappedGids)) }
-{
-    if !f.permits(CallKind::WriteGidMap) {
-        return Ok(IdSet::empty(alloc));
-    }
-    match at {
-        Place::Standing(n) => gids_written(alloc, spaces, b, n),
-        Place::Fresh(n) => {
-            let fresh = b.row(at);
-            if fresh.eu.is_empty() {
-                return Ok(IdSet::empty(alloc));
-            }
-            fresh_gids(alloc, b.row(Place::Standing(n)), fresh)
-        }
-    }
-}
-
-// The user ids that can come into the map of a standing space, if it isn't written.
-fn uids_written(alloc: Global, spaces: &Spaces, b: &Bounds, n: SpaceId) -> Result<IdSet, NoMemory>
-    requires rows { length b.now ≡ 2 * length spaces.now }
-    requires few { length spaces.now < 2 ^ 31 }
     requires stands { n.0 < length spaces.now }
-    ensures { OrNoMemory result (λ ids. AreSame (Held ids) (UidsWritten spaces.now (RowsHold b.now) n.0)) }
+    ensures { OrNoMemory result (λ ids. AreSame (Held ids) (IdsWritten kind spaces.now (RowsHold b.now) n.0)) }
 {
     let space = spaces.standing(n);
-    if space.uids.is_some() {
+    if is_written(kind, space) {
         return Ok(IdSet::empty(alloc));
     }
     match spaces.parent(n) {
-        Some(q) => new_uids(
+        Some(q) => new_ids(
             alloc,
-            b.row(Place::Standing(n)),
-            b.row(Place::Standing(q)),
-            space.owner,
-        ),
-        None => Ok(IdSet::empty(alloc)),
-    }
-}
-
-// The group ids alike.
-fn gids_written(alloc: Global, spaces: &Spaces, b: &Bounds, n: SpaceId) -> Result<IdSet, NoMemory>
-    requires rows { length b.now ≡ 2 * length spaces.now }
-    requires few { length spaces.now < 2 ^ 31 }
-    requires stands { n.0 < length spaces.now }
-    ensures { OrNoMemory result (λ ids. AreSame (Held ids) (GidsWritten spaces.now (RowsHold b.now) n.0)) }
-{
-    let space = spaces.standing(n);
-    if space.gids.is_some() {
-        return Ok(IdSet::empty(alloc));
-    }
-    match spaces.parent(n) {
-        Some(q) => new_gids(
-            alloc,
+            kind,
             b.row(Place::Standing(n)),
             b.row(Place::Standing(q)),
             space.owner,

@@ -4,24 +4,27 @@ ghost use Rattle.cm_filter.specs.Filters.{permits};
 ghost use Rattle.cm_box.specs.Places.{row_of};
 ghost use Rattle.cm_box_rows.specs.Rows.{RowHolds, RowsHold, HoldsAll};
 ghost use Rattle.cm_box.specs.Rules.{rule_of, is_permitted};
-ghost use Rattle.cm_box.specs.Closing.{Gains, GroupsAllowed, CreateHeld, JoinHeld, UidMapHeld, GidMapHeld};
+ghost use Rattle.cm_box.specs.Closing.{Gains, GroupsAllowed, CreateHeld, JoinHeld};
 ghost use Rattle.cm_box.specs.Closing.{ClosedIn, IsFirstOpenRow, IsFirstOpen};
+ghost use Rattle.cm_box.specs.Mapping.{IdsWritten};
+ghost use Rattle.cm_box_rows.specs.Kinds.{SpreadsId, mapped};
+ghost use Rattle.cm_sets.specs.Sets.{IsWithin};
+ghost use Rattle.cm_box_rows.specs.Programs.{GivenByFile};
 ghost use Rattle.cm_box_rows.specs.Spread.{CanMakeIn};
-ghost use Rattle.model_box.specs.Closed.{Closed, ClosedAt, ByMaps, OwnerByFile, GroupByFile};
-ghost use Rattle.model_box.specs.Gains.{SpreadsUid, SpreadsGid};
+ghost use Rattle.model_box.specs.Closed.{Closed, ClosedAt, ByMaps};
 ghost use Rattle.model_box.specs.Spread.{Brings};
-ghost use Rattle.model_box.specs.Row.{HasMembers, space_under};
+ghost use Rattle.model_box.specs.Row.{Standing, HasMembers, space_under};
 
 use crate::caps::{caps_by_files_held, caps_by_root_held};
 use crate::joins::joins_held;
+use crate::maps::{is_written, map_call};
 use crate::place::Place;
 use crate::rules::RULES;
 use crate::{Bounds, BoxRow, Rule};
 use cm_base::SpaceId;
 use cm_box_rows::{
-    Kind, brings_held, can_make, cap_set_held, fresh_gids_held, fresh_uids_held, given_within,
-    new_gids_held, new_uids_held, secure_bits_held, set_fs_gid_held, set_fs_uid_held, set_gid_held,
-    set_groups_held, set_uid_held, spread_held,
+    Kind, brings_held, can_make, cap_set_held, fresh_ids_held, given_within, new_ids_held,
+    secure_bits_held, set_fs_held, set_groups_held, set_ids_held, spread_held,
 };
 use cm_files::FileTable;
 use cm_filter::{CallKind, Filter};
@@ -64,15 +67,15 @@ fn gains_held(st: &State, files: &FileTable, b: &Bounds, x: Rule, at: Place) -> 
 {
     let row = b.row(at);
     match x {
-        Rule::SetUid => set_uid_held(row),
-        Rule::SetFsUid => set_fs_uid_held(row),
-        Rule::SetGid => set_gid_held(row),
-        Rule::SetFsGid => set_fs_gid_held(row),
+        Rule::SetUid => set_ids_held(Kind::Users, row),
+        Rule::SetFsUid => set_fs_held(Kind::Users, row),
+        Rule::SetGid => set_ids_held(Kind::Groups, row),
+        Rule::SetFsGid => set_fs_held(Kind::Groups, row),
         Rule::SetGroups => groups_held(&st.spaces, at.space(), row),
         Rule::CapSet => cap_set_held(row),
         Rule::SecureBits => secure_bits_held(row),
-        Rule::ExecUid => exec_uid_held(files, &st.spaces, at.space(), row),
-        Rule::ExecGid => exec_gid_held(files, &st.spaces, at.space(), row),
+        Rule::ExecUid => exec_ids_held(Kind::Users, files, &st.spaces, at.space(), row),
+        Rule::ExecGid => exec_ids_held(Kind::Groups, files, &st.spaces, at.space(), row),
         Rule::ExecCaps => caps_by_files_held(files, &st.spaces, b, at),
         Rule::ExecRoot => caps_by_root_held(&st.spaces, b, at),
         Rule::Create => true,
@@ -93,28 +96,16 @@ fn groups_held(spaces: &Spaces, n: SpaceId, row: &BoxRow) -> bool
     set_groups_held(row)
 }
 
-// The row holds the owners that programs give, and the effective ids are among the real, saved and fs ids.
-fn exec_uid_held(files: &FileTable, spaces: &Spaces, n: SpaceId, row: &BoxRow) -> bool
+// The row holds the owners or groups that programs give, and the effective ids are among the real, saved and fs ids.
+fn exec_ids_held(kind: Kind, files: &FileTable, spaces: &Spaces, n: SpaceId, row: &BoxRow) -> bool
     requires { n.0 < length spaces.now }
     ensures { IsTrue result ↔ HoldsAll (RowHolds row.now)
-        (SpreadsUid (RowHolds row.now) (OwnerByFile files.now spaces.now n.0 (RowHolds row.now))) }
+        (SpreadsId kind (RowHolds row.now) (GivenByFile kind files.now spaces.now n.0 (RowHolds row.now))) }
 {
-    if !given_within(Kind::Users, files, spaces, n, row, &row.eu) {
+    if !given_within(kind, files, spaces, n, row) {
         return false;
     }
-    spread_held(&row.u, &row.eu, &row.fu)
-}
-
-// The groups alike.
-fn exec_gid_held(files: &FileTable, spaces: &Spaces, n: SpaceId, row: &BoxRow) -> bool
-    requires { n.0 < length spaces.now }
-    ensures { IsTrue result ↔ HoldsAll (RowHolds row.now)
-        (SpreadsGid (RowHolds row.now) (GroupByFile files.now spaces.now n.0 (RowHolds row.now))) }
-{
-    if !given_within(Kind::Groups, files, spaces, n, row, &row.eg) {
-        return false;
-    }
-    spread_held(&row.g, &row.eg, &row.fg)
+    spread_held(kind, row)
 }
 
 // The fresh row of a space holds what its makers bring.
@@ -163,61 +154,50 @@ fn maps_held(f: Filter, spaces: &Spaces, b: &Bounds, at: Place) -> bool
     ensures { IsTrue result ↔ HoldsAll (RowsHold b.now (row_of at))
         (ByMaps (permits f) spaces.now (RowsHold b.now) (row_of at)) }
 {
+    if !ids_mapped_held(Kind::Users, f, spaces, b, at) {
+        return false;
+    }
+    ids_mapped_held(Kind::Groups, f, spaces, b, at)
+}
+
+// The row maps the ids that can come into its maps of that kind.
+fn ids_mapped_held(kind: Kind, f: Filter, spaces: &Spaces, b: &Bounds, at: Place) -> bool
+    requires rows { length b.now ≡ 2 * length spaces.now }
+    requires few { length spaces.now < 2 ^ 31 }
+    requires stands { space_under (row_of at) < length spaces.now }
+    ensures { IsTrue result ↔ IsWithin (ByMaps (permits f) spaces.now (RowsHold b.now) (row_of at) (mapped kind))
+        (RowsHold b.now (row_of at) (mapped kind)) }
+{
+    if !f.permits(map_call(kind)) {
+        return true;
+    }
     match at {
-        Place::Standing(n) => {
-            if f.permits(CallKind::WriteUidMap) && !uid_map_held(spaces, b, n) {
-                return false;
-            }
-            !f.permits(CallKind::WriteGidMap) || gid_map_held(spaces, b, n)
-        }
+        Place::Standing(n) => ids_written_held(kind, spaces, b, n),
         Place::Fresh(n) => {
             let fresh = b.row(at);
             if fresh.eu.is_empty() {
                 return true;
             }
-            let row = b.row(Place::Standing(n));
-            if f.permits(CallKind::WriteUidMap) && !fresh_uids_held(row, fresh) {
-                return false;
-            }
-            !f.permits(CallKind::WriteGidMap) || fresh_gids_held(row, fresh)
+            fresh_ids_held(kind, b.row(Place::Standing(n)), fresh)
         }
     }
 }
 
-// The row of a standing space maps the user ids that can come into its map from its parent, where it isn't written.
-fn uid_map_held(spaces: &Spaces, b: &Bounds, n: SpaceId) -> bool
+// The row of a standing space maps the ids that can come into its map from its parent, where it isn't written.
+fn ids_written_held(kind: Kind, spaces: &Spaces, b: &Bounds, n: SpaceId) -> bool
     requires rows { length b.now ≡ 2 * length spaces.now }
     requires few { length spaces.now < 2 ^ 31 }
     requires stands { n.0 < length spaces.now }
-    ensures { IsTrue result ↔ UidMapHeld spaces.now (RowsHold b.now) n.0 }
+    ensures { IsTrue result ↔ IsWithin (IdsWritten kind spaces.now (RowsHold b.now) n.0)
+        (RowsHold b.now (Standing n.0) (mapped kind)) }
 {
     let space = spaces.standing(n);
-    if space.uids.is_some() {
+    if is_written(kind, space) {
         return true;
     }
     match spaces.parent(n) {
-        Some(q) => new_uids_held(
-            b.row(Place::Standing(n)),
-            b.row(Place::Standing(q)),
-            space.owner,
-        ),
-        None => true,
-    }
-}
-
-// The group ids alike.
-fn gid_map_held(spaces: &Spaces, b: &Bounds, n: SpaceId) -> bool
-    requires rows { length b.now ≡ 2 * length spaces.now }
-    requires few { length spaces.now < 2 ^ 31 }
-    requires stands { n.0 < length spaces.now }
-    ensures { IsTrue result ↔ GidMapHeld spaces.now (RowsHold b.now) n.0 }
-{
-    let space = spaces.standing(n);
-    if space.gids.is_some() {
-        return true;
-    }
-    match spaces.parent(n) {
-        Some(q) => new_gids_held(
+        Some(q) => new_ids_held(
+            kind,
             b.row(Place::Standing(n)),
             b.row(Place::Standing(q)),
             space.owner,
@@ -275,7 +255,8 @@ fn open_row(st: &State, files: &FileTable, f: Filter, b: &Bounds, x: Rule) -> Op
 }
 
 /// The first rule and row at which the bounds aren't closed under the filter, by rule and then by row; None exactly
-/// where they are closed. The bounds have two rows for each space, and fewer than 2^31 spaces stand. It takes no memory.
+/// where they are closed. The bounds have two rows for each space, and fewer than 2^31 spaces stand. It takes no
+/// memory.
 pub fn closed(st: &State, files: &FileTable, f: Filter, b: &Bounds) -> Option<(Rule, u32)>
     requires rows { length b.now ≡ 2 * length st.now.spaces }
     requires few { length st.now.spaces < 2 ^ 31 }

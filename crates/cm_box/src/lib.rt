@@ -10,9 +10,11 @@ mod caps;
 mod closedness;
 mod covers;
 mod joins;
+mod maps;
 mod place;
 mod rights;
 mod rules;
+mod setting;
 mod start;
 
 pub use adding::rule;
@@ -22,4 +24,5 @@ pub use cm_box_rows::BoxRow;
 pub use covers::covers_start;
 pub use rights::meets;
 pub use rules::Rule;
+pub use setting::Setting;
 pub use start::start_bounds;

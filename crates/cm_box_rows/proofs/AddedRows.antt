@@ -4,7 +4,7 @@ use Rattle.std.specs.Prelude.{◌↔◌, IsTrue}
 use Rattle.std.proofs.lemmas.Bool.{false≢true, and_parts, and_from, eqb-true, eq-eqb}
 use Rattle.cm_base.specs.CapSet.{full, none}
 use Rattle.cm_base.proofs.CapSets.{holds_none}
-use Rattle.cm_sets.specs.Sets.{HoldsSome}
+use Rattle.cm_sets.specs.Sets.{HoldsNone, HoldsSome}
 use Rattle.cm_idset.specs.Held.{Held}
 use Rattle.model_cred.specs.Intervals.{Interval}
 use Rattle.model_box.specs.Bounds.{BoxRow}
@@ -45,6 +45,9 @@ brought_row from r copy mu mg p i b r_is same mu_is mg_is p_is i_is b_is RootCou
 brought_row from r copy mu mg p i b r_is same mu_is mg_is p_is i_is b_is LockClear x = raised x
 brought_row from r copy mu mg p i b r_is same mu_is mg_is p_is i_is b_is part x = rw r_is (same part x)
 
--- that a row has members, as its sets are read
+-- that a row has members, or none, as its sets are read
 pub members_read : (r row : BoxRow) → r ≡ row → HoldsSome (Held r.effective_uids) → HasMembers (RowHolds row)
 members_read r row is some = rw (← is) some
+
+pub none_read : (r row : BoxRow) → r ≡ row → HoldsNone (Held r.effective_uids) → HasMembers (RowHolds row) → ⊥
+none_read r row is none = rw (← is) (λ (some : HasMembers (RowHolds r)). none some.0 some.1)

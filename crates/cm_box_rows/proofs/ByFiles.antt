@@ -3,17 +3,18 @@ use Rattle.std.proofs.Common.{◌≡◌, ℕ, ◌<◌, ◌≤◌, List, length, 
 use Rattle.std.specs.Prelude.{◌↔◌, IsTrue}
 use Rattle.std.proofs.lemmas.Bool.{cases_lt, false≢true}
 use Rattle.std.proofs.lemmas.Option.{slice_get_past}
+use Rattle.cm_sets.specs.Sets.{IsWithin}
 use Rattle.model_cred.specs.Files.{FileTable}
 use Rattle.model_cred.specs.Space.{Spaces}
 use Rattle.model_rules.specs.FileView.{FileView, plain_view, view, view_in}
-use Rattle.model_box.specs.Closed.{OwnerByFile, GroupByFile, CapByFile}
+use Rattle.model_box.specs.Closed.{CapByFile}
 use Rattle.model_box.specs.Bounds.{BoxRow, row_in}
 use Rattle.model_box.specs.Files.{is_program, CanRun, FileGives, TakesCan}
 use Rattle.model_box.specs.Row.{Part, Row, PermittedCaps, row_number}
 use Rattle.cm_box_rows.specs.declared.kind.Kind.{Kind}
 use Rattle.cm_box_rows.specs.declared.kind.Kind.TheVariants.{Users}
 use Rattle.cm_box_rows.specs.declared.kind.Kind.TheVariants as kinds
-use Rattle.cm_box_rows.specs.Programs.{Given, GivenByFile, CapGiven}
+use Rattle.cm_box_rows.specs.Programs.{Given, IdGiven, GivenByFile, CapGiven}
 use Rattle.cm_box_rows.specs.Rows.{RowHolds, RowsHold}
 use Rattle.cm_box_rows.proofs.Gathered.{GivenBelow, gathered_all}
 
@@ -27,30 +28,25 @@ none_given : (kind : Kind) (spaces : Spaces) (n : ℕ) (row : Part → ℕ → T
 none_given Users spaces n row x given = given.1.2
 none_given kinds.Groups spaces n row x given = given.1.2
 
--- the file of the table is a program, and gives the id
-abbrev pub IdGiven : Kind → FileTable → Spaces → ℕ → (Part → ℕ → Type 0) → ℕ → ℕ → Type 0
-IdGiven kind files spaces n row k x = IsTrue (is_program files k) × Given kind spaces n row (view files k) x
-
 module _ (kind : Kind) (files : FileTable) (spaces : Spaces) (n : ℕ) (row : Part → ℕ → Type 0) where
   no_id : (k x : ℕ) → length files.rows ≤ k → IdGiven kind files spaces n row k x → ⊥
   no_id k x past given = none_given kind spaces n row x (rw (view_past files k past) at given.1)
+
+  -- a set that holds what each of the table's rows gives holds what programs give
+  pub each_id : (Set : ℕ → Type 0) (end : ℕ) → length files.rows ≤ end
+      → ((k : ℕ) → k < end → IsWithin (IdGiven kind files spaces n row k) Set)
+      → IsWithin (GivenByFile kind files spaces n row) Set
+  each_id Set end all each x by = elim (cases_lt by.0 end) [
+    | inl low ↦ each by.0 low x by.1
+    | inr past ↦ absurd (no_id by.0 x (omega arith) by.1)
+  ]
 
   -- the ids that were gathered from the table's rows are those that programs give
   pub all_ids : (Set : ℕ → Type 0) (end : ℕ) → length files.rows ≤ end
       → ((x : ℕ) → Set x ↔ GivenBelow (IdGiven kind files spaces n row) end x)
       → (x : ℕ) → Set x ↔ GivenByFile kind files spaces n row x
-  all_ids Set end all so_far x = (to, from) where
-    gathered : Set x ↔ ((k : ℕ) × IdGiven kind files spaces n row k x)
-    gathered =
-        gathered_all (IdGiven kind files spaces n row) Set end so_far (λ k y past. no_id k y (omega arith)) x
-
-    to : Set x → GivenByFile kind files spaces n row x
-    to has =
-        let given : (k : ℕ) × IdGiven kind files spaces n row k x = gathered.0 has in
-        (given.0, given.1.0, given.1.1)
-
-    from : GivenByFile kind files spaces n row x → Set x
-    from by = gathered.1 (by.0, (by.1, by.2))
+  all_ids Set end all so_far =
+      gathered_all (IdGiven kind files spaces n row) Set end so_far (λ k y past. no_id k y (omega arith))
 
 module _ (files : FileTable) (spaces : Spaces) (bounds : Row → Part → ℕ → Type 0) (row : Row) where
   -- a plain file's attribute takes no effect
@@ -130,18 +126,3 @@ module _ (rows : List BoxRow) (row : Row) (r : BoxRow) (r_is : r ≡ row_in rows
         λ held x given. (caps_there x).0 (held x ((cap_here x).1 given)),
         λ held x gives. (caps_there x).1 (held x ((cap_here x).0 gives)),
       )
-
--- the owners and the groups
-pub owners : (files : FileTable) (spaces : Spaces) (n : ℕ) (row : Part → ℕ → Type 0) (x : ℕ)
-    → GivenByFile Users files spaces n row x ↔ OwnerByFile files spaces n row x
-owners files spaces n row x = (
-  λ given. (given.0, given.1, given.2.0, given.2.1, given.2.2, given.2.3),
-  λ by. (by.0, by.1, (by.2, by.3, by.4, by.5)),
-)
-
-pub groups : (files : FileTable) (spaces : Spaces) (n : ℕ) (row : Part → ℕ → Type 0) (x : ℕ)
-    → GivenByFile kinds.Groups files spaces n row x ↔ GroupByFile files spaces n row x
-groups files spaces n row x = (
-  λ given. (given.0, given.1, given.2.0, given.2.1, given.2.2, given.2.3, given.2.4),
-  λ by. (by.0, by.1, (by.2, by.3, by.4, by.5, by.6)),
-)

@@ -1,24 +1,22 @@
 -- The rules of the calls, as the answers of the tests that their functions make.
-use Rattle.std.proofs.Common.{◌≡◌, ℕ, Bool, true, false}
+use Rattle.std.proofs.Common.{◌≡◌, ℕ, Bool, true}
 use Rattle.std.specs.Prelude.{◌↔◌, IsTrue}
 use Rattle.cm_base.specs.CapSet.{holds}
 use Rattle.cm_sets.specs.Sets.{IsWithin}
 use Rattle.cm_idset.specs.Held.{Held}
 use Rattle.model_box.specs.Bounds.{BoxRow}
-use Rattle.model_box.specs.Gains.{Settable, SpreadsUid, SpreadsGid, SettableUid, SettableGid, GainsFsUid, GainsFsGid}
-use Rattle.model_box.specs.Gains.{GainsGroups, GainsInheritable, GainsRoot}
-use Rattle.model_rules.specs.Caps.{cap_setuid, cap_setgid, cap_setpcap}
+use Rattle.model_box.specs.Gains.{Settable, GainsGroups, GainsInheritable, GainsRoot}
+use Rattle.model_rules.specs.Caps.{cap_setgid, cap_setpcap}
 use Rattle.cm_box_rows.specs.Rows.{RowHolds, HoldsAll}
 use Rattle.cm_box_rows.proofs.GainedRows.{settable_told}
-use Rattle.cm_box_rows.proofs.Settable.{spreads_uid_not, spreads_uid_rest, spreads_gid_not, spreads_gid_rest, fs_uid_held}
-use Rattle.cm_box_rows.proofs.Settable.{fs_gid_held, groups_held, inheritable_held, root_held}
-use Rattle.cm_box_rows.proofs.Tests.{on, failed}
+use Rattle.cm_box_rows.proofs.Settable.{groups_held, inheritable_held, root_held}
+use Rattle.cm_box_rows.proofs.Tests.{on}
 
 -- what can be set is within a bound, where the capability is told by a test
-within_told : (b : Bool) (Old Mapped Bound : ℕ → Type 0) (P Q : Type 0) → P ↔ Q
+pub settable_within_told : (b : Bool) (Old Mapped Bound : ℕ → Type 0) (P Q : Type 0) → P ↔ Q
     → IsTrue b ↔ IsWithin (Settable Old Mapped P) Bound
     → IsTrue b ↔ IsWithin (Settable Old Mapped Q) Bound
-within_told b Old Mapped Bound P Q same told = (
+settable_within_told b Old Mapped Bound P Q same told = (
   λ is x can. told.0 is x ((settable_told Old Mapped P Q same x).1 can),
   λ within. told.1 (λ x can. within x ((settable_told Old Mapped P Q same x).0 can)),
 )
@@ -28,67 +26,13 @@ module _ (row : BoxRow) (p : Bool) where
   abbrev pub IsPrivileged : ℕ → Type 0
   IsPrivileged cap = IsTrue p ↔ IsTrue (holds row.permitted cap)
 
-  pub set_uid_not : (b : Bool) → IsPrivileged cap_setuid
-      → IsTrue b ↔ IsWithin (Settable (Held row.uids) (Held row.mapped_uids) (IsTrue p)) (Held row.effective_uids)
-      → b ≡ false → IsTrue false ↔ HoldsAll (RowHolds row) (SpreadsUid (RowHolds row) (SettableUid (RowHolds row)))
-  set_uid_not b can told is =
-      spreads_uid_not (RowHolds row) (SettableUid (RowHolds row))
-      (failed b _ (within_told b (Held row.uids) (Held row.mapped_uids) (Held row.effective_uids) (IsTrue p)
-      (IsTrue (holds row.permitted cap_setuid)) can told) is)
-
-  pub set_uid_rest : (b d : Bool) → IsPrivileged cap_setuid
-      → IsTrue b ↔ IsWithin (Settable (Held row.uids) (Held row.mapped_uids) (IsTrue p)) (Held row.effective_uids)
-      → b ≡ true
-      → IsTrue d
-      ↔ (IsWithin (Held row.effective_uids) (Held row.uids) × IsWithin (Held row.effective_uids) (Held row.fs_uids))
-      → IsTrue d ↔ HoldsAll (RowHolds row) (SpreadsUid (RowHolds row) (SettableUid (RowHolds row)))
-  set_uid_rest b d can told is rest =
-      spreads_uid_rest (RowHolds row) (SettableUid (RowHolds row)) d
-      ((within_told b (Held row.uids) (Held row.mapped_uids) (Held row.effective_uids) (IsTrue p)
-      (IsTrue (holds row.permitted cap_setuid)) can told).0 is) rest
-
-  pub set_gid_not : (b : Bool) → IsPrivileged cap_setgid
-      → IsTrue b ↔ IsWithin (Settable (Held row.gids) (Held row.mapped_gids) (IsTrue p)) (Held row.effective_gids)
-      → b ≡ false → IsTrue false ↔ HoldsAll (RowHolds row) (SpreadsGid (RowHolds row) (SettableGid (RowHolds row)))
-  set_gid_not b can told is =
-      spreads_gid_not (RowHolds row) (SettableGid (RowHolds row))
-      (failed b _ (within_told b (Held row.gids) (Held row.mapped_gids) (Held row.effective_gids) (IsTrue p)
-      (IsTrue (holds row.permitted cap_setgid)) can told) is)
-
-  pub set_gid_rest : (b d : Bool) → IsPrivileged cap_setgid
-      → IsTrue b ↔ IsWithin (Settable (Held row.gids) (Held row.mapped_gids) (IsTrue p)) (Held row.effective_gids)
-      → b ≡ true
-      → IsTrue d
-      ↔ (IsWithin (Held row.effective_gids) (Held row.gids) × IsWithin (Held row.effective_gids) (Held row.fs_gids))
-      → IsTrue d ↔ HoldsAll (RowHolds row) (SpreadsGid (RowHolds row) (SettableGid (RowHolds row)))
-  set_gid_rest b d can told is rest =
-      spreads_gid_rest (RowHolds row) (SettableGid (RowHolds row)) d
-      ((within_told b (Held row.gids) (Held row.mapped_gids) (Held row.effective_gids) (IsTrue p)
-      (IsTrue (holds row.permitted cap_setgid)) can told).0 is) rest
-
-  pub set_fs_uid : (b : Bool) → IsPrivileged cap_setuid
-      → IsTrue b ↔ IsWithin (Settable (Held row.uids) (Held row.mapped_uids) (IsTrue p)) (Held row.fs_uids)
-      → IsTrue b ↔ HoldsAll (RowHolds row) (GainsFsUid (RowHolds row))
-  set_fs_uid b can told =
-      on (within_told b (Held row.uids) (Held row.mapped_uids) (Held row.fs_uids) (IsTrue p)
-      (IsTrue (holds row.permitted cap_setuid)) can told)
-      (fs_uid_held (RowHolds row))
-
-  pub set_fs_gid : (b : Bool) → IsPrivileged cap_setgid
-      → IsTrue b ↔ IsWithin (Settable (Held row.gids) (Held row.mapped_gids) (IsTrue p)) (Held row.fs_gids)
-      → IsTrue b ↔ HoldsAll (RowHolds row) (GainsFsGid (RowHolds row))
-  set_fs_gid b can told =
-      on (within_told b (Held row.gids) (Held row.mapped_gids) (Held row.fs_gids) (IsTrue p)
-      (IsTrue (holds row.permitted cap_setgid)) can told)
-      (fs_gid_held (RowHolds row))
-
   pub cap_set : (b : Bool) → IsPrivileged cap_setpcap
       → IsTrue b
       ↔ IsWithin (Settable (λ x. IsTrue (holds row.permitted x)) (λ x. IsTrue (holds row.bounding x)) (IsTrue p))
       (λ x. IsTrue (holds row.inheritable x))
       → IsTrue b ↔ HoldsAll (RowHolds row) (GainsInheritable (RowHolds row))
   cap_set b can told =
-      on (within_told b (λ x. IsTrue (holds row.permitted x)) (λ x. IsTrue (holds row.bounding x))
+      on (settable_within_told b (λ x. IsTrue (holds row.permitted x)) (λ x. IsTrue (holds row.bounding x))
       (λ x. IsTrue (holds row.inheritable x))
       (IsTrue p) (IsTrue (holds row.permitted cap_setpcap)) can told)
       (inheritable_held (RowHolds row))

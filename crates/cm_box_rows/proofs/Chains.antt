@@ -13,7 +13,8 @@ at_or_above_step : (spaces : Spaces) (n p m : ℕ) → chain spaces n ≡ n ∷ 
 at_or_above_step spaces n p m is = ap (list_any (λ k. k == m)) is
 
 -- where there is no parent, it alone
-at_or_above_end : (spaces : Spaces) (n m : ℕ) → chain spaces n ≡ n ∷ chain_from spaces None → is_at_or_above spaces m n ≡ ((n == m) || false)
+at_or_above_end : (spaces : Spaces) (n m : ℕ) → chain spaces n ≡ n ∷ chain_from spaces None
+    → is_at_or_above spaces m n ≡ ((n == m) || false)
 at_or_above_end spaces n m is = ap (list_any (λ k. k == m)) (is ∙ ap (λ l. n ∷ l) (chain_none spaces))
 
 -- some space at or above it is such
@@ -45,12 +46,15 @@ some_end spaces P n is = (to, from) where
   ]
 
 -- the space whose parent is the first is the second itself, or is on the chain of its parent
-pub next_step : (spaces : Spaces) (a n p m : ℕ) → chain spaces n ≡ n ∷ chain_from spaces (Some p) → (space_of spaces n).parent ≡ Some p
-    → (((m ≡ n) × (p ≡ a)) ⊎ IsNext spaces a p m) ↔ IsNext spaces a n m
+pub next_step : (spaces : Spaces) (a n p m : ℕ) → chain spaces n ≡ n ∷ chain_from spaces (Some p)
+    → (space_of spaces n).parent ≡ Some p → (((m ≡ n) × (p ≡ a)) ⊎ IsNext spaces a p m) ↔ IsNext spaces a n m
 next_step spaces a n p m is parent = (to, from) where
   to : ((m ≡ n) × (p ≡ a)) ⊎ IsNext spaces a p m → IsNext spaces a n m
   to (inl (same, at)) =
-      rw same (at_or_above_step spaces n p n is ∙ or_left (n == n) (is_at_or_above spaces n p) (eq-eqb n n refl), parent ∙ ap (λ (k : ℕ). Some k) at)
+      rw same (
+        at_or_above_step spaces n p n is ∙ or_left (n == n) (is_at_or_above spaces n p) (eq-eqb n n refl),
+        parent ∙ ap (λ (k : ℕ). Some k) at,
+      )
   to (inr (above, up)) = (at_or_above_step spaces n p m is ∙ or_right (n == m) (is_at_or_above spaces m p) above, up)
 
   from : IsNext spaces a n m → ((m ≡ n) × (p ≡ a)) ⊎ IsNext spaces a p m
@@ -62,7 +66,8 @@ next_step spaces a n p m is parent = (to, from) where
     | inr later ↦ inr (later, up)
   ]
 
-pub next_end : (spaces : Spaces) (a n m : ℕ) → chain spaces n ≡ n ∷ chain_from spaces None → (space_of spaces n).parent ≡ None → IsNext spaces a n m → ⊥
+pub next_end : (spaces : Spaces) (a n m : ℕ) → chain spaces n ≡ n ∷ chain_from spaces None
+    → (space_of spaces n).parent ≡ None → IsNext spaces a n m → ⊥
 next_end spaces a n m is parent (above, up) = elim (or_cases (n == m) false (sym (at_or_above_end spaces n m is) ∙ above)) [
   | inl same ↦ let none : (space_of spaces m).parent ≡ None = rw (sym (eqb-true n m same)) parent in cc
   | inr wrong ↦ absurd (false≢true wrong)

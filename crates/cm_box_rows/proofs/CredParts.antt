@@ -1,6 +1,7 @@
 -- What a row holds of a credential, as the answers of the tests of its parts.
 use Rattle.std.proofs.Common.{◌≡◌, ℕ, Bool, false, List, sym, subst}
 use Rattle.std.specs.Prelude.{◌↔◌, IsTrue}
+use Rattle.std.proofs.lemmas.Bool.{iff_false}
 use Rattle.cm_idset.specs.Held.{Held}
 use Rattle.model_cred.specs.Credential.{Credential, FourIds}
 use Rattle.model_box.specs.Bounds.{BoxRow}
@@ -8,7 +9,7 @@ use Rattle.model_box.specs.Row.{CredHas}
 use Rattle.cm_box_rows.specs.Members.{FourHeld, SetsHeld, FlagsHeld}
 use Rattle.cm_box_rows.specs.Rows.{RowHolds, HoldsAll}
 use Rattle.cm_box_rows.proofs.MemberParts.{GroupsHeld, all_of_parts, parts_of_all}
-use Rattle.cm_box_rows.proofs.Tests.{no, failed}
+use Rattle.cm_box_rows.proofs.Tests.{no}
 
 module _ (row : BoxRow) (c : Credential) where
   -- the row holds the ids of these
@@ -23,25 +24,25 @@ module _ (row : BoxRow) (c : Credential) where
       → IsTrue false ↔ HoldsAll (RowHolds row) (CredHas c)
   uids_out ids b is told out =
       no (HoldsAll (RowHolds row) (CredHas c))
-      (λ all. failed b (UidsHeld ids) told out (subst UidsHeld (sym is) (parts_of_all (RowHolds row) c all).uid))
+      (λ all. iff_false told out (subst UidsHeld (sym is) (parts_of_all (RowHolds row) c all).uid))
 
   pub gids_out : (ids : FourIds) (b : Bool) → ids ≡ c.gid → IsTrue b ↔ GidsHeld ids → b ≡ false
       → IsTrue false ↔ HoldsAll (RowHolds row) (CredHas c)
   gids_out ids b is told out =
       no (HoldsAll (RowHolds row) (CredHas c))
-      (λ all. failed b (GidsHeld ids) told out (subst GidsHeld (sym is) (parts_of_all (RowHolds row) c all).gid))
+      (λ all. iff_false told out (subst GidsHeld (sym is) (parts_of_all (RowHolds row) c all).gid))
 
   pub groups_out : (groups : List ℕ) (b : Bool) → groups ≡ c.groups → IsTrue b ↔ GroupsHeld (Held row.groups) groups
       → b ≡ false
       → IsTrue false ↔ HoldsAll (RowHolds row) (CredHas c)
   groups_out groups b is told out =
       no (HoldsAll (RowHolds row) (CredHas c))
-      (λ all. failed b (GroupsHeld (Held row.groups) groups) told out
+      (λ all. iff_false told out
       (subst (λ (g : List ℕ). GroupsHeld (Held row.groups) g) (sym is) (parts_of_all (RowHolds row) c all).groups))
 
   pub sets_out : (b : Bool) → IsTrue b ↔ SetsHeld (RowHolds row) c → b ≡ false
       → IsTrue false ↔ HoldsAll (RowHolds row) (CredHas c)
-  sets_out b told out = no (HoldsAll (RowHolds row) (CredHas c)) (λ all. failed b (SetsHeld (RowHolds row) c) told out
+  sets_out b told out = no (HoldsAll (RowHolds row) (CredHas c)) (λ all. iff_false told out
       (parts_of_all (RowHolds row) c all).sets)
 
   -- where all others are held, all is held where the flags are

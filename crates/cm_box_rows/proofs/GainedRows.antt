@@ -8,10 +8,9 @@ use Rattle.cm_base.specs.CapSet.{holds}
 use Rattle.cm_idset.specs.Held.{Held}
 use Rattle.model_cred.specs.Intervals.{Interval}
 use Rattle.model_box.specs.Bounds.{BoxRow, no_row}
-use Rattle.model_box.specs.Row.{Part, Uids, EffectiveUids, FsUids, Gids, EffectiveGids, FsGids, Groups}
+use Rattle.model_box.specs.Row.{Part, Groups}
 use Rattle.model_box.specs.Row.{MappedGids, PermittedCaps, InheritableCaps, BoundingCaps, RootCounts, LockClear}
-use Rattle.model_box.specs.Gains.{Settable, SpreadsUid, SpreadsGid, SettableUid, SettableGid, GainsFsUid, GainsFsGid}
-use Rattle.model_box.specs.Gains.{GainsGroups, GainsInheritable, GainsRoot}
+use Rattle.model_box.specs.Gains.{Settable, GainsGroups, GainsInheritable, GainsRoot}
 use Rattle.model_rules.specs.Caps.{cap_setgid, cap_setpcap}
 use Rattle.cm_box_rows.specs.Rows.{RowHolds, AreSameRows}
 use Rattle.cm_box_rows.proofs.RowParts.{nothing, raised_is}
@@ -28,79 +27,20 @@ settable_told Old Mapped P Q same x = (
 pub same_on : {One Two Three : ℕ → Type 0} → AreSame One Two → AreSame Two Three → AreSame One Three
 same_on a b x = (λ held. (b x).0 ((a x).0 held), λ held. (a x).1 ((b x).1 held))
 
+-- so too in either of two sets
+pub either_same : (One Other More : ℕ → Type 0) → AreSame One Other → AreSame (InEither One More) (InEither Other More)
+either_same One Other More same x = (
+  λ held. elim held [ inl one ↦ inl ((same x).0 one) | inr more ↦ inr more ],
+  λ held. elim held [ inl one ↦ inl ((same x).1 one) | inr more ↦ inr more ],
+)
+
 -- so too what is set, of a set that holds it
 pub settable_is : (Set Old Mapped : ℕ → Type 0) (P Q : Type 0) → P ↔ Q → AreSame Set (Settable Old Mapped P)
     → AreSame Set (Settable Old Mapped Q)
 settable_is Set Old Mapped P Q told same = same_on same (settable_told Old Mapped P Q told)
 
 module _ (row : Part → ℕ → Type 0) where
-  -- new ids that are the same spread the same
-  pub spreads_uid_same : (Set New : ℕ → Type 0) (gained : Part → ℕ → Type 0) → AreSame Set New
-      → AreSameRows gained (SpreadsUid row Set)
-      → AreSameRows gained (SpreadsUid row New)
-  spreads_uid_same Set New gained same is EffectiveUids x = (
-    λ has. (same x).0 ((is EffectiveUids x).0 has),
-    λ has. (is EffectiveUids x).1 ((same x).1 has),
-  )
-  spreads_uid_same Set New gained same is Uids x = (
-    λ has. elim ((is Uids x).0 has) [ inl old ↦ inl old | inr new ↦ inr ((same x).0 new) ],
-    λ has. (is Uids x).1 (elim has [ inl old ↦ inl old | inr new ↦ inr ((same x).1 new) ]),
-  )
-  spreads_uid_same Set New gained same is FsUids x = (
-    λ has. elim ((is FsUids x).0 has) [ inl old ↦ inl old | inr new ↦ inr ((same x).0 new) ],
-    λ has. (is FsUids x).1 (elim has [ inl old ↦ inl old | inr new ↦ inr ((same x).1 new) ]),
-  )
-  spreads_uid_same Set New gained same is part x = is part x
-
-  pub spreads_gid_same : (Set New : ℕ → Type 0) (gained : Part → ℕ → Type 0) → AreSame Set New
-      → AreSameRows gained (SpreadsGid row Set)
-      → AreSameRows gained (SpreadsGid row New)
-  spreads_gid_same Set New gained same is EffectiveGids x = (
-    λ has. (same x).0 ((is EffectiveGids x).0 has),
-    λ has. (is EffectiveGids x).1 ((same x).1 has),
-  )
-  spreads_gid_same Set New gained same is Gids x = (
-    λ has. elim ((is Gids x).0 has) [ inl old ↦ inl old | inr new ↦ inr ((same x).0 new) ],
-    λ has. (is Gids x).1 (elim has [ inl old ↦ inl old | inr new ↦ inr ((same x).1 new) ]),
-  )
-  spreads_gid_same Set New gained same is FsGids x = (
-    λ has. elim ((is FsGids x).0 has) [ inl old ↦ inl old | inr new ↦ inr ((same x).0 new) ],
-    λ has. (is FsGids x).1 (elim has [ inl old ↦ inl old | inr new ↦ inr ((same x).1 new) ]),
-  )
-  spreads_gid_same Set New gained same is part x = is part x
-
-  -- a row of three sets of ids, of the new effective ids and those besides
-  pub uids_row : (ids effective fs : List Interval) (New : ℕ → Type 0)
-      → AreSame (Held ids) (InEither (row EffectiveUids) New)
-      → AreSame (Held effective) New → AreSame (Held fs) (InEither (row EffectiveUids) New)
-      → AreSameRows (RowHolds (record no_row { uids = ids; effective_uids = effective; fs_uids = fs }))
-      (SpreadsUid row New)
-  uids_row ids effective fs New three one last Uids x = three x
-  uids_row ids effective fs New three one last EffectiveUids x = one x
-  uids_row ids effective fs New three one last FsUids x = last x
-  uids_row ids effective fs New three one last part x = nothing part x
-
-  pub gids_row : (ids effective fs : List Interval) (New : ℕ → Type 0)
-      → AreSame (Held ids) (InEither (row EffectiveGids) New)
-      → AreSame (Held effective) New → AreSame (Held fs) (InEither (row EffectiveGids) New)
-      → AreSameRows (RowHolds (record no_row { gids = ids; effective_gids = effective; fs_gids = fs }))
-      (SpreadsGid row New)
-  gids_row ids effective fs New three one last Gids x = three x
-  gids_row ids effective fs New three one last EffectiveGids x = one x
-  gids_row ids effective fs New three one last FsGids x = last x
-  gids_row ids effective fs New three one last part x = nothing part x
-
   -- rows of one set
-  pub fs_uids_row : (fs : List Interval) → AreSame (Held fs) (SettableUid row)
-      → AreSameRows (RowHolds (record no_row { fs_uids = fs })) (GainsFsUid row)
-  fs_uids_row fs same FsUids x = same x
-  fs_uids_row fs same part x = nothing part x
-
-  pub fs_gids_row : (fs : List Interval) → AreSame (Held fs) (SettableGid row)
-      → AreSameRows (RowHolds (record no_row { fs_gids = fs })) (GainsFsGid row)
-  fs_gids_row fs same FsGids x = same x
-  fs_gids_row fs same part x = nothing part x
-
   pub groups_row : (groups : List Interval) → row PermittedCaps cap_setgid
       → AreSame (Held groups) (InEither (row MappedGids) (row MappedGids))
       → AreSameRows (RowHolds (record no_row { groups = groups })) (GainsGroups row)

@@ -6,6 +6,7 @@ pub mod Chains
 pub mod CredParts
 pub mod GainedRows
 pub mod Gathered
+pub mod IdKinds
 pub mod Joining
 pub mod MapLines
 pub mod Mapping

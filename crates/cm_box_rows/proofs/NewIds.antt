@@ -1,5 +1,5 @@
 -- What can come into the maps of later spaces, with a capability that a test tells.
-use Rattle.std.proofs.Common.{◌≡◌, ℕ, Bool, false, inl, inr}
+use Rattle.std.proofs.Common.{◌≡◌, ℕ, Bool, false}
 use Rattle.std.specs.Prelude.{◌↔◌, IsTrue}
 use Rattle.cm_sets.specs.Sets.{IsWithin}
 use Rattle.model_rules.specs.Caps.{cap_setuid, cap_setgid}
@@ -8,28 +8,10 @@ use Rattle.model_box.specs.Gains.{Settable}
 use Rattle.model_box.specs.Row.{Part, EffectiveUids, EffectiveGids, MappedUids, MappedGids, PermittedCaps}
 use Rattle.cm_box_rows.specs.Rows.{RowHolds}
 use Rattle.cm_box_rows.specs.Spread.{FreshUidBy, FreshGidBy}
+use Rattle.cm_box_rows.proofs.CallRules.{settable_within_told}
 use Rattle.cm_box_rows.proofs.Mapping.{fresh_uids, fresh_gids}
 use Rattle.cm_box_rows.proofs.Spreading.{refused}
 use Rattle.cm_box_rows.proofs.Tests.{on, no}
-
--- with a capability that is told by a test
-settable_by : (Old Mapped : ℕ → Type 0) (P Q : Type 0) → P ↔ Q → (x : ℕ)
-    → Settable Old Mapped P x ↔ Settable Old Mapped Q x
-settable_by Old Mapped P Q same x = (to, from) where
-  to : Settable Old Mapped P x → Settable Old Mapped Q x
-  to (inl own) = inl own
-  to (inr (can, mapped)) = inr (same.0 can, mapped)
-
-  from : Settable Old Mapped Q x → Settable Old Mapped P x
-  from (inl own) = inl own
-  from (inr (can, mapped)) = inr (same.1 can, mapped)
-
-within_by : (Old Mapped Bound : ℕ → Type 0) (P Q : Type 0) → P ↔ Q
-    → IsWithin (Settable Old Mapped P) Bound ↔ IsWithin (Settable Old Mapped Q) Bound
-within_by Old Mapped Bound P Q same = (
-  λ within x can. within x ((settable_by Old Mapped P Q same x).1 can),
-  λ within x can. within x ((settable_by Old Mapped P Q same x).0 can),
-)
 
 -- ---- the later spaces below a standing one
 module _ (row fresh : Part → ℕ → Type 0) (can : Type 0) where
@@ -37,16 +19,17 @@ module _ (row fresh : Part → ℕ → Type 0) (can : Type 0) where
       → IsTrue b ↔ IsWithin (Settable (row EffectiveUids) (row MappedUids) can) (fresh MappedUids)
       → IsTrue b ↔ ((x : ℕ) → FreshUidBy row x → fresh MappedUids x)
   fresh_uids_told b is told =
-      on told (on (within_by (row EffectiveUids) (row MappedUids) (fresh MappedUids) can (row PermittedCaps cap_setuid) is) (fresh_uids row fresh))
+      on (settable_within_told b (row EffectiveUids) (row MappedUids) (fresh MappedUids) can (row PermittedCaps cap_setuid) is told)
+      (fresh_uids row fresh)
 
   fresh_gids_not : can ↔ row PermittedCaps cap_setgid
       → IsTrue false ↔ IsWithin (Settable (row EffectiveGids) (row MappedGids) can) (fresh MappedGids)
       → IsTrue false ↔ ((x : ℕ) → FreshGidBy row fresh x → fresh MappedGids x)
   fresh_gids_not is told =
-      let by =
-      within_by (row EffectiveGids) (row MappedGids) (fresh MappedGids) can (row PermittedCaps cap_setgid) is in
+      let out =
+      settable_within_told false (row EffectiveGids) (row MappedGids) (fresh MappedGids) can (row PermittedCaps cap_setgid) is told in
       no ((x : ℕ) → FreshGidBy row fresh x → fresh MappedGids x)
-      (λ all. refused (IsWithin (Settable (row EffectiveGids) (row MappedGids) can) (fresh MappedGids)) told (by.1 ((fresh_gids row fresh).1 all).0))
+      (λ all. refused _ out ((fresh_gids row fresh).1 all).0)
 
 -- ---- the tests, with the rows as they are read
 module _ (r f row fresh : BoxRow) (r_is : r ≡ row) (f_is : f ≡ fresh) (can : Type 0) where

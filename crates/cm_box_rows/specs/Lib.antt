@@ -1,5 +1,6 @@
 -- The words of the contracts on one row of bounds.
 pub mod Rows
+pub mod Kinds
 pub mod Members
 pub mod Programs
 pub mod Rights

@@ -29,23 +29,23 @@ ByOverride row f =
     row PermittedCaps cap_dac_override × IdIn f.owner (row MappedUids) × IdIn f.group (row MappedGids)
     × IsTrue (has_bit f 0o111)
 
--- The file gives its owner by its set-user-ID bit.
-abbrev pub OwnerGiven : Spaces → ℕ → (Part → ℕ → Type 0) → FileView → ℕ → Type 0
-OwnerGiven spaces n row f x = CanRun row f × SetIdCan spaces n row f × IsTrue (has_bit f 0o4000) × (f.owner ≡ Some x)
+-- The file's set-id bit stands for the id: the set-user-ID bit for its owner, the set-group-ID bit with the group
+-- execute bit for its group.
+abbrev pub StandsFor : Kind → FileView → ℕ → Type 0
+StandsFor Users f x = IsTrue (has_bit f 0o4000) × (f.owner ≡ Some x)
+StandsFor kinds.Groups f x = IsTrue (has_bit f 0o2000) × IsTrue (has_bit f 0o010) × (f.group ≡ Some x)
 
--- The file gives its group by its set-group-ID bit.
-abbrev pub GroupGiven : Spaces → ℕ → (Part → ℕ → Type 0) → FileView → ℕ → Type 0
-GroupGiven spaces n row f x =
-    CanRun row f × SetIdCan spaces n row f × IsTrue (has_bit f 0o2000) × IsTrue (has_bit f 0o010) × (f.group ≡ Some x)
-
--- the id that a file gives, of users or of groups
+-- The file gives the id to a member of the row: one may run it, and its set-id bit can count.
 abbrev pub Given : Kind → Spaces → ℕ → (Part → ℕ → Type 0) → FileView → ℕ → Type 0
-Given Users = OwnerGiven
-Given kinds.Groups = GroupGiven
+Given kind spaces n row f x = CanRun row f × SetIdCan spaces n row f × StandsFor kind f x
+
+-- The file of the table is a program, and gives the id.
+abbrev pub IdGiven : Kind → FileTable → Spaces → ℕ → (Part → ℕ → Type 0) → ℕ → ℕ → Type 0
+IdGiven kind files spaces n row k x = IsTrue (is_program files k) × Given kind spaces n row (view files k) x
 
 -- A program gives the id.
 abbrev pub GivenByFile : Kind → FileTable → Spaces → ℕ → (Part → ℕ → Type 0) → ℕ → Type 0
-GivenByFile kind files spaces n row x = (k : ℕ) × IsTrue (is_program files k) × Given kind spaces n row (view files k) x
+GivenByFile kind files spaces n row x = (k : ℕ) × IdGiven kind files spaces n row k x
 
 -- The file of the table is a program, and brings the capability by its attribute.
 abbrev pub CapGiven : FileTable → Spaces → (Row → Part → ℕ → Type 0) → Row → ℕ → ℕ → Type 0

@@ -12,7 +12,8 @@ NextMet spaces row a n = (m : ℕ) × IsNext spaces a n m × row EffectiveUids (
 
 -- A member of the row of the first can have the capability over the second.
 abbrev pub CapMetAt : Spaces → (Part → ℕ → Type 0) → ℕ → ℕ → ℕ → Type 0
-CapMetAt spaces row cap a n = (IsTrue (is_at_or_above spaces a n) × HasMembers row × row PermittedCaps cap) ⊎ NextMet spaces row a n
+CapMetAt spaces row cap a n =
+    (IsTrue (is_at_or_above spaces a n) × HasMembers row × row PermittedCaps cap) ⊎ NextMet spaces row a n
 
 -- The bounds meet the right by the row of that number, which is of a standing space, and by no earlier one.
 pub record IsFirstMet (spaces : Spaces) (bounds : Row → Part → ℕ → Type 0) (right : Right) (y : ℕ) : Type 0 where

@@ -1,11 +1,15 @@
 -- What comes to a row from another, with the rows given by themselves.
 use Rattle.std.specs.Prelude.{◌≡◌, ◌⊎◌, ℕ, nat_lt, IsTrue}
 use Rattle.cm_base.specs.CapSet.{holds, full}
+use Rattle.cm_box_rows.specs.declared.kind.Kind.{Kind}
+use Rattle.cm_box_rows.specs.declared.kind.Kind.TheVariants.{Users}
+use Rattle.cm_box_rows.specs.declared.kind.Kind.TheVariants as kinds
 use Rattle.model_cred.specs.Space.{Space, Spaces, level, space_of}
 use Rattle.model_rules.specs.Caps.{cap_setuid, cap_setgid, cap_sys_admin}
 use Rattle.model_rules.specs.Namespaces.{deepest}
 use Rattle.model_box.specs.Row.{Part, Uids, EffectiveUids, FsUids, Gids, EffectiveGids, FsGids, Groups, MappedUids}
-use Rattle.model_box.specs.Row.{MappedGids, PermittedCaps, BoundingCaps, RootCounts, LockClear, Row, Standing, HasMembers}
+use Rattle.model_box.specs.Row.{MappedGids, PermittedCaps, BoundingCaps, RootCounts, LockClear, HasMembers}
+use Rattle.model_box.specs.Row.{Row, Standing}
 use Rattle.model_box.specs.Spread.{Brings, IsNext, Meet}
 use Rattle.cm_box_rows.specs.Rows.{HoldsAll}
 
@@ -29,7 +33,8 @@ pub record FullHeld (row : Part → ℕ → Type 0) : Type 0 where
 -- A member that stands in the space, of which the row is given, can make a space.
 abbrev pub CanMakeIn : Spaces → ℕ → (Part → ℕ → Type 0) → Type 0
 CanMakeIn spaces n row =
-    IsTrue (nat_lt (level spaces n) deepest) × Meet (row EffectiveUids) (row MappedUids) × Meet (row EffectiveGids) (row MappedGids)
+    IsTrue (nat_lt (level spaces n) deepest)
+    × Meet (row EffectiveUids) (row MappedUids) × Meet (row EffectiveGids) (row MappedGids)
 
 -- what the makers of later spaces bring, if there can be any
 abbrev pub MadeIn : Spaces → ℕ → (Part → ℕ → Type 0) → Part → ℕ → Type 0
@@ -42,7 +47,8 @@ CanJoinBy parent child = HasMembers parent × (parent PermittedCaps cap_sys_admi
 -- The row holds what comes by all who can join the space from above.
 abbrev pub JoinsHeld : Spaces → (Row → Part → ℕ → Type 0) → (Part → ℕ → Type 0) → ℕ → Type 0
 JoinsHeld spaces bounds row n =
-    (a m : ℕ) → IsNext spaces a n m → CanJoinBy (bounds (Standing a)) (space_of spaces m) → HoldsAll row (Brings (bounds (Standing a)))
+    (a m : ℕ) → IsNext spaces a n m → CanJoinBy (bounds (Standing a)) (space_of spaces m)
+    → HoldsAll row (Brings (bounds (Standing a)))
 
 -- the user ids that can come into the map of a standing space from its parent
 abbrev pub NewUidBy : (Part → ℕ → Type 0) → (Part → ℕ → Type 0) → ℕ → ℕ → Type 0
@@ -67,6 +73,16 @@ FreshUidBy row x = row MappedUids x × (row EffectiveUids x ⊎ row PermittedCap
 abbrev pub FreshGidBy : (Part → ℕ → Type 0) → (Part → ℕ → Type 0) → ℕ → Type 0
 FreshGidBy row fresh x = row MappedGids x × (row EffectiveGids x ⊎ fresh EffectiveGids x ⊎ row PermittedCaps cap_setgid)
 
+-- the ids of one kind that can come into the map of a standing space from its parent
+abbrev pub NewIdBy : Kind → (Part → ℕ → Type 0) → (Part → ℕ → Type 0) → ℕ → ℕ → Type 0
+NewIdBy Users = NewUidBy
+NewIdBy kinds.Groups = NewGidBy
+
+-- those that can come into the maps of the later spaces below it
+abbrev pub FreshIdBy : Kind → (Part → ℕ → Type 0) → (Part → ℕ → Type 0) → ℕ → Type 0
+FreshIdBy Users row fresh = FreshUidBy row
+FreshIdBy kinds.Groups row fresh = FreshGidBy row fresh
+
 -- what comes with those who can join the space from its parent
 abbrev pub JoinedBy : (Part → ℕ → Type 0) → Space → Part → ℕ → Type 0
 JoinedBy parent child part x = CanJoinBy parent child × Brings parent part x
@@ -74,4 +90,5 @@ JoinedBy parent child part x = CanJoinBy parent child × Brings parent part x
 -- what comes by all who can join the space from above
 abbrev pub ByJoiningTo : Spaces → (Row → Part → ℕ → Type 0) → ℕ → Part → ℕ → Type 0
 ByJoiningTo spaces bounds n part x =
-    (a : ℕ) × (m : ℕ) × IsNext spaces a n m × CanJoinBy (bounds (Standing a)) (space_of spaces m) × Brings (bounds (Standing a)) part x
+    (a : ℕ) × (m : ℕ) × IsNext spaces a n m × CanJoinBy (bounds (Standing a)) (space_of spaces m)
+    × Brings (bounds (Standing a)) part x

@@ -4,49 +4,42 @@ ghost use Rattle.std.specs.Prelude.{◌≡◌, ◌↔◌, IsTrue};
 ghost use Rattle.cm_sets.specs.Sets.{IsWithin};
 ghost use Rattle.cm_idset.specs.Held.{Held};
 ghost use Rattle.cm_box_rows.specs.Rows.{RowHolds, HoldsAll};
-ghost use Rattle.model_box.specs.Gains.{SpreadsUid, SpreadsGid, SettableUid, SettableGid, GainsFsUid, GainsFsGid};
+ghost use Rattle.cm_box_rows.specs.Kinds.{effective, three, fs, SettableId, SpreadsId, GainsFsId};
 ghost use Rattle.model_box.specs.Gains.{GainsGroups, GainsInheritable, GainsRoot};
 
 use crate::BoxRow;
 use crate::ids::settable_within;
+use crate::kind::{Kind, effective_ids, fs_ids};
 use cm_base::Cap;
 use cm_idset::IdSet;
 use cm_sets::SetLike;
 
-/// setuid(2), setreuid(2), setresuid(2).
-pub fn set_uid_held(row: &BoxRow) -> bool
-    ensures { IsTrue result
-        ↔ HoldsAll (RowHolds row.now) (SpreadsUid (RowHolds row.now) (SettableUid (RowHolds row.now))) }
+/// setuid(2), setreuid(2) and setresuid(2), or the calls for group ids alike.
+pub fn set_ids_held(kind: Kind, row: &BoxRow) -> bool
+    ensures { IsTrue result ↔ HoldsAll (RowHolds row.now)
+        (SpreadsId kind (RowHolds row.now) (SettableId kind (RowHolds row.now))) }
 {
-    if !settable_within(&row.u, &row.mu, row.p.holds(&Cap::SETUID), &row.eu) {
+    if !settable_held(kind, row, effective_ids(kind, row)) {
         return false;
     }
-    spread_held(&row.u, &row.eu, &row.fu)
+    spread_held(kind, row)
 }
 
-/// setfsuid(2).
-pub fn set_fs_uid_held(row: &BoxRow) -> bool
-    ensures { IsTrue result ↔ HoldsAll (RowHolds row.now) (GainsFsUid (RowHolds row.now)) }
+/// setfsuid(2) or setfsgid(2).
+pub fn set_fs_held(kind: Kind, row: &BoxRow) -> bool
+    ensures { IsTrue result ↔ HoldsAll (RowHolds row.now) (GainsFsId kind (RowHolds row.now)) }
 {
-    settable_within(&row.u, &row.mu, row.p.holds(&Cap::SETUID), &row.fu)
+    settable_held(kind, row, fs_ids(kind, row))
 }
 
-/// setgid(2), setregid(2), setresgid(2).
-pub fn set_gid_held(row: &BoxRow) -> bool
-    ensures { IsTrue result
-        ↔ HoldsAll (RowHolds row.now) (SpreadsGid (RowHolds row.now) (SettableGid (RowHolds row.now))) }
+// The ids that members can set are in the bound.
+fn settable_held(kind: Kind, row: &BoxRow, bound: &IdSet) -> bool
+    ensures { IsTrue result ↔ IsWithin (SettableId kind (RowHolds row.now)) (Held bound.now) }
 {
-    if !settable_within(&row.g, &row.mg, row.p.holds(&Cap::SETGID), &row.eg) {
-        return false;
+    match kind {
+        Kind::Users => settable_within(&row.u, &row.mu, row.p.holds(&Cap::SETUID), bound),
+        Kind::Groups => settable_within(&row.g, &row.mg, row.p.holds(&Cap::SETGID), bound),
     }
-    spread_held(&row.g, &row.eg, &row.fg)
-}
-
-/// setfsgid(2).
-pub fn set_fs_gid_held(row: &BoxRow) -> bool
-    ensures { IsTrue result ↔ HoldsAll (RowHolds row.now) (GainsFsGid (RowHolds row.now)) }
-{
-    settable_within(&row.g, &row.mg, row.p.holds(&Cap::SETGID), &row.fg)
 }
 
 /// setgroups(2), where the word of the space isn't "deny".
@@ -79,13 +72,24 @@ pub fn secure_bits_held(row: &BoxRow) -> bool
     row.r.0
 }
 
-/// The effective ids can become the real, the saved and the fs ids.
-pub fn spread_held(three: &IdSet, effective: &IdSet, fs: &IdSet) -> bool
-    ensures { IsTrue result
-        ↔ (IsWithin (Held effective.now) (Held three.now) × IsWithin (Held effective.now) (Held fs.now)) }
+/// The effective ids are among the real and saved ones, and among the fs ones, as calls make them.
+pub fn spread_held(kind: Kind, row: &BoxRow) -> bool
+    ensures { IsTrue result ↔ (IsWithin (RowHolds row.now (effective kind)) (RowHolds row.now (three kind))
+        × IsWithin (RowHolds row.now (effective kind)) (RowHolds row.now (fs kind))) }
 {
-    if !effective.within(three) {
+    match kind {
+        Kind::Users => within_both(&row.eu, &row.u, &row.fu),
+        Kind::Groups => within_both(&row.eg, &row.g, &row.fg),
+    }
+}
+
+// The ids are in both sets.
+fn within_both(ids: &IdSet, one: &IdSet, other: &IdSet) -> bool
+    ensures { IsTrue result
+        ↔ (IsWithin (Held ids.now) (Held one.now) × IsWithin (Held ids.now) (Held other.now)) }
+{
+    if !ids.within(one) {
         return false;
     }
-    effective.within(fs)
+    ids.within(other)
 }

@@ -4,11 +4,12 @@ ghost use Rattle.cm_base.specs.Outcome.{OrNoMemory};
 ghost use Rattle.cm_sets.specs.Sets.{AreSame};
 ghost use Rattle.cm_idset.specs.Held.{Held};
 ghost use Rattle.cm_box_rows.specs.Rows.{RowHolds, RowsHold, InEitherRow, AreSameRows};
-ghost use Rattle.cm_box_rows.specs.Spread.{NewUidBy, NewGidBy, FreshUidBy, FreshGidBy, JoinedBy, ByJoiningTo};
+ghost use Rattle.cm_box_rows.specs.Spread.{NewUidBy, NewGidBy, NewIdBy, FreshUidBy, FreshGidBy, FreshIdBy};
 ghost use Rattle.model_box.specs.Spread.{Brings};
 
 use crate::BoxRow;
 use crate::ids::settable;
+use crate::kind::Kind;
 use crate::spread::{can_join_by, is_owner_with};
 use cm_base::{Cap, CapWord, Kuid, NoMemory, SpaceId};
 use cm_idset::IdSet;
@@ -31,13 +32,25 @@ pub fn brought(alloc: Global, from: &BoxRow) -> Result<BoxRow, NoMemory>
     Ok(row)
 }
 
-/// The user ids that can come into the map of a standing space from its parent.
-pub fn new_uids(
+/// The ids that can come into the map of a standing space from its parent. Its only error is want of memory.
+pub fn new_ids(
     alloc: Global,
+    kind: Kind,
     row: &BoxRow,
     parent: &BoxRow,
     owner: Kuid,
 ) -> Result<IdSet, NoMemory>
+    ensures { OrNoMemory result
+        (λ ids. AreSame (Held ids) (NewIdBy kind (RowHolds row.now) (RowHolds parent.now) owner)) }
+{
+    match kind {
+        Kind::Users => new_uids(alloc, row, parent, owner),
+        Kind::Groups => new_gids(alloc, row, parent, owner),
+    }
+}
+
+// The user ids among them.
+fn new_uids(alloc: Global, row: &BoxRow, parent: &BoxRow, owner: Kuid) -> Result<IdSet, NoMemory>
     ensures { OrNoMemory result (λ ids. AreSame (Held ids) (NewUidBy (RowHolds row.now) (RowHolds parent.now) owner)) }
 {
     if parent.p.holds(&Cap::SETUID) {
@@ -56,13 +69,8 @@ pub fn new_uids(
     Ok(IdSet::empty(alloc))
 }
 
-/// The group ids alike.
-pub fn new_gids(
-    alloc: Global,
-    row: &BoxRow,
-    parent: &BoxRow,
-    owner: Kuid,
-) -> Result<IdSet, NoMemory>
+// The group ids.
+fn new_gids(alloc: Global, row: &BoxRow, parent: &BoxRow, owner: Kuid) -> Result<IdSet, NoMemory>
     ensures { OrNoMemory result (λ ids. AreSame (Held ids) (NewGidBy (RowHolds row.now) (RowHolds parent.now) owner)) }
 {
     if parent.p.holds(&Cap::SETGID) {
@@ -93,15 +101,26 @@ fn gids_if(alloc: Global, can: bool, one: &IdSet, other: &IdSet) -> Result<IdSet
     one.meet(alloc, other)
 }
 
-/// The user ids that can come into the maps of the later spaces below a standing one.
-pub fn fresh_uids(alloc: Global, row: &BoxRow) -> Result<IdSet, NoMemory>
+/// The ids that can come into the maps of the later spaces below a standing one. Its only error is want of memory.
+pub fn fresh_ids(alloc: Global, kind: Kind, row: &BoxRow, fresh: &BoxRow) -> Result<IdSet, NoMemory>
+    ensures { OrNoMemory result
+        (λ ids. AreSame (Held ids) (FreshIdBy kind (RowHolds row.now) (RowHolds fresh.now))) }
+{
+    match kind {
+        Kind::Users => fresh_uids(alloc, row),
+        Kind::Groups => fresh_gids(alloc, row, fresh),
+    }
+}
+
+// The user ids among them.
+fn fresh_uids(alloc: Global, row: &BoxRow) -> Result<IdSet, NoMemory>
     ensures { OrNoMemory result (λ ids. AreSame (Held ids) (FreshUidBy (RowHolds row.now))) }
 {
     settable(alloc, &row.eu, &row.mu, row.p.holds(&Cap::SETUID))
 }
 
-/// The group ids alike.
-pub fn fresh_gids(alloc: Global, row: &BoxRow, fresh: &BoxRow) -> Result<IdSet, NoMemory>
+// The group ids.
+fn fresh_gids(alloc: Global, row: &BoxRow, fresh: &BoxRow) -> Result<IdSet, NoMemory>
     ensures { OrNoMemory result (λ ids. AreSame (Held ids) (FreshGidBy (RowHolds row.now) (RowHolds fresh.now))) }
 {
     let own = settable(alloc, &row.eg, &row.mg, row.p.holds(&Cap::SETGID))?;

@@ -1,84 +1,76 @@
 // What the calls that set ids, groups, capabilities and securebits add to a row, as a row.
-ghost use Rattle.std.specs.Prelude.{IsTrue};
+ghost use Rattle.std.specs.Prelude.{◌≡◌, IsTrue};
 ghost use Rattle.cm_base.specs.Outcome.{OrNoMemory};
 ghost use Rattle.cm_idset.specs.Held.{Held};
+ghost use Rattle.cm_sets.specs.Sets.{AreSame};
+ghost use Rattle.cm_box_rows.specs.Kinds.{SettableId, SpreadsId, GainsFsId, id_row};
 ghost use Rattle.cm_box_rows.specs.Rows.{RowHolds, AreSameRows};
-ghost use Rattle.model_box.specs.Gains.{SpreadsUid, SpreadsGid, SettableUid, SettableGid, GainsFsUid, GainsFsGid};
 ghost use Rattle.model_box.specs.Gains.{GainsGroups, GainsInheritable, GainsRoot};
 
 use crate::BoxRow;
 use crate::ids::settable;
+use crate::kind::{Kind, effective_ids};
 use cm_base::{Cap, NoMemory};
 use cm_idset::IdSet;
 use cm_sets::{Flag, SetLike};
 use std::alloc::Global;
 
-/// New effective user ids, with what becomes of them and of the old ones.
-pub fn uids_gained(alloc: Global, row: &BoxRow, eu: IdSet) -> Result<BoxRow, NoMemory>
-    ensures { OrNoMemory result (λ r. AreSameRows (RowHolds r) (SpreadsUid (RowHolds row.now) (Held eu))) }
+/// New effective ids, with what becomes of them and of the old ones. Its only error is want of memory.
+pub fn ids_gained(alloc: Global, kind: Kind, row: &BoxRow, new: IdSet) -> Result<BoxRow, NoMemory>
+    ensures { OrNoMemory result (λ r. AreSameRows (RowHolds r) (SpreadsId kind (RowHolds row.now) (Held new))) }
 {
-    let u = row.eu.join(alloc, &eu)?;
-    let fu = row.eu.join(alloc, &eu)?;
-    Ok(BoxRow {
-        u,
-        eu,
-        fu,
-        ..BoxRow::least(alloc)
-    })
+    let old = effective_ids(kind, row);
+    let three = old.join(alloc, &new)?;
+    let fs = old.join(alloc, &new)?;
+    Ok(ids_alone(alloc, kind, three, new, fs))
 }
 
-/// The same of group ids.
-pub fn gids_gained(alloc: Global, row: &BoxRow, eg: IdSet) -> Result<BoxRow, NoMemory>
-    ensures { OrNoMemory result (λ r. AreSameRows (RowHolds r) (SpreadsGid (RowHolds row.now) (Held eg))) }
+// A row that holds ids of one kind alone.
+fn ids_alone(alloc: Global, kind: Kind, three: IdSet, effective: IdSet, fs: IdSet) -> BoxRow
+    ensures { result ≡ id_row kind three effective fs }
 {
-    let g = row.eg.join(alloc, &eg)?;
-    let fg = row.eg.join(alloc, &eg)?;
-    Ok(BoxRow {
-        g,
-        eg,
-        fg,
-        ..BoxRow::least(alloc)
-    })
+    match kind {
+        Kind::Users => BoxRow {
+            u: three,
+            eu: effective,
+            fu: fs,
+            ..BoxRow::least(alloc)
+        },
+        Kind::Groups => BoxRow {
+            g: three,
+            eg: effective,
+            fg: fs,
+            ..BoxRow::least(alloc)
+        },
+    }
 }
 
-/// By setuid(2), setreuid(2) and setresuid(2).
-pub fn set_uid_gained(alloc: Global, row: &BoxRow) -> Result<BoxRow, NoMemory>
-    ensures { OrNoMemory result
-        (λ r. AreSameRows (RowHolds r) (SpreadsUid (RowHolds row.now) (SettableUid (RowHolds row.now)))) }
+/// By setuid(2), setreuid(2) and setresuid(2), or the calls for group ids alike. Its only error is want of memory.
+pub fn set_ids_gained(alloc: Global, kind: Kind, row: &BoxRow) -> Result<BoxRow, NoMemory>
+    ensures { OrNoMemory result (λ r. AreSameRows (RowHolds r)
+        (SpreadsId kind (RowHolds row.now) (SettableId kind (RowHolds row.now)))) }
 {
-    let eu = settable(alloc, &row.u, &row.mu, row.p.holds(&Cap::SETUID))?;
-    uids_gained(alloc, row, eu)
+    let new = settable_ids(alloc, kind, row)?;
+    ids_gained(alloc, kind, row, new)
 }
 
-/// By setgid(2), setregid(2) and setresgid(2).
-pub fn set_gid_gained(alloc: Global, row: &BoxRow) -> Result<BoxRow, NoMemory>
-    ensures { OrNoMemory result
-        (λ r. AreSameRows (RowHolds r) (SpreadsGid (RowHolds row.now) (SettableGid (RowHolds row.now)))) }
+/// By setfsuid(2) or setfsgid(2). Its only error is want of memory.
+pub fn set_fs_gained(alloc: Global, kind: Kind, row: &BoxRow) -> Result<BoxRow, NoMemory>
+    ensures { OrNoMemory result (λ r. AreSameRows (RowHolds r) (GainsFsId kind (RowHolds row.now))) }
 {
-    let eg = settable(alloc, &row.g, &row.mg, row.p.holds(&Cap::SETGID))?;
-    gids_gained(alloc, row, eg)
+    let fs = settable_ids(alloc, kind, row)?;
+    let none = IdSet::empty(alloc);
+    Ok(ids_alone(alloc, kind, none, IdSet::empty(alloc), fs))
 }
 
-/// By setfsuid(2).
-pub fn set_fs_uid_gained(alloc: Global, row: &BoxRow) -> Result<BoxRow, NoMemory>
-    ensures { OrNoMemory result (λ r. AreSameRows (RowHolds r) (GainsFsUid (RowHolds row.now))) }
+// The ids that members can set.
+fn settable_ids(alloc: Global, kind: Kind, row: &BoxRow) -> Result<IdSet, NoMemory>
+    ensures { OrNoMemory result (λ ids. AreSame (Held ids) (SettableId kind (RowHolds row.now))) }
 {
-    let fu = settable(alloc, &row.u, &row.mu, row.p.holds(&Cap::SETUID))?;
-    Ok(BoxRow {
-        fu,
-        ..BoxRow::least(alloc)
-    })
-}
-
-/// By setfsgid(2).
-pub fn set_fs_gid_gained(alloc: Global, row: &BoxRow) -> Result<BoxRow, NoMemory>
-    ensures { OrNoMemory result (λ r. AreSameRows (RowHolds r) (GainsFsGid (RowHolds row.now))) }
-{
-    let fg = settable(alloc, &row.g, &row.mg, row.p.holds(&Cap::SETGID))?;
-    Ok(BoxRow {
-        fg,
-        ..BoxRow::least(alloc)
-    })
+    match kind {
+        Kind::Users => settable(alloc, &row.u, &row.mu, row.p.holds(&Cap::SETUID)),
+        Kind::Groups => settable(alloc, &row.g, &row.mg, row.p.holds(&Cap::SETGID)),
+    }
 }
 
 /// By setgroups(2), where the word of the space isn't "deny".

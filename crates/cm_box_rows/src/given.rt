@@ -5,12 +5,13 @@ ghost use Rattle.cm_base.specs.Outcome.{OrNoMemory};
 ghost use Rattle.cm_sets.specs.Sets.{AreSame, IsWithin};
 ghost use Rattle.cm_idset.specs.Held.{Held};
 ghost use Rattle.cm_box_rows.specs.Rows.{RowHolds};
-ghost use Rattle.cm_box_rows.specs.Programs.{OwnerGiven, GroupGiven, Given, GivenByFile};
+ghost use Rattle.cm_box_rows.specs.Kinds.{effective};
+ghost use Rattle.cm_box_rows.specs.Programs.{StandsFor, Given, IdGiven, GivenByFile};
 ghost use Rattle.model_box.specs.Files.{is_program as model_is_program};
 ghost use Rattle.model_rules.specs.FileView.{view};
 
 use crate::BoxRow;
-use crate::kind::Kind;
+use crate::kind::{Kind, effective_ids};
 use crate::programs::{can_run, group_of, owner_of, set_id_can};
 use cm_base::{NoMemory, SpaceId};
 use cm_files::{FileTable, FileView};
@@ -19,48 +20,26 @@ use cm_sets::SetLike;
 use cm_state::Spaces;
 use std::alloc::Global;
 
-/// Each id that a program gives is in the set.
+/// Each id that a program gives is among the effective ones of the row.
 pub fn given_within(
     kind: Kind,
     files: &FileTable,
     spaces: &Spaces,
     n: SpaceId,
     row: &BoxRow,
-    bound: &IdSet,
 ) -> bool
     requires { n.0 < length spaces.now }
-    ensures { IsTrue result ↔ IsWithin (GivenByFile kind files.now spaces.now n.0 (RowHolds row.now)) (Held bound.now) }
+    ensures { IsTrue result ↔ IsWithin (GivenByFile kind files.now spaces.now n.0 (RowHolds row.now))
+        (RowHolds row.now (effective kind)) }
 {
+    let bound = effective_ids(kind, row);
     for k in 0..files.rows().len() {
-        if !file_within(kind, files, k, spaces, n, row, bound) {
+        let id = given_at(kind, files, k, spaces, n, row);
+        if !has_given(bound, id) {
             return false;
         }
     }
     true
-}
-
-// The id that a file gives, if it is a program and gives one, is in the set.
-fn file_within(
-    kind: Kind,
-    files: &FileTable,
-    k: usize,
-    spaces: &Spaces,
-    n: SpaceId,
-    row: &BoxRow,
-    bound: &IdSet,
-) -> bool
-    requires file { k < length files.now.rows }
-    requires space { n.0 < length spaces.now }
-    ensures { IsTrue result ↔ ((x : ℕ) → IsTrue (model_is_program files.now k)
-        → Given kind spaces.now n.0 (RowHolds row.now) (view files.now k) x → Held bound.now x) }
-{
-    if !is_program(files, k) {
-        return true;
-    }
-    match given(kind, spaces, n, row, view_at(files, k)) {
-        Some(id) => bound.holds(&id),
-        None => true,
-    }
 }
 
 /// The ids that programs give. Its only error is want of memory.
@@ -78,97 +57,100 @@ pub fn ids_given(
 {
     let mut ids = IdSet::empty(alloc);
     for k in 0..files.rows().len() {
-        ids = with_given(alloc, ids, kind, files, k, spaces, n, row)?;
+        let id = given_at(kind, files, k, spaces, n, row);
+        ids = with_given(alloc, ids, id)?;
     }
     Ok(ids)
 }
 
-// The ids with the one that a file gives, if it is a program and gives one.
-fn with_given(
-    alloc: Global,
-    ids: IdSet,
+// The id that a file of the table gives, if it is a program and gives one. Most files give none by their mode, which is
+// looked at first.
+#[inline]
+fn given_at(
     kind: Kind,
     files: &FileTable,
     k: usize,
     spaces: &Spaces,
     n: SpaceId,
     row: &BoxRow,
-) -> Result<IdSet, NoMemory>
+) -> Option<u32>
     requires file { k < length files.now.rows }
     requires space { n.0 < length spaces.now }
-    ensures { OrNoMemory result (λ more. (x : ℕ) → Held more x ↔ (Held ids x ⊎ (IsTrue (model_is_program files.now k)
-        × Given kind spaces.now n.0 (RowHolds row.now) (view files.now k) x))) }
+    ensures is_id { IfSome result (λ id. id < id_count) }
+    ensures given { (x : ℕ) → (result ≡ Some x) ↔ IdGiven kind files.now spaces.now n.0 (RowHolds row.now) k x }
 {
+    let id = given(kind, spaces, n, row, view_at(files, k))?;
     if !is_program(files, k) {
-        return Ok(ids);
+        return None;
     }
-    match given(kind, spaces, n, row, view_at(files, k)) {
-        Some(id) => {
-            if ids.holds(&id) {
-                return Ok(ids);
-            }
-            let one = IdSet::one(alloc, id)?;
-            ids.join(alloc, &one)
-        }
-        None => Ok(ids),
+    Some(id)
+}
+
+// The id is in the set, if there is one.
+fn has_given(set: &IdSet, id: Option<u32>) -> bool
+    ensures { IsTrue result ↔ ((x : ℕ) → id ≡ Some x → Held set.now x) }
+{
+    match id {
+        Some(id) => set.holds(&id),
+        None => true,
     }
 }
 
-// The id that a file gives.
-pub(crate) fn given(
-    kind: Kind,
-    spaces: &Spaces,
-    n: SpaceId,
-    row: &BoxRow,
-    f: &FileView,
-) -> Option<u32>
+// The ids with that one, if there is one. Its only error is want of memory.
+fn with_given(alloc: Global, ids: IdSet, id: Option<u32>) -> Result<IdSet, NoMemory>
+    requires { IfSome id (λ id. id < id_count) }
+    ensures { OrNoMemory result (λ more. (x : ℕ) → Held more x ↔ (Held ids x ⊎ (id ≡ Some x))) }
+{
+    let Some(id) = id else {
+        return Ok(ids);
+    };
+    if ids.holds(&id) {
+        return Ok(ids);
+    }
+    let one = IdSet::one(alloc, id)?;
+    ids.join(alloc, &one)
+}
+
+// The id that a file gives to those who may run it.
+#[inline]
+fn given(kind: Kind, spaces: &Spaces, n: SpaceId, row: &BoxRow, f: &FileView) -> Option<u32>
     requires { n.0 < length spaces.now }
     ensures is_id { IfSome result (λ id. id < id_count) }
     ensures given { (x : ℕ) → (result ≡ Some x) ↔ Given kind spaces.now n.0 (RowHolds row.now) f.now x }
 {
+    let id = id_by_bit(kind, f)?;
+    if !set_id_can(spaces, n, row, f) {
+        return None;
+    }
+    if !can_run(row, f) {
+        return None;
+    }
+    Some(id)
+}
+
+// The id that its set-id bit stands for, of groups with the group execute bit alone (choice).
+#[inline]
+fn id_by_bit(kind: Kind, f: &FileView) -> Option<u32>
+    ensures is_id { IfSome result (λ id. id < id_count) }
+    ensures id { (x : ℕ) → (result ≡ Some x) ↔ StandsFor kind f.now x }
+{
     match kind {
-        Kind::Users => owner_given(spaces, n, row, f),
-        Kind::Groups => group_given(spaces, n, row, f),
+        Kind::Users => {
+            if !f.has_bit(0o4000) {
+                return None;
+            }
+            owner_of(f)
+        }
+        Kind::Groups => {
+            if !f.has_bit(0o2000) {
+                return None;
+            }
+            if !f.has_bit(0o010) {
+                return None;
+            }
+            group_of(f)
+        }
     }
-}
-
-// Its owner, where its set-user-ID bit can count.
-fn owner_given(spaces: &Spaces, n: SpaceId, row: &BoxRow, f: &FileView) -> Option<u32>
-    requires { n.0 < length spaces.now }
-    ensures is_id { IfSome result (λ id. id < id_count) }
-    ensures given { (x : ℕ) → (result ≡ Some x) ↔ OwnerGiven spaces.now n.0 (RowHolds row.now) f.now x }
-{
-    if !f.has_bit(0o4000) {
-        return None;
-    }
-    if !set_id_can(spaces, n, row, f) {
-        return None;
-    }
-    if !can_run(row, f) {
-        return None;
-    }
-    owner_of(f)
-}
-
-// Its group, where its set-group-ID bit can count, with the group execute bit alone (choice).
-fn group_given(spaces: &Spaces, n: SpaceId, row: &BoxRow, f: &FileView) -> Option<u32>
-    requires { n.0 < length spaces.now }
-    ensures is_id { IfSome result (λ id. id < id_count) }
-    ensures given { (x : ℕ) → (result ≡ Some x) ↔ GroupGiven spaces.now n.0 (RowHolds row.now) f.now x }
-{
-    if !f.has_bit(0o2000) {
-        return None;
-    }
-    if !f.has_bit(0o010) {
-        return None;
-    }
-    if !set_id_can(spaces, n, row, f) {
-        return None;
-    }
-    if !can_run(row, f) {
-        return None;
-    }
-    group_of(f)
 }
 
 /// The file is no script.

@@ -1,6 +1,35 @@
+// The two kinds of ids, and the sets of a row by kind.
+ghost use Rattle.cm_sets.specs.Sets.{AreSame};
+ghost use Rattle.cm_idset.specs.Held.{Held};
+ghost use Rattle.cm_box_rows.specs.Kinds.{effective, fs};
+ghost use Rattle.cm_box_rows.specs.Rows.{RowHolds};
+
+use crate::BoxRow;
+use cm_idset::IdSet;
+
 /// Ids of users and of groups, where one piece of code serves both.
 #[derive(Clone, Copy, Debug, PartialEq, Eq)]
 pub enum Kind {
     Users,
     Groups,
+}
+
+// The effective ids of the kind.
+pub(crate) fn effective_ids(kind: Kind, row: &BoxRow) -> &IdSet
+    ensures { AreSame (Held result.now) (RowHolds row.now (effective kind)) }
+{
+    match kind {
+        Kind::Users => &row.eu,
+        Kind::Groups => &row.eg,
+    }
+}
+
+// The fs ids of the kind.
+pub(crate) fn fs_ids(kind: Kind, row: &BoxRow) -> &IdSet
+    ensures { AreSame (Held result.now) (RowHolds row.now (fs kind)) }
+{
+    match kind {
+        Kind::Users => &row.fu,
+        Kind::Groups => &row.fg,
+    }
 }

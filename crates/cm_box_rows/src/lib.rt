@@ -16,13 +16,12 @@ mod row;
 mod spread;
 
 pub use calls::{
-    cap_set_held, secure_bits_held, set_fs_gid_held, set_fs_uid_held, set_gid_held,
-    set_groups_held, set_uid_held, spread_held,
+    cap_set_held, secure_bits_held, set_fs_held, set_groups_held, set_ids_held, spread_held,
 };
-pub use coming::{brought, fresh_gids, fresh_uids, new_gids, new_uids};
+pub use coming::{brought, fresh_ids, new_ids};
 pub use gained::{
-    cap_set_gained, gids_gained, secure_bits_gained, set_fs_gid_gained, set_fs_uid_gained,
-    set_gid_gained, set_groups_gained, set_uid_gained, uids_gained,
+    cap_set_gained, ids_gained, secure_bits_gained, set_fs_gained, set_groups_gained,
+    set_ids_gained,
 };
 pub use given::{given_within, ids_given, is_program, view_at};
 pub use ids::meet;
@@ -30,7 +29,4 @@ pub use kind::Kind;
 pub use members::{map_held, members_held};
 pub use programs::{can_run, has_id, may_gain, may_raise_in, root_of};
 pub use row::BoxRow;
-pub use spread::{
-    brings_held, can_join_by, can_make, fresh_gids_held, fresh_uids_held, joined_held,
-    new_gids_held, new_uids_held,
-};
+pub use spread::{brings_held, can_join_by, can_make, fresh_ids_held, joined_held, new_ids_held};

@@ -3,12 +3,14 @@ ghost use Rattle.std.specs.Prelude.{◌≡◌, ◌↔◌, ◌⊎◌, ℕ, ◌<�
 ghost use Rattle.cm_idset.specs.Held.{Held};
 ghost use Rattle.cm_box_rows.specs.Rows.{RowHolds, RowsHold, HoldsAll};
 ghost use Rattle.cm_box_rows.specs.Spread.{IdsHeld, FullHeld, CanJoinBy, CanMakeIn};
-ghost use Rattle.cm_box_rows.specs.Spread.{NewUidBy, NewGidBy, FreshUidBy, FreshGidBy};
+ghost use Rattle.cm_box_rows.specs.Spread.{NewUidBy, NewGidBy, NewIdBy, FreshUidBy, FreshGidBy, FreshIdBy};
+ghost use Rattle.cm_box_rows.specs.Kinds.{mapped};
 ghost use Rattle.model_box.specs.Spread.{Brings};
 ghost use Rattle.model_box.specs.Row.{EffectiveUids, EffectiveGids, MappedUids, MappedGids, PermittedCaps};
 
 use crate::BoxRow;
 use crate::ids::{meet, settable_within};
+use crate::kind::Kind;
 use cm_base::{Cap, CapWord, Kuid, SpaceId};
 use cm_sets::{CapSet, SetLike};
 use cm_state::{Space, Spaces};
@@ -109,9 +111,19 @@ pub fn joined_held(parent: &BoxRow, child: &Space, row: &BoxRow) -> bool
     brings_held(parent, row)
 }
 
-/// The user ids that can come into the map of a standing space, of which its parent's row is given, are mapped in its
-/// row.
-pub fn new_uids_held(row: &BoxRow, parent: &BoxRow, owner: Kuid) -> bool
+/// The ids that can come into the map of a standing space, of which its parent's row is given, are mapped in its row.
+pub fn new_ids_held(kind: Kind, row: &BoxRow, parent: &BoxRow, owner: Kuid) -> bool
+    ensures { IsTrue result ↔ ((x : ℕ) → NewIdBy kind (RowHolds row.now) (RowHolds parent.now) owner x
+        → RowHolds row.now (mapped kind) x) }
+{
+    match kind {
+        Kind::Users => new_uids_held(row, parent, owner),
+        Kind::Groups => new_gids_held(row, parent, owner),
+    }
+}
+
+// The user ids are.
+fn new_uids_held(row: &BoxRow, parent: &BoxRow, owner: Kuid) -> bool
     ensures { IsTrue result ↔ ((x : ℕ) → NewUidBy (RowHolds row.now) (RowHolds parent.now) owner x
         → RowHolds row.now MappedUids x) }
 {
@@ -141,8 +153,8 @@ pub(crate) fn is_owner_with(row: &BoxRow, owner: Kuid, c: Cap) -> bool
     row.p.holds(&c)
 }
 
-/// The group ids alike.
-pub fn new_gids_held(row: &BoxRow, parent: &BoxRow, owner: Kuid) -> bool
+// The group ids are.
+fn new_gids_held(row: &BoxRow, parent: &BoxRow, owner: Kuid) -> bool
     ensures { IsTrue result ↔ ((x : ℕ) → NewGidBy (RowHolds row.now) (RowHolds parent.now) owner x
         → RowHolds row.now MappedGids x) }
 {
@@ -169,15 +181,26 @@ fn gids_of_owner_held(row: &BoxRow, parent: &BoxRow, owner: Kuid) -> bool
     parent.eg.meet_within(&parent.mg, &row.mg)
 }
 
-/// The user ids that can come into the maps of later spaces are mapped in the fresh row.
-pub fn fresh_uids_held(row: &BoxRow, fresh: &BoxRow) -> bool
+/// The ids that can come into the maps of later spaces are mapped in the fresh row.
+pub fn fresh_ids_held(kind: Kind, row: &BoxRow, fresh: &BoxRow) -> bool
+    ensures { IsTrue result ↔ ((x : ℕ) → FreshIdBy kind (RowHolds row.now) (RowHolds fresh.now) x
+        → RowHolds fresh.now (mapped kind) x) }
+{
+    match kind {
+        Kind::Users => fresh_uids_held(row, fresh),
+        Kind::Groups => fresh_gids_held(row, fresh),
+    }
+}
+
+// The user ids are.
+fn fresh_uids_held(row: &BoxRow, fresh: &BoxRow) -> bool
     ensures { IsTrue result ↔ ((x : ℕ) → FreshUidBy (RowHolds row.now) x → RowHolds fresh.now MappedUids x) }
 {
     settable_within(&row.eu, &row.mu, row.p.holds(&Cap::SETUID), &fresh.mu)
 }
 
-/// The group ids alike.
-pub fn fresh_gids_held(row: &BoxRow, fresh: &BoxRow) -> bool
+// The group ids are.
+fn fresh_gids_held(row: &BoxRow, fresh: &BoxRow) -> bool
     ensures { IsTrue result ↔ ((x : ℕ) → FreshGidBy (RowHolds row.now) (RowHolds fresh.now) x
         → RowHolds fresh.now MappedGids x) }
 {

@@ -4,7 +4,7 @@ ghost use Rattle.cm_base.specs.Outcome.{OrNoMemory};
 
 use crate::setup::Setup;
 use cm_base::NoMemory;
-use cm_box::{Bounds, Rule, closed, rule, start_bounds};
+use cm_box::{Bounds, Rule, Setting, closed, rule, start_bounds};
 use std::alloc::Global;
 
 // How often a rule is found open at most.
@@ -32,9 +32,14 @@ fn with_rule(alloc: Global, s: &Setup, b: Bounds, x: Rule, y: u32) -> Result<Bou
     requires rows { length b ≡ 2 * length s.now.m.state.spaces }
     ensures count { OrNoMemory result (λ more. length more ≡ 2 * length s.now.m.state.spaces) }
 {
+    let setting = Setting {
+        state: &s.m.state,
+        files: &s.w.files,
+        filter: s.w.filter,
+    };
     let mut more = b;
     for row in y..2 * s.m.state.spaces.count() {
-        more = rule(alloc, x, row, &s.m.state, &s.w.files, s.w.filter, &more)?;
+        more = rule(alloc, x, row, &setting, &more)?;
     }
     Ok(more)
 }

@@ -15,5 +15,6 @@ returns-clause-joined c =
     c.row.ensures ∙ ap (λ (r : Row). row_in c.args.b.now (row_number r)) c.of_number-at.ensures
     ∙ ap (row_in c.args.b.now) (number_back c.args.row) in
     rw c.put.ensures (joined_at c.args.b.now c.args.row c.in_ok-more.more c.in_ok-wider.wider
-    (Adds (permits c.args.f) c.args.files.now c.args.st.now.spaces (RowsHold c.args.b.now) (rule_of c.args.x) (row_at c.args.row))
-    c.requires.there (rw c.of_number-at.ensures at c.in_ok-more.ensures) (rw row_is at c.in_ok-wider.ensures))
+    (Adds (permits c.args.s.now.filter) c.args.s.now.files.now c.args.s.now.state.now.spaces (RowsHold c.args.b.now)
+    (rule_of c.args.x) (row_at c.args.row)) c.requires.there (rw c.of_number-at.ensures at c.in_ok-more.ensures)
+    (rw row_is at c.in_ok-wider.ensures))

@@ -1,7 +1,7 @@
 use Rattle.std.proofs.Common.{ap, ◌∙◌}
 use Rattle.model_cred.specs.Process.{State}
 use Rattle.model_cred.specs.Space.{space_of}
-use Rattle.cm_box_rows.proofs.Tests.{failed}
+use Rattle.std.proofs.lemmas.Bool.{iff_false}
 use Rattle.cm_box.proofs.CoverParts.{start_not, start_rest}
 use Rattle.cm_box.proofs.covers.start_held.Goals as goal
 
@@ -9,7 +9,7 @@ pub returns-then-not-maps_held : goal.returns-then-not-maps_held
 returns-then-not-maps_held c = rw c.in-Standing.is (
     start_not c.args.st.now c.args.members.now c.args.b.now c.in-Standing.n.0 c.row-row.result.now c.standing.result.now
     c.row-row.ensures (c.standing.ensures ∙ ap (λ (s : State). space_of s.spaces c.in-Standing.n.0) c.st.view_is)
-    (failed c.maps_held.result _ c.maps_held.ensures c.if-not-maps_held.true)
+    (iff_false c.maps_held.ensures c.if-not-maps_held.true)
     )
 
 pub returns-else-not-maps_held : goal.returns-else-not-maps_held

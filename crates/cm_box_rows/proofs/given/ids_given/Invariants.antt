@@ -1,8 +1,8 @@
 use Rattle.std.proofs.Common.{ℕ}
 use Rattle.std.specs.Prelude.{◌↔◌}
-use Rattle.cm_box_rows.proofs.ByFiles.{IdGiven}
 use Rattle.cm_box_rows.proofs.Gathered.{GivenBelow}
 use Rattle.cm_box_rows.proofs.given.ids_given.Given as goal
+use Rattle.cm_box_rows.specs.Programs.{IdGiven}
 use Rattle.cm_box_rows.specs.Rows.{RowHolds}
 use Rattle.cm_idset.specs.Held.{Held}
 
