@@ -1,0 +1,84 @@
+// Values as the lines of cases write them. What is none is bad.
+use crate::stop::Stop;
+use cm_base::{Cap, Kgid, Kuid, Pid, SpaceId, read_u32};
+use cm_idset::IdSet;
+use cm_sets::{CapSet, SetLike};
+use cm_state::Right;
+use cm_values::read_cap_text;
+use std::alloc::Global;
+
+// A number of at most 4294967295.
+pub(crate) fn number(word: &str) -> Result<u32, Stop> {
+    read_u32(word.as_bytes()).map_err(|_| Stop::Bad)
+}
+
+// The ids from the one to the other, `first-last`, or a single id.
+fn range(alloc: Global, word: &str) -> Result<IdSet, Stop> {
+    let (first, last) = word.split_once('-').unwrap_or((word, word));
+    let first = number(first)?;
+    let last = number(last)?;
+    if first > last || last == u32::MAX {
+        return Err(Stop::Bad);
+    }
+    Ok(IdSet::range(alloc, first, last)?)
+}
+
+// The ids of all these.
+pub(crate) fn ids(alloc: Global, words: &[&str]) -> Result<IdSet, Stop> {
+    let mut all = IdSet::empty(alloc);
+    for word in words {
+        let more = range(alloc, word)?;
+        all = all.join(alloc, &more)?;
+    }
+    Ok(all)
+}
+
+// A set of capabilities as worlds write it, none where there is no word.
+pub(crate) fn caps(words: &[&str]) -> Result<CapSet, Stop> {
+    let text = match words {
+        [] => "none",
+        [text] => text,
+        _ => return Err(Stop::Bad),
+    };
+    let set = read_cap_text(text.as_bytes()).ok_or(Stop::Bad)?;
+    Ok(CapSet(set))
+}
+
+// A flag: `yes`, or no word where it is lowered.
+pub(crate) fn flag(words: &[&str]) -> Result<bool, Stop> {
+    match words {
+        [] => Ok(false),
+        ["yes"] => Ok(true),
+        _ => Err(Stop::Bad),
+    }
+}
+
+// The pids of these.
+pub(crate) fn pids(alloc: Global, words: &[&str]) -> Result<Vec<Pid>, Stop> {
+    let mut list = Vec::new(alloc);
+    for word in words {
+        let pid = Pid::new(number(word)?).ok_or(Stop::Bad)?;
+        list.push(pid)?;
+    }
+    Ok(list)
+}
+
+// A right: `uid K`, `gid K`, or `NAME N`, the capability over the space of that number.
+pub(crate) fn right(words: &[&str]) -> Result<Right, Stop> {
+    match words {
+        ["uid", id] => {
+            let id = Kuid::new(number(id)?).ok_or(Stop::Bad)?;
+            Ok(Right::Uid(id))
+        }
+        ["gid", id] => {
+            let id = Kgid::new(number(id)?).ok_or(Stop::Bad)?;
+            Ok(Right::Gid(id))
+        }
+        [name, n] => {
+            let cap = Cap::from_name(name.as_bytes()).ok_or(Stop::Bad)?;
+            let n = number(n)?;
+            Ok(Right::Cap(cap, SpaceId(n)))
+        }
+        _ => Err(Stop::Bad),
+    }
+}
