@@ -94,8 +94,8 @@ impl Kgid {
 #[derive(Clone, Copy, Debug, PartialEq, Eq, PartialOrd, Ord)]
 pub struct SpaceId(pub u32);
 
-// The last pid (proc(5), pid_max; that it is one is a choice).
-const LAST_PID: u32 = 4_194_304;
+/// The last pid (proc(5), pid_max; that it is one is a choice).
+pub const LAST_PID: u32 = 4_194_304;
 
 /// A process id: 1 to 4194304.
 #[derive(Clone, Copy, Debug, PartialEq, Eq, PartialOrd, Ord)]

@@ -19,7 +19,7 @@ mod word;
 pub use cap::Cap;
 pub use errno::Errno;
 pub use faults::{LineFault, Table, WorldFault};
-pub use id::{Kgid, Kuid, Pid, SpaceId};
+pub use id::{Kgid, Kuid, LAST_PID, Pid, SpaceId};
 pub use laws::{
     cap_sets_kept, equality_by_members, inclusion_by_members, inclusion_order, membership,
     names_read_back,

@@ -15,19 +15,19 @@ ghost use Rattle.toml.specs.View.{items_view, table_view, view};
 
 use crate::error::in_row;
 use crate::{Declared, WorldError};
-use cm_base::{Kgid, Kuid, Limited, NoMemory, Pid, SpaceId, Table as TableName, WorldFault};
+use cm_base::{
+    Kgid, Kuid, LAST_PID, Limited, NoMemory, Pid, SpaceId, Table as TableName, WorldFault,
+};
 use cm_rows::{
     Key, Kind, LAST_ID, Need, RowError, items_at, number_at, number_or, range_fault, shape_fault,
 };
 use cm_state::{Cred, Proc, Procs};
 use cm_values::{
-    FiveSets, groups_of, ids_at, no_new_privs_of, securebits_of, sets_declared, space_of_row,
+    FiveSets, LAST_SECUREBITS, groups_of, ids_at, no_new_privs_of, securebits_of, sets_declared,
+    space_of_row,
 };
 use std::alloc::Global;
 use toml::{Table, Value};
-
-// The last pid (proc(5), pid_max; that it is one is a choice).
-const LAST_PID: u32 = 4_194_304;
 
 static KEYS: [Key; 13] = [
     Key(
@@ -57,7 +57,10 @@ static KEYS: [Key; 13] = [
     Key("bounding", Kind::Text, Need::Optional),
     Key(
         "securebits",
-        Kind::Number { low: 0, high: 255 },
+        Kind::Number {
+            low: 0,
+            high: LAST_SECUREBITS,
+        },
         Need::Optional,
     ),
     Key("no_new_privs", Kind::Flag, Need::Optional),

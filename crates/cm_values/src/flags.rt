@@ -8,11 +8,14 @@ use cm_base::SecBits;
 use cm_rows::{flag_at, number_or};
 use toml::Table;
 
+/// The greatest number of securebits: eight flags (capabilities(7)).
+pub const LAST_SECUREBITS: u32 = 255;
+
 /// The securebits that a row declares, 0 where it declares none.
 pub fn securebits_of(row: &Table) -> SecBits
     ensures { result.0 ≡ number_or 0 255 0 (codes "securebits") (table_view row.now) }
 {
-    SecBits(number_or(row, "securebits", 0, 255, 0) as u8)
+    SecBits(number_or(row, "securebits", 0, LAST_SECUREBITS, 0) as u8)
 }
 
 /// The row sets no_new_privs.

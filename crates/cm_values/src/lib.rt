@@ -1,6 +1,6 @@
-//! What the values of a world's rows stand for: capability sets by their texts, names of spaces and their numbers, ids,
-//! sets, id maps, modes, attributes. Lines have the first two as well. The definitions are in model_text/specs (CapText,
-//! NameText, SpaceToken, MapText, MountText, FileText, ProcessText).
+//! What the values of a world's rows stand for: capability sets by their texts, names of spaces and their numbers,
+//! ids, sets, id maps, modes, attributes. Lines have the first two as well. The definitions are in model_text/specs
+//! (CapText, NameText, SpaceToken, MapText, MountText, FileText, ProcessText).
 #![tactic(auto)]
 
 mod cap_text;
@@ -17,7 +17,7 @@ mod sets;
 
 pub use cap_text::read_cap_text;
 pub use file_parts::{caps_of_row, has_path, interpreter_of_row, mode_of_text};
-pub use flags::{no_new_privs_of, securebits_of};
+pub use flags::{LAST_SECUREBITS, no_new_privs_of, securebits_of};
 pub use ids::{groups_of, ids_at};
 pub use kept_text::kept;
 pub use maps::{map_at, stored_under};
