@@ -1,18 +1,11 @@
 -- Rows by their numbers: those below twice the number of spaces are the rows of standing spaces.
-use Rattle.std.proofs.Common.{◌≡◌, ℕ, ◌*◌, ◌/◌, ◌%◌, ◌<◌, ◌==◌, Bool, true, false, refl, subst, arith}
-use Rattle.std.specs.Prelude.{if◌then◌else◌}
+use Rattle.std.proofs.Common.{ℕ, ◌*◌, ◌<◌, subst, arith}
 use Rattle.model_box.specs.Row.{Row, Standing, Fresh, row_at, row_number, space_under}
+use Rattle.model_box.proofs.Numbers.{under_half}
 use Rattle.model_box.proofs.Starts.{row_back}
 
--- the space of a row by its number
-pub under_is : (y : ℕ) → space_under (row_at y) ≡ y / 2
-under_is y = by (y % 2 == 0) where
-  by : (b : Bool) → space_under (if b then Standing (y / 2) else Fresh (y / 2)) ≡ y / 2
-  by true = refl
-  by false = refl
-
 pub under_low : (y n : ℕ) → y < 2 * n → space_under (row_at y) < n
-under_low y n low = omega (arith, under_is y)
+under_low y n low = omega (arith, under_half y)
 
 pub number_low : (row : Row) (n : ℕ) → space_under row < n → row_number row < 2 * n
 number_low (Standing m) n low = omega (arith, low)

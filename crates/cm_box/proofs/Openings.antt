@@ -1,33 +1,16 @@
 -- The first rule and row at which bounds are open.
-use Rattle.std.proofs.Common.{◌≡◌, ℕ, ◌+◌, ◌*◌, ◌<◌, ◌≤◌, Bool, length, sym, ◌∙◌, subst, inl, inr, arith, lit<, Some}
+use Rattle.std.proofs.Common.{◌≡◌, ℕ, ◌+◌, ◌*◌, ◌<◌, ◌≤◌, Bool, length, sym, ◌∙◌, subst, inl, inr, arith, Some}
 use Rattle.std.proofs.lemmas.Bool.{ltb-true, lt-ltb, cases_lt}
 use Rattle.cm_filter.specs.declared.kind.CallKind.{CallKind}
 use Rattle.model_cred.specs.Files.{FileTable}
 use Rattle.model_cred.specs.Space.{Spaces}
 use Rattle.model_box.specs.Closed.{Closed, ClosedAt}
 use Rattle.model_box.specs.Row.{Part, Row, row_at, space_under}
-use Rattle.model_box.specs.Rule.{Rule, SetUid, SetFsUid, SetGid, SetFsGid, SetGroups, CapSet, SecureBits, ExecUid}
-use Rattle.model_box.specs.Rule.{ExecGid, ExecCaps, ExecRoot, Create, Join, Maps, rule_number}
+use Rattle.model_box.specs.Rule.{Rule, rule_number}
+use Rattle.model_box.proofs.Numbers.{rule_low}
 use Rattle.model_box.proofs.Stated.{rules_by_number}
 use Rattle.cm_box.specs.Closing.{ClosedIn, IsFirstOpenRow, IsFirstOpen}
 use Rattle.cm_box.proofs.Numbers.{under_low, all_rows}
-
--- the rule of a number is one of fourteen
-rule_low : (rule : Rule) → rule_number rule < 14
-rule_low SetUid = lit< tt
-rule_low SetFsUid = lit< tt
-rule_low SetGid = lit< tt
-rule_low SetFsGid = lit< tt
-rule_low SetGroups = lit< tt
-rule_low CapSet = lit< tt
-rule_low SecureBits = lit< tt
-rule_low ExecUid = lit< tt
-rule_low ExecGid = lit< tt
-rule_low ExecCaps = lit< tt
-rule_low ExecRoot = lit< tt
-rule_low Create = lit< tt
-rule_low Join = lit< tt
-rule_low Maps = lit< tt
 
 -- two rules of one number are one
 one_rule : (a b : Rule) → rule_number a ≡ rule_number b → a ≡ b

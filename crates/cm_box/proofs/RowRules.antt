@@ -1,6 +1,7 @@
 -- The rules on programs at one row, and rows that hold capabilities alone.
 use Rattle.std.proofs.Common.{ℕ, Bool}
 use Rattle.std.specs.Prelude.{◌↔◌, IsTrue}
+use Rattle.std.proofs.lemmas.Bool.{and_parts, and_from}
 use Rattle.cm_sets.specs.Sets.{AreSame}
 use Rattle.model_cred.specs.Files.{FileTable}
 use Rattle.model_cred.specs.Space.{Spaces}
@@ -26,8 +27,9 @@ module _ (files : FileTable) (spaces : Spaces) (n : ℕ) (row : Part → ℕ →
     λ by. (by.0, (by.1, (by.2, by.3, (by.4, by.5)))),
   )
   by_file kinds.Groups x = (
-    λ given. (given.0, given.1.0, given.1.1.0, given.1.1.1, given.1.1.2.0, given.1.1.2.1, given.1.1.2.2),
-    λ by. (by.0, (by.1, (by.2, by.3, (by.4, by.5, by.6)))),
+    λ given. let bits = and_parts _ _ given.1.1.2.0 in
+        (given.0, given.1.0, given.1.1.0, given.1.1.1, bits.0, bits.1, given.1.1.2.1),
+    λ by. (by.0, (by.1, (by.2, by.3, (and_from _ _ by.4 by.5, by.6)))),
   )
 
   -- a test of what they add

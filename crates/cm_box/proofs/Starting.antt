@@ -9,14 +9,14 @@ use Rattle.std.proofs.Math.Seq.{get_or-append_seam}
 use Rattle.model_cred.specs.Process.{Process, State}
 use Rattle.model_cred.specs.Space.{Space, Spaces, no_space, space_at, space_of}
 use Rattle.model_box.specs.Bounds.{BoxRow, no_row}
-use Rattle.model_box.specs.Covers.{StateFits}
 use Rattle.model_box.specs.Laws.{tested}
 use Rattle.model_box.specs.Row.{Part, MappedUids}
 use Rattle.model_box.specs.Row.{MappedGids}
 use Rattle.model_box.specs.Row.{Row, Standing, Fresh, space_under, row_number}
-use Rattle.model_box.specs.Start.{SpaceMaps, StartHas}
+use Rattle.model_box.specs.Covers.{Covers}
+use Rattle.model_box.specs.Start.{HoldsStartAt, SpaceMaps, StartHas}
 use Rattle.model_box.proofs.Excludes.{all_named}
-use Rattle.model_box.proofs.Starts.{covers_start, holds_start}
+use Rattle.model_box.proofs.Starts.{covers_standing, holds_start}
 use Rattle.cm_box_rows.specs.Members.{IsLeastCover}
 use Rattle.cm_box_rows.specs.Rows.{RowHolds, RowsHold, AreSameRows}
 use Rattle.cm_box_rows.proofs.RowParts.{none_in}
@@ -116,14 +116,25 @@ start_holds s members rows stand count each row part x = elim (cases_lt (space_u
       )
 ]
 
--- they cover the members now, and are within all that do
+-- they cover the members now, and are within all that do, where each process is in a space that stands
 pub is_least : (s : State) (members : List ℕ) (bounds : Row → Part → ℕ → Type 0)
-    → ((row : Row) (part : Part) (x : ℕ) → bounds row part x ↔ StartHas s members row part x) → StateFits s
-    → IsLeastCover s members bounds
-is_least s members bounds same fits = record {
-  covers = covers_start s members bounds fits (λ row standing part x has. (same row part x).1 has);
+    → ((row : Row) (part : Part) (x : ℕ) → bounds row part x ↔ StartHas s members row part x)
+    → All (λ p. p.space < length s.spaces) s.processes → IsLeastCover s members bounds
+is_least s members bounds same stand = record {
+  covers = covers_standing s members bounds stand (λ row standing part x has. (same row part x).1 has);
   least = λ other covers row part x held.
       let has : StartHas s members row part x = (same row part x).0 held in
       holds_start s members (tested other) covers row
-      (lt-ltb (space_under row) (length s.spaces) (start_stands s members fits.stands row part x has)) part x has;
+      (lt-ltb (space_under row) (length s.spaces) (start_stands s members stand row part x has)) part x has;
 }
+
+-- each process of a state is in a space that stands, in the words of its value
+pub standing : {inside value : State} → inside ≡ value → All (λ p. p.space < length inside.spaces) inside.processes
+    → All (λ p. p.space < length value.spaces) value.processes
+standing same stand = subst (λ (s : State). All (λ p. p.space < length s.spaces) s.processes) same stand
+
+-- bounds that lack what the start bounds hold in the row of a standing space don't cover the members now
+pub lacks_cover : (s : State) (members : List ℕ) (bounds : Row → Part → ℕ → Type 0) (row : Row)
+    → space_under row < length s.spaces → ¬ HoldsStartAt s members bounds row → ¬ Covers s s members bounds
+lacks_cover s members bounds row low lacks covers =
+    lacks (holds_start s members bounds covers row (lt-ltb (space_under row) (length s.spaces) low))

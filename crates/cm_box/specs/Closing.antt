@@ -6,9 +6,9 @@ use Rattle.model_cred.specs.Space.{Spaces, space_of, stands}
 use Rattle.model_box.specs.Closed.{OwnerByFile, GroupByFile, CapByFile, CapByRoot, OnlyCaps, ClosedAt}
 use Rattle.model_box.specs.Gains.{SettableUid, SettableGid, SpreadsUid, SpreadsGid, GainsFsUid, GainsFsGid}
 use Rattle.model_box.specs.Gains.{GainsGroups, GainsInheritable, GainsRoot}
-use Rattle.model_box.specs.Row.{Part, HasMembers}
-use Rattle.model_box.specs.Row.{Row, Standing, Fresh, row_at, row_number, space_under}
-use Rattle.model_box.specs.Spread.{Brings}
+use Rattle.model_box.specs.Files.{ZeroIn}
+use Rattle.model_box.specs.Row.{Part, Uids, NewPrivs, RootCounts, Row, Standing, Fresh, row_at, row_number, space_under}
+use Rattle.model_box.specs.Spread.{Brings, Meet}
 use Rattle.cm_box_rows.specs.Rows.{HoldsAll}
 use Rattle.cm_box_rows.specs.Spread.{CanMakeIn, MadeIn, JoinsHeld, ByJoiningTo}
 use Rattle.model_box.specs.Rule as model
@@ -37,9 +37,11 @@ Gains files spaces bounds model.Create row = λ part x. ⊥
 Gains files spaces bounds model.Join row = λ part x. ⊥
 Gains files spaces bounds model.Maps row = λ part x. ⊥
 
--- what they gain by it, if there are any
-abbrev pub GainsOfMembers : FileTable → Spaces → (Row → Part → ℕ → Type 0) → model.Rule → Row → Part → ℕ → Type 0
-GainsOfMembers files spaces bounds rule row part x = HasMembers (bounds row) × Gains files spaces bounds rule row part x
+-- A program can run as root for a member of the row, one that may lack no_new_privs and the securebit against root, and
+-- of whose three user ids one can be inside 0.
+abbrev pub RootRuns : Spaces → (Row → Part → ℕ → Type 0) → Row → Type 0
+RootRuns spaces bounds row =
+    bounds row RootCounts 0 × bounds row NewPrivs 0 × Meet (bounds row Uids) (ZeroIn spaces bounds row)
 
 -- what comes to a row by making spaces
 abbrev pub ByMaking : Spaces → (Row → Part → ℕ → Type 0) → Row → Part → ℕ → Type 0

@@ -7,7 +7,7 @@ ghost use Rattle.cm_filter.specs.Filters.{permits};
 ghost use Rattle.cm_box.specs.Places.{row_of};
 ghost use Rattle.cm_box_rows.specs.Rows.{RowHolds, RowsHold, AreSameRows};
 ghost use Rattle.cm_box.specs.Rules.{rule_of};
-ghost use Rattle.cm_box.specs.Closing.{Gains, GainsOfMembers, GroupsAllowed, ByMaking, ByJoins, IsJoinedAt};
+ghost use Rattle.cm_box.specs.Closing.{Gains, GroupsAllowed, ByMaking, ByJoins, IsJoinedAt};
 ghost use Rattle.cm_box.specs.Mapping.{IdsWritten};
 ghost use Rattle.cm_box_rows.specs.Kinds.{SpreadsId, mapped};
 ghost use Rattle.cm_box_rows.specs.Programs.{GivenByFile};
@@ -98,33 +98,17 @@ fn added(alloc: Global, s: &Setting<'_>, b: &Bounds, x: Rule, at: Place) -> Resu
         Rule::Create => made(alloc, &st.spaces, b, at),
         Rule::Join => joined(alloc, &st.spaces, b, at),
         Rule::Maps => written(alloc, s.filter, &st.spaces, b, at),
-        _ => gained_by_members(alloc, st, s.files, b, x, at),
+        _ => {
+            let row = b.row(at);
+            if row.eu.is_empty() {
+                return Ok(BoxRow::least(alloc));
+            }
+            gained(alloc, st, s.files, b, x, at)
+        }
     }
 }
 
-// What the members of the row gain by one of the first eleven rules, if there are any.
-fn gained_by_members(
-    alloc: Global,
-    st: &State,
-    files: &FileTable,
-    b: &Bounds,
-    x: Rule,
-    at: Place,
-) -> Result<BoxRow, NoMemory>
-    requires rows { length b.now ≡ 2 * length st.now.spaces }
-    requires few { length st.now.spaces < 2 ^ 31 }
-    requires stands { space_under (row_of at) < length st.now.spaces }
-    ensures { OrNoMemory result (λ r. AreSameRows (RowHolds r)
-        (GainsOfMembers files.now st.now.spaces (RowsHold b.now) (rule_of x) (row_of at))) }
-{
-    let row = b.row(at);
-    if row.eu.is_empty() {
-        return Ok(BoxRow::least(alloc));
-    }
-    gained(alloc, st, files, b, x, at)
-}
-
-// What they gain by it.
+// What the members of the row gain by one of the first eleven rules.
 fn gained(
     alloc: Global,
     st: &State,

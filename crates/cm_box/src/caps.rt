@@ -3,7 +3,8 @@ ghost use Rattle.std.specs.Prelude.{◌≡◌, ◌↔◌, ℕ, ◌<◌, ◌*◌,
 ghost use Rattle.cm_base.specs.CapSet.{holds};
 ghost use Rattle.cm_base.specs.Outcome.{OrNoMemory};
 ghost use Rattle.cm_idset.specs.Held.{Held};
-ghost use Rattle.cm_box_rows.specs.Programs.{CapGiven};
+ghost use Rattle.cm_box_rows.specs.Programs.{AttributeCan, CapGiven};
+ghost use Rattle.cm_box.specs.Closing.{RootRuns};
 ghost use Rattle.cm_box.specs.Places.{row_of};
 ghost use Rattle.cm_box_rows.specs.Rows.{RowHolds, RowsHold};
 ghost use Rattle.model_box.specs.Closed.{CapByFile, CapByRoot};
@@ -38,7 +39,8 @@ pub(crate) fn caps_by_files_held(files: &FileTable, spaces: &Spaces, b: &Bounds,
     true
 }
 
-// The capabilities of one file are, if it is a program that a member may run, and its attribute can take effect.
+// The same of one file. Most files have no attribute, which is looked at first, since this is asked of each file for
+// each row.
 fn caps_by_file_held(files: &FileTable, k: usize, spaces: &Spaces, b: &Bounds, at: Place) -> bool
     requires file { k < length files.now.rows }
     requires rows { length b.now ≡ 2 * length spaces.now }
@@ -47,18 +49,32 @@ fn caps_by_file_held(files: &FileTable, k: usize, spaces: &Spaces, b: &Bounds, a
     ensures { IsTrue result ↔ ((x : ℕ) → CapGiven files.now spaces.now (RowsHold b.now) (row_of at) k x
         → RowsHold b.now (row_of at) PermittedCaps x) }
 {
-    if !is_program(files, k) {
+    let f = view_at(files, k);
+    if f.caps.is_none() {
         return true;
+    }
+    if !attribute_can(files, k, spaces, b, at) {
+        return true;
+    }
+    gives_within(b.row(at), f)
+}
+
+// The file is a program that a member may run, and its attribute can take effect.
+fn attribute_can(files: &FileTable, k: usize, spaces: &Spaces, b: &Bounds, at: Place) -> bool
+    requires file { k < length files.now.rows }
+    requires rows { length b.now ≡ 2 * length spaces.now }
+    requires few { length spaces.now < 2 ^ 31 }
+    requires stands { space_under (row_of at) < length spaces.now }
+    ensures { IsTrue result ↔ AttributeCan files.now spaces.now (RowsHold b.now) (row_of at) k }
+{
+    if !is_program(files, k) {
+        return false;
     }
     let f = view_at(files, k);
     if !takes_can(spaces, b, at, f) {
-        return true;
+        return false;
     }
-    let row = b.row(at);
-    if !can_run(row, f) {
-        return true;
-    }
-    gives_within(row, f)
+    can_run(b.row(at), f)
 }
 
 // The file's attribute can take effect for a member in the row.
@@ -103,20 +119,31 @@ pub(crate) fn caps_by_root_held(spaces: &Spaces, b: &Bounds, at: Place) -> bool
     ensures { IsTrue result ↔ ((x : ℕ) → CapByRoot spaces.now (RowsHold b.now) (row_of at) x
         → RowsHold b.now (row_of at) PermittedCaps x) }
 {
+    if !root_runs(spaces, b, at) {
+        return true;
+    }
     let row = b.row(at);
-    if !row.r.0 {
-        return true;
-    }
-    if !may_gain(row) {
-        return true;
-    }
-    if !meets_zero(spaces, b, at) {
-        return true;
-    }
     if !row.i.within(&row.p) {
         return false;
     }
     row.b.within(&row.p)
+}
+
+// A program can run as root for a member of the row.
+fn root_runs(spaces: &Spaces, b: &Bounds, at: Place) -> bool
+    requires rows { length b.now ≡ 2 * length spaces.now }
+    requires few { length spaces.now < 2 ^ 31 }
+    requires stands { space_under (row_of at) < length spaces.now }
+    ensures { IsTrue result ↔ RootRuns spaces.now (RowsHold b.now) (row_of at) }
+{
+    let row = b.row(at);
+    if !row.r.0 {
+        return false;
+    }
+    if !may_gain(row) {
+        return false;
+    }
+    meets_zero(spaces, b, at)
 }
 
 // A real, effective or saved user id can be inside 0 of the spaces of the row.
@@ -168,7 +195,7 @@ pub(crate) fn caps_by_files(
     Ok(caps)
 }
 
-// Those of one file, if it is a program that a member may run, and its attribute can take effect.
+// Those of one file.
 fn caps_by_file(
     alloc: Global,
     files: &FileTable,
@@ -184,18 +211,14 @@ fn caps_by_file(
     ensures { OrNoMemory result (λ caps. (x : ℕ) → IsTrue (holds caps.0 x)
         ↔ CapGiven files.now spaces.now (RowsHold b.now) (row_of at) k x) }
 {
-    if !is_program(files, k) {
-        return Ok(CapSet(CapWord::empty()));
-    }
     let f = view_at(files, k);
-    if !takes_can(spaces, b, at, f) {
+    if f.caps.is_none() {
         return Ok(CapSet(CapWord::empty()));
     }
-    let row = b.row(at);
-    if !can_run(row, f) {
+    if !attribute_can(files, k, spaces, b, at) {
         return Ok(CapSet(CapWord::empty()));
     }
-    gives(alloc, row, f)
+    gives(alloc, b.row(at), f)
 }
 
 // What the file's own sets can bring.
@@ -225,15 +248,9 @@ pub(crate) fn caps_by_root(
     ensures { OrNoMemory result (λ caps. (x : ℕ) → IsTrue (holds caps.0 x)
         ↔ CapByRoot spaces.now (RowsHold b.now) (row_of at) x) }
 {
+    if !root_runs(spaces, b, at) {
+        return Ok(CapSet(CapWord::empty()));
+    }
     let row = b.row(at);
-    if !row.r.0 {
-        return Ok(CapSet(CapWord::empty()));
-    }
-    if !may_gain(row) {
-        return Ok(CapSet(CapWord::empty()));
-    }
-    if !meets_zero(spaces, b, at) {
-        return Ok(CapSet(CapWord::empty()));
-    }
     row.i.join(alloc, &row.b)
 }

@@ -3,6 +3,7 @@ ghost use Rattle.std.specs.Prelude.{◌≡◌, ◌↔◌, ℕ, ◌<◌, ◌*◌,
 ghost use Rattle.cm_box.specs.Places.{row_of};
 ghost use Rattle.cm_box_rows.specs.Rows.{RowHolds, RowsHold, HoldsAll};
 ghost use Rattle.cm_box_rows.specs.Members.{IsFirstLacking};
+ghost use Rattle.model_box.specs.Covers.{Covers};
 ghost use Rattle.model_box.specs.Row.{space_under};
 ghost use Rattle.model_box.specs.Start.{HoldsStart, HoldsStartAt, SpaceMaps};
 
@@ -12,14 +13,16 @@ use cm_base::Pid;
 use cm_box_rows::{map_held, members_held};
 use cm_state::{Space, State};
 
-/// The first row that lacks what the start bounds hold, None exactly where they are within the bounds: so where these
-/// cover the members now. The bounds have two rows for each space, and fewer than 2^31 spaces stand. It takes no
-/// memory.
+/// The first row that lacks what the start bounds hold, None exactly where they are within the bounds, and so exactly
+/// where these cover the members now. The bounds have two rows for each space, and fewer than 2^31 spaces stand. It
+/// takes no memory.
 pub fn covers_start(st: &State, members: &[Pid], b: &Bounds) -> Option<u32>
     requires rows { length b.now ≡ 2 * length st.now.spaces }
     requires few { length st.now.spaces < 2 ^ 31 }
     ensures none { IfNone result (HoldsStart st.now members.now (RowsHold b.now)) }
     ensures first { IfSome result (IsFirstLacking st.now members.now (RowsHold b.now)) }
+    ensures covers { IfNone result (Covers st.now st.now members.now (RowsHold b.now)) }
+    ensures lacks { IfSome result (λ _. Covers st.now st.now members.now (RowsHold b.now) → ⊥) }
 {
     for y in 0..2 * st.spaces.count() {
         if !start_held(st, members, b, Place::of_number(y)) {

@@ -10,7 +10,6 @@ ghost use Rattle.cm_box_rows.specs.Rows.{RowHolds, RowsHold, InEitherRow, AreSam
 ghost use Rattle.model_cred.specs.Credential.{is_one_of_three};
 ghost use Rattle.model_cred.specs.IdMap.{extents_of, is_outside, lies_in};
 ghost use Rattle.model_cred.specs.MapFault.{IsMap};
-ghost use Rattle.model_box.specs.Covers.{StateFits};
 ghost use Rattle.model_box.specs.Row.{Row, Part, Standing, CredHas};
 ghost use Rattle.model_box.specs.Start.{StartHas, SpaceMaps};
 
@@ -29,7 +28,7 @@ pub fn start_bounds(alloc: Global, st: &State, members: &[Pid]) -> Result<Bounds
     ensures count { OrNoMemory result (λ b. length b ≡ 2 * length st.now.spaces) }
     ensures holds { OrNoMemory result
         (λ b. (row : Row) (part : Part) (x : ℕ) → RowsHold b row part x ↔ StartHas st.now members.now row part x) }
-    ensures least { OrNoMemory result (λ b. StateFits st.now → IsLeastCover st.now members.now (RowsHold b)) }
+    ensures least { OrNoMemory result (λ b. IsLeastCover st.now members.now (RowsHold b)) }
 {
     let mut list = Vec::new(alloc);
     for n in 0..st.spaces.count() {

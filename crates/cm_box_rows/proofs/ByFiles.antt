@@ -1,26 +1,27 @@
 -- The ids and the capabilities that programs give: those of the table's rows, and none past its end.
-use Rattle.std.proofs.Common.{◌≡◌, ℕ, ◌<◌, ◌≤◌, List, length, inl, inr, arith, sym, ap, subst}
+use Rattle.std.proofs.Common.{◌≡◌, ◌∙◌, ℕ, ◌<◌, ◌≤◌, false, List, length, inl, inr, arith, sym, subst}
 use Rattle.std.specs.Prelude.{◌↔◌, IsTrue}
 use Rattle.std.proofs.lemmas.Bool.{cases_lt, false≢true}
-use Rattle.std.proofs.lemmas.Option.{slice_get_past}
 use Rattle.cm_sets.specs.Sets.{IsWithin}
 use Rattle.model_cred.specs.Files.{FileTable}
 use Rattle.model_cred.specs.Space.{Spaces}
-use Rattle.model_rules.specs.FileView.{FileView, plain_view, view, view_in}
+use Rattle.model_rules.specs.FileView.{FileView, plain_view, view}
 use Rattle.model_box.specs.Closed.{CapByFile}
 use Rattle.model_box.specs.Bounds.{BoxRow, row_in}
-use Rattle.model_box.specs.Files.{is_program, CanRun, FileGives, TakesCan}
+use Rattle.model_box.specs.Files.{FileGives, TakesCan}
 use Rattle.model_box.specs.Row.{Part, Row, PermittedCaps, row_number}
+use Rattle.model_box.proofs.Views.{view_past}
 use Rattle.cm_box_rows.specs.declared.kind.Kind.{Kind}
 use Rattle.cm_box_rows.specs.declared.kind.Kind.TheVariants.{Users}
 use Rattle.cm_box_rows.specs.declared.kind.Kind.TheVariants as kinds
-use Rattle.cm_box_rows.specs.Programs.{Given, IdGiven, GivenByFile, CapGiven}
+use Rattle.cm_box_rows.specs.Programs.{has_id_bit, StandsFor, Given, IdGiven, GivenByFile, AttributeCan, CapGiven}
 use Rattle.cm_box_rows.specs.Rows.{RowHolds, RowsHold}
 use Rattle.cm_box_rows.proofs.Gathered.{GivenBelow, gathered_all}
 
--- past the end of the table a row is as a plain file
-view_past : (files : FileTable) (k : ℕ) → length files.rows ≤ k → view files k ≡ plain_view
-view_past files k past = ap (view_in files) (slice_get_past files.rows k past)
+-- a set-id bit stands for an id only where it is set
+pub id_bit_set : (kind : Kind) (f : FileView) (x : ℕ) → StandsFor kind f x → IsTrue (has_id_bit kind f)
+id_bit_set Users f x stands = stands.0
+id_bit_set kinds.Groups f x stands = stands.0
 
 -- a plain file gives no id
 none_given : (kind : Kind) (spaces : Spaces) (n : ℕ) (row : Part → ℕ → Type 0) (x : ℕ)
@@ -31,6 +32,11 @@ none_given kinds.Groups spaces n row x given = given.1.2
 module _ (kind : Kind) (files : FileTable) (spaces : Spaces) (n : ℕ) (row : Part → ℕ → Type 0) where
   no_id : (k x : ℕ) → length files.rows ≤ k → IdGiven kind files spaces n row k x → ⊥
   no_id k x past given = none_given kind spaces n row x (rw (view_past files k past) at given.1)
+
+  -- a file without the set-id bit gives none
+  pub none_without_bit : (k x : ℕ) → has_id_bit kind (view files k) ≡ false
+      → IdGiven kind files spaces n row k x → ⊥
+  none_without_bit k x out given = false≢true (sym out ∙ id_bit_set kind (view files k) x given.1.2)
 
   -- a set that holds what each of the table's rows gives holds what programs give
   pub each_id : (Set : ℕ → Type 0) (end : ℕ) → length files.rows ≤ end
@@ -54,7 +60,7 @@ module _ (files : FileTable) (spaces : Spaces) (bounds : Row → Part → ℕ �
   none_taken takes = false≢true takes.1
 
   no_cap : (k x : ℕ) → length files.rows ≤ k → CapGiven files spaces bounds row k x → ⊥
-  no_cap k x past given = none_taken (rw (view_past files k past) at given.2)
+  no_cap k x past given = none_taken (rw (view_past files k past) at given.0.2)
 
   -- the capabilities that were gathered from the table's rows are those that programs bring
   pub all_caps : (Set : ℕ → Type 0) (n : ℕ) → length files.rows ≤ n
@@ -68,18 +74,18 @@ module _ (files : FileTable) (spaces : Spaces) (bounds : Row → Part → ℕ �
     to : Set x → CapByFile files spaces bounds row x
     to has =
         let given : (k : ℕ) × CapGiven files spaces bounds row k x = gathered.0 has in
-        (given.0, given.1.0, given.1.1, given.1.2, given.1.3)
+        (given.0, given.1.0.0, given.1.0.1, given.1.0.2, given.1.1)
 
     from : CapByFile files spaces bounds row x → Set x
-    from by = gathered.1 (by.0, (by.1, by.2, by.3, by.4))
+    from by = gathered.1 (by.0, ((by.1, by.2, by.3), by.4))
 
   -- a set that holds what each of the table's rows brings holds what programs bring
   pub each_cap : (Set : ℕ → Type 0) (n : ℕ) → length files.rows ≤ n
       → ((k : ℕ) → k < n → (x : ℕ) → CapGiven files spaces bounds row k x → Set x)
       → (x : ℕ) → CapByFile files spaces bounds row x → Set x
   each_cap Set n all each x by = elim (cases_lt by.0 n) [
-    | inl low ↦ each by.0 low x (by.1, by.2, by.3, by.4)
-    | inr past ↦ absurd (no_cap by.0 x (omega arith) (by.1, by.2, by.3, by.4))
+    | inl low ↦ each by.0 low x ((by.1, by.2, by.3), by.4)
+    | inr past ↦ absurd (no_cap by.0 x (omega arith) ((by.1, by.2, by.3), by.4))
   ]
 
 -- a row of bounds, and a file of the table
@@ -91,11 +97,6 @@ module _ (rows : List BoxRow) (row : Row) (r : BoxRow) (r_is : r ≡ row_in rows
   )
 
   module _ (files : FileTable) (k : ℕ) (f : FileView) (f_is : f ≡ view files k) where
-    can_there : CanRun (RowHolds r) f → CanRun (RowsHold rows row) (view files k)
-    can_there can =
-        let here : CanRun (RowsHold rows row) f = subst (λ (s : BoxRow). CanRun (RowHolds s) f) r_is can in
-        subst (λ (v : FileView). CanRun (RowsHold rows row) v) f_is here
-
     gives_there : (x : ℕ) → FileGives (RowHolds r) f x → FileGives (RowsHold rows row) (view files k) x
     gives_there x gives =
         let here : FileGives (RowsHold rows row) f x = subst (λ (s : BoxRow). FileGives (RowHolds s) f x) r_is gives in
@@ -107,18 +108,10 @@ module _ (rows : List BoxRow) (row : Row) (r : BoxRow) (r_is : r ≡ row_in rows
         subst (λ (s : BoxRow). FileGives (RowHolds s) (view files k) x) (sym r_is) gives in
         subst (λ (v : FileView). FileGives (RowHolds r) v x) (sym f_is) here
 
-    -- the file is a program that a member may run, and its attribute can take effect: it brings what its sets can
-    module _ (spaces : Spaces) (program : IsTrue (is_program files k)) (takes : TakesCan spaces (RowsHold rows) row f)
-        (can : CanRun (RowHolds r) f) where
+    -- where its attribute can take effect, it brings what its sets can
+    module _ (spaces : Spaces) (can : AttributeCan files spaces (RowsHold rows) row k) where
       pub cap_here : (x : ℕ) → FileGives (RowHolds r) f x ↔ CapGiven files spaces (RowsHold rows) row k x
-      cap_here x = (to, λ given. gives_here x given.3) where
-        to : FileGives (RowHolds r) f x → CapGiven files spaces (RowsHold rows) row k x
-        to gives = (
-          program,
-          can_there can,
-          subst (λ (v : FileView). TakesCan spaces (RowsHold rows) row v) f_is takes,
-          gives_there x gives,
-        )
+      cap_here x = (λ gives. (can, gives_there x gives), λ given. gives_here x given.1)
 
       pub caps_here : ((x : ℕ) → FileGives (RowHolds r) f x → RowHolds r PermittedCaps x)
           ↔ ((x : ℕ) → CapGiven files spaces (RowsHold rows) row k x → RowsHold rows row PermittedCaps x)

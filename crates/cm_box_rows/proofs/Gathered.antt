@@ -36,6 +36,12 @@ gathered_join Gives Set Here More n so_far here both =
       λ has. (both x).1 (elim has [ inl old ↦ inl old | inr new ↦ inr ((here x).1 new) ]),
     ))
 
+-- and where it gives none, nothing more comes
+pub gathered_none : (Gives : ℕ → ℕ → Type 0) (Set : ℕ → Type 0) (n : ℕ) → ((x : ℕ) → Set x ↔ GivenBelow Gives n x)
+    → ((x : ℕ) → Gives n x → ⊥) → (x : ℕ) → Set x ↔ GivenBelow Gives (n + 1) x
+gathered_none Gives Set n so_far none =
+    gathered_more Gives Set Set n so_far (λ x. (inl, λ has. elim has [ inl old ↦ old | inr new ↦ absurd (none x new) ]))
+
 -- where no later number gives any, all is gathered
 pub gathered_all : (Gives : ℕ → ℕ → Type 0) (Set : ℕ → Type 0) (n : ℕ) → ((x : ℕ) → Set x ↔ GivenBelow Gives n x)
     → ((k x : ℕ) → n ≤ k → Gives k x → ⊥) → (x : ℕ) → Set x ↔ ((k : ℕ) × Gives k x)

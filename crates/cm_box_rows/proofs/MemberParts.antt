@@ -2,12 +2,13 @@
 use Rattle.std.proofs.Common.{ℕ, ◌==◌, ◌||◌, List, refl, inl, inr}
 use Rattle.std.specs.Prelude.{IsTrue}
 use Rattle.std.specs.List.{list_any}
-use Rattle.std.proofs.lemmas.Bool.{or_cases, or_left, or_right, eqb-true, eq-eqb}
+use Rattle.std.proofs.lemmas.Bool.{or_cases, eqb-true}
 use Rattle.model_cred.specs.Credential.{Credential, FourIds, is_one_of_three}
 use Rattle.model_box.specs.Row.{Part, Uids, EffectiveUids, FsUids, Gids, EffectiveGids, FsGids, Groups, MappedUids}
 use Rattle.model_box.specs.Row.{MappedGids, PermittedCaps, InheritableCaps, BoundingCaps, NewPrivs, RootCounts}
 use Rattle.model_box.specs.Row.{LockClear}
 use Rattle.model_box.specs.Row.{CredHas}
+use Rattle.model_box.proofs.Ids.{is_real, is_effective, is_saved}
 use Rattle.cm_box_rows.specs.Members.{FourHeld, SetsHeld, FlagsHeld}
 use Rattle.cm_box_rows.specs.Rows.{HoldsAll}
 
@@ -22,20 +23,6 @@ three_held Three ids real effective saved x one = elim (or_cases (x == ids.real 
         | inr is ↦ rw (eqb-true x ids.effective is) effective
       ]
     ]
-
-is_real : (ids : FourIds) → IsTrue (is_one_of_three ids ids.real)
-is_real ids =
-    or_left (ids.real == ids.real || ids.real == ids.effective) (ids.real == ids.saved)
-    (or_left (ids.real == ids.real) (ids.real == ids.effective) (eq-eqb ids.real ids.real refl))
-
-is_effective : (ids : FourIds) → IsTrue (is_one_of_three ids ids.effective)
-is_effective ids =
-    or_left (ids.effective == ids.real || ids.effective == ids.effective) (ids.effective == ids.saved)
-    (or_right (ids.effective == ids.real) (ids.effective == ids.effective) (eq-eqb ids.effective ids.effective refl))
-
-is_saved : (ids : FourIds) → IsTrue (is_one_of_three ids ids.saved)
-is_saved ids = or_right (ids.saved == ids.real || ids.saved == ids.effective) (ids.saved == ids.saved)
-    (eq-eqb ids.saved ids.saved refl)
 
 -- the set holds the supplementary groups
 abbrev pub GroupsHeld : (ℕ → Type 0) → List ℕ → Type 0

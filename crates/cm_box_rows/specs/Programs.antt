@@ -1,5 +1,5 @@
 -- What the members of a row can do with one file, one by one.
-use Rattle.std.specs.Prelude.{◌≡◌, ◌⊎◌, ℕ, IsTrue, Some}
+use Rattle.std.specs.Prelude.{◌≡◌, ◌⊎◌, ℕ, ◌&&◌, Bool, IsTrue, Some}
 use Rattle.cm_box_rows.specs.declared.kind.Kind.{Kind}
 use Rattle.cm_box_rows.specs.declared.kind.Kind.TheVariants.{Users}
 use Rattle.cm_box_rows.specs.declared.kind.Kind.TheVariants as kinds
@@ -29,11 +29,15 @@ ByOverride row f =
     row PermittedCaps cap_dac_override × IdIn f.owner (row MappedUids) × IdIn f.group (row MappedGids)
     × IsTrue (has_bit f 0o111)
 
--- The file's set-id bit stands for the id: the set-user-ID bit for its owner, the set-group-ID bit with the group
--- execute bit for its group.
+-- The file has the set-id bit of the kind: the set-user-ID bit, or the set-group-ID bit with the group execute bit.
+abbrev pub has_id_bit : Kind → FileView → Bool
+has_id_bit Users f = has_bit f 0o4000
+has_id_bit kinds.Groups f = has_bit f 0o2000 && has_bit f 0o010
+
+-- The file's set-id bit stands for the id: for its owner or its group.
 abbrev pub StandsFor : Kind → FileView → ℕ → Type 0
-StandsFor Users f x = IsTrue (has_bit f 0o4000) × (f.owner ≡ Some x)
-StandsFor kinds.Groups f x = IsTrue (has_bit f 0o2000) × IsTrue (has_bit f 0o010) × (f.group ≡ Some x)
+StandsFor Users f x = IsTrue (has_id_bit Users f) × (f.owner ≡ Some x)
+StandsFor kinds.Groups f x = IsTrue (has_id_bit kinds.Groups f) × (f.group ≡ Some x)
 
 -- The file gives the id to a member of the row: one may run it, and its set-id bit can count.
 abbrev pub Given : Kind → Spaces → ℕ → (Part → ℕ → Type 0) → FileView → ℕ → Type 0
@@ -47,8 +51,12 @@ IdGiven kind files spaces n row k x = IsTrue (is_program files k) × Given kind 
 abbrev pub GivenByFile : Kind → FileTable → Spaces → ℕ → (Part → ℕ → Type 0) → ℕ → Type 0
 GivenByFile kind files spaces n row x = (k : ℕ) × IdGiven kind files spaces n row k x
 
--- The file of the table is a program, and brings the capability by its attribute.
+-- The file of the table is a program that a member of the row may run, and its attribute can take effect.
+abbrev pub AttributeCan : FileTable → Spaces → (Row → Part → ℕ → Type 0) → Row → ℕ → Type 0
+AttributeCan files spaces bounds row k =
+    IsTrue (is_program files k) × CanRun (bounds row) (view files k) × TakesCan spaces bounds row (view files k)
+
+-- So it can, and its sets can bring the capability.
 abbrev pub CapGiven : FileTable → Spaces → (Row → Part → ℕ → Type 0) → Row → ℕ → ℕ → Type 0
 CapGiven files spaces bounds row k x =
-    IsTrue (is_program files k) × CanRun (bounds row) (view files k) × TakesCan spaces bounds row (view files k)
-    × FileGives (bounds row) (view files k) x
+    AttributeCan files spaces bounds row k × FileGives (bounds row) (view files k) x

@@ -7,6 +7,7 @@ ghost use Rattle.cm_idset.specs.Held.{Held};
 ghost use Rattle.cm_box_rows.specs.Rows.{RowHolds};
 ghost use Rattle.cm_box_rows.specs.Kinds.{effective};
 ghost use Rattle.cm_box_rows.specs.Programs.{StandsFor, Given, IdGiven, GivenByFile};
+ghost use Rattle.cm_box_rows.specs.Programs.{has_id_bit as model_has_id_bit};
 ghost use Rattle.model_box.specs.Files.{is_program as model_is_program};
 ghost use Rattle.model_rules.specs.FileView.{view};
 
@@ -32,14 +33,34 @@ pub fn given_within(
     ensures { IsTrue result ↔ IsWithin (GivenByFile kind files.now spaces.now n.0 (RowHolds row.now))
         (RowHolds row.now (effective kind)) }
 {
-    let bound = effective_ids(kind, row);
     for k in 0..files.rows().len() {
-        let id = given_at(kind, files, k, spaces, n, row);
-        if !has_given(bound, id) {
+        if !file_within(kind, files, k, spaces, n, row) {
             return false;
         }
     }
     true
+}
+
+// The same of one file. Most files have no set-id bit, which is looked at first, since this is asked of each file for
+// each row.
+fn file_within(
+    kind: Kind,
+    files: &FileTable,
+    k: usize,
+    spaces: &Spaces,
+    n: SpaceId,
+    row: &BoxRow,
+) -> bool
+    requires file { k < length files.now.rows }
+    requires space { n.0 < length spaces.now }
+    ensures { IsTrue result ↔ IsWithin (IdGiven kind files.now spaces.now n.0 (RowHolds row.now) k)
+        (RowHolds row.now (effective kind)) }
+{
+    if !has_id_bit(kind, view_at(files, k)) {
+        return true;
+    }
+    let id = given_at(kind, files, k, spaces, n, row);
+    has_given(effective_ids(kind, row), id)
 }
 
 /// The ids that programs give. Its only error is want of memory.
@@ -57,15 +78,15 @@ pub fn ids_given(
 {
     let mut ids = IdSet::empty(alloc);
     for k in 0..files.rows().len() {
-        let id = given_at(kind, files, k, spaces, n, row);
-        ids = with_given(alloc, ids, id)?;
+        if has_id_bit(kind, view_at(files, k)) {
+            let id = given_at(kind, files, k, spaces, n, row);
+            ids = with_given(alloc, ids, id)?;
+        }
     }
     Ok(ids)
 }
 
-// The id that a file of the table gives, if it is a program and gives one. Most files give none by their mode, which is
-// looked at first.
-#[inline]
+// The id that a file of the table gives, if it is a program and gives one.
 fn given_at(
     kind: Kind,
     files: &FileTable,
@@ -112,7 +133,6 @@ fn with_given(alloc: Global, ids: IdSet, id: Option<u32>) -> Result<IdSet, NoMem
 }
 
 // The id that a file gives to those who may run it.
-#[inline]
 fn given(kind: Kind, spaces: &Spaces, n: SpaceId, row: &BoxRow, f: &FileView) -> Option<u32>
     requires { n.0 < length spaces.now }
     ensures is_id { IfSome result (λ id. id < id_count) }
@@ -128,28 +148,27 @@ fn given(kind: Kind, spaces: &Spaces, n: SpaceId, row: &BoxRow, f: &FileView) ->
     Some(id)
 }
 
-// The id that its set-id bit stands for, of groups with the group execute bit alone (choice).
-#[inline]
+// The id that its set-id bit stands for.
 fn id_by_bit(kind: Kind, f: &FileView) -> Option<u32>
     ensures is_id { IfSome result (λ id. id < id_count) }
     ensures id { (x : ℕ) → (result ≡ Some x) ↔ StandsFor kind f.now x }
 {
+    if !has_id_bit(kind, f) {
+        return None;
+    }
     match kind {
-        Kind::Users => {
-            if !f.has_bit(0o4000) {
-                return None;
-            }
-            owner_of(f)
-        }
-        Kind::Groups => {
-            if !f.has_bit(0o2000) {
-                return None;
-            }
-            if !f.has_bit(0o010) {
-                return None;
-            }
-            group_of(f)
-        }
+        Kind::Users => owner_of(f),
+        Kind::Groups => group_of(f),
+    }
+}
+
+// The file has the set-id bit of the kind, that of groups with the group execute bit alone (choice).
+fn has_id_bit(kind: Kind, f: &FileView) -> bool
+    ensures { result ≡ model_has_id_bit kind f.now }
+{
+    match kind {
+        Kind::Users => f.has_bit(0o4000),
+        Kind::Groups => f.has_bit(0o2000) && f.has_bit(0o010),
     }
 }
 

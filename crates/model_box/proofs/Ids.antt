@@ -51,7 +51,7 @@ is_effective ids =
     or_left (eqb ids.effective ids.real || eqb ids.effective ids.effective) (eqb ids.effective ids.saved)
     (or_right (eqb ids.effective ids.real) (eqb ids.effective ids.effective) (eq-eqb ids.effective ids.effective refl))
 
-is_saved : (ids : FourIds) → IsTrue (is_one_of_three ids ids.saved)
+pub is_saved : (ids : FourIds) → IsTrue (is_one_of_three ids ids.saved)
 is_saved ids = or_right (eqb ids.saved ids.real || eqb ids.saved ids.effective) (eqb ids.saved ids.saved) (eq-eqb ids.saved ids.saved refl)
 
 -- four ids are within the sets where each of them is

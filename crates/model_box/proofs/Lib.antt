@@ -1,5 +1,7 @@
 -- The laws of bounds. First what the rules read; then chains of spaces, and what each change of the spaces keeps; then
 -- what each call keeps of one credential; then steps, runs, and what they never reach.
+pub mod Numbers
+pub mod Views
 pub mod Monotone
 pub mod Trees
 pub mod Fits

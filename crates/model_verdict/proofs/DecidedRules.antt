@@ -2,7 +2,6 @@
 use Rattle.std.proofs.Common.{◌≡◌, ◌⊎◌, ℕ, suc, ◌<◌, ◌≤◌, ◌||◌, Bool, true, false, not, List, Option, None, Some, length, refl, sym, ap, ◌∙◌, inr, subst, arith}
 use Rattle.std.specs.Prelude.{IsTrue, is_some, is_none, nat_lt}
 use Rattle.std.proofs.lemmas.Bool.{ltb-true, false≢true}
-use Rattle.std.proofs.lemmas.Option.{slice_get_past}
 use Rattle.cm_base.specs.CapSet.{holds, full}
 use Rattle.cm_filter.specs.declared.kind.CallKind.{CallKind}
 use Rattle.cm_filter.specs.declared.kind.CallKind.TheVariants as kind
@@ -12,7 +11,7 @@ use Rattle.model_cred.specs.Right.{Right, Cap, Uid, Gid}
 use Rattle.model_cred.specs.Space.{Spaces, IsTree, space_of, level, is_at_or_above}
 use Rattle.model_rules.specs.Caps.{cap_setuid, cap_setgid, cap_setpcap, cap_sys_admin, cap_dac_override}
 use Rattle.model_rules.specs.Exec.{attribute_sets}
-use Rattle.model_rules.specs.FileView.{FileView, plain_view, view, view_in, has_bit, may_raise_in}
+use Rattle.model_rules.specs.FileView.{FileView, plain_view, view, has_bit, may_raise_in}
 use Rattle.model_rules.specs.Namespaces.{deepest}
 use Rattle.model_box.specs.Row.{Part, Uids, EffectiveUids, FsUids, Gids, EffectiveGids, FsGids, Groups, MappedUids, MappedGids}
 use Rattle.model_box.specs.Row.{PermittedCaps, InheritableCaps, BoundingCaps, NewPrivs, RootCounts, LockClear, Row, Standing, Fresh}
@@ -26,13 +25,11 @@ use Rattle.model_box.specs.Meets.{MeetsAt}
 use Rattle.model_box.specs.Spread.{Brings, Meet, IsNext, CanMake, CanJoin, NewUid, NewGid}
 use Rattle.model_box.proofs.Excludes.{tree_earlier}
 use Rattle.model_box.proofs.Trees.{at_or_above_low}
+use Rattle.model_box.proofs.Views.{view_past}
 use Rattle.model_verdict.proofs.Deciding.{Decided, never, tested_so, same_number, same_option, as_much, either, both, three, four, five, six, some_low}
 
 -- ---- files
--- a row past the table is no file
-view_past : (files : FileTable) (k : ℕ) → length files.rows ≤ k → view files k ≡ plain_view
-view_past files k high = ap (view_in files) (slice_get_past files.rows k high)
-
+-- a file that isn't as a plain one is in the table
 row_low : (files : FileTable) (k : ℕ) → (view files k ≡ plain_view → ⊥) → k < length files.rows
 row_low files k there = by (nat_lt k (length files.rows)) refl where
   by : (b : Bool) → nat_lt k (length files.rows) ≡ b → k < length files.rows

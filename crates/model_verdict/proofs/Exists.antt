@@ -23,13 +23,14 @@ use Rattle.model_box.specs.Laws.{tested}
 use Rattle.model_box.specs.Meets.{MeetsAt, Meets}
 use Rattle.model_box.specs.Start.{MemberHas, SpaceMaps, StartHas}
 use Rattle.model_box.proofs.Monotone.{adds_more, meets_more}
+use Rattle.model_box.proofs.Numbers.{rule_low}
 use Rattle.model_box.proofs.Starts.{row_back, number_back, covers_start}
 use Rattle.model_box.proofs.Worlds.{state_fits}
 use Rattle.model_verdict.specs.Least.{Test, Encloses, IsLeast, LeastExist}
 use Rattle.model_verdict.specs.Sweep.{Turn, row_count, turn_at, swept, TurnsGoByRounds, SweepComesToLeast}
 use Rattle.model_verdict.specs.Blame.{AtStart, ByTurn, Says, IsBlamed, BlamedIfMet}
 use Rattle.model_verdict.proofs.Members.{some_in, MemberIn, some_from, some_which}
-use Rattle.model_verdict.proofs.Sweeps.{low_rule, row_stands, turn_stands, start_stands, grows, stays_within, turns_go_by_rounds}
+use Rattle.model_verdict.proofs.Sweeps.{row_stands, turn_stands, start_stands, grows, stays_within, turns_go_by_rounds}
 use Rattle.model_verdict.proofs.Blames.{same_row, met_if_blamed}
 use Rattle.model_verdict.proofs.Deciding.{Decided, yes, yes_is, is_yes, never, tested_so, tested_not, same_number, as_much}
 use Rattle.model_verdict.proofs.Deciding.{either, both, some_low, FirstOf, first_of_which}
@@ -263,7 +264,7 @@ module _ (permitted : CallKind → Bool) (files : FileTable) (s : State) (member
   turn_late : (rule : Rule) (row : Row) → row_number row < row_count s.spaces → suc (turn_of rule row) ≤ next
   unfolding turn_of next
   turn_late rule row low =
-      let small : rule_number rule < 14 = low_rule rule in
+      let small : rule_number rule < 14 = rule_low rule in
       let after : (14 * rest.round + rule_number rule + 1) * row_count s.spaces ≤ 14 * suc rest.round * row_count s.spaces
       = mul-le-mul_right (row_count s.spaces) (omega (arith, small)) in
       let more : (14 * rest.round + rule_number rule + 1) * row_count s.spaces

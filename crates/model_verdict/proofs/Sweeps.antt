@@ -10,35 +10,19 @@ use Rattle.model_cred.specs.Files.{FileTable}
 use Rattle.model_cred.specs.Process.{Process, State}
 use Rattle.model_cred.specs.Space.{Space, Spaces, IsTree, stands, space_at, space_of, no_space}
 use Rattle.model_box.specs.Row.{Part, MappedUids, MappedGids, Row, Standing, Fresh, row_at, space_under, IsWithin}
-use Rattle.model_box.specs.Rule.{Rule, SetUid, SetFsUid, SetGid, SetFsGid, SetGroups, CapSet, SecureBits, ExecUid}
-use Rattle.model_box.specs.Rule.{ExecGid, ExecCaps, ExecRoot, Create, Join, Maps, rule_number}
+use Rattle.model_box.specs.Rule.{Rule, Maps, rule_number}
 use Rattle.model_box.specs.Closed.{Closed}
 use Rattle.model_box.specs.Covers.{Covers, StateFits}
 use Rattle.model_box.specs.Laws.{tested}
 use Rattle.model_box.specs.Start.{StartHas, SpaceMaps}
 use Rattle.model_box.proofs.Excludes.{all_named}
 use Rattle.model_box.proofs.Monotone.{adds_more}
+use Rattle.model_box.proofs.Numbers.{rule_low, under_half}
 use Rattle.model_box.proofs.Starts.{holds_start}
 use Rattle.model_box.proofs.Stated.{rules_by_number}
 use Rattle.model_verdict.specs.Sweep.{Turn, row_count, rule_at, turn_at, swept, TurnsGoByRounds, SweepGrows, SweepStaysWithin}
 
 -- ---- turns
-pub low_rule : (rule : Rule) → rule_number rule < 14
-low_rule SetUid = omega arith
-low_rule SetFsUid = omega arith
-low_rule SetGid = omega arith
-low_rule SetFsGid = omega arith
-low_rule SetGroups = omega arith
-low_rule CapSet = omega arith
-low_rule SecureBits = omega arith
-low_rule ExecUid = omega arith
-low_rule ExecGid = omega arith
-low_rule ExecCaps = omega arith
-low_rule ExecRoot = omega arith
-low_rule Create = omega arith
-low_rule Join = omega arith
-low_rule Maps = omega arith
-
 rule_back : (rule : Rule) → rule_at (rule_number rule) ≡ rule
 rule_back rule = ap (λ (o : Option Rule). unwrap_or o Maps) (rules_by_number rule)
 
@@ -53,15 +37,12 @@ turns_go_by_rounds spaces round rule y low =
     let row : (place * rows + y) % rows ≡ y = mod-mul-add place rows y low in
     let whole : (place * rows + y) / rows ≡ place = div-mul-add place rows y low in
     let number : (place * rows + y) / rows % 14 ≡ rule_number rule
-    = ap (λ (n : ℕ). n % 14) whole ∙ place_back round (rule_number rule) (low_rule rule) in
+    = ap (λ (n : ℕ). n % 14) whole ∙ place_back round (rule_number rule) (rule_low rule) in
     ap (λ (n : ℕ). record { rule = rule_at n; row = row_at ((place * rows + y) % rows) }) number
     ∙ ap (λ (m : ℕ). record { rule = rule_at (rule_number rule); row = row_at m }) row
     ∙ ap (λ (r : Rule). record { rule = r; row = row_at y }) (rule_back rule)
 
 -- the row of a number stands where there are so many rows
-under_half : (y : ℕ) → space_under (row_at y) ≡ y / 2
-under_half y = elim (y % 2 == 0) as (λ (b : Bool). space_under (if b then Standing (y / 2) else Fresh (y / 2)) ≡ y / 2) [ true ↦ refl | false ↦ refl ]
-
 pub row_stands : (spaces : Spaces) (y : ℕ) → y < row_count spaces → IsTrue (stands spaces (space_under (row_at y)))
 row_stands spaces y low =
     subst (λ (n : ℕ). IsTrue (stands spaces n)) (sym (under_half y))

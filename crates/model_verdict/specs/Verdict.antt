@@ -1,5 +1,5 @@
 -- The verdict on a right of a family: a plan of the list ends holding it, or the least bounds exclude it, or neither.
-use Rattle.std.specs.Prelude.{◌≡◌, ◌↔◌, ℕ, Bool, false, IsTrue, List, Some, None, All}
+use Rattle.std.specs.Prelude.{◌≡◌, ◌↔◌, ℕ, Bool, false, IsTrue, List, Some, None}
 use Rattle.cm_filter.specs.declared.kind.CallKind.{CallKind}
 use Rattle.model_cred.specs.Call.{Event}
 use Rattle.model_cred.specs.Process.{State, KeepsState}
@@ -16,7 +16,6 @@ use Rattle.model_plans.specs.PlanRun.{Found, first_found}
 use Rattle.model_verdict.specs.Least.{Test, Encloses, IsLeast, AllMeet}
 use Rattle.model_verdict.specs.Blame.{Blame, IsBlame}
 use Rattle.model_verdict.specs.Settled.{Settled}
-use Rattle.model_verdict.specs.Back.{TakeBack}
 use Rattle.model_verdict.specs.Decides.{IsOpen}
 
 -- No, with the run and the holder that are found; yes, with the least bounds; or undecided, with what is blamed and the

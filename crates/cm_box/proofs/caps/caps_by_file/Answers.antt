@@ -1,4 +1,3 @@
-use Rattle.std.proofs.Common.{sym, ◌∙◌}
 use Rattle.std.specs.Prelude.{◌↔◌, ℕ, IsTrue}
 use Rattle.std.proofs.lemmas.Result.{IfOk-weaker}
 use Rattle.cm_base.specs.CapSet.{holds}
@@ -15,13 +14,10 @@ Holds Set caps = (x : ℕ) → IsTrue (holds caps.0 x) ↔ Set x
 
 pub returns : goal.returns
 returns c =
-    let files = c.args.files.now in
-    let program = sym c.is_program.ensures ∙ c.if-not-is_program.false in
-    let takes = c.takes_can.ensures.0 c.if-not-takes_can.false in
-    let can = c.can_run.ensures.0 c.if-not-can_run.false in
-    let here = cap_here c.args.b.now (row_of c.args.at) c.row-row.result.now c.row-row.ensures files c.args.k
-    c.view_at-f.result.now c.view_at-f.ensures c.args.spaces.now program takes can in
-    IfOk-weaker c.gives.result (Holds (FileGives (RowHolds c.row-row.result.now) c.view_at-f.result.now))
-    (Holds (CapGiven files c.args.spaces.now (RowsHold c.args.b.now) (row_of c.args.at) c.args.k))
+    let can = c.attribute_can.ensures.0 c.if-not-attribute_can.false in
+    let here = cap_here c.args.b.now (row_of c.args.at) c.row.result.now c.row.ensures c.args.files.now c.args.k
+    c.view_at-f.result.now c.view_at-f.ensures c.args.spaces.now can in
+    IfOk-weaker c.gives.result (Holds (FileGives (RowHolds c.row.result.now) c.view_at-f.result.now))
+    (Holds (CapGiven c.args.files.now c.args.spaces.now (RowsHold c.args.b.now) (row_of c.args.at) c.args.k))
     (λ caps held x. (λ has. (here x).0 ((held x).0 has), λ given. (held x).1 ((here x).1 given)))
     c.gives.ensures

@@ -1,10 +1,9 @@
-use Rattle.std.proofs.Common.{◌≡◌, ◌<◌, ap, arith, length, subst}
-use Rattle.std.specs.Prelude.{All}
+use Rattle.std.proofs.Common.{◌≡◌, ap, arith, length}
 use Rattle.std.proofs.lemmas.List.{length_push}
 use Rattle.model_cred.specs.Process.{State}
 use Rattle.model_box.specs.Start.{StartHas}
 use Rattle.cm_box_rows.specs.Rows.{RowsHold}
-use Rattle.cm_box.proofs.Starting.{two_more, start_holds, is_least}
+use Rattle.cm_box.proofs.Starting.{two_more, start_holds, is_least, standing}
 use Rattle.cm_box.proofs.start.start_bounds.Goals as goal
 
 pub loop-n-preserved : goal.loop-n-preserved
@@ -25,7 +24,7 @@ loop-n-preserved c = record {
 
 pub returns-clause-holds : goal.returns-clause-holds
 returns-clause-holds c =
-    let stand = subst (λ (s : State). All (λ p. p.space < length s.spaces) s.processes) c.st.view_is c.st.invariant.1 in
+    let stand = standing c.st.view_is c.st.invariant.1 in
     let same : length c.st.inside.spaces ≡ length c.args.st.now.spaces = ap (λ (s : State). length s.spaces)
     c.st.view_is in
     let all : c.loop-n.n ≡ length c.args.st.now.spaces = omega (arith, c.count-n-end.ensures, c.loop-n.auto.n-end) in
@@ -34,5 +33,6 @@ returns-clause-holds c =
     (λ row low. c.loop-n.invariant.holds row (omega arith)))
 
 pub returns-clause-least : goal.returns-clause-least
-returns-clause-least c = λ fits. is_least c.args.st.now c.args.members.now (RowsHold c.from_vec.result)
-    (returns-clause-holds c) fits
+returns-clause-least c =
+    is_least c.args.st.now c.args.members.now (RowsHold c.from_vec.result) (returns-clause-holds c)
+    (standing c.st.view_is c.st.invariant.1)

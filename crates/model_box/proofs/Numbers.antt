@@ -1,0 +1,30 @@
+-- Rules and rows by their numbers: a rule is one of fourteen, and a row's space is half its number.
+use Rattle.std.proofs.Common.{◌≡◌, ℕ, ◌/◌, ◌%◌, ◌<◌, ◌==◌, Bool, true, false, refl, lit<}
+use Rattle.std.specs.Prelude.{if◌then◌else◌}
+use Rattle.model_box.specs.Row.{Standing, Fresh, row_at, space_under}
+use Rattle.model_box.specs.Rule.{Rule, SetUid, SetFsUid, SetGid, SetFsGid, SetGroups, CapSet, SecureBits, ExecUid}
+use Rattle.model_box.specs.Rule.{ExecGid, ExecCaps, ExecRoot, Create, Join, Maps, rule_number}
+
+-- the rule of a number is one of fourteen
+pub rule_low : (rule : Rule) → rule_number rule < 14
+rule_low SetUid = lit< tt
+rule_low SetFsUid = lit< tt
+rule_low SetGid = lit< tt
+rule_low SetFsGid = lit< tt
+rule_low SetGroups = lit< tt
+rule_low CapSet = lit< tt
+rule_low SecureBits = lit< tt
+rule_low ExecUid = lit< tt
+rule_low ExecGid = lit< tt
+rule_low ExecCaps = lit< tt
+rule_low ExecRoot = lit< tt
+rule_low Create = lit< tt
+rule_low Join = lit< tt
+rule_low Maps = lit< tt
+
+-- the space of a row by its number
+pub under_half : (y : ℕ) → space_under (row_at y) ≡ y / 2
+under_half y = by (y % 2 == 0) where
+  by : (b : Bool) → space_under (if b then Standing (y / 2) else Fresh (y / 2)) ≡ y / 2
+  by true = refl
+  by false = refl
