@@ -16,4 +16,6 @@ pub use laws::{
 };
 
 #[cfg(test)]
+mod owner_tests;
+#[cfg(test)]
 mod tests;

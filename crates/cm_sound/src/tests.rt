@@ -29,7 +29,7 @@ process = [{ pid = 100, uid = 1000, gid = 1000, bounding = 'none', no_new_privs 
 const LAST: u32 = 4_294_967_294;
 
 // The daemon's row: the initial space maps all ids, and the daemon's securebits are clear.
-fn daemon(alloc: Global) -> Result<BoxRow, NoMemory> {
+pub(crate) fn daemon(alloc: Global) -> Result<BoxRow, NoMemory> {
     Ok(BoxRow {
         u: IdSet::one(alloc, 1000)?,
         eu: IdSet::one(alloc, 1000)?,
@@ -63,13 +63,13 @@ fn bounds(alloc: Global, row: BoxRow) -> Result<Bounds, NoMemory>
 
 // The machine at the begin of a log, and its world.
 #[derive(Drop)]
-struct Setup {
-    w: World,
-    m: Machine,
+pub(crate) struct Setup {
+    pub(crate) w: World,
+    pub(crate) m: Machine,
 }
 
 // Those of the world of that text.
-fn start(alloc: Global, text: &[u8]) -> Result<Setup, Fail>
+pub(crate) fn start(alloc: Global, text: &[u8]) -> Result<Setup, Fail>
     ensures { IfOk result (λ s. MountsStand (world_of s.w) s.m.state) }
 {
     let w = read_world(alloc, text)?;
