@@ -55,11 +55,13 @@ pub(crate) fn first_tasks(alloc: Global, list: &[Proc]) -> Result<Vec<Task>, NoM
     Ok(made)
 }
 
-// The same processes. Its only error is want of memory.
+// The same processes, with room for one more, since a birth comes next. Its only error is want of memory.
 pub(crate) fn copy_list(alloc: Global, list: &[Task]) -> Result<Vec<Task>, NoMemory>
     ensures { OrNoMemory result (λ made. made.items ≡ list.now) }
 {
-    Ok(Vec::from_slice(alloc, list)?)
+    let mut made = Vec::with_capacity(alloc, list.len() + 1)?;
+    made.extend_from_slice(list)?;
+    Ok(made)
 }
 
 // The process of that pid in another user namespace.

@@ -2,8 +2,9 @@
 pub mod Cuts
 pub mod MarkPlaces
 pub mod NameEnds
-pub mod Options
 pub mod QuoteSteps
+pub mod Runs
+pub mod SignRuns
 pub mod SignSteps
 pub mod Stops
 pub mod Words

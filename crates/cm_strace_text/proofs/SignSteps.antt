@@ -4,7 +4,7 @@ use Rattle.std.proofs.Common.{Option, Some, None, refl, ap, subst, sym, arith, i
 use Rattle.std.proofs.lemmas.Bool.{cases_Bool, cond-true, cond-false, eqb-true, ne_eqb}
 use Rattle.std.proofs.lemmas.List.{drop_more, drop_all}
 use Rattle.std.specs.Option.{option_or}
-use Rattle.cm_strace_text.proofs.Options.{or_none}
+use Rattle.model_rules.proofs.Options.{or_none}
 use Rattle.cm_strace_text.specs.Places.{sign_from}
 use Rattle.model_strace.specs.Written.{Place, Plain, After, Quoted, Escaped, plain_after, place_after, sign_here, last_sign}
 use Rattle.model_text.specs.Cut.{is_blank}
@@ -65,6 +65,9 @@ plain_passes text at below quote paren =
     moves Plain Plain text at byte below refl
     (cond-false (byte == 34) Quoted (if byte == 41 then After at else Plain) (ne_eqb byte 34 quote)
     ∙ cond-false (byte == 41) (After at) Plain (ne_eqb byte 41 paren)) refl
+
+-- what a byte in no quotes does
+pub ruleset plain_steps = (quote_begins, paren_stands, none_left)
 
 -- another byte in quotes
 pub quoted_passes : (text : List ℕ) (at : ℕ) → at < length text → get_or text at 0 ≢ 34 → get_or text at 0 ≢ 92

@@ -6,6 +6,7 @@ ghost use Rattle.model_strace.specs.Written as model;
 ghost use Rattle.model_strace.specs.Written.{opens, closes, depth_after, is_outside, comma_parts, arguments_of, before_closing};
 
 use crate::blanks::trimmed;
+use memchr::memchr2;
 
 // How deep a reader is in brackets of any kind: in no quotes; in quotes; in quotes, after a backslash.
 #[derive(Clone, Copy)]
@@ -90,8 +91,39 @@ fn len_to(end: End, text: &[u8]) -> usize
 
 // The first place from that one on whose byte isn't passed over, or the text's end.
 #[inline]
-#[tactic(auto, using(crate::proofs::Stops::calm_end))]
 fn next_stop(depth: Depth, text: &[u8], from: usize) -> usize
+    requires { from ≤ length text.now }
+    ensures same { (end : End) → result + len_to (ends_at end) (depth_is depth) (drop result text.now)
+        ≡ from + len_to (ends_at end) (depth_is depth) (drop from text.now) }
+    ensures after { from ≤ result }
+    ensures within { result ≤ length text.now }
+{
+    match depth {
+        Depth::InQuotes(depth) => quoted_stop(depth, text, from),
+        Depth::Open(_) | Depth::InEscape(_) => first_stop(depth, text, from),
+    }
+}
+
+// The same in quotes, which most of a call's text is in.
+#[inline]
+fn quoted_stop(depth: usize, text: &[u8], from: usize) -> usize
+    requires { from ≤ length text.now }
+    ensures same { (end : End) → result + len_to (ends_at end) (model.InQuotes depth) (drop result text.now)
+        ≡ from + len_to (ends_at end) (model.InQuotes depth) (drop from text.now) }
+    ensures after { from ≤ result }
+    ensures within { result ≤ length text.now }
+{
+    let (_, rest) = text.split_at(from);
+    match memchr2(b'"', b'\\', rest) {
+        Some(at) => from + at,
+        None => text.len(),
+    }
+}
+
+// The same byte by byte.
+#[inline]
+#[tactic(auto, using(crate::proofs::Stops::calm_end))]
+fn first_stop(depth: Depth, text: &[u8], from: usize) -> usize
     requires { from ≤ length text.now }
     ensures same { (end : End) → result + len_to (ends_at end) (depth_is depth) (drop result text.now)
         ≡ from + len_to (ends_at end) (depth_is depth) (drop from text.now) }

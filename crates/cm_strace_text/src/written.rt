@@ -1,5 +1,5 @@
 // The parts of a call as strace(1) writes it: NAME(ARGUMENTS) = RESULT.
-ghost use Rattle.std.specs.Prelude.{◌≡◌, ◌<◌, ◌≤◌, ℕ, false, IfSome, length, option_map, slice_index};
+ghost use Rattle.std.specs.Prelude.{◌≡◌, ◌<◌, ◌≤◌, ◌≢◌, ℕ, false, IfSome, length, option_map, slice_index};
 ghost use Rattle.std.specs.Option.{option_or};
 ghost use Rattle.cm_strace_text.specs.Places.{sign_from, written_is};
 ghost use Rattle.model_strace.specs.Written.{Plain, After, Quoted, last_sign, parts_of, written_of};
@@ -9,6 +9,7 @@ use crate::blanks::without_front;
 use crate::marks::after_mark;
 use crate::names::cut_name;
 use cm_tokens::is_blank;
+use memchr::memchr2;
 
 /// What stands between the parentheses, and the result.
 #[derive(Clone, Copy, Debug)]
@@ -40,45 +41,75 @@ fn parts_of(text: &[u8]) -> Option<Written<'_>>
 }
 
 // The places of the last closing parenthesis outside of quotes that an equals sign follows, and of that sign.
-#[tactic(auto, using(crate::proofs::SignSteps::quote_begins, crate::proofs::SignSteps::paren_stands, crate::proofs::SignSteps::plain_passes, crate::proofs::SignSteps::none_left))]
+#[tactic(auto, using(crate::proofs::SignSteps::plain_steps))]
 fn last_sign(text: &[u8]) -> Option<(usize, usize)>
     ensures places { result ≡ last_sign Plain 0 text.now }
     ensures within { IfSome result (λ places. (places.0 < places.1) × (places.1 < length text.now)) }
 {
     let mut last = None;
-    let mut at = 0;
+    let mut at = plain_end(text, 0);
     while at < text.len() {
-        match text[at] {
-            b'"' => at = quote_end(text, at + 1),
-            b')' => {
-                let sign = blanks_end(text, at + 1);
-                last = sign_at(text, at, sign).or(last);
-                at = sign;
-            }
-            _ => at += 1,
-        }
+        let next = if text[at] == b'"' {
+            quote_end(text, at + 1)
+        } else {
+            let sign = blanks_end(text, at + 1);
+            last = sign_at(text, at, sign).or(last);
+            sign
+        };
+        at = plain_end(text, next);
     }
     last
 }
 
+// The first place from that one on of a quote or a closing parenthesis, or the text's end.
+#[inline]
+fn plain_end(text: &[u8], from: usize) -> usize
+    requires { from ≤ length text.now }
+    ensures same { sign_from Plain from text.now ≡ sign_from Plain result text.now }
+    ensures after { from ≤ result }
+    ensures within { result ≤ length text.now }
+    ensures ended { result < length text.now → slice_index text.now result ≢ 34 → slice_index text.now result ≡ 41 }
+{
+    let (_, rest) = text.split_at(from);
+    match memchr2(b'"', b')', rest) {
+        Some(at) => from + at,
+        None => text.len(),
+    }
+}
+
 // The place after the quote that ends a quoted text, which goes on at that place, or the text's end.
 #[inline]
-#[tactic(auto, using(crate::proofs::SignSteps::quote_ends, crate::proofs::SignSteps::quoted_passes, crate::proofs::SignSteps::quote_open))]
+#[tactic(auto, using(crate::proofs::SignSteps::quote_ends, crate::proofs::SignSteps::quote_open))]
 fn quote_end(text: &[u8], from: usize) -> usize
     requires { from ≤ length text.now }
     ensures same { sign_from Quoted from text.now ≡ sign_from Plain result text.now }
     ensures after { from ≤ result }
     ensures within { result ≤ length text.now }
 {
-    let mut at = from;
+    let mut at = quoted_end(text, from);
     while at < text.len() {
-        match text[at] {
-            b'"' => return at + 1,
-            b'\\' => at = escape_end(text, at),
-            _ => at += 1,
+        if text[at] == b'"' {
+            return at + 1;
         }
+        at = quoted_end(text, escape_end(text, at));
     }
     text.len()
+}
+
+// The first place from that one on of a quote or a backslash, or the text's end.
+#[inline]
+fn quoted_end(text: &[u8], from: usize) -> usize
+    requires { from ≤ length text.now }
+    ensures same { sign_from Quoted from text.now ≡ sign_from Quoted result text.now }
+    ensures after { from ≤ result }
+    ensures within { result ≤ length text.now }
+    ensures ended { result < length text.now → slice_index text.now result ≢ 34 → slice_index text.now result ≡ 92 }
+{
+    let (_, rest) = text.split_at(from);
+    match memchr2(b'"', b'\\', rest) {
+        Some(at) => from + at,
+        None => text.len(),
+    }
 }
 
 // The place after a backslash in quotes and the byte that follows it, where one does.

@@ -1,5 +1,5 @@
 use Rattle.std.proofs.Common.{◌≡◌, ◌+◌, drop}
-use Rattle.cm_strace_text.proofs.arguments.next_stop.Given as goal
+use Rattle.cm_strace_text.proofs.arguments.first_stop.Given as goal
 use Rattle.cm_strace_text.specs.Depths.{depth_is, ends_at, len_to}
 use Rattle.cm_strace_text.specs.declared.arguments.End.{End}
 
