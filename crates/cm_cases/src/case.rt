@@ -1,38 +1,9 @@
-// A case: a command over a world and a log, both in memory, with its status and all that it writes.
+// A command over a world and a log, both in memory, with its status and all that it writes.
 use cm_cli::{Status, run};
 use cm_io::{MemShelf, MemSink, are_distinct};
 use std::alloc::{AllocError, Global};
 use std::process::Abort;
 use std::test::Fail;
-
-pub(crate) struct Case {
-    pub shows: &'static str,
-    pub world: &'static str,
-    pub log: &'static str,
-    /// The pid and the right of an audit; none of a replay.
-    pub asks: &'static [&'static str],
-    pub status: Status,
-    pub report: &'static str,
-}
-
-/// Each case comes out as it says.
-pub(crate) fn check_all(rt: &impl Abort, alloc: Global, cases: &[Case]) -> Result<(), Fail> {
-    for case in cases {
-        let mut words = strings(alloc, &[command(case.asks), "world", "log"])?;
-        for word in case.asks {
-            words.push(String::from_str(alloc, word)?)?;
-        }
-        let mut shelf = shelf(rt, alloc, case.world.as_bytes(), case.log.as_bytes(), &[])?;
-        let (status, text) = answer(alloc, &words, &mut shelf, &[])?;
-        assert_eq!(rt; status, case.status, "{}", case.shows);
-        assert!(rt; text.as_slice() == case.report.as_bytes(), "{}", case.shows);
-    }
-    Ok(())
-}
-
-fn command(asks: &[&str]) -> &'static str {
-    if asks.is_empty() { "replay" } else { "audit" }
-}
 
 pub(crate) fn strings(alloc: Global, words: &[&str]) -> Result<Vec<String>, AllocError> {
     let mut strings = Vec::new(alloc);

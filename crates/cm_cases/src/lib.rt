@@ -1,15 +1,10 @@
-//! Worked cases of the program, from its words and the bytes of its files to what it answers and writes. The crate has tests
-//! alone: each case is a world, a log, and the report as it is written by hand.
+//! Tests of the program beside its worked cases, which stand in report_cases: what no text of cases can hold, as reads and
+//! writes that fail, texts as long as the limits and bytes that don't show; and the calls of the machine. The crate has tests
+//! alone.
 #![tactic(auto)]
 
 #[cfg(test)]
-mod audits;
-#[cfg(test)]
 mod case;
-#[cfg(test)]
-mod files;
-#[cfg(test)]
-mod ids;
 #[cfg(test)]
 mod limits;
 #[cfg(test)]
@@ -18,8 +13,6 @@ mod lines;
 mod machine;
 #[cfg(test)]
 mod outside;
-#[cfg(test)]
-mod sets;
 #[cfg(test)]
 mod spaces;
 #[cfg(test)]

@@ -1,4 +1,4 @@
-// The words of a command: its forms, and the files that they name.
+// The words of a command, where no file can be read.
 use crate::case::{answer, shelf, strings};
 use cm_cli::Status;
 use std::test::Fail;
@@ -53,55 +53,6 @@ fn words_are_read(rt: HostRuntime) -> Result<(), Fail> {
         let (got, text) = answer(alloc, &strings(alloc, words)?, &mut shelf, &[])?;
         assert_eq!(rt; got, *status, "{words:?}");
         assert!(rt; text.as_slice() == report.as_bytes(), "{words:?}");
-    }
-    Ok(())
-}
-
-const WORLD: &str = "log = \"script\"\n[[process]]\npid = 100\n";
-
-// A world, the names of the two files, and what is answered and written.
-static NAMES: [(&str, [&str; 2], Status, &str); 5] = [
-    (WORLD, ["none", "log"], Status::ReadFault, ""),
-    (WORLD, ["world", "none"], Status::ReadFault, ""),
-    // Only a world that stands lets the log be read.
-    (
-        "",
-        ["world", "none"],
-        Status::BadWorld,
-        "bad world whole 0: MissingKey
-",
-    ),
-    // One file may be both, and a world is no log.
-    (
-        WORLD,
-        ["world", "world"],
-        Status::BadLog,
-        "> 100 init uid=0,0,0,0 gid=0,0,0,0 groups=- inh=0000000000000000 prm=000001ffffffffff eff=000001ffffffffff bnd=000001ffffffffff amb=0000000000000000 sec=00 nnp=0
-bad log line 1: pid
-",
-    ),
-    (
-        WORLD,
-        ["world", "log"],
-        Status::Accepted,
-        "> 100 init uid=0,0,0,0 gid=0,0,0,0 groups=- inh=0000000000000000 prm=000001ffffffffff eff=000001ffffffffff bnd=000001ffffffffff amb=0000000000000000 sec=00 nnp=0
-end 0
-",
-    ),
-];
-
-#[test]
-fn files_are_named(rt: HostRuntime) -> Result<(), Fail> {
-    let alloc = rt.alloc();
-    for (world, [named_world, named_log], status, report) in &NAMES {
-        let words = strings(alloc, &["replay", named_world, named_log])?;
-        let mut shelf = shelf(&rt, alloc, world.as_bytes(), b"", &[])?;
-        let (got, text) = answer(alloc, &words, &mut shelf, &[])?;
-        assert_eq!(rt; got, *status, "{named_world} {named_log}");
-        assert!(rt;
-            text.as_slice() == report.as_bytes(),
-            "{named_world} {named_log}"
-        );
     }
     Ok(())
 }
