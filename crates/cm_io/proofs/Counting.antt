@@ -4,7 +4,7 @@ use Rattle.std.proofs.Common.{Bool, true, false, IsTrue, cond, String, string_by
 use Rattle.std.proofs.Common.{refl, ap, sym, ◌∙◌, subst, inl, inr, arith, add-one}
 use Rattle.std.specs.Str.{bytes_eq}
 use Rattle.std.specs.declared.alloc.Global.{Global}
-use Rattle.std.proofs.lemmas.Bool.{cases_lt}
+use Rattle.std.proofs.lemmas.Bool.{cases_Bool, cases_lt}
 use Rattle.std.proofs.lemmas.List.{length-map, map_push}
 use Rattle.std.proofs.lemmas.Slice.Eq.{bytes_eq-Decides}
 use Rattle.cm_io.specs.Names.{place_of, is_among}
@@ -15,7 +15,7 @@ use Rattle.cm_io.specs.declared.counts.Count.{Count}
 use Rattle.cm_io.specs.declared.counts.Counts.{Counts}
 use Rattle.cm_io.specs.declared.outside.Outside.{Outside}
 use Rattle.cm_io.specs.declared.outside.Outside.TheVariants.{Failed, NoMemory}
-use Rattle.cm_io.proofs.Places.{true_or_false, never_not, same_name, other_name, among_below, among_past, among_noted}
+use Rattle.cm_io.proofs.Places.{never_not, same_name, other_name, among_below, among_past, among_noted}
 
 -- a name under which nothing is counted yet
 abbrev pub fresh : String Global → Count
@@ -34,7 +34,7 @@ names-fresh (name ∷ names) = ap (λ rest. string_bytes name ∷ rest) (names-f
 pub none_in_fresh : (f : Count → ℕ) (names : List (String Global)) (n : List ℕ) → ((name : String Global) → f (fresh name) ≡ 0)
     → count_of f (map fresh names) n ≡ 0
 none_in_fresh f [] n none = refl
-none_in_fresh f (name ∷ names) n none = elim (true_or_false (bytes_eq (string_bytes name) n)) [
+none_in_fresh f (name ∷ names) n none = elim (cases_Bool (bytes_eq (string_bytes name) n)) [
   | inl is ↦ rw is (none name)
   | inr isnt ↦ rw isnt (none_in_fresh f names n none)
 ]
@@ -43,7 +43,7 @@ none_in_fresh f (name ∷ names) n none = elim (true_or_false (bytes_eq (string_
 pub count_at : (f : Count → ℕ) (rows : List Count) (name : List ℕ) (d : Count) → place_of (map name_of rows) name < length rows
     → count_of f rows name ≡ f (get_or rows (place_of (map name_of rows) name) d)
 count_at f [] name d below = absurd (omega arith)
-count_at f (row ∷ rows) name d below = elim (true_or_false (bytes_eq (name_of row) name)) [
+count_at f (row ∷ rows) name d below = elim (cases_Bool (bytes_eq (name_of row) name)) [
   | inl is ↦ rw is
   | inr isnt ↦
       let below_rest = rw isnt at below in
@@ -54,7 +54,7 @@ count_at f (row ∷ rows) name d below = elim (true_or_false (bytes_eq (name_of 
 pub count_past : (f : Count → ℕ) (rows : List Count) (name : List ℕ) → length rows ≤ place_of (map name_of rows) name
     → count_of f rows name ≡ 0
 count_past f [] name past = refl
-count_past f (row ∷ rows) name past = elim (true_or_false (bytes_eq (name_of row) name)) [
+count_past f (row ∷ rows) name past = elim (cases_Bool (bytes_eq (name_of row) name)) [
   | inl is ↦ absurd (let none = rw is at past in omega arith)
   | inr isnt ↦
       let past_rest = rw isnt at past in
@@ -72,7 +72,7 @@ names-set (row ∷ rows) (suc i) new d below same = ap (λ rest. name_of row ∷
 pub count_set : (f : Count → ℕ) (rows : List Count) (name : List ℕ) (new : Count) → place_of (map name_of rows) name < length rows
     → name_of new ≡ name → count_of f (set rows (place_of (map name_of rows) name) new) name ≡ f new
 count_set f [] name new below same = absurd (omega arith)
-count_set f (row ∷ rows) name new below same = elim (true_or_false (bytes_eq (name_of row) name)) [
+count_set f (row ∷ rows) name new below same = elim (cases_Bool (bytes_eq (name_of row) name)) [
   | inl is ↦ rw (is, same_name (name_of new) name same)
   | inr isnt ↦
       let below_rest = rw isnt at below in
@@ -83,7 +83,7 @@ count_set f (row ∷ rows) name new below same = elim (true_or_false (bytes_eq (
 pub count_set_other : (f : Count → ℕ) (rows : List Count) (name n : List ℕ) (new : Count) → place_of (map name_of rows) name < length rows
     → name_of new ≡ name → n ≢ name → count_of f (set rows (place_of (map name_of rows) name) new) n ≡ count_of f rows n
 count_set_other f [] name n new below same other = absurd (omega arith)
-count_set_other f (row ∷ rows) name n new below same other = elim (true_or_false (bytes_eq (name_of row) name)) [
+count_set_other f (row ∷ rows) name n new below same other = elim (cases_Bool (bytes_eq (name_of row) name)) [
   | inl is ↦
       let here = (bytes_eq-Decides (name_of row) name).0 is in
       let not_old = other_name (name_of row) n (λ e. other (e ∙ here)) in
@@ -97,7 +97,7 @@ count_set_other f (row ∷ rows) name n new below same other = elim (true_or_fal
 -- a row more with nothing counted leaves all counts
 pub count_push : (f : Count → ℕ) (rows : List Count) (new : Count) (n : List ℕ) → f new ≡ 0
     → count_of f (rows ++ new ∷ []) n ≡ count_of f rows n
-count_push f [] new n none = elim (true_or_false (bytes_eq (name_of new) n)) [ inl is ↦ rw is none | inr isnt ↦ rw isnt ]
+count_push f [] new n none = elim (cases_Bool (bytes_eq (name_of new) n)) [ inl is ↦ rw is none | inr isnt ↦ rw isnt ]
 count_push f (row ∷ rows) new n none = ap (λ rest. cond (bytes_eq (name_of row) n) (f row) rest) (count_push f rows new n none)
 
 -- a count rises by so many, or to its last value
@@ -135,7 +135,7 @@ counts_past f rows name more past = record {
 
 -- what holds of a name, and of each other one, holds of all
 of_each : (P : List ℕ → Type 0) (name : List ℕ) → P name → ((n : List ℕ) → n ≢ name → P n) → (n : List ℕ) → P n
-of_each P name here others n = elim (true_or_false (bytes_eq n name)) [
+of_each P name here others n = elim (cases_Bool (bytes_eq n name)) [
   | inl is ↦ subst P (sym ((bytes_eq-Decides n name).0 is)) here
   | inr isnt ↦ others n (λ e. let is = same_name n name e in let never : true ≡ false = sym is ∙ isnt in cc)
 ]
@@ -176,7 +176,7 @@ faults-with_read row (Err NoMemory) = refl
 name_at : (rows : List Count) (name : List ℕ) (d : Count) → place_of (map name_of rows) name < length rows
     → name_of (get_or rows (place_of (map name_of rows) name) d) ≡ name
 name_at [] name d below = absurd (omega arith)
-name_at (row ∷ rows) name d below = elim (true_or_false (bytes_eq (name_of row) name)) [
+name_at (row ∷ rows) name d below = elim (cases_Bool (bytes_eq (name_of row) name)) [
   | inl is ↦ rw is ((bytes_eq-Decides (name_of row) name).0 is)
   | inr isnt ↦ let rest = rw isnt at below in rw (isnt, add-one) (name_at rows name d (omega arith))
 ]

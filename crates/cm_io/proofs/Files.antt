@@ -2,19 +2,19 @@
 use Rattle.std.proofs.Common.{◌≡◌, ◌<◌, ◌≤◌, ℕ, List, [], ◌∷◌, ◌++◌, length, get_or, Vec}
 use Rattle.std.proofs.Common.{refl, ap, inl, inr, arith, add-one, Bool, false, true, if◌then◌else◌}
 use Rattle.std.specs.Str.{bytes_eq}
+use Rattle.std.proofs.lemmas.Bool.{cases_Bool}
 use Rattle.std.specs.declared.alloc.Global.{Global}
 use Rattle.cm_io.specs.Shelf.{bytes_at}
 use Rattle.cm_io.specs.Names.{place_of, is_among}
 use Rattle.cm_io.specs.Counts.{noted}
 use Rattle.cm_io.specs.Held.{files_of, is_held}
-use Rattle.cm_io.proofs.Places.{true_or_false}
 
 -- a name at whose place a text stands is that of a file
 pub held_below : (names : List (List ℕ)) (texts : List (Vec ℕ Global)) (name : List ℕ) → length texts ≤ length names
     → place_of names name < length texts → true ≡ is_held (files_of names texts) name
 held_below [] texts name fits below = absurd (omega arith)
 held_below (first ∷ names) [] name fits below = absurd (omega arith)
-held_below (first ∷ names) (text ∷ texts) name fits below = elim (true_or_false (bytes_eq first name)) [
+held_below (first ∷ names) (text ∷ texts) name fits below = elim (cases_Bool (bytes_eq first name)) [
   | inl is ↦ rw is
   | inr isnt ↦ let rest = rw isnt at below in rw isnt (held_below names texts name (omega arith) (omega arith))
 ]
@@ -24,7 +24,7 @@ pub held_past : (names : List (List ℕ)) (texts : List (Vec ℕ Global)) (name 
     → false ≡ is_held (files_of names texts) name
 held_past [] texts name past = refl
 held_past (first ∷ names) [] name past = refl
-held_past (first ∷ names) (text ∷ texts) name past = elim (true_or_false (bytes_eq first name)) [
+held_past (first ∷ names) (text ∷ texts) name past = elim (cases_Bool (bytes_eq first name)) [
   | inl is ↦ absurd (let none = rw is at past in omega arith)
   | inr isnt ↦ let rest = rw isnt at past in rw isnt (held_past names texts name (omega arith))
 ]
@@ -34,7 +34,7 @@ pub text_at : (names : List (List ℕ)) (texts : List (Vec ℕ Global)) (name : 
     → place_of names name < length texts → (get_or texts (place_of names name) d).items ≡ bytes_at (files_of names texts) name
 text_at [] texts name d fits below = absurd (omega arith)
 text_at (first ∷ names) [] name d fits below = absurd (omega arith)
-text_at (first ∷ names) (text ∷ texts) name d fits below = elim (true_or_false (bytes_eq first name)) [
+text_at (first ∷ names) (text ∷ texts) name d fits below = elim (cases_Bool (bytes_eq first name)) [
   | inl is ↦ rw is
   | inr isnt ↦ let rest = rw isnt at below in rw (isnt, add-one) (text_at names texts name d (omega arith) (omega arith))
 ]
@@ -44,7 +44,7 @@ pub text_past : (names : List (List ℕ)) (texts : List (Vec ℕ Global)) (name 
     → bytes_at (files_of names texts) name ≡ []
 text_past [] texts name past = refl
 text_past (first ∷ names) [] name past = refl
-text_past (first ∷ names) (text ∷ texts) name past = elim (true_or_false (bytes_eq first name)) [
+text_past (first ∷ names) (text ∷ texts) name past = elim (cases_Bool (bytes_eq first name)) [
   | inl is ↦ absurd (let none = rw is at past in omega arith)
   | inr isnt ↦ let rest = rw isnt at past in rw isnt (text_past names texts name (omega arith))
 ]
@@ -62,7 +62,7 @@ files-append (first ∷ names) more (text ∷ texts) fits = ap (λ files. (first
 pub files-if_noted : (names now : List (List ℕ)) (name : List ℕ) (texts : List (Vec ℕ Global)) (done : Bool) → length texts ≤ length names
     → now ≡ (if done then noted names name else names) → files_of now texts ≡ files_of names texts
 files-if_noted names now name texts false fits is = rw is
-files-if_noted names now name texts true fits is = elim (true_or_false (is_among names name)) [
+files-if_noted names now name texts true fits is = elim (cases_Bool (is_among names name)) [
   | inl known ↦ rw (is, known)
   | inr new ↦ rw (is, new) (files-append names (name ∷ []) texts fits)
 ]

@@ -15,7 +15,7 @@ abbrev pub tally_faults : Tally → List ℕ → ℕ
 tally_faults tally name = if counts_name tally.counts name then faults_of tally.counts name else tally.others
 
 -- at most the count of faults that serves this name changed
-pub record OthersStay (old new : Tally) (name : List ℕ) : Type 0 where
+pub record OtherTalliesStay (old new : Tally) (name : List ℕ) : Type 0 where
   pub names : names_of new.counts ≡ names_of old.counts
   pub others : (n : List ℕ) → n ≢ name → IsTrue (counts_name old.counts n || counts_name old.counts name)
       → tally_faults new n ≡ tally_faults old n
@@ -25,4 +25,4 @@ pub record TalliesRead (old new : Tally) (name : List ℕ) (read : Result ℕ Ou
   pub faults : ReadFaults (tally_faults old) (tally_faults new) name read
   pub reads : CountsOn (counts_name old.counts) (reads_of old.counts) (reads_of new.counts) name (reads_made read)
   pub taken : CountsOn (counts_name old.counts) (taken_of old.counts) (taken_of new.counts) name (bytes_given read)
-  pub others : OthersStay old new name
+  pub others : OtherTalliesStay old new name

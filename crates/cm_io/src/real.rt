@@ -113,7 +113,7 @@ fn copies_of(alloc: Global, names: &Vec<String>) -> Result<Vec<String>, NoMemory
 impl<R: Files> Shelf for RealShelf<R> {
     ghost use Rattle.cm_io.specs.Shelf.{ReadsHeld, ReadFaults, CountsOn, reads_made, bytes_given};
     ghost use Rattle.cm_io.specs.Counts.{reads_of, taken_of, counts_name};
-    ghost use Rattle.cm_io.specs.Real.{tally_faults, real_tally, OthersStay};
+    ghost use Rattle.cm_io.specs.Real.{tally_faults, real_tally, OtherTalliesStay};
 
     ghost held = { λ _. None };
 
@@ -139,7 +139,7 @@ impl<R: Files> Shelf for RealShelf<R> {
             (⟦<RealShelf<R> as Shelf>⟧.reads self.new) name.now (reads_made result) }
         ensures taken { CountsOn (⟦<RealShelf<R> as Shelf>⟧.counted self.old) (⟦<RealShelf<R> as Shelf>⟧.taken self.old)
             (⟦<RealShelf<R> as Shelf>⟧.taken self.new) name.now (bytes_given result) }
-        ensures others { OthersStay (real_tally self.old) (real_tally self.new) name.now }
+        ensures others { OtherTalliesStay (real_tally self.old) (real_tally self.new) name.now }
 
         // It never wants memory, so each read of a name that it counts is counted, whatever came of it.
         ensures no_want { result ≢ Err Outside.NoMemory }

@@ -1,9 +1,9 @@
 -- A table and an array of a TOML text, as the definitions see them and as the code goes through them.
-use Rattle.std.proofs.Common.{◌≡◌, ◌≢◌, ℕ, ◌+◌, Bool, ◌||◌, ◌&&◌, List, [], ◌∷◌, length, map, suc}
-use Rattle.std.proofs.Common.{String, Global, string_bytes, bytes_eq, refl, ap, sym, ◌∙◌, arith}
+use Rattle.std.proofs.Common.{◌≡◌, ◌≢◌, ℕ, ◌+◌, ◌&&◌, List, [], ◌∷◌, length}
+use Rattle.std.proofs.Common.{String, Global, string_bytes, bytes_eq, refl, ap, ◌∙◌, arith}
 use Rattle.std.specs.List.{list_any, list_all}
 use Rattle.std.specs.Map.{keys_of}
-use Rattle.toml.specs.View.{view, items_view, members_view}
+use Rattle.toml.specs.View.{items_view, members_view}
 use Rattle.toml.specs.declared.value.Value.{Value}
 use Rattle.toml.specs.Data.{array}
 use Rattle.model_text.specs.MapText.{extent_of}

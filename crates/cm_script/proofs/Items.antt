@@ -1,6 +1,7 @@
 -- Lists that are read item by item: what was read, and what the rest gives.
-use Rattle.std.proofs.Common.{◌≡◌, ℕ, ◌+◌, List, [], ◌∷◌, ◌++◌, Option, Some, None, Result, Ok, Err, refl, ap}
-use Rattle.std.proofs.Common.{append_assoc, inl, inr, ◌⊎◌}
+use Rattle.std.proofs.Common.{◌≡◌, ℕ, ◌+◌, List, [], ◌∷◌, ◌++◌, Option, Some, Result, Ok, Err, refl, ap}
+use Rattle.std.proofs.Common.{append_assoc, inl, inr}
+use Rattle.cm_tokens.proofs.Options.{cases_Option}
 use Rattle.cm_base.specs.declared.faults.LineFault.{LineFault}
 use Rattle.model_cred.specs.IdMap.{Extent}
 use Rattle.model_text.specs.Line.{Tokens}
@@ -17,11 +18,6 @@ pub after_push : {A : Type 0} (items : List A) (x : A) (told : Result (List A) L
 after_push items x (Ok more) = ap Ok (append_assoc items (x ∷ []) more)
 after_push items x (Err why) = refl
 
--- there is a number, or none
-pub cases_number : (o : Option ℕ) → (o ≡ None) ⊎ ((n : ℕ) × (o ≡ Some n))
-cases_number None = inl refl
-cases_number (Some n) = inr (n, refl)
-
 -- the parts of what was read
 the_extent : Extent → Result (Option (Extent × Tokens)) LineFault → Extent
 the_extent other (Ok (Some read)) = read.0
@@ -37,21 +33,21 @@ pub extents_step : (place : ℕ) (tokens rest : Tokens) (e : Extent) → extent_
 unfolding the_extent the_rest
 extents_step place [] rest e is = absurd (cc)
 extents_step place (a ∷ []) rest e is =
-    elim (cases_number (number_token a)) [ inl none ↦ absurd (cc (rw none at is)) | inr some ↦ absurd (cc (rw some.1 at is)) ]
+    elim (cases_Option (number_token a)) [ inl none ↦ absurd (cc (rw none at is)) | inr some ↦ absurd (cc (rw some.1 at is)) ]
 extents_step place (a ∷ b ∷ []) rest e is =
-    elim (cases_number (number_token a)) [
+    elim (cases_Option (number_token a)) [
       | inl none ↦ absurd (cc (rw none at is))
-      | inr some ↦ elim (cases_number (number_token b)) [
+      | inr some ↦ elim (cases_Option (number_token b)) [
         | inl none ↦ absurd (cc (rw (some.1, none) at is))
         | inr more ↦ absurd (cc (rw (some.1, more.1) at is))
       ]
     ]
 extents_step place (a ∷ b ∷ c ∷ tokens) rest e is =
-    elim (cases_number (number_token a)) [
+    elim (cases_Option (number_token a)) [
       | inl none ↦ absurd (cc (rw none at is))
-      | inr i ↦ elim (cases_number (number_token b)) [
+      | inr i ↦ elim (cases_Option (number_token b)) [
         | inl none ↦ absurd (cc (rw (i.1, none) at is))
-        | inr o ↦ elim (cases_number (number_token c)) [
+        | inr o ↦ elim (cases_Option (number_token c)) [
           | inl none ↦ absurd (cc (rw (i.1, o.1, none) at is))
           | inr n ↦ let given = rw (i.1, o.1, n.1) at is in
               let same : record { inside = i.0; outside = o.0; length = n.0 } ≡ e = ap (the_extent e) given in

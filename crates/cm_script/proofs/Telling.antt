@@ -21,7 +21,7 @@ use Rattle.model_text.specs.CapText.{set_of_text}
 use Rattle.model_text.specs.Line.{Tokens, arguments_from, argument_before, call_read, call_told}
 use Rattle.model_text.specs.SpaceToken.{space_of_token}
 use Rattle.model_text.specs.Token.{number_token, id_token, cap_token, word_token, file_token}
-use Rattle.cm_script.proofs.Items.{cases_number}
+use Rattle.cm_tokens.proofs.Options.{cases_Option}
 use Rattle.cm_script.specs.Steps.{and_then, and_make, taken, next_told, one_told, two_told, three_told, ids_told}
 use Rattle.cm_script.specs.Steps.{extents_told, map_told, told}
 
@@ -194,11 +194,11 @@ extents_from w p (a ∷ b ∷ c ∷ tokens) even =
     let second : form_at Triples (suc p + 1) ≡ ANumber = number_at p 1 in
     let third : form_at Triples (suc p + 1 + 1) ≡ ANumber = ap (form_at Triples) (two_more p) ∙ number_at p 2 in
     rw (third, second, three_more p, two_more p)
-    (elim (cases_number (number_token a)) [
+    (elim (cases_Option (number_token a)) [
       | inl none ↦ rw none refl
-      | inr i ↦ elim (cases_number (number_token b)) [
+      | inr i ↦ elim (cases_Option (number_token b)) [
         | inl none ↦ rw (i.1, none) (ap (λ (n : ℕ). Err (fault.Argument n)) (two_more p))
-        | inr o ↦ elim (cases_number (number_token c)) [
+        | inr o ↦ elim (cases_Option (number_token c)) [
           | inl none ↦ rw (i.1, o.1, none) (ap (λ (n : ℕ). Err (fault.Argument n)) (one_after_two p))
           | inr n ↦ rw (i.1, o.1, n.1)
               (triple_before (suc p) i.0 o.0 n.0 (extents_told (suc p + 3) tokens) (arguments_from w Triples (suc p + 3) tokens) rest)

@@ -13,7 +13,7 @@ use Rattle.cm_strace.specs.declared.deed.Act.TheVariants as act
 use Rattle.cm_strace.specs.declared.deed.Deed.{Deed}
 use Rattle.cm_strace.specs.declared.deed.Deed.TheVariants as deed
 use Rattle.model_cred.specs.Call as model
-use Rattle.model_cred.specs.Call.{Call, Event}
+use Rattle.model_cred.specs.Call.{Call}
 use Rattle.model_cred.specs.World.{World}
 use Rattle.model_strace.specs.Calls as calls
 use Rattle.model_strace.specs.Calls.{Told, Nothing, Faulty, Does, Bears, Joins, Opens, Closes, Copies, CopiesTo}

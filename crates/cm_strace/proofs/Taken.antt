@@ -1,7 +1,8 @@
 -- Held lines of which some were taken: one that is taken, and those that are left.
-use Rattle.std.proofs.Common.{◌≡◌, ℕ, zero, suc, ◌+◌, ◌<◌, ◌≤◌, ◌||◌, Bool, true, false, cond, find, length, List, [], ◌∷◌}
-use Rattle.std.proofs.Common.{◌++◌, Some, refl, sym, ◌∙◌, ap, arith, get_or, slice_get, slice_set, take, replicate}
+use Rattle.std.proofs.Common.{◌≡◌, ℕ, zero, suc, ◌+◌, ◌<◌, ◌≤◌, Bool, true, false, cond, find, length, List, [], ◌∷◌}
+use Rattle.std.proofs.Common.{◌++◌, refl, sym, ◌∙◌, ap, arith, get_or, slice_get, slice_set, take, replicate}
 use Rattle.std.specs.List.{list_any}
+use Rattle.std.proofs.lemmas.Bool.{or_parts}
 use Rattle.std.proofs.lemmas.List.{take_all}
 use Rattle.std.proofs.lemmas.List.Folds.{list_any-append}
 use Rattle.model_strace.specs.Lines.{Line, is_line_of}
@@ -34,11 +35,6 @@ untaken_more (x ∷ lines) (b ∷ taken) (suc at) l t within flags =
     ]
 
 -- ---- the lines of a pid
--- none of them, and not this one either
-neither : (a b : Bool) → (a || b) ≡ false → (a ≡ false) × (b ≡ false)
-neither true b none = absurd (cc)
-neither false b none = (refl, none)
-
 -- where none is left of those before a place, the first one that is left is taken
 pub taken_first : (pid : ℕ) (lines : List Line) (taken : List Bool) (at : ℕ) (l : Line) (t : Bool) → at < length lines
     → length taken ≡ length lines → get_or taken at t ≡ false → l ≡ get_or lines at l → is_line_of pid l ≡ true
@@ -56,7 +52,7 @@ taken_first pid (x ∷ lines) (b ∷ taken) (suc at) l t within flags free is ow
     × (untaken (x ∷ lines) (b ∷ slice_set taken at true) ≡ without_first pid (untaken (x ∷ lines) (b ∷ taken)))
     × (waits_before pid (suc (suc at)) (x ∷ lines) (b ∷ slice_set taken at true) ≡ false)) [
       | true ↦ λ none. taken_first pid lines taken at l t (omega arith) (omega arith) free is own none
-      | false ↦ λ none. let h = neither (is_line_of pid x) (waits_before pid at lines taken) none in
+      | false ↦ λ none. let h = or_parts (is_line_of pid x) (waits_before pid at lines taken) none in
           let rest = taken_first pid lines taken at l t (omega arith) (omega arith) free is own h.1 in
           let other : is_line_of pid x ≡ false = h.0 in
           rw other (rest.0, ap (λ r. x ∷ r) rest.1, rest.2)
@@ -72,13 +68,13 @@ still_none pid (x ∷ lines) (b ∷ taken) zero none =
     (elim b as (λ b. list_any (is_line_of pid) (untaken (x ∷ lines) (b ∷ taken)) ≡ false → list_any (is_line_of pid)
     (untaken lines taken) ≡ false) [
       | true ↦ λ none. none
-      | false ↦ λ none. (neither (is_line_of pid x) (list_any (is_line_of pid) (untaken lines taken)) none).1
+      | false ↦ λ none. (or_parts (is_line_of pid x) (list_any (is_line_of pid) (untaken lines taken)) none).1
     ]) none
 still_none pid (x ∷ lines) (b ∷ taken) (suc at) none =
     (elim b as (λ b. list_any (is_line_of pid) (untaken (x ∷ lines) (b ∷ taken)) ≡ false → list_any (is_line_of pid)
     (untaken (x ∷ lines) (b ∷ slice_set taken at true)) ≡ false) [
       | true ↦ λ none. still_none pid lines taken at none
-      | false ↦ λ none. let h = neither (is_line_of pid x) (list_any (is_line_of pid) (untaken lines taken)) none in
+      | false ↦ λ none. let h = or_parts (is_line_of pid x) (list_any (is_line_of pid) (untaken lines taken)) none in
           rw (h.0) (still_none pid lines taken at h.1)
     ]) none
 
@@ -114,14 +110,3 @@ past_other pid lines taken at l t within flags none is other =
 pub none_left : (pid : ℕ) (lines : List Line) (taken : List Bool) (at : ℕ) → length lines ≤ at
     → waits_before pid at lines taken ≡ false → list_any (is_line_of pid) (untaken lines taken) ≡ false
 none_left pid lines taken at past none = rw (← take_all at lines past) none
-
--- the list is shorter by the line that is found
-pub one_fewer : (pid : ℕ) (ls : List Line) (l : Line) → find (is_line_of pid) ls ≡ Some l
-    → length (without_first pid ls) + 1 ≡ length ls
-one_fewer pid [] l is = absurd (cc)
-one_fewer pid (x ∷ ls) l is =
-    (elim (is_line_of pid x) as (λ b. cond b (Some x) (find (is_line_of pid) ls) ≡ Some l
-    → length (cond b ls (x ∷ without_first pid ls)) + 1 ≡ suc (length ls)) [
-      | true ↦ λ h. omega arith
-      | false ↦ λ h. let rest = one_fewer pid ls l h in omega arith
-    ]) is

@@ -6,7 +6,7 @@ use Rattle.std.specs.List.{list_any}
 use Rattle.std.proofs.lemmas.List.{append-nil, take_more}
 use Rattle.std.proofs.lemmas.Bool.{cond-true, cond-false}
 use Rattle.cm_strace_parts.specs.Order.{AllSay, Ascends, IsOrder}
-use Rattle.cm_strace_parts.proofs.Order.{put_ascends}
+use Rattle.cm_strace_parts.proofs.Order.{not_found, put_ascends}
 use Rattle.model_strace.specs.Parts.{put, put_all}
 
 -- ---- what all say
@@ -126,15 +126,10 @@ pub find_past : {A : Type 0} (same : A → Bool) (front xs : List A) → AllSay 
 find_past same [] xs none = refl
 find_past same (x ∷ front) xs none = cond-false (same x) _ _ none.0 ∙ find_past same front xs none.1
 
--- and nothing among these
-pub find_none : {A : Type 0} (same : A → Bool) (xs : List A) → AllSay same false xs → find same xs ≡ None
-find_none same [] none = refl
-find_none same (x ∷ xs) none = cond-false (same x) _ _ none.0 ∙ find_none same xs none.1
-
 -- the same is found before things that aren't it
 pub find_before : {A : Type 0} (same : A → Bool) (xs back : List A) → AllSay same false back
     → find same (xs ++ back) ≡ find same xs
-find_before same [] back none = find_none same back none
+find_before same [] back none = not_found same back none
 find_before same (x ∷ xs) back none = ap (λ r. cond (same x) (Some x) r) (find_before same xs back none)
 
 -- a changed thing is found where the thing is

@@ -157,6 +157,17 @@ at_within same [] at is = absurd (cc)
 at_within same (x ∷ xs) zero is = omega arith
 at_within same (x ∷ xs) (suc at) is = let rest : at < length xs = at_within same xs at is in omega arith
 
+-- what is found at a place stands below the number of all, and a cut lies at most there
+pub found_below : {A : Type 0} (same : A → Bool) (xs : List A) (at many : ℕ) (told : Bool) → told ≡ is_at same xs at
+    → told ≡ true → length xs ≡ many → at < many
+found_below same xs at many told is here all =
+    let within : at < length xs = at_within same xs at (sym is ∙ here) in
+    omega (arith, within, all)
+
+pub cut_below : {A : Type 0} (below : A → Bool) (xs : List A) (at many : ℕ) → IsCut below xs at → length xs ≡ many
+    → at ≤ many
+cut_below below xs at many cut all = let within : at ≤ length xs = cut_within below xs at cut in omega (arith, within, all)
+
 -- what stands at its place stands nowhere else
 pub stands : {A : Type 0} (before : A → A → Bool) (below same : A → Bool) (xs : List A) (at : ℕ)
     → HasPlace before below same → Ascends before xs

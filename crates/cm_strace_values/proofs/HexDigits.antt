@@ -1,16 +1,12 @@
 -- Hexadecimal digits one by one: a number past 32 bits stays past them.
-use Rattle.std.proofs.Common.{◌≡◌, ℕ, ◌+◌, ◌*◌, ◌<◌, List, [], ◌∷◌, Option, Some, None, refl, ap, ◌∙◌, arith}
-use Rattle.std.proofs.Common.{inl, inr, ◌⊎◌, length, drop, get_or}
+use Rattle.std.proofs.Common.{◌≡◌, ℕ, ◌+◌, ◌*◌, ◌<◌, List, [], ◌∷◌, Some, None, refl, ap, ◌∙◌, arith}
+use Rattle.std.proofs.Common.{inl, inr, length, drop, get_or}
 use Rattle.std.proofs.lemmas.List.{drop_more}
 use Rattle.std.proofs.lemmas.Bool.{cases_Bool}
 use Rattle.std.specs.Prelude.{option_and_then, nat_le}
+use Rattle.cm_tokens.proofs.Options.{cases_Option}
 use Rattle.cm_strace_values.specs.Hex.{of_32_bits, with_digit}
 use Rattle.model_text.specs.CapText.{hex_after, hex_value}
-
--- there is a digit, or none
-cases_digit : (digit : Option ℕ) → (digit ≡ None) ⊎ ((d : ℕ) × (digit ≡ Some d))
-cases_digit None = inl refl
-cases_digit (Some d) = inr (d, refl)
 
 -- a number past 32 bits
 past_alone : (n : ℕ) → 4294967295 < n → of_32_bits (Some n) ≡ None
@@ -20,7 +16,7 @@ past_alone n past = grind (arith, past)
 past_stays : (n : ℕ) (text : List ℕ) → 4294967295 < n → of_32_bits (hex_after n text) ≡ None
 past_stays n [] past = past_alone n past
 past_stays n (byte ∷ text) past =
-    elim (cases_digit (hex_value byte)) [
+    elim (cases_Option (hex_value byte)) [
       | inl none ↦ rw none refl
       | inr some ↦ rw some.1 (past_stays (16 * n + some.0) text (omega (arith, past)))
     ]
@@ -30,7 +26,7 @@ digit_more : (n byte : ℕ) (text : List ℕ)
     → of_32_bits (hex_after n (byte ∷ text))
     ≡ option_and_then (λ more. of_32_bits (hex_after more text)) (with_digit n byte)
 digit_more n byte text =
-    elim (cases_digit (hex_value byte)) [
+    elim (cases_Option (hex_value byte)) [
       | inl none ↦ rw none refl
       | inr some ↦ rw some.1 (elim (cases_Bool (nat_le (16 * n + some.0) 4294967295)) [
         | inl fits ↦ rw fits refl

@@ -6,7 +6,7 @@ use Rattle.std.proofs.lemmas.List.{length-reverse}
 use Rattle.std.proofs.lemmas.Bool.{cases_Bool}
 use Rattle.std.specs.Prelude.{codes, reverse, bytes_eq, true, false, ◌&&◌}
 use Rattle.std.specs.List.{onto_first}
-use Rattle.cm_strace_text.proofs.Options.{or_none}
+use Rattle.model_rules.proofs.Options.{or_none}
 use Rattle.model_strace.specs.Files.{path_names, file_of, last_file, map_named, proc_file}
 
 -- a byte onto the first of some pieces leaves pieces

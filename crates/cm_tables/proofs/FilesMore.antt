@@ -7,15 +7,12 @@ use Rattle.std.proofs.lemmas.List.{append-nil}
 use Rattle.cm_files.specs.Fault.{Diagnoses, first_fault, row_fault}
 use Rattle.cm_files.specs.declared.fault.BadFiles.{BadFiles}
 use Rattle.cm_files.specs.declared.fault.BadFiles.TheVariants.{Twice, NoMount, NoInterpreter, NoMemory}
+use Rattle.model_rules.proofs.Options.{both_none}
 use Rattle.model_cred.specs.Files.{FileRow, FileTable, Mount}
 use Rattle.model_text.specs.Refusal.{Refusal, then_read}
 use Rattle.cm_tables.specs.Tables.{table_with}
 
 -- ---- one file more
-both_none : {A : Type 0} (x y : Option A) → option_or x y ≡ None → (x ≡ None) × (y ≡ None)
-both_none None y is = (refl, is)
-both_none (Some a) y is = absurd (cc)
-
 -- files without a fault, with one more that has none after them
 pub none_more : (mounts : ℕ) (before rows : List FileRow) (row : FileRow) → first_fault mounts before rows ≡ None
     → row_fault mounts (before ++ rows) row ≡ None → first_fault mounts before (rows ++ row ∷ []) ≡ None

@@ -2,15 +2,7 @@
 use Rattle.std.proofs.Common.{◌≡◌, ℕ, zero, suc, ◌<◌, ◌≤◌, true, false, length, List, [], ◌∷◌, refl, arith, get_or}
 use Rattle.std.proofs.Common.{take, drop}
 use Rattle.model_text.specs.Cut.{tokens_of, is_blank, goes_on}
-
--- a byte before a token that goes on is its first byte
-extend : (b : ℕ) (bs : List ℕ) (token : List ℕ) (others : List (List ℕ)) → is_blank b ≡ false → goes_on bs ≡ true
-    → tokens_of bs ≡ token ∷ others → tokens_of (b ∷ bs) ≡ (b ∷ token) ∷ others
-extend b bs token others plain goes is = rw (plain, goes, is) refl
-
--- a byte that nothing goes on with is a token
-alone : (b : ℕ) (bs : List ℕ) → is_blank b ≡ false → goes_on bs ≡ false → tokens_of (b ∷ bs) ≡ (b ∷ []) ∷ tokens_of bs
-alone b bs plain ends = rw (plain, ends) refl
+use Rattle.model_text.proofs.Tokens.{ends_here, extends}
 
 -- the bytes before the first blank are the first token
 pub token_front : (text : List ℕ) (n : ℕ) → n ≤ length text → ((k : ℕ) → k < n → is_blank (get_or text k 0) ≡ false)
@@ -18,13 +10,13 @@ pub token_front : (text : List ℕ) (n : ℕ) → n ≤ length text → ((k : �
     → tokens_of text ≡ take n text ∷ tokens_of (drop n text)
 token_front [] n within plain ended goes = absurd (cc)
 token_front (b ∷ bs) zero within plain ended goes = let blank : is_blank b ≡ true = ended (omega arith) in absurd (grind (arith, blank, goes))
-token_front (b ∷ []) (suc zero) within plain ended goes = alone b [] (plain 0 (omega arith)) refl
+token_front (b ∷ []) (suc zero) within plain ended goes = ends_here b [] (plain 0 (omega arith)) refl
 token_front (b ∷ []) (suc (suc n)) within plain ended goes = absurd (omega arith)
 token_front (b ∷ c ∷ cs) (suc zero) within plain ended goes =
     let blank : is_blank c ≡ true = ended (omega arith) in
-    alone b (c ∷ cs) (plain 0 (omega arith)) (rw blank refl)
+    ends_here b (c ∷ cs) (plain 0 (omega arith)) (rw blank refl)
 token_front (b ∷ c ∷ cs) (suc (suc n)) within plain ended goes =
     let after : is_blank c ≡ false = plain 1 (omega arith) in
     let goes_after : goes_on (c ∷ cs) ≡ true = rw after refl in
-    extend b (c ∷ cs) _ _ (plain 0 (omega arith)) goes_after
+    extends b (c ∷ cs) _ _ (plain 0 (omega arith)) goes_after
     (token_front (c ∷ cs) (suc n) (omega arith) (λ k lt. plain (suc k) (omega arith)) (λ lt. ended (omega arith)) goes_after)

@@ -2,3 +2,4 @@
 pub mod FirstLine
 pub mod FirstToken
 pub mod Cuts
+pub mod Options

@@ -1,5 +1,5 @@
 -- What an answer of the reader tells of a text.
-use Rattle.std.proofs.Common.{◌≡◌, ℕ, List, Result, Ok, Err, ap, refl, inl, inr}
+use Rattle.std.proofs.Common.{◌≡◌, ℕ, List, Result, Ok, Err, ap, inl, inr}
 use Rattle.std.proofs.lemmas.Bool.{cases_Bool}
 use Rattle.std.proofs.lemmas.Str.{IsUtf8-from_is_utf8}
 use Rattle.std.specs.Str.{IsUtf8, is_utf8}
@@ -13,7 +13,7 @@ use Rattle.cm_tables.specs.declared.error.WorldError.TheVariants as error
 use Rattle.cm_world.specs.Answers.{IsAnswer}
 use Rattle.cm_world.specs.World.{world_of}
 use Rattle.cm_world.specs.declared.world.World as code
-use Rattle.model_text.specs.Refusal.{At, Past}
+use Rattle.model_text.specs.Refusal.{At}
 use Rattle.model_text.specs.WorldText.{Reads, Bad, Exceeds, read_text, text_as, world_text}
 
 module _ (r : Result code.World WorldError) (bytes : List ℕ) (answer : IsAnswer r (read_text bytes)) where

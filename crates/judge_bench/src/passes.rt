@@ -4,13 +4,13 @@ ghost use Rattle.cm_sound.specs.Never.{MountsStand};
 ghost use Rattle.cm_world.specs.World.{world_of};
 
 use crate::setup::Setup;
-use cm_base::Kuid;
+use cm_base::{Kuid, MINUS_ONE};
 use cm_box::{Bounds, closed};
 use cm_sound::{Checked, check};
 use cm_state::Right;
 
 // The last user id.
-const LAST: u32 = 4_294_967_294;
+const LAST: u32 = MINUS_ONE - 1;
 
 // How many of so many runs of `closed` find the bounds closed. It takes no memory.
 pub(crate) fn times_closed(s: &Setup, b: &Bounds, runs: u32) -> u32

@@ -68,90 +68,48 @@ keeps_effective c e keeps within =
 keeps_ambient : (c : Credential) (a : ℕ) → Keeps c → IsTrue (is_within a c.permitted) → IsTrue (is_within a c.inheritable) → Keeps (record c { ambient = a })
 keeps_ambient c a keeps permitted inherited = keeps_sets c c.permitted c.effective a keeps keeps.permitted keeps.included.effective permitted inherited
 
--- with other user ids
-pub keeps_uids : (c : Credential) (ids : FourIds) → Keeps c → AreIds ids → Keeps (record c { uid = ids })
-keeps_uids c ids keeps are = record {
+-- with other ids, groups, bounding set and securebits
+keeps_others : (c : Credential) (uids gids : FourIds) (groups : List ℕ) (b bits : ℕ) → Keeps c → AreIds uids → AreIds gids → AscendFrom 0 groups
+    → IsCapSet b → bits < 2 ^ 8 → Keeps (record c { uid = uids; gid = gids; groups = groups; bounding = b; securebits = bits })
+keeps_others c uids gids groups b bits keeps are_uids are_gids ascends small few = record {
   included = record {
     effective = keeps.included.effective;
     ambient_permitted = keeps.included.ambient_permitted;
     ambient_inheritable = keeps.included.ambient_inheritable;
   };
-  uid = are;
-  gid = keeps.gid;
-  groups = keeps.groups;
-  inheritable = keeps.inheritable;
-  permitted = keeps.permitted;
-  bounding = keeps.bounding;
-  securebits = keeps.securebits;
-}
-
--- with other group ids
-keeps_gids : (c : Credential) (ids : FourIds) → Keeps c → AreIds ids → Keeps (record c { gid = ids })
-keeps_gids c ids keeps are = record {
-  included = record {
-    effective = keeps.included.effective;
-    ambient_permitted = keeps.included.ambient_permitted;
-    ambient_inheritable = keeps.included.ambient_inheritable;
-  };
-  uid = keeps.uid;
-  gid = are;
-  groups = keeps.groups;
-  inheritable = keeps.inheritable;
-  permitted = keeps.permitted;
-  bounding = keeps.bounding;
-  securebits = keeps.securebits;
-}
-
--- with other groups
-keeps_groups : (c : Credential) (groups : List ℕ) → Keeps c → AscendFrom 0 groups → Keeps (record c { groups = groups })
-keeps_groups c groups keeps ascends = record {
-  included = record {
-    effective = keeps.included.effective;
-    ambient_permitted = keeps.included.ambient_permitted;
-    ambient_inheritable = keeps.included.ambient_inheritable;
-  };
-  uid = keeps.uid;
-  gid = keeps.gid;
+  uid = are_uids;
+  gid = are_gids;
   groups = ascends;
   inheritable = keeps.inheritable;
   permitted = keeps.permitted;
-  bounding = keeps.bounding;
-  securebits = keeps.securebits;
+  bounding = small;
+  securebits = few;
 }
+
+-- with other user ids
+pub keeps_uids : (c : Credential) (ids : FourIds) → Keeps c → AreIds ids → Keeps (record c { uid = ids })
+keeps_uids c ids keeps are =
+    keeps_others c ids c.gid c.groups c.bounding c.securebits keeps are keeps.gid keeps.groups keeps.bounding keeps.securebits
+
+-- with other group ids
+keeps_gids : (c : Credential) (ids : FourIds) → Keeps c → AreIds ids → Keeps (record c { gid = ids })
+keeps_gids c ids keeps are =
+    keeps_others c c.uid ids c.groups c.bounding c.securebits keeps keeps.uid are keeps.groups keeps.bounding keeps.securebits
+
+-- with other groups
+keeps_groups : (c : Credential) (groups : List ℕ) → Keeps c → AscendFrom 0 groups → Keeps (record c { groups = groups })
+keeps_groups c groups keeps ascends =
+    keeps_others c c.uid c.gid groups c.bounding c.securebits keeps keeps.uid keeps.gid ascends keeps.bounding keeps.securebits
 
 -- with another bounding set
 keeps_bounding : (c : Credential) (b : ℕ) → Keeps c → IsCapSet b → Keeps (record c { bounding = b })
-keeps_bounding c b keeps small = record {
-  included = record {
-    effective = keeps.included.effective;
-    ambient_permitted = keeps.included.ambient_permitted;
-    ambient_inheritable = keeps.included.ambient_inheritable;
-  };
-  uid = keeps.uid;
-  gid = keeps.gid;
-  groups = keeps.groups;
-  inheritable = keeps.inheritable;
-  permitted = keeps.permitted;
-  bounding = small;
-  securebits = keeps.securebits;
-}
+keeps_bounding c b keeps small =
+    keeps_others c c.uid c.gid c.groups b c.securebits keeps keeps.uid keeps.gid keeps.groups small keeps.securebits
 
 -- with other securebits
 keeps_bits : (c : Credential) (bits : ℕ) → Keeps c → bits < 2 ^ 8 → Keeps (record c { securebits = bits })
-keeps_bits c bits keeps small = record {
-  included = record {
-    effective = keeps.included.effective;
-    ambient_permitted = keeps.included.ambient_permitted;
-    ambient_inheritable = keeps.included.ambient_inheritable;
-  };
-  uid = keeps.uid;
-  gid = keeps.gid;
-  groups = keeps.groups;
-  inheritable = keeps.inheritable;
-  permitted = keeps.permitted;
-  bounding = keeps.bounding;
-  securebits = small;
-}
+keeps_bits c bits keeps few =
+    keeps_others c c.uid c.gid c.groups c.bounding bits keeps keeps.uid keeps.gid keeps.groups keeps.bounding few
 
 -- with no_new_privs set
 keeps_flag : (c : Credential) (flag : Bool) → Keeps c → Keeps (record c { no_new_privs = flag })

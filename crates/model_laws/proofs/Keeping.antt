@@ -14,7 +14,7 @@ use Rattle.model_cred.specs.Credential.{Credential, Keeps}
 use Rattle.model_cred.specs.Files.{FileTable, KeepsFiles}
 use Rattle.model_cred.specs.IdMap.{extents_of}
 use Rattle.model_cred.specs.Process.{Process, State, KeepsState, process_at, put_process, insert_process, without_process, is_alive, is_pid}
-use Rattle.model_cred.specs.Space.{Spaces, KeepsSpace, space_of, stands}
+use Rattle.model_cred.specs.Space.{Spaces, KeepsSpace, space_of}
 use Rattle.model_cred.specs.World.{World}
 use Rattle.model_rules.proofs.Spaces.{keeps_space_of, stands_there}
 use Rattle.model_rules.specs.Answer.{Answer, done}

@@ -9,10 +9,10 @@ use Rattle.model_cred.specs.World.{World}
 use Rattle.model_plans.specs.Move.{MayCall}
 use Rattle.model_plans.specs.Plan.{Plan, plans}
 use Rattle.model_plans.specs.PlanRun.{PlanRun, plan_run, holder, Found, found_by, first_found}
-use Rattle.model_plans.specs.Changes.{OthersStay, IsLater}
+use Rattle.model_plans.specs.Changes.{MovesLeaveOthers, IsLater}
 use Rattle.model_plans.specs.Firsts.{NoHolder, NoneHolds, NoneHoldsAfter, NothingFound, IsFirst, FoundIsFirst, EndsHolding, FoundIsLater}
 use Rattle.model_plans.proofs.Lists.{all_none, none_of, all_at, unmap_none, unmap_some, FirstAt, first_at, at_first}
-use Rattle.model_plans.proofs.Others.{others_stay}
+use Rattle.model_plans.proofs.Others.{moves_leave_others}
 use Rattle.model_plans.proofs.Holders.{no_holder, holder_holds}
 use Rattle.model_plans.proofs.Laters.{runs_later}
 
@@ -74,7 +74,7 @@ module _ (permitted : MayCall) (w : World) (s : State) (members : List ℕ) (rig
       })
 
   ends_holding : (found : Found) → IsFirst permitted w s members right found → EndsHolding permitted w s members right found
-  unfolding OthersStay
+  unfolding MovesLeaveOthers
   ends_holding found is =
       let later_of : Plan → Type 0 = λ plan. IsLater permitted w s members plan.pid (made_by plan) in
       let later : later_of is.plan
@@ -85,7 +85,7 @@ module _ (permitted : MayCall) (w : World) (s : State) (members : List ℕ) (rig
         state = (made_by is.plan).state;
         later = subst (λ (es : List Event). IsLater permitted w s members is.plan.pid (record { events = es; state = (made_by is.plan).state })) (sym is.run)
             later;
-        leaves = others_stay permitted w s right is.plan.pid is.plan.moves;
+        leaves = moves_leave_others permitted w s right is.plan.pid is.plan.moves;
         member = holds.0;
         holds = holds.1;
       }

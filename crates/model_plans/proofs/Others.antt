@@ -12,7 +12,7 @@ use Rattle.model_run.specs.Family.{family, forebear_in, forebear_of, reaches, re
 use Rattle.model_plans.specs.Move.{MayCall, Seat, seat_of, Move}
 use Rattle.model_plans.specs.PlanRun.{PlanRun, setting_in, moves_made}
 use Rattle.model_plans.specs.Walk.{after_moves}
-use Rattle.model_plans.specs.Changes.{moved, with_seat, Leaves, OthersStay}
+use Rattle.model_plans.specs.Changes.{moved, with_seat, Leaves, MovesLeaveOthers}
 use Rattle.model_plans.proofs.Walks.{found_seated, walk_run, dead_run}
 
 -- ---- the processes with one at another seat
@@ -99,6 +99,6 @@ leaves_run permitted w s right pid moves (Some p) lives =
     subst (λ (made : PlanRun). Leaves s pid made.state) (sym (walk_run permitted w s right pid p moves lives))
     (leaves_seated s pid p (after_moves (setting_in permitted w s right pid) (seat_of p) moves) lives)
 
-pub others_stay : OthersStay
-unfolding OthersStay
-others_stay permitted w s right pid moves = leaves_run permitted w s right pid moves (process_at s.processes pid) refl
+pub moves_leave_others : MovesLeaveOthers
+unfolding MovesLeaveOthers
+moves_leave_others permitted w s right pid moves = leaves_run permitted w s right pid moves (process_at s.processes pid) refl

@@ -58,8 +58,8 @@ pub record Leaves (s : State) (pid : ℕ) (after : State) : Type 0 where
   pub families : (root : ℕ) → family after root ≡ family s root
 
 -- The spaces, all other processes, and all families are as before, also where the one who is to move isn't alive.
-unfoldable pub OthersStay : Type 0
-OthersStay = (permitted : MayCall) (w : World) (s : State) (right : Right) (pid : ℕ) (moves : List Move)
+unfoldable pub MovesLeaveOthers : Type 0
+MovesLeaveOthers = (permitted : MayCall) (w : World) (s : State) (right : Right) (pid : ℕ) (moves : List Move)
     → Leaves s pid (moves_made permitted w s right pid moves).state
 
 -- What is made is a later run of the members by calls of the one process alone, of kinds that are permitted to it. The

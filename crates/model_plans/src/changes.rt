@@ -1,5 +1,5 @@
 // What plans change.
-ghost use Rattle.model_plans.specs.Changes.{CallsOfMoves, WalkIsRun, OthersStay, RunsAreLater, FirstMovesStay};
+ghost use Rattle.model_plans.specs.Changes.{CallsOfMoves, WalkIsRun, MovesLeaveOthers, RunsAreLater, FirstMovesStay};
 
 /// The call of a move changes its caller alone, and is of a kind that is permitted.
 #[tactic(auto, using(crate::proofs::Calls::calls_of_moves))]
@@ -14,9 +14,9 @@ pub fn walk_is_run()
 {}
 
 /// A plan leaves the spaces, all other processes, and all families.
-#[tactic(auto, using(crate::proofs::Others::others_stay))]
-pub fn others_stay()
-    ensures { OthersStay }
+#[tactic(auto, using(crate::proofs::Others::moves_leave_others))]
+pub fn moves_leave_others()
+    ensures { MovesLeaveOthers }
 {}
 
 /// The run of each plan is a later run of the members, who are the same after it.

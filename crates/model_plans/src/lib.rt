@@ -9,7 +9,8 @@ mod shortcuts;
 mod sought;
 
 pub use changes::{
-    first_moves_stay, moves_change_their_caller_alone, others_stay, runs_are_later, walk_is_run,
+    first_moves_stay, moves_change_their_caller_alone, moves_leave_others, runs_are_later,
+    walk_is_run,
 };
 pub use effects::{becomes_are_done, raises_are_done};
 pub use firsts::{

@@ -14,6 +14,7 @@ use Rattle.model_run.specs.RunBack.{BringsBack}
 use Rattle.model_report.proofs.Lines.{IsWritten, plain_verdict, written_end, written_told, written_shows, written_true}
 use Rattle.model_report.proofs.Replays.{Breaks, Break, no_step, crowds, run_of_within, passed_lines, runs_or_breaks}
 use Rattle.model_report.proofs.Statuses.{of_begins, has_its_cause, over_all, of_replay, of_asked, of_stopped, of_impossible, of_crowded}
+use Rattle.model_report.proofs.Statuses.{impossible_at, crowded_at}
 use Rattle.model_report.proofs.Verdicts.{log_verdict, no_shows}
 use Rattle.model_report.specs.Causes.{Begins, ComesTo, Cause, IsAccepted, IsStopped, IsImpossible, IsCrowded, AfterLog, IsYes, IsNo}
 use Rattle.model_report.specs.Command.{command_of, query_of}
@@ -164,39 +165,15 @@ module _ (words : List (List ℕ)) (bytes : List ℕ → List ℕ) where
     order = breaks.cut;
     state = breaks.state;
     end = _;
-    written =
-        impossible_written (record {
-          world = w;
-          state = breaks.state;
-          before = breaks.before;
-          event = breaks.event;
-          later = breaks.later;
-          ending = reading.ending;
-          begins = subst (λ (es : List Placed). Begins words bytes w (record { events = es; ending = reading.ending })) breaks.cut begins;
-          run = breaks.run;
-          no_step = none;
-        });
+    written = impossible_written (impossible_at words bytes w reading begins breaks none);
   }
-  break_written w reading begins breaks (crowds s' l goes over) = record {
+  break_written w reading begins breaks (crowds s l goes over) = record {
     told = breaks.before;
     untold = breaks.event ∷ breaks.later;
     order = breaks.cut;
     state = breaks.state;
     end = _;
-    written =
-        crowded_written l (record {
-          world = w;
-          state = breaks.state;
-          before = breaks.before;
-          event = breaks.event;
-          later = breaks.later;
-          ending = reading.ending;
-          begins = subst (λ (es : List Placed). Begins words bytes w (record { events = es; ending = reading.ending })) breaks.cut begins;
-          run = breaks.run;
-          after = s';
-          step = goes;
-          over = over;
-        });
+    written = crowded_written l (crowded_at words bytes w reading begins breaks s l goes over);
   }
 
   begins_written : (w : World) (reading : Reading) → Begins words bytes w reading → IsWrittenOf w reading.events (report words bytes).lines

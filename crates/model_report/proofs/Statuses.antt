@@ -9,7 +9,7 @@ use Rattle.cm_base.specs.Limited.{limit_number}
 use Rattle.model_cred.specs.Call.{Event}
 use Rattle.model_cred.specs.Process.{State}
 use Rattle.model_cred.specs.World.{World}
-use Rattle.model_run.specs.Step.{outcome}
+use Rattle.model_run.specs.Step.{Step, outcome}
 use Rattle.model_run.specs.RunBack.{are_setresuids}
 use Rattle.model_report.proofs.Replays.{Breaks, Break, no_step, crowds, said, passed_lines, run_passes, run_of_within, run_after, runs_or_breaks, break_passes}
 use Rattle.model_report.proofs.Verdicts.{log_verdict, VerdictCause, verdict_cause, verdict_by}
@@ -18,7 +18,7 @@ use Rattle.model_report.specs.Causes.{IsLimited, by_world, by_log, by_row, by_li
 use Rattle.model_report.specs.Command.{Command, Replay, Audit, Later, NoForm, command_of, files_of, query_of}
 use Rattle.model_report.specs.Laws.{EachByItsCause}
 use Rattle.model_report.specs.Query.{Query}
-use Rattle.model_report.specs.Replay.{Report, replayed, by_end, stopped, impossible, limit_hit, after}
+use Rattle.model_report.specs.Replay.{Report, exceeded, replayed, by_end, stopped, impossible, limit_hit, after}
 use Rattle.model_report.specs.Report.{report, command_report, files_report, text_report, log_report, replay_of, answered, go_on, verdict}
 use Rattle.model_report.specs.Report.{verdict_after, start_lines, bad_world_text}
 use Rattle.model_report.specs.Report as report
@@ -133,10 +133,10 @@ module _ (words : List (List ℕ)) (bytes : List ℕ → List ℕ) (w : World) w
   caused_by_run s query AtEnd asked comes = caused_at_end s query asked comes
   caused_by_run s query (Stops stop) asked comes = caused_at_stop s query stop comes
 
-  -- and one whose replay breaks off at an event
-  cause_of_break : (reading : Reading) (begins : Begins words bytes w reading) (breaks : Breaks w w.start reading.events)
-      → (why : Break w breaks.state breaks.event.event) → Cause words bytes (said w breaks.state breaks.event why).status
-  cause_of_break reading begins breaks (no_step none) = record {
+  -- a break at an event that is no step, and one at an event that leads past a limit
+  abbrev pub impossible_at : (reading : Reading) → Begins words bytes w reading → (breaks : Breaks w w.start reading.events)
+      → ((after : State) → ¬ Step w breaks.state breaks.event.event after) → IsImpossible words bytes
+  impossible_at reading begins breaks none = record {
     world = w;
     state = breaks.state;
     before = breaks.before;
@@ -147,20 +147,28 @@ module _ (words : List (List ℕ)) (bytes : List ℕ → List ℕ) (w : World) w
     run = breaks.run;
     no_step = none;
   }
-  cause_of_break reading begins breaks (crowds s' l goes over) =
-      by_step l (record {
-        world = w;
-        state = breaks.state;
-        before = breaks.before;
-        event = breaks.event;
-        later = breaks.later;
-        ending = reading.ending;
-        begins = subst (λ (es : List Placed). Begins words bytes w (record { events = es; ending = reading.ending })) breaks.cut begins;
-        run = breaks.run;
-        after = s';
-        step = goes;
-        over = over;
-      })
+
+  abbrev pub crowded_at : (reading : Reading) → Begins words bytes w reading → (breaks : Breaks w w.start reading.events) → (s : State) (l : Limited)
+      → Step w breaks.state breaks.event.event s → exceeded s ≡ Some l → IsCrowded words bytes l
+  crowded_at reading begins breaks s l goes over = record {
+    world = w;
+    state = breaks.state;
+    before = breaks.before;
+    event = breaks.event;
+    later = breaks.later;
+    ending = reading.ending;
+    begins = subst (λ (es : List Placed). Begins words bytes w (record { events = es; ending = reading.ending })) breaks.cut begins;
+    run = breaks.run;
+    after = s;
+    step = goes;
+    over = over;
+  }
+
+  -- and one whose replay breaks off at an event
+  cause_of_break : (reading : Reading) (begins : Begins words bytes w reading) (breaks : Breaks w w.start reading.events)
+      → (why : Break w breaks.state breaks.event.event) → Cause words bytes (said w breaks.state breaks.event why).status
+  cause_of_break reading begins breaks (no_step none) = impossible_at reading begins breaks none
+  cause_of_break reading begins breaks (crowds s l goes over) = by_step l (crowded_at reading begins breaks s l goes over)
 
   caused_by_break : (reading : Reading) (query : Option Query) (begins : Begins words bytes w reading) → Breaks w w.start reading.events
       → Cause words bytes (answered query (text_says_more (bytes begins.names.world)) w reading).status

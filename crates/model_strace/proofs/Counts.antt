@@ -69,7 +69,7 @@ after_once most r a is = within_more holds most (none r + most) a (omega arith) 
 
 -- ---- held lines
 -- without the one that is found there is one less
-one_less : (pid : ℕ) (lines : List Line) (l : Line) → find (is_line_of pid) lines ≡ Some l → length (without_first pid lines) + 1 ≡ length lines
+pub one_less : (pid : ℕ) (lines : List Line) (l : Line) → find (is_line_of pid) lines ≡ Some l → length (without_first pid lines) + 1 ≡ length lines
 one_less pid [] l found = absurd (cc)
 one_less pid (x ∷ lines) l found =
     let later : find (is_line_of pid) lines ≡ Some l → length (without_first pid lines) + 1 ≡ length lines = one_less pid lines l in

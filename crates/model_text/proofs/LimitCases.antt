@@ -6,10 +6,9 @@ use Rattle.cm_base.specs.declared.faults.Table.TheVariants as table
 use Rattle.cm_base.specs.declared.faults.WorldFault.TheVariants as fault
 use Rattle.cm_base.specs.declared.limited.Limited.TheVariants as limit
 use Rattle.model_cred.specs.Space.{level}
-use Rattle.model_text.proofs.ProcessCases.{of_row}
 use Rattle.model_text.proofs.WorldCases.{world_on_literals}
-use Rattle.model_text.specs.ProcessText.{process_row, process_key_checks}
-use Rattle.model_text.specs.Refusal.{Cause, Fault, Limit, Refusal, At, Past, first_standing, read_rows}
+use Rattle.model_text.specs.ProcessText.{process_key_checks}
+use Rattle.model_text.specs.Refusal.{Fault, Limit, Refusal, At, Past, first_standing, read_rows}
 use Rattle.model_text.specs.SpaceText.{Declared, none_declared, space_row}
 use Rattle.model_text.specs.WorldText.{table_world}
 use Rattle.toml.specs.Data.{Data, string, integer, array, table as a_table, Items, no_items, item, Members, no_members, member}

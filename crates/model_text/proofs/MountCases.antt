@@ -1,10 +1,10 @@
 -- Worked cases, by computation, of the mounts that a world's text declares: keys, defaults, each fault, their order.
-use Rattle.std.proofs.Common.{◌≡◌, ℕ, true, false, List, [], ◌∷◌, ◌++◌, map, None, Some, refl}
+use Rattle.std.proofs.Common.{◌≡◌, ℕ, true, List, [], ◌∷◌, ◌++◌, map, Some, refl}
 use Rattle.std.specs.Prelude.{codes}
 use Rattle.cm_base.specs.declared.faults.Table.TheVariants as table
 use Rattle.cm_base.specs.declared.faults.WorldFault.{WorldFault}
 use Rattle.cm_base.specs.declared.faults.WorldFault.TheVariants as fault
-use Rattle.model_cred.specs.Files.{Mount, initial_pair, plain_mount}
+use Rattle.model_cred.specs.Files.{Mount, plain_mount}
 use Rattle.model_cred.specs.IdMap.{initial_map}
 use Rattle.model_cred.specs.Space.{first_spaces}
 use Rattle.model_text.proofs.SpaceCases.{extent, of_space, plain}

@@ -1,13 +1,13 @@
 -- How the rows of a world's tables are read: what each row keeps they keep, they are no more than the limit, and a row that is
 -- read passes each check.
-use Rattle.std.proofs.Common.{◌≡◌, ℕ, ◌+◌, ◌<◌, ◌≤◌, Bool, true, false, cond, List, [], ◌∷◌, Option, Some, None, Ok, Err, Result, refl, sym, ap, subst, arith}
+use Rattle.std.proofs.Common.{◌≡◌, ℕ, ◌+◌, ◌≤◌, Bool, true, false, cond, List, [], ◌∷◌, Option, Some, None, Ok, Err, Result, refl, ap, subst, arith}
 use Rattle.std.proofs.Common.{nat_lt}
 use Rattle.cm_base.specs.Limited.{limit_number}
 use Rattle.cm_base.specs.declared.faults.Table.{Table}
 use Rattle.cm_base.specs.declared.limited.Limited.{Limited}
-use Rattle.model_text.specs.Refusal.{Cause, Refusal, Past, first_standing, in_row, read_rows, rows_from, row_of, then_read, unless}
+use Rattle.model_text.specs.Refusal.{Cause, Refusal, Past, first_standing, in_row, read_rows, rows_from, then_read, unless}
 use Rattle.model_text.specs.Toml.{count}
-use Rattle.toml.specs.Data.{Data, table, Items, no_items, item, Members}
+use Rattle.toml.specs.Data.{table, Items, no_items, item, Members}
 
 -- ---- one step after another
 -- what is read after a step comes of what that gave

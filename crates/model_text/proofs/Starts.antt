@@ -1,6 +1,6 @@
 -- The world that a text declares: how its parts are read, that its pids ascend, and that it is within the limits.
-use Rattle.std.proofs.Common.{◌≡◌, ℕ, suc, ◌+◌, ◌<◌, ◌≤◌, ◌==◌, ◌&&◌, not, Bool, true, false, cond, length, List, [], ◌∷◌, ◌++◌, Option, Some, None, Ok, Err}
-use Rattle.std.proofs.Common.{Result, refl, sym, ap, ◌∙◌, subst, arith, All, nat_lt}
+use Rattle.std.proofs.Common.{◌≡◌, ℕ, ◌+◌, ◌≤◌, Bool, true, false, cond, length, List, [], ◌∷◌, ◌++◌, Option, Some, None, Ok, Err}
+use Rattle.std.proofs.Common.{Result, refl, ap, subst, arith}
 use Rattle.std.specs.Prelude.{codes}
 use Rattle.std.specs.Str.{is_utf8}
 use Rattle.cm_base.specs.Limited.{limit_number}
@@ -8,21 +8,20 @@ use Rattle.cm_base.specs.declared.faults.Table.TheVariants as table
 use Rattle.cm_base.specs.declared.faults.WorldFault.TheVariants.{Toml}
 use Rattle.cm_base.specs.declared.limited.Limited.TheVariants as limit
 use Rattle.cm_filter.specs.Filters.{Filter}
-use Rattle.model_cred.proofs.Lookups.{alive_cons}
-use Rattle.model_cred.proofs.Orders.{AscendsFrom, ascends_forth, ascends_back, insert_ascends}
+use Rattle.model_cred.proofs.Orders.{insert_ascends}
 use Rattle.model_cred.specs.Files.{Mount, FileRow}
-use Rattle.model_cred.specs.Process.{Process, Ascends, process_at, is_alive, insert_process}
+use Rattle.model_cred.specs.Process.{Process, Ascends, is_alive, insert_process}
 use Rattle.model_cred.specs.World.{World}
-use Rattle.model_text.proofs.Rows.{then_ok, in_row_ok, unless_ok, none_stands, NoneStands, any_rows, rows_keep, rows_count, read_ok}
+use Rattle.model_text.proofs.Rows.{then_ok, unless_ok, none_stands, NoneStands, any_rows, rows_keep, rows_count, read_ok}
 use Rattle.model_text.specs.FileText.{file_row}
 use Rattle.model_text.specs.FilterText.{filter_row}
 use Rattle.model_text.specs.Keys.{key_checks, shape_checks}
 use Rattle.model_text.specs.MountText.{mount_row, root_alone}
 use Rattle.model_text.specs.ProcessText.{process_row, process_checks, process_declared, process_key_checks}
-use Rattle.model_text.specs.Refusal.{Cause, Refusal, At, Past, first_standing, in_row, read_rows, rows_from, then_read, unless}
-use Rattle.model_text.specs.SpaceText.{Declared, none_declared, space_row, space_checks, space_declared, space_keys, name_of}
+use Rattle.model_text.specs.Refusal.{Refusal, At, Past, first_standing, in_row, read_rows, unless}
+use Rattle.model_text.specs.SpaceText.{Declared, none_declared, space_row, space_checks, space_keys}
 use Rattle.model_text.specs.Toml.{table_of}
-use Rattle.model_text.specs.WorldText.{WorldText, Reads, world_text, read_text, text_as, document_world, table_world, whole_keys, form_of_row, rows_at}
+use Rattle.model_text.specs.WorldText.{Reads, world_text, read_text, text_as, document_world, table_world, whole_keys, form_of_row, rows_at}
 use Rattle.toml.specs.Data.{Members, get_member}
 use Rattle.toml.specs.Parse.{parse_document}
 

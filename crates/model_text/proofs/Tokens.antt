@@ -22,11 +22,11 @@ plain_above byte above =
 
 -- ---- the first token
 -- a byte that nothing goes on with
-ends_here : (b : ℕ) (text : List ℕ) → is_blank b ≡ false → goes_on text ≡ false → tokens_of (b ∷ text) ≡ (b ∷ []) ∷ tokens_of text
+pub ends_here : (b : ℕ) (text : List ℕ) → is_blank b ≡ false → goes_on text ≡ false → tokens_of (b ∷ text) ≡ (b ∷ []) ∷ tokens_of text
 ends_here b text here ends = rw (here, ends) refl
 
 -- a byte before a text that goes on
-extends : (b : ℕ) (text token : List ℕ) (others : Tokens) → is_blank b ≡ false → goes_on text ≡ true → tokens_of text ≡ token ∷ others
+pub extends : (b : ℕ) (text token : List ℕ) (others : Tokens) → is_blank b ≡ false → goes_on text ≡ true → tokens_of text ≡ token ∷ others
     → tokens_of (b ∷ text) ≡ (b ∷ token) ∷ others
 extends b text token others here on rest = rw (here, on, rest) refl
 

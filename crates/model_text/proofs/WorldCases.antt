@@ -1,5 +1,5 @@
 -- Worked cases of the world's text, by computation: the whole table, the order of the tables, and whole worlds.
-use Rattle.std.proofs.Common.{◌≡◌, ℕ, true, false, List, [], ◌∷◌, ◌++◌, map, None, Some, refl}
+use Rattle.std.proofs.Common.{◌≡◌, ℕ, List, [], ◌∷◌, ◌++◌, map, None, refl}
 use Rattle.std.specs.Prelude.{⊤, codes}
 use Rattle.std.specs.Str.{is_utf8, chars}
 use Rattle.cm_base.specs.declared.faults.Table.TheVariants as table
@@ -14,7 +14,7 @@ use Rattle.model_cred.specs.World.{World, Script, Strace}
 use Rattle.model_text.specs.FileText.{mode_of_text, attribute_of_text}
 use Rattle.model_text.specs.MountText.{root_alone}
 use Rattle.model_text.specs.NameText.{is_name, is_path}
-use Rattle.model_text.specs.WorldText.{WorldText, Reads, Bad, Exceeds, world_text}
+use Rattle.model_text.specs.WorldText.{WorldText, Reads, Bad, world_text}
 use Rattle.model_text.proofs.Defaults.{default_cred}
 use Rattle.toml.proofs.OnLiterals.{toml_on_literals}
 

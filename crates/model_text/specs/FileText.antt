@@ -1,5 +1,5 @@
 -- The files that a world's text declares (choice): a row's keys, its faults, and the file that it adds to those before it.
-use Rattle.std.specs.Prelude.{ℕ, codes, ◌&&◌, not, nat_le, is_none, is_some, length, slice_get, Bool, false, List, [], ◌∷◌, ◌++◌}
+use Rattle.std.specs.Prelude.{ℕ, codes, ◌&&◌, not, nat_le, is_none, is_some, length, slice_get, Bool, List, [], ◌∷◌, ◌++◌}
 use Rattle.std.specs.Prelude.{Option, Some, None, Result, option_map, option_and_then, unwrap_or, if◌then◌else◌}
 use Rattle.std.specs.Result.{result_ok}
 use Rattle.cm_base.specs.Number.{read_octal_of}

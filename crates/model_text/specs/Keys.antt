@@ -1,9 +1,8 @@
 -- The keys that a table of a world's text has, with the kinds of their values; and what a table lacks of them (choice). These
 -- faults are the same for all tables.
-use Rattle.std.specs.Prelude.{ℕ, codes, ◌+◌, ◌-◌, ◌==◌, ◌&&◌, ◌||◌, Bool, true, false, not, is_some, map, List, [], ◌∷◌, ◌++◌, Option, Some, None}
+use Rattle.std.specs.Prelude.{ℕ, ◌-◌, ◌==◌, ◌&&◌, ◌||◌, Bool, true, false, not, is_some, map, List, [], ◌∷◌, ◌++◌, Option, Some, None}
 use Rattle.std.specs.List.{list_all, list_any}
 use Rattle.cm_base.specs.Limits.{id_count, last_pid, greatest_number}
-use Rattle.cm_base.specs.declared.faults.WorldFault.{WorldFault}
 use Rattle.cm_base.specs.declared.faults.WorldFault.TheVariants.{UnknownKey, MissingKey, WrongType, BadNumber}
 use Rattle.model_text.specs.Refusal.{Cause, Fault}
 use Rattle.model_text.specs.Toml.{has_key, has_only, all_items, count, number_from, is_text}

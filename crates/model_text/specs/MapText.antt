@@ -1,5 +1,5 @@
 -- The id maps that a row declares (user_namespaces(7)): arrays of extents, each `[inside, outside, length]`.
-use Rattle.std.specs.Prelude.{ℕ, Bool, false, not, is_none, List, [], ◌∷◌, Option, Some, None, option_map, unwrap_or}
+use Rattle.std.specs.Prelude.{ℕ, Bool, false, not, List, [], ◌∷◌, Option, Some, None, option_map, unwrap_or}
 use Rattle.cm_base.specs.Limits.{greatest_number}
 use Rattle.model_cred.specs.IdMap.{Extent, extents_of}
 use Rattle.model_cred.specs.MapFault.{is_map}

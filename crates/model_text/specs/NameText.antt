@@ -1,5 +1,5 @@
 -- The rules of declared names and paths (choice), and which of earlier rows has a name or a path.
-use Rattle.std.specs.Prelude.{ℕ, codes, ◌&&◌, ◌||◌, ◌==◌, Bool, not, nat_le, bytes_eq, length, position, List, [], ◌∷◌, Option}
+use Rattle.std.specs.Prelude.{ℕ, codes, ◌&&◌, ◌||◌, ◌==◌, Bool, not, nat_le, bytes_eq, length, List}
 use Rattle.std.specs.List.{list_all, list_any}
 
 -- a letter, a digit, `_`, `-` or `.`

@@ -8,7 +8,7 @@ use Rattle.model_cred.specs.World.{World}
 use Rattle.model_text.specs.Arguments.{arguments_of, spaced_texts}
 pub use Rattle.model_text.specs.Hex.{hex_set, hex_bits}
 pub use Rattle.model_text.specs.SpaceToken.{space_token}
-pub use Rattle.model_text.specs.Token.{id_text, res_text}
+pub use Rattle.model_text.specs.Token.{res_text}
 
 -- numbers, joined by commas
 abbrev pub comma_list : List ℕ → List ℕ

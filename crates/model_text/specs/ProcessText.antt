@@ -1,6 +1,6 @@
 -- The processes that a world's text declares (choice): a row's keys, its faults, and the process that it adds to those before
 -- it. The forebear of a process is its declared parent.
-use Rattle.std.specs.Prelude.{ℕ, codes, ◌==◌, ◌&&◌, Bool, true, not, nat_lt, is_none, List, [], ◌∷◌, ◌++◌, Option, Some, None, Result, option_map}
+use Rattle.std.specs.Prelude.{ℕ, codes, ◌==◌, ◌&&◌, Bool, true, not, nat_lt, is_none, List, [], ◌∷◌, ◌++◌, Option, Some, None, Result}
 use Rattle.std.specs.Prelude.{unwrap_or, if◌then◌else◌}
 use Rattle.cm_base.specs.CapSet.{full, none, is_within}
 use Rattle.cm_base.specs.Limited.{limit_number}

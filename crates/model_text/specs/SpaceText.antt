@@ -1,6 +1,6 @@
 -- The user namespaces, called spaces here, that a world's text declares (choice): a row's keys, its faults, and the space
 -- that it adds to those before it.
-use Rattle.std.specs.Prelude.{ℕ, codes, ◌||◌, ◌&&◌, not, nat_lt, bytes_eq, is_none, Bool, List, []}
+use Rattle.std.specs.Prelude.{ℕ, codes, ◌||◌, not, nat_lt, bytes_eq, is_none, Bool, List, []}
 use Rattle.std.specs.Prelude.{◌∷◌, ◌++◌, Option, Some, None, Result, unwrap_or, if◌then◌else◌}
 use Rattle.cm_base.specs.declared.faults.WorldFault.TheVariants.{BadName, TwiceNamed, NoSuchParent, BadMap, NotMapped, TooDeep}
 use Rattle.model_cred.specs.Space.{Space, Spaces, first_spaces, level, space_of}

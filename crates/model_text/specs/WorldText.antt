@@ -17,7 +17,7 @@ use Rattle.model_text.specs.ProcessText.{further_process_keys, process_row}
 use Rattle.model_text.specs.Refusal.{Refusal, At, Past, first_standing, in_row, read_rows, then_read, unless}
 use Rattle.model_text.specs.SpaceText.{none_declared, space_row}
 use Rattle.model_text.specs.Toml.{has_key_of, is_text, array_items, table_of}
-use Rattle.toml.specs.Data.{Data, array, Items, no_items, item, Members, get_member}
+use Rattle.toml.specs.Data.{Data, Items, no_items, item, Members, get_member}
 use Rattle.toml.specs.Data as toml
 use Rattle.toml.specs.Parse.{parse_document}
 

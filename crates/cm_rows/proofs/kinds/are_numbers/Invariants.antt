@@ -1,5 +1,5 @@
 use Rattle.std.proofs.Common.{◌≡◌, drop}
-use Rattle.model_text.specs.Keys.{is_number, is_list_of, is_string}
+use Rattle.model_text.specs.Keys.{is_number}
 use Rattle.model_text.specs.Toml.{all_items}
 use Rattle.toml.specs.View.{items_view}
 use Rattle.cm_rows.proofs.kinds.are_numbers.Given as goal

@@ -2,7 +2,7 @@ use Rattle.std.proofs.Common.{sym, ◌∙◌, ap, arith, not, filter}
 use Rattle.cm_strace_parts.specs.Lists.{Fd, fd_before, fds_of, descriptors_in}
 use Rattle.cm_strace_parts.proofs.ListOrders.{changed_here, none_at, own_ascends, put_ordered}
 use Rattle.cm_strace_parts.proofs.Lists.{left_in, none_left_in, none_of}
-use Rattle.cm_strace_parts.proofs.Order.{at_within, filter_ascends}
+use Rattle.cm_strace_parts.proofs.Order.{filter_ascends, found_below}
 use Rattle.cm_strace_parts.proofs.files.execute.Goals as goal
 use Rattle.model_strace.specs.Parts.{is_closed_at_exec}
 
@@ -11,8 +11,7 @@ place-at-requires c = rw c.deref.ensures.value c.requires.processes
 
 pub index_mut-requires : goal.index_mut-requires
 index_mut-requires c =
-    let within = at_within _ c.deref-2.result.now c.place-at.result (sym c.is_at.ensures ∙ c.if-is_at.true) in
-    omega (arith, within, c.deref-2.ensures.len)
+    found_below _ c.deref-2.result.now c.place-at.result _ _ c.is_at.ensures c.if-is_at.true c.deref-2.ensures.len
 
 pub drop_empty-requires : goal.drop_empty-requires
 drop_empty-requires c =

@@ -1,8 +1,8 @@
-use Rattle.std.proofs.Common.{sym, ◌∙◌, ap, arith, List}
+use Rattle.std.proofs.Common.{sym, ◌∙◌, ap, List}
 use Rattle.cm_strace_parts.specs.Lists.{Fd, fd_before, files_below}
 use Rattle.cm_strace_parts.proofs.Among.{put_all_alone}
 use Rattle.cm_strace_parts.proofs.ListOrders.{ascends_at, changed_here, inserted_here}
-use Rattle.cm_strace_parts.proofs.Order.{at_within, cut_within}
+use Rattle.cm_strace_parts.proofs.Order.{cut_below, found_below}
 use Rattle.cm_strace_parts.proofs.Orders.{fd_apart}
 use Rattle.cm_strace_parts.proofs.files.put_fds.Goals as goal
 use Rattle.model_strace.specs.Parts.{put_all}
@@ -12,8 +12,7 @@ place-at-requires c = rw c.deref.ensures.value c.requires.ordered.processes
 
 pub index_mut-requires : goal.index_mut-requires
 index_mut-requires c =
-    let within = at_within _ c.deref-2.result.now c.place-at.result (sym c.is_at.ensures ∙ c.if-is_at.true) in
-    omega (arith, within, c.deref-2.ensures.len)
+    found_below _ c.deref-2.result.now c.place-at.result _ _ c.is_at.ensures c.if-is_at.true c.deref-2.ensures.len
 
 pub put_all-requires-clause-ascends : goal.put_all-requires-clause-ascends
 put_all-requires-clause-ascends c =
@@ -23,8 +22,7 @@ put_all-requires-clause-ascends c =
 
 pub insert-requires : goal.insert-requires
 insert-requires c =
-    let within = cut_within (files_below c.args.pid) c.deref.result.now c.place-at.result c.place-at.ensures in
-    omega (arith, within, c.deref.ensures.len)
+    cut_below (files_below c.args.pid) c.deref.result.now c.place-at.result _ c.place-at.ensures c.deref.ensures.len
 
 pub returns-in_ok-put_all-clause-items : goal.returns-in_ok-put_all-clause-items
 returns-in_ok-put_all-clause-items c =

@@ -1,14 +1,13 @@
-use Rattle.std.proofs.Common.{sym, ◌∙◌, arith}
+use Rattle.std.proofs.Common.{sym, ◌∙◌}
 use Rattle.cm_strace_parts.specs.Order.{below_by}
-use Rattle.cm_strace_parts.proofs.Order.{cut_within}
+use Rattle.cm_strace_parts.proofs.Order.{cut_below}
 use Rattle.cm_strace_parts.proofs.Orders.{put_instead_by, put_between_by, put_ascends_by}
 use Rattle.cm_strace_parts.proofs.ordered.put.Goals as goal
 
 pub insert-requires : goal.insert-requires
 insert-requires g c =
-    let within = cut_within (below_by g.T.Numbered.number c.number-number.result) c.deref.result.now c.place-at.result
-    c.place-at.ensures in
-    omega (arith, within, c.deref.ensures.len)
+    cut_below (below_by g.T.Numbered.number c.number-number.result) c.deref.result.now c.place-at.result _ c.place-at.ensures
+    c.deref.ensures.len
 
 pub returns-then-is_at-clause-items : goal.returns-then-is_at-clause-items
 returns-then-is_at-clause-items g c =

@@ -1,6 +1,6 @@
 use Rattle.std.proofs.Common.{◌≡◌, ◌+◌, ◌∙◌, List, Some, ap, find, get_or, length, map, sym}
 use Rattle.cm_strace.proofs.Dues.{first_of, line_at, pids_gone_on, still_kept, queue_by}
-use Rattle.cm_strace.proofs.Taken.{one_fewer}
+use Rattle.model_strace.proofs.Counts.{one_less}
 use Rattle.model_strace.proofs.HeldLines.{found_pid}
 use Rattle.cm_strace.proofs.waiting.Waiting.take_first.Goals as goal
 use Rattle.model_strace.specs.Lines.{Line, is_line_of}
@@ -36,5 +36,5 @@ returns-clause-rest c =
 pub returns-clause-fewer : goal.returns-clause-fewer
 returns-clause-fewer c =
     rw (← c.self.view_is) (ap (λ (ls : List Line). length ls + 1) (rw c.deref.ensures.value at c.in_ok-at.ensures.rest)
-    ∙ one_fewer c.in_ok-due.due.pid (untaken c.self.inside.lines.now c.self.inside.taken.items)
+    ∙ one_less c.in_ok-due.due.pid (untaken c.self.inside.lines.now c.self.inside.taken.items)
     (get_or c.self.inside.lines.now c.in_ok-at.at c.index-self-at.result) (found c))
