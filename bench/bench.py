@@ -11,9 +11,10 @@ PART is one of these, all being measured where it is left out:
   ratio    a log of 64 MiB against `tuned` and `replay` of plain_replay.rs, once the reports are the same byte for byte;
            beside the least seconds the most, and the least and the most of the ratios to tuned, turn by turn
   linear   logs of 1, 4, 16 and 64 MiB, of strace 32 and 64 MiB: milliseconds for each MiB. Of strace it is measured for all
-           three kinds: what takes a time that isn't linear in the held lines, or in the followed descriptors, shows itself
+           four kinds: what takes a time that isn't linear in the held lines, or in the followed descriptors, shows itself
            between the last two
   scan     a log of strace of 64 MiB: seconds of `grep -c` for one of its words, of `tuned` and of credaudit, and MB a second
+  recorded the same of a recording of find(1) that is made first; only where it is asked for (needs strace and find)
   memory   the peak (VmHWM of /proc/PID/status, read 500 times a second) on the log of 64 MiB
   world    the worlds of worlds.py with an empty log, one of 1 MiB for each table, against `tuned`, once the reports are the
            same byte for byte
@@ -32,6 +33,7 @@ setresuid and strace; scan takes strace where KIND is none of strace):
   execve      children that execute files, of 4,096 on 64 mounts
   strace      as a recording of strace -f is: 1,000 live processes, most of whose calls aren't listed or aren't followed;
               births, exits, execves and some calls on credentials; up to 4,096 lines at a time stand before their birth
+  strace-few            the same of 8 live processes, as a daemon and its children are
   strace-held           the same with as many held lines 10 times as often, and up to 65,536 followed descriptors
   strace-held-quarter   the same with a quarter of both
 
@@ -54,7 +56,7 @@ MIB = 1 << 20
 SIZES, STRACE_SIZES = (1, 4, 16, 64), (32, 64)
 PARTS = ("ratio", "linear", "scan", "memory", "world", "bounds")
 # Of each kind of log the number of events, of strace that of lines, which are more than fill 64 MiB.
-STRACE = {"strace": 1000000, "strace-held": 1150000, "strace-held-quarter": 1150000}
+STRACE = {"strace": 1000000, "strace-few": 1000000, "strace-held": 1150000, "strace-held-quarter": 1150000}
 KINDS = {"setresuid": 2700000, "setuid": 3400000, "mixed": 3100000, "spaces": 3300000, "execve": 2100000, **STRACE}
 # Where a log may be cut: after a LF; one of strace after a line before which no line is held.
 CUT, STRACE_CUT = b"\n", b"\n100 gettid() = 100\n"
@@ -194,9 +196,43 @@ def linear(logs, runs):
     print()
 
 
-def scan(logs, runs):
+class Recorded:
+    """64 MiB of a recording of find(1), which reads names and states of files below /, and the world of its process. It is
+    made anew, by the options that docs/STRACE.md names, where FOLDER has none."""
+
+    def __init__(self, plain, program, work):
+        self.kind, self.plain, self.program = "recorded", plain, program
+        self.files = {64: os.path.join(work, "recorded.log")}
+        if not os.path.exists(self.files[64]):
+            self.make(self.files[64])
+        with open(self.files[64], "rb") as log:
+            pid = int(log.readline().split()[0])
+        keys = f'pid = {pid}\nuid = {os.getuid()}\ngid = {os.getgid()}\n'
+        self.world = write(os.path.join(work, "recorded.toml"), f'log = "strace"\n[[process]]\n{keys}')
+
+    def make(self, name):
+        whole = name + ".whole"
+        words = ["strace", "-f", "-v", "-s", "65535", "-o", whole, "find", "/", "-xdev", "-type", "f", "-size", "-1k"]
+        with subprocess.Popen(words, stdout=subprocess.DEVNULL, stderr=subprocess.DEVNULL) as child:
+            while child.poll() is None and (not os.path.exists(whole) or os.path.getsize(whole) <= 64 * MIB):
+                time.sleep(0.1)
+            child.terminate()
+        with open(whole, "rb") as log:
+            text = log.read(64 * MIB)
+        os.remove(whole)
+        with open(name, "wb") as log:
+            log.write(text[:text.rindex(b"\n") + 1])
+
+    def commands(self, size):
+        return commands_for(self.world, self.files[size], self.plain, self.program)
+
+    def length(self):
+        return os.path.getsize(self.files[64])
+
+
+def scan(logs, runs, word="setresuid"):
     # grep counts nothing where its output is /dev/null, so a shell takes it
-    grep = ["sh", "-c", 'test "$(grep -c "$0" "$1")" -gt 0', "setresuid", logs.files[64]]
+    grep = ["sh", "-c", 'test "$(grep -c "$0" "$1")" -gt 0', word, logs.files[64]]
     every = seconds_of({"grep -c": grep, **logs.commands(64)}, runs)
     print(f"log of {logs.length()} bytes of {logs.kind} lines")
     print(f"{'program':24}{'seconds':>9}{'to':>9}{'MB of log/s':>13}")
@@ -237,6 +273,10 @@ def measure(program, asked, work):
             linear(Logs(one, plain, program, work), asked.runs)
     if "scan" in parts:
         scan(Logs(few[-1] if few[-1] in STRACE else "strace", plain, program, work), asked.runs)
+    if "recorded" in parts:
+        logs = Recorded(plain, program, work)
+        same_reports("a recording of find", logs.commands(64))
+        scan(logs, asked.runs, "openat")
     for kind in few if "memory" in parts else ():
         memory(Logs(kind, plain, program, work))
     if "world" in parts:
@@ -248,7 +288,7 @@ def measure(program, asked, work):
 def main():
     ask = argparse.ArgumentParser(usage="bench.py [--runs N] [--only PART] [--kind KIND] [--work FOLDER] [PROGRAM]")
     ask.add_argument("--runs", type=int, default=5)
-    ask.add_argument("--only", choices=PARTS)
+    ask.add_argument("--only", choices=(*PARTS, "recorded"))
     ask.add_argument("--kind", choices=KINDS)
     ask.add_argument("--work")
     ask.add_argument("program", nargs="?", default=BUILT)

@@ -1,7 +1,7 @@
-"""The worlds that bench.py measures with: those of its logs, those of bounds, and one of 1 MiB for each table. For plain_replay.rs too, so one
-key or header a line, and the tables in the order space, mount, file, process, filter.
+"""The worlds that bench.py measures with: those of its logs, those of bounds, and one of 1 MiB for each table. For
+plain_replay.rs too, so one key or header a line, and the tables in the order space, mount, file, process, filter.
 
-  worlds.py NAME      writes the world of that name to standard output
+  python3 worlds.py NAME      writes the world of that name to standard output
 """
 import sys
 
@@ -255,7 +255,7 @@ LOG_WORLDS = {
     "mixed": lambda: processes(p100="0"),
     "spaces": spaces_of_log,
     "execve": execve_of_log,
-    **dict.fromkeys(("strace", "strace-held", "strace-held-quarter"), strace_of_log),
+    **dict.fromkeys(("strace", "strace-few", "strace-held", "strace-held-quarter"), strace_of_log),
 }
 
 

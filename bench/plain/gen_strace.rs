@@ -1,5 +1,5 @@
-//! Logs of strace as recordings are: mostly calls that change no credential, of some 1,000 live processes; births of which
-//! the child's lines come first; and, where it is asked for, descriptors of map files that are followed.
+//! Logs of strace as recordings are: mostly calls that change no credential, of 8 or some 1,000 live processes; births of
+//! which the child's lines come first; and, where it is asked for, descriptors of map files that are followed.
 use crate::cred::Res;
 use crate::gen::Draws;
 use crate::lines::{Call, Event, Lists, PLAIN};
@@ -18,13 +18,14 @@ pub struct Sizes {
 }
 
 pub fn sizes(kind: &str) -> Option<Sizes> {
-    let (held, descriptors) = match kind {
-        "strace" => (4096, 0),
-        "strace-held" => (4096, 65_536),
-        "strace-held-quarter" => (1024, 16_384),
+    let (live, held, descriptors) = match kind {
+        "strace" => (1000, 4096, 0),
+        "strace-few" => (8, 64, 0),
+        "strace-held" => (1000, 4096, 65_536),
+        "strace-held-quarter" => (1000, 1024, 16_384),
         _ => return None,
     };
-    Some(Sizes { live: 1000, held, descriptors })
+    Some(Sizes { live, held, descriptors })
 }
 
 const ROOT: usize = 0; // pid 100, which gives birth to the first ones
@@ -371,7 +372,7 @@ impl<O: Write> Log<'_, O> {
             let (few, many) = (self.sizes.live, self.sizes.live + 20);
             let may_end = at > KEEPER && self.live[at].waits.is_none();
             match turn {
-                _ if turn % turns == 0 => self.births_with_held(48, self.sizes.held - 100)?,
+                _ if turn % turns == 0 => self.births_with_held(48, self.sizes.held.saturating_sub(100))?,
                 _ if turn % 100 == 0 && self.live.len() < few => {
                     let lines = self.d.below(8) as usize;
                     self.births_with_held(1, lines)?;
