@@ -1,5 +1,5 @@
 # make           proves and builds the program, runs its stored example and compares what it writes
-# make test      the gate: every proof, every must-fail edit, every test and the program's stored run
+# make test      the gate: every proof, every must-fail edit, every test and the program's stored runs
 # make install   puts the built program into $(DESTDIR)$(PREFIX)/bin
 # make clean     removes what was proved and built
 #

@@ -27,7 +27,7 @@ from dataclasses import replace
 
 from plain_rules import INITIAL, MINUS_ONE, SETFCAP, SYS_ADMIN, Refused, Rules, Space, State, unless, up
 from recordings import (ERRORS, FS_ID_LEFT, HEAD, OUTCOMES, Recordings, Tally, as_printed, credential_of, credentials,
-                        fields_from, fields_of, give_up, program_of, replay, row, runs_of)
+                        fields_from, fields_of, program_of, replay, row, runs_of)
 
 CALLS = (
     "setuid setreuid setresuid setfsuid setgid setregid setresgid setfsgid setgroups capset bset_drop amb_raise amb_lower"

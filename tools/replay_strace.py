@@ -6,9 +6,9 @@ kernel showed of it then.
   replay_strace.py --leave-out            how many lines are noticed, by these comparisons, where one is left out
 
 Each log is read by plain_strace.py and its events are run by plain_rules.py. Without --plain credaudit replays the log
-too. Compared are which processes live, and of each the user and group ids, the groups as a set, the five sets of capabilities, no_new_privs,
-and which of them stand in one user namespace. One line for each program. Status 0: all agree; 1: some differ, or a log
-isn't read to its end; 2: nothing could be compared.
+too. Compared are which processes live, and of each the user and group ids, the groups as a set, the five sets of
+capabilities, no_new_privs, and which of them stand in one user namespace. One line for each program. Status 0: all
+agree; 1: some differ, or a log isn't read to its end; 2: nothing could be compared.
 """
 import collections
 import glob

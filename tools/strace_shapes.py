@@ -61,6 +61,17 @@ STOPS = [
     ("a capability that strace doesn't know (made)", [
         "100 capset({version=_LINUX_CAPABILITY_VERSION_3, pid=0}, {effective=1<<CAP_CHOWN|0x20000000000,"
         " permitted=1<<CAP_CHOWN, inheritable=0}) = 0"], [], bad(1, "argument 2")),
+    ("a call that failed for its arguments", ["100 execve(0x1, NULL, NULL)           = -1 EFAULT (Bad address)"], [],
+     bad(1, "argument 1")),
+    ("a call that failed for its arguments", ["100 setgroups(70000, 0x7ffe0000)      = -1 EINVAL (Invalid argument)"], [],
+     bad(1, "argument 2")),
+    ("a call that failed for its arguments", [
+        "100 capset({version=_LINUX_CAPABILITY_VERSION_3, pid=0}, NULL) = -1 EFAULT (Bad address)"], [],
+     bad(1, "argument 2")),
+    ("a call that failed for its arguments", [
+        "100 prctl(PR_SET_KEEPCAPS, 18446744073709551615) = -1 EINVAL (Invalid argument)"], [], bad(1, "argument 2")),
+    ("-xx", ['100 execve("\\x2f\\x62\\x69\\x6e\\x2f\\x69\\x64", ["\\x69\\x64"], 0x7ffd8990e358 /* 35 vars */) = 0'], [],
+     bad(1, "argument 1")),
     ("-T", ["100 setuid(7)                         = 0 <0.000012>"], [], bad(1, "result")),
     ("--pidns-translation", [
         "100 vfork( <unfinished ...>",
@@ -81,6 +92,13 @@ PASSED_OVER = [
         "100 unshare(CLONE_NEWUSER)            = 0",
         '100 openat(AT_FDCWD</>, "/proc/self/uid_map", O_WRONLY|O_CLOEXEC) = 3</proc/100/uid_map>',
         '100 write(3</proc/100/uid_map>, "0 0 1\\n", 6) = 6'], ["1: 100 unshare = 0"], "end"),
+    ("-y, -yy", ['100 openat(3</proc/100>, "uid_map", O_WRONLY|O_CLOEXEC) = 4</proc/100/uid_map>'], [], "end"),
+    ("-xx and -p", [
+        '100 openat(AT_FDCWD, "\\x2f\\x70\\x72\\x6f\\x63\\x2f\\x73\\x65\\x6c\\x66\\x2f\\x75\\x69\\x64\\x5f\\x6d\\x61\\x70", O_WRONLY) = 3',
+        '100 write(3, "\\x30\\x20\\x30\\x20\\x31\\x0a", 6) = 6'], [], "end"),
+    ("-X raw, -e raw=", [
+        '100 openat(-100, "/proc/self/uid_map", 0x80001) = 3',
+        '100 write(3, "0 0 1\\n", 6)            = 6'], [], "end"),
     ("-X raw, -e raw=", ["100 prctl(0x8, 1)                     = 0"], [], "end"),
     ("-X raw, -e raw=", ["100 unshare(0x10000000)               = 0"], [], "end"),
     ("-X verbose", ["100 prctl(0x8 /* PR_SET_KEEPCAPS */, 1) = 0"], [], "end"),

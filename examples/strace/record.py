@@ -3,7 +3,7 @@
 
   record.py [--strace COMMAND] [--raw DIR] [NAME ..]     all of them where none is named
 
-COMMAND is another strace than the machine's own; then a folder has its version behind the program's name. DIR gets the
+COMMAND is another strace than the machine's own; then a folder has its version after the program's name. DIR gets the
 whole logs, with what the programs wrote, passwords and keys too, and the worlds that have their pids. To be run as
 root. Needs strace, overlayfs and Debian's packages that programs.py names. Nothing of the machine is changed: the
 programs run in namespaces of mounts, network, hostname and IPC of their own, with copies of /etc and /var that go away,
