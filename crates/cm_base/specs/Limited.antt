@@ -1,4 +1,4 @@
--- The limits of worlds and logs: their names, and the number that a count may reach (choice).
+-- The limits of what is read and of what is asked about: their names, and the number that a count may reach (choice).
 use Rattle.std.specs.Prelude.{ℕ, codes, List}
 use Rattle.cm_base.specs.declared.limited.Limited.{Limited}
 use Rattle.cm_base.specs.declared.limited.Limited.TheVariants as limit
@@ -15,6 +15,9 @@ limit_name limit.Files = codes "files"
 limit_name limit.Groups = codes "groups"
 limit_name limit.Held = codes "held"
 limit_name limit.Descriptors = codes "descriptors"
+limit_name limit.Family = codes "family"
+limit_name limit.Certificate = codes "certificate"
+limit_name limit.Run = codes "run"
 
 -- the number of a limit: it is hit where the count exceeds it
 abbrev pub limit_number : Limited → ℕ
@@ -28,3 +31,6 @@ limit_number limit.Files = 4096
 limit_number limit.Groups = 1024
 limit_number limit.Held = 4096
 limit_number limit.Descriptors = 65536
+limit_number limit.Family = 256
+limit_number limit.Certificate = 67108864
+limit_number limit.Run = 67108864

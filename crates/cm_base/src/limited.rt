@@ -1,4 +1,4 @@
-// The limits of worlds and logs, one table (choice).
+// The limits of what is read and of what is asked about, one table (choice).
 ghost use Rattle.std.specs.Prelude.{◌≡◌};
 ghost use Rattle.cm_base.specs.Limited.{limit_name, limit_number};
 
@@ -25,6 +25,12 @@ pub enum Limited {
     Held,
     /// The descriptors of a log that are followed.
     Descriptors,
+    /// The processes of a family that is asked about.
+    Family,
+    /// The bytes of a certificate's text.
+    Certificate,
+    /// The bytes of the text of a run.
+    Run,
 }
 
 impl Limited {
@@ -43,6 +49,9 @@ impl Limited {
             Limited::Groups => "groups",
             Limited::Held => "held",
             Limited::Descriptors => "descriptors",
+            Limited::Family => "family",
+            Limited::Certificate => "certificate",
+            Limited::Run => "run",
         }
     }
 
@@ -52,9 +61,9 @@ impl Limited {
     {
         match self {
             Limited::World | Limited::Line => 1_048_576,
-            Limited::Log => 67_108_864,
+            Limited::Log | Limited::Certificate | Limited::Run => 67_108_864,
             Limited::Processes | Limited::Files | Limited::Held => 4096,
-            Limited::Spaces => 256,
+            Limited::Spaces | Limited::Family => 256,
             Limited::Mounts => 64,
             Limited::Groups => 1024,
             Limited::Descriptors => 65_536,

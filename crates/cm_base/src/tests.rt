@@ -191,6 +191,9 @@ fn faults_tables_and_limits_have_their_words(rt: HostRuntime) {
         (Limited::Groups, "groups", 1024),
         (Limited::Held, "held", 4096),
         (Limited::Descriptors, "descriptors", 65_536),
+        (Limited::Family, "family", 256),
+        (Limited::Certificate, "certificate", 67_108_864),
+        (Limited::Run, "run", 67_108_864),
     ] {
         assert_eq!(rt; limit.name(), name);
         assert_eq!(rt; limit.number(), number);

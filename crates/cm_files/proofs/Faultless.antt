@@ -1,6 +1,6 @@
 -- Mounts and files without a fault: each row's mount is there, each interpreter is a row that is no script, and no two rows
 -- have one path.
-use Rattle.std.proofs.Common.{◌≡◌, ℕ, zero, suc, ◌+◌, ◌<◌, ◌++◌, true, false, not, length, take, drop, List, [], ◌∷◌, Option, Some, None}
+use Rattle.std.proofs.Common.{◌≡◌, ℕ, zero, suc, ◌+◌, ◌<◌, ◌^◌, ◌++◌, true, false, not, length, take, drop, List, [], ◌∷◌, Option, Some, None}
 use Rattle.std.proofs.Common.{refl, sym, ap, ◌∙◌, arith, get_or, append_assoc, subst}
 use Rattle.std.specs.Prelude.{All, IfSome, IsSomeAnd, bytes_eq, map, nat_lt, slice_get}
 use Rattle.std.specs.Option.{option_or}
@@ -92,15 +92,16 @@ module _ (mounts : ℕ) (rows : List FileRow) (none : first_fault mounts [] rows
 
 -- what mounts and rows that keep what they should, without a fault, with their index and their views, keep as a table
 pub keeps_table : (mounts : List Mount) (rows : List FileRow) (order : List ℕ) (views : List FileView) → All KeepsMount mounts → All KeepsRow rows
-    → first_fault (length mounts) [] rows ≡ None → IsIndex rows (length rows) order → views ≡ map (seen_on mounts) rows
+    → length rows < 2 ^ 32 → first_fault (length mounts) [] rows ≡ None → IsIndex rows (length rows) order → views ≡ map (seen_on mounts) rows
     → KeepsTable (record { mounts = mounts; rows = rows }) order views
-keeps_table mounts rows order views all_mounts all_rows none index seen = record {
+keeps_table mounts rows order views all_mounts all_rows few none index seen = record {
   keeps = record {
     mounts = all_mounts;
     rows = all_rows;
     mounted = all_mounted (length mounts) rows none;
     interpreters = all_interpreters (length mounts) rows none;
   };
+  few = few;
   paths_differ = paths_differ (length mounts) rows none;
   index = index;
   seen = seen;

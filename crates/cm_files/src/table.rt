@@ -86,6 +86,13 @@ impl FileTable {
         &self.rows
     }
 
+    /// How many files are declared, fewer than 2^32. It takes no memory.
+    pub fn count(&self) -> u32
+        ensures { result ≡ length self.now.rows }
+    {
+        self.rows.len() as u32
+    }
+
     /// The mounts, as they were handed in. It takes no memory.
     pub fn mounts(&self) -> &[Mount]
         ensures value { result.now ≡ self.now.mounts }

@@ -6,6 +6,7 @@ use Rattle.std.proofs.Common.{nat_cmp, get_or, length, Result, Ok, Err}
 use Rattle.std.specs.List.{All, AllPairs, dedup, dedup_from, list_any}
 use mathlib.Core.Bool.{Bool-set}
 use mathlib.Core.Logic.{∥∥₁_elim}
+use Rattle.std.proofs.Math.Bridge.{le_prop}
 use Rattle.std.specs.List.Sorted.{IsBinarySearchResult, IsPermutation, IsSorted}
 use Rattle.std.specs.Result.{is_ok, MatchResult}
 use Rattle.std.proofs.Math.Dec.{eqb}
@@ -174,3 +175,12 @@ said ids x (Err i) none = sym (list_any_none (λ other. other == x) ids (λ k d 
 -- what a search by halves says of ids that ascend: whether the id is one of them
 pub search_says : (ids : List ℕ) (x : ℕ) (r : Result ℕ ℕ) → ∥ AscendFrom 0 ids ∥₁ → IsBinarySearchResult (λ y. nat_cmp y x) ids r → is_ok r ≡ has ids x
 search_says ids x r up found = ∥∥₁_elim up (Bool-set _ _) (λ rise. said ids x r (searched ids x r found (rises 0 ids rise)))
+
+-- that ids ascend is a proposition
+ascends_once : (low : ℕ) (ids : List ℕ) → IsProp (AscendFrom low ids)
+ascends_once low [] = hlevel
+ascends_once low (id ∷ ids) = let rest : IsProp (AscendFrom (id + 1) ids) = ascends_once (id + 1) ids in hlevel (le_prop, rest)
+
+-- so of ids that ascend, as a type keeps it, it is known outright
+pub ascends_there : (ids : List ℕ) → ∥ AscendFrom 0 ids ∥₁ → AscendFrom 0 ids
+ascends_there ids up = ∥∥₁_elim up (ascends_once 0 ids) (λ rise. rise)

@@ -79,6 +79,13 @@ impl Groups {
         self.items.binary_search(&id).is_ok()
     }
 
+    // The ids are ids, and ascend. It does nothing but look at them.
+    pub(crate) fn see(&self)
+        ensures { AscendFrom 0 self.now }
+    {
+        let _ = &self.items;
+    }
+
     /// The ids, ascending.
     pub fn items(&self) -> &[Kgid]
         ensures { result.now ≡ self.now }

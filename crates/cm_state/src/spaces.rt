@@ -1,12 +1,13 @@
 // The user namespaces of the machine, called spaces here, as a tree. Each is named by its place in the order of their
 // creation, 0 for the initial one, and the parent of each other stands before it. Spaces are added; only the newest may go.
-ghost use Rattle.std.specs.Prelude.{◌≡◌, ◌∷◌, ◌<◌, IfSome, IsSomeAnd, Some, length, option_map};
+ghost use Rattle.std.specs.Prelude.{◌≡◌, ◌∷◌, ◌<◌, All, IfSome, IsSomeAnd, Some, length, option_map};
 ghost use Rattle.cm_base.specs.Limits.{greatest_number};
 ghost use Rattle.cm_base.specs.declared.id.SpaceId.{SpaceId};
 ghost use Rattle.cm_base.specs.Outcome.{OrNoMemory, UnchangedOnErr};
-ghost use Rattle.model_cred.specs.Space.{first_spaces, space_at, space_of, put_space, chain, chain_from};
+ghost use Rattle.model_cred.specs.Space.{first_spaces, space_at, space_of, put_space, chain, chain_from, IsTree, KeepsSpace};
 
 use crate::Space;
+use crate::seeing::see_spaces;
 use cm_base::{NoMemory, SpaceId};
 use cm_idmap::IdMap;
 use std::alloc::Global;
@@ -122,6 +123,14 @@ impl Spaces {
         ensures { self.new ≡ put_space s.0 (record (space_of self.old s.0) { deny = deny }) self.old }
     {
         self.list[s.0 as usize].deny = deny;
+    }
+
+    // They are a tree, and each has what a space keeps. It does nothing but look at them.
+    pub(crate) fn see(&self)
+        ensures tree { IsTree self.now }
+        ensures spaces { All KeepsSpace self.now }
+    {
+        see_spaces(&self.list);
     }
 
     /// The same spaces. Its only error is want of memory.

@@ -6,6 +6,7 @@ invariant_of-result c =
     keeps_table c.args.mounts.items c.args.rows.items c.in-Ok.filled.order.items c.in-Ok.filled.views.items
     (rw c.deref-3.ensures.value at c.see_mounts.ensures)
     (rw c.deref-2.ensures.value at c.in-Ok.ensures.keeps)
+    c.requires.rows
     (rw (c.deref.ensures.value, c.deref-2.ensures.value) at c.in-Ok.ensures.fine)
     (rw c.deref-2.ensures.value at c.in-Ok.ensures.index)
     (rw (c.deref.ensures.value, c.deref-2.ensures.value) at c.in-Ok.ensures.seen)
