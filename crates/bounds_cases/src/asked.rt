@@ -1,15 +1,13 @@
-// The calls of cm_box, each with what it requires looked at first.
+// The calls of cm_box and cm_maker, each with what it requires looked at first.
 ghost use Rattle.std.specs.Prelude.{◌≡◌, ◌<◌, ◌*◌, ◌^◌, IsTrue, length};
 
 use crate::case::Case;
 use crate::stop::Stop;
 use cm_base::Pid;
-use cm_box::{Bounds, Rows, Rule, Setting, closed, covers_start, meets, rule, start_bounds};
+use cm_box::{Bounds, Rule, Setting, closed, covers_start, meets, rule, start_bounds};
+use cm_maker::least;
 use cm_state::{Right, State};
 use std::alloc::Global;
-
-// How many steps `close` takes at most.
-const STEPS: u32 = 1000;
 
 // Fewer than 2^31 spaces stand.
 fn few(st: &State) -> bool
@@ -45,23 +43,18 @@ pub(crate) fn lacking(case: &Case, members: &[Pid]) -> Result<Option<u32>, Stop>
 }
 
 // The first rule and row at which the bounds aren't closed.
-pub(crate) fn first_open(case: &Case, b: &Bounds) -> Result<Option<(Rule, u32)>, Stop> {
+pub(crate) fn first_open(case: &Case) -> Result<Option<(Rule, u32)>, Stop> {
     let st = &case.world.start;
-    if !few(st) || !fit(st, b) {
+    if !few(st) || !fit(st, &case.bounds) {
         return Err(Stop::Bad);
     }
-    Ok(closed(st, &case.world.files, case.filter, b))
+    Ok(closed(st, &case.world.files, case.filter, &case.bounds))
 }
 
 // The bounds with what the rule adds to the row. Bad where there is no such row.
-pub(crate) fn applied(
-    alloc: Global,
-    case: &Case,
-    b: &Bounds,
-    x: Rule,
-    y: u32,
-) -> Result<Bounds, Stop> {
+pub(crate) fn applied(alloc: Global, case: &Case, x: Rule, y: u32) -> Result<Bounds, Stop> {
     let st = &case.world.start;
+    let b = &case.bounds;
     if !few(st) || !fit(st, b) || y as usize >= b.rows.items().len() {
         return Err(Stop::Bad);
     }
@@ -73,27 +66,13 @@ pub(crate) fn applied(
     Ok(rule(alloc, x, y, &setting, b)?)
 }
 
-// The least closed bounds that hold those of the case: what is open first is added, as long as anything is.
-pub(crate) fn closed_over(alloc: Global, case: &Case) -> Result<Bounds, Stop> {
-    let mut b = copied(alloc, &case.bounds)?;
-    for _ in 0..STEPS {
-        match first_open(case, &b)? {
-            Some((x, y)) => b = applied(alloc, case, &b, x, y)?,
-            None => return Ok(b),
-        }
+// The least closed bounds that cover the members.
+pub(crate) fn closed_least(alloc: Global, case: &Case) -> Result<Bounds, Stop> {
+    let st = &case.world.start;
+    if !few(st) {
+        return Err(Stop::Bad);
     }
-    Err(Stop::Bad)
-}
-
-// Bounds that hold the same.
-fn copied(alloc: Global, b: &Bounds) -> Result<Bounds, Stop> {
-    let mut list = Vec::new(alloc);
-    for row in b.rows.items() {
-        list.push(row.copy(alloc)?)?;
-    }
-    Ok(Bounds {
-        rows: Rows::from_vec(list),
-    })
+    Ok(least(alloc, st, &case.world.files, case.filter, &case.members)?)
 }
 
 // The first row by which the bounds meet the right. Bad where the space isn't there that it names.

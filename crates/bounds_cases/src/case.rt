@@ -1,5 +1,6 @@
-// What a case is about: a world, the filter that is asked about, and bounds.
+// What a case is about: a world, the filter that is asked about, members, and bounds.
 use crate::stop::Stop;
+use cm_base::Pid;
 use cm_box::{Bounds, BoxRow, Rows};
 use cm_filter::Filter;
 use cm_state::State;
@@ -10,11 +11,12 @@ use std::alloc::Global;
 pub(crate) struct Case {
     pub(crate) world: World,
     pub(crate) filter: Filter,
+    pub(crate) members: Vec<Pid>,
     pub(crate) bounds: Bounds,
 }
 
 impl Case {
-    // That of the world of a text, with its filter, and bounds that hold nothing.
+    // That of the world of a text, with its filter, no members, and bounds that hold nothing.
     pub(crate) fn of_text(alloc: Global, text: &str) -> Result<Case, Stop> {
         let world = read_world(alloc, text.as_bytes())?;
         let bounds = least_bounds(alloc, &world.start)?;
@@ -22,6 +24,7 @@ impl Case {
         Ok(Case {
             world,
             filter,
+            members: Vec::new(alloc),
             bounds,
         })
     }
@@ -30,6 +33,7 @@ impl Case {
     pub(crate) fn begin(&mut self, alloc: Global) -> Result<(), Stop> {
         let bounds = least_bounds(alloc, &self.world.start)?;
         self.filter = self.world.filter;
+        self.members = Vec::new(alloc);
         self.bounds = bounds;
         Ok(())
     }

@@ -1,24 +1,25 @@
 // The lines that change bounds.
-use crate::asked::{applied, closed_over, started};
+use crate::asked::{applied, closed_least, started};
 use crate::case::Case;
 use crate::rules::rule_named;
 use crate::stop::Stop;
 use crate::values::{number, pids};
-use cm_box::Bounds;
 use std::alloc::Global;
 
-// The bounds after `start PIDS`, `rule NAME ROW` or `close`.
-pub(crate) fn changed(alloc: Global, case: &Case, words: &[&str]) -> Result<Bounds, Stop> {
+// Changes the bounds by `start PIDS`, `rule NAME ROW` or `close`. A bad line leaves all as it was.
+pub(crate) fn change(alloc: Global, case: &mut Case, words: &[&str]) -> Result<(), Stop> {
     match words {
         ["start", members @ ..] => {
             let members = pids(alloc, members)?;
-            started(alloc, case, &members)
+            case.bounds = started(alloc, case, &members)?;
+            case.members = members;
         }
         ["rule", name, y] => {
             let x = rule_named(name).ok_or(Stop::Bad)?;
-            applied(alloc, case, &case.bounds, x, number(y)?)
+            case.bounds = applied(alloc, case, x, number(y)?)?;
         }
-        ["close"] => closed_over(alloc, case),
-        _ => Err(Stop::Bad),
+        ["close"] => case.bounds = closed_least(alloc, case)?,
+        _ => return Err(Stop::Bad),
     }
+    Ok(())
 }

@@ -11,7 +11,7 @@ use std::alloc::{AllocError, Global};
 pub(crate) fn answered(alloc: Global, case: &Case, words: &[&str]) -> Result<String, Stop> {
     match words {
         ["closed"] => {
-            let open = first_open(case, &case.bounds)?;
+            let open = first_open(case)?;
             Ok(closed_text(alloc, open)?)
         }
         ["covers", members @ ..] => {

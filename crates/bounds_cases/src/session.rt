@@ -1,7 +1,7 @@
 // The lines of cases, one after the other, and the answers to them.
 use crate::calls::{excluding, permitting};
 use crate::case::Case;
-use crate::changes::changed;
+use crate::changes::change;
 use crate::parts::put_row;
 use crate::questions::answered;
 use crate::shown::all_shown;
@@ -103,9 +103,8 @@ impl Session {
     // Tells each row that the line changes, or that none is.
     fn change(&mut self, alloc: Global, line: &str, words: &[&str]) -> Result<(), Stop> {
         let before = all_shown(alloc, &self.case.bounds)?;
-        let bounds = changed(alloc, &self.case, words)?;
-        let after = all_shown(alloc, &bounds)?;
-        self.case.bounds = bounds;
+        change(alloc, &mut self.case, words)?;
+        let after = all_shown(alloc, &self.case.bounds)?;
         self.tell_changes(alloc, line, &before, &after)
     }
 

@@ -1,6 +1,7 @@
 -- Lemmas on bounds, by topic.
 pub mod CoverParts
 pub mod MapRule
+pub mod Meeting
 pub mod MemberIds
 pub mod Numbers
 pub mod Openings

@@ -1,15 +1,11 @@
 -- Rows by their numbers: those below twice the number of spaces are the rows of standing spaces.
 use Rattle.std.proofs.Common.{ℕ, ◌*◌, ◌<◌, subst, arith}
-use Rattle.model_box.specs.Row.{Row, Standing, Fresh, row_at, row_number, space_under}
-use Rattle.model_box.proofs.Numbers.{under_half}
+use Rattle.model_box.specs.Row.{Row, row_at, row_number, space_under}
+use Rattle.model_box.proofs.Numbers.{under_half, number_low}
 use Rattle.model_box.proofs.Starts.{row_back}
 
 pub under_low : (y n : ℕ) → y < 2 * n → space_under (row_at y) < n
 under_low y n low = omega (arith, under_half y)
-
-pub number_low : (row : Row) (n : ℕ) → space_under row < n → row_number row < 2 * n
-number_low (Standing m) n low = omega (arith, low)
-number_low (Fresh m) n low = omega (arith, low)
 
 -- what holds of each number below that holds of each row of a standing space
 pub all_rows : (P : Row → Type 0) (n : ℕ) → ((y : ℕ) → y < 2 * n → P (row_at y)) → (row : Row) → space_under row < n

@@ -3,13 +3,13 @@ use Rattle.std.specs.Prelude.{◌≢◌, ◌↔◌, ◌⊎◌, ℕ, ◌<◌, Boo
 use Rattle.cm_filter.specs.declared.kind.CallKind.{CallKind}
 use Rattle.model_cred.specs.Files.{FileTable}
 use Rattle.model_cred.specs.Space.{Spaces, space_of, stands}
-use Rattle.model_box.specs.Closed.{OwnerByFile, GroupByFile, CapByFile, CapByRoot, OnlyCaps, ClosedAt}
+use Rattle.model_box.specs.Closed.{OwnerByFile, GroupByFile, CapByFile, CapByRoot, OnlyCaps, Adds, ClosedAt}
 use Rattle.model_box.specs.Gains.{SettableUid, SettableGid, SpreadsUid, SpreadsGid, GainsFsUid, GainsFsGid}
 use Rattle.model_box.specs.Gains.{GainsGroups, GainsInheritable, GainsRoot}
 use Rattle.model_box.specs.Files.{ZeroIn}
 use Rattle.model_box.specs.Row.{Part, Uids, NewPrivs, RootCounts, Row, Standing, Fresh, row_at, row_number, space_under}
 use Rattle.model_box.specs.Spread.{Brings, Meet}
-use Rattle.cm_box_rows.specs.Rows.{HoldsAll}
+use Rattle.cm_box_rows.specs.Rows.{HoldsAll, InEitherRow}
 use Rattle.cm_box_rows.specs.Spread.{CanMakeIn, MadeIn, JoinsHeld, ByJoiningTo}
 use Rattle.model_box.specs.Rule as model
 use Rattle.model_box.specs.Rule.{rule_number}
@@ -82,6 +82,12 @@ CreateHeld spaces bounds (Fresh n) =
 abbrev pub JoinHeld : Spaces → (Row → Part → ℕ → Type 0) → Row → Type 0
 JoinHeld spaces bounds (Standing n) = JoinsHeld spaces bounds (bounds (Standing n)) n
 JoinHeld spaces bounds (Fresh n) = Unit {0}
+
+-- a row, and what a rule adds to it
+abbrev pub WithAdded : (CallKind → Bool) → FileTable → Spaces → (Row → Part → ℕ → Type 0) → model.Rule → Row
+    → Part → ℕ → Type 0
+WithAdded permitted files spaces bounds rule row =
+    InEitherRow (bounds row) (Adds permitted files spaces bounds rule row)
 
 -- The new bounds are the old ones, with what is added to the row of that number.
 pub record IsJoinedAt (y : ℕ) (old : Row → Part → ℕ → Type 0) (Added : Part → ℕ → Type 0)

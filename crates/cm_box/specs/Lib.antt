@@ -3,3 +3,4 @@ pub mod Places
 pub mod Rules
 pub mod Closing
 pub mod Mapping
+pub mod Meeting

@@ -1,22 +1,22 @@
 // What a rule adds to bounds, and the bounds with it.
-ghost use Rattle.std.specs.Prelude.{◌≡◌, ◌↔◌, ◌⊎◌, ℕ, ◌<◌, ◌*◌, ◌^◌, length, slice_set};
-ghost use Rattle.cm_base.specs.Outcome.{OrNoMemory, UnchangedOnErr};
+ghost use Rattle.std.specs.Prelude.{◌≡◌, ◌↔◌, ◌⊎◌, ℕ, ◌<◌, ◌*◌, ◌^◌, length, IfNone, IfSome};
+ghost use Rattle.cm_base.specs.Outcome.{OrNoMemory};
 ghost use Rattle.cm_sets.specs.Sets.{AreSame};
 ghost use Rattle.cm_idset.specs.Held.{Held};
 ghost use Rattle.cm_filter.specs.Filters.{permits};
 ghost use Rattle.cm_box.specs.Places.{row_of};
 ghost use Rattle.cm_box_rows.specs.Rows.{RowHolds, RowsHold, AreSameRows};
 ghost use Rattle.cm_box.specs.Rules.{rule_of};
-ghost use Rattle.cm_box.specs.Closing.{Gains, GroupsAllowed, ByMaking, ByJoins, IsJoinedAt};
+ghost use Rattle.cm_box.specs.Closing.{Gains, GroupsAllowed, ByMaking, ByJoins, WithAdded, IsJoinedAt};
 ghost use Rattle.cm_box.specs.Mapping.{IdsWritten};
 ghost use Rattle.cm_box_rows.specs.Kinds.{SpreadsId, mapped};
 ghost use Rattle.cm_box_rows.specs.Programs.{GivenByFile};
 ghost use Rattle.cm_box_rows.specs.Spread.{MadeIn};
-ghost use Rattle.model_box.specs.Closed.{Adds, ByMaps, OnlyCaps, CapByFile, CapByRoot};
+ghost use Rattle.model_box.specs.Closed.{Adds, ClosedAt, ByMaps, OnlyCaps, CapByFile, CapByRoot};
 ghost use Rattle.model_box.specs.Row.{row_at, space_under};
 
 use crate::caps::{caps_by_files, caps_by_root};
-use crate::closedness::permits_rule;
+use crate::closedness::{closed_at, permits_rule};
 use crate::joins::joins_gained;
 use crate::maps::{is_written, map_call};
 use crate::place::Place;
@@ -50,36 +50,56 @@ pub fn rule(
         (Adds (permits s.now.filter) s.now.files.now s.now.state.now.spaces (RowsHold b.now) (rule_of x)
         (row_at row)) (RowsHold new)) }
 {
+    let wider = with_added(alloc, x, row, s, b)?;
     let mut new = b.copy(alloc)?;
-    apply(alloc, x, row, s, &mut new)?;
+    new.put(row, wider);
     Ok(new)
 }
 
-// Joins what the rule adds to the row into it, in place. Its only error is want of memory, which leaves the bounds as
-// they were.
-fn apply(alloc: Global, x: Rule, row: u32, s: &Setting<'_>, b: &mut Bounds) -> Result<(), NoMemory>
-    requires rows { length b.old ≡ 2 * length s.now.state.now.spaces }
+/// The row as the rule would leave it, None exactly where it holds already what the rule adds to it. The bounds have
+/// two rows for each space, the row is one of them, and fewer than 2^31 spaces stand. Its only error is want of memory.
+pub fn widened(
+    alloc: Global,
+    x: Rule,
+    row: u32,
+    s: &Setting<'_>,
+    b: &Bounds,
+) -> Result<Option<BoxRow>, NoMemory>
+    requires rows { length b.now ≡ 2 * length s.now.state.now.spaces }
     requires few { length s.now.state.now.spaces < 2 ^ 31 }
-    requires there { row < length b.old }
-    ensures count { length b.new ≡ length b.old }
-    ensures unchanged { UnchangedOnErr result b.new b.old }
-    ensures joined { OrNoMemory result (λ _. IsJoinedAt row (RowsHold b.old)
-        (Adds (permits s.now.filter) s.now.files.now s.now.state.now.spaces (RowsHold b.old) (rule_of x)
-        (row_at row)) (RowsHold b.new)) }
+    requires there { row < length b.now }
+    ensures closed { OrNoMemory result (λ o. IfNone o (ClosedAt (permits s.now.filter) s.now.files.now
+        s.now.state.now.spaces (RowsHold b.now) (rule_of x) (row_at row))) }
+    ensures open { OrNoMemory result (λ o. IfSome o (λ _. ClosedAt (permits s.now.filter) s.now.files.now
+        s.now.state.now.spaces (RowsHold b.now) (rule_of x) (row_at row) → ⊥)) }
+    ensures wider { OrNoMemory result (λ o. IfSome o (λ r. AreSameRows (RowHolds r) (WithAdded (permits s.now.filter)
+        s.now.files.now s.now.state.now.spaces (RowsHold b.now) (rule_of x) (row_at row)))) }
+{
+    if closed_at(s.state, s.files, s.filter, b, x, Place::of_number(row)) {
+        return Ok(None);
+    }
+    let wider = with_added(alloc, x, row, s, b)?;
+    Ok(Some(wider))
+}
+
+// The row with what the rule adds to it.
+fn with_added(
+    alloc: Global,
+    x: Rule,
+    row: u32,
+    s: &Setting<'_>,
+    b: &Bounds,
+) -> Result<BoxRow, NoMemory>
+    requires rows { length b.now ≡ 2 * length s.now.state.now.spaces }
+    requires few { length s.now.state.now.spaces < 2 ^ 31 }
+    requires there { row < length b.now }
+    ensures { OrNoMemory result (λ r. AreSameRows (RowHolds r) (WithAdded (permits s.now.filter)
+        s.now.files.now s.now.state.now.spaces (RowsHold b.now) (rule_of x) (row_at row))) }
 {
     let at = Place::of_number(row);
     let more = added(alloc, s, b, x, at)?;
     let wider = b.row(at).joined(alloc, &more)?;
-    put(b, row, wider);
-    Ok(())
-}
-
-// Puts a row in the place of the one of that number.
-fn put(b: &mut Bounds, y: u32, row: BoxRow)
-    requires { y < length b.old }
-    ensures { b.new ≡ slice_set b.old y row }
-{
-    b.rows.list[y as usize] = row;
+    Ok(wider)
 }
 
 // What the rule adds to the row, as a row.

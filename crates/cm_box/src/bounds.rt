@@ -1,5 +1,5 @@
 // Bounds: the rows of the standing spaces, two of each space.
-ghost use Rattle.std.specs.Prelude.{◌≡◌, ℕ, ◌<◌, ◌^◌, length};
+ghost use Rattle.std.specs.Prelude.{◌≡◌, ℕ, ◌<◌, ◌^◌, length, slice_set};
 ghost use Rattle.cm_base.specs.Outcome.{OrNoMemory};
 ghost use Rattle.cm_box.specs.Places.{row_of};
 ghost use Rattle.cm_box_rows.specs.Rows.{RowHolds, AreSameRows};
@@ -69,6 +69,15 @@ impl Bounds {
         let y = at.number() as usize;
         &self.rows.list[y]
     }
+
+    /// Puts a row in the place of the one of that number. It takes no memory.
+    pub fn put(&mut self, y: u32, row: BoxRow)
+        requires { y < length self.old }
+        ensures { self.new ≡ slice_set self.old y row }
+    {
+        self.rows.list[y as usize] = row;
+    }
+
     // Bounds that hold the same. Its only error is want of memory.
     pub(crate) fn copy(&self, alloc: Global) -> Result<Bounds, NoMemory>
         ensures count { OrNoMemory result (λ b. length b ≡ length self.now) }

@@ -207,7 +207,14 @@ fn ids_written_held(kind: Kind, spaces: &Spaces, b: &Bounds, n: SpaceId) -> bool
 }
 
 // The rule is closed at the row.
-fn closed_at(st: &State, files: &FileTable, f: Filter, b: &Bounds, x: Rule, at: Place) -> bool
+pub(crate) fn closed_at(
+    st: &State,
+    files: &FileTable,
+    f: Filter,
+    b: &Bounds,
+    x: Rule,
+    at: Place,
+) -> bool
     requires rows { length b.now ≡ 2 * length st.now.spaces }
     requires few { length st.now.spaces < 2 ^ 31 }
     requires stands { space_under (row_of at) < length st.now.spaces }

@@ -17,12 +17,12 @@ mod rules;
 mod setting;
 mod start;
 
-pub use adding::rule;
+pub use adding::{rule, widened};
 pub use bounds::{Bounds, Rows};
 pub use closedness::closed;
 pub use cm_box_rows::BoxRow;
 pub use covers::covers_start;
-pub use rights::meets;
-pub use rules::Rule;
+pub use rights::{meets, meets_by};
+pub use rules::{RULES, Rule};
 pub use setting::Setting;
 pub use start::start_bounds;

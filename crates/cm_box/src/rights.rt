@@ -3,9 +3,10 @@ ghost use Rattle.std.specs.Prelude.{◌≡◌, ◌↔◌, ◌⊎◌, ℕ, ◌<�
 ghost use Rattle.cm_state.specs.Right.{right_of};
 ghost use Rattle.cm_box.specs.Places.{row_of};
 ghost use Rattle.cm_box_rows.specs.Rows.{RowHolds, RowsHold};
-ghost use Rattle.cm_box_rows.specs.Rights.{IsFirstMet, NextMet, CapMetAt};
-ghost use Rattle.model_box.specs.Meets.{Meets, MeetsAt, IsOverStanding};
-ghost use Rattle.model_box.specs.Row.{EffectiveUids, space_under};
+ghost use Rattle.cm_box_rows.specs.Rights.{NextMet, CapMetAt};
+ghost use Rattle.cm_box.specs.Meeting.{RowMeets};
+ghost use Rattle.model_box.specs.Meets.{Meets, MeetsAt, IsFirstMet, IsOverStanding};
+ghost use Rattle.model_box.specs.Row.{EffectiveUids, row_at, space_under};
 
 use crate::place::Place;
 use crate::{Bounds, BoxRow};
@@ -20,7 +21,7 @@ pub fn meets(st: &State, b: &Bounds, right: &Right) -> Option<u32>
     requires few { length st.now.spaces < 2 ^ 31 }
     requires named { IsOverStanding st.now.spaces (right_of right.now) }
     ensures none { IfNone result (Meets st.now.spaces (RowsHold b.now) (right_of right.now) → ⊥) }
-    ensures first { IfSome result (IsFirstMet st.now.spaces (RowsHold b.now) (right_of right.now)) }
+    ensures first { IfSome result (λ y. IsFirstMet st.now.spaces (RowsHold b.now) (right_of right.now) (row_at y)) }
 {
     for y in 0..2 * st.spaces.count() {
         if meets_at(&st.spaces, b, right, Place::of_number(y)) {
@@ -38,7 +39,22 @@ fn meets_at(spaces: &Spaces, b: &Bounds, right: &Right, at: Place) -> bool
     requires stands { space_under (row_of at) < length spaces.now }
     ensures { IsTrue result ↔ MeetsAt spaces.now (RowsHold b.now) (right_of right.now) (row_of at) }
 {
-    let row = b.row(at);
+    row_meets(spaces, b.row(at), right, at)
+}
+
+/// A row in the place of that number would meet the right. The space that the right names stands. It takes no memory.
+pub fn meets_by(st: &State, row: &BoxRow, right: &Right, y: u32) -> bool
+    requires named { IsOverStanding st.now.spaces (right_of right.now) }
+    ensures { IsTrue result ↔ RowMeets st.now.spaces (RowHolds row.now) (right_of right.now) (row_at y) }
+{
+    row_meets(&st.spaces, row, right, Place::of_number(y))
+}
+
+// A row in that place would meet the right.
+fn row_meets(spaces: &Spaces, row: &BoxRow, right: &Right, at: Place) -> bool
+    requires named { IsOverStanding spaces.now (right_of right.now) }
+    ensures { IsTrue result ↔ RowMeets spaces.now (RowHolds row.now) (right_of right.now) (row_of at) }
+{
     match right {
         Right::Uid(id) => row.eu.holds(&id.number()),
         Right::Gid(id) => {

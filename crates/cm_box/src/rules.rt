@@ -23,12 +23,12 @@ pub enum Rule {
     Maps,
 }
 
-// How many there are.
-pub(crate) const RULES: u32 = 14;
+/// How many there are.
+pub const RULES: u32 = 14;
 
 impl Rule {
-    // The rule at that place of their order, from 0 on.
-    pub(crate) fn of_number(k: u32) -> Rule
+    /// The rule at that place of their order, from 0 on. It takes no memory.
+    pub fn of_number(k: u32) -> Rule
         requires { k < 14 }
         ensures { rule_number (rule_of result) ≡ k }
     {

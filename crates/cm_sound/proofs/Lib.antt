@@ -1,4 +1,3 @@
 -- What rows exclude, and the states after logs.
 pub mod Never
-pub mod Parents
 pub mod AfterLogs

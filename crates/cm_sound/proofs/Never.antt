@@ -2,14 +2,13 @@
 use Rattle.std.proofs.Common.{ℕ, List}
 use Rattle.cm_box_rows.specs.Rows.{RowsHold}
 use Rattle.cm_filter.specs.Filters.{permits}
-use Rattle.cm_sound.specs.Judged.{Encloses, Excludes}
+use Rattle.cm_sound.specs.Judged.{Excludes}
 use Rattle.cm_sound.specs.Laws.{StayCovering}
 use Rattle.cm_sound.specs.Never.{Fits, MountsStand, NeverHeld}
 use Rattle.model_box.proofs.Excludes.{exclusion, soundness}
-use Rattle.model_box.proofs.Starts.{covers_standing}
 use Rattle.model_box.proofs.Worlds.{files_fit}
 use Rattle.model_box.specs.Bounds.{BoxRow}
-use Rattle.model_box.specs.Covers.{Covers, CanStart}
+use Rattle.model_box.specs.Covers.{CanStart}
 use Rattle.model_box.specs.Meets.{IsOverStanding}
 use Rattle.model_cred.specs.Files.{KeepsFiles}
 use Rattle.model_cred.specs.Process.{State}
@@ -21,21 +20,16 @@ use Rattle.model_cred.specs.World.{World}
 pub fits : (w : World) (s : State) → CanStart s → KeepsFiles w.files → MountsStand w s → Fits w s
 fits w s state keeps mounts = record { state = state; files = files_fit w.files s.spaces keeps mounts }
 
--- They cover the members now.
-covering : (w : World) (s : State) (members : List ℕ) (rows : List BoxRow) → Fits w s → Encloses w s members rows
-    → Covers s s members (RowsHold rows)
-covering w s members rows fits encloses = covers_standing s members (RowsHold rows) fits.state.stands encloses.start
-
 pub stay_covering : StayCovering
 unfolding StayCovering
 stay_covering w s members rows fits encloses events later members_then run =
     soundness (permits w.filter) w s members (RowsHold rows) fits.state fits.files
-    (covering w s members rows fits encloses) encloses.closed events later members_then run
+    encloses.covers encloses.closed events later members_then run
 
 -- A right that they exclude is never held.
 pub never_held : (w : World) (s : State) (members : List ℕ) (rows : List BoxRow) (right : Right) → Fits w s
     → IsOverStanding s.spaces right → Excludes w s members rows right → NeverHeld w s members right
 never_held w s members rows right fits named excludes events later members_then run pid member =
     exclusion (permits w.filter) w s members (RowsHold rows) fits.state fits.files
-    (covering w s members rows fits excludes.encloses) excludes.encloses.closed right named excludes.apart
+    excludes.encloses.covers excludes.encloses.closed right named excludes.apart
     events later members_then run pid member

@@ -1,7 +1,7 @@
 -- What is proved of rows that enclose a family, and of the states that logs lead to.
 use Rattle.std.specs.Prelude.{◌≡◌, ℕ, ◌<◌, ◌^◌, List, length}
 use Rattle.cm_box_rows.specs.Rows.{RowsHold}
-use Rattle.cm_sound.specs.Judged.{Encloses, Excludes}
+use Rattle.cm_sound.specs.Judged.{EnclosesIn, Excludes}
 use Rattle.cm_sound.specs.Never.{Fits, MountsStand, NeverHeld}
 use Rattle.model_box.specs.Bounds.{BoxRow}
 use Rattle.model_box.specs.Covers.{Covers}
@@ -17,7 +17,7 @@ use Rattle.model_text.specs.WorldText.{Reads, world_text}
 -- Rows that enclose a family, whoever made them, cover it after every later run.
 unfoldable pub StayCovering : Type 0
 StayCovering =
-    (w : World) (s : State) (members : List ℕ) (rows : List BoxRow) → Fits w s → Encloses w s members rows
+    (w : World) (s : State) (members : List ℕ) (rows : List BoxRow) → Fits w s → EnclosesIn w s members rows
     → (events : List Event) (later : State) (members_then : List ℕ) → LaterRun w s members events later members_then
     → Covers s later members_then (RowsHold rows)
 

@@ -10,11 +10,11 @@ ghost use Rattle.cm_world.specs.World.{world_of};
 ghost use Rattle.model_box.specs.Meets.{IsOverStanding};
 
 use crate::Checked;
-use crate::seeing::{see_files, see_state};
+use crate::seeing::see_files;
 use cm_base::Pid;
 use cm_box::{Bounds, closed, covers_start, meets};
 use cm_machine::Machine;
-use cm_state::Right;
+use cm_state::{Right, see_state};
 use cm_world::World;
 
 /// Whether the bounds show that the members never hold the right, by calls that the world's filter permits. The answer

@@ -1,7 +1,7 @@
 // Laws of judged certificates. Each function does nothing: its contract is the law.
 ghost use Rattle.cm_sound.specs.Laws.{StayCovering, FitAfterLog, MountsStandAfterLog, FewAtStart, NeverHeldAfterLog};
 
-/// Rows that hold what the start bounds hold and are closed, whoever made them, cover the members after each later run.
+/// Rows that cover the members now and are closed, whoever made them, cover the members after each later run.
 #[tactic(auto, using(crate::proofs::Never::stay_covering))]
 pub fn enclosing_rows_stay_covering()
     ensures { StayCovering }

@@ -5,17 +5,16 @@
 //! It prints a line on the bounds, then one after all runs of `closed`, and one after all of `check`.
 #![tactic(auto)]
 
-mod least;
 mod passes;
 mod setup;
 mod stop;
 mod sums;
 
-use crate::least::least;
 use crate::passes::{times_closed, times_judged};
 use crate::setup::start;
 use crate::stop::Stop;
 use crate::sums::sums_of;
+use cm_maker::least;
 use std::{env, io};
 
 fn main(rt: HostRuntime) -> Result<(), Stop> {
@@ -25,7 +24,7 @@ fn main(rt: HostRuntime) -> Result<(), Stop> {
     let check_runs = count_of(words.next());
     let text = io::read_to_string(alloc, rt.stdin())?;
     let s = start(alloc, text.as_bytes())?;
-    let b = least(alloc, &s)?;
+    let b = least(alloc, &s.m.state, &s.w.files, s.w.filter, &s.members)?;
     println!(rt; "least {}", sums_of(&b))?;
     println!(rt; "closed {}", times_closed(&s, &b, closed_runs))?;
     let (holds, meets) = times_judged(&s, &b, check_runs);

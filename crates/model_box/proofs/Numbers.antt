@@ -1,7 +1,7 @@
 -- Rules and rows by their numbers: a rule is one of fourteen, and a row's space is half its number.
-use Rattle.std.proofs.Common.{◌≡◌, ℕ, ◌/◌, ◌%◌, ◌<◌, ◌==◌, Bool, true, false, refl, lit<}
+use Rattle.std.proofs.Common.{◌≡◌, ℕ, ◌*◌, ◌/◌, ◌%◌, ◌<◌, ◌==◌, Bool, true, false, refl, arith, lit<}
 use Rattle.std.specs.Prelude.{if◌then◌else◌}
-use Rattle.model_box.specs.Row.{Standing, Fresh, row_at, space_under}
+use Rattle.model_box.specs.Row.{Row, Standing, Fresh, row_number, row_at, space_under}
 use Rattle.model_box.specs.Rule.{Rule, SetUid, SetFsUid, SetGid, SetFsGid, SetGroups, CapSet, SecureBits, ExecUid}
 use Rattle.model_box.specs.Rule.{ExecGid, ExecCaps, ExecRoot, Create, Join, Maps, rule_number}
 
@@ -28,3 +28,8 @@ under_half y = by (y % 2 == 0) where
   by : (b : Bool) → space_under (if b then Standing (y / 2) else Fresh (y / 2)) ≡ y / 2
   by true = refl
   by false = refl
+
+-- so the rows of so many spaces are those below twice as many
+pub number_low : (row : Row) (n : ℕ) → space_under row < n → row_number row < 2 * n
+number_low (Standing m) n low = omega (arith, low)
+number_low (Fresh m) n low = omega (arith, low)

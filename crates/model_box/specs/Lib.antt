@@ -7,6 +7,7 @@ pub mod Files
 pub mod Spread
 pub mod Closed
 pub mod Covers
+pub mod Encloses
 pub mod Meets
 pub mod Start
 pub mod Laws

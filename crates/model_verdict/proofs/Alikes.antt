@@ -15,18 +15,19 @@ use Rattle.model_run.specs.Family.{family}
 use Rattle.model_run.specs.Later.{is_member}
 use Rattle.model_box.specs.Row.{Part, Row, Standing, Fresh, CredHas, IsWithin}
 use Rattle.model_box.specs.Covers.{StateFits}
+use Rattle.model_box.specs.Encloses.{Encloses}
 use Rattle.model_box.specs.Files.{is_program}
 use Rattle.model_box.specs.Laws.{tested}
 use Rattle.model_box.specs.Start.{StartHas}
 use Rattle.model_box.proofs.Monotone.{adds_more, meets_more, meets_at_more}
 use Rattle.model_box.proofs.Starts.{covers_start, holds_start}
-use Rattle.model_plans.specs.Move.{Seat, seat_of}
+use Rattle.model_plans.specs.Move.{Seat, seat_of, MayCall}
 use Rattle.model_plans.specs.PlanRun.{first_found}
 use Rattle.model_plans.specs.Shortcuts.{MembersSeatsDecide}
 use Rattle.model_plans.proofs.Isolated.{members_seats_decide}
-use Rattle.model_verdict.specs.Least.{Test, Encloses, IsLeast, AllMeet}
+use Rattle.model_verdict.specs.Least.{Test, Says, IsLeast, AllMeet}
 use Rattle.model_verdict.specs.Sweep.{turn_at, swept}
-use Rattle.model_verdict.specs.Blame.{Blame, AtStart, ByTurn, Says, IsBlame}
+use Rattle.model_verdict.specs.Blame.{Blame, AtStart, ByTurn, IsBlame}
 use Rattle.model_verdict.specs.Settled.{EachMember, HasNone, IsPlain, Settled, serves, NoneServes, RootGainsNone, ProgramsGiveNone}
 use Rattle.model_verdict.specs.Verdict.{Verdict, No, Yes, Undecided, IsVerdict}
 use Rattle.model_verdict.specs.Alike.{SameVerdict, AlikeFamilies}
@@ -97,7 +98,7 @@ module _ (permitted : CallKind → Bool) (files : FileTable) (spaces : Spaces) (
   abbrev starts_back : IsWithin (StartHas t members) (StartHas s members)
   starts_back = start_like spaces qs ps members back
 
-  encloses_like : StateFits t → (bounds : Test) → Encloses permitted files s members bounds → Encloses permitted files t members bounds
+  encloses_like : StateFits t → (bounds : Test) → Encloses permitted files s members (tested bounds) → Encloses permitted files t members (tested bounds)
   encloses_like fits bounds it = record {
     closed = it.closed;
     covers = covers_start t members (tested bounds) fits (λ row standing part x has.
@@ -113,11 +114,13 @@ module _ (permitted : CallKind → Bool) (files : FileTable) (spaces : Spaces) (
         (turn_at spaces k).rule (turn_at spaces k).row part x added,
   )
 
-  settled_like : Settled permitted files t members → Settled permitted files s members
-  settled_like it = record {
+  settled_like : (own other : MayCall) → ((pid : ℕ) → IsTrue (is_member members pid) → (kind : CallKind) → own pid kind ≡ other pid kind)
+      → Settled other permitted files t members → Settled own permitted files s members
+  settled_like own other same it = record {
     plain = each_like spaces ps qs members forth (IsPlain spaces) (plain_like spaces) it.plain;
     excluded = it.excluded;
     programs = programs it.programs;
+    same = λ pid member kind. same pid member kind ∙ it.same pid member kind;
   } where
     serves_like : NoneServes files t members → NoneServes files s members
     serves_like none =
@@ -179,35 +182,36 @@ module _ (permitted : CallKind → Bool) (files : FileTable) (spaces : Spaces) (
   all_meet_like fits all bounds given = all bounds (encloses_like permitted files spaces qs ps members right back forth fits bounds given)
 
 -- the verdict, one way
-verdict_like : (permitted : CallKind → Bool) (w : World) (spaces : Spaces) (ps qs : List Process) (members : List ℕ) (right : Right)
+verdict_like : (own other : MayCall) (permitted : CallKind → Bool) (w : World) (spaces : Spaces) (ps qs : List Process) (members : List ℕ) (right : Right)
     → StateFits (state_of ps spaces) → StateFits (state_of qs spaces)
     → Seated (state_of ps spaces) (state_of qs spaces) members → Seated (state_of qs spaces) (state_of ps spaces) members
-    → first_found (λ n. permitted) w (state_of ps spaces) members right ≡ first_found (λ n. permitted) w (state_of qs spaces) members right
-    → (verdict : Verdict) → IsVerdict permitted w (state_of ps spaces) members right verdict
-    → IsVerdict permitted w (state_of qs spaces) members right verdict
-verdict_like permitted w spaces ps qs members right fits fits_too forth back found (No x) is = sym found ∙ is
-verdict_like permitted w spaces ps qs members right fits fits_too forth back found (Yes bounds) (none_found, least, apart) =
+    → first_found own w (state_of ps spaces) members right ≡ first_found other w (state_of qs spaces) members right
+    → (verdict : Verdict) → IsVerdict own permitted w (state_of ps spaces) members right verdict
+    → IsVerdict other permitted w (state_of qs spaces) members right verdict
+verdict_like own other permitted w spaces ps qs members right fits fits_too forth back found (No x) is = sym found ∙ is
+verdict_like own other permitted w spaces ps qs members right fits fits_too forth back found (Yes bounds) (none_found, least, apart) =
     (sym found ∙ none_found, least_like permitted w.files spaces ps qs members right forth back fits fits_too bounds least, apart)
-verdict_like permitted w spaces ps qs members right fits fits_too forth back found (Undecided blame below) (none_found, met, is) = (
+verdict_like own other permitted w spaces ps qs members right fits fits_too forth back found (Undecided blame below) (none_found, met, is) = (
   sym found ∙ none_found,
   all_meet_like permitted w.files spaces ps qs members right forth back fits met,
   blame_like permitted w.files spaces ps qs members right forth back blame below is,
 )
 
 -- ---- all of it
-same_verdict : (permitted : CallKind → Bool) (w : World) (spaces : Spaces) (ps qs : List Process) (members : List ℕ) (right : Right)
+same_verdict : (own other : MayCall) (permitted : CallKind → Bool) (w : World) (spaces : Spaces) (ps qs : List Process) (members : List ℕ) (right : Right)
     → StateFits (state_of ps spaces) → StateFits (state_of qs spaces) → Seated (state_of ps spaces) (state_of qs spaces) members
-    → SameVerdict permitted w (state_of ps spaces) (state_of qs spaces) members members right
+    → ((pid : ℕ) → IsTrue (is_member members pid) → (kind : CallKind) → own pid kind ≡ other pid kind)
+    → SameVerdict own other permitted w (state_of ps spaces) (state_of qs spaces) members members right
 unfolding MembersSeatsDecide
-same_verdict permitted w spaces ps qs members right fits fits_too forth =
+same_verdict own other permitted w spaces ps qs members right fits fits_too forth calls =
     let back : Seated (state_of qs spaces) (state_of ps spaces) members = λ pid member. sym (forth pid member) in
-    let found : first_found (λ n. permitted) w (state_of ps spaces) members right ≡ first_found (λ n. permitted) w (state_of qs spaces) members right
-    = members_seats_decide (λ n. permitted) (λ n. permitted) w (state_of ps spaces) (state_of qs spaces) members right refl
-    (λ pid member. (forth pid member, λ kind. refl)) in
+    let found : first_found own w (state_of ps spaces) members right ≡ first_found other w (state_of qs spaces) members right
+    = members_seats_decide own other w (state_of ps spaces) (state_of qs spaces) members right refl
+    (λ pid member. (forth pid member, calls pid member)) in
     record {
       verdict = λ verdict. (
-        verdict_like permitted w spaces ps qs members right fits fits_too forth back found verdict,
-        verdict_like permitted w spaces qs ps members right fits_too fits back forth (sym found) verdict,
+        verdict_like own other permitted w spaces ps qs members right fits fits_too forth back found verdict,
+        verdict_like other own permitted w spaces qs ps members right fits_too fits back forth (sym found) verdict,
       );
       found = found;
       least = λ bounds. (
@@ -219,16 +223,16 @@ same_verdict permitted w spaces ps qs members right fits fits_too forth =
         blame_like permitted w.files spaces qs ps members right back forth blame below,
       );
       settled = (
-        settled_like permitted w.files spaces qs ps members right back forth,
-        settled_like permitted w.files spaces ps qs members right forth back,
+        settled_like permitted w.files spaces qs ps members right back forth other own (λ pid member kind. sym (calls pid member kind)),
+        settled_like permitted w.files spaces ps qs members right forth back own other calls,
       );
     }
 
 pub alike_families : AlikeFamilies
 unfolding AlikeFamilies
-alike_families permitted w s t root right fits fits_too alike =
-    subst (λ (others : List ℕ). SameVerdict permitted w s t (family s root) others right) alike.pids
+alike_families own other permitted w s t root right fits fits_too alike =
+    subst (λ (others : List ℕ). SameVerdict own other permitted w s t (family s root) others right) alike.pids
     (subst (λ (spaces : Spaces). StateFits (state_of t.processes spaces)
-    → SameVerdict permitted w s (state_of t.processes spaces) (family s root) (family s root) right) alike.spaces
-    (λ given. same_verdict permitted w s.spaces s.processes t.processes (family s root) right fits given alike.seats)
+    → SameVerdict own other permitted w s (state_of t.processes spaces) (family s root) (family s root) right) alike.spaces
+    (λ given. same_verdict own other permitted w s.spaces s.processes t.processes (family s root) right fits given alike.seats alike.calls)
     fits_too)

@@ -7,14 +7,15 @@ use Rattle.model_cred.specs.Process.{State}
 use Rattle.model_cred.specs.Right.{Right}
 use Rattle.model_box.specs.Row.{Part, Row, row_at, row_number, IsWithin}
 use Rattle.model_box.specs.Covers.{StateFits}
+use Rattle.model_box.specs.Encloses.{Encloses}
 use Rattle.model_box.specs.Laws.{tested}
-use Rattle.model_box.specs.Meets.{Meets}
+use Rattle.model_box.specs.Meets.{Meets, IsFirstMet}
 use Rattle.model_box.specs.Start.{StartHas}
 use Rattle.model_box.proofs.Monotone.{meets_more}
 use Rattle.model_box.proofs.Starts.{row_back}
-use Rattle.model_verdict.specs.Least.{Test, Encloses}
+use Rattle.model_verdict.specs.Least.{Test, Says}
 use Rattle.model_verdict.specs.Sweep.{turn_at, swept}
-use Rattle.model_verdict.specs.Blame.{Blame, AtStart, ByTurn, IsFirstMet, FirstMeets, Says, IsBlame, IsBlamed, BlameIsWithin, OneBlame, BeforeAndAfter}
+use Rattle.model_verdict.specs.Blame.{Blame, AtStart, ByTurn, FirstMeets, IsBlame, IsBlamed, BlameIsWithin, OneBlame, BeforeAndAfter}
 use Rattle.model_verdict.proofs.Sweeps.{grows, stays_within}
 
 two_orders : (j k : ℕ) → (j < k) ⊎ (k < j) ⊎ (j ≡ k)
@@ -88,7 +89,7 @@ one_blame permitted files s members right one two below other first second =
     one_blame_of permitted files s members right one two below other first second
 
 pub met_if_blamed : (permitted : CallKind → Bool) (files : FileTable) (s : State) (members : List ℕ) (right : Right) (least : Test)
-    → StateFits s → Encloses permitted files s members least → IsBlamed permitted files s members right → Meets s.spaces (tested least) right
+    → StateFits s → Encloses permitted files s members (tested least) → IsBlamed permitted files s members right → Meets s.spaces (tested least) right
 met_if_blamed permitted files s members right least fits encloses blamed =
     blamed_met permitted files s members right (tested least)
     (stays_within permitted files s members (tested least) fits encloses.closed encloses.covers) blamed.blame blamed.below blamed.is

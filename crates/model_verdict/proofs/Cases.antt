@@ -21,13 +21,15 @@ use Rattle.model_box.specs.Row.{Part, Uids, EffectiveUids, FsUids, EffectiveGids
 use Rattle.model_box.specs.Row.{PermittedCaps, BoundingCaps, NewPrivs, RootCounts, Row, Standing, Fresh, space_under}
 use Rattle.model_box.specs.Rule.{SetUid, SetFsUid, ExecUid, ExecGid, ExecRoot, Join, Maps}
 use Rattle.model_box.specs.Covers.{StateFits}
+use Rattle.model_box.specs.Encloses.{Encloses}
 use Rattle.model_box.specs.Files.{is_program}
 use Rattle.model_box.specs.Laws.{tested}
 use Rattle.model_box.specs.Spread.{Brings}
 use Rattle.model_box.specs.Start.{StartHas}
 use Rattle.model_box.proofs.Starts.{holds_start}
+use Rattle.model_plans.specs.Move.{MayCall}
 use Rattle.model_plans.specs.PlanRun.{first_found}
-use Rattle.model_verdict.specs.Least.{Test, Encloses, AllMeet}
+use Rattle.model_verdict.specs.Least.{Test, AllMeet}
 use Rattle.model_verdict.specs.Sweep.{turn_at}
 use Rattle.model_verdict.specs.Settled.{EachMember, HasNone, AreWritten, IsPlain, ExcludesSpaces, serves, NoneServes, RootGainsNone}
 use Rattle.model_verdict.specs.Settled.{ProgramsGiveNone, Settled}
@@ -82,7 +84,7 @@ initial_written n above =
     subst (λ (m : ℕ). AreWritten (space_of first_spaces m)) (sym (initial_alone n above)) (record { uids = refl; gids = refl })
 
 -- closed covering bounds hold what the start has
-held : (permitted : CallKind → Bool) (w : World) (s : State) (members : List ℕ) (bounds : Test) → Encloses permitted w.files s members bounds
+held : (permitted : CallKind → Bool) (w : World) (s : State) (members : List ℕ) (bounds : Test) → Encloses permitted w.files s members (tested bounds)
     → (row : Row) (part : Part) (x : ℕ) → StartHas s members row part x → IsTrue (stands s.spaces (space_under row)) → tested bounds row part x
 held permitted w s members bounds encloses row part x has standing = holds_start s members (tested bounds) encloses.covers row standing part x has
 
@@ -110,7 +112,7 @@ above_initial n above = elim (or_cases (0 == n) false above) [
   | inr wrong ↦ absurd (false≢true wrong)
 ]
 
-settled_with : (permitted : CallKind → Bool) → ExcludesSpaces permitted → Settled permitted no_new_spaces.files kept (100 ∷ [])
+settled_with : (permitted : CallKind → Bool) → ExcludesSpaces permitted → Settled (λ pid. permitted) permitted no_new_spaces.files kept (100 ∷ [])
 settled_with permitted excluded = record {
   plain = each_alone keeper with_child (100 ∷ []) (IsPlain with_child) (record {
     has_none = record { permitted = refl; effective = refl; inheritable = refl; ambient = refl };
@@ -118,9 +120,10 @@ settled_with permitted excluded = record {
   });
   excluded = excluded;
   programs = inl (each_alone keeper with_child (100 ∷ []) (λ p. p.cred.no_new_privs ≡ true) refl);
+  same = λ pid member kind. refl;
 }
 
-pub a_daemon_that_gains_nothing_is_settled : Settled (permits no_new_spaces.filter) no_new_spaces.files kept (100 ∷ [])
+pub a_daemon_that_gains_nothing_is_settled : Settled (λ pid. permits no_new_spaces.filter) (permits no_new_spaces.filter) no_new_spaces.files kept (100 ∷ [])
 a_daemon_that_gains_nothing_is_settled = settled_with (permits no_new_spaces.filter) (no_spaces _ refl refl refl)
 
 -- it still gets what a saved user id brings
@@ -156,8 +159,54 @@ kept_maps (suc (suc k)) d low = absurd (omega (arith, low))
 pub without_these_calls_it_never_does : AllMeet (permits no_uid_calls.filter) no_uid_calls.files kept (100 ∷ []) (Cap 5 1) → ⊥
 unfolding SettledIsNeverOpen first_found
 without_these_calls_it_never_does all =
-    settled_is_never_open (permits no_uid_calls.filter) no_uid_calls kept (100 ∷ []) (Cap 5 1) kept_fits kept_maps
+    settled_is_never_open (λ pid. permits no_uid_calls.filter) (permits no_uid_calls.filter) no_uid_calls kept (100 ∷ []) (Cap 5 1) kept_fits kept_maps
     (settled_with (permits no_uid_calls.filter) (no_spaces _ refl refl refl)) (record { met = all; unfound = refl })
+
+-- ---- members that may not call the same: who has the saved user id may not make it the effective one, and the other may
+abbrev neighbour : Process
+neighbour = process 101 (record (user 1000) { no_new_privs = true })
+
+abbrev keeper_and_neighbour : State
+keeper_and_neighbour = record { processes = keeper ∷ neighbour ∷ []; spaces = with_child }
+
+abbrev by_member : MayCall
+by_member pid = permits (if pid == 100 then no_uid_calls.filter else no_new_spaces.filter)
+
+pub what_one_may_not_call_leaves_it_open : IsOpen by_member (permits no_new_spaces.filter) no_new_spaces keeper_and_neighbour (100 ∷ 101 ∷ []) (Cap 5 1)
+unfolding first_found
+what_one_may_not_call_leaves_it_open = record {
+  met = λ bounds encloses.
+      let start = held (permits no_new_spaces.filter) no_new_spaces keeper_and_neighbour (100 ∷ 101 ∷ []) bounds encloses in (
+        Standing 0,
+        refl,
+        inr (
+          1,
+          (refl, refl),
+          encloses.closed SetUid (Standing 0) refl EffectiveUids 500 (
+            refl,
+            (1000, start (Standing 0) EffectiveUids 1000 (inl (100, _, refl, refl, refl, refl)) refl),
+            inl (
+              start (Standing 0) Uids 500 (inl (100, _, refl, refl, refl, refl)) refl,
+              start (Standing 0) MappedUids 500 (inr refl) refl,
+            ),
+          ),
+        ),
+      );
+  unfound = refl;
+}
+
+pub keeper_and_neighbour_are_plain : EachMember keeper_and_neighbour (100 ∷ 101 ∷ []) (IsPlain with_child)
+keeper_and_neighbour_are_plain =
+    each_of_two keeper neighbour with_child (100 ∷ 101 ∷ []) (IsPlain with_child)
+    (record { has_none = record { permitted = refl; effective = refl; inheritable = refl; ambient = refl }; written = above_initial })
+    (record { has_none = record { permitted = refl; effective = refl; inheritable = refl; ambient = refl }; written = above_initial })
+
+pub neither_makes_a_space : ExcludesSpaces (permits no_new_spaces.filter)
+neither_makes_a_space = no_spaces _ refl refl refl
+
+pub programs_give_neither_anything : ProgramsGiveNone no_new_spaces.files keeper_and_neighbour (100 ∷ 101 ∷ [])
+programs_give_neither_anything =
+    inl (each_of_two keeper neighbour with_child (100 ∷ 101 ∷ []) (λ p. p.cred.no_new_privs ≡ true) refl refl)
 
 -- ---- a capability that is permitted, where capset is excluded: it can't be raised, and the bounds don't tell
 abbrev unraised : State
@@ -166,7 +215,7 @@ unraised = one (record (user 1000) { permitted = 0x80; no_new_privs = true })
 abbrev no_capset : World
 no_capset = record world { filter = 0x1c0200 }
 
-pub a_capability_leaves_it_open : IsOpen (permits no_capset.filter) no_capset unraised (100 ∷ []) (Uid 7)
+pub a_capability_leaves_it_open : IsOpen (λ pid. permits no_capset.filter) (permits no_capset.filter) no_capset unraised (100 ∷ []) (Uid 7)
 unfolding first_found
 a_capability_leaves_it_open = record {
   met = λ bounds encloses.
@@ -212,7 +261,7 @@ abbrev box_program : World
 box_program = record (world_with (record (plain_mount (codes "box")) { space = 1 } ∷ [])
     (record file { mount = 1; uid = 500; gid = 34; mode = 0o2755 } ∷ [])) { filter = 0x1c0000 }
 
-pub an_unwritten_map_leaves_it_open : IsOpen (permits box_program.filter) box_program writer_and_runner (100 ∷ 101 ∷ []) (Gid 34)
+pub an_unwritten_map_leaves_it_open : IsOpen (λ pid. permits box_program.filter) (permits box_program.filter) box_program writer_and_runner (100 ∷ 101 ∷ []) (Gid 34)
 unfolding first_found
 an_unwritten_map_leaves_it_open = record {
   met = λ bounds encloses.
@@ -297,7 +346,7 @@ abbrev joinable : World
 joinable = record (world_with (record (plain_mount (codes "box")) { space = 1 } ∷ [])
     (record file { mount = 1; uid = 100005; gid = 100005; mode = 0o4755 } ∷ [])) { filter = 0xc0007 }
 
-pub a_join_leaves_it_open : IsOpen (permits joinable.filter) joinable outside_it (100 ∷ []) (Uid 100005)
+pub a_join_leaves_it_open : IsOpen (λ pid. permits joinable.filter) (permits joinable.filter) joinable outside_it (100 ∷ []) (Uid 100005)
 unfolding first_found
 a_join_leaves_it_open = record {
   met = λ bounds encloses.
@@ -371,7 +420,7 @@ two = with_processes (with_group ∷ without_group ∷ [])
 abbrev pub opt_x : World
 opt_x = record (world_of (record file { path = codes "/opt/x"; gid = 34; mode = 0o4010 })) { filter = 0x1c0000 }
 
-pub a_program_leaves_it_open : IsOpen (permits opt_x.filter) opt_x two (31 ∷ 32 ∷ []) (Uid 0)
+pub a_program_leaves_it_open : IsOpen (λ pid. permits opt_x.filter) (permits opt_x.filter) opt_x two (31 ∷ 32 ∷ []) (Uid 0)
 unfolding first_found
 a_program_leaves_it_open = record {
   met = λ bounds encloses.
@@ -426,7 +475,7 @@ saved_root = process 100 (record (user 1000) { uid = record (all_four 1000) { sa
 abbrev alone : State
 alone = with_processes (saved_root ∷ [])
 
-pub a_root_id_leaves_it_open : IsOpen (permits no_uid_calls.filter) no_uid_calls alone (100 ∷ []) (Cap 7 0)
+pub a_root_id_leaves_it_open : IsOpen (λ pid. permits no_uid_calls.filter) (permits no_uid_calls.filter) no_uid_calls alone (100 ∷ []) (Cap 7 0)
 unfolding first_found
 a_root_id_leaves_it_open = record {
   met = λ bounds encloses.

@@ -30,9 +30,12 @@ use Rattle.model_plans.specs.Move.{Seat, seat_of, Setting, BecomeSought, BecomeG
 use Rattle.model_plans.specs.PlanRun.{setting_in}
 use Rattle.model_plans.specs.Sought.{OwnersAreSought}
 use Rattle.model_plans.specs.Walk.{after_moves}
+use Rattle.model_plans.specs.Shortcuts.{MembersSeatsDecide}
 use Rattle.model_plans.proofs.Becomes.{becomes_are_done}
+use Rattle.model_plans.proofs.Isolated.{members_seats_decide}
 use Rattle.model_plans.proofs.Owners.{owners_are_sought}
 use Rattle.model_verdict.specs.Back.{TakesBack, TakeBack}
+use Rattle.model_verdict.specs.Least.{AllMeet}
 use Rattle.model_verdict.specs.Decides.{IsFound, SettledIsFound, SettledDecides, SettledIsNeverOpen}
 use Rattle.model_verdict.specs.Settled.{Settled, IsPlain, AreWritten}
 use Rattle.model_verdict.proofs.Members.{any_at, MemberIn, some_which}
@@ -74,7 +77,7 @@ owner_has spaces at m n cap c (above, parent) owner =
     by (Some t) is owns = and_from _ _ (is_the_same t.parent at is) (eq-eqb t.owner c.uid.effective (sym owns))
 
 module _ (permitted : CallKind → Bool) (w : World) (s : State) (members : List ℕ) (fits : StateFits s) (maps : All TakeBack s.spaces)
-    (settled : Settled permitted w.files s members) where
+    (settled : Settled (λ n. permitted) permitted w.files s members) where
   -- ---- one member
   module _ (right : Right) (pid : ℕ) (p : Process) (member : IsTrue (is_member members pid)) (at : process_at s.processes pid ≡ Some p) where
     abbrev q : Setting
@@ -121,12 +124,12 @@ module _ (permitted : CallKind → Bool) (w : World) (s : State) (members : List
 
   -- who holds a right now
   found_now : (right : Right) (pid : ℕ) (p : Process) → IsTrue (is_member members pid) → process_at s.processes pid ≡ Some p
-      → holds_right s.spaces p.space p.cred right ≡ true → IsFound permitted w s members right
+      → holds_right s.spaces p.space p.cred right ≡ true → IsFound (λ n. permitted) w s members right
   found_now right pid p member at holds =
       holds_now (λ n. permitted) w s members right pid member (ap (λ (o : Option Process). holds_for s.spaces o right) at ∙ holds)
 
   -- ---- the three rights
-  uid_found : (id n : ℕ) → IsTrue (reached permitted s members (Standing n) EffectiveUids id) → IsFound permitted w s members (Uid id)
+  uid_found : (id n : ℕ) → IsTrue (reached permitted s members (Standing n) EffectiveUids id) → IsFound (λ n. permitted) w s members (Uid id)
   uid_found id n held = elim (or_cases _ _ held) [
     | inl now ↦
         let it : MemberIn s members n (λ c. id == c.uid.effective) = some_which s members n (λ c. id == c.uid.effective) now in
@@ -141,7 +144,7 @@ module _ (permitted : CallKind → Bool) (w : World) (s : State) (members : List
         (subst (λ (m : ℕ). may_map (space_of s.spaces m).uids id ≡ true) (sym it.space) both.1) it.passes))
   ]
 
-  gid_found : (id n : ℕ) → IsTrue (reached permitted s members (Standing n) EffectiveGids id) → IsFound permitted w s members (Gid id)
+  gid_found : (id n : ℕ) → IsTrue (reached permitted s members (Standing n) EffectiveGids id) → IsFound (λ n. permitted) w s members (Gid id)
   gid_found id n held = elim (or_cases _ _ held) [
     | inl now ↦
         let it : MemberIn s members n (λ c. id == c.gid.effective) = some_which s members n (λ c. id == c.gid.effective) now in
@@ -158,14 +161,14 @@ module _ (permitted : CallKind → Bool) (w : World) (s : State) (members : List
         (or_left _ _ (eq-eqb _ id done))
   ]
 
-  group_found : (id n : ℕ) → IsTrue (reached permitted s members (Standing n) Groups id) → IsFound permitted w s members (Gid id)
+  group_found : (id n : ℕ) → IsTrue (reached permitted s members (Standing n) Groups id) → IsFound (λ n. permitted) w s members (Gid id)
   group_found id n held =
       let it : MemberIn s members n (λ c. list_any (λ group. group == id) c.groups)
       = some_which s members n (λ c. list_any (λ group. group == id) c.groups) held in
       found_now (Gid id) it.pid it.p it.member it.at (or_right (it.p.cred.gid.effective == id) _ it.passes)
 
   cap_found : (cap n a m : ℕ) → IsNext s.spaces a n m → IsTrue (reached permitted s members (Standing a) EffectiveUids (space_of s.spaces m).owner)
-      → IsFound permitted w s members (Cap cap n)
+      → IsFound (λ n. permitted) w s members (Cap cap n)
   unfolding OwnersAreSought
   cap_found cap n a m next held = elim (or_cases _ _ held) [
     | inl now ↦
@@ -194,7 +197,7 @@ module _ (permitted : CallKind → Bool) (w : World) (s : State) (members : List
 
   -- what the bounds of a settled family meet is found
   met_found : (right : Right) (row : Row) → MeetsAt s.spaces (λ r part x. IsTrue (reached permitted s members r part x)) right row
-      → IsFound permitted w s members right
+      → IsFound (λ n. permitted) w s members right
   met_found (Cap cap n) (Standing a) (inl (above, has, held)) = absurd (false≢true held)
   met_found (Cap cap n) (Standing a) (inr (m, next, held)) = cap_found cap n a m next held
   met_found (Cap cap n) (Fresh a) wrong = absurd wrong
@@ -205,9 +208,10 @@ module _ (permitted : CallKind → Bool) (w : World) (s : State) (members : List
   met_found (Gid id) (Fresh n) (inl wrong) = absurd (false≢true wrong)
   met_found (Gid id) (Fresh n) (inr wrong) = absurd (false≢true wrong)
 
-pub settled_is_found : SettledIsFound
-unfolding SettledIsFound
-settled_is_found permitted w s members right fits maps settled all =
+-- what all bounds meet is found, where each member may call what they may call together
+same_found : (permitted : CallKind → Bool) (w : World) (s : State) (members : List ℕ) (right : Right) → StateFits s → All TakeBack s.spaces
+    → Settled (λ n. permitted) permitted w.files s members → AllMeet permitted w.files s members right → IsFound (λ n. permitted) w s members right
+same_found permitted w s members right fits maps settled all =
     let met : Meets s.spaces (tested (reached_test permitted s members)) right
     = all (reached_test permitted s members) (reached_encloses permitted w.files s members settled fits.tree fits) in
     let here : Meets s.spaces (λ r part x. IsTrue (reached permitted s members r part x)) right
@@ -215,15 +219,27 @@ settled_is_found permitted w s members right fits maps settled all =
     (test_reached permitted w.files s members settled fits.tree) right met in
     met_found permitted w s members fits maps settled right here.0 here.2
 
+pub settled_is_found : SettledIsFound
+unfolding SettledIsFound MembersSeatsDecide
+settled_is_found own permitted w s members right fits maps settled all =
+    let it : IsFound (λ n. permitted) w s members right
+    = same_found permitted w s members right fits maps (record {
+      plain = settled.plain;
+      excluded = settled.excluded;
+      programs = settled.programs;
+      same = λ pid member kind. refl;
+    }) all in
+    (it.0, members_seats_decide own (λ n. permitted) w s s members right refl (λ pid member. (refl, settled.same pid member)) ∙ it.1)
+
 pub settled_decides : SettledDecides
 unfolding SettledDecides SettledIsFound
-settled_decides permitted w s members right least fits maps settled is met =
-    settled_is_found permitted w s members right fits maps settled
+settled_decides own permitted w s members right least fits maps settled is met =
+    settled_is_found own permitted w s members right fits maps settled
     (λ bounds encloses. meets_more s.spaces (tested least) (tested bounds) (is.within bounds encloses) right met)
 
 pub settled_is_never_open : SettledIsNeverOpen
 unfolding SettledIsNeverOpen SettledIsFound
-settled_is_never_open permitted w s members right fits maps settled open_on =
-    let (found, is) = settled_is_found permitted w s members right fits maps settled open_on.met in
+settled_is_never_open own permitted w s members right fits maps settled open_on =
+    let (found, is) = settled_is_found own permitted w s members right fits maps settled open_on.met in
     let no : Some found ≡ None = sym is ∙ open_on.unfound in
     absurd (cc)

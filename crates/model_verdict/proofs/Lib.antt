@@ -13,7 +13,13 @@ pub mod Deciding
 pub mod DecidedRules
 pub mod Limits
 pub mod Sums
+pub mod Turned
+pub mod Rounds
+pub mod Parts
+pub mod Lacking
+pub mod Ends
 pub mod Exists
+pub mod RowMeanings
 pub mod Cases
 pub mod BlameCase
 pub mod Verdicts

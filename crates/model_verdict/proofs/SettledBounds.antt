@@ -25,13 +25,14 @@ use Rattle.model_box.specs.Rule.{ExecGid, ExecCaps, ExecRoot, Create, Join, Maps
 use Rattle.model_box.specs.Closed.{ClosedAt, Closed, OwnerByFile, GroupByFile, CapByFile, CapByRoot}
 use Rattle.model_box.specs.Files.{IdIn, MayBeZero, SetIdCan, is_program}
 use Rattle.model_box.specs.Covers.{StateFits}
+use Rattle.model_box.specs.Encloses.{Encloses}
 use Rattle.model_box.specs.Laws.{tested}
 use Rattle.model_box.specs.Start.{SpaceMaps, HoldsStart}
 use Rattle.model_box.proofs.Monotone.{adds_more}
 use Rattle.model_box.proofs.Starts.{row_back, covers_start}
 use Rattle.model_box.proofs.Trees.{at_or_above_self}
 use Rattle.model_box.proofs.Excludes.{tree_earlier}
-use Rattle.model_verdict.specs.Least.{Test, Encloses}
+use Rattle.model_verdict.specs.Least.{Test}
 use Rattle.model_verdict.specs.Settled.{Settled, serves, NoneServes, RootGainsNone, ProgramsGiveNone, AreWritten}
 use Rattle.model_verdict.proofs.Members.{any_at, some_in, MemberIn, some_from, some_which}
 
@@ -140,7 +141,7 @@ no_more : (b : Bool) → b ≡ true → not b ≡ true → ⊥
 no_more true is other = false≢true other
 no_more false is other = false≢true is
 
-module _ (permitted : CallKind → Bool) (files : FileTable) (s : State) (members : List ℕ) (settled : Settled permitted files s members)
+module _ (permitted : CallKind → Bool) (files : FileTable) (s : State) (members : List ℕ) (settled : Settled (λ n. permitted) permitted files s members)
     (tree : IsTree s.spaces) where
   abbrev Reached : Row → Part → ℕ → Type 0
   Reached row part x = IsTrue (reached permitted s members row part x)
@@ -400,7 +401,7 @@ module _ (permitted : CallKind → Bool) (files : FileTable) (s : State) (member
   pub reached_test_has : IsWithin Reached (tested (reached_test permitted s members))
   reached_test_has row part x held = subst (λ (r : Row). IsTrue (reached permitted s members r part x)) (sym (row_back row)) held
 
-  pub reached_encloses : StateFits s → Encloses permitted files s members (reached_test permitted s members)
+  pub reached_encloses : StateFits s → Encloses permitted files s members (tested (reached_test permitted s members))
   reached_encloses fits = record {
     closed = λ rule row standing part x added.
         reached_test_has row part x

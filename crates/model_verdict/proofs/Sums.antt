@@ -1,5 +1,5 @@
--- Sums over the numbers below a limit, and a sequence that grows below a limit and so comes to rest.
-use Rattle.std.proofs.Common.{◌≡◌, ◌⊎◌, ℕ, zero, suc, ◌+◌, ◌*◌, ◌<◌, ◌≤◌, Bool, true, false, refl, sym, inl, inr, subst, arith}
+-- Sums over the numbers below a limit, and a sequence that falls and so comes to rest.
+use Rattle.std.proofs.Common.{◌≡◌, ◌⊎◌, ℕ, zero, suc, ◌+◌, ◌<◌, ◌≤◌, Bool, true, false, refl, sym, inl, inr, subst, arith}
 
 pub sum_below : (ℕ → ℕ) → ℕ → ℕ
 sum_below g zero = 0
@@ -12,14 +12,6 @@ sum_more g h (suc n) more =
     let rest : sum_below g n ≤ sum_below h n = sum_more g h n (λ i low. more i (omega (arith, low))) in
     let last : g n ≤ h n = more n (omega arith) in
     omega (arith, rest, last)
-
-pub sum_low : (g : ℕ → ℕ) (n most : ℕ) → ((i : ℕ) → i < n → g i ≤ most) → sum_below g n ≤ n * most
-unfolding sum_below
-sum_low g zero most low = omega arith
-sum_low g (suc n) most low =
-    let rest : sum_below g n ≤ n * most = sum_low g n most (λ i less. low i (omega (arith, less))) in
-    let last : g n ≤ most = low n (omega arith) in
-    grind (arith, rest, last)
 
 -- a number below the next one is below it or is it
 pub earlier_or_here : (i n : ℕ) → i < suc n → (i < n) ⊎ (i ≡ n)
@@ -48,27 +40,22 @@ bit_more false b more = omega arith
 bit_more true true more = omega arith
 bit_more true false more = absurd (let no : false ≡ true = more refl in cc)
 
-pub bit_low : (a : Bool) → bit a ≤ 1
-unfolding bit
-bit_low false = omega arith
-bit_low true = omega arith
-
 pub more_bit : (a b : Bool) → bit b ≤ bit a → b ≡ true → a ≡ true
 unfolding bit
 more_bit true b less is = refl
 more_bit false true less is = absurd (omega (arith, less))
 more_bit false false less is = absurd (let no : false ≡ true = is in cc)
 
-grown_or_not : (m n : ℕ) → (n ≤ m) ⊎ (m < n)
+pub grown_or_not : (m n : ℕ) → (n ≤ m) ⊎ (m < n)
 grown_or_not m n = grind arith
 
-comes_to_rest : (f : ℕ → ℕ) (most : ℕ) → ((k : ℕ) → f k ≤ most) → (fuel k : ℕ) → most < f k + fuel → (j : ℕ) × (f (suc j) ≤ f j)
-comes_to_rest f most low zero k less = let under : f k ≤ most = low k in absurd (omega (arith, less, under))
-comes_to_rest f most low (suc fuel) k less = elim (grown_or_not (f k) (f (suc k))) [
+comes_to_rest : (f : ℕ → ℕ) (fuel k : ℕ) → f k ≤ fuel → (j : ℕ) × (f j ≤ f (suc j))
+comes_to_rest f zero k low = (k, omega (arith, low))
+comes_to_rest f (suc fuel) k low = elim (grown_or_not (f (suc k)) (f k)) [
   | inl rests ↦ (k, rests)
-  | inr grows ↦ comes_to_rest f most low fuel (suc k) (omega (arith, less, grows))
+  | inr falls ↦ comes_to_rest f fuel (suc k) (omega (arith, low, falls))
 ]
 
--- a sequence below a limit doesn't grow at some step
-pub some_rest : (f : ℕ → ℕ) (most : ℕ) → ((k : ℕ) → f k ≤ most) → (j : ℕ) × (f (suc j) ≤ f j)
-some_rest f most low = comes_to_rest f most low (suc most) 0 (omega arith)
+-- a sequence doesn't fall for ever
+pub some_rest : (f : ℕ → ℕ) → (j : ℕ) × (f j ≤ f (suc j))
+some_rest f = comes_to_rest f (f 0) 0 (omega arith)

@@ -1,19 +1,19 @@
 -- What is blamed where the least closed covering bounds meet a right: the rule and the row after which the sweep first
 -- meets it, or the start.
-use Rattle.std.specs.Prelude.{◌≡◌, ◌↔◌, ℕ, suc, ◌<◌, ◌≤◌, Bool, true, false, IsTrue, List}
+use Rattle.std.specs.Prelude.{◌≡◌, ◌↔◌, ℕ, suc, ◌≤◌, Bool, true, false, List}
 use Rattle.cm_filter.specs.declared.kind.CallKind.{CallKind}
 use Rattle.model_cred.specs.Files.{FileTable}
 use Rattle.model_cred.specs.Process.{State, KeepsState}
 use Rattle.model_cred.specs.Right.{Right}
-use Rattle.model_cred.specs.Space.{Spaces, stands}
-use Rattle.model_box.specs.Row.{Part, Row, row_number, space_under, IsWithin}
+use Rattle.model_box.specs.Row.{Part, Row, IsWithin}
 use Rattle.model_box.specs.Rule.{Rule, SetUid, SetFsUid, SetGid, SetFsGid, SetGroups, CapSet, SecureBits, ExecUid}
 use Rattle.model_box.specs.Rule.{ExecGid, ExecCaps, ExecRoot, Create, Join, Maps}
 use Rattle.model_box.specs.Start.{StartHas}
 use Rattle.model_box.specs.Covers.{StateFits}
+use Rattle.model_box.specs.Encloses.{Encloses}
 use Rattle.model_box.specs.Laws.{tested}
-use Rattle.model_box.specs.Meets.{MeetsAt, Meets}
-use Rattle.model_verdict.specs.Least.{Test, Encloses, IsLeast}
+use Rattle.model_box.specs.Meets.{Meets, IsFirstMet}
+use Rattle.model_verdict.specs.Least.{Test, Says, IsLeast}
 use Rattle.model_verdict.specs.Sweep.{Turn, turn_at, swept}
 
 -- What is blamed: the start, with the first row by which the start bounds meet the right; or a rule at a row.
@@ -21,21 +21,11 @@ pub data Blame : Type 0 where
   AtStart : Row → Blame
   ByTurn : Turn → Blame
 
--- the first row by which the bounds meet the right
-pub record IsFirstMet (spaces : Spaces) (bounds : Row → Part → ℕ → Type 0) (right : Right) (row : Row) : Type 0 where
-  pub standing : IsTrue (stands spaces (space_under row))
-  pub meets : MeetsAt spaces bounds right row
-  pub first : (earlier : Row) → row_number earlier < row_number row → MeetsAt spaces bounds right earlier → ⊥
-
 -- The bounds first meet the right after the turn of that number: not at the start, nor after an earlier turn.
 pub record FirstMeets (permitted : CallKind → Bool) (files : FileTable) (s : State) (members : List ℕ) (right : Right)
     (k : ℕ) : Type 0 where
   pub before : (j : ℕ) → j ≤ k → Meets s.spaces (swept permitted files s members j) right → ⊥
   pub meets : Meets s.spaces (swept permitted files s members (suc k)) right
-
--- the test says what the bounds hold
-abbrev pub Says : Test → (Row → Part → ℕ → Type 0) → Type 0
-Says test bounds = (row : Row) (part : Part) (x : ℕ) → tested test row part x ↔ bounds row part x
 
 -- What is blamed, with the bounds just before: where the start bounds meet the right, the start; else the first turn
 -- after which the bounds meet it.
@@ -51,7 +41,7 @@ unfoldable pub BlameIsWithin : Type 0
 BlameIsWithin =
     (permitted : CallKind → Bool) (files : FileTable) (s : State) (members : List ℕ) (right : Right) (blame : Blame)
     (below other : Test) → StateFits s → IsBlame permitted files s members right blame below
-    → Encloses permitted files s members other → IsWithin (tested below) (tested other)
+    → Encloses permitted files s members (tested other) → IsWithin (tested below) (tested other)
 
 -- Blame is determined: what is blamed, and what the bounds before it hold.
 unfoldable pub OneBlame : Type 0

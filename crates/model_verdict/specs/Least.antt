@@ -5,8 +5,7 @@ use Rattle.model_cred.specs.Files.{FileTable}
 use Rattle.model_cred.specs.Process.{State, KeepsState}
 use Rattle.model_cred.specs.Right.{Right}
 use Rattle.model_box.specs.Row.{Part, Row, IsWithin}
-use Rattle.model_box.specs.Closed.{Closed}
-use Rattle.model_box.specs.Covers.{Covers}
+use Rattle.model_box.specs.Encloses.{Encloses}
 use Rattle.model_box.specs.Laws.{tested}
 use Rattle.model_box.specs.Meets.{Meets}
 
@@ -14,17 +13,15 @@ use Rattle.model_box.specs.Meets.{Meets}
 abbrev pub Test : Type 0
 Test = ℕ → Part → ℕ → Bool
 
--- The bounds are closed, and cover the members at the query.
-pub record Encloses (permitted : CallKind → Bool) (files : FileTable) (s : State) (members : List ℕ) (bounds : Test)
-    : Type 0 where
-  pub closed : Closed permitted files s.spaces (tested bounds)
-  pub covers : Covers s s members (tested bounds)
+-- the test says what the bounds hold
+abbrev pub Says : Test → (Row → Part → ℕ → Type 0) → Type 0
+Says test bounds = (row : Row) (part : Part) (x : ℕ) → tested test row part x ↔ bounds row part x
 
--- The bounds are the least of these: each other such bounds hold them.
+-- The bounds are the least of those that are closed and cover the members at the query: each other such bounds hold them.
 pub record IsLeast (permitted : CallKind → Bool) (files : FileTable) (s : State) (members : List ℕ) (bounds : Test)
     : Type 0 where
-  pub encloses : Encloses permitted files s members bounds
-  pub within : (other : Test) → Encloses permitted files s members other → IsWithin (tested bounds) (tested other)
+  pub encloses : Encloses permitted files s members (tested bounds)
+  pub within : (other : Test) → Encloses permitted files s members (tested other) → IsWithin (tested bounds) (tested other)
 
 -- There are least bounds, of each state.
 unfoldable pub LeastExist : Type 0
@@ -40,7 +37,7 @@ OneLeast = (permitted : CallKind → Bool) (files : FileTable) (s : State) (memb
 -- each bounds that are closed and cover the members meet the right
 abbrev pub AllMeet : (CallKind → Bool) → FileTable → State → List ℕ → Right → Type 0
 AllMeet permitted files s members right =
-    (bounds : Test) → Encloses permitted files s members bounds → Meets s.spaces (tested bounds) right
+    (bounds : Test) → Encloses permitted files s members (tested bounds) → Meets s.spaces (tested bounds) right
 
 -- The least bounds meet a right exactly where all closed covering bounds do: so some that don't meet it are there
 -- exactly where the least ones don't.
@@ -61,4 +58,4 @@ unfoldable pub LeastWithinLists : Type 0
 LeastWithinLists =
     (permitted : CallKind → Bool) (files : FileTable) (s : State) (members : List ℕ) (bounds : Test)
     → IsLeast permitted files s members bounds → (rows : List (Part → ℕ → Bool))
-    → Encloses permitted files s members (listed rows) → IsWithin (tested bounds) (tested (listed rows))
+    → Encloses permitted files s members (tested (listed rows)) → IsWithin (tested bounds) (tested (listed rows))

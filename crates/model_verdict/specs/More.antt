@@ -8,7 +8,8 @@ use Rattle.model_cred.specs.World.{World}
 use Rattle.model_run.specs.Later.{is_member}
 use Rattle.model_box.specs.Covers.{StateFits}
 use Rattle.model_box.specs.Row.{IsWithin}
-use Rattle.model_box.specs.Laws.{tested}
+use Rattle.model_box.specs.Laws.{tested, PermitsWithin}
+use Rattle.model_plans.specs.Move.{MayCall}
 use Rattle.model_verdict.specs.Least.{Test, IsLeast}
 use Rattle.model_verdict.specs.Decides.{IsFound}
 
@@ -18,12 +19,13 @@ AreAmong members more = (pid : ℕ) → IsTrue (is_member members pid) → IsTru
 
 -- What plans find is found with more members too: no `no` is lost.
 unfoldable pub MoreFind : Type 0
-MoreFind = (permitted : CallKind → Bool) (w : World) (s : State) (members more : List ℕ) (right : Right)
-    → AreAmong members more → IsFound permitted w s members right → IsFound permitted w s more right
+MoreFind = (own : MayCall) (w : World) (s : State) (members more : List ℕ) (right : Right)
+    → AreAmong members more → IsFound own w s members right → IsFound own w s more right
 
--- Bounds that enclose more members enclose these, so the least bounds of more members are no smaller.
+-- Bounds that enclose more members, which may call no less together, enclose these: so the least bounds of more members
+-- are no smaller.
 unfoldable pub MoreNeedMore : Type 0
 MoreNeedMore =
-    (permitted : CallKind → Bool) (files : FileTable) (s : State) (members more : List ℕ) (bounds larger : Test)
-    → StateFits s → AreAmong members more → IsLeast permitted files s members bounds
-    → IsLeast permitted files s more larger → IsWithin (tested bounds) (tested larger)
+    (permitted wider : CallKind → Bool) (files : FileTable) (s : State) (members more : List ℕ) (bounds larger : Test)
+    → StateFits s → PermitsWithin permitted wider → AreAmong members more → IsLeast permitted files s members bounds
+    → IsLeast wider files s more larger → IsWithin (tested bounds) (tested larger)

@@ -12,6 +12,7 @@ use Rattle.model_rules.specs.Securebits.{has_flag, noroot}
 use Rattle.model_rules.specs.Zero.{has_zero}
 use Rattle.model_run.specs.Later.{is_member}
 use Rattle.model_box.specs.Files.{is_program}
+use Rattle.model_plans.specs.Move.{MayCall}
 
 -- so it is of each member that lives
 abbrev pub EachMember : State → List ℕ → (Process → Type 0) → Type 0
@@ -67,8 +68,16 @@ abbrev pub ProgramsGiveNone : FileTable → State → List ℕ → Type 0
 ProgramsGiveNone files s members =
     EachMember s members (λ p. p.cred.no_new_privs ≡ true) ⊎ (NoneServes files s members × RootGainsNone s members)
 
--- A settled family: its members are plain; it makes and joins no space; programs give it nothing.
-pub record Settled (permitted : CallKind → Bool) (files : FileTable) (s : State) (members : List ℕ) : Type 0 where
+-- All members may call the same: each of them what they may call together.
+abbrev pub MayCallTheSame : MayCall → (CallKind → Bool) → List ℕ → Type 0
+MayCallTheSame own permitted members =
+    (pid : ℕ) → IsTrue (is_member members pid) → (kind : CallKind) → own pid kind ≡ permitted kind
+
+-- A settled family: its members are plain; it makes and joins no space; programs give it nothing; all members may call
+-- the same. `own` says what each member may call, `permitted` what they may call together.
+pub record Settled (own : MayCall) (permitted : CallKind → Bool) (files : FileTable) (s : State) (members : List ℕ)
+    : Type 0 where
   pub plain : EachMember s members (IsPlain s.spaces)
   pub excluded : ExcludesSpaces permitted
   pub programs : ProgramsGiveNone files s members
+  pub same : MayCallTheSame own permitted members

@@ -7,11 +7,12 @@ use Rattle.model_cred.specs.Process.{State, KeepsState}
 use Rattle.model_cred.specs.Space.{Spaces}
 use Rattle.model_box.specs.Row.{Part, Row, row_at, IsWithin}
 use Rattle.model_box.specs.Rule.{Rule, Maps, rules_in_order, rule_number}
-use Rattle.model_box.specs.Closed.{Adds}
+use Rattle.model_box.specs.Closed.{Adds, Closed}
 use Rattle.model_box.specs.Start.{StartHas}
 use Rattle.model_box.specs.Covers.{StateFits}
+use Rattle.model_box.specs.Encloses.{Encloses}
 use Rattle.model_box.specs.Laws.{tested}
-use Rattle.model_verdict.specs.Least.{Test, Encloses, IsLeast}
+use Rattle.model_verdict.specs.Least.{Test, Says, IsLeast}
 
 -- A turn: a rule at a row.
 pub record Turn : Type 0 where
@@ -56,8 +57,32 @@ SweepGrows = (permitted : CallKind → Bool) (files : FileTable) (s : State) (me
 unfoldable pub SweepStaysWithin : Type 0
 SweepStaysWithin =
     (permitted : CallKind → Bool) (files : FileTable) (s : State) (members : List ℕ) (k : ℕ) (other : Test)
-    → StateFits s → Encloses permitted files s members other
+    → StateFits s → Encloses permitted files s members (tested other)
     → IsWithin (swept permitted files s members k) (tested other)
+
+-- how many turns there are before a round
+abbrev pub turns_before : Spaces → ℕ → ℕ
+turns_before spaces round = 14 * round * row_count spaces
+
+-- The round adds nothing.
+abbrev pub AddsNothing : (CallKind → Bool) → FileTable → State → List ℕ → ℕ → Type 0
+AddsNothing permitted files s members round =
+    IsWithin (swept permitted files s members (turns_before s.spaces (suc round)))
+    (swept permitted files s members (turns_before s.spaces round))
+
+-- A round that adds nothing begins with closed bounds.
+unfoldable pub IdleRoundsBeginClosed : Type 0
+IdleRoundsBeginClosed =
+    (permitted : CallKind → Bool) (files : FileTable) (s : State) (members : List ℕ) (round : ℕ)
+    → AddsNothing permitted files s members round
+    → Closed permitted files s.spaces (swept permitted files s members (turns_before s.spaces round))
+
+-- A test that says what the sweep gives after some number of turns, and is closed, is the least.
+unfoldable pub ClosedTurnsAreLeast : Type 0
+ClosedTurnsAreLeast =
+    (permitted : CallKind → Bool) (files : FileTable) (s : State) (members : List ℕ) (test : Test) (k : ℕ)
+    → StateFits s → Says test (swept permitted files s members k) → Closed permitted files s.spaces (tested test)
+    → IsLeast permitted files s members test
 
 -- The least bounds hold what the sweep ever gives, and nothing else.
 unfoldable pub SweepComesToLeast : Type 0

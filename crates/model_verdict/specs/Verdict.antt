@@ -7,13 +7,15 @@ use Rattle.model_cred.specs.Right.{Right}
 use Rattle.model_cred.specs.World.{World}
 use Rattle.model_run.specs.Holds.{process_holds}
 use Rattle.model_run.specs.Later.{Later, is_member}
+use Rattle.model_box.specs.Encloses.{Encloses}
 use Rattle.model_box.specs.Files.{FilesFit}
-use Rattle.model_box.specs.Laws.{tested}
+use Rattle.model_box.specs.Laws.{tested, PermitsWithin}
 use Rattle.model_box.specs.Meets.{Meets, IsOverStanding}
 use Rattle.model_box.specs.Row.{Part, Row}
 use Rattle.model_plans.specs.Firsts.{EndsHolding}
+use Rattle.model_plans.specs.Move.{MayCall}
 use Rattle.model_plans.specs.PlanRun.{Found, first_found}
-use Rattle.model_verdict.specs.Least.{Test, Encloses, IsLeast, AllMeet}
+use Rattle.model_verdict.specs.Least.{Test, IsLeast, AllMeet}
 use Rattle.model_verdict.specs.Blame.{Blame, IsBlame}
 use Rattle.model_verdict.specs.Settled.{Settled}
 use Rattle.model_verdict.specs.Decides.{IsOpen}
@@ -26,23 +28,25 @@ pub data Verdict : Type 0 where
   Undecided : Blame → Test → Verdict
 
 -- Which verdict it is: no where a plan of the list ends with a holder, with the first such plan. Else yes where the
--- least closed covering bounds don't meet the right. Else undecided.
-abbrev pub IsVerdict : (CallKind → Bool) → World → State → List ℕ → Right → Verdict → Type 0
-IsVerdict permitted w s members right (No found) = first_found (λ pid. permitted) w s members right ≡ Some found
-IsVerdict permitted w s members right (Yes bounds) =
-    (first_found (λ pid. permitted) w s members right ≡ None)
+-- least closed covering bounds don't meet the right. Else undecided. Plans go by what each member may call (`own`),
+-- bounds by what they may call together (`permitted`).
+abbrev pub IsVerdict : MayCall → (CallKind → Bool) → World → State → List ℕ → Right → Verdict → Type 0
+IsVerdict own permitted w s members right (No found) = first_found own w s members right ≡ Some found
+IsVerdict own permitted w s members right (Yes bounds) =
+    (first_found own w s members right ≡ None)
     × IsLeast permitted w.files s members bounds
     × (Meets s.spaces (tested bounds) right → ⊥)
-IsVerdict permitted w s members right (Undecided blame below) =
-    (first_found (λ pid. permitted) w s members right ≡ None)
+IsVerdict own permitted w s members right (Undecided blame below) =
+    (first_found own w s members right ≡ None)
     × AllMeet permitted w.files s members right
     × IsBlame permitted w.files s members right blame below
 
 -- There is a verdict on each right, in each state.
 unfoldable pub VerdictIsThere : Type 0
 VerdictIsThere =
-    (permitted : CallKind → Bool) (w : World) (s : State) (members : List ℕ) (right : Right) → KeepsState s
-    → (verdict : Verdict) × IsVerdict permitted w s members right verdict
+    (own : MayCall) (permitted : CallKind → Bool) (w : World) (s : State) (members : List ℕ) (right : Right)
+    → KeepsState s
+    → (verdict : Verdict) × IsVerdict own permitted w s members right verdict
 
 -- the two tests say the same
 abbrev pub SaySame : Test → Test → Type 0
@@ -58,21 +62,24 @@ AreOne _ _ = ⊥
 -- And there is one alone.
 unfoldable pub OneVerdict : Type 0
 OneVerdict =
-    (permitted : CallKind → Bool) (w : World) (s : State) (members : List ℕ) (right : Right) (one two : Verdict)
-    → IsVerdict permitted w s members right one → IsVerdict permitted w s members right two → AreOne one two
+    (own : MayCall) (permitted : CallKind → Bool) (w : World) (s : State) (members : List ℕ) (right : Right)
+    (one two : Verdict)
+    → IsVerdict own permitted w s members right one → IsVerdict own permitted w s members right two → AreOne one two
 
 -- No: there is a later run, after which a member holds the right.
 unfoldable pub NoIsShown : Type 0
 NoIsShown =
-    (permitted : CallKind → Bool) (w : World) (s : State) (members : List ℕ) (right : Right) (found : Found)
-    → IsVerdict permitted w s members right (No found) → EndsHolding (λ pid. permitted) w s members right found
+    (own : MayCall) (permitted : CallKind → Bool) (w : World) (s : State) (members : List ℕ) (right : Right)
+    (found : Found)
+    → IsVerdict own permitted w s members right (No found) → EndsHolding own w s members right found
 
 -- Yes: after no later run, of any length, does a member hold the right.
 unfoldable pub YesIsKept : Type 0
 YesIsKept =
-    (permitted : CallKind → Bool) (w : World) (s : State) (members : List ℕ) (right : Right) (bounds : Test)
+    (own : MayCall) (permitted : CallKind → Bool) (w : World) (s : State) (members : List ℕ) (right : Right)
+    (bounds : Test)
     → KeepsState s → FilesFit w.files s.spaces → IsOverStanding s.spaces right
-    → IsVerdict permitted w s members right (Yes bounds)
+    → IsVerdict own permitted w s members right (Yes bounds)
     → (events : List Event) (later : State) (members_then : List ℕ)
     → Later permitted w s members events later members_then
     → (pid : ℕ) → IsTrue (is_member members_then pid) → process_holds later pid right ≡ false
@@ -81,27 +88,34 @@ YesIsKept =
 pub record Excluding (permitted : CallKind → Bool) (w : World) (s : State) (members : List ℕ) (right : Right)
     : Type 0 where
   pub bounds : Test
-  pub encloses : Encloses permitted w.files s members bounds
+  pub encloses : Encloses permitted w.files s members (tested bounds)
   pub apart : Meets s.spaces (tested bounds) right → ⊥
+
+-- what each member may call, they may call together
+abbrev pub MayCallWithin : MayCall → (CallKind → Bool) → List ℕ → Type 0
+MayCallWithin own permitted members =
+    (pid : ℕ) → IsTrue (is_member members pid) → PermitsWithin (own pid) permitted
 
 -- It is yes exactly where some closed covering bounds don't meet the right.
 unfoldable pub YesExactly : Type 0
 YesExactly =
-    (permitted : CallKind → Bool) (w : World) (s : State) (members : List ℕ) (right : Right)
+    (own : MayCall) (permitted : CallKind → Bool) (w : World) (s : State) (members : List ℕ) (right : Right)
+    → MayCallWithin own permitted members
     → KeepsState s → FilesFit w.files s.spaces → IsOverStanding s.spaces right
-    → ((bounds : Test) × IsVerdict permitted w s members right (Yes bounds)) ↔ Excluding permitted w s members right
+    → ((bounds : Test) × IsVerdict own permitted w s members right (Yes bounds)) ↔ Excluding permitted w s members right
 
 -- It is undecided exactly where the verdict is open: all closed covering bounds meet the right, and no plan of the list
 -- ends holding it.
 unfoldable pub UndecidedExactly : Type 0
 UndecidedExactly =
-    (permitted : CallKind → Bool) (w : World) (s : State) (members : List ℕ) (right : Right) → KeepsState s
-    → ((blame : Blame) × (below : Test) × IsVerdict permitted w s members right (Undecided blame below))
-    ↔ IsOpen permitted w s members right
+    (own : MayCall) (permitted : CallKind → Bool) (w : World) (s : State) (members : List ℕ) (right : Right)
+    → KeepsState s
+    → ((blame : Blame) × (below : Test) × IsVerdict own permitted w s members right (Undecided blame below))
+    ↔ IsOpen own permitted w s members right
 
 -- Undecided: the family isn't settled.
 unfoldable pub UndecidedIsUnsettled : Type 0
 UndecidedIsUnsettled =
-    (permitted : CallKind → Bool) (w : World) (s : State) (members : List ℕ) (right : Right) (blame : Blame)
-    (below : Test) → KeepsState s
-    → IsVerdict permitted w s members right (Undecided blame below) → Settled permitted w.files s members → ⊥
+    (own : MayCall) (permitted : CallKind → Bool) (w : World) (s : State) (members : List ℕ) (right : Right)
+    (blame : Blame) (below : Test) → KeepsState s
+    → IsVerdict own permitted w s members right (Undecided blame below) → Settled own permitted w.files s members → ⊥

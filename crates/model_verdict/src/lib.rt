@@ -6,6 +6,7 @@ mod alike;
 mod blame;
 mod least;
 mod more;
+mod rows;
 mod settled;
 mod sweep;
 mod verdict;
@@ -21,14 +22,15 @@ pub use least::{
     least_bounds_meet_if_all_do,
 };
 pub use more::{more_members_find_as_much, more_members_need_no_smaller_bounds};
+pub use rows::rows_of_one_meaning_are_one_list;
 pub use settled::{
     kept_states_take_their_ids_back, maps_take_their_ids_back, runs_keep_maps_taking_back,
     settled_families_are_decided, settled_families_are_never_open,
     settled_families_find_what_all_bounds_meet,
 };
 pub use sweep::{
-    sweep_comes_to_the_least_bounds, sweep_grows, sweep_stays_within_closed_covering_bounds,
-    turns_go_by_rounds,
+    closed_turns_are_least, idle_rounds_begin_closed, sweep_comes_to_the_least_bounds, sweep_grows,
+    sweep_stays_within_closed_covering_bounds, turns_go_by_rounds,
 };
 pub use verdict::{
     no_is_shown_by_a_run, undecided_comes_exactly_where_it_is_open,

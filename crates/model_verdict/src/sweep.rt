@@ -1,5 +1,6 @@
 // The sweep of the rules over the rows.
 ghost use Rattle.model_verdict.specs.Sweep.{TurnsGoByRounds, SweepGrows, SweepStaysWithin, SweepComesToLeast};
+ghost use Rattle.model_verdict.specs.Sweep.{IdleRoundsBeginClosed, ClosedTurnsAreLeast};
 
 /// In a round each rule of the order has its turn at each row.
 #[tactic(auto, using(crate::proofs::Sweeps::turns_go_by_rounds))]
@@ -17,6 +18,18 @@ pub fn sweep_grows()
 #[tactic(auto, using(crate::proofs::Sweeps::sweep_stays_within))]
 pub fn sweep_stays_within_closed_covering_bounds()
     ensures { SweepStaysWithin }
+{}
+
+/// A round that adds nothing begins with closed bounds.
+#[tactic(auto, using(crate::proofs::Rounds::idle_rounds_begin_closed))]
+pub fn idle_rounds_begin_closed()
+    ensures { IdleRoundsBeginClosed }
+{}
+
+/// A test that says what the sweep gives after some number of turns, and is closed, is the least.
+#[tactic(auto, using(crate::proofs::Rounds::closed_turns_are_least))]
+pub fn closed_turns_are_least()
+    ensures { ClosedTurnsAreLeast }
 {}
 
 /// The least bounds hold what the sweep ever gives, and nothing else.

@@ -1,9 +1,14 @@
 use Rattle.cm_filter.specs.Filters.{permits}
+use Rattle.model_box.specs.Closed.{Adds}
+use Rattle.model_box.specs.Row.{row_at}
+use Rattle.cm_box_rows.specs.Rows.{RowsHold}
 use Rattle.cm_box.specs.Rules.{rule_of}
-use Rattle.cm_box.proofs.Rewriting.{joined_to_copy}
+use Rattle.cm_box.proofs.Rewriting.{widened_at}
 use Rattle.cm_box.proofs.adding.rule.Goals as goal
 
 pub returns-clause-joined : goal.returns-clause-joined
 returns-clause-joined c =
-    joined_to_copy (permits c.args.s.now.filter) c.args.s.now.files.now c.args.s.now.state.now.spaces c.args.b.now c.in_ok-new.new
-    c.in_ok-new.ensures.same (rule_of c.args.x) c.args.row c.apply.new.b c.in_ok-apply.ensures.joined
+    rw c.put.ensures (widened_at c.args.b.now c.in_ok-new.new c.args.row c.in_ok-wider.wider
+    (Adds (permits c.args.s.now.filter) c.args.s.now.files.now c.args.s.now.state.now.spaces (RowsHold c.args.b.now)
+    (rule_of c.args.x) (row_at c.args.row)) c.in_ok-new.ensures.same
+    (rw c.in_ok-new.ensures.count c.requires.there) c.in_ok-wider.ensures)

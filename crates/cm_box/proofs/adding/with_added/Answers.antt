@@ -1,0 +1,20 @@
+use Rattle.std.proofs.Common.{◌≡◌, ◌∙◌, ap}
+use Rattle.cm_filter.specs.Filters.{permits}
+use Rattle.model_box.specs.Bounds.{row_in}
+use Rattle.model_box.specs.Closed.{Adds}
+use Rattle.model_box.specs.Row.{Row, row_at, row_number}
+use Rattle.model_box.proofs.Starts.{number_back}
+use Rattle.cm_box_rows.specs.Rows.{RowsHold}
+use Rattle.cm_box.specs.Rules.{rule_of}
+use Rattle.cm_box.proofs.Rewriting.{added_to}
+use Rattle.cm_box.proofs.adding.with_added.Goals as goal
+
+pub returns : goal.returns
+returns c =
+    let row_is : c.row.result.now ≡ row_in c.args.b.now c.args.row =
+    c.row.ensures ∙ ap (λ (r : Row). row_in c.args.b.now (row_number r)) c.of_number-at.ensures
+    ∙ ap (row_in c.args.b.now) (number_back c.args.row) in
+    added_to c.args.b.now c.args.row c.in_ok-more.more c.in_ok-wider.wider
+    (Adds (permits c.args.s.now.filter) c.args.s.now.files.now c.args.s.now.state.now.spaces (RowsHold c.args.b.now)
+    (rule_of c.args.x) (row_at c.args.row)) (rw c.of_number-at.ensures at c.in_ok-more.ensures)
+    (rw row_is at c.in_ok-wider.ensures)

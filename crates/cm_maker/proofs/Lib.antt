@@ -1,0 +1,3 @@
+-- Lemmas on the sweep in code.
+pub mod Turns
+pub mod Stops

@@ -1,0 +1,40 @@
+use Rattle.std.proofs.Common.{ℕ, ◌≡◌, ◌+◌, ◌*◌, suc, refl, ◌∙◌, ap, arith}
+use Rattle.cm_box.specs.Rules.{rule_of}
+use Rattle.cm_filter.specs.Filters.{permits}
+use Rattle.cm_maker.proofs.Stops.{then_stopped}
+use Rattle.cm_maker.proofs.Turns.{then_sweep, round_end}
+use Rattle.cm_maker.proofs.blaming.try_round.Goals as goal
+use Rattle.cm_state.specs.Right.{right_of}
+use Rattle.model_box.specs.Rule.{rule_number}
+use Rattle.model_verdict.specs.Sweep.{row_count}
+
+pub returns-in-Some-clause-some : goal.returns-in-Some-clause-some
+returns-in-Some-clause-some c =
+    let it = rw c.in-Some.is at c.in_ok-y.ensures.some in (
+      it.0,
+      λ round.
+          let rows : ℕ = row_count c.args.s.now.state.now.spaces in
+          let n : ℕ = rule_number (rule_of c.of_number-x.result) in
+          then_stopped (permits c.args.s.now.filter) c.args.s.now.files.now c.args.s.now.state.now (right_of c.args.right.now) (14 * round * rows)
+          ((14 * round + n) * rows) ((14 * round + n) * rows + c.in-Some.y) c.args.b.now c.loop-k.b c.try_rows.new.b
+          (c.loop-k.invariant.swept round ((14 * round + n) * rows) (ap (λ (m : ℕ). (14 * round + m) * rows) c.of_number-x.ensures)) (it.1 round),
+    )
+
+pub loop-k-preserved : goal.loop-k-preserved
+loop-k-preserved c = record {
+  count = c.in_ok-y.ensures.count ∙ c.loop-k.invariant.count;
+  apart = λ apart. c.in_ok-y.ensures.apart (c.loop-k.invariant.apart apart);
+  swept = λ round k is.
+      let rows : ℕ = row_count c.args.s.now.state.now.spaces in
+      let went = rw c.in-None.is at c.in_ok-y.ensures.none in
+      then_sweep (permits c.args.s.now.filter) c.args.s.now.files.now c.args.s.now.state.now (14 * round * rows) ((14 * round + c.loop-k.k) * rows)
+      ((14 * round + suc c.loop-k.k) * rows) k
+      c.args.b.now c.loop-k.b c.try_rows.new.b (c.loop-k.invariant.swept round ((14 * round + c.loop-k.k) * rows) refl)
+      (rw c.of_number-x.ensures at went round)
+      (let next : c.loop-k.k + 1 ≡ suc c.loop-k.k = omega arith in is ∙ ap (λ (m : ℕ). (14 * round + m) * rows) next);
+}
+
+pub returns-clause-none : goal.returns-clause-none
+returns-clause-none c round =
+    c.loop-k.invariant.swept round (14 * suc round * row_count c.args.s.now.state.now.spaces)
+    (round_end round c.loop-k.k (row_count c.args.s.now.state.now.spaces) (omega arith))

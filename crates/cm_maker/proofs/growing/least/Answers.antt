@@ -1,0 +1,38 @@
+use Rattle.std.proofs.Common.{suc, ◌∙◌}
+use Rattle.cm_box_rows.specs.Rows.{RowsHold}
+use Rattle.cm_filter.specs.Filters.{permits}
+use Rattle.model_box.specs.Bounds.{bounds_hold}
+use Rattle.model_box.proofs.Worlds.{state_fits}
+use Rattle.cm_maker.proofs.Turns.{start_swept, first_open}
+use Rattle.model_verdict.proofs.Ends.{round_lacks_less}
+use Rattle.cm_maker.proofs.growing.least.Goals as goal
+use Rattle.model_verdict.specs.Sweep.{turns_before}
+use Rattle.model_verdict.proofs.Rounds.{says_least}
+
+pub loop-s-init : goal.loop-s-init
+loop-s-init c = record {
+  count = c.in_ok-b.ensures.count;
+  swept = (0, start_swept (permits c.args.f) c.args.files.now c.args.st.now c.args.members.now c.in_ok-b.b c.in_ok-b.ensures.holds);
+}
+
+pub loop-s-smaller : goal.loop-s-smaller
+loop-s-smaller c =
+    let swept = c.loop-s.invariant.swept in
+    round_lacks_less (permits c.args.f) c.args.files.now c.args.st.now c.args.members.now c.see_state.ensures swept.0 (bounds_hold c.loop-s.b)
+    (bounds_hold c.round.new.b)
+    swept.1 (c.in_ok-round-in-Some.ensures.swept swept.0 c.args.members.now swept.1)
+    (first_open (permits c.args.f) c.args.files.now c.args.st.now.spaces (RowsHold c.loop-s.b) _ _ c.in-Some.ensures.first)
+
+pub loop-s-preserved : goal.loop-s-preserved
+loop-s-preserved c =
+    let swept = c.loop-s.invariant.swept in
+    record {
+      count = c.in_ok-round-in-Some.ensures.count ∙ c.loop-s.invariant.count;
+      swept = (suc swept.0, c.in_ok-round-in-Some.ensures.swept swept.0 c.args.members.now swept.1);
+    }
+
+pub returns-in-None-clause-least : goal.returns-in-None-clause-least
+returns-in-None-clause-least c =
+    let swept = c.loop-s.invariant.swept in
+    says_least (permits c.args.f) c.args.files.now c.args.st.now c.args.members.now (state_fits c.args.st.now c.see_state.ensures)
+    (bounds_hold c.loop-s.b) (turns_before c.args.st.now.spaces swept.0) swept.1 c.in-None.ensures.none

@@ -1,0 +1,16 @@
+use Rattle.std.proofs.Common.{◌≡◌, ℕ, length}
+use Rattle.cm_filter.specs.Filters.{permits}
+use Rattle.cm_maker.specs.Sweeping.{IsSweptTo}
+use Rattle.cm_maker.proofs.growing.least.Given as goal
+use Rattle.model_box.specs.Bounds.{bounds_hold}
+use Rattle.model_verdict.specs.Sweep.{row_count, turns_before}
+use Rattle.model_verdict.proofs.Lacking.{lacking}
+
+abbrev pub invariant-loop-s : goal.invariant-loop-s
+invariant-loop-s l = record {
+  count : length l.b ≡ row_count l.st.spaces;
+  swept : (round : ℕ) × IsSweptTo (permits l.f) l.files l.st l.members (turns_before l.st.spaces round) l.b;
+}
+
+abbrev pub decreases-loop-s : goal.decreases-loop-s
+decreases-loop-s l = lacking (row_count l.st.spaces) (bounds_hold l.b)

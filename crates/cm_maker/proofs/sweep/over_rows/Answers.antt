@@ -1,0 +1,25 @@
+use Rattle.std.proofs.Common.{ℕ, ◌+◌, ◌*◌, suc, refl, ◌∙◌, ap, arith, length}
+use Rattle.cm_box.specs.Rules.{rule_of}
+use Rattle.cm_filter.specs.Filters.{permits}
+use Rattle.cm_maker.proofs.Turns.{then_sweep, rule_end}
+use Rattle.cm_maker.proofs.sweep.over_rows.Goals as goal
+use Rattle.model_box.specs.Rule.{rule_number}
+use Rattle.model_cred.specs.Process.{State}
+use Rattle.model_verdict.specs.Sweep.{row_count}
+
+pub loop-y-preserved : goal.loop-y-preserved
+loop-y-preserved c = record {
+  count = c.in_ok-turn.ensures.count ∙ c.loop-y.invariant.count;
+  swept = λ round k is.
+      let from : ℕ = (14 * round + rule_number (rule_of c.args.x)) * row_count c.args.s.now.state.now.spaces in
+      then_sweep (permits c.args.s.now.filter) c.args.s.now.files.now c.args.s.now.state.now from (from + c.loop-y.y) (suc (from + c.loop-y.y)) k
+      c.args.b.now c.loop-y.b c.turn.new.b (c.loop-y.invariant.swept round (from + c.loop-y.y) refl) (c.in_ok-turn.ensures.swept round)
+      (omega (arith, is));
+}
+
+pub returns-clause-swept : goal.returns-clause-swept
+returns-clause-swept c round =
+    let count = ap (λ (s : State). length s.spaces) c.st.view_is in
+    let n = rule_number (rule_of c.args.x) in
+    c.loop-y.invariant.swept round ((14 * round + suc n) * row_count c.args.s.now.state.now.spaces)
+    (rule_end round n (row_count c.args.s.now.state.now.spaces) c.loop-y.y (omega (arith, count)))

@@ -1,0 +1,3 @@
+-- The words of the contracts on the sweep.
+pub mod Sweeping
+pub mod Bounded

@@ -1,0 +1,49 @@
+// The least bounds.
+ghost use Rattle.std.specs.Prelude.{◌≡◌, ◌<◌, ◌*◌, ◌^◌, All, length};
+ghost use Rattle.cm_base.specs.Outcome.{OrNoMemory};
+ghost use Rattle.cm_filter.specs.Filters.{permits};
+ghost use Rattle.model_box.specs.Bounds.{bounds_hold};
+ghost use Rattle.model_verdict.specs.Least.{IsLeast};
+ghost use Rattle.model_verdict.specs.Rows.{IsRow};
+
+use crate::seeing::see_rows;
+use crate::sweep::round;
+use cm_base::{NoMemory, Pid};
+use cm_box::{Bounds, Setting, closed, start_bounds};
+use cm_files::FileTable;
+use cm_filter::Filter;
+use cm_state::{State, see_state};
+use std::alloc::Global;
+
+/// The least bounds that are closed under the filter and cover the members now: they are within all others, of whatever
+/// form. Found by rounds, in place, from the start bounds on. Fewer than 2^31 spaces stand. Its only error is want of
+/// memory.
+pub fn least(
+    alloc: Global,
+    st: &State,
+    files: &FileTable,
+    f: Filter,
+    members: &[Pid],
+) -> Result<Bounds, NoMemory>
+    requires few { length st.now.spaces < 2 ^ 31 }
+    ensures count { OrNoMemory result (λ b. length b ≡ 2 * length st.now.spaces) }
+    ensures least { OrNoMemory result (λ b. IsLeast (permits f) files.now st.now members.now (bounds_hold b)) }
+    ensures written { OrNoMemory result (λ b. All IsRow b) }
+{
+    see_state(st);
+    let s = Setting {
+        state: st,
+        files,
+        filter: f,
+    };
+    let mut b = start_bounds(alloc, st, members)?;
+    loop {
+        match closed(st, files, f, &b) {
+            Some(_) => round(alloc, &s, &mut b)?,
+            None => {
+                see_rows(b.rows.items());
+                return Ok(b);
+            }
+        }
+    }
+}
