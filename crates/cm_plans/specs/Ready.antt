@@ -1,0 +1,22 @@
+-- What a question keeps.
+use Rattle.std.specs.Prelude.{◌≡◌}
+use Rattle.cm_plans.specs.Ways.{AreWays}
+use Rattle.cm_plans.specs.declared.query.Query.{Query}
+use Rattle.cm_state.specs.Right.{right_of}
+use Rattle.cm_state.specs.declared.right.Right.{Right}
+use Rattle.cm_world.specs.declared.world.World.{World}
+use Rattle.model_cred.specs.Process.{State}
+use Rattle.model_cred.specs.Space.{IsTree}
+use Rattle.model_plans.specs.Plan.{special_rows}
+
+-- What was worked out of the question is right, and its spaces are a tree.
+pub record IsReady (q : Query) : Type 0 where
+  pub tree : IsTree q.spaces.now
+  pub ways : AreWays q.spaces.now (right_of q.right.now) q.ways.items
+  pub special : q.special.items ≡ special_rows q.world.now.files.rows
+
+-- It is the question after that right in the state and world.
+pub record IsAbout (q : Query) (w : World) (s : State) (right : Right) : Type 0 where
+  pub of_world : q.world.now ≡ w
+  pub of_spaces : q.spaces.now ≡ s.spaces
+  pub of_right : q.right.now ≡ right

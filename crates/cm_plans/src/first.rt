@@ -1,0 +1,132 @@
+// The first plan that ends with a holder.
+ghost use Rattle.std.specs.Prelude.{◌≡◌, ◌++◌, ◌∷◌, [], Vec, length, option_map};
+ghost use Rattle.cm_base.specs.Outcome.{OrNoMemory};
+ghost use Rattle.cm_plans.specs.Finds.{found_first, run_first, FoundForIs, FoundAmongIs};
+ghost use Rattle.cm_plans.specs.Ready.{IsReady};
+ghost use Rattle.cm_state.specs.Right.{right_of};
+ghost use Rattle.model_cred.specs.Call.{Event};
+ghost use Rattle.model_plans.specs.PlanRun.{holder as model_holder};
+
+use crate::middles::middle_list;
+use crate::query::Query;
+use crate::runs::run_of;
+use crate::seat::Seat;
+use crate::walk::find_moves;
+use cm_base::{NoMemory, Pid};
+use cm_machine::Machine;
+use cm_state::{Event, Right, State};
+use cm_world::World;
+use std::alloc::Global;
+use std::marker::Model;
+
+/// A run after which a member holds the right, and that member.
+#[derive(Debug, Drop)]
+pub struct Found {
+    pub run: Vec<Event>,
+    pub holder: Pid,
+}
+
+impl Model for Found {
+    ghost use Rattle.model_plans.specs.PlanRun as model;
+
+    ghost Value = { model.Found };
+
+    ghost view = { λ f. record { run = f.run.items; holder = f.holder } };
+}
+
+/// The run of the first plan of the list after which a member holds the right; None exactly where no plan ends so. A
+/// space that the right names need not stand. Its only error is want of memory.
+pub fn first_run(
+    alloc: Global,
+    w: &World,
+    m: &Machine,
+    members: &[Pid],
+    right: &Right,
+) -> Result<Option<Vec<Event>>, NoMemory>
+    ensures { OrNoMemory result (λ run. option_map (λ (r : Vec Event Global). r.items) run
+        ≡ run_first w.now m.now.state members.now right.now) }
+{
+    match first_found(alloc, w, m, members, right)? {
+        Some(found) => {
+            let Found { run, .. } = found;
+            Ok(Some(run))
+        }
+        None => Ok(None),
+    }
+}
+
+/// The run of the first plan of the list after which a member holds the right, and the first such member; None exactly
+/// where no plan ends so. A space that the right names need not stand. Its only error is want of memory.
+pub fn first_found(
+    alloc: Global,
+    w: &World,
+    m: &Machine,
+    members: &[Pid],
+    right: &Right,
+) -> Result<Option<Found>, NoMemory>
+    ensures { OrNoMemory result (λ found. found ≡ found_first w.now m.now.state members.now right.now) }
+{
+    let st = &m.state;
+    match holder(st, members, right) {
+        Some(pid) => Ok(Some(Found {
+            run: Vec::new(alloc),
+            holder: pid,
+        })),
+        None => {
+            let q = Query::new(alloc, w, st, right)?;
+            let found = found_among(alloc, &q, st, members)?;
+            Ok(found)
+        }
+    }
+}
+
+// The first member who holds the right.
+fn holder(st: &State, members: &[Pid], right: &Right) -> Option<Pid>
+    ensures { result ≡ model_holder st.now members.now (right_of right.now) }
+{
+    for pid in members {
+        if st.holds(*pid, right) {
+            return Some(*pid);
+        }
+    }
+    None
+}
+
+// What is found by the first member that finds something.
+fn found_among(
+    alloc: Global,
+    q: &Query<'_>,
+    st: &State,
+    members: &[Pid],
+) -> Result<Option<Found>, NoMemory>
+    requires ready { IsReady q.now }
+    requires same { q.now.spaces.now ≡ st.now.spaces }
+    ensures { OrNoMemory result (FoundAmongIs q.now st.now members.now) }
+{
+    for pid in members {
+        match found_for(alloc, q, st, *pid)? {
+            Some(found) => return Ok(Some(found)),
+            None => {}
+        }
+    }
+    Ok(None)
+}
+
+// What is found by one member.
+fn found_for(alloc: Global, q: &Query<'_>, st: &State, pid: Pid) -> Result<Option<Found>, NoMemory>
+    requires ready { IsReady q.now }
+    requires same { q.now.spaces.now ≡ st.now.spaces }
+    ensures { OrNoMemory result (FoundForIs q.now st.now pid) }
+{
+    let Some(mut seat) = Seat::of(alloc, st, pid)? else {
+        return Ok(None);
+    };
+    let middles = middle_list(alloc, q, seat.space)?;
+    match find_moves(alloc, q, &mut seat, &middles) {
+        Some(choices) => {
+            let run = run_of(alloc, q, pid, &mut seat, choices)?;
+            Ok(Some(Found { run, holder: pid }))
+        }
+        None => Ok(None),
+    }
+}
