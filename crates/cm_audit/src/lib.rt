@@ -4,8 +4,6 @@
 
 mod credential_line;
 #[cfg(test)]
-mod credential_tests;
-#[cfg(test)]
 mod tests;
 mod weak;
 

@@ -14,6 +14,3 @@ pub use bounding::bset_drop;
 pub use capset::cap_set;
 pub use flags::{keep_caps, no_new_privs};
 pub use securebits::secure_bits;
-
-#[cfg(test)]
-mod tests;

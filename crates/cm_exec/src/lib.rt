@@ -11,6 +11,3 @@ mod sets;
 
 pub use execve::exec;
 pub use permission::may_exec;
-
-#[cfg(test)]
-mod tests;

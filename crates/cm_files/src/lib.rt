@@ -17,6 +17,3 @@ pub use row::FileRow;
 pub use table::FileTable;
 pub use text::Text;
 pub use view::FileView;
-
-#[cfg(test)]
-mod tests;

@@ -10,6 +10,3 @@ mod map;
 pub use extent::Extent;
 pub use fault::BadMap;
 pub use map::IdMap;
-
-#[cfg(test)]
-mod tests;

@@ -19,8 +19,3 @@ pub use maps::{map_to_store, write_gid_map, write_uid_map};
 pub use newcomer::come_in;
 pub use word::{may_write_word, write_setgroups};
 pub use writer::Write;
-
-#[cfg(test)]
-mod map_tests;
-#[cfg(test)]
-mod tests;

@@ -20,6 +20,3 @@ pub use error::LineError;
 pub use laws::{lines_read_back, numbers_are_lines};
 pub use reading::read_line;
 pub use writing::{put_line, put_res, write_line};
-
-#[cfg(test)]
-mod tests;

@@ -13,6 +13,3 @@ mod uids;
 pub use gids::{set_fsgid, set_gid, set_regid, set_resgid};
 pub use groups::set_groups;
 pub use uids::{set_fsuid, set_resuid, set_reuid, set_uid};
-
-#[cfg(test)]
-mod tests;

@@ -17,6 +17,3 @@ mod told;
 pub use call::{named_call, read_call, read_named};
 pub use listed::{IdCall, Listed};
 pub use told::{Opening, Told};
-
-#[cfg(test)]
-mod tests;

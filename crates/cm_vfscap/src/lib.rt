@@ -14,6 +14,3 @@ pub use fault::BadCap;
 pub use laws::written_is_read_back;
 pub use reading::read;
 pub use writing::write;
-
-#[cfg(test)]
-mod tests;

@@ -1,0 +1,29 @@
+//! Cases of calls, worked out by hand: what the rules of `cm_setid`, `cm_capcalls`, `cm_nscalls` and `cm_exec` answer, and
+//! what they leave. The cases are standard input, line by line (docs/TESTING.md tells their form); each call is printed with
+//! its answer, and after it the credential that it leaves and the spaces that it changes.
+#![tactic(auto)]
+
+mod attributes;
+mod case;
+mod groups;
+mod made;
+mod questions;
+mod session;
+mod shown;
+mod spaces;
+mod stop;
+mod strace;
+mod values;
+
+use crate::session::told;
+use crate::stop::Stop;
+use cm_io::{RealSink, write_all};
+use std::io;
+
+fn main(rt: HostRuntime) -> Result<(), Stop> {
+    let alloc = rt.alloc();
+    let text = io::read_to_string(alloc, rt.stdin())?;
+    let told = told(alloc, text.as_str())?;
+    write_all(&mut RealSink::new(io::writer(&rt)), &told)?;
+    Ok(())
+}

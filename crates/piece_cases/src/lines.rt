@@ -1,0 +1,43 @@
+// Script lines, as they are read and written again; the laws of cm_script.
+use crate::escapes::bytes_of;
+use crate::stop::Stop;
+use crate::values::{named, word};
+use cm_script::{lines_read_back, numbers_are_lines, read_line, write_line};
+use cm_state::Event;
+use cm_world::World;
+use std::alloc::Global;
+
+// The answer to `read LINE` or `event LINE`.
+pub(crate) fn line_answer(
+    alloc: Global,
+    asked: &str,
+    text: &str,
+    w: &World,
+) -> Result<Vec<u8>, Stop> {
+    let line = bytes_of(alloc, text)?;
+    if line.len() >= 4_294_967_296 {
+        return Err(Stop::Bad);
+    }
+    match read_line(alloc, &line, w) {
+        Ok(Some(event)) if asked == "event" => named(alloc, &event),
+        Ok(Some(event)) => written(alloc, &event, &line, w),
+        Ok(None) => word(alloc, "no event"),
+        Err(e) => named(alloc, &e),
+    }
+}
+
+// What is written of the event, or `same` where that is the line.
+fn written(alloc: Global, event: &Event, line: &[u8], w: &World) -> Result<Vec<u8>, Stop> {
+    let text = write_line(alloc, event, w)?;
+    if text.as_slice() == line {
+        return word(alloc, "same");
+    }
+    Ok(text)
+}
+
+// The laws are functions that do nothing.
+pub(crate) fn laws_called(alloc: Global) -> Result<Vec<u8>, Stop> {
+    numbers_are_lines();
+    lines_read_back();
+    word(alloc, "nothing")
+}
