@@ -2,10 +2,10 @@
 use Rattle.std.proofs.Common.{◌≡◌, ◌≢◌, ◌⊎◌, ℕ, List, Option, None, Some, inl, inr, refl, sym, subst, ◌∙◌}
 use Rattle.cm_base.specs.declared.status.Status.{Status}
 use Rattle.cm_base.specs.declared.status.Status.TheVariants as answers
-use Rattle.cm_cli.proofs.Told.{of_report}
 use Rattle.cm_cli.specs.Answers.{report_over, ComesByCause, IsValid, IsCompleted, SaysYes, SaysNo, NoneRose, NamesFault}
-use Rattle.cm_cli.specs.Telling.{IsOfReport}
 use Rattle.cm_io.specs.Shelf.{Files, bytes_at, Rose}
+use Rattle.cm_report.proofs.Told.{of_report}
+use Rattle.cm_report.specs.Telling.{IsOfReport}
 use Rattle.model_report.proofs.Endings.{yes_is_never, no_is_run}
 use Rattle.model_report.proofs.Statuses.{each_by_its_cause}
 use Rattle.model_report.specs.Causes.{Cause, AfterLog, IsAccepted, IsNo, IsBeyond}

@@ -1,11 +1,7 @@
 -- Lemmas of this crate, by topic.
-pub mod ReportText
-pub mod Events
-pub mod Standing
-pub mod Waiting
+pub mod RunText
 pub mod Ready
-pub mod Starting
 pub mod Following
-pub mod Told
+pub mod LogReport
 pub mod Replaying
 pub mod Complete

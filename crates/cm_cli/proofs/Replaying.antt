@@ -5,10 +5,10 @@ use Rattle.cm_base.specs.declared.status.Status.{Status}
 use Rattle.cm_base.specs.declared.status.Status.TheVariants as answers
 use Rattle.cm_cli.specs.Answers.{asking, AnswersReport, CountsReads}
 use Rattle.cm_cli.specs.Reading.{WorldStands}
-use Rattle.cm_cli.specs.Telling.{IsOfReport, TellsReport, short_report}
-use Rattle.cm_cli.specs.declared.telling.Short.{Short}
-use Rattle.cm_cli.specs.declared.telling.Short.TheVariants as short
+use Rattle.cm_report.specs.declared.short.Short.{Short}
+use Rattle.cm_report.specs.declared.short.Short.TheVariants as short
 use Rattle.cm_io.specs.Shelf.{Files, bytes_at, Rose}
+use Rattle.cm_report.specs.Telling.{IsOfReport, TellsReport, short_report}
 use Rattle.model_report.specs.Command.{NoForm, files_of}
 use Rattle.model_report.specs.Query.{Query}
 use Rattle.model_report.specs.Replay.{Report}

@@ -3,10 +3,10 @@ use Rattle.std.specs.Prelude.{◌≡◌, ◌≢◌, ◌⊎◌, ◌↔◌, ◌≤
 use Rattle.cm_base.specs.declared.status.Status.{Status}
 use Rattle.cm_base.specs.declared.status.Status.TheVariants as answers
 use Rattle.cm_cli.specs.Reading.{WorldStands}
-use Rattle.cm_cli.specs.Sent.{IsFront}
-use Rattle.cm_cli.specs.Telling.{IsOfReport}
 use Rattle.cm_io.specs.Shelf.{Files, bytes_at, Rose}
 use Rattle.cm_io.specs.Sink.{then_written}
+use Rattle.cm_report.specs.Sent.{IsFront}
+use Rattle.cm_report.specs.Telling.{IsOfReport}
 use Rattle.model_report.specs.Causes.{Cause, IsAccepted, IsUnbuilt, IsYes}
 use Rattle.model_report.specs.Command.{Command, Replay, Audit, NoForm, command_of, files_of, query_of}
 use Rattle.model_report.specs.Laws.{ShowsRun}

@@ -7,14 +7,15 @@ use Rattle.cm_base.specs.declared.limited.Limited.{Limited}
 use Rattle.cm_base.specs.declared.limited.Limited.TheVariants as limit
 use Rattle.cm_world.specs.World.{world_of}
 use Rattle.cm_world.specs.declared.world.World as code
-use Rattle.cm_cli.specs.Telling.{short_report, log_report}
+use Rattle.cm_cli.specs.LogReport.{log_report}
 use Rattle.cm_cli.specs.declared.reading.Unready.{Unready}
 use Rattle.cm_cli.specs.declared.reading.Unready.TheVariants as unready
-use Rattle.cm_cli.specs.declared.telling.Short.{Short}
-use Rattle.cm_cli.specs.declared.telling.Short.TheVariants as short
 use Rattle.cm_io.specs.Shelf.{Rose}
 use Rattle.cm_io.specs.declared.whole.WholeError.{WholeError}
 use Rattle.cm_io.specs.declared.whole.WholeError.TheVariants as whole
+use Rattle.cm_report.specs.Telling.{short_report}
+use Rattle.cm_report.specs.declared.short.Short.{Short}
+use Rattle.cm_report.specs.declared.short.Short.TheVariants as short
 use Rattle.model_cred.specs.World.{World}
 use Rattle.model_report.specs.Query.{Query}
 use Rattle.model_report.specs.Replay.{Report}

@@ -2,7 +2,7 @@
 ghost use Rattle.std.specs.Prelude.{◌≡◌, ◌++◌, false, Some, IfSome, IfNone, None, slice_get, length, ◌<◌};
 ghost use Rattle.cm_base.specs.Outcome.{OrNoMemory};
 ghost use Rattle.cm_cli.specs.Query.{query_view, query_if};
-ghost use Rattle.cm_cli.specs.Telling.{answer_to};
+ghost use Rattle.cm_cli.specs.LogReport.{answer_to};
 ghost use Rattle.cm_state.specs.Right.{right_of};
 ghost use Rattle.cm_world.specs.World.{world_of};
 ghost use Rattle.model_run.specs.RunBack.{SetsFollowIds, StateFollows, run_back};
@@ -10,10 +10,11 @@ ghost use Rattle.model_report.specs.Query.{asked_process};
 ghost use Rattle.model_report.specs.Replay.{text_of};
 ghost use Rattle.model_report.specs.Report.{verdict, right_verdict, run_verdict};
 
+use crate::answers::{put_bad_pid, put_bad_right, put_run, put_yes};
 use crate::query::{Query, read_right};
-use crate::writing::{put_bad_pid, put_bad_right, put_not_built, put_run, put_yes};
 use cm_audit::audit_uid;
 use cm_base::{Kuid, NoMemory, Status};
+use cm_report::put_not_built;
 use cm_script::read_pid;
 use cm_state::{Proc, Right, State};
 use cm_world::World;

@@ -4,16 +4,17 @@ ghost use Rattle.cm_cli.specs.Answers.{asking, AnswersReport, CountsReads, NoneR
 ghost use Rattle.cm_cli.specs.Answers.{IsValid, ComesByCause, IsCompleted, SaysYes, SaysNo};
 ghost use Rattle.cm_cli.specs.Query.{query_if};
 ghost use Rattle.cm_cli.specs.Reading.{TakesFor, ReadsFor};
-ghost use Rattle.cm_cli.specs.Telling.{IsOfReport, CountsWrites};
 ghost use Rattle.cm_cli.specs.Words.{bytes_of, command_in, command_view};
+ghost use Rattle.cm_report.specs.Telling.{IsOfReport, CountsWrites};
 ghost use Rattle.model_report.specs.Command.{files_of, query_of};
 
 use crate::query::Query;
 use crate::reading::{Unready, read_files};
-use crate::telling::{Short, tell_log, tell_short};
+use crate::telling::tell_log;
 use crate::words::{Command, read_words};
 use cm_base::Status;
 use cm_io::{Shelf, Sink, SureShelf, SureSink};
+use cm_report::{Short, tell_short};
 use std::alloc::Global;
 
 /// Carries out the command that the words name: reads the files from the shelf, and writes the report to the sink.

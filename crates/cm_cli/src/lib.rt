@@ -2,15 +2,13 @@
 #![tactic(auto)]
 
 mod answer;
+mod answers;
 mod commands;
 mod laws;
 mod query;
 mod reading;
-mod replay;
-mod sending;
 mod telling;
 mod words;
-mod writing;
 
 pub use cm_base::Status;
 pub use commands::{run, run_surely};

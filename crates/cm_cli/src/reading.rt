@@ -8,9 +8,9 @@ ghost use Rattle.model_report.specs.Report.{files_report};
 ghost use Rattle.model_report.specs.Query.{Query};
 ghost use Rattle.model_run.specs.RunBack.{StateFollows};
 
-use crate::telling::Short;
 use cm_base::Limited;
 use cm_io::{Shelf, WholeError, read_whole};
+use cm_report::Short;
 use cm_world::{World, WorldError, read_world};
 use std::alloc::Global;
 

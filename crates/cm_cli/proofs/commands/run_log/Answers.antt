@@ -1,9 +1,10 @@
 use Rattle.std.proofs.Common.{ap, Err, refl}
 use Rattle.cm_cli.proofs.Replaying.{log_answers, log_read_fault, short_not_usage, if_told}
-use Rattle.cm_cli.proofs.Told.{log_not_usage}
+use Rattle.cm_cli.proofs.LogReport.{log_not_usage}
 use Rattle.cm_cli.proofs.commands.run_log.Goals as goal
 use Rattle.cm_cli.specs.Query.{query_if}
-use Rattle.cm_cli.specs.Telling.{short_report, log_report}
+use Rattle.cm_cli.specs.LogReport.{log_report}
+use Rattle.cm_report.specs.Telling.{short_report}
 use Rattle.cm_cli.specs.declared.reading.Unready.TheVariants as unready
 
 pub returns-in-Err-Refused-clause-report : goal.returns-in-Err-Refused-clause-report

@@ -1,10 +1,11 @@
 use Rattle.std.proofs.Common.{◌≡◌, ◌∙◌, ◌||◌, not, Bool, true, false, refl, sym, ap}
-use Rattle.cm_cli.proofs.Told.{log_text, log_whole, log_longer, is_answered, from_start, wrote_on}
-use Rattle.cm_cli.proofs.Waiting.{all_waits, sent_on, front_on, more_waits, front_of_longer, waits_as}
+use Rattle.cm_cli.proofs.LogReport.{log_text, log_whole, log_longer, is_answered, from_start}
+use Rattle.cm_report.proofs.Waiting.{all_waits, sent_on, front_on, more_waits, front_of_longer, waits_as}
 use Rattle.cm_cli.proofs.telling.put_log.Goals as goal
 use Rattle.cm_log.specs.Left.{left}
 use Rattle.cm_cli.specs.Query.{query_if}
-use Rattle.cm_cli.specs.Telling.{answer_to}
+use Rattle.cm_cli.specs.LogReport.{answer_to}
+use Rattle.cm_report.proofs.Told.{wrote_on}
 use Rattle.cm_world.specs.World.{world_of}
 use Rattle.model_cred.specs.Process.{State}
 use Rattle.model_report.proofs.Replays.{run_of_within}

@@ -1,9 +1,10 @@
 use Rattle.std.proofs.Common.{◌∙◌}
-use Rattle.cm_cli.proofs.Told.{stops, tells_whole, answered_of_report}
-use Rattle.cm_cli.proofs.Waiting.{front_on, sent_on}
+use Rattle.cm_cli.proofs.LogReport.{answered_of_report}
+use Rattle.cm_report.proofs.Told.{stops, tells_whole}
+use Rattle.cm_report.proofs.Waiting.{front_on, sent_on}
 use Rattle.cm_cli.proofs.telling.tell_log.Goals as goal
 use Rattle.cm_cli.specs.Query.{query_if}
-use Rattle.cm_cli.specs.Telling.{log_report}
+use Rattle.cm_cli.specs.LogReport.{log_report}
 use Rattle.cm_world.specs.World.{world_of}
 use Rattle.model_strace.specs.Logs.{log_reading}
 

@@ -1,0 +1,4 @@
+-- Lemmas of this crate, by topic.
+pub mod Events
+pub mod Standing
+pub mod StartLines

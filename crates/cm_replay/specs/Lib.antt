@@ -1,0 +1,2 @@
+-- What the contracts on the replay of a log cite beside the definitions.
+pub mod Replay

@@ -1,0 +1,4 @@
+-- Lemmas of this crate, by topic.
+pub mod ReportText
+pub mod Waiting
+pub mod Told

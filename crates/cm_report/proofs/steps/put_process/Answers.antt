@@ -1,0 +1,16 @@
+use Rattle.std.proofs.Common.{sym, codes, None}
+use Rattle.cm_report.proofs.ReportText.{closed, joined_once}
+use Rattle.cm_report.proofs.steps.put_process.Goals as goal
+use Rattle.cm_world.specs.World.{world_of}
+use Rattle.model_report.specs.Replay.{Credentials}
+use Rattle.model_text.specs.Print.{credential_line, place_text}
+
+pub returns : goal.returns
+unfolding credential_line place_text
+returns c =
+    rw (sym c.p.view_is)
+    (closed _ _ _ _
+    (Credentials (world_of c.args.w.now)
+    (record { pid = c.p.inside.pid; forebear = None; space = c.p.inside.space.0; cred = c.p.inside.cred }))
+    c.put.ensures
+    (joined_once _ _ _ (codes "\n") c.in_ok-put_credentials.ensures))

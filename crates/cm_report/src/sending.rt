@@ -1,0 +1,41 @@
+// The buffer in front of a sink: the report leaves it in large pieces.
+ghost use Rattle.std.specs.Prelude.{◌≡◌, ◌<◌, [], OnOk, OnErr, vec_len};
+ghost use Rattle.cm_report.specs.Sent.{IsSent, IsFront};
+ghost use Rattle.cm_io.specs.Sink.{WriteFaults};
+
+use cm_io::{Outside, Sink, write_all};
+
+// A piece is sent once so many bytes wait.
+const PIECE: usize = 65_536;
+
+/// Sends what waits where it is a large piece, so that less than one waits after it. After an error a front of it is
+/// written.
+#[tactic(auto, using(crate::proofs::Waiting::all_waits))]
+pub fn send_full<K: Sink>(text: &mut Vec<u8>, out: &mut K) -> Result<(), Outside>
+    ensures sent { OnOk result (IsSent (K.written out.old) (K.written out.new) text.new.items text.old.items) }
+    ensures less { OnOk result (vec_len text.new < 65536) }
+    ensures front { OnErr result (IsFront (K.written out.old) (K.written out.new) text.old.items) }
+    ensures cause { WriteFaults (K.faults out.old) (K.faults out.new) result }
+{
+    if text.len() < PIECE {
+        return Ok(());
+    }
+    send(text, out)
+}
+
+/// Sends all that waits. After an error a front of it is written.
+#[tactic(auto, using(crate::proofs::Waiting::none_waits, crate::proofs::Waiting::taken))]
+pub fn send<K: Sink>(text: &mut Vec<u8>, out: &mut K) -> Result<(), Outside>
+    ensures sent { OnOk result (IsSent (K.written out.old) (K.written out.new) text.new.items text.old.items) }
+    ensures empty { OnOk result (text.new.items ≡ []) }
+    ensures front { OnErr result (IsFront (K.written out.old) (K.written out.new) text.old.items) }
+    ensures cause { WriteFaults (K.faults out.old) (K.faults out.new) result }
+{
+    match write_all(out, text) {
+        Ok(()) => {
+            text.clear();
+            Ok(())
+        }
+        Err(why) => Err(why),
+    }
+}
