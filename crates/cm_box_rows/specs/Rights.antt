@@ -1,9 +1,7 @@
--- The first row by which bounds meet a right.
-use Rattle.std.specs.Prelude.{◌⊎◌, ℕ, ◌<◌, IsTrue}
-use Rattle.model_cred.specs.Right.{Right}
-use Rattle.model_cred.specs.Space.{Spaces, is_at_or_above, stands, space_of}
-use Rattle.model_box.specs.Meets.{MeetsAt}
-use Rattle.model_box.specs.Row.{Part, EffectiveUids, PermittedCaps, Row, row_at, space_under, HasMembers}
+-- How a row meets a right to a capability.
+use Rattle.std.specs.Prelude.{◌⊎◌, ℕ, IsTrue}
+use Rattle.model_cred.specs.Space.{Spaces, is_at_or_above, space_of}
+use Rattle.model_box.specs.Row.{Part, EffectiveUids, PermittedCaps, HasMembers}
 use Rattle.model_box.specs.Spread.{IsNext}
 
 -- A member of the row can own the space on the chain of the second whose parent is the first.
@@ -14,9 +12,3 @@ NextMet spaces row a n = (m : ℕ) × IsNext spaces a n m × row EffectiveUids (
 abbrev pub CapMetAt : Spaces → (Part → ℕ → Type 0) → ℕ → ℕ → ℕ → Type 0
 CapMetAt spaces row cap a n =
     (IsTrue (is_at_or_above spaces a n) × HasMembers row × row PermittedCaps cap) ⊎ NextMet spaces row a n
-
--- The bounds meet the right by the row of that number, which is of a standing space, and by no earlier one.
-pub record IsFirstMet (spaces : Spaces) (bounds : Row → Part → ℕ → Type 0) (right : Right) (y : ℕ) : Type 0 where
-  pub stands : IsTrue (stands spaces (space_under (row_at y)))
-  pub met : MeetsAt spaces bounds right (row_at y)
-  pub first : (z : ℕ) → z < y → MeetsAt spaces bounds right (row_at z) → ⊥
