@@ -1,6 +1,8 @@
+# make try       runs the stored example by an unproved build that is thrown away, and compares what it writes
 # make           proves and builds the program, runs its stored example and compares what it writes
-# make test      the gate: every proof, every must-fail edit, every test and the program's stored runs
-# make install   puts the built program into $(DESTDIR)$(PREFIX)/bin
+# make test      the gate: the tests of the commands in tools/, every proof, every must-fail edit, every test and the
+#                program's stored runs
+# make install   puts the built program and the commands around it into $(DESTDIR)$(PREFIX)/bin, with their pages
 # make clean     removes what was proved and built
 #
 # Needs rt, the command of the kit that the README names, in the PATH.
@@ -8,23 +10,36 @@
 PREFIX ?= /usr/local
 CRATE := crates/credaudit
 PROGRAM := $(CRATE)/out/credaudit
+# The commands around the program: their package lies below lib, where they find it.
+COMMANDS := $(wildcard tools/credaudit-*)
+LIBRARY := $(PREFIX)/lib/credaudit
 # The words of the stored example, its files below data/.
 EXAMPLE := $(foreach word,$(shell cat $(CRATE)/args),$(if $(wildcard $(CRATE)/data/$(word)),data/$(word),$(word)))
 
-.PHONY: all test install clean
+.PHONY: all try test install clean
 
 all:
 	cd $(CRATE) && rt run -- $(EXAMPLE)
 	cd $(CRATE) && out/credaudit $(EXAMPLE) | diff stdout -
 	@echo "built: $(PROGRAM)"
 
+try:
+	cd $(CRATE) && mkdir -p out && rt try -- $(EXAMPLE) > out/tried
+	cd $(CRATE) && cat out/tried && diff stdout out/tried
+	@echo "tried: the report is the stored one. This proves nothing, and leaves no program: make does both"
+
 test:
-	rt ci
+	.ci/run
 
 install:
 	@test -x $(PROGRAM) || { echo "$(PROGRAM) isn't built: run make first" >&2; exit 1; }
 	install -d $(DESTDIR)$(PREFIX)/bin
 	install -m 755 $(PROGRAM) $(DESTDIR)$(PREFIX)/bin/credaudit
+	install -d $(DESTDIR)$(LIBRARY)/credaudit_tools $(DESTDIR)$(PREFIX)/share/man/man1
+	install -m 644 tools/credaudit_tools/*.py $(DESTDIR)$(LIBRARY)/credaudit_tools
+	install -m 755 $(COMMANDS) $(DESTDIR)$(LIBRARY)
+	ln -sf $(patsubst tools/%,../lib/credaudit/%,$(COMMANDS)) $(DESTDIR)$(PREFIX)/bin
+	install -m 644 man/*.1 $(DESTDIR)$(PREFIX)/share/man/man1
 
 clean:
 	rm -rf crates/*/out

@@ -1,7 +1,7 @@
 #!/usr/bin/env python3
 """Replays each example that has an expected report, and compares.
 
-  run.py [PROGRAM]        PROGRAM is credaudit; left out, the one that was built in this repository
+  run.py [PROGRAM]        PROGRAM is credaudit; left out, the one in the PATH or that was built in this repository
 
 An example is a folder with world.toml, log and report. The reports were written by hand, from docs/RULES.md and the
 manual pages that it names. One line for each example, and where they differ the first line that does. Status 0: all
@@ -10,43 +10,42 @@ agree; 1: some differ; 2: there is no program.
 import glob
 import itertools
 import os
-import subprocess
 import sys
 
 HERE = os.path.dirname(os.path.abspath(__file__))
-BUILT = os.path.normpath(os.path.join(HERE, "..", "crates", "credaudit", "out", "credaudit"))
+sys.path.insert(0, os.path.join(HERE, "..", "tools"))
+
+from credaudit_tools.command import Failure  # noqa: E402
+from credaudit_tools.files import read_regular  # noqa: E402
+from credaudit_tools.program import Program  # noqa: E402
 
 
-def read(folder, name):
-    with open(os.path.join(folder, name)) as file:
-        return file.read().splitlines()
-
-
-def difference(program, folder):
+def difference(program: Program, folder: str) -> tuple[str, str] | None:
     """The first line in which the replay differs from the report, and that of the report; None where none does."""
-    run = subprocess.run([program, "replay", os.path.join(folder, "world.toml"), os.path.join(folder, "log")],
-                         stdin=subprocess.DEVNULL, stdout=subprocess.PIPE, text=True)
-    lines = itertools.zip_longest(run.stdout.splitlines(), read(folder, "report"), fillvalue="nothing")
+    text, status = program.answer("replay", os.path.join(folder, "world.toml"), os.path.join(folder, "log"))
+    report = read_regular(os.path.join(folder, "report")).decode("ascii")
+    lines = itertools.zip_longest(text.splitlines(), report.splitlines(), fillvalue="nothing")
     found = next((pair for pair in lines if pair[0] != pair[1]), None)
-    return found or (None if run.returncode == 0 else (f"status {run.returncode}", "status 0"))
+    return found or (None if status == 0 else (f"status {status}", "status 0"))
 
 
-def main():
+def main() -> int:
     if len(sys.argv) > 2:
-        sys.exit("usage: run.py [PROGRAM]")
-    program = os.path.abspath(sys.argv[1]) if len(sys.argv) == 2 else BUILT
-    if not os.access(program, os.X_OK):
-        print(f"run.py: {program} isn't there: build it first, with make at the top of the repository", file=sys.stderr)
-        sys.exit(2)
-    bad = 0
-    for report in sorted(glob.glob(os.path.join(HERE, "*", "report"))):
-        folder = os.path.dirname(report)
-        found = difference(program, folder)
-        bad += found is not None
-        print(f"{os.path.basename(folder):24} " + ("agrees" if found is None else "differs"))
-        if found:
-            print(f"  told    {found[0]}\n  wanted  {found[1]}")
-    sys.exit(1 if bad else 0)
+        print("usage: run.py [PROGRAM]", file=sys.stderr)
+        return 2
+    try:
+        program, bad = Program(os.path.abspath(sys.argv[1]) if len(sys.argv) == 2 else None), 0
+        for path in sorted(glob.glob(os.path.join(HERE, "*", "report"))):
+            found = difference(program, os.path.dirname(path))
+            bad += found is not None
+            print(f"{os.path.basename(os.path.dirname(path)):24} " + ("agrees" if found is None else "differs"))
+            if found:
+                print(f"  told    {found[0]}\n  wanted  {found[1]}")
+    except Failure as failure:
+        print(f"run.py: {failure}", file=sys.stderr)
+        return 2
+    return 1 if bad else 0
 
 
-main()
+if __name__ == "__main__":
+    sys.exit(main())

@@ -15,6 +15,7 @@ import subprocess
 import sys
 import tempfile
 
+from credaudit_tools.program import BUILT
 from recordings import program_of
 
 CRATE = os.path.join(os.path.dirname(os.path.abspath(__file__)), "..", "crates", "credaudit")
@@ -71,8 +72,8 @@ def differs(words, wanted, got):
 
 def main():
     ask = argparse.ArgumentParser(usage="exit_status.py [PROGRAM]")
-    ask.add_argument("program", nargs="?", default=os.path.join(CRATE, "out", "credaudit"))
-    program, table, wrong = program_of(ask.parse_args()), rows(of_crate("stdout")), 0
+    ask.add_argument("program", nargs="?", default=BUILT)
+    program, table, wrong = program_of(ask.parse_args()).path, rows(of_crate("stdout")), 0
     with tempfile.TemporaryDirectory() as work, open("/dev/full", "wb") as full:
         for name, text in files(of_crate("data/world.toml"), of_crate("data/setresuid.log")).items():
             with open(os.path.join(work, name), "w") as file:

@@ -31,6 +31,7 @@ import tempfile
 import time
 from dataclasses import dataclass, field
 
+from credaudit_tools.program import BUILT
 from plain_reader import NotJudged
 from plain_report import bad_query, report
 from recordings import program_of
@@ -321,10 +322,9 @@ def main():
     ask.add_argument("--jobs", type=int, default=os.cpu_count())
     ask.add_argument("--judge", type=float, default=1.0)
     ask.add_argument("--keep")
-    ask.add_argument("program", nargs="?", default=os.path.normpath(os.path.join(
-        os.path.dirname(os.path.abspath(__file__)), "..", "crates", "credaudit", "out", "credaudit")))
+    ask.add_argument("program", nargs="?", default=BUILT)
     asked = ask.parse_args()
-    program = program_of(asked)
+    program = program_of(asked).path
     if asked.case is not None:
         sys.exit(1 if try_one(program, asked, asked.case) else 0)
     tally = try_all(program, asked)

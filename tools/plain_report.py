@@ -10,11 +10,11 @@ import re
 import sys
 from dataclasses import dataclass
 
+from plain_credential import credentials, fields_from
 from plain_reader import (BIRTHS, CAP_NUMBERS, LAST_ID, LIMITS, MAPS, NotJudged, Refused, digits, past_limit, read_line,
                           read_space, read_world, space_token)
 from plain_rules import Rules
 from plain_strace import reading
-from recordings import credentials, fields_from
 
 ANY = ("ENOMEM", "EAGAIN", "EINTR", "EFAULT", "EIO")
 # The errors that come from outside: of these calls these, of all others those of ANY.

@@ -23,11 +23,11 @@ import subprocess
 import sys
 import tempfile
 
+from credaudit_tools.program import BUILT as PROGRAM
 from plain_report import report
 
 HERE = os.path.dirname(os.path.abspath(__file__))
 CRATE = os.path.abspath(os.path.join(HERE, "..", "crates", "credaudit"))
-PROGRAM = os.path.join(CRATE, "out", "credaudit")
 STRACE_RUN = os.path.join(HERE, "data", "strace_run")
 OPEN, READ, WRITE = ("openat", "open"), ("read", "pread64", "readv"), ("write", "writev")
 

@@ -23,7 +23,6 @@ process then makes no other call but its exit, so the run goes on as it is. Stat
 nothing could be compared.
 """
 import os
-import tempfile
 
 from recordings import (FS_ID_LEFT, HEAD, IMPOSSIBLE, Recordings, Tally, as_printed, credentials, difference, fields_of,
                         fs_id_left, give_up, program_of, replay, row, runs_of)
@@ -145,7 +144,7 @@ def unlike(event, number, report):
 
 
 def world_of(live):
-    return HEAD + "".join(f"[[process]]\npid={pid}\n{row(fields)}" for pid, fields in live.items())
+    return HEAD + "".join(row(pid, fields) for pid, fields in live.items())
 
 
 def log_of(events):
@@ -160,9 +159,9 @@ def report_of(live, events):
     yield f"end {len(events)}"
 
 
-def compare_front(program, run, live, events, work, tally):
+def compare_front(program, run, live, events, tally):
     """The number of events up to, and with, the first that differs."""
-    report, status = replay(program, world_of(live), log_of(events), work)
+    report, status = replay(program, world_of(live), log_of(events))
     last = IMPOSSIBLE.fullmatch(report[-1]) if report and status == 3 else None
     good = int(last[1]) - 1 if last else len(events)
     lines = sum(1 + len(event.shown()) for event in events[:good])
@@ -184,11 +183,11 @@ def compare_front(program, run, live, events, work, tally):
     return min(good + 1, len(events))
 
 
-def compare_run(program, run, work, tally):
+def compare_run(program, run, tally):
     """The number of worlds that were needed."""
     live, events, worlds = dict(run.start), run.events, 0
     while events:
-        seen = compare_front(program, run, live, events, work, tally)
+        seen = compare_front(program, run, live, events, tally)
         # A process with securebits that no world declares does nothing but its exit, which comes next.
         if seen < len(events) and int(events[seen - 1].after["sec"], 16) > SECUREBITS:
             seen += 1
@@ -217,11 +216,10 @@ def main():
         for run in runs:
             write_run(run, asked.write)
     program, worlds = program_of(asked), 0
-    with tempfile.TemporaryDirectory() as work:
-        for run in runs:
-            for event in run.events:
-                tally.count(event.call, event.result, event.before, event.after)
-            worlds += compare_run(program, run, work, tally)
+    for run in runs:
+        for event in run.events:
+            tally.count(event.call, event.result, event.before, event.after)
+        worlds += compare_run(program, run, tally)
     events = sum(tally.outcomes.values())
     print(f"{kernel}: {events} events in {len(runs)} runs, replayed in {worlds} worlds\n")
     tally.show(CALLS, "events")

@@ -20,8 +20,6 @@ taken out, and those after it are replayed again, so one run tells all. Where it
 credential than the kernel, the program must print that one, and the case counts as explained. Status 0: no other
 difference; 1: some; 2: nothing could be compared.
 """
-import tempfile
-
 from recordings import (FS_ID_LEFT, HEAD, IMPOSSIBLE, Recordings, Tally, credentials, difference, fields_of, fs_id_left,
                         give_up, program_of, replay, row)
 
@@ -37,7 +35,7 @@ class State:
 
     def __init__(self, words):
         self.fields = fields_of(words)
-        self.line, self.row = credentials(self.fields), row(self.fields)
+        self.line, self.row = credentials(self.fields), row(0, self.fields)
 
 
 class Case:
@@ -55,6 +53,9 @@ class Case:
 
     def line(self, pid):
         return f"{pid} {' '.join(self.call)} = {self.result}"
+
+    def row(self, pid):
+        return self.state.row.replace("pid = 0\n", f"pid = {pid}\n", 1)
 
 
 def read_cases(lines):
@@ -77,23 +78,23 @@ def differs(tally, case, what, told):
                   kernel=credentials(case.after()), told=told)
 
 
-def compare(tally, case, line, shown_line, shown):
-    """One case with what the program printed for it: the line of the event, and the credential line's fields."""
+def compare(tally, case, pid, event, shown):
+    """One case with what the program printed for it: the line of the event, and the credential line."""
     by_rules = fs_id_left(case.call, case.result, case.state.fields, case.after())
     explained = by_rules is not None and by_rules != case.after()
     wanted = credentials(by_rules if explained else case.after())
-    if shown_line != line:
-        differs(tally, case, "the line of the event", shown_line)
-    elif shown != wanted:
+    if event != f"{pid}: {case.line(pid)}":
+        differs(tally, case, "the line of the event", event)
+    elif shown != f"> {pid} init {wanted}":
         differs(tally, case, difference(shown, wanted), shown)
     elif explained:
         tally.explained[FS_ID_LEFT] += 1
 
 
-def compare_world(program, batch, work, tally):
+def compare_world(program, batch, tally):
     while batch:
-        world = HEAD + "".join(f"[[process]]\npid={pid}\n{case.state.row}" for pid, case in enumerate(batch, 1))
-        report, status = replay(program, world, "".join(case.line(pid) + "\n" for pid, case in enumerate(batch, 1)), work)
+        world = HEAD + "".join(case.row(pid) for pid, case in enumerate(batch, 1))
+        report, status = replay(program, world, "".join(case.line(pid) + "\n" for pid, case in enumerate(batch, 1)))
         count = len(batch)
         last = IMPOSSIBLE.fullmatch(report[-1]) if report and status == 3 else None
         events = int(last[1]) - 1 if last else count
@@ -106,15 +107,14 @@ def compare_world(program, batch, work, tally):
             elif pid > events:
                 differs(tally, case, last[2], report[-1])
             else:
-                line, shown = report[count + 2 * pid - 2:count + 2 * pid]
-                compare(tally, case, f"{pid}: {case.line(pid)}", line, shown.removeprefix(credential))
+                compare(tally, case, pid, *report[count + 2 * pid - 2:count + 2 * pid])
         batch = batch[events + 1:]
 
 
 def worlds(cases):
     batch, size = [], len(HEAD)
     for case in cases:
-        more = len(f"[[process]]\npid={len(batch) + 1}\n") + len(case.state.row)
+        more = len(case.row(len(batch) + 1))
         if len(batch) == PROCESSES or size + more > WORLD:
             yield batch
             batch, size = [], len(HEAD)
@@ -129,12 +129,11 @@ def main():
     asked = ask.parse_args()
     kernel, (states, cases) = recordings.read(ask, asked, read_cases)
     program = program_of(asked)
-    with tempfile.TemporaryDirectory() as work:
-        for batch in worlds(cases):
-            for case in batch:
-                tally.count(case.call, case.result, case.state.fields, case.after())
-            compare_world(program, batch, work, tally)
-            count += 1
+    for batch in worlds(cases):
+        for case in batch:
+            tally.count(case.call, case.result, case.state.fields, case.after())
+        compare_world(program, batch, tally)
+        count += 1
     print(f"{kernel}: {len(cases)} cases in {states} states, replayed in {count} worlds\n")
     tally.show(CALLS, "cases")
     tally.end()

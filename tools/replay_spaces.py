@@ -22,12 +22,12 @@ may come from outside: such an event is told once more, as done, and the program
 Status 0: no other difference; 1: some; 2: nothing could be compared.
 """
 import os
-import tempfile
 from dataclasses import replace
 
 from plain_rules import INITIAL, MINUS_ONE, SETFCAP, SYS_ADMIN, Refused, Rules, Space, State, unless, up
-from recordings import (ERRORS, FS_ID_LEFT, HEAD, OUTCOMES, Recordings, Tally, as_printed, credential_of, credentials,
-                        fields_from, fields_of, program_of, replay, row, runs_of)
+from plain_credential import credential_of, credentials, fields_from
+from recordings import (ERRORS, FS_ID_LEFT, HEAD, OUTCOMES, Recordings, Tally, as_printed, fields_of, program_of, replay, row,
+                        runs_of)
 
 CALLS = (
     "setuid setreuid setresuid setfsuid setgid setregid setresgid setfsgid setgroups capset bset_drop amb_raise amb_lower"
@@ -266,7 +266,7 @@ class Part:
                 f'creator_setfcap={"true" if space.setfcap else "false"}\n')
 
     def world(self):
-        processes = (f'[[process]]\npid={pid}\nspace="{self.token(number)}"\n{row(fields_from(cred))}'
+        processes = (row(pid, fields_from(cred), self.token(number))
                      for pid, (number, cred) in sorted(self.start.processes.items()))
         return HEAD + "".join(map(self.space, range(1, self.declared))) + "".join(processes)
 
@@ -309,8 +309,8 @@ def parts_of(run):
             start, number = at, number + 1
 
 
-def compare(program, part, work, tally):
-    report, status = replay(program, part.world(), part.log(part.events), work)
+def compare(program, part, tally):
+    report, status = replay(program, part.world(), part.log(part.events))
     at = 0
     for number, lines in enumerate(part.report()):
         seen, at = report[at:at + len(lines)], at + len(lines)
@@ -323,14 +323,14 @@ def compare(program, part, work, tally):
         tally.differs("the program: the end", part=part.name, told=f"status {status}, {report[at:]}")
 
 
-def compare_besides(program, part, work, tally):
+def compare_besides(program, part, tally):
     """Events that the kernel refused by an error that any log may have from outside, told as done; how many."""
     besides = [at for at, event in enumerate(part.events)
                if event.call[0] in ("setns", "unshare", "clone_user") and told(event)[0] == "EINVAL"]
     for at in besides:
         event = part.events[at]
         line = part.line(event, str(max(event.before.processes) + 1) if event.birth else "0")
-        report, status = replay(program, part.world(), part.log(part.events[:at]) + line + "\n", work)
+        report, status = replay(program, part.world(), part.log(part.events[:at]) + line + "\n")
         if (status, report[-1:]) != (3, [f"impossible line {at + 1}: the rules give EINVAL"]):
             tally.differs(f"the program, told as done: {event.call[0]}", part=part.name, call=line, told=report[-1:])
     return len(besides)
@@ -362,10 +362,9 @@ def main():
     besides = 0
     if not asked.plain:
         program = program_of(asked)
-        with tempfile.TemporaryDirectory() as work:
-            for part in parts:
-                compare(program, part, work, tally)
-                besides += compare_besides(program, part, work, tally)
+        for part in parts:
+            compare(program, part, tally)
+            besides += compare_besides(program, part, tally)
     by = "judged by the plain rules" if asked.plain else f"replayed in {len(parts)} worlds, {besides} told as done besides"
     print(f"{kernel}: {sum(tally.outcomes.values())} events in {len(runs)} runs, {by}\n")
     tally.show(CALLS, "events")

@@ -1,156 +1,92 @@
 #!/usr/bin/env python3
-"""Replays the recorded programs of examples/strace/, and compares each process that lives at a log's end with what the
-kernel showed of it then.
+"""Replays the recorded programs of examples/strace/ by plain rules, and compares each with what the kernel showed.
 
-  replay_strace.py [--plain] [PROGRAM]    PROGRAM is credaudit; left out, the one that was built in this repository
-  replay_strace.py --leave-out            how many lines are noticed, by these comparisons, where one is left out
+  replay_strace.py [PROGRAM]    PROGRAM is credaudit; left out, the one that was built in this repository
+  replay_strace.py --plain      by the plain rules alone
+  replay_strace.py --leave-out  how many lines are noticed, by these comparisons, where one is left out
 
-Each log is read by plain_strace.py and its events are run by plain_rules.py. Without --plain credaudit replays the log
-too. Compared are which processes live, and of each the user and group ids, the groups as a set, the five sets of
-capabilities, no_new_privs, and which of them stand in one user namespace. One line for each program. Status 0: all
-agree; 1: some differ, or a log isn't read to its end; 2: nothing could be compared.
+Each log is read by plain_strace.py and its events are run by plain_rules.py (plain_report.py). Without --plain the
+program replays the log too. Each replay is held against the recording as credaudit-verify(1) does. One line for each program.
+Status 0: all agree; 1: some differ, or a log isn't read to its end; 2: nothing could be compared.
 """
 import collections
 import glob
 import os
-import subprocess
 import sys
-import tomllib
+from dataclasses import replace
 
-from plain_report import report
-from plain_strace import call_name, reading
-from recordings import BUILT, FIELDS, as_set, fields_of, give_up
+from credaudit_tools import lines, recording, report
+from credaudit_tools.command import Failure
+from credaudit_tools.program import Program
+from credaudit_tools.recording import Recording
+from credaudit_tools.verifying import Verdict, verify
+from plain_report import report as plain_report
 
 HERE = os.path.dirname(os.path.abspath(__file__))
-FOLDERS = os.path.normpath(os.path.join(HERE, "..", "examples", "strace", "*", "log"))
-SHOWN = {"inh": "CapInh", "prm": "CapPrm", "eff": "CapEff", "bnd": "CapBnd", "amb": "CapAmb", "nnp": "NoNewPrivs"}
+FOLDERS = os.path.normpath(os.path.join(HERE, "..", "examples", "strace", "*", recording.STATUS))
 
 
-def read(folder, name):
-    with open(os.path.join(folder, name), "rb") as file:
-        return file.read()
+def by_plain_rules(kept: Recording) -> report.Report:
+    """The replay by the plain rules."""
+    told = plain_report(kept.world, kept.log)
+    return report.read(told.text.decode(), told.status)
 
 
-# ---- what the kernel showed, and what a report says ------------------------------------------------------------------
-
-
-def seen(folder):
-    """By pid what a status shows: the fields of a credential line but the securebits, and the number of a namespace."""
-    found = {}
-    for line in read(folder, "status.txt").decode().splitlines():
-        told = dict((name, words.strip()) for name, _, words in (part.partition(":") for part in line.split("; ")))
-        fields = {name: ",".join(told[own].split()) for name, own in (("uid", "Uid"), ("gid", "Gid"))}
-        fields["groups"] = as_set(",".join(told["Groups"].split()) or "-")
-        fields |= {name: told[own] for name, own in SHOWN.items()}
-        found[int(told["Pid"])] = fields, int(told["Space"])
-    return found
-
-
-def replayed(lines):
-    """By pid the fields of the last credential line of each process that lives, and the name of its namespace."""
-    found = {}
-    for line in lines:
-        words = line.split()
-        if words[:1] == [">"]:
-            fields = fields_of(words[3:])
-            found[int(words[1])] = {name: fields[name] for name in FIELDS if name != "sec"}, words[2]
-        elif len(words) > 2 and words[2] == "exit":
-            del found[int(words[1])]
-    return found
-
-
-def differences(told, shown):
-    """What differs of the processes, one line each."""
-    for pid in sorted(set(told) ^ set(shown)):
-        yield f"{pid} lives " + ("by the replay alone" if pid in told else "for the kernel alone")
-    for pid in sorted(set(told) & set(shown)):
-        yield from (f"{pid} {name}: told {told[pid][0][name]}, seen {shown[pid][0][name]}" for name in shown[pid][0]
-                    if told[pid][0][name] != shown[pid][0][name])
-    yield from space_differences(told, shown)
-
-
-def space_differences(told, shown):
-    """The initial namespace is told as `init` and shown as 0; of the others only which are one is known."""
-    pairs = {("init", 0)} | {(told[pid][1], shown[pid][1]) for pid in set(told) & set(shown)}
-    for side in (0, 1):
-        if len({pair[side] for pair in pairs}) != len(pairs):
-            yield f"namespaces: {sorted(pairs)}"
-            return
-
-
-# ---- the two ways to a report ----------------------------------------------------------------------------------------
-
-
-def as_script(world, log):
-    """The world and the log in the script form, and how the reading ends."""
-    events, ending = reading(tomllib.loads(world.decode()), log)
-    script = "".join(event.split(": ", 1)[1] + "\n" for event in events)
-    return world.replace(b'log = "strace"', b'log = "script"'), script.encode("latin-1"), ending
-
-
-def by_plain_rules(world, log):
-    world, log, ending = as_script(world, log)
-    told = report(world, log)
-    return told.text.decode(), told.status, ending
-
-
-def by_program(program, folder):
-    """The report and its status. How the log was read stands in these."""
-    words = [program, "replay", os.path.join(folder, "world.toml"), os.path.join(folder, "log")]
-    done = subprocess.run(words, stdin=subprocess.DEVNULL, stdout=subprocess.PIPE, text=True)
-    return done.stdout, done.returncode, "end"
-
-
-# ---- all programs ----------------------------------------------------------------------------------------------------
-
-
-def judged(told, shown):
-    """What is wrong with one replay, line by line, and how many events it has."""
-    text, status, ending = told
-    lines = text.splitlines()
-    events = sum(line[:1].isdigit() for line in lines)
-    if ending != "end" or status != 0:
-        return [ending if ending != "end" else f"status {status}: {lines[-1]}"], events
-    return list(differences(replayed(lines), shown)), events
-
-
-def leave_out(folders):
+def leave_out(folders: list[str]) -> None:
     """Leaves each line out in turn, and counts by call which ones make a difference."""
-    lines, noticed = collections.Counter(), collections.Counter()
+    count: collections.Counter[str] = collections.Counter()
+    noticed: collections.Counter[str] = collections.Counter()
     for folder in folders:
-        world, log, shown = read(folder, "world.toml"), read(folder, "log").splitlines(keepends=True), seen(folder)
+        kept = replace(recording.read(folder), made=None)       # without the sums, which notice everything
+        log = kept.log.splitlines(keepends=True)
         for place, line in enumerate(log):
-            body = line.decode("latin-1").split(None, 1)[1]
-            name = call_name(body.removeprefix("<... ")) or "exit"
-            lines[name] += 1
-            noticed[name] += bool(judged(by_plain_rules(world, b"".join(log[:place] + log[place + 1:])), shown)[0])
-    for name in sorted(lines):
-        print(f"{name:12} {lines[name]:4} lines, {noticed[name]:4} noticed")
-    print(f"{lines.total()} lines, {noticed.total()} noticed")
+            parts = lines.parted(line)
+            body = parts[1].removeprefix(b"<... ") if parts else b""
+            name = (lines.name_of(body) or body.split(b" ")[0]).decode("ascii", "replace").replace("+++", "exit")
+            fewer = replace(kept, log=b"".join(log[:place] + log[place + 1:]))
+            count[name] += 1
+            noticed[name] += bool(verify(fewer, by_plain_rules(fewer)).differences)
+    for name in sorted(count):
+        print(f"{name:12} {count[name]:4} lines, {noticed[name]:4} noticed")
+    print(f"{count.total()} lines, {noticed.total()} noticed")
 
 
-def main():
-    if sys.argv[1:] == ["--leave-out"]:
-        return leave_out(os.path.dirname(log) for log in sorted(glob.glob(FOLDERS)))
+def compared(folder: str, program: Program | None) -> tuple[Verdict, list[str], int]:
+    """The verdict on the replay by the plain rules, what differs in either, and how many events there are."""
+    kept = recording.read(folder)
+    told = by_plain_rules(kept)
+    verdict = verify(kept, told)
+    wrong = list(verdict.differences)
+    if program is not None:
+        own = program.replay(os.path.join(folder, recording.WORLD), os.path.join(folder, recording.LOG))
+        wrong += [f"{os.path.basename(program.path)}: {one}" for one in verify(kept, own).differences]
+    return verdict, wrong, len(told.events)
+
+
+def main() -> int:
+    folders = [os.path.dirname(status) for status in sorted(glob.glob(FOLDERS))]
     words = [word for word in sys.argv[1:] if word != "--plain"]
-    if len(words) > 1:
-        give_up("usage: replay_strace.py [--plain] [PROGRAM] | --leave-out")
-    program = None if "--plain" in sys.argv else os.path.abspath(words[0] if words else BUILT)
-    if program and not os.access(program, os.X_OK):
-        give_up(f"{program} isn't there: build it first, or ask for --plain")
-    folders, bad, count = [os.path.dirname(log) for log in sorted(glob.glob(FOLDERS))], 0, 0
-    for folder in folders:
-        shown = seen(folder)
-        wrong, events = judged(by_plain_rules(read(folder, "world.toml"), read(folder, "log")), shown)
-        if program:
-            wrong += [f"{os.path.basename(program)}: {one}" for one in judged(by_program(program, folder), shown)[0]]
-        verdict = "differs" if wrong else "agrees"
-        print(f"{os.path.basename(folder):20} {events:5} events, {len(shown):3} live: {verdict}")
-        print("".join(f"    {one}\n" for one in wrong), end="")
-        bad, count = bad + bool(wrong), count + len(shown)
-    print(f"{len(folders)} logs, {count} processes at their end: " + (f"{bad} logs differ" if bad else "no difference"))
-    sys.exit(2 if not folders else 1 if bad else 0)
+    if sys.argv[1:] == ["--leave-out"]:
+        leave_out(folders)
+        return 0
+    try:
+        if len(words) > 1:
+            raise Failure("usage: replay_strace.py [PROGRAM] | --plain | --leave-out")
+        program = None if "--plain" in sys.argv else Program(os.path.abspath(words[0]) if words else None)
+        bad = processes = answers = 0
+        for folder in folders:
+            verdict, wrong, events = compared(folder, program)
+            print(f"{os.path.basename(folder):20} {events:5} events, {verdict.processes:3} live,"
+                  f" {verdict.answers:4} answers: " + ("differs" if wrong else "agrees"))
+            print("".join(f"    {one}\n" for one in wrong), end="")
+            bad, processes, answers = bad + bool(wrong), processes + verdict.processes, answers + verdict.answers
+    except Failure as failure:
+        print(f"replay_strace.py: {failure}", file=sys.stderr)
+        return 2
+    print(f"{len(folders)} logs, {processes} processes at their end, {answers} answers: "
+          + (f"{bad} logs differ" if bad else "no difference"))
+    return 2 if not folders else 1 if bad else 0
 
 
 if __name__ == "__main__":
-    main()
+    sys.exit(main())

@@ -1,182 +1,129 @@
 #!/usr/bin/env python3
-"""Cuts a log of strace down to what a rule of docs/STRACE.md reads, so that it can be kept beside a project.
+"""Cuts a log of strace that was recorded by hand down to what a rule of docs/STRACE.md reads, so that it can be kept.
 
-  trim_strace.py [--pids FIRST] WORLD LOG    writes the trimmed log
+  trim_strace.py WORLD LOG    writes the trimmed log
 
-Kept are the calls that set credentials, births, execves, the calls of user namespaces, exits, and of descriptors the
-calls that open, move or write a followed file. Dropped is all else: what other files are opened and what is written to
-them, signals, and what a call beside the table does. Of an execve the words and the environment go, since no rule reads
-them, and addresses become one and the same. With --pids the pids are numbered by birth, from FIRST on, so that a
-program recorded twice gives the same log. A log that is read otherwise when it is trimmed is refused: status 1.
+Kept are the calls that set or show credentials, births, execves, the calls of user namespaces, exits, and of descriptors
+the calls that open a map file or a namespace's file, and those on numbers that these answered. Dropped is all else: what
+other files are opened and what is written to them, signals, and what a call beside the table does. Of an execve the words
+and the environment go, since no rule reads them, and addresses become one and the same. Needs credaudit: a log that it
+reads otherwise when it is trimmed is refused, status 1. credaudit-trace(1) needs no trimming.
 """
-import os
 import re
 import sys
-import tomllib
+from collections.abc import Iterator
 
-from plain_strace import BLANKS, BIRTHS, ID_CALLS, Reader, Stop, call_name, pieces, reading, shape
+from credaudit_tools import filtering, lines
+from credaudit_tools.command import Failure
+from credaudit_tools.files import read_regular
+from credaudit_tools.names import BIRTHS
+from credaudit_tools.program import Program
+from credaudit_tools.report import Report
 
-ALWAYS = (*ID_CALLS, "setgroups", "capset", *BIRTHS, "unshare", "setns", "execve", "execveat")
-OPTIONS = ("PR_SET_KEEPCAPS", "PR_SET_NO_NEW_PRIVS", "PR_SET_SECUREBITS", "PR_CAPBSET_DROP", "PR_CAP_AMBIENT")
-ADDRESS = re.compile(r"0x[0-9a-f]{9,16}\b")
-UNFINISHED = "<unfinished ...>"
+ALWAYS = {*filtering.ID_CALLS, *filtering.ANSWERS, b"setgroups", b"capset", b"unshare", b"setns", b"execve",
+          b"execveat", *(name.encode() for name in BIRTHS)}
+FOLLOWED = re.compile(rb'(?:[/"])(?:uid_map|gid_map|setgroups|ns/user)"')
+NUMBERED = {b"close", b"dup", b"dup2", b"dup3", b"fcntl", b"write", b"pwrite64"}
+ADDRESS = re.compile(rb"0x[0-9a-f]{9,16}\b")
 
 
 class Refused(Exception):
     """The log isn't trimmed, for this reason."""
 
 
-def lines_of(log):
-    lines = log.decode("latin-1").split("\n")
-    return lines if lines[-1] else lines[:-1]
-
-
-# ---- which lines a rule reads ----------------------------------------------------------------------------------------
-
-
-class Touches(Reader):
-    """The reader, and which lines gave an event or changed what is followed. A call of two lines counts as both."""
-
-    def __init__(self, world):
-        super().__init__(world)
-        self.touching, self.begun = set(), {}
-
-    def body(self, n, pid, body):
-        before = len(self.events), dict(self.descriptors)
-        begin = self.begun.pop(pid, None) if body.startswith("<...") else None
-        if body.endswith(UNFINISHED):
-            self.begun[pid] = n
-        super().body(n, pid, body)
-        if (len(self.events), self.descriptors) != before:
-            self.touching |= {n} if begin is None else {begin, n}
-
-
-def touching(world, lines):
-    reader = Touches(world)
-    try:
-        for n, line in enumerate(lines, 1):
-            reader.feed(n, line)
-        reader.finish()
-    except Stop as stop:
-        raise Refused(f"the log isn't read to its end: {stop}")
-    return reader.touching
-
-
-def is_kept_by_name(body):
-    """Whether a whole call, or what else a line tells, is kept whatever the reader makes of it."""
-    if body.startswith("+++"):
-        return not body.startswith("+++ stopped")
-    name = call_name(body)
-    return name in ALWAYS or (name == "prctl" and any(option in body for option in OPTIONS))
-
-
-def kept(world, lines):
-    """The places of the lines that stay."""
-    places, begun = touching(world, lines), {}
-    for n, line in enumerate(lines, 1):
-        pid, body = parted(line)
-        if body.endswith(UNFINISHED):
-            begun[pid] = n, body.removesuffix(UNFINISHED)
+def joined(log: bytes) -> Iterator[tuple[list[int], bytes]]:
+    """Each call or other line: the places of its lines, and its whole body."""
+    begun: dict[int, tuple[int, bytes]] = {}
+    for place, line in enumerate(log.split(b"\n")):
+        parts = lines.parted(line)
+        if parts is None:
+            if line.strip():
+                raise Refused(f"line {place + 1} begins with no pid")
             continue
-        first = None
-        if body.startswith("<...") and pid in begun:
+        pid, body = parts
+        found = lines.RESUMED.fullmatch(body)
+        if body.endswith(lines.UNFINISHED):
+            begun[pid] = place, body.removesuffix(lines.UNFINISHED)
+        elif found and pid in begun:
             first, front = begun.pop(pid)
-            body = front + body.partition("resumed>")[2]
-        if is_kept_by_name(body):
-            places |= {n} if first is None else {first, n}
-    return places
+            yield [first, place], front + found.group(2)
+        else:
+            yield [place], body
+    for place, front in begun.values():
+        yield [place], front
 
 
-def parted(line):
-    pid, _, body = line.rstrip(BLANKS).partition(" ")
-    return pid, body.lstrip(BLANKS)
+class Kept:
+    """Which calls stay; `numbers` are the descriptors that a followed file ever had."""
+
+    def __init__(self) -> None:
+        self.numbers: set[bytes] = set()
+
+    def is_kept(self, body: bytes) -> bool:
+        if body.startswith(b"+++"):
+            return not body.startswith(b"+++ stopped")
+        name = lines.name_of(body)
+        if name == b"prctl":
+            return any(option in body for option in filtering.PRCTLS)
+        if name in filtering.OPENS:
+            return self.is_opened(body)
+        first = re.match(rb"[a-z0-9_]+\(([0-9]+)", body)
+        return name in ALWAYS or (name in NUMBERED and first is not None and first.group(1) in self.numbers)
+
+    def is_opened(self, body: bytes) -> bool:
+        """An open of a followed file, or one that answers a number which such a file had."""
+        answer = re.search(rb"\) += ([0-9]+)$", body)
+        number = answer.group(1) if answer else None
+        if FOLLOWED.search(body) and number is not None:
+            self.numbers.add(number)
+        return number in self.numbers
 
 
-# ---- what stays of a line --------------------------------------------------------------------------------------------
+def plain(line: bytes) -> bytes:
+    """A line without an execve's words and environment, and without addresses."""
+    pid, body = lines.parted(line) or (0, b"")
+    name = lines.name_of(body)
+    if name in (b"execve", b"execveat"):
+        unfinished = body.endswith(lines.UNFINISHED)
+        inside = body.removesuffix(lines.UNFINISHED).rstrip(lines.BLANKS)[len(name) + 1:] if unfinished else None
+        call = None if unfinished else lines.call_of(body)
+        arguments = lines.pieces(inside) if inside is not None else call.arguments if call else None
+        if arguments is not None:
+            few = b", ".join([*arguments[:1 if name == b"execve" else 2], b"[]", b"NULL"])
+            body = name + b"(" + few + (b" " + lines.UNFINISHED if unfinished else b") = " + (call.result if call else b""))
+    return b"%d  %s" % (pid, ADDRESS.sub(b"0x7f0000000000", body))
 
 
-def without_words(body):
-    """An execve without its words and its environment, in whichever of its lines they stand."""
-    name = call_name(body)
-    if name not in ("execve", "execveat"):
-        return body
-    unfinished = body.endswith(UNFINISHED)
-    inside, tail = (body.removesuffix(UNFINISHED), UNFINISHED) if unfinished else (shape(body)[0], None)
-    inside = inside.removeprefix(name + "(") if unfinished else inside
-    few = ", ".join(pieces(inside)[:1 if name == "execve" else 2]) + ", [], NULL"
-    return f"{name}({few} {tail}" if unfinished else f"{name}({few}) = {shape(body)[1]}"
+def trimmed(log: bytes) -> bytes:
+    """The trimmed log."""
+    kept, places = Kept(), set()
+    for own, body in joined(log):
+        if kept.is_kept(body):
+            places |= set(own)
+    return b"".join(plain(line) + b"\n" for place, line in enumerate(log.split(b"\n")) if place in places)
 
 
-def numbered(lines, places, first):
-    """The new number of each pid, by birth."""
-    pids = {parted(lines[0])[0]: first}
-    for n in sorted(places):
-        birth = re.search(r"\) += ([0-9]+)$", lines[n - 1])
-        name = call_name(parted(lines[n - 1])[1].removeprefix("<... "))
-        for pid in [parted(lines[n - 1])[0], *([birth.group(1)] if birth and name in BIRTHS else [])]:
-            pids.setdefault(pid, first + len(pids))
-    return pids
+def events(told: Report) -> list[tuple[object, ...]]:
+    """The events without the numbers of their lines, and how the report ends."""
+    ending = [re.sub(r"line \d+", "line", line) for line in told.ending]
+    return [*((each.pid, each.call, each.arguments, each.result, each.after) for each in told.events), tuple(ending)]
 
 
-def renumbered(line, pids):
-    """A line with the new pids, wherever one stands as a pid."""
-    new = lambda found: found.group(1) + str(pids.get(found.group(2), found.group(2))) + found.group(3)
-    pid, body = parted(line)
-    body = re.sub(r"(/proc/|/task/|pid=|tid=\[)([0-9]+)()", new, body)
-    if call_name(body.removeprefix("<... ")) in BIRTHS:
-        body = re.sub(r"(\) += )([0-9]+)($)", new, body)
-    return f"{pids[pid]}  {body}"
-
-
-def trimmed(world, log, first=None):
-    """The trimmed log, and the new number of each pid."""
-    lines = lines_of(log)
-    places = kept(world, lines)
-    pids = {parted(line)[0]: parted(line)[0] for line in lines}
-    if first is not None:
-        pids = numbered(lines, places, first)
-    short = []
-    for n in sorted(places):
-        pid, body = parted(lines[n - 1])
-        short.append(renumbered(f"{pid} {ADDRESS.sub('0x7f0000000000', without_words(body))}", pids))
-    text = "".join(line + "\n" for line in short).encode("latin-1")
-    check(world, log, text, pids)
-    return text, {int(old): int(new) for old, new in pids.items()}
-
-
-def told(world, log, pids):
-    """The events without their lines, their pids as `pids` has them, and how the reading ends."""
-    events, ending = reading(world, log)
-    texts = []
-    for event in events:
-        pid, call = event.split(": ", 1)[1].split(" ", 1)
-        birth = re.fullmatch("(fork|clone_user) = ([0-9]+)", call)
-        call = f"{birth.group(1)} = {pids.get(birth.group(2), birth.group(2))}" if birth else call
-        texts.append(f"{pids.get(pid, pid)} {call}")
-    return texts, ending
-
-
-def check(world, log, text, pids):
-    pids = {old: str(new) for old, new in pids.items()}
-    rows = [{**row, "pid": int(pids.get(str(row["pid"]), row["pid"]))} for row in world.get("process", [])]
-    renamed = {**world, "process": rows}
-    if told(world, log, pids) != told(renamed, text, {}):
-        raise Refused("it is read otherwise when it is trimmed")
-
-
-def main():
-    words = sys.argv[1:]
-    first = int(words[1]) if words[:1] == ["--pids"] else None
-    if len(words) != (2 if first is None else 4):
-        sys.exit("usage: trim_strace.py [--pids FIRST] WORLD LOG")
-    with open(words[-2], "rb") as world, open(words[-1], "rb") as log:
-        try:
-            text, _ = trimmed(tomllib.load(world), log.read(), first)
-        except Refused as refused:
-            print(f"{os.path.basename(sys.argv[0])}: {refused}", file=sys.stderr)
-            sys.exit(1)
-    sys.stdout.buffer.write(text)
+def main() -> int:
+    if len(sys.argv) != 3:
+        print("usage: trim_strace.py WORLD LOG", file=sys.stderr)
+        return 2
+    try:
+        world, log = (read_regular(name, follow=True) for name in sys.argv[1:])
+        short, program = trimmed(log), Program()
+        if events(program.replay_texts(world, log)) != events(program.replay_texts(world, short)):
+            raise Refused("it is read otherwise when it is trimmed")
+    except (Failure, Refused) as why:
+        print(f"trim_strace.py: {why}", file=sys.stderr)
+        return 1
+    sys.stdout.buffer.write(short)
+    return 0
 
 
 if __name__ == "__main__":
-    main()
+    sys.exit(main())

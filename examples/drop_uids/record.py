@@ -16,10 +16,12 @@ import subprocess
 import sys
 import tempfile
 
-from compare import HERE, Seen
+from compare import HERE, seen_in
 
-CALL = re.compile(r"(\d+) +setresuid\((-?\d+), (-?\d+), (-?\d+)\) += (?:(0)|-1 ([A-Z0-9]+) \(.*\))$")
-EXIT = re.compile(r"\d+ +\+\+\+ exited with 0 \+\+\+$")
+from credaudit_tools import lines, worlds
+from credaudit_tools.lines import Call
+
+EXIT = b"+++ exited with 0 +++"
 
 
 def run(words):
@@ -27,15 +29,21 @@ def run(words):
         sys.exit("record.py: this failed: " + " ".join(words))
 
 
-def script_line(line):
-    """A line of strace as a script line, None for that of the exit."""
-    call = CALL.match(line)
-    if call:
-        pid, r, e, s, done, error = call.groups()
-        return pid, f"{pid} setresuid {r} {e} {s} = {done or error}"
-    if EXIT.match(line):
+def script_line(line: bytes) -> tuple[int, str] | None:
+    """A line of strace as the pid and the script line, None for that of the exit."""
+    pid, body = lines.parted(line) or (0, b"")
+    call = lines.call_of(body)
+    if call is not None and call.name == b"setresuid":
+        return pid, f"{pid} setresuid {b' '.join(call.arguments).decode()} = {answer(call)}"
+    if body == EXIT:
         return None
-    sys.exit("record.py: not a line of setresuid or of the exit: " + line)
+    sys.exit("record.py: not a line of setresuid or of the exit: " + line.decode("ascii", "backslashreplace"))
+
+
+def answer(call: Call) -> str:
+    """`0`, or the name of the error."""
+    failed = re.match(rb"-1 ([A-Z0-9]+)", call.result)
+    return failed.group(1).decode() if failed else str(call.done)
 
 
 def put(name, text):
@@ -51,13 +59,14 @@ def main():
         run(["cc", "-O2", "-o", program, os.path.join(HERE, "drop_uids.c")])
         run(["strace", "-f", "-e", "trace=setresuid", "-o", trace, program, status])
         trace, status = open(trace).read(), open(status).read()
-    calls = [call for call in map(script_line, trace.splitlines()) if call]
+    calls = [call for call in map(script_line, trace.encode().splitlines()) if call]
     pids = {pid for pid, _ in calls}
     if len(pids) != 1 or len(calls) + 1 != len(status.splitlines()):
         sys.exit("record.py: more than one process, or another number of calls than of status lines")
     put("drop_uids.strace", trace)
     put("drop_uids.log", "".join(line + "\n" for _, line in calls))
-    put("world.toml", 'log = "script"\n\n' + Seen(status.splitlines()[0]).row(pids.pop()))
+    process = worlds.Process(pids.pop(), seen_in(status.splitlines())[0])
+    put("world.toml", worlds.written(worlds.World("script", processes=[process])).decode())
     put("status.txt", status)
     print(f"{len(calls)} calls recorded")
 

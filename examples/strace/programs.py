@@ -4,6 +4,7 @@ import os
 import subprocess
 from dataclasses import dataclass, field
 
+HERE = os.path.dirname(os.path.abspath(__file__))
 # Made in copies of /etc and /var: lina (2001), who is in the group crew (2100), and mila (2002).
 PASSWORD = "mila's word"
 USERS = (
@@ -98,6 +99,18 @@ def crontab(_):
     put("/etc/cron.d", "examples", f"* * * * * lina {SLEEP}\n")
 
 
+def daemon(name, says, user=None, capabilities=None, threads=2):
+    """One of the small daemons, NAME/NAME.c: its file below /run, with these capabilities where there are some."""
+    path = f"/run/{name}"
+
+    def build(_):
+        subprocess.run(["cc", "-O1", "-pthread", "-o", path, os.path.join(HERE, name, name + ".c")], check=True)
+        if capabilities:
+            subprocess.run(["setcap", capabilities, path], check=True)
+
+    return Program(name, says, [path], {name: threads}, user=user, before=build)
+
+
 PROGRAMS = (
     Program("setpriv", "setpriv (util-linux): ids, groups, all capabilities and the way back are given up",
             ["setpriv", "--reuid", "lina", "--regid", "lina", "--init-groups", "--inh-caps=-all", "--bounding-set=-all",
@@ -156,4 +169,15 @@ PROGRAMS = (
     Program("unshare_and_drop", "a user's root in a user namespace, which then gives up its capabilities there",
             ["unshare", "-r", "setpriv", "--inh-caps=-all", "--bounding-set=-all", "--no-new-privs", "sleep", "600"],
             {"sleep": 1}, user="lina"),
+    daemon("drops_rightly", "a daemon that drops rightly: groups, group ids, user ids, no_new_privs"),
+    daemon("keeps_one", "a daemon that drops rightly and keeps one capability, by PR_SET_KEEPCAPS and capset"),
+    daemon("saved_user_left", "a daemon that drops wrongly: its saved user id stays root's"),
+    daemon("real_user_left", "a daemon that drops wrongly: its real user id stays root's, also after an execve"),
+    daemon("groups_left", "a daemon that drops wrongly: it stays a member of root's group", user="root"),
+    daemon("wrong_order", "a daemon that drops wrongly: user id first, so group ids and groups stay", user="root"),
+    daemon("keepcaps_left", "a daemon that drops wrongly: by PR_SET_KEEPCAPS all its capabilities stay permitted"),
+    daemon("one_thread", "a daemon of two threads that drops wrongly: the other thread stays root", threads=3),
+    daemon("all_threads", "a daemon of two threads that drops rightly: each of them makes the calls", threads=3),
+    daemon("file_powers", "a daemon that a user runs and that keeps CAP_SETUID, which its file gives it", user="lina",
+           capabilities="cap_setuid,cap_net_bind_service=ep"),
 )

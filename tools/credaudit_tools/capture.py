@@ -1,0 +1,101 @@
+"""A captured world: the rows of a family, its user namespaces and its files, and the remarks that say what isn't known.
+
+Where something can't be known, what allows the family more is taken, so that a `yes` stays true; the remark says so.
+What may be missing for a `yes` is a doubt.
+"""
+import os
+from dataclasses import dataclass, field
+
+from . import programs, spaces, worlds
+from .command import Failure
+from .family import Family
+from .kernel import Kernel, Trouble
+from .marks import DOUBT, SCANNED, UNSCANNED
+from .members import heads, merged, process_notes, process_rows
+from .scan import Says, Scan
+from .shown import few, plural, quoted
+
+MOST_PROCESSES = 4096
+
+
+@dataclass
+class Capture:
+    """A world, and what is told beside it: `doubts` are what a `yes` may have needed. `looked_at` counts files."""
+    world: worlds.World
+    notes: list[str] = field(default_factory=list)
+    doubts: list[str] = field(default_factory=list)
+    looked_at: int = 0
+
+
+@dataclass(frozen=True)
+class Wishes:
+    """What the user asked for."""
+    files: bool = True
+    merge: bool = False
+    own_spaces: bool = False
+    skip: tuple[bytes, ...] = ()
+
+
+def named_spaces(kernel: Kernel, family: Family, own: bool, capture: Capture) -> spaces.Spaces:
+    """The namespaces of the family, and of the system where they aren't left out."""
+    keys = {thread.user for thread in family.threads.values()}
+    troubles: list[Trouble] = []
+    if own:
+        capture.doubts.append("user namespaces in which no member stands aren't declared, as asked for; a member who"
+                              " owns one can join it")
+    else:
+        others, troubles = kernel.other_spaces()
+        keys |= others
+    capture.doubts += [f"the user namespace of {os.fsdecode(trouble.path)} isn't shown: {trouble.why}"
+                       for trouble in troubles]
+    made = spaces.rows(kernel, keys, troubles)
+    if made.open_maps:
+        capture.notes.append("not known: whether the makers of these user namespaces had CAP_SETFCAP; they are taken to"
+                             f" have, which allows more maps: {few(made.open_maps)}")
+    return made
+
+
+def front(kernel: Kernel, family: Family) -> list[str]:
+    name = heads(family)[family.root].status.name if family.root in heads(family) else b"?"
+    return [f"Process {family.root} ({quoted(name)}) and all that descends from it, as they were at one instant:"
+            f" {plural(len(family.processes()), 'process')}, {plural(len(family.threads), 'thread')}. Linux"
+            f" {kernel.release}.",
+            "It goes with an empty log: what happened before is over."]
+
+
+def captured(kernel: Kernel, family: Family, wishes: Wishes, says: Says) -> Capture:
+    """The world of a family that was read."""
+    capture = Capture(worlds.World(log="script"))
+    made = named_spaces(kernel, family, wishes.own_spaces, capture)
+    world = capture.world
+    world.spaces, world.processes = made.rows, process_rows(family, made.names)
+    capture.notes += process_notes(kernel, family)
+    if family.ran:
+        capture.doubts.append(f"process {few([str(tid) for tid in family.ran])} ran at each reading: the readings"
+                              " agree, and that the family was so at one instant isn't shown")
+    if wishes.files:
+        scan = Scan(kernel, family, wishes.skip, says)
+        rows = scan.rows()
+        world.files, world.mounts = rows.files, rows.mounts
+        capture.notes += scan.notes
+        capture.doubts += scan.doubts
+        capture.looked_at = scan.looked_at
+    else:
+        capture.doubts.append("no files are declared: a `yes` holds by the family's own calls alone, without the"
+                              " programs that it can run")
+    if wishes.merge:
+        world.processes, world.files = merged(world.processes), programs.merged(world.files)
+        capture.notes.append("merged: equal members stand once, and equal programs by their shortest path")
+    limits(world)
+    world.remarks = [*front(kernel, family), SCANNED if wishes.files else UNSCANNED, *capture.notes,
+                     *(DOUBT.removeprefix("# ") + doubt for doubt in capture.doubts)]
+    return capture
+
+
+def limits(world: worlds.World) -> None:
+    """Fails where a world can't have so many rows (docs/FORMATS.md, "World")."""
+    counts = (len(world.processes), MOST_PROCESSES, "threads"), (len(world.files), programs.MOST, "files")
+    for count, most, word in counts:
+        if count > most:
+            raise Failure(f"there are {count} {word}, and a world has at most {most}",
+                          "--merge declares equal ones once")

@@ -1,0 +1,127 @@
+"""credaudit-capture: the world of a live system."""
+import argparse
+import os
+import sys
+import time
+from collections.abc import Iterator, Sequence
+from contextlib import contextmanager, nullcontext
+
+from . import command, family, worlds
+from .capture import Capture, Wishes, captured
+from .command import FOUND, GOOD, Failure, Progress, tell
+from .files import write_new
+from .freezer import frozen
+from .kernel import Kernel
+from .live import Live
+from .proc import needs_root
+from .program import Program
+from .shown import plural
+
+NAME = "credaudit-capture"
+FIRST = -20             # the priority that runs first (setpriority(2))
+LIMIT = 9               # the program's status where a limit is exceeded
+SAYS = """Writes the world of a live process, of all that descends from it and of their threads: credentials, user
+namespaces, and the programs with set-id bits or capabilities that they can run. To be run as root."""
+AFTER = """Exit status: 0 the world is written; 1 it is written, but something that a `yes` may rest on
+couldn't be looked at (each is told); 2 the words are wrong; 3 nothing is written."""
+
+
+def words_of(words: Sequence[str]) -> argparse.Namespace:
+    ask = command.parser(NAME, SAYS, AFTER)
+    ask.add_argument("pid", metavar="PID", type=number, help="the process")
+    ask.add_argument("-o", metavar="FILE", dest="out",
+                     help="where the world goes; standard output where it isn't given")
+    ask.add_argument("--freeze", action="store_true", help="freeze the control groups of the family while it is read")
+    ask.add_argument("--running", action="store_true", help="take threads too that run at each reading")
+    ask.add_argument("--patience", metavar="SECONDS", type=float, default=10.0,
+                     help="how long it is read again until two readings agree (10)")
+    ask.add_argument("--no-files", action="store_true", help="declare no files")
+    ask.add_argument("--skip", metavar="POINT", action="append", default=[], help="a mount point that isn't looked at")
+    ask.add_argument("--own-spaces", action="store_true", help="declare the user namespaces of the family alone")
+    ask.add_argument("--merge", action="store_true", help="declare equal members and equal programs once")
+    return ask.parse_args(words)
+
+
+def number(word: str) -> int:
+    if not word.isascii() or not word.isdigit() or not 1 <= int(word) <= 4194304:
+        raise argparse.ArgumentTypeError(f"{word!r} is no pid")
+    return int(word)
+
+
+def read_family(kernel: Kernel, asked: argparse.Namespace) -> family.Family:
+    still = frozen(kernel.proc, kernel.reader, asked.pid, lambda: family.processes(kernel, asked.pid))
+    with still if asked.freeze else nullcontext(), ahead():
+        return family.settled(kernel, asked.pid, asked.running, asked.patience)
+
+
+@contextmanager
+def ahead() -> Iterator[None]:
+    """Runs before other processes, where that is allowed: the shorter a reading, the less moves meanwhile."""
+    before = os.getpriority(os.PRIO_PROCESS, 0)
+    try:
+        os.setpriority(os.PRIO_PROCESS, 0, FIRST)
+    except OSError:
+        pass
+    try:
+        yield
+    finally:
+        os.setpriority(os.PRIO_PROCESS, 0, before)
+
+
+def tried(data: bytes) -> None:
+    """Holds the world against the program. Fails where that refuses it."""
+    try:
+        program = Program()
+    except Failure as failure:
+        tell(NAME, f"the world isn't tried: {failure}")
+        return
+    report = program.replay_texts(data, b"")
+    if report.status != 0:
+        raise Failure(f"the program refuses the world, status {report.status}: {' '.join(report.ending)}",
+                      "--merge declares equal members and equal programs once" if report.status == LIMIT else "")
+
+
+def put(data: bytes, path: str | None) -> None:
+    if path is None:
+        sys.stdout.buffer.write(data)
+        sys.stdout.flush()
+        return
+    folder, name = os.path.split(os.path.abspath(path))
+    write_new(folder, name, data)
+
+
+def told(capture: Capture) -> int:
+    """Tells what the world leaves open; the exit status."""
+    for note in capture.notes:
+        tell(NAME, note)
+    for doubt in capture.doubts:
+        tell(NAME, f"doubt: {doubt}")
+    return FOUND if capture.doubts else GOOD
+
+
+def capture(kernel: Kernel, asked: argparse.Namespace) -> int:
+    """The whole, over any system."""
+    began = time.monotonic()
+    read = read_family(kernel, asked)
+    settled = time.monotonic()
+    progress = Progress(NAME)
+    wishes = Wishes(not asked.no_files, asked.merge, asked.own_spaces,
+                    tuple(os.fsencode(point) for point in asked.skip))
+    made = captured(kernel, read, wishes, progress.at)
+    data = worlds.written(made.world)
+    tried(data)
+    put(data, asked.out)
+    tell(NAME, f"{plural(len(read.processes()), 'process')} and {plural(len(read.threads), 'thread')} in"
+               f" {settled - began:.2f} s, {plural(read.readings, 'reading')}; namespaces and files in"
+               f" {time.monotonic() - settled:.2f} s, {plural(made.looked_at, 'file')} looked at")
+    return told(made)
+
+
+def main(words: Sequence[str]) -> int:
+    asked = words_of(words)
+    needs_root()
+    live = Live()
+    try:
+        return capture(live, asked)
+    finally:
+        live.close()

@@ -1,0 +1,273 @@
+"""strace's lines, while they are recorded, made into the plain lines of a log (docs/STRACE.md).
+
+What a rule reads stays, without decorations and without what else it holds: of an execve its file alone, of a written
+text that of maps and setgroups words alone. Other lines are left out and counted. A line that can't be read, and an act
+that the log can't tell, ends the recording: nothing of that kind is passed over.
+"""
+import re
+from collections.abc import Callable
+
+from . import lines, plain_log
+from .executed import Executed
+from .executing import Executing
+from .filters import of_argument
+from .followed import Followed, Task
+from .lines import Call
+from .map_files import NAMES
+from .map_writes import TRANSFERS, Maps, System
+from .shown import shown
+from .taken import Stopped, Taken
+
+ID_CALLS = tuple(b"set" + name for name in
+                 (b"uid", b"reuid", b"resuid", b"fsuid", b"gid", b"regid", b"resgid", b"fsgid"))
+ANSWERS = (b"getuid", b"geteuid", b"getgid", b"getegid", b"getresuid", b"getresgid", b"getgroups", b"capget")
+WRITES = (b"write", b"writev", b"pwrite64", b"pwritev", b"pwritev2")
+OPENS = (b"open", b"openat", b"openat2", b"creat")
+COPIES = (b"dup", b"dup2", b"dup3", b"fcntl", b"fcntl64")
+PRCTLS = (b"PR_SET_KEEPCAPS", b"PR_SET_NO_NEW_PRIVS", b"PR_SET_SECUREBITS", b"PR_CAPBSET_DROP", b"PR_CAP_AMBIENT",
+          b"PR_GET_KEEPCAPS", b"PR_GET_NO_NEW_PRIVS", b"PR_GET_SECUREBITS", b"PR_CAPBSET_READ")
+QUOTED = rb'"(?:[^"\\]|\\.)*"(?:\.\.\.)?'
+PLAIN_DESCRIPTOR = rb"<([^<>\\\"]*)(?:<[^<>]*>)?>(?:\(deleted\))?"
+# The two kinds of lines of which a log has most, where nothing in them is odd.
+OTHER_WRITE = re.compile(rb"([0-9]+) +p?writev?(?:64|2)?\([0-9]+" + PLAIN_DESCRIPTOR + rb", .*", re.S)
+OTHER_OPEN = re.compile(rb"([0-9]+) +open(?:at)?\((?:AT_FDCWD" + PLAIN_DESCRIPTOR + rb", )?" + QUOTED
+                        + rb", [A-Z_|]+(?:, 0[0-7]*)?\) += (?:-1 E.*|([0-9]+)" + PLAIN_DESCRIPTOR + rb")", re.S)
+CHANGED = re.compile(rb"<pid changed to ([0-9]+) \.\.\.>$")
+
+
+class Filtering:
+    """Feeds on strace's lines. `followed` has the processes at the start."""
+
+    def __init__(self, followed: Followed, executed: Executed, system: System) -> None:
+        self.followed, self.executed, self.taken = followed, executed, Taken()
+        self.maps = Maps(followed, self.taken, system)
+        self.executing = Executing(followed, self.taken, system, executed)
+        self.begun: dict[int, bytes | None] = {}          # None: a call that is left out
+        self.changing: dict[int, int] = {}                # by a leader's pid the thread that takes it
+        self.held: dict[int, list[bytes]] = {}
+        self.handlers = self.table()
+
+    def table(self) -> dict[bytes, Callable[[Task, Call], None]]:
+        """Who takes which calls."""
+        maps, executing = self.maps, self.executing
+        kinds: list[tuple[tuple[bytes, ...], Callable[[Task, Call], None]]] = [
+            (ID_CALLS, self.keep), (ANSWERS, self.keep), ((b"setgroups",), self.setgroups), ((b"capset",), self.capset),
+            ((b"prctl",), self.prctl), ((b"seccomp",), self.seccomp), ((b"unshare",), self.unshare),
+            ((b"fork", b"vfork", b"clone", b"clone3"), self.birth), ((b"setns",), maps.setns), (OPENS, maps.open),
+            (COPIES, maps.copy), (WRITES, maps.write), (tuple(TRANSFERS), maps.transfer),
+            ((b"io_uring_setup",), maps.io_uring), ((b"execve", b"execveat"), executing.execve),
+            ((b"chdir", b"fchdir"), executing.chdir), ((b"chroot",), executing.chroot),
+            ((b"pivot_root",), executing.pivot_root)]
+        return {name: handler for names, handler in kinds for name in names}
+
+    # ---- lines
+
+    def feed(self, line: bytes) -> None:
+        """One line of strace, without its line feed. Stopped where the recording can't go on."""
+        if self.is_left_out(line):
+            return
+        found = lines.parted(line)
+        if found is None:
+            raise Stopped("a line of strace can't be read: it begins with no pid")
+        pid, body = found
+        if pid not in self.followed.tasks:
+            self.held.setdefault(pid, []).append(line)
+            return
+        self.body(pid, body)
+
+    def is_left_out(self, line: bytes) -> bool:
+        """Whether a line is a write to another file, or an open of one, at first sight."""
+        found = OTHER_WRITE.fullmatch(line)
+        if found and not found.group(2).endswith(NAMES):
+            if line.endswith(lines.UNFINISHED):
+                self.begun[int(found.group(1))] = None
+            self.taken.left_out["writes to other files"] += 1
+            return True
+        found = OTHER_OPEN.fullmatch(line)
+        if found is None or b"/ns/user" in line:
+            return False
+        path = found.group(4)
+        if path is not None:
+            task = self.followed.tasks.get(int(found.group(1)))
+            if task is None or path.endswith(NAMES):
+                return False
+            task.files.opened(int(found.group(3)), path)
+            if found.group(2) is not None:
+                task.place.stands_in(found.group(2))
+        self.taken.left_out["opens of other files"] += 1
+        return True
+
+    def body(self, pid: int, body: bytes) -> None:
+        """The body of a line of a process that lives."""
+        if body.startswith(b"---") or not body:
+            return
+        if body.startswith(b"+++"):
+            self.mark(pid, body)
+            return
+        if b"<detached ...>" in body[-20:]:
+            self.begun.pop(pid, None)
+            self.taken.left_out["calls that were under way at the end"] += 1
+            return
+        whole = self.whole(pid, body)
+        if whole is not None:
+            self.call(pid, whole)
+
+    def whole(self, pid: int, body: bytes) -> bytes | None:
+        """The whole text of a call: of one in two lines at the second, else None."""
+        changed = CHANGED.search(body)
+        if changed:
+            self.changing[int(changed.group(1))] = pid
+        if body.endswith(lines.UNFINISHED) or changed:
+            self.begun[pid] = body[:changed.start()] if changed else body[:-len(lines.UNFINISHED)]
+            return None
+        found = lines.RESUMED.fullmatch(body)
+        if found is None:
+            return body
+        if pid not in self.begun and pid in self.changing:
+            self.superseded(pid, self.changing[pid])
+        if pid not in self.begun:
+            return self.without_begin(pid, found.group(1))
+        front = self.begun.pop(pid)
+        if front is None:
+            return None
+        if lines.name_of(front) != found.group(1).removesuffix(b"32"):
+            raise Stopped(f"{pid}: a call begins as {shown(lines.name_of(front))} and ends as {shown(found.group(1))}")
+        return front.rstrip(lines.BLANKS) + found.group(2)
+
+    def without_begin(self, pid: int, name: bytes) -> bytes | None:
+        """A call that was under way as the recording began."""
+        if name in (*OPENS, *COPIES, *WRITES, *ANSWERS, b"chdir", b"fchdir"):
+            self.taken.left_out["calls that were under way at the start"] += 1
+            return None
+        raise Stopped(f"{pid}: a call of {shown(name)} was under way as the recording began")
+
+    def mark(self, pid: int, body: bytes) -> None:
+        """A line `+++ .. +++`."""
+        if body.startswith((b"+++ exited with ", b"+++ killed by ")):
+            self.end(pid, body)
+            return
+        found = re.match(rb"\+\+\+ superseded by execve in pid ([0-9]+)", body)
+        if found is None:
+            raise Stopped(f"{pid}: strace wrote {shown(body)}")
+        self.superseded(pid, int(found.group(1)))
+
+    def end(self, pid: int, body: bytes) -> None:
+        """An exit."""
+        self.taken.put(pid, body)
+        self.followed.ends(pid)
+        self.begun.pop(pid, None)
+
+    def superseded(self, leader: int, thread: int) -> None:
+        """A thread that executes a file takes the leader's pid (execve(2)): the leader ends, and the thread goes on
+        as a child of its own with that pid."""
+        task = self.followed.tasks.get(thread)
+        if task is None:
+            raise Stopped(f"{leader}: a thread that isn't known, {thread}, took its place")
+        self.end(leader, b"+++ exited with 0 +++")
+        self.taken.put(thread, b"fork() = %d" % leader)
+        self.followed.born(task, leader, [])
+        front = self.begun.pop(thread, None)
+        self.changing.pop(leader, None)
+        self.end(thread, b"+++ exited with 0 +++")
+        if front is not None:
+            self.begun[leader] = front
+        self.taken.change(f"{thread} took the pid of {leader} by an execve: told as an exit of {leader}, a birth of"
+                          f" {leader} by {thread}, and an exit of {thread}")
+
+    def finish(self) -> None:
+        """The end of strace's lines: what is held belongs to processes whose birth isn't told."""
+        for front in self.begun.values():
+            self.taken.left_out["calls that were under way at the end"] += front is not None
+        for pid, held in self.held.items():
+            kept = [line for line in held if not line.endswith(b"+++") and b"<detached" not in line]
+            if kept:
+                self.taken.doubt(f"{len(held)} lines are of process {pid}, whose birth isn't in the log")
+
+    # ---- calls
+
+    def call(self, pid: int, text: bytes) -> None:
+        """A whole call of a process that lives."""
+        made = lines.call_of(lines.TRANSLATED.sub(rb"\2", text))
+        if made is None:
+            raise Stopped(f"{pid}: a line of {shown(lines.name_of(text) or b'no call')} can't be read")
+        if made.result.startswith(b"?"):
+            self.taken.left_out["calls that never answered"] += 1
+            return
+        made = Call(made.name.removesuffix(b"32"), made.arguments, made.result)
+        handler = self.handlers.get(made.name)
+        if handler is None:
+            self.taken.left_out["calls that no rule reads"] += 1
+            return
+        handler(self.followed.tasks[pid], made)
+
+    def keep(self, task: Task, made: Call) -> None:
+        """A call that stays as it is."""
+        self.taken.put(task.pid, plain_log.call(made.name, list(made.arguments), made.result))
+
+    def setgroups(self, task: Task, made: Call) -> None:
+        """setgroups(2)."""
+        if len(made.arguments) == 2 and (made.arguments[1] == b"NULL" or made.arguments[1].startswith(b"[")):
+            self.keep(task, made)
+        elif not self.taken.fails_unread(made):
+            raise Stopped(f"{task.pid}: the groups of a setgroups can't be read")
+
+    def capset(self, task: Task, made: Call) -> None:
+        """capset(2)."""
+        if len(made.arguments) == 2 and all(argument.startswith(b"{") for argument in made.arguments):
+            self.keep(task, made)
+        elif not self.taken.fails_unread(made):
+            raise Stopped(f"{task.pid}: the sets of a capset can't be read")
+
+    def prctl(self, task: Task, made: Call) -> None:
+        """prctl(2): the options that set or show credentials stay."""
+        option = made.arguments[0] if made.arguments else b""
+        if option == b"PR_SET_SECCOMP":
+            if b"SECCOMP_MODE_FILTER" in made.arguments[1:2]:
+                self.installed(task, made, made.arguments[2:3])
+        elif option not in PRCTLS:
+            self.taken.left_out["prctl of other options"] += 1
+        elif all(re.fullmatch(rb"[0-9]{11,}", argument) is None for argument in made.arguments[1:2]):
+            self.keep(task, made)
+        elif not self.taken.fails_unread(made):
+            raise Stopped(f"{task.pid}: the number of a prctl can't be read")
+
+    def seccomp(self, task: Task, made: Call) -> None:
+        """seccomp(2): filters that are installed are noted."""
+        if made.arguments[:1] == (b"SECCOMP_SET_MODE_FILTER",):
+            self.installed(task, made, made.arguments[2:3])
+
+    def installed(self, task: Task, made: Call, argument: tuple[bytes, ...]) -> None:
+        """A filter of system calls was installed."""
+        if made.done is None:
+            return
+        found = of_argument(task.pid, argument[0] if argument else b"")
+        self.taken.filters.append(found)
+        for doubt in found.doubts:
+            self.taken.doubt(f"process {task.pid} installed a filter that {doubt}: what its calls told may not have"
+                             " happened")
+
+    def birth(self, task: Task, made: Call) -> None:
+        """fork, vfork, clone and clone3; then come the lines that stood before."""
+        flags, child, result = lines.flags_of(made), made.done, made.result
+        if flags is None:
+            if not self.taken.fails_unread(made):
+                raise Stopped(f"{task.pid}: the flags of a birth can't be read")
+            return
+        if b"CLONE_UNTRACED" in flags and child is not None:
+            self.taken.doubt(f"process {task.pid} gave birth to {child} with CLONE_UNTRACED: what that does isn't in"
+                             " the log")
+        if b"CLONE_FILES" in flags:
+            self.taken.counted["births are told without their flag CLONE_FILES"] += 1
+        self.taken.put(task.pid, plain_log.birth(made, flags, result if child is None else b"%d" % child))
+        if child is None:
+            return
+        self.followed.born(task, child, flags)
+        for line in self.held.pop(child, []):
+            self.taken.counted["lines that stood before the birth of their process stand behind it"] += 1
+            self.feed(line)
+
+    def unshare(self, task: Task, made: Call) -> None:
+        """unshare(2)."""
+        self.keep(task, made)
+        if made.done is not None and made.arguments:
+            self.followed.unshared(task, lines.words(made.arguments[0]))

@@ -1,0 +1,20 @@
+"""What a lint tells: where, what, and what to do."""
+from dataclasses import dataclass
+
+WORLD, LOG, RECORDING = "world", "log", "recording"
+
+
+@dataclass(frozen=True)
+class Finding:
+    """Something found in a file, on a line where it has one. `refused` says that the program refuses it; all else is a
+    doubt about what the program accepts."""
+    file: str
+    line: int | None
+    why: str
+    hint: str = ""
+    key: str | None = None
+    refused: bool = True
+
+
+def doubt(file: str, line: int | None, why: str, hint: str = "") -> Finding:
+    return Finding(file, line, why, hint, refused=False)

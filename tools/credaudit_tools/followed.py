@@ -1,0 +1,142 @@
+"""What is followed of the processes of a log while it is recorded: which live, in which user namespace each stands,
+what their descriptors and working directories are.
+
+User namespaces are told apart by numbers of this module's own, called standings; 0 is that of the recording's start.
+"""
+from dataclasses import dataclass, field, replace
+
+UNKNOWN = -1        # the standing of a process that isn't followed
+
+
+@dataclass
+class Place:
+    """What processes born with CLONE_FS share: paths as the tracer's own root has them. `view` numbers mount
+    namespaces, 0 is the tracer's own. In another one paths begin at the process's root; where that was changed
+    there, strace's paths begin elsewhere, and `apart` is set: the working directory isn't known then."""
+    cwd: bytes | None
+    root: bytes = b"/"
+    view: int = 0
+    apart: bool = False
+
+    def stands_in(self, cwd: bytes) -> None:
+        """The working directory, as strace tells it."""
+        self.cwd = None if self.apart else cwd
+
+    def changes_root(self, root: bytes) -> None:
+        """A chroot; in another mount namespace the working directory isn't known then."""
+        if self.view == 0:
+            self.root = root
+        else:
+            self.cwd, self.apart = None, True
+
+    def copied(self) -> "Place":
+        """A copy that goes its own way."""
+        return replace(self)
+
+
+@dataclass
+class Files:
+    """A table of descriptors, which processes born with CLONE_FILES share: by number the paths that strace told, and
+    of map files that were seen to be opened the standing that each is for."""
+    paths: dict[int, bytes] = field(default_factory=dict)
+    standings: dict[int, int] = field(default_factory=dict)
+
+    def opened(self, number: int, path: bytes) -> None:
+        """A number has another file from now on."""
+        self.paths[number] = path
+        self.standings.pop(number, None)
+
+    def copy_of(self, number: int, source: int) -> None:
+        """A number is a copy of another one."""
+        if source in self.standings and self.paths.get(source) == self.paths.get(number):
+            self.standings[number] = self.standings[source]
+
+    def copied(self) -> "Files":
+        """A copy that goes its own way."""
+        return Files(dict(self.paths), dict(self.standings))
+
+
+@dataclass
+class Task:
+    """A thread."""
+    pid: int
+    standing: int
+    place: Place
+    files: Files
+    exe: bytes | None = None
+
+
+@dataclass
+class Followed:
+    """All of it. `maps` has of each process whose map files were opened the standings that these were for, `spaces` of
+    each user namespace's number in the kernel the standing, `stood` of each pid all that it had."""
+    tasks: dict[int, Task] = field(default_factory=dict)
+    maps: dict[int, set[int]] = field(default_factory=dict)
+    spaces: dict[int, int] = field(default_factory=dict)
+    stood: dict[int, set[int]] = field(default_factory=dict)
+    last_standing: int = 0
+    last_view: int = 0
+
+    def add(self, task: Task) -> None:
+        """A thread at the start, or that was born."""
+        self.tasks[task.pid] = task
+        self.stood.setdefault(task.pid, set()).add(task.standing)
+
+    def new_standing(self) -> int:
+        """A user namespace that was made."""
+        self.last_standing += 1
+        return self.last_standing
+
+    def new_view(self) -> int:
+        """A mount namespace that was made or joined."""
+        self.last_view += 1
+        return self.last_view
+
+    def born(self, parent: Task, pid: int, flags: list[bytes]) -> None:
+        """A child of a birth with these flags (clone(2))."""
+        place = parent.place if b"CLONE_FS" in flags else parent.place.copied()
+        if b"CLONE_NEWNS" in flags:
+            place.view = self.new_view()
+        files = parent.files if b"CLONE_FILES" in flags else parent.files.copied()
+        standing = self.new_standing() if b"CLONE_NEWUSER" in flags else parent.standing
+        self.add(Task(pid, standing, place, files, parent.exe))
+
+    def stands(self, task: Task, standing: int) -> None:
+        """A process stands in another user namespace."""
+        task.standing = standing
+        self.stood[task.pid].add(standing)
+
+    def ends(self, pid: int) -> None:
+        """An exit."""
+        self.tasks.pop(pid, None)
+        self.stood.pop(pid, None)
+
+    def unshared(self, task: Task, flags: list[bytes]) -> None:
+        """A successful unshare with these flags (unshare(2))."""
+        if b"CLONE_NEWUSER" in flags:
+            self.stands(task, self.new_standing())
+        if b"CLONE_FS" in flags or b"CLONE_NEWNS" in flags:
+            task.place = task.place.copied()
+        if b"CLONE_NEWNS" in flags:
+            task.place.view = self.new_view()
+        if b"CLONE_FILES" in flags:
+            task.files = task.files.copied()
+
+    def opened_map(self, task: Task, number: int, owner: int) -> None:
+        """A map file of a process was opened; of one that isn't followed it isn't known which namespace that is for."""
+        standing = self.tasks[owner].standing if owner in self.tasks else UNKNOWN
+        self.maps.setdefault(owner, set()).add(standing)
+        task.files.standings[number] = standing
+
+    def standing_of_map(self, task: Task, number: int, path: bytes, owner: int) -> int | None:
+        """The user namespace that a descriptor of a map file of this process is for: the one for which that number
+        was opened, else the one for which all its map files were; None where that isn't certain."""
+        own = task.files.standings.get(number) if task.files.paths.get(number) == path else None
+        seen = [own] if own is not None else sorted(self.maps.get(owner) or self.stood.get(owner) or [])
+        return seen[0] if len(seen) == 1 and seen[0] != UNKNOWN else None
+
+    def one_in(self, standing: int, first: int) -> int | None:
+        """A process that stands in a namespace: `first` where it does, else the least."""
+        if first in self.tasks and self.tasks[first].standing == standing:
+            return first
+        return min((pid for pid, task in self.tasks.items() if task.standing == standing), default=None)

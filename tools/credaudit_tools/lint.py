@@ -1,0 +1,70 @@
+"""A lint: the program's refusal in words, or, of what it accepts, what makes it suspect."""
+from collections.abc import Iterator
+from dataclasses import dataclass
+
+from . import log_doubts, log_faults, other_faults, world_doubts, world_faults, worlds
+from .command import Failure
+from .files import read_regular
+from .findings import LOG, WORLD, Finding
+from .recording import Recording
+from .report import Report
+from .world_faults import as_row
+
+BAD_WORLD, BAD_LOG, UNREAD, LIMIT, IMPOSSIBLE, ACCEPTED = 4, 5, 7, 9, 3, 0
+
+
+@dataclass
+class Given:
+    """What is looked at: two files by their paths, and of a recording what else it has."""
+    world: str
+    log: str
+    recording: Recording | None = None
+
+
+def form_of(data: bytes) -> str:
+    """The form that a world says its log has."""
+    try:
+        told = worlds.table_of(data).get("log")
+    except Failure:
+        return "script"
+    return "strace" if told == "strace" else "script"
+
+
+def declared_pids(data: bytes) -> list[int]:
+    rows = worlds.table_of(data).get("process", [])
+    return [row["pid"] for row in map(as_row, rows) if isinstance(row.get("pid"), int)]
+
+
+def refusal(report: Report, world: bytes, log: bytes) -> list[Finding]:
+    """The last line of a report that doesn't accept."""
+    told = report.ending[-1] if report.ending else ""
+    if report.status == BAD_WORLD:
+        return world_faults.faults(told, world)
+    if report.status == BAD_LOG:
+        return log_faults.faults(told, log, form_of(world))
+    if report.status == LIMIT:
+        return other_faults.limits(told)
+    if report.status == IMPOSSIBLE:
+        return other_faults.impossible(told, log, declared_pids(world))
+    return [Finding(LOG, None, f"the program ends with status {report.status}", told)]
+
+
+def suspicion(report: Report, world: bytes, log: bytes, recording: Recording | None) -> Iterator[Finding]:
+    """What is odd of what the program accepts."""
+    read = worlds.read(world)
+    yield from world_doubts.of_world(world, read)
+    yield from log_doubts.of_strace(log, report, read) if read.log == "strace" else log_doubts.front_doubts(log, report)
+    if recording is not None:
+        yield from world_doubts.of_recording(recording, read, report)
+
+
+def findings(given: Given, report: Report) -> list[Finding]:
+    """All that is to be told of two files and of what the program answered about them."""
+    unread = [found for path, file in ((given.world, WORLD), (given.log, LOG))
+              if (found := other_faults.unreadable(path, file)) is not None]
+    if unread:
+        return unread
+    world, log = (read_regular(path, other_faults.LOG_MOST + 1, follow=True) for path in (given.world, given.log))
+    if report.status != ACCEPTED:
+        return refusal(report, world, log)
+    return list(suspicion(report, world, log, given.recording))

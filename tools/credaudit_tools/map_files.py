@@ -1,0 +1,121 @@
+"""Which process a descriptor's path of a map file is of, whatever the spelling: the file lies on a mount of proc, which
+may be a second one, a part of one, or one of another PID namespace (proc(5), pid_namespaces(7)).
+"""
+import os
+import re
+from collections.abc import Iterable
+from dataclasses import dataclass
+
+from .followed import Followed, Task
+from .mounts import Mount, table
+from .names import MAP_FILES
+from .proc import Proc
+
+INSIDE = re.compile(rb"/([1-9][0-9]*)(?:/task/([1-9][0-9]*))?/(uid_map|gid_map|setgroups)")
+NAMES = tuple(name.encode() for name in MAP_FILES)
+
+
+class Unclear(Exception):
+    """A file may be a map file, and whose isn't certain."""
+
+
+@dataclass(frozen=True)
+class MapFile:
+    """A map file of a process."""
+    pid: int
+    name: bytes
+
+
+def may_be(path: bytes) -> bool:
+    """Whether a path ends as those of map files do."""
+    return path.rpartition(b"/")[2] in NAMES
+
+
+def below(path: bytes, point: bytes) -> bytes | None:
+    """What of a path stands below a mount point, None where it stands elsewhere."""
+    front = point.rstrip(b"/")
+    return path[len(front):] if path.startswith(front + b"/") else None
+
+
+class MapFiles:
+    """Asks the running kernel."""
+
+    def __init__(self, proc: Proc) -> None:
+        self.proc = proc
+
+    def find(self, pid: int, top: bytes, path: bytes, family: Iterable[int]) -> MapFile | None:
+        """The map file of a descriptor's path; None where it is another file. Unclear where that can't be said. `pid`
+        is the process that has the descriptor, `top` where its paths can be looked up.
+
+        A path below /proc is taken for one of proc, whatever is mounted by now: tools that make containers leave
+        their mounts behind at once. If it was none, the end shows it: the kernel's maps are compared with those that
+        were told."""
+        if not may_be(path):
+            return None
+        point, inner = b"/proc", path.removeprefix(b"/proc")
+        if INSIDE.fullmatch(inner) is None or inner == path:
+            mount = self.mount_of(pid, top, path)
+            if mount.kind != b"proc":
+                if os.path.lexists(top + path):
+                    return None
+                raise Unclear
+            point = mount.point.rstrip(b"/")
+            inner = (b"" if mount.part == b"/" else mount.part) + (below(path, mount.point) or b"")
+        found = INSIDE.fullmatch(inner)
+        if found is None:
+            raise Unclear
+        return MapFile(self.outer(int(found.group(2) or found.group(1)), top + point, inner, family), found.group(3))
+
+    def mount_of(self, pid: int, top: bytes, path: bytes) -> Mount:
+        """The mount on which a path lies now, as the process has it."""
+        data = self.proc.read(pid, "mountinfo") or (b"" if top else self.proc.read(os.getpid(), "mountinfo")) or b""
+        mounts = [mount for mount in reversed(table(data)) if below(path, mount.point) is not None]
+        if not path.startswith(b"/") or not mounts:
+            raise Unclear
+        return max(mounts, key=lambda each: len(each.point.rstrip(b"/")))       # of those on one place the last
+
+    def outer(self, number: int, mount: bytes, inner: bytes, family: Iterable[int]) -> int:
+        """The process that a mount of proc shows under this number."""
+        named = [pid for pid in family if number in self.numbers(pid)]
+        if len(named) == 1:
+            return named[0]
+        folder = mount + inner.rpartition(b"/")[0]
+        start = started(folder)
+        same = [pid for pid in named if start is not None and started(os.fsencode(self.proc.path(pid))) == start]
+        if len(same) == 1:
+            return same[0]
+        raise Unclear
+
+    def numbers(self, pid: int) -> list[int]:
+        """The pids that a process has in its PID namespaces, outermost first; its own where it is gone."""
+        data = self.proc.read(pid, "status") or b""
+        found = re.search(rb"^NSpid:\s+([0-9\s]+?)$", data, re.M)
+        return [int(word) for word in found.group(1).split()] if found else [pid]
+
+
+def started(folder: bytes) -> bytes | None:
+    """When the process of a folder of proc was born."""
+    try:
+        with open(folder + b"/stat", "rb") as file:
+            return file.read().rpartition(b")")[2].split()[19]
+    except (OSError, IndexError):
+        return None
+
+
+class RunningSystem:
+    """What a filter asks, answered by the running system."""
+
+    def __init__(self, proc: Proc) -> None:
+        self.maps, self.proc = MapFiles(proc), proc
+
+    def top_of(self, task: Task, followed: Followed) -> bytes:
+        """A process of the same mount namespace that lives has its root."""
+        if task.place.view == 0:
+            return b""
+        same = [pid for pid, other in followed.tasks.items() if other.place.view == task.place.view]
+        alive = [pid for pid in (task.pid, *same) if os.path.exists(self.proc.path(pid, "root", "."))]
+        return os.fsencode(self.proc.path(alive[0] if alive else task.pid, "root"))
+
+    def map_file(self, task: Task, path: bytes, followed: Followed) -> MapFile | None:
+        """As MapFiles.find, for what is followed."""
+        return self.maps.find(task.pid, self.top_of(task, followed), path, {*followed.tasks, *followed.maps})

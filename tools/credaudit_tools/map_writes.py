@@ -1,0 +1,231 @@
+"""Maps and user namespaces in a recording: which files are opened and written, and which namespaces are joined, as
+plain calls (user_namespaces(7), setns(2)).
+
+A write of a map is told as an open under a number of its own, a write and a close, whatever the program did; so is a
+namespace that is joined. What isn't certain ends the recording.
+"""
+import re
+from typing import Protocol
+
+from . import lines, plain_log
+from .followed import UNKNOWN, Followed, Place, Task
+from .lines import Call
+from .map_files import MapFile, Unclear
+from .shown import shown
+from .taken import Stopped, Taken
+
+TRANSFERS = {b"sendfile": 0, b"sendfile64": 0, b"splice": 2, b"copy_file_range": 2}       # which argument is written to
+USER_SPACE = re.compile(rb"user:\[([0-9]+)\]")
+PIDFD = re.compile(rb"pid:([0-9]+)")
+SPACE_PATH = re.compile(rb"/proc/([1-9][0-9]*|self|thread-self)(?:/task/([1-9][0-9]*))?/ns/user")
+WRITING = (b"O_WRONLY", b"O_RDWR")
+FIRST_DESCRIPTOR = 1000000
+
+
+class System(Protocol):
+    """What a recording asks of the system that it records."""
+
+    def top_of(self, task: Task, followed: Followed) -> bytes:
+        """Where the files of a process's mount namespace can be looked up: empty for one's own."""
+
+    def map_file(self, task: Task, path: bytes, followed: Followed) -> MapFile | None:
+        """The map file of a descriptor's path, None for another file. Unclear where that can't be said."""
+
+
+class Maps:
+    """The calls on descriptors and on user namespaces."""
+
+    def __init__(self, followed: Followed, taken: Taken, system: System) -> None:
+        self.followed, self.taken, self.system = followed, taken, system
+        self.next_descriptor = FIRST_DESCRIPTOR
+
+    # ---- namespaces that are joined
+
+    def setns(self, task: Task, made: Call) -> None:
+        """setns(2), by a namespace's file or a process's descriptor."""
+        told = lines.descriptor(made.arguments[0]) if made.arguments else None
+        flags = lines.words(made.arguments[1]) if len(made.arguments) > 1 else []
+        what = told[1] if told else None
+        if what is None:
+            if not self.taken.fails_unread(made):
+                raise Stopped(f"{task.pid}: it joined a namespace that isn't told")
+            return
+        if what.startswith(b"mnt:[") or b"CLONE_NEWNS" in flags:
+            if made.done is not None:
+                task.place = Place(b"/", b"/", self.followed.new_view())
+        standing = self.joined(what, flags)
+        if standing is None:
+            self.taken.left_out["setns of other namespaces"] += 1
+        elif standing < 0:
+            if not self.taken.fails_unread(made):
+                raise Stopped(f"{task.pid}: it joined a user namespace that isn't known")
+        else:
+            self.join(task, made, standing)
+
+    def joined(self, what: bytes, flags: list[bytes]) -> int | None:
+        """The standing that a setns is for: None where it is for none, -1 where it isn't known."""
+        space, pid = USER_SPACE.fullmatch(what), PIDFD.fullmatch(what)
+        if space:
+            return self.followed.spaces.get(int(space.group(1)), -1)
+        if pid is None or b"CLONE_NEWUSER" not in flags:
+            return None
+        other = self.followed.tasks.get(int(pid.group(1)))
+        return -1 if other is None else other.standing
+
+    def join(self, task: Task, made: Call, standing: int) -> None:
+        """A user namespace that is joined."""
+        owner = self.followed.one_in(standing, task.pid)
+        if owner is None:
+            raise Stopped(f"{task.pid}: it joined a user namespace in which no process stands")
+        number = self.opened(task.pid, owner, b"ns/user", b"O_RDONLY")
+        self.taken.put(task.pid, plain_log.call(b"setns", [number, b"CLONE_NEWUSER"], made.result))
+        self.taken.put(task.pid, plain_log.call(b"close", [number], b"0"))
+        self.taken.change(f"{task.pid} joined a user namespace: told as an open of /proc/{owner}/ns/user, setns and"
+                          " close")
+        if made.done is not None:
+            self.followed.stands(task, standing)
+
+    def opened(self, pid: int, owner: int, name: bytes, flags: bytes) -> bytes:
+        """An open of a file of a process under a number of its own."""
+        number = b"%d" % self.next_descriptor
+        self.next_descriptor += 1
+        path = lines.quoted(b"/proc/%d/%s" % (owner, name))
+        self.taken.put(pid, plain_log.call(b"open", [path, flags], number))
+        return number
+
+    # ---- files that are opened
+
+    def map_of(self, task: Task, path: bytes) -> MapFile | None:
+        """The map file that a path is of, whatever the spelling; None for another file."""
+        try:
+            return self.system.map_file(task, path, self.followed)
+        except Unclear as unclear:
+            raise Stopped(f"{task.pid}: it uses {shown(path)}, and whose map that is isn't certain") from unclear
+
+    def open(self, task: Task, made: Call) -> None:
+        """open, openat, openat2 and creat."""
+        self.learn(task, made)
+        if made.done is None:
+            self.taken.left_out["opens of other files"] += 1
+            return
+        told = lines.descriptor(made.result)
+        if told is None or told[1] is None:
+            raise Stopped(f"{task.pid}: a file was opened, and strace doesn't tell which")
+        named = self.map_of(task, told[1]) if is_for_writing(made) else None
+        if named is not None:
+            self.followed.opened_map(task, made.done, named.pid)
+            self.taken.left_out["opens of map files, which are told where they are written"] += 1
+            return
+        self.taken.left_out["opens of other files"] += 1
+        space = USER_SPACE.fullmatch(told[1])
+        if space:
+            self.learn_space(task, made, int(space.group(1)))
+
+    def learn_space(self, task: Task, made: Call, number: int) -> None:
+        """Which user namespace has this number in the kernel, where the path tells whose it is."""
+        texts = [told[0] for told in map(lines.text_of, made.arguments) if told is not None]
+        found = SPACE_PATH.fullmatch(texts[0]) if texts else None
+        if found is None:
+            return
+        owner = task.pid if found.group(1).endswith(b"self") else int(found.group(2) or found.group(1))
+        if owner in self.followed.tasks:
+            self.followed.spaces[number] = self.followed.tasks[owner].standing
+
+    def copy(self, task: Task, made: Call) -> None:
+        """dup, dup2, dup3 and fcntl."""
+        self.learn(task, made)
+        source = lines.descriptor(made.arguments[0]) if made.arguments else None
+        if made.done is not None and source is not None and source[0].isdigit():
+            task.files.copy_of(made.done, int(source[0]))
+        self.taken.left_out["copies of descriptors"] += 1
+
+    def learn(self, task: Task, made: Call) -> None:
+        """What descriptors and the working directory are, as strace decorates them."""
+        told = lines.descriptor(made.result)
+        if told is not None and told[1] is not None and made.done is not None:
+            task.files.opened(made.done, told[1])
+        for argument in made.arguments[:1]:
+            at = lines.descriptor(argument)
+            if at is not None and at[0] == b"AT_FDCWD" and at[1] is not None:
+                task.place.stands_in(at[1])
+
+    # ---- files that are written
+
+    def write(self, task: Task, made: Call) -> None:
+        """write, writev and their like."""
+        told = lines.descriptor(made.arguments[0]) if made.arguments else None
+        if told is None or told[1] is None:
+            if made.done is not None:
+                raise Stopped(f"{task.pid}: a file was written to, and strace doesn't tell which")
+            self.taken.left_out["writes to other files"] += 1
+            return
+        named = self.map_of(task, told[1])
+        if named is None:
+            self.taken.left_out["writes to other files"] += 1
+            return
+        text = self.text(made)
+        if text is None:
+            if not self.taken.fails_unread(made):
+                raise Stopped(f"{task.pid}: the text that it wrote to {shown(told[1])} isn't whole")
+            return
+        number = int(told[0]) if told[0].isdigit() else UNKNOWN
+        self.map_write(task, made, named, self.followed.standing_of_map(task, number, told[1], named.pid), text)
+
+    def text(self, made: Call) -> bytes | None:
+        """The text of a write; of a writev the parts that were taken. The kernel writes these one by one, so what
+        failed is the first."""
+        argument = made.arguments[1] if len(made.arguments) > 1 else b""
+        if made.name not in (b"writev", b"pwritev", b"pwritev2"):
+            told = lines.text_of(argument)
+            return told[0] if told is not None and told[1] else None
+        parts = lines.pieces(argument[1:-1]) if argument.startswith(b"[") and argument.endswith(b"]") else None
+        texts = []
+        for part in parts or ():
+            told = lines.text_of(lines.member(b"iov_base", part) or b"")
+            if told is None or not told[1]:
+                return None
+            texts.append(told[0])
+        if not texts:
+            return None
+        return texts[0] if made.done is None else b"".join(texts)[:made.done]
+
+    def map_write(self, task: Task, made: Call, of: MapFile, standing: int | None, text: bytes) -> None:
+        """A write of a map or of the setgroups word: told as an open, a write and a close."""
+        owner, name = of.pid, of.name
+        inside = None if standing is None else self.followed.one_in(standing, owner)
+        if inside is None:
+            if not self.taken.fails_unread(made):
+                raise Stopped(f"{task.pid}: it wrote to a {name.decode()} of process {owner}, and of which user"
+                              " namespace that is isn't known")
+            return
+        number = self.opened(task.pid, inside, name, b"O_WRONLY")
+        result = made.result
+        if b"\0" in text:
+            text = text[:text.index(b"\0")]
+            self.taken.change(f"{task.pid} wrote a text with a NUL to a {name.decode()}: told as far as that")
+        if made.done is not None:
+            result = b"%d" % len(text)
+        self.taken.put(task.pid, plain_log.call(b"write", [number, lines.quoted(text), b"%d" % len(text)], result))
+        self.taken.put(task.pid, plain_log.call(b"close", [number], b"0"))
+        self.taken.change(f"{task.pid} wrote a {name.decode()} of {owner} by {made.name.decode()}: told as an open of"
+                          f" /proc/{inside}/{name.decode()}, a write and a close")
+
+    def transfer(self, task: Task, made: Call) -> None:
+        """What the kernel copies into a file has no text in the log."""
+        place = TRANSFERS[made.name]
+        told = lines.descriptor(made.arguments[place]) if len(made.arguments) > place else None
+        if made.done is not None and (told is None or told[1] is None or self.map_of(task, told[1]) is not None):
+            raise Stopped(f"{task.pid}: {made.name.decode()} wrote to a map file, and its text isn't told")
+        self.taken.left_out["writes to other files"] += 1
+
+    def io_uring(self, task: Task, made: Call) -> None:
+        """io_uring_setup(2)."""
+        if made.done is not None:
+            self.taken.doubt(f"process {task.pid} uses io_uring: what it opens and writes by that isn't in the log")
+
+
+def is_for_writing(made: Call) -> bool:
+    """Whether an open is one for writing."""
+    plain = [argument for argument in made.arguments if not argument.startswith(b'"')]
+    told = [lines.member(b"flags", argument) or argument for argument in plain]
+    return made.name == b"creat" or any(word in WRITING for argument in told for word in lines.words(argument))

@@ -1,0 +1,67 @@
+"""The one runner of credaudit: it is found, called, and its report read."""
+import os
+import shutil
+import subprocess
+import tempfile
+
+from . import report
+from .command import Failure
+
+HERE = os.path.dirname(os.path.abspath(__file__))
+INSTALLED = os.path.normpath(os.path.join(HERE, "..", "..", "..", "bin", "credaudit"))
+BUILT = os.path.normpath(os.path.join(HERE, "..", "..", "crates", "credaudit", "out", "credaudit"))
+# What each status of the program means (docs/FORMATS.md, "Report").
+STATUSES = {0: "accepted", 1: "no", 3: "impossible", 4: "bad world", 5: "bad log", 6: "wrong words",
+            7: "a file can't be read", 8: "a write failed", 9: "a limit", 10: "no memory", 12: "bad query",
+            13: "not built"}
+
+
+def find() -> str:
+    """The program: what the variable CREDAUDIT names, else credaudit of the PATH, else what was installed beside these
+    commands, else what was built in this checkout."""
+    named = os.environ.get("CREDAUDIT")
+    candidates = [named] if named else [shutil.which("credaudit") or "", INSTALLED, BUILT]
+    for candidate in candidates:
+        if candidate and os.access(candidate, os.X_OK) and not os.path.isdir(candidate):
+            return os.path.abspath(candidate)
+    raise Failure(f"credaudit isn't there: {named or BUILT}",
+                  "build it with make, put it into the PATH, or name it by the variable CREDAUDIT")
+
+
+class Program:
+    """credaudit, ready to be called."""
+
+    def __init__(self, path: str | None = None) -> None:
+        self.path = path or find()
+
+    def answer(self, *words: str) -> tuple[str, int]:
+        """What a call writes, and its status. Fails where the program was killed or can't be started."""
+        try:
+            done = subprocess.run([self.path, *words], stdin=subprocess.DEVNULL, stdout=subprocess.PIPE,
+                                  stderr=subprocess.PIPE, check=False)
+        except OSError as error:
+            raise Failure(f"{self.path} can't be started: {error.strerror}") from error
+        if done.returncode < 0:
+            raise Failure(f"{self.path} was killed by signal {-done.returncode}")
+        return done.stdout.decode("ascii", "backslashreplace"), done.returncode
+
+    def run(self, *words: str) -> report.Report:
+        """The report and the status of a call."""
+        return report.read(*self.answer(*words))
+
+    def replay(self, world: str, log: str) -> report.Report:
+        """The replay of two files."""
+        return self.run("replay", world, log)
+
+    def replay_texts(self, world: bytes, log: bytes) -> report.Report:
+        """The replay of two texts."""
+        return report.read(*self.answer_to_texts(world, log))
+
+    def answer_to_texts(self, world: bytes, log: bytes) -> tuple[str, int]:
+        """What the replay of two texts writes, and its status."""
+        with tempfile.TemporaryDirectory(prefix="credaudit-") as work:
+            paths = [os.path.join(work, name) for name in ("world.toml", "log")]
+            for path, data in zip(paths, (world, log)):
+                with open(path, "wb") as file:
+                    file.write(data)
+            return self.answer("replay", *paths)

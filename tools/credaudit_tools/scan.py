@@ -1,0 +1,128 @@
+"""The files of the mount namespaces in which a family stands: all programs with set-id bits or the attribute
+security.capability, and what wasn't looked at."""
+from collections.abc import Callable, Iterator
+from dataclasses import dataclass, field
+
+from . import mounts, programs
+from .family import Family, Thread
+from .kernel import Kernel, Program, Trouble
+from .mounts import Area, Mount
+from .namespaces import INITIAL_INODE
+from .shown import escaped, few, plural, quoted
+
+DAC_SEARCH = 1 << 1 | 1 << 2        # CAP_DAC_OVERRIDE, CAP_DAC_READ_SEARCH
+Says = Callable[[str], None]
+
+
+@dataclass
+class Scan:
+    """Files of the mount namespaces in which the family stands."""
+    kernel: Kernel
+    family: Family
+    skip: tuple[bytes, ...]
+    says: Says
+    notes: list[str] = field(default_factory=list)
+    doubts: list[str] = field(default_factory=list)
+    looked_at: int = 0
+    by_number: dict[int, Mount] = field(default_factory=dict)
+
+    def namespaces(self) -> dict[int, bytes]:
+        """The mount namespaces, the asked process's first, and how paths of each begin."""
+        threads = self.family.threads
+        order = sorted(threads, key=lambda tid: (threads[tid].listed.pid != self.family.root, tid))
+        found: dict[int, bytes] = {}
+        for tid in order:
+            found.setdefault(threads[tid].mounts, b"/proc/%d/root" % tid if found else b"")
+        return found
+
+    def tables(self, keys: list[int]) -> dict[int, list[Mount]]:
+        tables = {key: mounts.table(self.kernel.mount_table(key)) for key in keys}
+        self.by_number = {mount.number: mount for table in tables.values() for mount in table}
+        return tables
+
+    def rows(self) -> programs.Rows:
+        namespaces = self.namespaces()
+        tables = self.tables(list(namespaces))
+        planned = mounts.plan(tables, list(self.skip))
+        self.tell_mounts(tables)
+        taken: set[str] = set()
+        rows = programs.Rows(notes=self.notes, lost=self.doubts)
+        writers = {key: programs.Writer(self.resolver(key), prefix, rows, {}, taken, self.flags)
+                   for key, prefix in namespaces.items()}
+        for area in planned.areas:
+            for program in self.area(area, namespaces[area.key]):
+                writers[area.key].add_found(program)
+                self.tell_odd(area, program)
+        self.tell_hidden(namespaces, rows)
+        rows.files.sort(key=lambda file: (file.interpreter is not None, file.path))
+        return rows
+
+    def resolver(self, key: int) -> programs.Resolve:
+        return lambda path: self.kernel.resolve(key, path)
+
+    def flags(self, number: int) -> frozenset[bytes]:
+        return self.by_number[number].options if number in self.by_number else frozenset()
+
+    def area(self, area: Area, prefix: bytes) -> Iterator[Program]:
+        count = 0
+        for found in self.kernel.walk(area.key, area.start, area.mount.number):
+            if isinstance(found, int):
+                count = found
+                self.says(f"{self.looked_at + count} files looked at, now below {quoted(area.start)}")
+            elif isinstance(found, Trouble):
+                self.doubts.append(f"{escaped(prefix + found.path)} can't be looked at: {found.why}")
+            else:
+                yield found
+        self.looked_at += count
+
+    def tell_mounts(self, tables: dict[int, list[Mount]]) -> None:
+        """What isn't looked through."""
+        every = [mount for table in tables.values() for mount in table]
+        without = {mount.point for mount in every if mount.options & {b"nosuid", b"noexec"}}
+        kinds = {mount.point for mount in every if mount.kind in mounts.WITHOUT_PROGRAMS} - without
+        if without:
+            self.notes.append(f"left out: files on {plural(len(without), 'mount')} with nosuid or noexec, where set-id"
+                              " bits and attributes have no effect")
+        if kinds:
+            self.notes.append(f"left out: files on {plural(len(kinds), 'mount')} of kinds that hold no programs, such"
+                              " as proc")
+        for point in self.skip:
+            self.doubts.append(f"{escaped(point)} isn't looked at, as asked for")
+        for key in tables:
+            owner = self.kernel.owner_of_mounts(key)
+            if owner != INITIAL_INODE:
+                self.notes.append("not known: who mounted the filesystems of a mount namespace that a user namespace"
+                                  " owns; the initial one is taken, which lets their set-id bits count for everybody")
+
+    def tell_odd(self, area: Area, program: Program) -> None:
+        """An owner that the mount doesn't show looks like the overflow id (mount_setattr(2))."""
+        if b"idmapped" in area.mount.options and programs.OVERFLOW in (program.uid, program.gid):
+            self.notes.append(f"{escaped(program.path)} lies on an idmapped mount; its owner or group may be none, and"
+                              f" is taken to be {programs.OVERFLOW}")
+
+    def tell_hidden(self, namespaces: dict[int, bytes], rows: programs.Rows) -> None:
+        """Files that the asked process can't reach now by their path, though a row makes them executable for it."""
+        key = next(iter(namespaces))
+        asked = min(self.family.threads.values(),
+                    key=lambda thread: (thread.listed.pid != self.family.root, thread.listed.tid))
+        closed: dict[bytes, list[str]] = {}
+        for file in rows.files:
+            for folder, uid, gid, mode in self.kernel.directory_modes(key, file.path.encode()):
+                if not searches(asked, uid, gid, mode):
+                    closed.setdefault(folder, []).append(file.path)
+                    break
+        for folder, paths in closed.items():
+            self.notes.append(f"behind {escaped(folder)}, which process {asked.listed.tid} may not search now (a `no`"
+                              f" may rest on it): {few(paths)}")
+
+
+def searches(thread: Thread, uid: int, gid: int, mode: int) -> bool:
+    """Whether a thread may search a directory, by its ids and sets (path_resolution(7))."""
+    own = thread.status.credential
+    if own.eff & DAC_SEARCH and thread.user == INITIAL_INODE:
+        return True
+    if own.uid[3] == uid:
+        return bool(mode & 0o100)
+    if own.gid[3] == gid or gid in own.groups:
+        return bool(mode & 0o010)
+    return bool(mode & 0o001)

@@ -1,0 +1,64 @@
+"""The program at its start: a process that is the program's user already, and has stopped right before it executes
+it."""
+import ctypes
+import os
+import pwd
+import shutil
+import signal
+import struct
+from collections.abc import Sequence
+
+from .command import Failure
+from .shown import quoted
+
+PR_GET_SECUREBITS, PR_SET_CHILD_SUBREAPER = 27, 36
+
+
+def prctl(option: int, value: int = 0) -> int:
+    """prctl(2)."""
+    return int(ctypes.CDLL(None, use_errno=True).prctl(option, value, 0, 0, 0))
+
+
+def user_of(name: str) -> pwd.struct_passwd:
+    """A user by name or number."""
+    try:
+        return pwd.getpwuid(int(name)) if name.isdigit() else pwd.getpwnam(name)
+    except KeyError as error:
+        raise Failure(f"there is no user {quoted(name)}") from error
+
+
+def begin(words: Sequence[str], user: str | None) -> tuple[int, int]:
+    """A process that is the program's user and has stopped right before it executes the program: its pid and
+    securebits."""
+    path = shutil.which(words[0]) if "/" not in words[0] else words[0]
+    if path is None or not os.path.exists(path):
+        raise Failure(f"{quoted(words[0])} can't be executed: it isn't there")
+    entry = None if user is None else user_of(user)
+    reading, writing = os.pipe()
+    pid = os.fork()
+    if pid == 0:
+        become(path, words, entry, writing)
+    os.close(writing)
+    with os.fdopen(reading, "rb") as told:
+        bits = told.read(4)
+    _, status = os.waitpid(pid, os.WUNTRACED)
+    if len(bits) != 4 or not os.WIFSTOPPED(status):
+        raise Failure(f"a process of the user {quoted(user or 'root')} can't be made")
+    return pid, int(struct.unpack("i", bits)[0])
+
+
+def become(path: str, words: Sequence[str], entry: pwd.struct_passwd | None, writing: int) -> None:
+    """In the child: takes the user's ids, says its securebits, stops, and executes the program. Never returns."""
+    try:
+        for number in (signal.SIGINT, signal.SIGTERM, signal.SIGPIPE, signal.SIGXFSZ):
+            signal.signal(number, signal.SIG_DFL)
+        if entry is not None:
+            os.initgroups(entry.pw_name, entry.pw_gid)
+            os.setresgid(entry.pw_gid, entry.pw_gid, entry.pw_gid)
+            os.setresuid(entry.pw_uid, entry.pw_uid, entry.pw_uid)
+        os.write(writing, struct.pack("i", prctl(PR_GET_SECUREBITS)))
+        os.close(writing)
+        os.kill(os.getpid(), signal.SIGSTOP)
+        os.execv(path, list(words))
+    finally:
+        os._exit(127)

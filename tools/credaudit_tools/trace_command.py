@@ -1,0 +1,113 @@
+"""credaudit-trace: records a program under strace as a world, a log, and what the kernel showed at its end."""
+import argparse
+import re
+from collections.abc import Sequence
+from dataclasses import replace
+
+from . import command, proc, recording, verify_command, worlds
+from .command import FOUND, GOOD, USAGE, Failure, Progress, tell
+from .plain_log import numbers_of, renumbered
+from .recorder import Asked, Recorder
+from .statuses import Status
+
+NAME = "credaudit-trace"
+SAYS = """Records a program, or processes that run already, under strace(1): the world before the first line, a log that
+credaudit reads, and what the kernel showed of each process at the log's end. Then the recording is verified."""
+AFTER = """exit status:
+  0  recorded, and the replay agrees with what the kernel showed
+  1  recorded, and there is a doubt or a difference; each is told
+  2  the words are wrong
+  3  not recorded: the reason is told"""
+
+ADVICE = ('what was recorded ends there; docs/STRACE.md, "What stops a log", tells more. -p PID records from a later'
+          ' moment on')
+
+
+def seconds(text: str) -> float:
+    """A time."""
+    value = float(text)
+    if not 0 < value < 1e9:
+        raise ValueError
+    return value
+
+
+def pattern(text: str) -> re.Pattern[bytes]:
+    """A regular expression over bytes."""
+    try:
+        return re.compile(text.encode())
+    except re.error as error:
+        raise argparse.ArgumentTypeError(f"no regular expression: {error}") from error
+
+
+def words() -> argparse.ArgumentParser:
+    """The words of the command."""
+    ask = command.parser(NAME, SAYS, AFTER)
+    ask.add_argument("-o", "--output", metavar="DIR", required=True, help="the folder of the recording")
+    ask.add_argument("-p", "--pid", type=int, action="append", default=[], metavar="PID",
+                     help="a process that runs already, with its threads and all that descends from it; can stand"
+                          " repeatedly")
+    ask.add_argument("-u", "--user", help="the user who runs the program, by name or number")
+    ask.add_argument("--for", type=seconds, dest="seconds", metavar="SECONDS", help="ends after this time")
+    ask.add_argument("--until", type=pattern, metavar="EXPR",
+                     help="ends after a line of the log that this regular expression fits")
+    ask.add_argument("--keep", action="store_true", help="lets the program run on after the recording")
+    ask.add_argument("--pids-from", type=int, metavar="FIRST", help="numbers the pids by birth, from FIRST on")
+    ask.add_argument("--no-verify", action="store_true", help="doesn't compare the replay with what the kernel showed")
+    ask.add_argument("--strace", metavar="COMMAND", help="another strace than the one in the PATH")
+    ask.add_argument("command", nargs=argparse.REMAINDER, metavar="CMD ..", help="the program and its words")
+    return ask
+
+
+def main(given: Sequence[str]) -> int:
+    """The whole command."""
+    ask = words()
+    asked = ask.parse_args(given)
+    told = asked.command[1:] if asked.command[:1] == ["--"] else asked.command
+    if bool(told) == bool(asked.pid):
+        ask.print_usage()
+        tell(NAME, "name either a program or processes by -p")
+        return USAGE
+    if asked.user and asked.pid:
+        tell(NAME, "-u goes with a program alone")
+        return USAGE
+    return traced(asked, Asked(told, asked.pid, asked.user, asked.seconds, asked.until, asked.strace, asked.keep))
+
+
+def traced(options: argparse.Namespace, asked: Asked) -> int:
+    """Records, writes, and verifies; the exit status."""
+    proc.needs_root()
+    found = Recorder(asked, Progress(NAME)).record()
+    made = numbered(found, options.pids_from) if options.pids_from else found
+    recording.write(options.output, made)
+    doubts = found.made.doubts if found.made else []
+    for doubt in doubts:
+        tell(NAME, f"doubt: {doubt}")
+    end = found.made.end if found.made else ""
+    if end == "stopped":
+        tell(NAME, ADVICE)
+    print(f"{options.output}: {len(made.log.splitlines())} lines, {len(made.statuses)} processes at the end ({end})")
+    status = GOOD if options.no_verify else verify_command.verified(NAME, options.output, tell_doubts=False)
+    return FOUND if doubts and status == GOOD else status
+
+
+def numbered(found: recording.Recording, first: int) -> recording.Recording:
+    """The recording with its pids numbered by birth."""
+    if not 1 <= first < 1 << 22:
+        raise Failure("--pids-from: no pid")
+    world, log = worlds.read(found.world), found.log.split(b"\n")[:-1]
+    numbers = numbers_of(log, [row.pid for row in world.processes], first)
+    for each in found.statuses:
+        numbers.setdefault(each.pid, first + len(numbers))
+    world.processes = [replace(row, pid=numbers[row.pid], parent=None if row.parent is None else numbers[row.parent])
+                       for row in world.processes]
+    world.remarks = found.made.remarks() if found.made else []
+    statuses = [replace(each, pid=numbers[each.pid]) for each in found.statuses]
+    lines = renumbered(log, numbers)
+    changes = "pids below are those that the system had\n" + found.changes
+    return replace(found, world=worlds.written(world), log=b"".join(line + b"\n" for line in lines), changes=changes,
+                   statuses=sorted(statuses, key=pid_of))
+
+
+def pid_of(status: Status) -> int:
+    """The order of statuses."""
+    return status.pid

@@ -1,0 +1,61 @@
+"""credaudit-verify: holds a recording's replay against what the kernel showed."""
+import os
+from collections.abc import Sequence
+
+from . import command, recording
+from .command import FAILED, FOUND, GOOD, Failure, tell
+from .program import STATUSES, Program
+from .shown import shown
+from .verifying import Verdict, verify
+
+NAME = "credaudit-verify"
+SAYS = """Replays a recording with credaudit, and holds the replay against what the kernel showed: each process that
+lived at the log's end, its user namespace with maps, and each answer of getuid, capget and their like at its line."""
+AFTER = """exit status:
+  0  all that could be compared agrees
+  1  there is a difference, or the recording has a doubt; each is told
+  2  the words are wrong
+  3  it couldn't be compared: the reason is told"""
+MOST = 50
+
+
+def tell_verdict(name: str, folder: str, verdict: Verdict, doubts: list[str]) -> int:
+    """Tells a verdict; the exit status."""
+    for text in doubts:
+        tell(name, f"doubt: {text}")
+    for text in verdict.differences[:MOST]:
+        tell(name, text)
+    if len(verdict.differences) > MOST:
+        tell(name, f"{len(verdict.differences) - MOST} more differences")
+    if verdict.unread:
+        verdict.notes.append(f"{verdict.unread} answers can't be compared: their form isn't known")
+    for text in verdict.notes:
+        tell(name, f"note: {text}")
+    found = len(verdict.differences)
+    outcome = "no difference" if not found else f"{found} difference{'s' if found > 1 else ''}"
+    print(f"{shown(folder)}: {verdict.processes} processes, {verdict.answers} answers compared: {outcome}", flush=True)
+    return FOUND if found or doubts else GOOD
+
+
+def verified(name: str, folder: str, tell_doubts: bool = True) -> int:
+    """Verifies one recording; the exit status."""
+    kept = recording.read(folder)
+    report = Program().replay(os.path.join(folder, recording.WORLD), os.path.join(folder, recording.LOG))
+    if report.status in (6, 7, 8, 10):
+        raise Failure(f"credaudit ended with status {report.status}: {STATUSES[report.status]}")
+    doubts = kept.made.doubts if kept.made and tell_doubts else []
+    return tell_verdict(name, folder, verify(kept, report), doubts)
+
+
+def main(given: Sequence[str]) -> int:
+    """The whole command. The status is the greatest of all recordings'."""
+    ask = command.parser(NAME, SAYS, AFTER)
+    ask.add_argument("recording", nargs="+", metavar="RECORDING", help="a folder that credaudit-trace wrote")
+    status = GOOD
+    for folder in ask.parse_args(given).recording:
+        try:
+            status = max(status, verified(NAME, folder))
+        except Failure as failure:
+            tell(NAME, f"{folder}: {failure}")
+            status = FAILED
+    return status

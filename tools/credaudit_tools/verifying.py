@@ -1,0 +1,209 @@
+"""Holds a recording's replay against what the kernel showed: each process that lived at the end, its user namespace,
+and each answer to a call that asks. The replay is the program's own.
+"""
+import re
+from dataclasses import dataclass, field
+
+from . import answers, kernel_rows, lines, recording, report, worlds
+from .answers import At
+from .credential import WORDS, differences
+from .kernel_rows import Made
+from .recording import Recording, SpaceSeen
+from .report import Report, Standing
+from .shown import shown
+from .spaces_of_report import SpacesTold, joined, map_words, of_world
+from .statuses import Status
+from .worlds import INITIAL
+
+
+@dataclass
+class Verdict:
+    """What was compared and what differs, each difference in a line."""
+    differences: list[str] = field(default_factory=list)
+    notes: list[str] = field(default_factory=list)
+    processes: int = 0
+    answers: int = 0
+    unread: int = 0         # answers that can't be compared
+
+
+@dataclass
+class Replayed:
+    """A replay, with the state at its end and of each process its events."""
+    standing: dict[int, Standing]
+    spaces: SpacesTold
+    history: dict[int, list[Made]]
+
+
+def changed_at(history: list[Made]) -> str:
+    """Where a process changed last."""
+    return f"last changed at line {history[-1].event.line}" if history else "as the world declares it"
+
+
+# ---- the log ---------------------------------------------------------------------------------------------------------
+
+
+def through(kept: Recording, told: Report, verdict: Verdict) -> Replayed:
+    """Goes through the log beside the replay, and compares each answer at its line."""
+    now = Replayed({one.pid: one for one in told.start}, of_world(worlds.read(kept.world)),
+                   {one.pid: [] for one in told.start})
+    events = iter(told.events)
+    event = next(events, None)
+    for number, line in enumerate(kept.log.split(b"\n")[:-1], 1):
+        event_here = event is not None and event.line == number
+        while event is not None and event.line <= number:
+            take(now, event)
+            event = next(events, None)
+        if not event_here:
+            compare_answer(now, number, line, verdict)
+    while event is not None:
+        take(now, event)
+        event = next(events, None)
+    return now
+
+
+def take(now: Replayed, event: report.Event) -> None:
+    """Takes the replay past an event."""
+    before = now.standing.get(event.pid)
+    now.spaces.turn(event, before)
+    now.history.setdefault(event.pid, []).append(Made(event, before))
+    for one in event.after[1:]:
+        now.history[one.pid] = [Made(event, None)]
+    report.turn(now.standing, event)
+
+
+def compare_answer(now: Replayed, number: int, line: bytes, verdict: Verdict) -> None:
+    """Compares what a line's call answered."""
+    found = lines.parted(line)
+    if found is None:
+        return
+    pid, body = found
+    differing = answers.compared(At(now.standing, now.spaces, pid), body)
+    if differing is None:
+        made = lines.call_of(body) if lines.name_of(body) in answers.ASKING else None
+        answered = made is not None and made.done is not None and b"NULL" not in made.arguments
+        verdict.unread += answered and lines.name_of(body) != b"prctl"
+        return
+    verdict.answers += 1
+    for each in differing:
+        name = next((key for key in WORDS if each.field.endswith(key)), "")
+        verdict.differences.append(with_row(
+            f"process {pid}, {each.field}, line {number}: the replay has {each.told}, the kernel answered {each.seen}",
+            kernel_rows.of_field(name, now.history.get(pid, []))))
+
+
+def with_row(text: str, row: str | None) -> str:
+    """A difference, with the row of docs/KERNEL.md that fits."""
+    return text if row is None else f"{text} (known: {row})"
+
+
+# ---- what lived at the end -------------------------------------------------------------------------------------------
+
+
+def compare_processes(kept: Recording, now: Replayed, verdict: Verdict) -> None:
+    """Who lives, and with what."""
+    shown_ones = {status.pid: status for status in kept.statuses}
+    if len(shown_ones) != len(kept.statuses):
+        verdict.differences.append(f"{recording.STATUS} has a process twice")
+    for pid in sorted(set(shown_ones) - set(now.standing)):
+        name = shown(shown_ones[pid].name)
+        verdict.differences.append(f"process {pid} ({name}) lived for the kernel, and doesn't in the replay")
+    for pid in sorted(set(now.standing) - set(shown_ones)):
+        verdict.differences.append(f"process {pid} lives in the replay, and didn't for the kernel;"
+                                   f" {changed_at(now.history.get(pid, []))}")
+    for pid in sorted(set(now.standing) & set(shown_ones)):
+        verdict.processes += 1
+        compare_one(shown_ones[pid], now, verdict)
+
+
+def compare_one(status: Status, now: Replayed, verdict: Verdict) -> None:
+    """One process that lives on both sides."""
+    history = now.history.get(status.pid, [])
+    for name, told, seen in differences(now.standing[status.pid].credential, status.credential):
+        verdict.differences.append(with_row(
+            f"process {status.pid} ({shown(status.name)}), {WORDS[name]}: the replay has {told}, the kernel showed"
+            f" {seen}; {changed_at(history)}", kernel_rows.of_field(name, history)))
+
+
+def compare_spaces(kept: Recording, now: Replayed, verdict: Verdict) -> None:
+    """Which processes stand in one namespace, and of each namespace what the kernel showed."""
+    pairs = {(INITIAL, 0)}
+    for status in kept.statuses:
+        if status.pid in now.standing:
+            pairs.add((now.standing[status.pid].space, status.space))
+    for side in (0, 1):
+        doubled = [pair for pair in sorted(pairs) if sum(other[side] == pair[side] for other in pairs) > 1]
+        if doubled:
+            verdict.differences.append("user namespaces: " + ", ".join(
+                f"{name} of the replay is {number} for the kernel" for name, number in doubled))
+            return
+    if kept.spaces is None:
+        if len(pairs) > 1:
+            verdict.notes.append("the recording doesn't tell the maps of its user namespaces: they aren't compared")
+        return
+    seen = {space.number: space for space in kept.spaces}
+    names = {number: name for name, number in pairs}
+    for name, number in sorted(pairs - {(INITIAL, 0)}):
+        if number not in seen:
+            verdict.differences.append(f"{recording.SPACES} doesn't have the namespace {number}")
+        else:
+            compare_space(name, seen[number], names, now.spaces, verdict)
+    for space in kept.spaces:
+        if space.parent not in (0, *seen):
+            verdict.differences.append(
+                f"{recording.SPACES}, namespace {space.number}: its parent {space.parent} isn't there")
+
+
+def compare_space(name: str, seen: SpaceSeen, names: dict[int, str], told: SpacesTold, verdict: Verdict) -> None:
+    """One namespace in which something lives."""
+    own = told.named[name]
+    where = f"namespace {name}"
+    for what, one, other in (("uid_map", own.uid_map, seen.uid_map), ("gid_map", own.gid_map, seen.gid_map)):
+        if joined(one) != joined(other):
+            text = f"{where}, {what}: the replay has {map_words(one)}, the kernel showed {map_words(other)}"
+            verdict.differences.append(with_row(text, kernel_rows.MAPS))
+    rest: list[tuple[str, object, object]] = [("owner", own.owner, seen.owner),
+                                              ("setgroups word", own.setgroups, seen.setgroups)]
+    if seen.parent in names:
+        rest.append(("parent", own.parent, names[seen.parent]))
+    for what, told_one, seen_one in rest:
+        if told_one != seen_one:
+            verdict.differences.append(f"{where}, {what}: the replay has {told_one}, the kernel showed {seen_one}")
+
+
+# ---- all of it -------------------------------------------------------------------------------------------------------
+
+
+def failure_of(kept: Recording, told: Report) -> str:
+    """Why a log isn't read to its end, with the line."""
+    ending = told.ending[-1] if told.ending else f"status {told.status}"
+    found = re.search(r" line ([0-9]+)", ending)
+    if found is None:
+        return f"the replay ends with: {ending}"
+    number = int(found.group(1))
+    log = kept.log.split(b"\n")
+    line = log[number - 1] if 0 < number <= len(log) else b""
+    parts = lines.parted(line)
+    row = kernel_rows.of_impossible(parts[1].decode("latin-1")) if parts and told.status == 3 else None
+    return with_row(f"line {number}: {ending}: {shown(line[:200])}", row)
+
+
+def verify(kept: Recording, told: Report) -> Verdict:
+    """The verdict on a recording, by the program's report of its world and log."""
+    verdict = Verdict()
+    if kept.log and not kept.log.endswith(b"\n"):
+        verdict.differences.append("the log ends within a line: it was cut")
+    verdict.differences += recording.altered(kept)
+    if told.status != 0:
+        verdict.differences.append(failure_of(kept, told))
+        return verdict
+    if kept.log and not told.events:
+        verdict.differences.append("the log isn't empty, and no line of it is read as an event")
+    now = through(kept, told, verdict)
+    if kept.made is not None and kept.made.end == "program":
+        verdict.notes.append("the program had ended: what its calls answered is compared, and who lives")
+    compare_processes(kept, now, verdict)
+    compare_spaces(kept, now, verdict)
+    if verdict.processes == 0 and verdict.answers == 0:
+        verdict.differences.append("nothing could be compared: no process lived at the end, and no call asked for a"
+                                   " credential")
+    return verdict

@@ -1,0 +1,108 @@
+"""What makes a world, or a recording, suspect that the program accepts: what it may leave out of the family and its
+files."""
+from collections.abc import Iterator
+
+from .findings import RECORDING, WORLD, Finding, doubt
+from .marks import DOUBT, SCANNED
+from .recording import Recording
+from .report import Report
+from .shown import few
+from .toml_places import Places, places
+from .worlds import World
+
+INTERPRETERS = ("sh", "bash", "dash", "perl", "python", "ruby", "node", "php", "lua", "tclsh", "awk")
+
+
+def is_interpreter(path: str) -> bool:
+    name = path.rpartition("/")[2]
+    return name.rstrip("0123456789.") in INTERPRETERS
+
+
+def of_world(data: bytes, world: World) -> Iterator[Finding]:
+    """Doubts about an accepted world."""
+    text = data.decode("utf-8", "replace")
+    where = places(text.removeprefix("\ufeff"))
+    if "# " + SCANNED not in text.split("\n"):
+        yield doubt(WORLD, None,
+                    "the world doesn't say that all files were looked for: a `yes` holds by the family's own calls"
+                    " alone", "credaudit-capture looks for all programs with set-id bits or capabilities")
+    for number, line in enumerate(text.split("\n"), 1):
+        if line.startswith(DOUBT):
+            yield doubt(WORLD, number, line.removeprefix(DOUBT), "the doubt of who made the world")
+    yield from process_doubts(world, where)
+    yield from file_doubts(world, where)
+    if world.exclude is not None and (len(world.processes) > 1 or not world.exclude):
+        yield doubt(WORLD, where.line("filter", 0),
+                    "[filter] holds for every process of the family, on all its paths and for all"
+                    " architectures", "declare what each of them has, or nothing")
+
+
+def process_doubts(world: World, where: Places) -> Iterator[Finding]:
+    alone = [number for number, row in enumerate(world.processes, 1) if row.parent is None]
+    if len(alone) > 1:
+        pids = [str(world.processes[number - 1].pid) for number in alone[1:]]
+        yield doubt(WORLD, where.line("process", alone[1]),
+                    f"process {few(pids)} has no parent, so it is in no other's family",
+                    "parent = the pid of the process that made it; a thread has its process's first thread as parent")
+    if world.spaces and all(row.space == "init" for row in world.processes):
+        yield doubt(WORLD, where.line("space", 1), "user namespaces are declared, and no process stands in one",
+                    "space = its name, in each process that does (`ls -l /proc/PID/ns/user`)")
+
+
+def file_doubts(world: World, where: Places) -> Iterator[Finding]:
+    named = {row.interpreter for row in world.files}
+    for number, row in enumerate(world.files, 1):
+        privileged = row.caps is not None or row.mode & 0o6000
+        if privileged and is_interpreter(row.path) and row.path not in named:
+            yield doubt(WORLD, where.line("file", number),
+                        f"{row.path} interprets scripts and has set-id bits or an attribute, and no script names it",
+                        "a script runs with what its interpreter has: interpreter = its path")
+    for number, mount in enumerate(world.mounts, 1):
+        if mount.nosuid and any(row.mount == mount.name and (row.caps or row.mode & 0o6000) for row in world.files):
+            yield doubt(WORLD, where.line("mount", number),
+                        f"set-id programs are declared on {mount.name}, where they have no"
+                        " effect", "see that no other mount shows them without nosuid (/proc/PID/mountinfo)")
+
+
+# ---- recordings ------------------------------------------------------------------------------------------------------
+
+
+def of_recording(recording: Recording, world: World, report: Report) -> Iterator[Finding]:
+    """Doubts that need what was read before strace let go."""
+    alive = report.alive()
+    shown_pids = {status.pid for status in recording.statuses}
+    missing, ended = sorted(shown_pids - alive.keys()), sorted(alive.keys() - shown_pids)
+    if missing:
+        yield doubt(RECORDING, None,
+                    f"process {few([str(pid) for pid in missing])} lived at the end, and neither the world nor the log"
+                    " has it", "a child or a thread is left out: declare it, with its parent")
+    if ended and recording.statuses:
+        yield doubt(RECORDING, None,
+                    f"process {few([str(pid) for pid in ended])} lives by the log, and wasn't there at the end",
+                    "lines of exits are missing (-qq), or the log is cut")
+    yield from filter_doubts(recording, world)
+    yield from space_doubts(recording, report)
+    for told in recording.made.doubts if recording.made is not None else []:
+        yield doubt(RECORDING, None, told, "the recorder's own doubt: recording.toml")
+
+
+def filter_doubts(recording: Recording, world: World) -> Iterator[Finding]:
+    counts: dict[tuple[int | None, int | None], list[str]] = {}
+    for status in recording.statuses:
+        counts.setdefault((status.seccomp, status.filters), []).append(str(status.pid))
+    if len(counts) > 1:
+        told = "; ".join(f"{filters or 0} of process {few(pids)}" for (_, filters), pids in counts.items())
+        hint = "the world's [filter] would hold for all of them: leave it out" if world.exclude is not None else \
+            "declare no [filter]: it would hold for all of them"
+        yield doubt(RECORDING, None, f"the members have different filters of system calls: {told}", hint)
+    elif world.exclude is not None and all(status.filters in (None, 0) for status in recording.statuses):
+        yield doubt(RECORDING, None, "the world declares a [filter], and the kernel showed none", "leave [filter] out")
+
+
+def space_doubts(recording: Recording, report: Report) -> Iterator[Finding]:
+    alive = report.alive()
+    odd = [str(status.pid) for status in recording.statuses
+           if status.pid in alive and (status.space == 0) != (alive[status.pid].space == "init")]
+    if odd:
+        yield doubt(RECORDING, None, f"process {few(odd)} stands in another user namespace than by the log",
+                    "space of its row, or the line of its unshare, clone or setns is missing")

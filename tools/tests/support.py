@@ -1,0 +1,100 @@
+"""What tests share: folders of stored data, a tree of files and of /proc that is laid out for a test, the stand-in for
+credaudit, and a command run within the test.
+"""
+import contextlib
+import io
+import os
+import shutil
+import stat
+import tempfile
+import unittest
+from collections.abc import Callable, Iterator, Sequence
+
+from credaudit_tools import command
+from credaudit_tools.program import Program
+
+from . import stored_program
+
+HERE = os.path.dirname(os.path.abspath(__file__))
+DATA = os.path.join(HERE, "data")
+EXAMPLES = os.path.normpath(os.path.join(HERE, "..", "..", "examples"))
+STORED = os.path.join(HERE, "stored_program.py")
+os.environ["CREDAUDIT"] = STORED
+CALLED = Program.answer
+
+
+def stored_answer(program: Program, *words: str) -> tuple[str, int]:
+    """As Program.answer; of the stand-in without a process of its own for each call."""
+    if program.path != STORED:
+        return CALLED(program, *words)
+    status, text = stored_program.answer(list(words))
+    return text.decode("ascii", "backslashreplace"), status
+
+
+Program.answer = stored_answer  # type: ignore[method-assign]
+
+
+def data(*names: str) -> bytes:
+    """The bytes of a stored file."""
+    with open(os.path.join(DATA, *names), "rb") as file:
+        return file.read()
+
+
+class Case(unittest.TestCase):
+    """A test with a folder of its own."""
+
+    def setUp(self) -> None:
+        self.work = tempfile.mkdtemp(prefix="credaudit-test-")
+        self.addCleanup(shutil.rmtree, self.work)
+
+    def put(self, name: str | bytes, text: bytes = b"", mode: int = 0o644) -> str:
+        """A file below the folder."""
+        path = os.path.join(os.fsencode(self.work), os.fsencode(name).lstrip(b"/"))
+        os.makedirs(os.path.dirname(path), exist_ok=True)
+        with open(path, "wb") as file:
+            file.write(text)
+        os.chmod(path, mode)
+        return os.fsdecode(path)
+
+    def link(self, name: str, target: str) -> None:
+        """A symbolic link below the folder."""
+        path = os.path.join(self.work, name.lstrip("/"))
+        os.makedirs(os.path.dirname(path), exist_ok=True)
+        os.symlink(target, path)
+
+    def told(self, job: Callable[[Sequence[str]], int], *words: str, name: str = "test") -> tuple[int, str, str]:
+        """The status of a command, and what it wrote to both outputs."""
+        out, errors = io.StringIO(), io.StringIO()
+        with contextlib.redirect_stdout(out), contextlib.redirect_stderr(errors):
+            try:
+                status = command.carried_out(name, job, words)
+            except SystemExit as ended:
+                status = ended.code if isinstance(ended.code, int) else 1
+        return status, out.getvalue(), errors.getvalue()
+
+
+def cases(name: str) -> Iterator[tuple[str, list[tuple[str, str]]]]:
+    """The cases of a stored text: `case TITLE`, then lines, each with the last mark that stood alone on a line
+    before it. A line that begins with `;` is a remark."""
+    title, mark, lines = "", "", []
+    for line in data(name).decode("utf-8").split("\n"):
+        if line.startswith("case "):
+            if title:
+                yield title, lines
+            title, mark, lines = line.removeprefix("case "), "", []
+        elif line.startswith("; ") or not line:
+            continue
+        elif line.startswith(":"):
+            mark, _, rest = line[1:].partition(" ")
+            if rest:
+                lines.append((mark, rest))
+        else:
+            lines.append((mark, line))
+    if title:
+        yield title, lines
+
+
+def set_ids_stay(path: str) -> bool:
+    """Whether a file keeps its set-user-ID bit here."""
+    os.chmod(path, 0o4755)
+    return bool(os.stat(path).st_mode & stat.S_ISUID)

@@ -1,0 +1,112 @@
+"""What a recording makes of strace's lines: the stored cases of silent.txt, and hostile names."""
+import os
+
+from credaudit_tools.executed import Executed
+from credaudit_tools.filtering import Filtering
+from credaudit_tools.followed import Files, Followed, Place, Task
+from credaudit_tools.map_files import RunningSystem
+from credaudit_tools.proc import Proc
+from credaudit_tools.taken import Stopped, changes_text, filters_text
+
+from .support import Case, cases, set_ids_stay
+
+ELF = b"\x7fELF..."
+MOUNTS = b"""21 1 254:0 / / rw - ext4 /dev/vda rw
+22 21 0:20 / /proc rw - proc proc rw
+23 21 0:40 / /mnt/second rw - proc proc rw
+24 21 0:20 /101 /mnt/part rw - proc proc rw
+25 21 0:41 / /mnt/inner rw - proc proc rw
+"""
+
+
+class StoredSystem(RunningSystem):
+    """A system whose files and whose /proc lie in a folder."""
+
+    def __init__(self, root: str) -> None:
+        super().__init__(Proc(os.path.join(root, "proc")))
+        self.root = os.fsencode(root)
+
+    def top_of(self, task: Task, followed: Followed) -> bytes:
+        return self.root
+
+
+class Filtered(Case):
+    def setUp(self) -> None:
+        super().setUp()
+        for name in ("/opt/rise", "/srv/jail/bin/rise"):
+            if not set_ids_stay(self.put(name, ELF)):
+                self.skipTest("set-user-ID bits can't be set here")
+        self.put("/opt/plain", ELF, 0o755)
+        self.put("/opt/script", b"#!/opt/rise -x\n", 0o755)
+        self.put("/opt/plain_script", b"#! /opt/plain\n", 0o755)
+        self.put("/opt/odd", b"odd", 0o755)
+        self.put("/tmp/100/uid_map")
+        self.put("/usr/bin/nothing")
+        for name, target in (("/bin", "usr/bin"), ("/usr/short", "/opt"), ("/dev/fd", "/proc/self/fd"), ("/srv/jail/bin/out", "/bin/rise"),
+                             ("/proc/self", str(os.getpid())), ("/proc/100/fd/3", "/x"), ("/proc/100/fd/9", "/x"), ("/proc/100/exe", "/x")):
+            self.link(name, target)
+        for pid, inner in ((100, ""), (101, ""), (102, ""), (104, "\t1")):
+            self.put(f"/proc/{pid}/status", f"Name:\tx\nNSpid:\t{pid}{inner}\n".encode())
+            self.put(f"/proc/{pid}/mountinfo", MOUNTS)
+
+    def filtering(self) -> Filtering:
+        followed = Followed()
+        followed.add(Task(100, 0, Place(b"/home"), Files(), b"/opt/plain"))
+        return Filtering(followed, Executed(), StoredSystem(self.work))
+
+    def fed(self, filtering: Filtering, lines: list[str]) -> str | None:
+        """Feeds lines; why it stopped."""
+        try:
+            for line in lines:
+                filtering.feed(line.encode("latin-1"))
+            filtering.finish()
+        except Stopped as stopped:
+            return str(stopped)
+        return None
+
+
+class Silent(Filtered):
+    def test_cases(self) -> None:
+        for title, lines in cases("silent.txt"):
+            with self.subTest(title):
+                wanted: dict[str, list[str]] = {"": [], "kept": [], "doubt": [], "stopped": [], "file": []}
+                for mark, line in lines:
+                    wanted[mark].append(line)
+                filtering = self.filtering()
+                stopped = self.fed(filtering, wanted[""])
+                self.assertEqual([line.decode() for line in filtering.taken.lines], wanted["kept"])
+                self.assertEqual([stopped] if stopped else [], wanted["stopped"])
+                self.assertEqual(filtering.taken.doubts + filtering.executed.doubts, wanted["doubt"])
+                self.assertEqual(sorted(" ".join(filter(None, (row.path, f"{row.mode:04o}", row.interpreter)))
+                                        for row in filtering.executed.files.values()), sorted(wanted["file"]))
+                self.assertNotIn("hunter", changes_text(filtering.taken) + filters_text(filtering.taken))
+
+    def test_there_are_enough(self) -> None:
+        self.assertGreaterEqual(len(list(cases("silent.txt"))), 60)
+
+
+# Bytes of a name, and how a recording's log and world have it.
+HOSTILE = [
+    (b"a b", r"a\040b"), (b"a\nb", r"a\012b"), (b"a\tb", r"a\011b"), (b'a"b', 'a"b'), (b"a\\b", r"a\b"), (b"a\x1b[2Jb", r"a\033[2Jb"),
+    (b"a<b", "a<b"), (b"a>b", "a>b"), (b"\xff\xfe", r"\377\376"), (b"a\x7fb", r"a\177b"), (b"-", "-"), (b"--help", "--help"),
+    (b"a'b", "a'b"), (b"$(id)", "$(id)"), (b"a;b", "a;b"), (b"[[file]]", "[[file]]"), (b"a#b", "a#b"), (b"\xe2\x80\xae", "\u202e"),
+]
+
+
+class Hostile(Filtered):
+    def test_a_name_becomes_nothing_else(self) -> None:
+        from credaudit_tools import lines, worlds
+        for name, shown in HOSTILE:
+            with self.subTest(name=name):
+                set_ids_stay(self.put(b"/opt/" + name, ELF))
+                filtering = self.filtering()
+                line = b"100 execve(" + lines.quoted(b"/opt/" + name) + b", [], 0x7ffe) = 0"
+                self.assertIsNone(self.fed(filtering, [line.decode("latin-1")]))
+                self.assertEqual(len(filtering.taken.lines), 1)
+                self.assertEqual(lines.text_of(filtering.taken.lines[0][len(b"100 execve("):].rpartition(b", [], NULL")[0]),
+                                 (("/opt/" + shown).encode(), True))
+                world = worlds.World(files=list(filtering.executed.files.values()))
+                self.assertEqual([row.path for row in worlds.read(worlds.written(world)).files], ["/opt/" + shown])
+                text = changes_text(filtering.taken)
+                self.assertTrue(all(" " <= each <= "~" or each == "\n" for each in text), text)
+                self.assertEqual(text.count("\n"), 1 if shown.encode() != name else 0, text)

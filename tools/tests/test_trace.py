@@ -1,0 +1,156 @@
+"""Recordings that are made within the test: needs strace, and that processes of one's own may be traced."""
+import os
+import shutil
+import signal
+import subprocess
+import sys
+import time
+import unittest
+from unittest import mock
+
+from credaudit_tools import proc, recording, trace_command
+from credaudit_tools.command import Failure
+from credaudit_tools.stub import user_of
+
+from .support import Case
+
+MARK = "hunter-two-three"
+
+
+def why_not() -> str | None:
+    """Why nothing can be traced here."""
+    if shutil.which("strace") is None:
+        return "strace isn't there"
+    done = subprocess.run(["strace", "-o", "/dev/null", "true"], stdout=subprocess.DEVNULL, stderr=subprocess.DEVNULL, check=False)
+    return None if done.returncode == 0 else "processes can't be traced here"
+
+
+@unittest.skipIf(why_not() is not None, why_not() or "")
+class Traced(Case):
+    def setUp(self) -> None:
+        super().setUp()
+        self.out = os.path.join(self.work, "recording")
+        if os.geteuid() != 0:
+            self.enterContext(mock.patch.object(proc, "needs_root", lambda: None))
+        handlers = [(number, signal.getsignal(number)) for number in (signal.SIGINT, signal.SIGTERM, signal.SIGHUP)]
+        for number, handler in handlers:
+            self.addCleanup(signal.signal, number, handler)
+
+    def trace(self, *words: str) -> tuple[int, str, str]:
+        return self.told(trace_command.main, "-o", self.out, "--no-verify", *words)
+
+    def test_until_a_line(self) -> None:
+        status, out, errors = self.trace("--pids-from", "100", "--until", r'execve\(".*/sleep".* = 0', "--", "sh", "-c", "exec sleep 60")
+        self.assertEqual((status, errors), (0, ""))
+        self.assertIn("1 processes at the end (line)", out)
+        kept = recording.read(self.out)
+        assert kept.made is not None
+        self.assertEqual(kept.made.doubts, [])
+        self.assertEqual([(each.pid, each.name, each.space) for each in kept.statuses], [(100, b"sleep", 0)])
+        self.assertTrue(kept.log.startswith(b'100 execve("'), kept.log)
+        self.assertIn(b"pid = 100\n", kept.world)
+        self.assertEqual(os.stat(self.out).st_mode & 0o77, 0)
+
+    def test_a_program_that_ends(self) -> None:
+        status, out, _ = self.trace("--", "true")
+        self.assertEqual(status, 0)
+        self.assertIn("0 processes at the end (program)", out)
+
+    def test_children_and_threads(self) -> None:
+        program = "\n".join(["import os, threading, time", "if os.fork():",
+                             " threading.Thread(target=time.sleep, args=(60,)).start()", " os.getgroups()", "time.sleep(60)"])
+        status, out, _ = self.trace("--until", "getgroups", "--", sys.executable, "-c", program)
+        self.assertEqual(status, 0)
+        self.assertIn("3 processes at the end (line)", out)
+
+    def test_a_process_that_runs_already(self) -> None:
+        running = subprocess.Popen(["sleep", "60"])
+        try:
+            time.sleep(0.2)
+            status, out, _ = self.trace("--for", "0.3", "-p", str(running.pid))
+            self.assertEqual(status, 0)
+            self.assertIn("1 processes at the end (time)", out)
+            self.assertIsNone(running.poll())
+            kept = recording.read(self.out)
+            assert kept.made is not None
+            self.assertEqual([each.pid for each in kept.statuses], [running.pid])
+            self.assertEqual(len(kept.made.notes), 1)
+        finally:
+            running.kill()
+            running.wait()
+
+    def test_a_signal_ends_it(self) -> None:
+        status, out, _ = self.trace("--", "sh", "-c", "kill -TERM $PPID; sleep 60")
+        self.assertEqual(status, 0)
+        self.assertIn("(signal)", out)
+
+    def test_no_secret_is_kept(self) -> None:
+        program = "\n".join(["import os", "os.write(os.open('/dev/null', os.O_WRONLY), os.environ['TOKEN'].encode())",
+                             f"open('/dev/null', 'w').write('{MARK}')", f"os.execv('/bin/true', ['true', '{MARK}'])"])
+        with mock.patch.dict(os.environ, {"TOKEN": MARK}):
+            status, _, _ = self.trace("--", sys.executable, "-c", program)
+        self.assertEqual(status, 0)
+        for name in os.listdir(self.out):
+            with open(os.path.join(self.out, name), "rb") as file:
+                self.assertNotIn(MARK.encode(), file.read(), name)
+
+    def test_what_stops_a_recording(self) -> None:
+        program = "\n".join([
+            "import ctypes, os, socket, time", "u = os.getuid()", "one, other = socket.socketpair()",
+            "os.open('/proc/self/uid_map', os.O_WRONLY)", "ctypes.CDLL(None).unshare(0x10000000)",
+            "f = os.open('/proc/self/uid_map', os.O_WRONLY)", "socket.send_fds(one, [b'x'], [f])",
+            "os.write(socket.recv_fds(other, 1, 1)[1][0], b'0 %d 1' % u)", "time.sleep(60)"])
+        status, out, errors = self.trace("--for", "20", "--", sys.executable, "-c", program)
+        if "(program)" in out:
+            self.skipTest("user namespaces can't be made here")
+        self.assertEqual(status, 1)
+        self.assertIn("doubt: the recording was stopped", errors)
+        self.assertIn("of which user namespace that is isn't known", errors)
+
+    def test_verified_at_the_end(self) -> None:
+        with mock.patch("credaudit_tools.verify_command.verified", return_value=1) as verified:
+            status, _, _ = self.told(trace_command.main, "-o", self.out, "--", "true")
+        self.assertEqual((status, verified.call_count), (1, 1))
+
+
+class Refused(Case):
+    def trace(self, *words: str) -> tuple[int, str, str]:
+        return self.told(trace_command.main, "-o", os.path.join(self.work, "x"), *words)
+
+    def test_words(self) -> None:
+        self.assertEqual(self.trace()[0], 2)
+        self.assertEqual(self.trace("-p", "1", "true")[0], 2)
+        self.assertEqual(self.trace("-u", "nobody", "-p", "1")[0], 2)
+        self.assertEqual(self.trace("--until", "(", "true")[0], 2)
+        self.assertEqual(self.trace("--for", "-1", "true")[0], 2)
+        self.assertEqual(self.trace("--ver")[0], 2)
+        self.assertEqual(self.told(trace_command.main, "--version"), (0, "credaudit-trace 1\n", ""))
+        self.assertIn("exit status:", self.told(trace_command.main, "--help")[1])
+
+    def test_reasons(self) -> None:
+        with mock.patch("os.geteuid", return_value=1000):
+            status, _, errors = self.trace("true")
+        self.assertEqual(status, 3)
+        self.assertIn("as root", errors)
+        with mock.patch.object(proc, "needs_root", lambda: None):
+            for words, told in [
+                    (("--strace", "/nowhere/strace", "true"), "/nowhere/strace isn't there"),
+                    (("--strace", "true", "true"), "isn't strace"),
+                    (("/nowhere/program",), "can't be executed: it isn't there"),
+                    (("no-such-program",), "can't be executed: it isn't there"),
+                    (("-u", "no-such-user", "true"), "there is no user"),
+                    (("-p", "4194304"), "there is no process 4194304")]:
+                if words[0] != "--strace" and why_not():
+                    continue
+                with self.subTest(told):
+                    status, _, errors = self.trace(*words)
+                    self.assertEqual(status, 3)
+                    self.assertIn(told, errors)
+            old = self.put("strace", b"#!/bin/sh\necho 'strace -- version 4.26'\n", 0o755)
+            self.assertIn("is too old", self.trace("--strace", old, "true")[2])
+
+    def test_users(self) -> None:
+        self.assertEqual(user_of("0").pw_uid, 0)
+        self.assertEqual(user_of("root").pw_uid, 0)
+        with self.assertRaises(Failure):
+            user_of("4294967294000")

@@ -1,0 +1,141 @@
+"""Recordings that are verified: the stored ones agree, and altered ones are told."""
+import os
+import shutil
+from dataclasses import replace
+
+from credaudit_tools import recording, verify_command
+from credaudit_tools.program import Program
+from credaudit_tools.verifying import Verdict, verify
+
+from .support import DATA, EXAMPLES, Case, cases
+
+RECORDINGS = os.path.join(DATA, "recordings")
+SUMMED = (recording.LOG, recording.STATUS, recording.SPACES)
+
+
+def change(data: bytes, word: str, rest: str) -> bytes:
+    """One change of a file."""
+    lines = data.decode().split("\n")[:-1]
+    number, _, edit = rest.partition(" ")
+    at = int(number) - 1 if number.isdigit() else 0
+    if word == "empty":
+        return b""
+    if word == "cut":
+        return data[:-int(number)]
+    if word == "remove":
+        del lines[at]
+    elif word == "swap":
+        other = int(edit) - 1
+        lines[at], lines[other] = lines[other], lines[at]
+    elif word == "append":
+        lines += ["[[file]]", *(part for part in rest.removeprefix("[[file]] ").replace(" uid", "\nuid").replace(
+            " gid", "\ngid").replace(" mode", "\nmode").split("\n"))]
+    else:
+        old, _, new = edit.partition(" => ")
+        assert old in lines[at], (old, lines[at])
+        changed = lines[at].replace(old, new)
+        lines[at:at + 1] = [lines[at], changed] if word == "copy" else [changed]
+    return "".join(line + "\n" for line in lines).encode()
+
+
+class Altered(Case):
+    def altered(self, steps: list[tuple[str, str]]) -> tuple[str, list[str], set[str]]:
+        """The folder of an altered recording, what is wanted, and which files were changed."""
+        wanted, changed, folder = [], set(), os.path.join(self.work, str(len(os.listdir(self.work))))
+        for word, rest in steps:
+            if word == "in":
+                shutil.copytree(os.path.join(RECORDINGS, rest), folder)
+            elif word in ("told", "unnoticed"):
+                wanted.append(f"{word} {rest}")
+            else:
+                name, _, rest = rest.partition(" ")
+                path = os.path.join(folder, name)
+                with open(path, "rb") as file:
+                    data = file.read()
+                with open(path, "wb") as file:
+                    file.write(change(data, word, rest))
+                changed.add(name)
+        return folder, wanted, changed
+
+    def verdict(self, folder: str, sums: bool) -> Verdict:
+        kept = recording.read(folder)
+        if not sums:
+            kept = replace(kept, made=None)
+        return verify(kept, Program().replay(os.path.join(folder, "world.toml"), os.path.join(folder, "log")))
+
+    def test_each_is_told(self) -> None:
+        for title, steps in cases("altered.txt"):
+            with self.subTest(title):
+                folder, wanted, changed = self.altered(steps)
+                told = self.verdict(folder, sums=False).differences
+                if wanted[0].startswith("told "):
+                    self.assertTrue(any(wanted[0].removeprefix("told ") in each for each in told), told)
+                else:
+                    self.assertEqual(told, [])
+                for name in changed & set(SUMMED):
+                    self.assertIn(f"{name} isn't as it was recorded: its sum differs", self.verdict(folder, sums=True).differences)
+
+    def test_there_are_enough(self) -> None:
+        self.assertGreaterEqual(len(list(cases("altered.txt"))), 30)
+
+
+class Stored(Case):
+    def test_recordings_agree(self) -> None:
+        for name in sorted(os.listdir(RECORDINGS)):
+            with self.subTest(name):
+                status, out, errors = self.told(verify_command.main, os.path.join(RECORDINGS, name))
+                self.assertEqual((status, [line for line in errors.split("\n") if line and "note: " not in line]), (0, []))
+                self.assertIn("no difference", out)
+
+    def test_examples_agree(self) -> None:
+        folder = os.path.join(EXAMPLES, "strace")
+        for name in sorted(os.listdir(folder)):
+            if os.path.exists(os.path.join(folder, name, "status.txt")):
+                with self.subTest(name):
+                    self.assertEqual(self.told(verify_command.main, os.path.join(folder, name))[0], 0)
+
+    def test_a_recording_is_written_as_it_was_read(self) -> None:
+        for name in sorted(os.listdir(RECORDINGS)):
+            with self.subTest(name):
+                kept = recording.read(os.path.join(RECORDINGS, name))
+                recording.write(os.path.join(self.work, name), kept)
+                for file in os.listdir(os.path.join(RECORDINGS, name)):
+                    paths = [os.path.join(folder, name, file) for folder in (RECORDINGS, self.work)]
+                    with open(paths[0], "rb") as one, open(paths[1], "rb") as other:
+                        self.assertEqual(one.read(), other.read(), file)
+
+
+class Failing(Case):
+    def test_what_can_not_be_read(self) -> None:
+        folder = os.path.join(self.work, "x")
+        status, _, errors = self.told(verify_command.main, folder)
+        self.assertEqual(status, 3)
+        self.assertIn("is no folder", errors)
+        shutil.copytree(os.path.join(RECORDINGS, "daemon"), folder)
+        for name, data, told in [
+                ("status.txt", b"Pid: 100; Name: x\n", "status.txt line 1 can't be read"),
+                ("status.txt", b"Pid: 100; Pid: 100\n", "status.txt line 1 can't be read: a name stands twice"),
+                ("status.txt", b"Pid: 100", "status.txt ends within a line"),
+                ("status.txt", b"\xff\n", "status.txt can't be read"),
+                ("spaces.txt", b"Space: x\n", "spaces.txt can't be read"),
+                ("recording.toml", b"strace = 7\n", "recording.toml can't be read")]:
+            with self.subTest(told):
+                path = os.path.join(folder, name)
+                with open(path, "rb") as file:
+                    before = file.read()
+                with open(path, "wb") as file:
+                    file.write(data)
+                status, _, errors = self.told(verify_command.main, folder)
+                self.assertEqual(status, 3)
+                self.assertIn(told, errors)
+                with open(path, "wb") as file:
+                    file.write(before)
+
+    def test_a_doubt_is_no_clean_bill(self) -> None:
+        kept = recording.read(os.path.join(RECORDINGS, "daemon"))
+        assert kept.made is not None
+        kept.made.doubts.append("something")
+        recording.write(self.work, kept)
+        status, _, errors = self.told(verify_command.main, self.work)
+        self.assertEqual(status, 1)
+        self.assertIn("doubt: something", errors)
