@@ -188,6 +188,24 @@ def bounds_of_scattered_ids(members=256, files=FILES, spaces=256):
     return of_bounds(members, files, spaces, 4096, lambda number: 4000000000, bounding=text("none"), securebits=3)
 
 
+def chained_file(name, number, owner, group, mode):
+    return row("file", path=text(f"/{name}{number}"), uid=owner, gid=group, mode=text(mode))
+
+
+def bounds_of_a_chain(links, spaces=64):
+    """A chain of programs, a link of which is of use to nobody before the one before it was run: its group alone may run
+    /a0, which makes it the owner; the owner alone may run /b0, which puts it into the group that alone may run /a1; and so
+    on. A member stands in each space, none of which is above another."""
+    ids = "[[0, 0, 20000]]"
+    return (HEAD + "".join(row("space", name=text(f"s{number}"), parent=text("init"), owner=0, uid_map=ids, gid_map=ids)
+                           for number in range(1, spaces))
+            + "".join(chained_file("a", link, 1001 + link, 1000 + link, "4010")
+                      + chained_file("b", link, 1001 + link, 1001 + link, "2110") for link in range(links))
+            + "".join(row("process", pid=100 + number, space=text(f"s{number}") if number else None, uid=1000, gid=1000,
+                          bounding=text("none"), securebits=3) for number in range(spaces))
+            + '[filter]\nexclude = ["unshare", "clone_user", "setns"]\n')
+
+
 # ---- worlds of 1 MiB -----------------------------------------------------------------------------------------------
 
 
@@ -249,6 +267,7 @@ WORLDS = {
     "process": many_processes, "filter": names_of_filter,
 }
 BOUNDS_WORLDS = {"bounds": bounds_of_all, "bounds-scattered": bounds_of_scattered_ids}
+CHAINS = {"bounds-chain": lambda: bounds_of_a_chain(256), "bounds-chain-twice": lambda: bounds_of_a_chain(512)}
 LOG_WORLDS = {
     "setresuid": lambda: processes(p100="0"),
     "setuid": lambda: processes(p100="0", p101="[1000, 1001, 1002, 1001]", p102="1000"),
@@ -260,7 +279,7 @@ LOG_WORLDS = {
 
 
 def main():
-    every = {**LOG_WORLDS, **BOUNDS_WORLDS, **WORLDS}
+    every = {**LOG_WORLDS, **BOUNDS_WORLDS, **CHAINS, **WORLDS}
     if len(sys.argv) != 2 or sys.argv[1] not in every:
         sys.exit("usage: worlds.py " + "|".join(every))
     sys.stdout.write(every[sys.argv[1]]())
