@@ -110,6 +110,11 @@ step_grows w s e s' step = named (process_at s.processes e.pid) step where
   named None same = absurd (cc)
   named (Some p) same = spaced p (names_no_space s.spaces e.call) same
 
+-- A run takes no space away.
+pub run_grows : (w : World) (s : State) (es : List Event) (s' : State) → Run w s es s' → length s.spaces ≤ length s'.spaces
+run_grows w s [] s' same = rw same (omega arith)
+run_grows w s (e ∷ es) s' (mid, step, rest) = omega (arith, step_grows w s e mid step, run_grows w mid es s' rest)
+
 pub files_stay : (files : FileTable) (old new : Spaces) → length old ≤ length new → FilesFit files old → FilesFit files new
 files_stay files old new more fit = record {
   mounts = λ k m at. let low : m.space < length old = ltb-true m.space (length old) (fit.mounts k m at) in lt-ltb m.space (length new) (omega arith);

@@ -84,7 +84,7 @@ pub record StateFits (s : State) : Type 0 where
 abbrev pub Earlier : Spaces → Type 0
 Earlier spaces = (n p : ℕ) → (space_of spaces n).parent ≡ Some p → p < n
 
--- What later runs start from, which is less: code that holds a state sees it part by part.
+-- What later runs start from, which is less: a law that asks for less says more.
 pub record CanStart (s : State) : Type 0 where
   pub earlier : Earlier s.spaces
   pub stands : All (λ p. p.space < length s.spaces) s.processes

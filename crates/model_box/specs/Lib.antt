@@ -2,6 +2,7 @@
 pub mod Row
 pub mod Bounds
 pub mod Rule
+pub mod RuleNames
 pub mod Gains
 pub mod Files
 pub mod Spread

@@ -3,17 +3,16 @@
 use Rattle.std.proofs.Common.{◌≡◌, ℕ, List, [], ◌∷◌, ◌++◌, map, Option, None, Some, refl}
 use Rattle.std.specs.Prelude.{codes}
 use Rattle.cm_base.specs.declared.status.Status.TheVariants as status
-use Rattle.model_report.proofs.CaseReports.{Says, RowReplays, RowAudits, files, audit_words, root_line, user_line}
+use Rattle.model_report.proofs.CaseReports.{RowReplays, root_line, user_line}
 use Rattle.model_report.proofs.CaseReports.{root_at, user_at}
 use Rattle.model_report.proofs.CaseReports.{line_of, sets_of, of_100}
 use Rattle.model_report.proofs.CaseReports.{none, kill}
 use Rattle.model_cred.specs.Process.{State}
 use Rattle.model_report.specs.Replay.{state_after}
-use Rattle.model_report.specs.Report.{report}
 use Rattle.model_run.specs.Family.{family}
 use Rattle.model_text.proofs.ParentCases.{of_forebear}
 use Rattle.model_text.proofs.PrintCases.{print_on_literals}
-use Rattle.model_text.proofs.ProcessCases.{of_row, root}
+use Rattle.model_text.proofs.ProcessCases.{root}
 use Rattle.model_text.proofs.WorldCases.{world_on_literals, world_with}
 use Rattle.model_text.specs.Reading.{events_of, script_reading}
 
@@ -124,32 +123,6 @@ pub parent_of_no_row : RowReplays (codes "parent = 99\n") (codes "100 fork = 101
     (codes "bad world process 1: NoSuchParent" ∷ [])
 unfolding print_on_literals world_on_literals
 parent_of_no_row = record { status = refl; text = refl }
-
--- ---- audits
-pub audit_of_a_child : Says
-    (report (audit_words (codes "101") (codes "uid:0")) (files (of_row (codes "uid = 1000\n")) (codes "100 fork = 101\n"))) status.NotBuilt
-    (user_line ∷ codes "1: 100 fork = 101" ∷ user_line ∷ user_at (codes "101") ∷ codes "end 1" ∷ codes "not built" ∷ [])
-unfolding print_on_literals world_on_literals
-audit_of_a_child = record { status = refl; text = refl }
-
--- one that lives alone again has still another call after it
-pub audit_after_an_exit : RowAudits (codes "uid = 1000\n") (codes "100 fork = 101\n101 exit = 0\n") (codes "uid:0")
-    status.NotBuilt
-    (user_line ∷ codes "1: 100 fork = 101" ∷ user_line ∷ user_at (codes "101") ∷ codes "2: 101 exit = 0" ∷ codes "end 2"
-    ∷ codes "not built" ∷ [])
-unfolding print_on_literals world_on_literals
-audit_after_an_exit = record { status = refl; text = refl }
-
-pub audit_of_one_that_exited : RowAudits (codes "uid = 1000\n") (codes "100 exit = 0\n") (codes "uid:0") status.BadQuery
-    (user_line ∷ codes "1: 100 exit = 0" ∷ codes "end 1" ∷ codes "bad query: pid" ∷ [])
-unfolding print_on_literals world_on_literals
-audit_of_one_that_exited = record { status = refl; text = refl }
-
-pub audit_beside_a_parent : RowAudits (codes "[[process]]\npid = 101\nparent = 100\n") [] (codes "uid:0")
-    status.NotBuilt
-    (root_line ∷ root_at (codes "101") ∷ codes "end 0" ∷ codes "not built" ∷ [])
-unfolding print_on_literals world_on_literals
-audit_beside_a_parent = record { status = refl; text = refl }
 
 -- ---- the forebears that a log leaves
 -- the state after the events of a log, from that of process 100 of root alone

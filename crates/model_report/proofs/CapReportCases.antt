@@ -3,7 +3,7 @@
 use Rattle.std.proofs.Common.{[], ◌∷◌, ◌++◌, refl}
 use Rattle.std.specs.Prelude.{codes}
 use Rattle.cm_base.specs.declared.status.Status.TheVariants as status
-use Rattle.model_report.proofs.CaseReports.{RowReplays, RowAudits, root_line, user_line, ids_of, sets_of, user_ids, of_100}
+use Rattle.model_report.proofs.CaseReports.{RowReplays, root_line, user_line, ids_of, sets_of, user_ids, of_100}
 use Rattle.model_report.proofs.CaseReports.{all, none, kill, net_bind, no_flags, keep_caps, all_sets}
 use Rattle.model_text.proofs.PrintCases.{print_on_literals}
 use Rattle.model_text.proofs.WorldCases.{world_on_literals}
@@ -129,7 +129,7 @@ pub no_new_privs_stays : RowReplays (codes "uid = 1000\n") (codes "100 no_new_pr
 unfolding print_on_literals world_on_literals
 no_new_privs_stays = record { status = refl; text = refl }
 
--- ---- the ends of a log, and audits
+-- ---- the ends of a log
 pub interrupted_calls_change_nothing : RowReplays []
     (codes "100 capset none none none = EINTR\n100 amb_clear = EFAULT\n100 securebits 1 = ENOSPC\n") status.Impossible
     (root_line ∷ codes "1: 100 capset 0000000000000000 0000000000000000 0000000000000000 = EINTR" ∷ root_line
@@ -141,11 +141,3 @@ pub fault_of_capset : RowReplays [] (codes "100 amb_clear = 0\n100 capset all al
     (root_line ∷ codes "1: 100 amb_clear = 0" ∷ root_line ∷ codes "bad log line 2: count" ∷ [])
 unfolding print_on_literals world_on_literals
 fault_of_capset = record { status = refl; text = refl }
-
--- the weak audit knows no other call than setresuid, whatever it does
-pub audit_after_a_capset : RowAudits (codes "uid = 1000\n") (codes "100 capset none none none = 0\n") (codes "uid:0")
-    status.NotBuilt
-    (user_line ∷ codes "1: 100 capset 0000000000000000 0000000000000000 0000000000000000 = 0" ∷ user_line
-    ∷ codes "end 1" ∷ codes "not built" ∷ [])
-unfolding print_on_literals world_on_literals
-audit_after_a_capset = record { status = refl; text = refl }

@@ -8,8 +8,13 @@ use Rattle.model_report.specs.Report.{report, text_report}
 use Rattle.model_text.proofs.PrintCases.{process_100}
 use Rattle.model_text.proofs.ProcessCases.{of_row}
 use Rattle.model_text.proofs.WorldCases.{world_with}
+use Rattle.model_verdict.specs.Verdict.{Verdict, Yes}
 
 -- ---- what a report says
+-- a verdict, where none is asked for
+abbrev pub no_verdict : Verdict
+no_verdict = Yes (λ y part x. false)
+
 -- lines, each with its LF
 abbrev pub written : List (List ℕ) → List ℕ
 written lines = flat_map (λ line. line ++ 10 ∷ []) lines
@@ -25,7 +30,7 @@ world_of_100 uid = world_with (process_100 uid ∷ [])
 
 -- the replay of a script log in a world has this status and these lines
 abbrev pub Replays : World → List ℕ → Status → List (List ℕ) → Type 0
-Replays w log st lines = Says (text_report None false w log) st lines
+Replays w log st lines = Says (text_report None no_verdict w log) st lines
 
 -- ---- whole commands
 -- the words `replay w l`
@@ -42,15 +47,15 @@ files world log name = cond (bytes_eq name (codes "w")) world log
 
 -- the replay of the texts of a world and a log has this status and these lines
 abbrev pub TextReplays : List ℕ → List ℕ → Status → List (List ℕ) → Type 0
-TextReplays world log st lines = Says (report replay_words (files world log)) st lines
+TextReplays world log st lines = Says (report replay_words (files world log) no_verdict) st lines
 
 -- the same of the world of process 100, whose row goes on with this text
 abbrev pub RowReplays : List ℕ → List ℕ → Status → List (List ℕ) → Type 0
 RowReplays row log st lines = TextReplays (of_row row) log st lines
 
--- an audit of that process for a right
-abbrev pub RowAudits : List ℕ → List ℕ → List ℕ → Status → List (List ℕ) → Type 0
-RowAudits row log right st lines = Says (report (audit_words (codes "100") right) (files (of_row row) log)) st lines
+-- an audit of that process for a right, with this verdict where it isn't refused
+abbrev pub RowAudits : List ℕ → List ℕ → List ℕ → Verdict → Status → List (List ℕ) → Type 0
+RowAudits row log right v st lines = Says (report (audit_words (codes "100") right) (files (of_row row) log) v) st lines
 
 -- a world with three spaces: `box` in the initial one and owned by user 1000, `inner` in it and owned by its user 0, and
 -- `other` beside it

@@ -3,7 +3,7 @@
 use Rattle.std.proofs.Common.{ℕ, zero, suc, ◌+◌, List, [], ◌∷◌, ◌++◌, map, None, false, refl}
 use Rattle.std.specs.Prelude.{codes, decimal}
 use Rattle.cm_base.specs.declared.status.Status.TheVariants as status
-use Rattle.model_report.proofs.CaseReports.{AllSay, TextReplays, Replays, files, replay_words, root_line, world_of_100}
+use Rattle.model_report.proofs.CaseReports.{AllSay, TextReplays, Replays, files, replay_words, no_verdict, root_line, world_of_100}
 use Rattle.model_report.specs.Report.{report, text_report}
 use Rattle.model_text.proofs.PrintCases.{print_on_literals}
 use Rattle.model_text.proofs.WorldCases.{world_on_literals}
@@ -12,7 +12,7 @@ use Rattle.model_text.proofs.WorldCases.{world_on_literals}
 -- each of these texts of a world, with an empty log, is told by these words
 abbrev AreBadWorlds : List (List ℕ) → List (List ℕ) → Type 0
 AreBadWorlds worlds words =
-    AllSay (map (λ world. report replay_words (files world [])) worlds) status.BadWorld
+    AllSay (map (λ world. report replay_words (files world []) no_verdict) worlds) status.BadWorld
     (map (λ word. (codes "bad world " ++ word) ∷ []) words)
 
 -- a world with these tables
@@ -84,7 +84,7 @@ unfolding print_on_literals world_on_literals
 lists_that_are_no_map = record { statuses = refl; texts = refl }
 
 pub lists_that_are_maps : AllSay
-    (map (λ extents. report replay_words (files (mapped extents) []))
+    (map (λ extents. report replay_words (files (mapped extents) []) no_verdict)
     (codes "[0, 0, 2], [5, 2, 1]" ∷ codes "[1, 1, 4294967294]" ∷ codes "[0, 0, 4294967295]" ∷ singles 0 340 ∷ []))
     status.Accepted ((codes "end 0" ∷ []) ∷ (codes "end 0" ∷ []) ∷ (codes "end 0" ∷ []) ∷ (codes "end 0" ∷ []) ∷ [])
 unfolding print_on_literals world_on_literals
@@ -171,7 +171,7 @@ a_world_is_told_before_its_log = record { status = refl; text = refl }
 -- each of these logs in the world of root is told by these words
 abbrev AreBadLogs : List (List ℕ) → List (List ℕ) → Type 0
 AreBadLogs logs words =
-    AllSay (map (text_report None false (world_of_100 0)) logs) status.BadLog
+    AllSay (map (text_report None no_verdict (world_of_100 0)) logs) status.BadLog
     (map (λ word. root_line ∷ (codes "bad log line " ++ word) ∷ []) words)
 
 pub faults_of_lines : AreBadLogs

@@ -1,7 +1,8 @@
 -- A report's text doesn't rest on the form of log that the world declares.
-use Rattle.std.proofs.Common.{◌≡◌, ℕ, ◌+◌, Bool, List, [], ◌∷◌, ◌++◌, Option, None, Some, length, map, refl, sym, ap, ap₂, ◌∙◌, subst}
+use Rattle.std.proofs.Common.{◌≡◌, ℕ, ◌+◌, List, [], ◌∷◌, ◌++◌, Option, None, Some, length, map, refl, sym, ap, ap₂, ◌∙◌, subst}
 use Rattle.std.proofs.lemmas.Grind.{flat_map-append}
-use Rattle.std.specs.Prelude.{codes, decimal, not, ◌||◌, ◌&&◌, ◌==◌, if◌then◌else◌}
+use Rattle.std.specs.Prelude.{codes, decimal, if◌then◌else◌}
+use Rattle.cm_filter.specs.Filters.{permits}
 use Rattle.cm_filter.specs.Kinds.{call_name}
 use Rattle.cm_base.specs.declared.limited.Limited.{Limited}
 use Rattle.cm_base.specs.declared.res.Res.{Res}
@@ -11,16 +12,23 @@ use Rattle.cm_base.specs.declared.status.Status.TheVariants as status
 use Rattle.model_cred.specs.Call as model
 use Rattle.model_cred.specs.Call.{Call, Event, kind_of}
 use Rattle.model_cred.specs.Process.{Process, State, process_at}
-use Rattle.model_cred.specs.Right.{Right, Uid, Gid, Cap}
+use Rattle.model_cred.specs.Right.{Right}
+use Rattle.model_cred.specs.Space.{Spaces}
 use Rattle.model_cred.specs.World.{World, LogForm}
+use Rattle.model_plans.proofs.Nested.{walk_finds_the_same}
+use Rattle.model_plans.specs.Firsts.{WalkFindsTheSame}
+use Rattle.model_plans.specs.PlanRun.{first_found}
+use Rattle.model_plans.specs.Walk.{walked}
+use Rattle.model_report.specs.Answer.{answer, asked_answer, right_answer, verdict_report, unless_large, bad_query, is_over_standing}
+use Rattle.model_report.specs.Causes.{RunWithin}
+use Rattle.model_report.specs.Given.{StateGives, LogGives}
 use Rattle.model_report.specs.Laws.{SameText}
 use Rattle.model_report.specs.Query.{Query, asked_process, right_token}
-use Rattle.model_report.specs.Replay.{Report, ReportLine, Credentials, Plain, text_of, line_text, not_built, after, at_line, by_end, by_outcome, child_lines}
+use Rattle.model_report.specs.Replay.{Report, ReportLine, Credentials, Plain, text_of, line_text, after, at_line, by_end, by_outcome, child_lines}
 use Rattle.model_report.specs.Replay.{credentials_if, exceeded, impossible, limit_hit, replayed, state_after, state_or, step_lines, unless_exceeded}
-use Rattle.model_report.specs.Report.{answered, asked_verdict, go_on, log_report, replay_of, right_verdict, run_verdict, start_lines}
-use Rattle.model_report.specs.Report.{verdict, verdict_after}
+use Rattle.model_report.specs.Report.{answered, go_on, log_report, replay_of, start_lines}
+use Rattle.model_run.specs.Family.{family}
 use Rattle.model_run.specs.Ruling.{Ruling, ruling, free_pid}
-use Rattle.model_run.specs.RunBack.{are_setresuids, run_back}
 use Rattle.model_run.specs.Step.{Outcome, Goes, NoProcess, NoSpace, PidInUse, Wrong, outcome, outcome_for}
 use Rattle.model_run.specs.Step.{told_child, told_rules, names_no_space, is_living_child}
 use Rattle.model_run.specs.Outside.{comes_from_outside}
@@ -28,6 +36,8 @@ use Rattle.model_text.specs.Arguments.{Argument, argument_text, arguments_of, sp
 use Rattle.model_text.specs.Arguments as argument
 use Rattle.model_text.specs.Print.{credential_line, event_line, event_text, res_text}
 use Rattle.model_text.specs.Reading.{Placed, End, Reading, events_of}
+use Rattle.model_verdict.specs.Verdict.{Verdict, No, Yes, Undecided, IsVerdict}
+use Rattle.model_verdict.specs.InWorld.{each_may, VerdictIn}
 
 -- the world, with that form of log
 abbrev in_form : World → LogForm → World
@@ -176,33 +186,63 @@ runs_form : (v : World) (form : LogForm) (run : List Event)
 runs_form v form [] = refl
 runs_form v form (e ∷ run) = ap₂ (λ (text : List ℕ) (more : List ReportLine). Plain text ∷ more) (event_form v form e) (runs_form v form run)
 
-run_form : (v : World) (form : LogForm) (pid : ℕ) (run : Option (List Event)) → run_verdict (in_form v form) pid run ≡ run_verdict v pid run
-run_form v form pid None = refl
-run_form v form pid (Some run) =
+verdict_form : (v : World) (form : LogForm) (spaces : Spaces) (u : Verdict) → verdict_report (in_form v form) spaces u ≡ verdict_report v spaces u
+verdict_form v form spaces (No found) =
     ap (λ (calls : List ReportLine). record {
       status = status.No;
-      lines = Plain (at_line (codes "no ") (length run)) ∷ calls ++ Plain (at_line (codes "holder ") pid) ∷ [];
-    }) (runs_form v form run)
+      lines = Plain (at_line (codes "no ") (length found.run)) ∷ calls ++ Plain (at_line (codes "holder ") found.holder) ∷ [];
+    }) (runs_form v form found.run)
+verdict_form v form spaces (Yes bounds) = refl
+verdict_form v form spaces (Undecided blame below) = refl
 
-right_form : (v : World) (form : LogForm) (more : Bool) (s : State) (p : Process) (right : Right)
-    → right_verdict more (in_form v form) s p right ≡ right_verdict more v s p right
-right_form v form more s p (Uid k) =
-    ap (λ (r : Report). if not more && length s.processes == 1 then r else not_built) (run_form v form p.pid (run_back p.cred p.pid k))
-right_form v form more s p (Gid k) = refl
-right_form v form more s p (Cap cap n) = refl
+right_form : (v : World) (form : LogForm) (u : Verdict) (s : State) (p : Process) (right : Right)
+    → right_answer u (in_form v form) s p right ≡ right_answer u v s p right
+right_form v form u s p right =
+    ap (λ (r : Report). if is_over_standing s.spaces right then unless_large (length (family s p.pid)) r else bad_query (codes "space"))
+    (verdict_form v form s.spaces u)
 
-asked_form : (v : World) (form : LogForm) (more : Bool) (s : State) (p : Option Process) (right : Option Right)
-    → asked_verdict more (in_form v form) s p right ≡ asked_verdict more v s p right
-asked_form v form more s None right = refl
-asked_form v form more s (Some p) None = refl
-asked_form v form more s (Some p) (Some right) = right_form v form more s p right
+asked_form : (v : World) (form : LogForm) (u : Verdict) (s : State) (p : Option Process) (right : Option Right)
+    → asked_answer u (in_form v form) s p right ≡ asked_answer u v s p right
+asked_form v form u s None right = refl
+asked_form v form u s (Some p) None = refl
+asked_form v form u s (Some p) (Some right) = right_form v form u s p right
 
-verdict_form : (v : World) (form : LogForm) (more : Bool) (es : List Event) (q : Query)
-    → verdict_after more (in_form v form) es q ≡ verdict_after more v es q
-verdict_form v form more es q =
-    ap (λ (s : State). verdict (more || not (are_setresuids es)) (in_form v form) s q) (state_form v form v.start es)
-    ∙ asked_form v form (more || not (are_setresuids es)) (state_after v v.start es) (asked_process (state_after v v.start es) q.pid)
-    (right_token v.names q.right)
+answer_form : (v : World) (form : LogForm) (u : Verdict) (es : List Event) (q : Query)
+    → answer u (in_form v form) (state_after (in_form v form) v.start es) q ≡ answer u v (state_after v v.start es) q
+answer_form v form u es q =
+    ap (λ (s : State). answer u (in_form v form) s q) (state_form v form v.start es)
+    ∙ asked_form v form u (state_after v v.start es) (asked_process (state_after v v.start es) q.pid) (right_token v.names q.right)
+
+-- ---- the verdict that is given
+found_form : (v : World) (form : LogForm) (s : State) (members : List ℕ) (right : Right)
+    → first_found (each_may v) (in_form v form) s members right ≡ first_found (each_may v) v s members right
+unfolding WalkFindsTheSame walked
+found_form v form s members right =
+    walk_finds_the_same (each_may v) (in_form v form) s members right
+    ∙ sym (walk_finds_the_same (each_may v) v s members right)
+
+is_verdict_form : (v : World) (form : LogForm) (s : State) (members : List ℕ) (right : Right) (u : Verdict)
+    → VerdictIn (in_form v form) s members right u → VerdictIn v s members right u
+is_verdict_form v form s members right (No found) is = sym (found_form v form s members right) ∙ is
+is_verdict_form v form s members right (Yes bounds) (none, least, apart) = (sym (found_form v form s members right) ∙ none, least, apart)
+is_verdict_form v form s members right (Undecided blame below) (none, met, is) = (sym (found_form v form s members right) ∙ none, met, is)
+
+within_form : (v : World) (form : LogForm) (s : State) (es : List Event) (s' : State) → RunWithin v s es s' → RunWithin (in_form v form) s es s'
+within_form v form s [] s' run = run
+within_form v form s (e ∷ es) s' (mid, step, within, run) =
+    (mid, outcome_form v form s e ∙ step, within, within_form v form mid es s' run)
+
+state_gives_form : (v : World) (form : LogForm) (query : Option Query) (s : State) (u : Verdict) → StateGives query (in_form v form) s u → StateGives query v s u
+state_gives_form v form None s u gives = tt
+state_gives_form v form (Some q) s u gives = λ p right asked.
+    is_verdict_form v form s (family s p.pid) right u
+    (gives p right (record { asks = record { process = asked.asks.process; asked = asked.asks.asked }; standing = asked.standing; size = asked.size }))
+
+-- what a log gives in a world that declares another form, it gives
+pub gives_form : (v : World) (form : LogForm) (query : Option Query) (reading : Reading) (u : Verdict)
+    → LogGives query (in_form v form) reading u → LogGives query v reading u
+gives_form v form query reading u gives = λ s ending run.
+    state_gives_form v form query s u (gives s ending (within_form v form v.start (events_of reading.events) s run))
 
 -- ---- the report
 goes_on : (st : Status) (r q next : Report) → SameText r q → SameText (go_on st r next) (go_on st q next)
@@ -221,21 +261,22 @@ goes_on status.Refused r q next is = is
 goes_on status.BadQuery r q next is = is
 goes_on status.NotBuilt r q next is = is
 
-answered_form : (v : World) (form : LogForm) (query : Option Query) (more : Bool) (reading : Reading)
-    → SameText (answered query more v reading) (answered query more (in_form v form) reading)
-answered_form v form None more reading = replayed_form v form v.start 0 reading.events reading.ending
-answered_form v form (Some q) more reading =
+answered_form : (v : World) (form : LogForm) (query : Option Query) (u : Verdict) (reading : Reading)
+    → SameText (answered query u v reading) (answered query u (in_form v form) reading)
+answered_form v form None u reading = replayed_form v form v.start 0 reading.events reading.ending
+answered_form v form (Some q) u reading =
     let is : SameText (replay_of v reading) (replay_of (in_form v form) reading) = replayed_form v form v.start 0 reading.events reading.ending in
-    let next : Report = verdict_after more v (events_of reading.events) q in
+    let es : List Event = events_of reading.events in
+    let next : Report = answer u v (state_after v v.start es) q in
     subst (λ (st : Status). SameText (go_on (replay_of v reading).status (replay_of v reading) next)
-    (go_on st (replay_of (in_form v form) reading) (verdict_after more (in_form v form) (events_of reading.events) q))) is.status
+    (go_on st (replay_of (in_form v form) reading) (answer u (in_form v form) (state_after (in_form v form) v.start es) q))) is.status
     (subst (λ (n : Report). SameText (go_on (replay_of v reading).status (replay_of v reading) next)
-    (go_on (replay_of v reading).status (replay_of (in_form v form) reading) n)) (sym (verdict_form v form more (events_of reading.events) q))
+    (go_on (replay_of v reading).status (replay_of (in_form v form) reading) n)) (sym (answer_form v form u es q))
     (goes_on (replay_of v reading).status (replay_of v reading) (replay_of (in_form v form) reading) next is))
 
 -- the report of a reading has the same text, whatever form of log the world declares
-pub same_text : (query : Option Query) (more : Bool) (v : World) (form : LogForm) (reading : Reading)
-    → SameText (log_report query more v reading) (log_report query more (record v { form = form }) reading)
-same_text query more v form reading =
-    same_after (start_lines v) (start_lines (in_form v form)) (answered query more v reading) (answered query more (in_form v form) reading)
-    (starts_form v form v.start.processes) (answered_form v form query more reading)
+pub same_text : (query : Option Query) (u : Verdict) (v : World) (form : LogForm) (reading : Reading)
+    → SameText (log_report query u v reading) (log_report query u (record v { form = form }) reading)
+same_text query u v form reading =
+    same_after (start_lines v) (start_lines (in_form v form)) (answered query u v reading) (answered query u (in_form v form) reading)
+    (starts_form v form v.start.processes) (answered_form v form query u reading)

@@ -4,12 +4,15 @@ pub mod Showing
 pub mod Verdicts
 pub mod Lines
 pub mod Statuses
+pub mod Given
 pub mod Forms
 pub mod Endings
+pub mod Audits
 pub mod CommandCases
 pub mod CaseReports
 pub mod ReportCases
 pub mod WholeCases
+pub mod AuditCases
 pub mod SetIdCases
 pub mod CapReportCases
 pub mod BirthReportCases

@@ -1,7 +1,7 @@
 -- Worked cases, by computation, of the lines that tell a limit: their words, and that a limit is hit by one past its number
 -- (choice).
-use Rattle.std.proofs.Common.{◌≡◌, ℕ, zero, suc, ◌+◌, Bool, List, [], ◌∷◌, ◌++◌, cond, length, map, nat_lt, Option}
-use Rattle.std.proofs.Common.{None, Some, false, refl, ap}
+use Rattle.std.proofs.Common.{◌≡◌, ℕ, zero, suc, ◌+◌, List, [], ◌∷◌, ◌++◌, cond, length, map, nat_lt, Option}
+use Rattle.std.proofs.Common.{None, Some, refl, ap}
 use Rattle.std.specs.Prelude.{codes}
 use Rattle.cm_base.specs.declared.limited.Limited.TheVariants as limit
 use Rattle.cm_base.specs.declared.status.Status.TheVariants as status
@@ -9,7 +9,7 @@ use Rattle.cm_base.specs.Limited.{limit_number}
 use Rattle.model_cred.specs.Process.{State}
 use Rattle.model_cred.specs.Space.{Spaces, first_spaces}
 use Rattle.model_cred.specs.World.{World}
-use Rattle.model_report.proofs.CaseReports.{AllSay, Replays, TextReplays, root_line, user_line, user_ids, of_100}
+use Rattle.model_report.proofs.CaseReports.{AllSay, Replays, TextReplays, no_verdict, root_line, user_line, user_ids, of_100}
 use Rattle.model_report.proofs.CaseReports.{line_of, all_sets, world_of_100}
 use Rattle.model_report.specs.Query.{Query}
 use Rattle.model_report.specs.Replay.{Report, after, by_outcome, limit_hit, step_lines, unless_exceeded}
@@ -22,51 +22,50 @@ use Rattle.model_text.proofs.WorldCases.{world_on_literals, world_with}
 use Rattle.model_text.specs.Line.{Exceeds, script_line}
 use Rattle.model_text.specs.Reading.{Placed, Limit, Stops, ends_at, from_line, lines_reading}
 use Rattle.model_strace.specs.Logs.{log_reading}
-use Rattle.model_text.specs.WorldText.{table_world, text_as, text_says_more, world_text}
+use Rattle.model_text.specs.WorldText.{table_world, text_as, world_text}
+use Rattle.model_verdict.specs.Verdict.{Verdict}
 
 pub each_limit_has_its_words : AllSay
     (map limit_hit (limit.World ∷ limit.Log ∷ limit.Line ∷ limit.Processes ∷ limit.Spaces ∷ limit.Mounts ∷ limit.Files
-    ∷ limit.Groups ∷ []))
+    ∷ limit.Groups ∷ limit.Family ∷ []))
     status.Limit
     ((codes "limit world 1048576" ∷ []) ∷ (codes "limit log 67108864" ∷ []) ∷ (codes "limit line 1048576" ∷ [])
     ∷ (codes "limit processes 4096" ∷ [])
     ∷ (codes "limit spaces 256" ∷ []) ∷ (codes "limit mounts 64" ∷ []) ∷ (codes "limit files 4096" ∷ [])
-    ∷ (codes "limit groups 1024" ∷ []) ∷ [])
+    ∷ (codes "limit groups 1024" ∷ []) ∷ (codes "limit family 256" ∷ []) ∷ [])
 unfolding print_on_literals
 each_limit_has_its_words = record { statuses = refl; texts = refl }
 
 -- ---- sizes of texts
 -- a world of as many bytes is read, whatever they are; one of a byte more isn't
-by_size : (query : Option Query) (world log : List ℕ) (size : ℕ) → length world ≡ size
-    → files_report query world log ≡ cond (nat_lt (limit_number limit.World) size) (limit_hit limit.World)
-    (by_world query (text_says_more world) (world_text world) log)
-by_size query world log size long =
-    ap (λ (n : ℕ). cond (nat_lt (limit_number limit.World) n) (limit_hit limit.World)
-    (by_world query (text_says_more world) (world_text world) log)) long
+by_size : (query : Option Query) (v : Verdict) (world log : List ℕ) (size : ℕ) → length world ≡ size
+    → files_report query v world log ≡ cond (nat_lt (limit_number limit.World) size) (limit_hit limit.World)
+    (by_world query v (world_text world) log)
+by_size query v world log size long =
+    ap (λ (n : ℕ). cond (nat_lt (limit_number limit.World) n) (limit_hit limit.World) (by_world query v (world_text world) log)) long
 
-pub a_world_of_as_many_bytes_is_read : (query : Option Query) (world log : List ℕ) → length world ≡ 1048576
-    → files_report query world log ≡ by_world query (text_says_more world) (world_text world) log
-a_world_of_as_many_bytes_is_read query world log long = by_size query world log 1048576 long
+pub a_world_of_as_many_bytes_is_read : (query : Option Query) (v : Verdict) (world log : List ℕ) → length world ≡ 1048576
+    → files_report query v world log ≡ by_world query v (world_text world) log
+a_world_of_as_many_bytes_is_read query v world log long = by_size query v world log 1048576 long
 
-pub a_world_of_one_byte_more_is_not : (query : Option Query) (world log : List ℕ) → length world ≡ 1048577
-    → files_report query world log ≡ limit_hit limit.World
-a_world_of_one_byte_more_is_not query world log long = by_size query world log 1048577 long
+pub a_world_of_one_byte_more_is_not : (query : Option Query) (v : Verdict) (world log : List ℕ) → length world ≡ 1048577
+    → files_report query v world log ≡ limit_hit limit.World
+a_world_of_one_byte_more_is_not query v world log long = by_size query v world log 1048577 long
 
 -- the same of a log
-by_log_size : (query : Option Query) (more : Bool) (w : World) (log : List ℕ) (size : ℕ) → length log ≡ size
-    → text_report query more w log ≡ cond (nat_lt (limit_number limit.Log) size) (limit_hit limit.Log)
-    (log_report query more w (log_reading w log))
-by_log_size query more w log size long =
-    ap (λ (n : ℕ). cond (nat_lt (limit_number limit.Log) n) (limit_hit limit.Log)
-    (log_report query more w (log_reading w log))) long
+by_log_size : (query : Option Query) (v : Verdict) (w : World) (log : List ℕ) (size : ℕ) → length log ≡ size
+    → text_report query v w log ≡ cond (nat_lt (limit_number limit.Log) size) (limit_hit limit.Log)
+    (log_report query v w (log_reading w log))
+by_log_size query v w log size long =
+    ap (λ (n : ℕ). cond (nat_lt (limit_number limit.Log) n) (limit_hit limit.Log) (log_report query v w (log_reading w log))) long
 
-pub a_log_of_as_many_bytes_is_read : (query : Option Query) (more : Bool) (w : World) (log : List ℕ) → length log ≡ 67108864
-    → text_report query more w log ≡ log_report query more w (log_reading w log)
-a_log_of_as_many_bytes_is_read query more w log long = by_log_size query more w log 67108864 long
+pub a_log_of_as_many_bytes_is_read : (query : Option Query) (v : Verdict) (w : World) (log : List ℕ) → length log ≡ 67108864
+    → text_report query v w log ≡ log_report query v w (log_reading w log)
+a_log_of_as_many_bytes_is_read query v w log long = by_log_size query v w log 67108864 long
 
-pub a_log_of_one_byte_more_is_not : (query : Option Query) (more : Bool) (w : World) (log : List ℕ) → length log ≡ 67108865
-    → text_report query more w log ≡ limit_hit limit.Log
-a_log_of_one_byte_more_is_not query more w log long = by_log_size query more w log 67108865 long
+pub a_log_of_one_byte_more_is_not : (query : Option Query) (v : Verdict) (w : World) (log : List ℕ) → length log ≡ 67108865
+    → text_report query v w log ≡ limit_hit limit.Log
+a_log_of_one_byte_more_is_not query v w log long = by_log_size query v w log 67108865 long
 
 -- a line of one byte more than lines may have stops the reading, whatever it is
 pub a_line_of_one_byte_more_stops_the_reading : (w : World) (number : ℕ) (line : List ℕ) (lines : List (List ℕ))
@@ -100,7 +99,7 @@ unfolding print_on_literals world_on_literals
 spaces_more_than_the_limit = record { status = refl; text = refl }
 
 pub files_and_processes_more_than_the_limit : AllSay
-    (map (λ key. by_world None false (text_as (table_world (with_rows key 4097))) []) (codes "file" ∷ codes "process" ∷ []))
+    (map (λ key. by_world None no_verdict (text_as (table_world (with_rows key 4097))) []) (codes "file" ∷ codes "process" ∷ []))
     status.Limit
     ((codes "limit files 4096" ∷ []) ∷ (codes "limit processes 4096" ∷ []) ∷ [])
 unfolding print_on_literals

@@ -1,29 +1,34 @@
 -- The lines of a report: those at the start, those of the events that are a run, one that says how the log ends, and an
 -- answer. They show the state that the run reaches, they are true, and they tell these events.
-use Rattle.std.proofs.Common.{◌≡◌, ℕ, ◌==◌, ◌&&◌, not, Bool, true, false, cond, length, List, [], ◌∷◌, ◌++◌, map, Option, None, Some, IsSomeAnd}
+use Rattle.std.proofs.Common.{◌≡◌, ℕ, Bool, true, false, cond, nat_lt, length, List, [], ◌∷◌, ◌++◌, map, Option, None, Some, IsSomeAnd}
 use Rattle.std.proofs.Common.{refl, sym, ◌∙◌, ap, subst, append_assoc, append-nil, All}
 use Rattle.std.proofs.lemmas.List.Elements.{All-head, All-tail}
 use Rattle.std.specs.Prelude.{codes}
+use Rattle.cm_base.specs.declared.limited.Limited.TheVariants as limit
 use Rattle.cm_base.specs.declared.res.Res.{Res}
 use Rattle.cm_base.specs.declared.res.Res.TheVariants.{Child}
+use Rattle.cm_base.specs.Limited.{limit_number}
 use Rattle.model_cred.specs.Call.{Event}
 use Rattle.model_cred.specs.Process.{Process, State, Ascends, process_at}
-use Rattle.model_cred.specs.Right.{Right, Cap, Uid, Gid}
+use Rattle.model_cred.specs.Right.{Right}
+use Rattle.model_cred.specs.Space.{Spaces}
 use Rattle.model_cred.specs.World.{World}
+use Rattle.model_run.specs.Family.{family}
 use Rattle.model_run.specs.Step.{Step, Run}
-use Rattle.model_run.specs.RunBack.{run_back}
 use Rattle.model_cred.proofs.Lookups.{pid_of_found}
 use Rattle.model_report.proofs.Replays.{passed_lines, passed_step}
 use Rattle.model_report.proofs.Showing.{silent_shown, run_shows, start_shows}
+use Rattle.model_report.specs.Answer.{answer, asked_answer, right_answer, verdict_report, unless_large, bad_query, is_over_standing}
 use Rattle.model_report.specs.Laws.{Shows, last_credentials, told_in, AreTrue, EndsIn}
 use Rattle.model_report.specs.Query.{Query, asked_process, right_token}
-use Rattle.model_report.specs.Replay.{ReportLine, Credentials, Told, Plain, at_line, not_built, credentials_if, child_lines, step_lines}
-use Rattle.model_report.specs.Report.{start_lines, verdict, asked_verdict, right_verdict, run_verdict}
+use Rattle.model_report.specs.Replay.{Report, ReportLine, Credentials, Told, Plain, at_line, limit_hit, credentials_if, child_lines, step_lines}
+use Rattle.model_report.specs.Report.{start_lines}
 use Rattle.model_cred.proofs.Finds.{IsFound, each_found}
 use Rattle.model_text.proofs.Starts.{start_ascends}
 use Rattle.model_text.specs.Print.{event_text}
 use Rattle.model_text.specs.Reading.{Placed, events_of}
 use Rattle.model_text.specs.WorldText.{Reads, world_text}
+use Rattle.model_verdict.specs.Verdict.{Verdict, No, Yes, Undecided}
 
 -- ---- lines of plain text
 -- each line is of plain text
@@ -57,26 +62,33 @@ plain_run : (w : World) (run : List Event) (last : List ℕ) → ArePlain (map (
 plain_run w [] last = tt
 plain_run w (e ∷ run) last = plain_run w run last
 
-plain_run_verdict : (w : World) (n : ℕ) (run : Option (List Event)) → ArePlain (run_verdict w n run).lines
-plain_run_verdict w n None = tt
-plain_run_verdict w n (Some run) = plain_run w run (at_line (codes "holder ") n)
+plain_verdict : (w : World) (spaces : Spaces) (v : Verdict) → ArePlain (verdict_report w spaces v).lines
+plain_verdict w spaces (No found) = plain_run w found.run (at_line (codes "holder ") found.holder)
+plain_verdict w spaces (Yes bounds) = tt
+plain_verdict w spaces (Undecided blame below) = tt
 
-plain_right : (more : Bool) (w : World) (s : State) (p : Process) (right : Right) → ArePlain (right_verdict more w s p right).lines
-plain_right more w s p (Gid k) = tt
-plain_right more w s p (Cap cap n) = tt
-plain_right more w s p (Uid k) =
-    elim (not more && length s.processes == 1) as (λ (b : Bool). ArePlain (cond b (run_verdict w p.pid (run_back p.cred p.pid k)) not_built).lines) [
-      | true ↦ plain_run_verdict w p.pid (run_back p.cred p.pid k)
+plain_size : (size : ℕ) (rest : Report) → ArePlain rest.lines → ArePlain (unless_large size rest).lines
+plain_size size rest plain =
+    elim (nat_lt (limit_number limit.Family) size) as (λ (b : Bool). ArePlain (cond b (limit_hit limit.Family) rest).lines) [
+      | true ↦ tt
+      | false ↦ plain
+    ]
+
+plain_right : (v : Verdict) (w : World) (s : State) (p : Process) (right : Right) → ArePlain (right_answer v w s p right).lines
+plain_right v w s p right =
+    let rest : Report = unless_large (length (family s p.pid)) (verdict_report w s.spaces v) in
+    elim (is_over_standing s.spaces right) as (λ (b : Bool). ArePlain (cond b rest (bad_query (codes "space"))).lines) [
+      | true ↦ plain_size (length (family s p.pid)) (verdict_report w s.spaces v) (plain_verdict w s.spaces v)
       | false ↦ tt
     ]
 
-plain_asked : (more : Bool) (w : World) (s : State) (p : Option Process) (right : Option Right) → ArePlain (asked_verdict more w s p right).lines
-plain_asked more w s None right = tt
-plain_asked more w s (Some p) None = tt
-plain_asked more w s (Some p) (Some right) = plain_right more w s p right
+plain_asked : (v : Verdict) (w : World) (s : State) (p : Option Process) (right : Option Right) → ArePlain (asked_answer v w s p right).lines
+plain_asked v w s None right = tt
+plain_asked v w s (Some p) None = tt
+plain_asked v w s (Some p) (Some right) = plain_right v w s p right
 
-pub plain_verdict : (more : Bool) (w : World) (s : State) (q : Query) → ArePlain (verdict more w s q).lines
-plain_verdict more w s q = plain_asked more w s (asked_process s q.pid) (right_token w.names q.right)
+pub plain_answer : (v : Verdict) (w : World) (s : State) (q : Query) → ArePlain (answer v w s q).lines
+plain_answer v w s q = plain_asked v w s (asked_process s q.pid) (right_token w.names q.right)
 
 -- ---- what lines tell
 pub told_append : (one other : List ReportLine) → told_in (one ++ other) ≡ told_in one ++ told_in other

@@ -3,12 +3,10 @@
 use Rattle.std.proofs.Common.{[], ◌∷◌, ◌++◌, refl}
 use Rattle.std.specs.Prelude.{codes}
 use Rattle.cm_base.specs.declared.status.Status.TheVariants as status
-use Rattle.model_report.proofs.CaseReports.{Says, RowReplays, RowAudits, files, audit_words, root_line, user_line}
+use Rattle.model_report.proofs.CaseReports.{RowReplays, root_line, user_line}
 use Rattle.model_report.proofs.CaseReports.{ids_of, sets_of, user_ids, of_100}
 use Rattle.model_report.proofs.CaseReports.{all, none, kill, net_bind, no_flags, keep_caps, all_sets, no_sets}
-use Rattle.model_report.specs.Report.{report}
 use Rattle.model_text.proofs.PrintCases.{print_on_literals}
-use Rattle.model_text.proofs.ProcessCases.{of_row}
 use Rattle.model_text.proofs.WorldCases.{world_on_literals}
 
 -- ---- user ids
@@ -142,46 +140,3 @@ pub world_with_a_bad_set : RowReplays (codes "permitted = \"CAP_FOO\"\n") (codes
     (codes "bad world process 1: BadCaps" ∷ [])
 unfolding print_on_literals world_on_literals
 world_with_a_bad_set = record { status = refl; text = refl }
-
--- ---- audits
--- a world that says more than user ids, be it what holds by default
-pub world_that_says_more : RowAudits (codes "gid = 0\n") [] (codes "uid:0") status.NotBuilt
-    (root_line ∷ codes "end 0" ∷ codes "not built" ∷ [])
-unfolding print_on_literals world_on_literals
-world_that_says_more = record { status = refl; text = refl }
-
--- a log with another call than setresuid, be it one that is refused
-pub log_with_another_call : RowAudits (codes "uid = 1000\n")
-    (codes "100 setresuid -1 -1 -1 = 0\n100 setuid 0 = EPERM\n") (codes "uid:0") status.NotBuilt
-    (user_line ∷ codes "1: 100 setresuid -1 -1 -1 = 0" ∷ user_line ∷ codes "2: 100 setuid 0 = EPERM" ∷ user_line
-    ∷ codes "end 2" ∷ codes "not built" ∷ [])
-unfolding print_on_literals world_on_literals
-log_with_another_call = record { status = refl; text = refl }
-
--- without either it is answered
-pub log_of_setresuid_alone : RowAudits (codes "uid = 1000\n")
-    (codes "100 setresuid -1 -1 -1 = 0\n100 setresuid 0 0 0 = EPERM\n") (codes "uid:0") status.Accepted
-    (user_line ∷ codes "1: 100 setresuid -1 -1 -1 = 0" ∷ user_line ∷ codes "2: 100 setresuid 0 0 0 = EPERM" ∷ user_line
-    ∷ codes "end 2" ∷ codes "yes" ∷ [])
-unfolding print_on_literals world_on_literals
-log_of_setresuid_alone = record { status = refl; text = refl }
-
--- a bad query comes first
-pub text_of_no_right_comes_first : RowAudits (codes "gid = 0\n") (codes "100 setgroups = 0\n") (codes "uid:x")
-    status.BadQuery
-    (root_line ∷ codes "1: 100 setgroups = 0" ∷ root_line ∷ codes "end 1" ∷ codes "bad query: right" ∷ [])
-unfolding print_on_literals world_on_literals
-text_of_no_right_comes_first = record { status = refl; text = refl }
-
-pub pid_of_no_process_comes_first : Says
-    (report (audit_words (codes "101") (codes "uid:x")) (files (of_row (codes "gid = 0\n")) [])) status.BadQuery
-    (root_line ∷ codes "end 0" ∷ codes "bad query: pid" ∷ [])
-unfolding print_on_literals world_on_literals
-pid_of_no_process_comes_first = record { status = refl; text = refl }
-
--- and so does a log that isn't accepted
-pub impossible_line_comes_first : RowAudits (codes "uid = 1000\ngid = 0\n") (codes "100 setuid 0 = 0\n") (codes "uid:x")
-    status.Impossible
-    (user_line ∷ codes "impossible line 1: the rules give EPERM" ∷ [])
-unfolding print_on_literals world_on_literals
-impossible_line_comes_first = record { status = refl; text = refl }

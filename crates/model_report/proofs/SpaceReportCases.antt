@@ -5,7 +5,7 @@ use Rattle.std.specs.Prelude.{codes}
 use Rattle.cm_base.specs.declared.status.Status.TheVariants as status
 use Rattle.model_cred.specs.Space.{Spaces, first_spaces}
 use Rattle.model_cred.specs.World.{World}
-use Rattle.model_report.proofs.CaseReports.{AllSay, Replays, RowReplays, TextReplays, world_of_100, root_line}
+use Rattle.model_report.proofs.CaseReports.{AllSay, Replays, RowReplays, TextReplays, no_verdict, world_of_100, root_line}
 use Rattle.model_report.proofs.CaseReports.{user_line, user_at, user_ids}
 use Rattle.model_report.proofs.CaseReports.{line_of, of_user, ids_of, sets_of, all, none, kill, all_sets, no_sets}
 use Rattle.model_report.proofs.CaseReports.{no_flags, three_spaces}
@@ -132,7 +132,7 @@ calls_of_no_space =
     ∷ codes "100 write_uid_map #1 0 0 1 = 0\n" ∷ codes "100 write_gid_map #1 = EINVAL\n" ∷ codes "100 write_setgroups #1 deny = 0\n" ∷ []
 
 -- it is told before the rules are asked, whatever the result is
-pub spaces_that_do_not_stand : AllSay (map (text_report None false (world_of_100 0)) calls_of_no_space) status.Impossible
+pub spaces_that_do_not_stand : AllSay (map (text_report None no_verdict (world_of_100 0)) calls_of_no_space) status.Impossible
     (map (λ _. root_line ∷ codes "impossible line 1: no space" ∷ []) calls_of_no_space)
 unfolding print_on_literals
 spaces_that_do_not_stand = record { statuses = refl; texts = refl }

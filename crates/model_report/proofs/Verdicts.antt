@@ -1,293 +1,280 @@
--- The answer to an audit: each of its statuses comes by its cause, in the state that an accepted log leads to.
-use Rattle.std.proofs.Common.{◌≡◌, ℕ, ◌<◌, ◌⊎◌, inl, inr, ◌==◌, ◌||◌, ◌&&◌, not, Bool, true, false, cond, nat_lt, length, List, [], ◌∷◌, Option}
-use Rattle.std.proofs.Common.{Some, None, refl, sym, ◌∙◌, ap, subst, arith, eq-eqb}
-use Rattle.std.specs.Prelude.{codes, option_map, option_and_then, position}
+-- The answer to an audit: what it comes to, that its statuses come by their causes in the state that an accepted log leads
+-- to, and that all verdicts on one question say one thing.
+use Rattle.std.proofs.Common.{◌≡◌, ◌⊎◌, ℕ, ◌<◌, ◌≤◌, inl, inr, Bool, true, false, cond, nat_lt, length, List, [], ◌∷◌, Option}
+use Rattle.std.proofs.Common.{Some, None, refl, sym, ◌∙◌, ap, subst, arith}
+use Rattle.std.specs.Prelude.{codes, IsTrue}
+use Rattle.cm_base.specs.declared.limited.Limited.TheVariants as limit
 use Rattle.cm_base.specs.declared.status.Status.{Status}
 use Rattle.cm_base.specs.declared.status.Status.TheVariants as status
+use Rattle.cm_base.specs.Limited.{limit_number}
+use Rattle.cm_filter.specs.Filters.{permits}
+use Rattle.model_box.specs.Files.{FilesFit}
+use Rattle.model_box.specs.Meets.{IsOverStanding}
+use Rattle.model_box.proofs.Worlds.{run_fits}
 use Rattle.model_cred.specs.Call.{Event}
-use Rattle.model_cred.specs.Process.{Process, State, process_at}
+use Rattle.model_cred.specs.Process.{Process, State, KeepsState}
 use Rattle.model_cred.specs.Right.{Right, Cap, Uid, Gid}
-use Rattle.model_cred.specs.Space.{first_spaces}
-use Rattle.model_cred.specs.World.{World}
-use Rattle.model_run.proofs.RunsBack.{AllFollow, StateFollows, setresuids_follow, IsRunBack, run_back_is}
-use Rattle.model_run.specs.Step.{Run}
-use Rattle.model_run.specs.RunBack.{are_setresuids, BringsBack, CanComeBack, alone, run_back}
-use Rattle.model_text.proofs.Plain.{start_follows}
+use Rattle.model_cred.specs.Space.{Spaces}
+use Rattle.model_cred.specs.World.{World, KeepsWorld}
+use Rattle.model_laws.proofs.Keeping.{world_run_keeps}
+use Rattle.model_laws.specs.Runs.{WorldRunKeeps}
 use Rattle.model_report.proofs.Replays.{run_of_within}
-use Rattle.model_report.specs.Causes.{IsAccepted, Asks, AsksAlone, IsKnown, HasMore, IsYes, IsNo, IsBadQuery, IsBeyond}
-use Rattle.model_text.specs.Reading.{events_of}
-use Rattle.model_report.specs.Query.{Query, asked_process, process_of, right_token, right_by, id_number, as_id, cap_parts, cap_right, rest_after}
-use Rattle.model_report.specs.Replay.{Report, not_built}
-use Rattle.model_report.specs.Report.{verdict, asked_verdict, right_verdict, run_verdict}
-use Rattle.model_text.specs.Token.{number_token, pid_token}
-use Rattle.model_text.specs.WorldText.{Reads, world_text, text_says_more}
+use Rattle.model_report.specs.Answer.{answer, asked_answer, right_answer, verdict_report, bad_query, unless_large, is_over_standing}
+use Rattle.model_report.specs.Causes.{Asks, AsksVerdict, IsYes, IsNo, IsUndecided, IsBadQuery, IsLarge, RunWithin}
+use Rattle.model_report.specs.Causes.{no_process, no_right, no_space}
+use Rattle.model_report.specs.Given.{StateGives}
+use Rattle.model_report.specs.Query.{Query, asked_process, right_token}
+use Rattle.model_report.specs.Replay.{Report, limit_hit}
+use Rattle.model_run.specs.Family.{family}
+use Rattle.model_verdict.proofs.InWorlds.{may_within}
+use Rattle.model_verdict.proofs.Verdicts.{verdict_is_there, one_verdict, yes_exactly, undecided_exactly}
+use Rattle.model_verdict.specs.Blame.{Blame}
+use Rattle.model_verdict.specs.Decides.{IsFound, IsOpen}
+use Rattle.model_verdict.specs.Least.{Test}
+use Rattle.model_verdict.specs.InWorld.{each_may, VerdictIn}
+use Rattle.model_verdict.specs.Verdict.{Verdict, No, Yes, Undecided, IsVerdict, AreOne, Excluding}
+use Rattle.model_verdict.specs.Verdict.{VerdictIsThere, OneVerdict, YesExactly, UndecidedExactly}
 
--- Where a world's text says no more of a process than its pid and its user ids, and each event is a call of setresuid,
--- the sets of each process follow its user ids in the state that a run leads to.
-pub reached_follows : (bytes : List ℕ) (w : World) (es : List Event) (s : State) → world_text bytes ≡ Reads w
-    → text_says_more bytes ≡ false → are_setresuids es ≡ true → Run w w.start es s
-    → StateFollows s
-reached_follows bytes w es s reads plain calls run = setresuids_follow w es w.start s calls (start_follows bytes w reads plain) run
+-- ---- the state after an accepted log
+-- A state that keeps what a state keeps, and in which the declared files fit.
+pub record Fits (w : World) (s : State) : Type 0 where
+  pub keeps : KeepsState s
+  pub files : FilesFit w.files s.spaces
 
--- ---- what the weak audit knows
--- there is more to an accepted log than it knows
-abbrev pub has_more : (words : List (List ℕ)) (bytes : List ℕ → List ℕ) → IsAccepted words bytes → Bool
-has_more words bytes is = text_says_more (bytes is.comes.begins.names.world) || not (are_setresuids (events_of is.comes.events))
+-- a world that keeps what worlds keep leads to such states
+pub run_fit : (w : World) (es : List Event) (s : State) → KeepsWorld w → RunWithin w w.start es s → Fits w s
+unfolding WorldRunKeeps
+run_fit w es s keeps run = record {
+  keeps = world_run_keeps w es s keeps (run_of_within w w.start es s run);
+  files = run_fits w keeps es s (run_of_within w w.start es s run);
+}
 
-no_more : (more all : Bool) → (more || not all) ≡ false → (more ≡ false) × (all ≡ true)
-no_more true all is = absurd (cc)
-no_more false true is = (refl, refl)
-no_more false false is = absurd (cc)
+-- ---- verdicts on one question
+-- they say one thing
+pub one_report : (w : World) (spaces : Spaces) (v other : Verdict) → AreOne v other → verdict_report w spaces v ≡ verdict_report w spaces other
+one_report w spaces (No found) (No found') same = ap (λ f. verdict_report w spaces (No f)) same
+one_report w spaces (Yes bounds) (Yes bounds') same = refl
+one_report w spaces (Undecided blame below) (Undecided blame' below') (same, say) =
+    ap (λ (b : Blame). verdict_report w spaces (Undecided b below)) same
+one_report w spaces (No found) (Yes bounds) same = absurd same
+one_report w spaces (No found) (Undecided blame below) same = absurd same
+one_report w spaces (Yes bounds) (No found) same = absurd same
+one_report w spaces (Yes bounds) (Undecided blame below) same = absurd same
+one_report w spaces (Undecided blame below) (No found) same = absurd same
+one_report w spaces (Undecided blame below) (Yes bounds) same = absurd same
 
-some_more : (more all : Bool) → (more || not all) ≡ true → (more ≡ true) ⊎ (all ≡ false)
-some_more true all is = inl refl
-some_more false true is = absurd (cc)
-some_more false false is = inr refl
+-- ---- the words of the right's space
+pub stands_or_not : (spaces : Spaces) (right : Right) → is_over_standing spaces right ≡ true → IsOverStanding spaces right
+stands_or_not spaces (Cap cap n) is = is
+stands_or_not spaces (Uid id) is = tt
+stands_or_not spaces (Gid id) is = tt
 
-by_no_more : (more all : Bool) → more ≡ false → all ≡ true → (more || not all) ≡ false
-by_no_more more all a b = rw (a, b) refl
+standing_is : (spaces : Spaces) (right : Right) → IsOverStanding spaces right → is_over_standing spaces right ≡ true
+standing_is spaces (Cap cap n) is = is
+standing_is spaces (Uid id) is = refl
+standing_is spaces (Gid id) is = refl
 
-by_more : (more all : Bool) → (more ≡ true) ⊎ (all ≡ false) → (more || not all) ≡ true
-by_more true all is = refl
-by_more false true (inl is) = absurd (cc)
-by_more false true (inr is) = absurd (cc)
-by_more false false is = refl
+pub not_standing : (spaces : Spaces) (right : Right) → is_over_standing spaces right ≡ false → IsOverStanding spaces right → ⊥
+not_standing spaces right none is = let both : false ≡ true = sym none ∙ standing_is spaces right is in absurd (cc)
 
-is_known : (words : List (List ℕ)) (bytes : List ℕ → List ℕ) (is : IsAccepted words bytes) → has_more words bytes is ≡ false → IsKnown words bytes is
-is_known words bytes is none =
-    let both : (text_says_more (bytes is.comes.begins.names.world) ≡ false) × (are_setresuids (events_of is.comes.events) ≡ true) =
-    no_more (text_says_more (bytes is.comes.begins.names.world)) (are_setresuids (events_of is.comes.events)) none in
-    record { world = both.0; events = both.1 }
+pub is_not : (spaces : Spaces) (right : Right) → (b : Bool) → is_over_standing spaces right ≡ b → (IsOverStanding spaces right → ⊥)
+    → is_over_standing spaces right ≡ false
+is_not spaces right true is none = absurd (none (stands_or_not spaces right is))
+is_not spaces right false is none = is
 
-known_is : (words : List (List ℕ)) (bytes : List ℕ → List ℕ) (is : IsAccepted words bytes) → IsKnown words bytes is → has_more words bytes is ≡ false
-known_is words bytes is known =
-    by_no_more (text_says_more (bytes is.comes.begins.names.world)) (are_setresuids (events_of is.comes.events)) known.world known.events
+small : (most size : ℕ) → nat_lt most size ≡ false → size ≤ most
+small most size is = grind (arith, is)
 
--- after a log of which it knows all, the sets of each process follow its user ids
-pub accepted_follows : (words : List (List ℕ)) (bytes : List ℕ → List ℕ) (is : IsAccepted words bytes) → IsKnown words bytes is → StateFollows is.state
-accepted_follows words bytes is known =
-    reached_follows (bytes is.comes.begins.names.world) is.world
-    (events_of is.comes.events) is.state is.comes.begins.names.reads known.world known.events
-    (run_of_within is.world is.world.start (events_of is.comes.events) is.state is.comes.run)
+large : (most size : ℕ) → nat_lt most size ≡ true → most < size
+large most size is = grind (arith, is)
 
--- ---- the ids of rights
-id_is_id : (n : Option ℕ) (k : ℕ) → option_map Uid (option_and_then as_id n) ≡ Some (Uid k) → k < 4294967295
-id_is_id None k is = absurd (cc)
-id_is_id (Some n) k is =
-    elim (nat_lt n 4294967295) as (λ (b : Bool). nat_lt n 4294967295 ≡ b → option_map Uid (cond b (Some n) None) ≡ Some (Uid k) → k < 4294967295) [
-      | true ↦ λ below same. let this : n ≡ k = cc in subst (λ (x : ℕ). x < 4294967295) this (grind (arith, below))
-      | false ↦ λ above same. absurd (cc)
-    ] refl is
+small_is : (most size : ℕ) → size ≤ most → nat_lt most size ≡ false
+small_is most size is = grind (arith, is)
 
-gid_no_uid : (n : Option ℕ) (k : ℕ) → option_map Gid n ≡ Some (Uid k) → ⊥
-gid_no_uid None k is = cc
-gid_no_uid (Some n) k is = cc
+large_is : (most size : ℕ) → most < size → nat_lt most size ≡ true
+large_is most size is = grind (arith, is)
 
-cap_no_uid : (cap n : Option ℕ) (k : ℕ) → cap_right cap n ≡ Some (Uid k) → ⊥
-cap_no_uid None n k is = cc
-cap_no_uid (Some cap) None k is = cc
-cap_no_uid (Some cap) (Some n) k is = cc
-
-parts_no_uid : (names : List (List ℕ)) (at : Option ℕ) (text : List ℕ) (k : ℕ) → cap_parts names at text ≡ Some (Uid k) → ⊥
-parts_no_uid names None text k is = cc
-parts_no_uid names (Some at) text k is = cap_no_uid _ _ k is
-
-right_is_id : (names : List (List ℕ)) (uid gid cap : Option (List ℕ)) (k : ℕ) → right_by names uid gid cap ≡ Some (Uid k) → k < 4294967295
-right_is_id names (Some uid) gid cap k is = id_is_id (number_token uid) k is
-right_is_id names None (Some gid) cap k is = absurd (gid_no_uid (id_number gid) k is)
-right_is_id names None None (Some cap) k is = absurd (parts_no_uid names (position (λ byte. byte == 64) cap) cap k is)
-right_is_id names None None None k is = absurd (cc)
-
-pub asked_id : (names : List (List ℕ)) (text : List ℕ) (k : ℕ) → right_token names text ≡ Some (Uid k) → k < 4294967295
-asked_id names text k is = right_is_id names (rest_after (codes "uid:") text) (rest_after (codes "gid:") text) (rest_after (codes "cap:") text) k is
-
--- ---- one process alone
-same_number : (a b : ℕ) → (a == b) ≡ true → a ≡ b
-same_number a b h = grind (arith, h)
-
-one_of_one : (ps : List Process) (pid : ℕ) (p : Process) → length ps ≡ 1 → process_at ps pid ≡ Some p → (ps ≡ p ∷ []) × (p.pid ≡ pid)
-one_of_one [] pid p one is = absurd (omega arith)
-one_of_one (q ∷ r ∷ ps) pid p one is = absurd (omega arith)
-one_of_one (q ∷ []) pid p one is =
-    elim (q.pid == pid) as (λ (b : Bool). (q.pid == pid) ≡ b → cond b (Some q) None ≡ Some p → ((q ∷ []) ≡ p ∷ []) × (p.pid ≡ pid)) [
-      | true ↦ λ same found. let this : q ≡ p = cc in (ap (λ (x : Process). x ∷ []) this, ap (λ (x : Process). x.pid) (sym this) ∙ same_number q.pid pid same)
-      | false ↦ λ other found. absurd (cc)
-    ] refl is
-
-found_pid : (s : State) (pid : Option ℕ) (p : Process) → process_of s pid ≡ Some p → (n : ℕ) × (process_at s.processes n ≡ Some p)
-found_pid s None p is = absurd (cc)
-found_pid s (Some n) p is = (n, is)
-
--- the state is that of the process alone
-alone_is : (s : State) (p : Process) → s.spaces ≡ first_spaces → s.processes ≡ p ∷ [] → p.space ≡ 0 → alone p.pid p.forebear p.cred ≡ s
-alone_is s p spaces only at =
-    ap (λ (n : ℕ). record { processes = record { pid = p.pid; forebear = p.forebear; space = n; cred = p.cred } ∷ []; spaces = first_spaces }) (sym at)
-    ∙ ap (λ (ps : List Process). record { processes = ps; spaces = first_spaces }) (sym only)
-    ∙ ap (λ (spaces' : _). record { processes = s.processes; spaces = spaces' }) (sym spaces)
-
--- what the run back of the one process says
-RunIs : World → State → Process → ℕ → Option (List Event) → Type 0
-RunIs w s p k None = (run : List Event) → ¬ BringsBack w s p.pid k run
-RunIs w s p k (Some run) = BringsBack w s p.pid k run
-
-run_is_by : (w : World) (s : State) (p : Process) (k : ℕ) (found : Option (List Event)) → alone p.pid p.forebear p.cred ≡ s
-    → IsRunBack w p.pid p.forebear p.cred k found → RunIs w s p k found
-unfolding RunIs
-run_is_by w s p k None same never = λ run back. never (run, subst (λ (x : State). BringsBack w x p.pid k run) (sym same) back)
-run_is_by w s p k (Some run) same back = subst (λ (x : State). BringsBack w x p.pid k run) same back
-
-run_is : (w : World) (s : State) (q : Query) (p : Process) (k : ℕ) → StateFollows s → Asks q w s p (Uid k) → length s.processes ≡ 1
-    → RunIs w s p k (run_back p.cred p.pid k)
-run_is w s q p k follow asks one =
-    let found : (n : ℕ) × (process_at s.processes n ≡ Some p) = found_pid s (pid_token q.pid) p asks.process in
-    let only : (s.processes ≡ p ∷ []) × (p.pid ≡ found.0) = one_of_one s.processes found.0 p one found.1 in
-    let all : AllFollow (p ∷ []) = subst (λ (ps : List Process). AllFollow ps) only.0 follow.processes in
-    run_is_by w s p k (run_back p.cred p.pid k) (alone_is s p follow.spaces only.0 all.0)
-    (run_back_is w p.pid p.forebear p.cred k all.1 (asked_id w.names q.right k asks.asked))
-
--- ---- the answer by what is asked
-of_asks : (more : Bool) (w : World) (s : State) (q : Query) (p : Process) (right : Right) → Asks q w s p right
-    → verdict more w s q ≡ right_verdict more w s p right
-of_asks more w s q p right asks =
-    ap (λ (o : Option Process). asked_verdict more w s o (right_token w.names q.right)) asks.process
-    ∙ ap (λ (o : Option Right). asked_verdict more w s (Some p) o) asks.asked
-
-several : (ps : List Process) (n : ℕ) (p : Process) → process_at ps n ≡ Some p → (length ps == 1) ≡ false → 1 < length ps
-several [] n p is none = absurd (cc)
-several (q ∷ ps) n p is none = grind (arith, none)
-
-not_one : (n : ℕ) → 1 < n → (n == 1) ≡ false
-not_one n more = grind (arith, more)
-
-beyond_uid : (more : Bool) (w : World) (s : State) (p : Process) (right : Right) → ((k : ℕ) → ¬ (right ≡ Uid k))
-    → (right_verdict more w s p right).status ≡ status.NotBuilt
-beyond_uid more w s p (Uid k) other = absurd (other k refl)
-beyond_uid more w s p (Gid k) other = refl
-beyond_uid more w s p (Cap cap n) other = refl
-
-beyond_one : (more one : Bool) (w : World) (s : State) (p : Process) (right : Right) → (length s.processes == 1) ≡ one
-    → (not more && one) ≡ false → (right_verdict more w s p right).status ≡ status.NotBuilt
-beyond_one more one w s p (Uid k) is beyond =
-    ap (λ (b : Bool). (cond b (run_verdict w p.pid (run_back p.cred p.pid k)) not_built).status) (ap (λ (b : Bool). not more && b) is ∙ beyond)
-beyond_one more one w s p (Gid k) is beyond = refl
-beyond_one more one w s p (Cap cap n) is beyond = refl
-
-never : (more : Bool) → (not more && false) ≡ false
-never true = refl
-never false = refl
-
--- ---- the cause of the answer after an accepted log
+-- ---- the answer
 -- the cause of each status of an answer
-abbrev pub VerdictCause : (words : List (List ℕ)) (bytes : List ℕ → List ℕ) → IsAccepted words bytes → Query → Status → Type 0
-VerdictCause words bytes is q status.Accepted = IsYes words bytes is q
-VerdictCause words bytes is q status.No = IsNo words bytes is q
-VerdictCause words bytes is q status.BadQuery = IsBadQuery words bytes is q
-VerdictCause words bytes is q status.NotBuilt = IsBeyond words bytes is q
-VerdictCause words bytes is q _ = ⊥
+abbrev pub AnswerCause : Query → World → State → Status → Type 0
+AnswerCause q w s status.Accepted = IsYes q w s
+AnswerCause q w s status.No = IsNo q w s
+AnswerCause q w s status.Undecided = IsUndecided q w s
+AnswerCause q w s status.BadQuery = IsBadQuery q w s
+AnswerCause q w s status.Limit = IsLarge q w s
+AnswerCause q w s _ = ⊥
 
-module _ (words : List (List ℕ)) (bytes : List ℕ → List ℕ) (is : IsAccepted words bytes) (q : Query) where
-  -- the answer
-  abbrev pub log_verdict : Report
-  log_verdict = verdict (has_more words bytes is) is.world is.state q
+-- What a query comes to: it asks for a verdict, or it is refused, whatever the verdict.
+pub data Comes (q : Query) (w : World) (s : State) : Type 0 where
+  asks : (p : Process) (right : Right) → AsksVerdict q w s p right → Comes q w s
+  refused : (r : Report) → ((v : Verdict) → answer v w s q ≡ r) → AnswerCause q w s r.status → Comes q w s
 
-  run_cause : (p : Process) (k : ℕ) → AsksAlone words bytes is q p k → (found : Option (List Event))
-      → RunIs is.world is.state p k found → VerdictCause words bytes is q (run_verdict is.world p.pid found).status
-  unfolding RunIs
-  run_cause p k asks None never = (p, k, asks, never)
-  run_cause p k asks (Some run) back = (p, k, asks, (run, back))
+module _ (q : Query) (w : World) (s : State) where
+  of_asks : (v : Verdict) (p : Process) (right : Right) → Asks q w s p right → answer v w s q ≡ right_answer v w s p right
+  of_asks v p right named =
+      ap (λ (o : Option Process). asked_answer v w s o (right_token w.names q.right)) named.process
+      ∙ ap (λ (o : Option Right). asked_answer v w s (Some p) o) named.asked
 
-  run_of_alone : (p : Process) (k : ℕ) → AsksAlone words bytes is q p k → RunIs is.world is.state p k (run_back p.cred p.pid k)
-  run_of_alone p k asks = run_is is.world is.state q p k (accepted_follows words bytes is asks.known) asks.asks asks.alone
+  -- the answer about a right whose space stands, or doesn't
+  by_space : (v : Verdict) (p : Process) (right : Right) (b : Bool) → is_over_standing s.spaces right ≡ b
+      → right_answer v w s p right
+      ≡ cond b (unless_large (length (family s p.pid)) (verdict_report w s.spaces v)) (bad_query (codes "space"))
+  by_space v p right b is =
+      ap (λ (c : Bool). cond c (unless_large (length (family s p.pid)) (verdict_report w s.spaces v)) (bad_query (codes "space"))) is
 
-  uid_cause : (p : Process) (k : ℕ) → Asks q is.world is.state p (Uid k) → (more one : Bool)
-      → has_more words bytes is ≡ more → (length is.state.processes == 1) ≡ one
-      → VerdictCause words bytes is q (cond (not more && one) (run_verdict is.world p.pid (run_back p.cred p.pid k)) not_built).status
-  uid_cause p k asks true one is_more is_one =
-      (p, Uid k, asks, inr (inr (some_more (text_says_more (bytes is.comes.begins.names.world)) (are_setresuids (events_of is.comes.events)) is_more)))
-  uid_cause p k asks false true is_more is_one =
-      let only : AsksAlone words bytes is q p k
-      = record { asks = asks; alone = same_number (length is.state.processes) 1 is_one; known = is_known words bytes is is_more } in
-      run_cause p k only (run_back p.cred p.pid k) (run_of_alone p k only)
-  uid_cause p k asks false false is_more is_one =
-      let found : (n : ℕ) × (process_at is.state.processes n ≡ Some p) = found_pid is.state (pid_token q.pid) p asks.process in
-      (p, Uid k, asks, inr (inl (several is.state.processes found.0 p found.1 is_one)))
+  by_size : (size : ℕ) (rest : Report) (b : Bool) → nat_lt (limit_number limit.Family) size ≡ b
+      → unless_large size rest ≡ cond b (limit_hit limit.Family) rest
+  by_size size rest b is = ap (λ (c : Bool). cond c (limit_hit limit.Family) rest) is
 
-  right_cause : (p : Process) (right : Right) → Asks q is.world is.state p right
-      → VerdictCause words bytes is q (right_verdict (has_more words bytes is) is.world is.state p right).status
-  right_cause p (Uid k) asks = uid_cause p k asks (has_more words bytes is) (length is.state.processes == 1) refl refl
-  right_cause p (Gid k) asks = (p, Gid k, asks, inl (λ j same. cc))
-  right_cause p (Cap cap n) asks = (p, Cap cap n, asks, inl (λ j same. cc))
+  -- where it asks for a verdict
+  pub of_asked : (v : Verdict) (p : Process) (right : Right) → AsksVerdict q w s p right → answer v w s q ≡ verdict_report w s.spaces v
+  of_asked v p right asked =
+      of_asks v p right asked.asks ∙ by_space v p right true (standing_is s.spaces right asked.standing)
+      ∙ by_size (length (family s p.pid)) (verdict_report w s.spaces v) false
+      (small_is (limit_number limit.Family) (length (family s p.pid)) asked.size)
 
-  asked_cause : (p : Option Process) (right : Option Right) → asked_process is.state q.pid ≡ p → right_token is.world.names q.right ≡ right
-      → VerdictCause words bytes is q (asked_verdict (has_more words bytes is) is.world is.state p right).status
-  asked_cause None right a b = inl a
-  asked_cause (Some p) None a b = inr (p, a, b)
-  asked_cause (Some p) (Some right) a b = right_cause p right (record { process = a; asked = b })
+  pub of_no_space : (v : Verdict) (p : Process) (right : Right) → Asks q w s p right → is_over_standing s.spaces right ≡ false
+      → answer v w s q ≡ bad_query (codes "space")
+  of_no_space v p right named is = of_asks v p right named ∙ by_space v p right false is
 
-  -- the answer has its cause
-  pub verdict_cause : VerdictCause words bytes is q log_verdict.status
-  verdict_cause = asked_cause (asked_process is.state q.pid) (right_token is.world.names q.right) refl refl
+  pub of_large : (v : Verdict) (p : Process) (right : Right) → Asks q w s p right → IsOverStanding s.spaces right
+      → limit_number limit.Family < length (family s p.pid) → answer v w s q ≡ limit_hit limit.Family
+  of_large v p right named standing over =
+      of_asks v p right named ∙ by_space v p right true (standing_is s.spaces right standing)
+      ∙ by_size (length (family s p.pid)) (verdict_report w s.spaces v) true
+      (large_is (limit_number limit.Family) (length (family s p.pid)) over)
 
-  -- ---- and a cause makes its answer
-  -- the answer where one process is asked for a user id
-  pub of_alone : (p : Process) (k : ℕ) → AsksAlone words bytes is q p k → log_verdict ≡ run_verdict is.world p.pid (run_back p.cred p.pid k)
-  of_alone p k asks =
-      of_asks (has_more words bytes is) is.world is.state q p (Uid k) asks.asks
-      ∙ ap (λ (more : Bool). cond (not more && length is.state.processes == 1) (run_verdict is.world p.pid (run_back p.cred p.pid k)) not_built)
-      (known_is words bytes is asks.known)
-      ∙ ap (λ (one : Bool). cond one (run_verdict is.world p.pid (run_back p.cred p.pid k)) not_built) (eq-eqb (length is.state.processes) 1 asks.alone)
+  pub of_no_process : (v : Verdict) → asked_process s q.pid ≡ None → answer v w s q ≡ bad_query (codes "pid")
+  of_no_process v none = ap (λ (o : Option Process). asked_answer v w s o (right_token w.names q.right)) none
 
-  yes_status : (p : Process) (k : ℕ) (found : Option (List Event)) → RunIs is.world is.state p k found
-      → ((run : List Event) → ¬ BringsBack is.world is.state p.pid k run) → (run_verdict is.world p.pid found).status ≡ status.Accepted
-  unfolding RunIs
-  yes_status p k None found never = refl
-  yes_status p k (Some run) back never = absurd (never run back)
+  pub of_no_right : (v : Verdict) (p : Process) → asked_process s q.pid ≡ Some p → right_token w.names q.right ≡ None
+      → answer v w s q ≡ bad_query (codes "right")
+  of_no_right v p found none =
+      ap (λ (o : Option Process). asked_answer v w s o (right_token w.names q.right)) found
+      ∙ ap (λ (o : Option Right). asked_answer v w s (Some p) o) none
 
-  no_status : (p : Process) (k : ℕ) (found : Option (List Event)) → RunIs is.world is.state p k found
-      → CanComeBack is.world is.state p.pid k → (run_verdict is.world p.pid found).status ≡ status.No
-  unfolding RunIs
-  no_status p k None never (run, back) = absurd (never run back)
-  no_status p k (Some run) found back = refl
+  -- what it comes to
+  comes_by_size : (p : Process) (right : Right) → Asks q w s p right → IsOverStanding s.spaces right
+      → (b : Bool) → nat_lt (limit_number limit.Family) (length (family s p.pid)) ≡ b → Comes q w s
+  comes_by_size p right named standing true is =
+      let over : limit_number limit.Family < length (family s p.pid) = large (limit_number limit.Family) (length (family s p.pid)) is in
+      refused (limit_hit limit.Family) (λ v. of_large v p right named standing over) (p, right, named, standing, over)
+  comes_by_size p right named standing false is =
+      asks p right (record { asks = named; standing = standing; size = small (limit_number limit.Family) (length (family s p.pid)) is })
 
-  beyond_known : (p : Process) (right : Right) → HasMore words bytes is
-      → (right_verdict (has_more words bytes is) is.world is.state p right).status ≡ status.NotBuilt
-  beyond_known p right more =
-      beyond_one (has_more words bytes is) (length is.state.processes == 1) is.world is.state p right refl
-      (ap (λ (b : Bool). not b && length is.state.processes == 1)
-      (by_more (text_says_more (bytes is.comes.begins.names.world)) (are_setresuids (events_of is.comes.events)) more))
+  comes_by_space : (p : Process) (right : Right) → Asks q w s p right → (b : Bool) → is_over_standing s.spaces right ≡ b → Comes q w s
+  comes_by_space p right named true is =
+      comes_by_size p right named (stands_or_not s.spaces right is) (nat_lt (limit_number limit.Family) (length (family s p.pid))) refl
+  comes_by_space p right named false is =
+      refused (bad_query (codes "space")) (λ v. of_no_space v p right named is) (no_space p right named (not_standing s.spaces right is))
 
-  beyond_several : (p : Process) (right : Right) → 1 < length is.state.processes
-      → (right_verdict (has_more words bytes is) is.world is.state p right).status ≡ status.NotBuilt
-  beyond_several p right more =
-      beyond_one (has_more words bytes is) false is.world is.state p right (not_one (length is.state.processes) more) (never (has_more words bytes is))
+  comes_by_words : (p : Option Process) (right : Option Right) → asked_process s q.pid ≡ p → right_token w.names q.right ≡ right → Comes q w s
+  comes_by_words None right a b = refused (bad_query (codes "pid")) (λ v. of_no_process v a) (no_process a)
+  comes_by_words (Some p) None a b = refused (bad_query (codes "right")) (λ v. of_no_right v p a b) (no_right p a b)
+  comes_by_words (Some p) (Some right) a b =
+      comes_by_space p right (record { process = a; asked = b }) (is_over_standing s.spaces right) refl
 
-  pub verdict_by : (st : Status) → VerdictCause words bytes is q st → log_verdict.status ≡ st
-  verdict_by status.Accepted (p, k, asks, never) =
-      ap (λ (r : Report). r.status) (of_alone p k asks) ∙ yes_status p k (run_back p.cred p.pid k) (run_of_alone p k asks) never
-  verdict_by status.No (p, k, asks, back) =
-      ap (λ (r : Report). r.status) (of_alone p k asks) ∙ no_status p k (run_back p.cred p.pid k) (run_of_alone p k asks) back
-  verdict_by status.BadQuery (inl none) =
-      ap (λ (o : Option Process).
-      (asked_verdict (has_more words bytes is) is.world is.state o (right_token is.world.names q.right)).status) none
-  verdict_by status.BadQuery (inr (p, found, none)) =
-      ap (λ (o : Option Process). (asked_verdict (has_more words bytes is) is.world is.state o (right_token is.world.names q.right)).status) found
-      ∙ ap (λ (o : Option Right). (asked_verdict (has_more words bytes is) is.world is.state (Some p) o).status) none
-  verdict_by status.NotBuilt (p, right, asks, inl other) =
-      ap (λ (r : Report). r.status) (of_asks (has_more words bytes is) is.world is.state q p right asks)
-      ∙ beyond_uid (has_more words bytes is) is.world is.state p right other
-  verdict_by status.NotBuilt (p, right, asks, inr (inl more)) =
-      ap (λ (r : Report). r.status) (of_asks (has_more words bytes is) is.world is.state q p right asks) ∙ beyond_several p right more
-  verdict_by status.NotBuilt (p, right, asks, inr (inr more)) =
-      ap (λ (r : Report). r.status) (of_asks (has_more words bytes is) is.world is.state q p right asks) ∙ beyond_known p right more
-  verdict_by _ h = absurd h
+  pub comes : Comes q w s
+  comes = comes_by_words (asked_process s q.pid) (right_token w.names q.right) refl refl
 
-  -- an answer no shows a run, which leads the process there
-  pub no_shows : (p : Process) (k : ℕ) → AsksAlone words bytes is q p k → CanComeBack is.world is.state p.pid k
-      → (run : List Event) × BringsBack is.world is.state p.pid k run × (log_verdict ≡ run_verdict is.world p.pid (Some run))
-  unfolding RunIs
-  no_shows p k asks back = shown (run_back p.cred p.pid k) (run_of_alone p k asks) (of_alone p k asks)
+  -- a query that is refused asks for no verdict: two verdicts would have one status
+  pub refused_asks_none : (r : Report) → ((v : Verdict) → answer v w s q ≡ r) → (p : Process) (right : Right) → AsksVerdict q w s p right → ⊥
+  refused_asks_none r same p right asked =
+      let yes : Verdict = Yes (λ y part x. false) in
+      let no : Verdict = No (record { run = []; holder = 0 }) in
+      let two : status.Accepted ≡ status.No
+      = ap (λ (t : Report). t.status) (sym (of_asked yes p right asked) ∙ same yes ∙ sym (same no) ∙ of_asked no p right asked) in
+      cc
+
+  one_process : {p p' : Process} {right right' : Right} → Asks q w s p right → Asks q w s p' right' → p ≡ p'
+  one_process {p} {p'} one other = let same : Some p ≡ Some p' = sym one.process ∙ other.process in cc
+
+  one_right : {p p' : Process} {right right' : Right} → Asks q w s p right → Asks q w s p' right' → right ≡ right'
+  one_right {p} {p'} {right} {right'} one other = let same : Some right ≡ Some right' = sym one.asked ∙ other.asked in cc
+
+  -- ---- verdicts that the state gives
+  -- there is one
+  pub verdict_there : KeepsState s → (v : Verdict) × StateGives (Some q) w s v
+  unfolding VerdictIsThere
+  verdict_there keeps = by comes
     where
-      shown : (found : Option (List Event)) → RunIs is.world is.state p k found → log_verdict ≡ run_verdict is.world p.pid found
-          → (run : List Event) × BringsBack is.world is.state p.pid k run × (log_verdict ≡ run_verdict is.world p.pid (Some run))
-      shown None never same = absurd (never back.0 back.1)
-      shown (Some run) back' same = (run, back', same)
+      by : Comes q w s → (v : Verdict) × StateGives (Some q) w s v
+      by (asks p right asked) =
+          let there : (v : Verdict) × VerdictIn w s (family s p.pid) right v
+          = verdict_is_there (each_may w) (permits w.filter) w s (family s p.pid) right keeps in (
+            there.0,
+            λ p' right' other.
+                subst (λ (r : Right). VerdictIn w s (family s p'.pid) r there.0) (one_right asked.asks other.asks)
+                (subst (λ (o : Process). VerdictIn w s (family s o.pid) right there.0) (one_process asked.asks other.asks) there.1),
+          )
+      by (refused r same cause) = (Yes (λ y part x. false), λ p right asked. absurd (refused_asks_none r same p right asked))
+
+  -- with each the answer is one
+  pub one_answer : (v other : Verdict) → StateGives (Some q) w s v → StateGives (Some q) w s other → answer v w s q ≡ answer other w s q
+  unfolding OneVerdict
+  one_answer v other gives gives' = by comes
+    where
+      by : Comes q w s → answer v w s q ≡ answer other w s q
+      by (asks p right asked) =
+          of_asked v p right asked
+          ∙ one_report w s.spaces v other
+          (one_verdict (each_may w) (permits w.filter) w s (family s p.pid) right v other (gives p right asked) (gives' p right asked))
+          ∙ sym (of_asked other p right asked)
+      by (refused r same cause) = same v ∙ sym (same other)
+
+  -- ---- statuses and causes
+  -- it is what any verdict on what is asked says
+  pub answer_is : (v : Verdict) → StateGives (Some q) w s v → (p : Process) (right : Right) → AsksVerdict q w s p right → (u : Verdict)
+      → VerdictIn w s (family s p.pid) right u → answer v w s q ≡ verdict_report w s.spaces u
+  unfolding OneVerdict
+  answer_is v gives p right asked u is =
+      of_asked v p right asked
+      ∙ one_report w s.spaces v u (one_verdict (each_may w) (permits w.filter) w s (family s p.pid) right v u (gives p right asked) is)
+
+  module _ (v : Verdict) (gives : StateGives (Some q) w s v) (fits : Fits w s) where
+    verdict_cause : (p : Process) (right : Right) → AsksVerdict q w s p right → (u : Verdict)
+        → VerdictIn w s (family s p.pid) right u → AnswerCause q w s (verdict_report w s.spaces u).status
+    unfolding YesExactly UndecidedExactly
+    verdict_cause p right asked (No found) is = (p, right, asked, (found, is))
+    verdict_cause p right asked (Yes bounds) is =
+        (p, right, asked, (yes_exactly (each_may w) (permits w.filter) w s (family s p.pid) right (may_within w (family s p.pid)) fits.keeps fits.files asked.standing).0 (bounds, is))
+    verdict_cause p right asked (Undecided blame below) is =
+        (p, right, asked, (undecided_exactly (each_may w) (permits w.filter) w s (family s p.pid) right fits.keeps).0 (blame, below, is))
+
+    -- the answer has its cause
+    pub answer_cause : AnswerCause q w s (answer v w s q).status
+    answer_cause = by comes
+      where
+        by : Comes q w s → AnswerCause q w s (answer v w s q).status
+        by (asks p right asked) =
+            subst (λ (r : Report). AnswerCause q w s r.status) (sym (of_asked v p right asked))
+            (verdict_cause p right asked v (gives p right asked))
+        by (refused r same cause) = subst (λ (x : Report). AnswerCause q w s x.status) (sym (same v)) cause
+
+    -- the status is that of any verdict on what is asked
+    by_verdict : (p : Process) (right : Right) → AsksVerdict q w s p right → (u : Verdict)
+        → VerdictIn w s (family s p.pid) right u → (answer v w s q).status ≡ (verdict_report w s.spaces u).status
+    by_verdict p right asked u is = ap (λ (r : Report). r.status) (answer_is v gives p right asked u is)
+
+    by_bad_query : IsBadQuery q w s → (answer v w s q).status ≡ status.BadQuery
+    by_bad_query (no_process none) = ap (λ (r : Report). r.status) (of_no_process v none)
+    by_bad_query (no_right p found none) = ap (λ (r : Report). r.status) (of_no_right v p found none)
+    by_bad_query (no_space p right named none) =
+        ap (λ (r : Report). r.status)
+        (of_no_space v p right named (is_not s.spaces right (is_over_standing s.spaces right) refl none))
+
+    -- and a cause makes its answer
+    pub answer_by : (st : Status) → AnswerCause q w s st → (answer v w s q).status ≡ st
+    unfolding YesExactly UndecidedExactly
+    answer_by status.Accepted (p, right, asked, excluding) =
+        let there : (bounds : Test) × VerdictIn w s (family s p.pid) right (Yes bounds)
+        = (yes_exactly (each_may w) (permits w.filter) w s (family s p.pid) right (may_within w (family s p.pid)) fits.keeps fits.files asked.standing).1 excluding in
+        by_verdict p right asked (Yes there.0) there.1
+    answer_by status.No (p, right, asked, (found, is)) = by_verdict p right asked (No found) is
+    answer_by status.Undecided (p, right, asked, is) =
+        let there : (blame : Blame) × (below : Test) × VerdictIn w s (family s p.pid) right (Undecided blame below)
+        = (undecided_exactly (each_may w) (permits w.filter) w s (family s p.pid) right fits.keeps).1 is in
+        by_verdict p right asked (Undecided there.0 there.1) there.2
+    answer_by status.BadQuery is = by_bad_query is
+    answer_by status.Limit (p, right, named, standing, over) = ap (λ (r : Report). r.status) (of_large v p right named standing over)
+    answer_by _ never = absurd never

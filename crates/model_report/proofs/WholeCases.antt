@@ -1,54 +1,49 @@
 -- Worked cases of whole commands, by computation: from the words and the bytes of the files to the text.
 use Rattle.std.proofs.Common.{ℕ, List, [], ◌∷◌, refl}
 use Rattle.std.specs.Prelude.{codes}
-use Rattle.cm_base.specs.declared.status.Status.{Status}
 use Rattle.cm_base.specs.declared.status.Status.TheVariants as status
-use Rattle.model_report.proofs.CaseReports.{Says, files, replay_words, audit_words, root_line, user_line, line_of}
-use Rattle.model_report.proofs.CaseReports.{ids_of, of_100, all, none, no_flags, all_sets, sets_of}
+use Rattle.model_report.proofs.CaseReports.{Says, TextReplays, files, no_verdict, root_line, user_line, line_of, ids_of, all_sets}
 use Rattle.model_report.specs.Report.{report}
 use Rattle.model_text.proofs.PrintCases.{print_on_literals}
 use Rattle.model_text.proofs.WorldCases.{world_on_literals}
 
-pub root_gives_up_its_ids : Says
-    (report replay_words (files (codes "log = \"script\"\n[[process]]\npid = 100\nuid = 0\n") (codes "100 setresuid 1000 1000 1000 = 0\n")))
-    status.Accepted
+pub root_gives_up_its_ids : TextReplays (codes "log = \"script\"\n[[process]]\npid = 100\nuid = 0\n")
+    (codes "100 setresuid 1000 1000 1000 = 0\n") status.Accepted
     (root_line ∷ codes "1: 100 setresuid 1000 1000 1000 = 0" ∷ user_line ∷ codes "end 1" ∷ [])
 unfolding print_on_literals world_on_literals
 root_gives_up_its_ids = record { status = refl; text = refl }
 
-pub user_asks_for_root : Says
-    (report replay_words (files (codes "log = \"script\"\n[[process]]\npid = 100\nuid = 1000\n") (codes "100 setresuid 0 0 0 = 0\n")))
-    status.Impossible
+pub user_asks_for_root : TextReplays (codes "log = \"script\"\n[[process]]\npid = 100\nuid = 1000\n")
+    (codes "100 setresuid 0 0 0 = 0\n") status.Impossible
     (user_line ∷ codes "impossible line 1: the rules give EPERM" ∷ [])
 unfolding print_on_literals world_on_literals
 user_asks_for_root = record { status = refl; text = refl }
 
-pub two_processes_by_pid : Says
-    (report replay_words
-    (files (codes "log = \"script\"\n[[process]]\npid = 200\nuid = [0, 0, 7, 0]\n[[process]]\npid = 100\nuid = 1000\n") []))
+pub two_processes_by_pid : TextReplays
+    (codes "log = \"script\"\n[[process]]\npid = 200\nuid = [0, 0, 7, 0]\n[[process]]\npid = 100\nuid = 1000\n") []
     status.Accepted
     (user_line ∷ line_of (codes "200") (codes "init") (ids_of (codes "0,0,7,0")) all_sets ∷ codes "end 0" ∷ [])
 unfolding print_on_literals world_on_literals
 two_processes_by_pid = record { status = refl; text = refl }
 
-pub world_that_is_no_form : Says (report replay_words (files [] (codes "100 setresuid 0 0 0 = 0\n"))) status.BadWorld
+pub world_that_is_no_form : TextReplays [] (codes "100 setresuid 0 0 0 = 0\n") status.BadWorld
     (codes "bad world whole 0: MissingKey" ∷ [])
 unfolding print_on_literals world_on_literals
 world_that_is_no_form = record { status = refl; text = refl }
 
 -- a space without its name, its parent and its owner
-pub space_that_lacks_keys : Says (report replay_words (files (codes "log = \"script\"\n[[space]]\n") [])) status.BadWorld
+pub space_that_lacks_keys : TextReplays (codes "log = \"script\"\n[[space]]\n") [] status.BadWorld
     (codes "bad world space 1: MissingKey" ∷ [])
 unfolding print_on_literals world_on_literals
 space_that_lacks_keys = record { status = refl; text = refl }
 
-pub command_that_is_not_built : Says (report (codes "drill" ∷ codes "7" ∷ []) (files [] [])) status.NotBuilt
+pub command_that_is_not_built : Says (report (codes "drill" ∷ codes "7" ∷ []) (files [] []) no_verdict) status.NotBuilt
     (codes "not built" ∷ [])
 command_that_is_not_built = record { status = refl; text = refl }
 
 -- the words come to the usage text
 abbrev AreNoForm : List (List ℕ) → Type 0
-AreNoForm words = Says (report words (files [] [])) status.Usage
+AreNoForm words = Says (report words (files [] []) no_verdict) status.Usage
     (codes "usage: credaudit replay WORLD LOG" ∷ codes "usage: credaudit audit WORLD LOG PID RIGHT"
     ∷ codes "usage: credaudit check WORLD LOG PID RIGHT CERT" ∷ codes "usage: credaudit confirm WORLD LOG PID RIGHT RUN"
     ∷ codes "usage: credaudit drill N" ∷ [])
@@ -58,45 +53,3 @@ no_words = record { status = refl; text = refl }
 
 pub drill_of_too_many : AreNoForm (codes "drill" ∷ codes "100001" ∷ [])
 drill_of_too_many = record { status = refl; text = refl }
-
--- ---- audits
--- an audit of root's process, whose log is this
-abbrev pub AuditsRoot : List ℕ → List ℕ → List ℕ → Status → List (List ℕ) → Type 0
-AuditsRoot log pid right st lines =
-    Says (report (audit_words pid right) (files (codes "log = \"script\"\n[[process]]\npid = 100\nuid = 0\n") log)) st lines
-
-pub root_that_steps_down_comes_back : AuditsRoot (codes "100 setresuid -1 1000 -1 = 0\n") (codes "100") (codes "uid:7")
-    status.No
-    (root_line ∷ codes "1: 100 setresuid -1 1000 -1 = 0"
-    ∷ of_100 (ids_of (codes "0,1000,0,1000")) (sets_of none all none all none no_flags)
-    ∷ codes "end 1" ∷ codes "no 2" ∷ codes "100 setresuid -1 0 -1 = 0" ∷ codes "100 setresuid -1 7 -1 = 0"
-    ∷ codes "holder 100" ∷ [])
-unfolding print_on_literals world_on_literals
-root_that_steps_down_comes_back = record { status = refl; text = refl }
-
-pub root_that_gives_up_its_ids_does_not : AuditsRoot (codes "100 setresuid 1000 1000 1000 = 0\n") (codes "100")
-    (codes "uid:0") status.Accepted
-    (root_line ∷ codes "1: 100 setresuid 1000 1000 1000 = 0" ∷ user_line ∷ codes "end 1" ∷ codes "yes" ∷ [])
-unfolding print_on_literals world_on_literals
-root_that_gives_up_its_ids_does_not = record { status = refl; text = refl }
-
-pub pid_of_no_process : AuditsRoot [] (codes "101") (codes "uid:0") status.BadQuery
-    (root_line ∷ codes "end 0" ∷ codes "bad query: pid" ∷ [])
-unfolding print_on_literals world_on_literals
-pid_of_no_process = record { status = refl; text = refl }
-
-pub text_of_no_right : AuditsRoot [] (codes "100") (codes "uid:x") status.BadQuery
-    (root_line ∷ codes "end 0" ∷ codes "bad query: right" ∷ [])
-unfolding print_on_literals world_on_literals
-text_of_no_right = record { status = refl; text = refl }
-
--- a name that no space has makes the text no right
-pub capability_over_no_space : AuditsRoot [] (codes "100") (codes "cap:CAP_KILL@child") status.BadQuery
-    (root_line ∷ codes "end 0" ∷ codes "bad query: right" ∷ [])
-unfolding print_on_literals world_on_literals
-capability_over_no_space = record { status = refl; text = refl }
-
-pub capability_is_not_built : AuditsRoot [] (codes "100") (codes "cap:CAP_KILL@#5") status.NotBuilt
-    (root_line ∷ codes "end 0" ∷ codes "not built" ∷ [])
-unfolding print_on_literals world_on_literals
-capability_is_not_built = record { status = refl; text = refl }

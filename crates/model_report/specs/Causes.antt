@@ -1,5 +1,5 @@
 -- Why a command answers what it does, in the words of worlds, events and runs: each status and its cause.
-use Rattle.std.specs.Prelude.{◌≡◌, ◌≤◌, ◌<◌, ◌⊎◌, ℕ, true, false, length, List, [], ◌∷◌, ◌++◌, Some, None}
+use Rattle.std.specs.Prelude.{◌≡◌, ◌≤◌, ◌<◌, ◌⊎◌, ℕ, length, List, [], ◌∷◌, ◌++◌, Some, None}
 use Rattle.cm_base.specs.declared.faults.LineFault.{LineFault}
 use Rattle.cm_base.specs.declared.faults.Table.{Table}
 use Rattle.cm_base.specs.declared.faults.WorldFault.{WorldFault}
@@ -8,18 +8,23 @@ use Rattle.cm_base.specs.declared.limited.Limited.TheVariants as limit
 use Rattle.cm_base.specs.declared.status.Status.{Status}
 use Rattle.cm_base.specs.declared.status.Status.TheVariants as status
 use Rattle.cm_base.specs.Limited.{limit_number}
+use Rattle.cm_filter.specs.Filters.{permits}
+use Rattle.model_box.specs.Meets.{IsOverStanding}
 use Rattle.model_cred.specs.Call.{Event}
 use Rattle.model_cred.specs.Process.{Process, State}
-use Rattle.model_cred.specs.Right.{Right, Uid}
+use Rattle.model_cred.specs.Right.{Right}
 use Rattle.model_cred.specs.World.{World}
+use Rattle.model_run.specs.Family.{family}
 use Rattle.model_run.specs.Step.{Step}
-use Rattle.model_run.specs.RunBack.{are_setresuids, BringsBack, CanComeBack}
 use Rattle.model_report.specs.Command.{Later, NoForm, command_of, files_of, query_of}
 use Rattle.model_report.specs.Query.{Query, asked_process, right_token}
 use Rattle.model_report.specs.Replay.{exceeded, IsWithin}
 use Rattle.model_strace.specs.Logs.{log_reading}
 use Rattle.model_text.specs.Reading.{Placed, Stop, Fault, Limit, End, AtEnd, Stops, Reading, events_of}
-use Rattle.model_text.specs.WorldText.{WorldText, Reads, Bad, Exceeds, world_text, text_says_more}
+use Rattle.model_text.specs.WorldText.{WorldText, Reads, Bad, Exceeds, world_text}
+use Rattle.model_verdict.specs.Decides.{IsFound, IsOpen}
+use Rattle.model_verdict.specs.InWorld.{ExcludedIn, FoundIn, OpenIn}
+use Rattle.model_verdict.specs.Verdict.{Excluding}
 
 -- The words, of a replay or of an audit, name a world, whose text is within its limit and reads so, and this log.
 pub record Names (words : List (List ℕ)) (bytes : List ℕ → List ℕ) (text : WorldText) (log : List ℕ) : Type 0 where
@@ -96,59 +101,63 @@ abbrev pub IsLongLog : List (List ℕ) → (List ℕ → List ℕ) → Type 0
 IsLongLog words bytes =
     (w : World) × (log : List ℕ) × Names words bytes (Reads w) log × (limit_number limit.Log < length (bytes log))
 
--- The world or the log is too long; the world's text exceeds a limit; so does the log's, after a run; or a step of it would.
+-- ---- what an audit asks, in the state after an accepted log
+-- the query's pid is that of a live process, and its right is a right
+pub record Asks (q : Query) (w : World) (s : State) (p : Process) (right : Right) : Type 0 where
+  pub process : asked_process s q.pid ≡ Some p
+  pub asked : right_token w.names q.right ≡ Some right
+
+-- The query asks for a verdict: on a right of the family of a live process, the space that the right names stands, and
+-- the family isn't too large.
+pub record AsksVerdict (q : Query) (w : World) (s : State) (p : Process) (right : Right) : Type 0 where
+  pub asks : Asks q w s p right
+  pub standing : IsOverStanding s.spaces right
+  pub size : length (family s p.pid) ≤ limit_number limit.Family
+
+-- Yes: some bounds that are closed, and cover the family, exclude the right.
+abbrev pub IsYes : Query → World → State → Type 0
+IsYes q w s =
+    (p : Process) × (right : Right) × AsksVerdict q w s p right
+    × ExcludedIn w s (family s p.pid) right
+
+-- No: some plan of the list ends with a member of the family that holds the right.
+abbrev pub IsNo : Query → World → State → Type 0
+IsNo q w s =
+    (p : Process) × (right : Right) × AsksVerdict q w s p right
+    × FoundIn w s (family s p.pid) right
+
+-- Undecided: all bounds that are closed and cover the family meet the right, and no plan of the list ends so.
+abbrev pub IsUndecided : Query → World → State → Type 0
+IsUndecided q w s =
+    (p : Process) × (right : Right) × AsksVerdict q w s p right × OpenIn w s (family s p.pid) right
+
+-- A bad query: its pid is that of no live process; or else its right is none; or else the right's space doesn't stand.
+pub data IsBadQuery (q : Query) (w : World) (s : State) : Type 0 where
+  no_process : asked_process s q.pid ≡ None → IsBadQuery q w s
+  no_right : (p : Process) → asked_process s q.pid ≡ Some p → right_token w.names q.right ≡ None → IsBadQuery q w s
+  no_space : (p : Process) (right : Right) → Asks q w s p right → (IsOverStanding s.spaces right → ⊥) → IsBadQuery q w s
+
+-- Too large: the query is good, and the family of its process has more members than the limit.
+abbrev pub IsLarge : Query → World → State → Type 0
+IsLarge q w s =
+    (p : Process) × (right : Right) × Asks q w s p right × IsOverStanding s.spaces right
+    × (limit_number limit.Family < length (family s p.pid))
+
+-- The words ask a query, and this holds of it in the world and in the state after the accepted log.
+abbrev pub AfterLog : List (List ℕ) → (List ℕ → List ℕ) → (Query → World → State → Type 0) → Type 0
+AfterLog words bytes Holds =
+    (is : IsAccepted words bytes) × (q : Query) × (query_of (command_of words) ≡ Some q) × Holds q is.world is.state
+
+-- ---- limits
+-- The world or the log is too long; the world's text exceeds a limit; so does the log's, after a run; or a step of it
+-- would; or the family that an audit asks about is too large.
 pub data IsLimited (words : List (List ℕ)) (bytes : List ℕ → List ℕ) : Type 0 where
   by_world : IsLongWorld words bytes → IsLimited words bytes
   by_log : IsLongLog words bytes → IsLimited words bytes
   by_row : (l : Limited) (log : List ℕ) → Names words bytes (Exceeds l) log → IsLimited words bytes
   by_line : (l : Limited) → IsStopped words bytes (Limit l) → IsLimited words bytes
   by_step : (l : Limited) → IsCrowded words bytes l → IsLimited words bytes
-
--- ---- the answer to an audit, in the state after an accepted log
--- the query's pid is that of a live process, and its right is a right
-pub record Asks (q : Query) (w : World) (s : State) (p : Process) (right : Right) : Type 0 where
-  pub process : asked_process s q.pid ≡ Some p
-  pub asked : right_token w.names q.right ≡ Some right
-
--- The weak audit knows the world and the log: the world's text says no more of a process than its pid and its user ids,
--- and each event is a call of setresuid.
-pub record IsKnown (words : List (List ℕ)) (bytes : List ℕ → List ℕ) (is : IsAccepted words bytes) : Type 0 where
-  pub world : text_says_more (bytes is.comes.begins.names.world) ≡ false
-  pub events : are_setresuids (events_of is.comes.events) ≡ true
-
--- it doesn't: the world's text says more, or an event is another call
-abbrev pub HasMore : (words : List (List ℕ)) (bytes : List ℕ → List ℕ) → IsAccepted words bytes → Type 0
-HasMore words bytes is = (text_says_more (bytes is.comes.begins.names.world) ≡ true) ⊎ (are_setresuids (events_of is.comes.events) ≡ false)
-
--- one process lives, the query asks for a user id of it, and the weak audit knows the world and the log
-pub record AsksAlone (words : List (List ℕ)) (bytes : List ℕ → List ℕ) (is : IsAccepted words bytes) (q : Query) (p : Process) (k : ℕ) : Type 0 where
-  pub asks : Asks q is.world is.state p (Uid k)
-  pub alone : length is.state.processes ≡ 1
-  pub known : IsKnown words bytes is
-
--- Yes: no list of later setresuid calls of the process, of any length, ends where it holds the user id.
-abbrev pub IsYes : (words : List (List ℕ)) (bytes : List ℕ → List ℕ) → IsAccepted words bytes → Query → Type 0
-IsYes words bytes is q = (p : Process) × (k : ℕ) × AsksAlone words bytes is q p k × ((run : List Event) → ¬ BringsBack is.world is.state p.pid k run)
-
--- No: some such list does.
-abbrev pub IsNo : (words : List (List ℕ)) (bytes : List ℕ → List ℕ) → IsAccepted words bytes → Query → Type 0
-IsNo words bytes is q = (p : Process) × (k : ℕ) × AsksAlone words bytes is q p k × CanComeBack is.world is.state p.pid k
-
--- A bad query: its pid is that of no live process; or its right is none.
-abbrev pub IsBadQuery : (words : List (List ℕ)) (bytes : List ℕ → List ℕ) → IsAccepted words bytes → Query → Type 0
-IsBadQuery words bytes is q =
-    (asked_process is.state q.pid ≡ None) ⊎ ((p : Process) × (asked_process is.state q.pid ≡ Some p) × (right_token is.world.names q.right ≡ None))
-
--- Beyond what is built: a right other than a user id, or several processes, or more than the weak audit knows.
-abbrev pub IsBeyond : (words : List (List ℕ)) (bytes : List ℕ → List ℕ) → IsAccepted words bytes → Query → Type 0
-IsBeyond words bytes is q =
-    (p : Process) × (right : Right) × Asks q is.world is.state p right
-    × (((k : ℕ) → ¬ (right ≡ Uid k)) ⊎ (1 < length is.state.processes) ⊎ HasMore words bytes is)
-
--- The words ask a query, and after the accepted log this holds of it.
-abbrev pub AfterLog : (words : List (List ℕ)) (bytes : List ℕ → List ℕ)
-    → ((words : List (List ℕ)) (bytes : List ℕ → List ℕ) → IsAccepted words bytes → Query → Type 0) → Type 0
-AfterLog words bytes Answer = (is : IsAccepted words bytes) × (q : Query) × (query_of (command_of words) ≡ Some q) × Answer words bytes is q
+  by_family : AfterLog words bytes IsLarge → IsLimited words bytes
 
 -- ---- the causes
 -- Not built are the other commands.
@@ -159,6 +168,7 @@ IsUnbuilt words = command_of words ≡ Later
 abbrev pub Cause : List (List ℕ) → (List ℕ → List ℕ) → Status → Type 0
 Cause words bytes status.Accepted = ((query_of (command_of words) ≡ None) × IsAccepted words bytes) ⊎ AfterLog words bytes IsYes
 Cause words bytes status.No = AfterLog words bytes IsNo
+Cause words bytes status.Undecided = AfterLog words bytes IsUndecided
 Cause words bytes status.Impossible = IsImpossible words bytes
 Cause words bytes status.BadWorld =
     (table : Table) × (row : ℕ) × (why : WorldFault) × (log : List ℕ) × Names words bytes (Bad table row why) log
@@ -166,5 +176,5 @@ Cause words bytes status.BadLog = (number : ℕ) × (why : LineFault) × IsStopp
 Cause words bytes status.Usage = command_of words ≡ NoForm
 Cause words bytes status.Limit = IsLimited words bytes
 Cause words bytes status.BadQuery = AfterLog words bytes IsBadQuery
-Cause words bytes status.NotBuilt = IsUnbuilt words ⊎ AfterLog words bytes IsBeyond
+Cause words bytes status.NotBuilt = IsUnbuilt words
 Cause words bytes _ = ⊥

@@ -10,4 +10,3 @@ pub mod FileCases
 pub mod FamilyCases
 pub mod ImpossibleCases
 pub mod OutsideCases
-pub mod RunsBack

@@ -6,4 +6,4 @@ pub mod Step
 pub mod Family
 pub mod Later
 pub mod Holds
-pub mod RunBack
+pub mod Never

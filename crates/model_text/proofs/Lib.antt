@@ -1,7 +1,6 @@
 pub mod Defaults
 pub mod Rows
 pub mod Starts
-pub mod Plain
 pub mod Tokens
 pub mod Found
 pub mod DecimalTexts

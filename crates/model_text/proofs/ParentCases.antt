@@ -6,7 +6,7 @@ use Rattle.model_cred.specs.Process.{Process}
 use Rattle.cm_base.specs.declared.faults.WorldFault.TheVariants as fault
 use Rattle.model_text.proofs.ProcessCases.{of_row, AreBad, SecondBad, user, root}
 use Rattle.model_text.proofs.WorldCases.{world_on_literals, world_with}
-use Rattle.model_text.specs.WorldText.{Reads, world_text, text_says_more}
+use Rattle.model_text.specs.WorldText.{Reads, world_text}
 
 -- a process with that forebear and credential
 abbrev pub of_forebear : ℕ → Option ℕ → Credential → Process
@@ -78,8 +78,3 @@ parents_of_another_type = refl
 pub one_pid_twice : SecondBad fault.TwiceNamed (codes "[[process]]\npid = 100\nparent = 7\n" ∷ codes "[[process]]\npid = 100\nspace = \"a\"\n" ∷ [])
 unfolding world_on_literals
 one_pid_twice = refl
-
-pub a_parent_says_more : map (λ rest. text_says_more (of_row rest)) (codes "[[process]]\npid = 101\nparent = 100\n"
-    ∷ codes "parent = 100\n" ∷ []) ≡ true ∷ true ∷ []
-unfolding world_on_literals
-a_parent_says_more = refl

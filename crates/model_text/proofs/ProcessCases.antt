@@ -8,7 +8,7 @@ use Rattle.cm_base.specs.declared.faults.WorldFault.{WorldFault}
 use Rattle.cm_base.specs.declared.faults.WorldFault.TheVariants as fault
 use Rattle.model_text.proofs.SpaceCases.{of_space, plain}
 use Rattle.model_text.proofs.WorldCases.{world_on_literals, world_with}
-use Rattle.model_text.specs.WorldText.{Reads, Bad, world_text, text_says_more}
+use Rattle.model_text.specs.WorldText.{Reads, Bad, world_text}
 
 -- the world of process 100, whose row goes on with this text
 abbrev pub of_row : List ℕ → List ℕ
@@ -264,27 +264,3 @@ pub least_faults : map (λ rest. world_text (of_row rest))
     (fault.UnknownKey ∷ fault.WrongType ∷ fault.BadNumber ∷ fault.NoSuchParent ∷ fault.NoSuchSpace ∷ fault.BadCaps ∷ [])
 unfolding world_on_literals
 least_faults = refl
-
--- ---- whether more is said than pids and user ids
-pub each_further_key_says_more : map (λ rest. text_says_more (of_row rest))
-    (codes "parent = 1\n" ∷ codes "space = \"init\"\n" ∷ codes "gid = 0\n"
-    ∷ codes "groups = []\n" ∷ codes "permitted = \"all\"\n" ∷ codes "effective = \"all\"\n"
-    ∷ codes "inheritable = \"none\"\n" ∷ codes "ambient = \"none\"\n" ∷ codes "bounding = \"all\"\n" ∷ codes "securebits = 0\n"
-    ∷ codes "no_new_privs = false\n" ∷ [])
-    ≡ true ∷ true ∷ true ∷ true ∷ true ∷ true ∷ true ∷ true ∷ true ∷ true ∷ true ∷ []
-unfolding world_on_literals
-each_further_key_says_more = refl
-
-pub user_ids_say_no_more : map (λ rest. text_says_more (of_row rest)) ([] ∷ codes "uid = 1000\n"
-    ∷ codes "uid = [0, 0, 7, 0]\n[[process]]\npid = 101\n" ∷ []) ≡ false ∷ false ∷ false ∷ []
-unfolding world_on_literals
-user_ids_say_no_more = refl
-
-pub a_later_row_says_more : text_says_more (of_row (codes "uid = 1000\n[[process]]\npid = 101\n[[process]]\npid = 102\ngid = 0\n")) ≡ true
-unfolding world_on_literals
-a_later_row_says_more = refl
-
-pub each_further_table_says_more : map (λ rest. text_says_more (of_row rest))
-    (codes "[[space]]\n" ∷ codes "[[mount]]\n" ∷ codes "[[file]]\n" ∷ codes "[filter]\n" ∷ []) ≡ true ∷ true ∷ true ∷ true ∷ []
-unfolding world_on_literals
-each_further_table_says_more = refl

@@ -16,10 +16,12 @@ use Rattle.model_text.specs.Refusal.{Cause, Fault, Limit, first_standing, unless
 use Rattle.model_text.specs.Toml.{count, flag_of, array_items, number_from, number_of, number_or, text_of}
 use Rattle.toml.specs.Data.{Data, array, Items, no_items, item, Members, get_member}
 
--- the keys of a process that say more of it than its pid and its user ids
-abbrev pub further_process_keys : List Key
-further_process_keys =
-    key (codes "parent") a_pid Optional
+-- the keys of a process
+abbrev pub process_keys : List Key
+process_keys =
+    key (codes "pid") a_pid Required
+    ∷ key (codes "uid") Ids Optional
+    ∷ key (codes "parent") a_pid Optional
     ∷ key (codes "space") Text Optional
     ∷ key (codes "gid") Ids Optional
     ∷ key (codes "groups") Groups Optional
@@ -30,10 +32,6 @@ further_process_keys =
     ∷ key (codes "bounding") Text Optional
     ∷ key (codes "securebits") (Number 0 255) Optional
     ∷ key (codes "no_new_privs") Flag Optional ∷ []
-
--- the keys of a process
-abbrev pub process_keys : List Key
-process_keys = key (codes "pid") a_pid Required ∷ key (codes "uid") Ids Optional ∷ further_process_keys
 
 -- ---- ids
 -- an id, 0 for a value that is none

@@ -10,10 +10,6 @@ use Rattle.toml.specs.Data.{Data, string, integer, boolean, array, table, Items,
 abbrev pub has_key : List ℕ → Members → Bool
 has_key key members = is_some (get_member key members)
 
--- the table has one of the keys
-abbrev pub has_key_of : List (List ℕ) → Members → Bool
-has_key_of keys members = list_any (λ key. has_key key members) keys
-
 -- each key of the table is one of these
 abbrev pub has_only : List (List ℕ) → Members → Bool
 has_only keys no_members = true

@@ -1,6 +1,6 @@
 -- The world that a TOML text declares, or why it declares none (choice). The tables are looked at in this order: the whole
 -- table, spaces, mounts, files, processes, the filter; the first refusal is told.
-use Rattle.std.specs.Prelude.{ℕ, codes, ◌&&◌, ◌||◌, Bool, false, map, List, [], ◌∷◌, Option, None, Some, Result, Ok, Err, if◌then◌else◌}
+use Rattle.std.specs.Prelude.{ℕ, codes, List, [], ◌∷◌, Option, None, Some, Result, Ok, Err, if◌then◌else◌}
 use Rattle.std.specs.Str.{is_utf8}
 use Rattle.cm_base.specs.declared.faults.Table.{Table}
 use Rattle.cm_base.specs.declared.faults.Table.TheVariants as table
@@ -13,12 +13,11 @@ use Rattle.model_text.specs.FileText.{file_row}
 use Rattle.model_text.specs.FilterText.{filter_row}
 use Rattle.model_text.specs.Keys.{Key, key, Word, Rows, Section, Required, Optional, shape_checks}
 use Rattle.model_text.specs.MountText.{mount_row, root_alone}
-use Rattle.model_text.specs.ProcessText.{further_process_keys, process_row}
+use Rattle.model_text.specs.ProcessText.{process_row}
 use Rattle.model_text.specs.Refusal.{Refusal, At, Past, first_standing, in_row, read_rows, then_read, unless}
 use Rattle.model_text.specs.SpaceText.{none_declared, space_row}
-use Rattle.model_text.specs.Toml.{has_key_of, is_text, array_items, table_of}
-use Rattle.toml.specs.Data.{Data, Items, no_items, item, Members, get_member}
-use Rattle.toml.specs.Data as toml
+use Rattle.model_text.specs.Toml.{is_text, array_items, table_of}
+use Rattle.toml.specs.Data.{Items, Members, get_member}
 use Rattle.toml.specs.Parse.{parse_document}
 
 -- A world; the fault of a row of a table, rows counted from 1 (the whole table and the filter are row 0); a limit.
@@ -80,34 +79,3 @@ text_as (Err (Past limit)) = Exceeds limit
 -- the text of a world
 abbrev pub world_text : List ℕ → WorldText
 world_text bytes = text_as (read_text bytes)
-
--- ---- what the weak audit doesn't know
--- the row has one of the keys
-abbrev pub row_has : List (List ℕ) → Data → Bool
-row_has keys (toml.table members) = has_key_of keys members
-row_has keys _ = false
-
--- one of the rows has
-abbrev pub some_row_has : List (List ℕ) → Items → Bool
-some_row_has keys no_items = false
-some_row_has keys (item row rows) = row_has keys row || some_row_has keys rows
-
--- the tables that say more than processes
-abbrev pub further_tables : List (List ℕ)
-further_tables = codes "space" ∷ codes "mount" ∷ codes "file" ∷ codes "filter" ∷ []
-
--- the keys of a process that say more than its pid and its user ids
-abbrev pub further_keys : List (List ℕ)
-further_keys = map (λ k. k.name) further_process_keys
-
--- the whole table says more than the pids and the user ids of processes
-abbrev pub says_more : Members → Bool
-says_more top = has_key_of further_tables top || some_row_has further_keys (rows_at (codes "process") top)
-
-abbrev pub document_says_more : Option Members → Bool
-document_says_more None = false
-document_says_more (Some top) = says_more top
-
--- the text of a world does
-abbrev pub text_says_more : List ℕ → Bool
-text_says_more bytes = is_utf8 bytes && document_says_more (parse_document bytes)

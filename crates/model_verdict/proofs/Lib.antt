@@ -23,5 +23,6 @@ pub mod RowMeanings
 pub mod Cases
 pub mod BlameCase
 pub mod Verdicts
+pub mod InWorlds
 pub mod MapsStay
 pub mod BlamedRules

@@ -8,5 +8,6 @@ pub mod Back
 pub mod Settled
 pub mod Decides
 pub mod Verdict
+pub mod InWorld
 pub mod Alike
 pub mod More

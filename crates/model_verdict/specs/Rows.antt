@@ -1,9 +1,11 @@
 -- Rows by what they hold. A row has one way to be written.
 use Rattle.std.specs.Prelude.{◌≡◌, ◌↔◌, ℕ, List, length, All}
 use Rattle.model_cred.specs.Intervals.{IsCanonical}
+use Rattle.model_cred.specs.Space.{Spaces}
 use Rattle.model_box.specs.Bounds.{BoxRow, bounds_hold}
 use Rattle.model_box.specs.Laws.{tested}
 use Rattle.model_box.specs.Row.{Part, Row}
+use Rattle.model_verdict.specs.Sweep.{row_count}
 
 -- Each set of ids of the row is written in the one way.
 pub record IsRow (row : BoxRow) : Type 0 where
@@ -16,6 +18,11 @@ pub record IsRow (row : BoxRow) : Type 0 where
   pub groups : IsCanonical row.groups
   pub mapped_uids : IsCanonical row.mapped_uids
   pub mapped_gids : IsCanonical row.mapped_gids
+
+-- Rows of bounds: two of each space, each set of ids written in the one way.
+pub record AreBounds (spaces : Spaces) (rows : List BoxRow) : Type 0 where
+  pub count : length rows ≡ row_count spaces
+  pub written : All IsRow rows
 
 -- the two lists of rows hold the same
 abbrev pub HoldSame : List BoxRow → List BoxRow → Type 0

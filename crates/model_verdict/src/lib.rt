@@ -4,6 +4,7 @@
 
 mod alike;
 mod blame;
+mod in_world;
 mod least;
 mod more;
 mod rows;
@@ -17,6 +18,7 @@ pub use blame::{
     blame_is_within_closed_covering_bounds, blame_shows_before_and_after_its_turn,
     eight_rules_can_be_blamed,
 };
+pub use in_world::{blame_brings_the_right, no_is_the_first_run};
 pub use least::{
     least_bounds_are_one, least_bounds_are_within_lists, least_bounds_exist,
     least_bounds_meet_if_all_do,
