@@ -11,6 +11,7 @@ mod closedness;
 mod covers;
 mod joins;
 mod maps;
+mod names;
 mod place;
 mod rights;
 mod rules;

@@ -15,6 +15,6 @@ pub use extents::extents_at;
 pub use key::{Key, Kind, Need};
 pub use kinds::LAST_ID;
 pub use values::{
-    flag_at, has_key, has_key_of, is_text_at, items_at, number_at, number_from, number_or, text_at,
-    text_or, value_at,
+    flag_at, has_key, is_text_at, items_at, number_at, number_from, number_or, text_at, text_or,
+    value_at,
 };

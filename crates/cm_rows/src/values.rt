@@ -3,7 +3,7 @@
 ghost use Rattle.std.specs.Prelude.{◌≡◌, map, option_map, IfSome, ◌≤◌, ◌<◌, unwrap_or};
 ghost use Rattle.toml.specs.Data.{get_member};
 ghost use Rattle.toml.specs.View.{view, table_view, items_view};
-ghost use Rattle.model_text.specs.Toml.{array_items, flag_of, has_key, has_key_of, is_text, number_from, number_of, text_of, text_or, number_or};
+ghost use Rattle.model_text.specs.Toml.{array_items, flag_of, has_key, is_text, number_from, number_of, text_of, text_or, number_or};
 
 use toml::{Table, Value};
 
@@ -19,18 +19,6 @@ pub fn has_key(table: &Table, key: &str) -> bool
     ensures { result ≡ has_key key.now (table_view table.now) }
 {
     value_at(table, key).is_some()
-}
-
-/// The table has one of the keys.
-pub fn has_key_of(table: &Table, keys: &[&str]) -> bool
-    ensures { result ≡ has_key_of (map (λ key. key.now) keys.now) (table_view table.now) }
-{
-    for key in keys {
-        if has_key(table, key) {
-            return true;
-        }
-    }
-    false
 }
 
 /// The text at the key, if there is one.

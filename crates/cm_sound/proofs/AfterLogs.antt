@@ -4,7 +4,7 @@ use Rattle.cm_sound.proofs.Never.{never_held}
 use Rattle.cm_sound.specs.Never.{MountsStand}
 use Rattle.cm_sound.specs.Laws.{FitAfterLog, MountsStandAfterLog, FewAtStart, NeverHeldAfterLog}
 use Rattle.model_box.proofs.Excludes.{fits_starts}
-use Rattle.model_box.proofs.Grows.{step_grows}
+use Rattle.model_box.proofs.Grows.{run_grows}
 use Rattle.model_box.proofs.Worlds.{run_fits, state_fits}
 use Rattle.model_cred.specs.Call.{Event}
 use Rattle.model_cred.specs.Process.{State, KeepsState}
@@ -22,12 +22,6 @@ fit_after_log text w reads log s run =
     let keeps : KeepsWorld w = start_keeps text w reads in
     let state : KeepsState s = world_run_keeps w log s keeps run in
     record { state = fits_starts s (state_fits s state); files = run_fits w keeps log s run }
-
--- A run takes no space away.
-run_grows : (w : World) (s : State) (log : List Event) (s' : State) → Run w s log s'
-    → length s.spaces ≤ length s'.spaces
-run_grows w s [] s' same = rw same (omega arith)
-run_grows w s (e ∷ es) s' (mid, step, rest) = omega (arith, step_grows w s e mid step, run_grows w mid es s' rest)
 
 -- So it is at the log's begin.
 pub mounts_at_start : (text : List ℕ) (w : World) (s : State) → world_text text ≡ Reads w → s ≡ w.start → MountsStand w s

@@ -10,9 +10,9 @@ ghost use Rattle.cm_world.specs.World.{world_of};
 ghost use Rattle.model_box.specs.Meets.{IsOverStanding};
 
 use crate::Checked;
-use crate::seeing::see_files;
 use cm_base::Pid;
 use cm_box::{Bounds, closed, covers_start, meets};
+use cm_files::see_files;
 use cm_machine::Machine;
 use cm_state::{Right, see_state};
 use cm_world::World;

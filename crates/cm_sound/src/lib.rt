@@ -6,7 +6,6 @@
 mod checked;
 mod judging;
 mod laws;
-mod seeing;
 
 pub use checked::Checked;
 pub use judging::check;

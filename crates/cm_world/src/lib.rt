@@ -4,7 +4,6 @@
 #![tactic(auto)]
 
 mod laws;
-mod more;
 mod reading;
 mod tables;
 mod world;

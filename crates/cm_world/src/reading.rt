@@ -6,7 +6,7 @@ ghost use Rattle.cm_base.specs.declared.limited.Limited.{Limited};
 ghost use Rattle.cm_world.specs.Answers.{IsAnswer};
 ghost use Rattle.cm_world.specs.World.{world_of};
 ghost use Rattle.cm_tables.specs.declared.error.WorldError.TheVariants as error;
-ghost use Rattle.model_text.specs.WorldText.{Reads, Bad, Exceeds, read_text, world_text, document_world, document_says_more, text_says_more};
+ghost use Rattle.model_text.specs.WorldText.{Reads, Bad, Exceeds, read_text, world_text, document_world};
 ghost use Rattle.toml.specs.Parse.{parse_document};
 
 use crate::tables::read_table;
@@ -20,7 +20,6 @@ use std::alloc::Global;
 /// past its limit. `NoMemory` may come with any text.
 pub fn read_world(alloc: Global, text: &[u8]) -> Result<World, WorldError>
     ensures read { IfOk result (λ w. world_text text.now ≡ Reads (world_of w)) }
-    ensures more { IfOk result (λ w. w.more ≡ text_says_more text.now) }
     ensures bad { (table : TableName) (row : ℕ) (why : WorldFault) → result ≡ Err (error.Bad table row why) → world_text text.now ≡ Bad table row why }
     ensures limit { (l : Limited) → result ≡ Err (error.Limit l) → world_text text.now ≡ Exceeds l }
 {
@@ -29,8 +28,7 @@ pub fn read_world(alloc: Global, text: &[u8]) -> Result<World, WorldError>
 
 /// The same, by the definition's result.
 fn read_bytes(alloc: Global, text: &[u8]) -> Result<World, WorldError>
-    ensures answer { IsAnswer result (read_text text.now) }
-    ensures more { IfOk result (λ w. w.more ≡ text_says_more text.now) }
+    ensures { IsAnswer result (read_text text.now) }
 {
     match std::str::from_utf8(text) {
         Ok(text) => read_document(alloc, text),
@@ -40,8 +38,7 @@ fn read_bytes(alloc: Global, text: &[u8]) -> Result<World, WorldError>
 
 /// The world of a text that is UTF-8.
 fn read_document(alloc: Global, text: &str) -> Result<World, WorldError>
-    ensures answer { IsAnswer result (document_world (parse_document text.now)) }
-    ensures more { IfOk result (λ w. w.more ≡ document_says_more (parse_document text.now)) }
+    ensures { IsAnswer result (document_world (parse_document text.now)) }
 {
     match toml::table_from_str(alloc, text) {
         Ok(table) => read_table(alloc, &table),

@@ -1,6 +1,6 @@
 // The tables of a world's text, one after another, up to the first refusal: the whole table, spaces, mounts, files,
 // processes, the filter.
-ghost use Rattle.std.specs.Prelude.{◌≡◌, ◌<◌, All, IfOk, codes, length, option_map};
+ghost use Rattle.std.specs.Prelude.{◌≡◌, ◌<◌, All, codes, length, option_map};
 ghost use Rattle.cm_rows.specs.Keys.{keys_of};
 ghost use Rattle.cm_tables.specs.Answers.{Answers};
 ghost use Rattle.cm_world.specs.Answers.{IsAnswer};
@@ -10,7 +10,6 @@ ghost use Rattle.model_cred.specs.Process.{Ascends};
 ghost use Rattle.model_text.specs.WorldText as model;
 ghost use Rattle.toml.specs.View.{table_view};
 
-use crate::more::says_more;
 use crate::{LogForm, World, WorldError};
 use cm_base::Table as TableName;
 use cm_files::FileTable;
@@ -41,8 +40,7 @@ fn whole_keys() -> &'static [Key]
 
 /// The world of a text's whole table.
 pub(crate) fn read_table(alloc: Global, top: &Table) -> Result<World, WorldError>
-    ensures answer { IsAnswer result (model.table_world (table_view top.now)) }
-    ensures more { IfOk result (λ w. w.more ≡ model.says_more (table_view top.now)) }
+    ensures { IsAnswer result (model.table_world (table_view top.now)) }
 {
     match shape_fault(top, whole_keys()) {
         None => read_spaces_first(alloc, top),
@@ -56,8 +54,7 @@ pub(crate) fn read_table(alloc: Global, top: &Table) -> Result<World, WorldError
 
 // The world of a whole table without a fault of its own.
 fn read_spaces_first(alloc: Global, top: &Table) -> Result<World, WorldError>
-    ensures answer { IsAnswer result (after_whole (table_view top.now)) }
-    ensures more { IfOk result (λ w. w.more ≡ model.says_more (table_view top.now)) }
+    ensures { IsAnswer result (after_whole (table_view top.now)) }
 {
     match read_spaces(alloc, items_at(top, "space")) {
         Ok(declared) => read_mounts_next(alloc, top, declared),
@@ -67,8 +64,7 @@ fn read_spaces_first(alloc: Global, top: &Table) -> Result<World, WorldError>
 
 // The same after the spaces.
 fn read_mounts_next(alloc: Global, top: &Table, declared: Declared) -> Result<World, WorldError>
-    ensures answer { IsAnswer result (after_spaces (table_view top.now) declared) }
-    ensures more { IfOk result (λ w. w.more ≡ model.says_more (table_view top.now)) }
+    ensures { IsAnswer result (after_spaces (table_view top.now) declared) }
 {
     match read_mounts(alloc, &declared.names, items_at(top, "mount")) {
         Ok(mounts) => read_files_next(alloc, top, declared, mounts),
@@ -83,8 +79,7 @@ fn read_files_next(
     declared: Declared,
     mounts: Mounts,
 ) -> Result<World, WorldError>
-    ensures answer { IsAnswer result (after_mounts (table_view top.now) declared mounts) }
-    ensures more { IfOk result (λ w. w.more ≡ model.says_more (table_view top.now)) }
+    ensures { IsAnswer result (after_mounts (table_view top.now) declared mounts) }
 {
     match read_files(alloc, mounts, items_at(top, "file")) {
         Ok(files) => read_processes_next(alloc, top, declared, files),
@@ -99,8 +94,7 @@ fn read_processes_next(
     declared: Declared,
     files: FileTable,
 ) -> Result<World, WorldError>
-    ensures answer { IsAnswer result (after_files (table_view top.now) declared files) }
-    ensures more { IfOk result (λ w. w.more ≡ model.says_more (table_view top.now)) }
+    ensures { IsAnswer result (after_files (table_view top.now) declared files) }
 {
     match read_processes(alloc, &declared, items_at(top, "process")) {
         Ok(procs) => read_filter_last(alloc, top, declared, files, procs),
@@ -118,8 +112,7 @@ fn read_filter_last(
 ) -> Result<World, WorldError>
     requires ordered { Ascends procs }
     requires stands { All (λ p. p.space < length declared.spaces) procs }
-    ensures answer { IsAnswer result (after_processes (table_view top.now) declared files procs) }
-    ensures more { IfOk result (λ w. w.more ≡ model.says_more (table_view top.now)) }
+    ensures { IsAnswer result (after_processes (table_view top.now) declared files procs) }
 {
     match read_filter(alloc, value_at(top, "filter")) {
         Ok(filter) => Ok(world_with(top, declared, files, procs, filter)),
@@ -137,8 +130,7 @@ fn world_with(
 ) -> World
     requires ordered { Ascends procs }
     requires stands { All (λ p. p.space < length declared.spaces) procs }
-    ensures world { world_of result ≡ world_made (table_view top.now) declared files procs filter }
-    ensures more { result.more ≡ model.says_more (table_view top.now) }
+    ensures { world_of result ≡ world_made (table_view top.now) declared files procs filter }
 {
     let Declared { names, spaces } = declared;
     World {
@@ -147,7 +139,6 @@ fn world_with(
         files,
         filter,
         form: form_of_table(top),
-        more: says_more(top),
     }
 }
 

@@ -12,7 +12,7 @@ process = [{ pid = 7, space = 'a' }]
 #[test]
 fn a_world_is_read(rt: HostRuntime) -> Result<(), Fail> {
     let w = read_world(rt.alloc(), TEXT).expect(&rt, "a world");
-    assert!(rt; w.form == LogForm::Strace && w.more);
+    assert!(rt; w.form == LogForm::Strace);
     assert!(rt; w.names.space(b"a") == Some(SpaceId(1)));
     assert!(rt; w.names.name(SpaceId(1)) == Some("a"));
     assert!(rt; w.files.rows().len() == 1 && w.start.procs.items().len() == 1);

@@ -26,7 +26,4 @@ pub struct World {
     pub filter: Filter,
     /// The form of the log.
     pub form: LogForm,
-    /// The text says more than the pids and the user ids of processes. This is for the audit, which so far knows no more
-    /// of a world than these; the field goes once it does.
-    pub more: bool,
 }
