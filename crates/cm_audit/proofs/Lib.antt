@@ -1,3 +1,3 @@
--- Lemmas of this crate, by topic.
-pub mod RunsBack
-pub mod GroupText
+-- What a verdict says, clause by clause; and that it rests on the family alone.
+pub mod Clauses
+pub mod Isolated

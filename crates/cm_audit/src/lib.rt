@@ -1,11 +1,13 @@
-//! The audit: whether a process can come back to a right that it gave up; and the credential line of a process, as text.
-//! Built so far is the weak audit of one process alone, which asks for a user id and knows one call, setresuid(2).
+//! The audit: the verdict on a right of a family. No, with a run after which a member holds it; yes, with the least bounds,
+//! which exclude it; or undecided, with what brings the right into the bounds. What each says of all later runs is a clause
+//! of `audit`. And the credential line of a process, as text.
 #![tactic(auto)]
 
-mod credential_line;
-#[cfg(test)]
-mod tests;
-mod weak;
+mod auditing;
+mod laws;
+mod verdict;
 
-pub use credential_line::{credentials, put_credentials};
-pub use weak::audit_uid;
+pub use auditing::audit;
+pub use cm_credentials::{credentials, put_credentials};
+pub use laws::audits_rest_on_the_family_alone;
+pub use verdict::{AuditRefusal, Verdict};

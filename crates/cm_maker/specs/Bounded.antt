@@ -1,5 +1,5 @@
 -- What bounds say of a right.
-use Rattle.std.specs.Prelude.{ℕ, Bool, List, All}
+use Rattle.std.specs.Prelude.{ℕ, Bool, List}
 use Rattle.cm_filter.specs.declared.kind.CallKind.{CallKind}
 use Rattle.cm_maker.specs.Sweeping.{blame_told}
 use Rattle.cm_maker.specs.declared.deciding.Bounded.{Bounded}
@@ -10,9 +10,10 @@ use Rattle.model_box.specs.Meets.{Meets}
 use Rattle.model_cred.specs.Files.{FileTable}
 use Rattle.model_cred.specs.Process.{State}
 use Rattle.model_cred.specs.Right.{Right}
+use Rattle.model_cred.specs.Space.{Spaces}
 use Rattle.model_verdict.specs.Blame.{IsBlame}
 use Rattle.model_verdict.specs.Least.{IsLeast, AllMeet}
-use Rattle.model_verdict.specs.Rows.{IsRow}
+use Rattle.model_verdict.specs.Rows.{AreBounds}
 
 -- The least bounds, which don't meet the right; or all closed covering bounds meet it, and this is blamed.
 abbrev pub IsBounded : (CallKind → Bool) → FileTable → State → List ℕ → Right → Bounded → Type 0
@@ -22,7 +23,7 @@ IsBounded permitted files s members right (code.Blames x) =
     AllMeet permitted files s members right
     × IsBlame permitted files s members right (blame_told x.rule x.row) (bounds_hold x.below)
 
--- Each set of ids in the bounds that are told is written in the one way.
-abbrev pub IsWritten : Bounded → Type 0
-IsWritten (code.Excludes b) = All IsRow b
-IsWritten (code.Blames x) = All IsRow x.below
+-- The rows that are told are two of each space, each set of ids written in the one way.
+abbrev pub IsWritten : Spaces → Bounded → Type 0
+IsWritten spaces (code.Excludes b) = AreBounds spaces b
+IsWritten spaces (code.Blames x) = AreBounds spaces x.below

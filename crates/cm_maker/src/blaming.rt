@@ -46,6 +46,7 @@ pub fn blame(
     requires met { AllMeet (permits f) files.now st.now members.now (right_of right.now) }
     ensures blamed { OrNoMemory result (λ x. IsBlame (permits f) files.now st.now members.now (right_of right.now)
         (blame_told x.rule x.row) (bounds_hold x.below)) }
+    ensures count { OrNoMemory result (λ x. length x.below ≡ 2 * length st.now.spaces) }
     ensures written { OrNoMemory result (λ x. All IsRow x.below) }
 {
     see_state(st);

@@ -33,7 +33,7 @@ pub fn decide(
     requires few { length st.now.spaces < 2 ^ 31 }
     requires named { IsOverStanding st.now.spaces (right_of right.now) }
     ensures decided { OrNoMemory result (IsBounded (permits f) files.now st.now members.now (right_of right.now)) }
-    ensures written { OrNoMemory result IsWritten }
+    ensures written { OrNoMemory result (IsWritten st.now.spaces) }
 {
     let b = least(alloc, st, files, f, members)?;
     match meets(st, &b, right) {

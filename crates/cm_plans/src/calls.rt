@@ -1,5 +1,7 @@
 // Calls on a seat: what the rules reply, in place.
-ghost use Rattle.std.specs.Prelude.{◌≡◌, ◌<◌, length, Some};
+ghost use Rattle.std.specs.Prelude.{◌≡◌, ◌<◌, false, length, Some};
+ghost use Rattle.cm_base.specs.declared.errno.Errno.{Errno};
+ghost use Rattle.cm_base.specs.declared.res.Res.TheVariants.{Err};
 ghost use Rattle.cm_plans.specs.Moves.{setting, move_of, IsOfWalk, IsMoveOfWalk};
 ghost use Rattle.cm_plans.specs.Ready.{IsReady};
 ghost use Rattle.cm_state.specs.Call.{call_of as told};
@@ -22,6 +24,7 @@ pub(crate) fn answer(q: &Query<'_>, seat: &mut Seat, call: &Call) -> Res
     requires walks { IsOfWalk q.now.spaces.now (told call.now) }
     ensures res { result ≡ (reply_at (setting q.now) seat.old (told call.now)).res }
     ensures seat { seat.new ≡ seat_after (setting q.now) seat.old (Some (told call.now)) }
+    ensures unchanged { (e : Errno) → result ≡ Err e → seat.new ≡ seat.old }
     ensures stands { seat.new.space < length q.now.spaces.now }
 {
     let at = seat.space;
@@ -47,6 +50,7 @@ fn join(q: &Query<'_>, seat: &mut Seat, n: SpaceId) -> Res
     requires target { n.0 < length q.now.spaces.now }
     ensures res { result ≡ (reply_at (setting q.now) seat.old (SetNs n.0)).res }
     ensures seat { seat.new ≡ seat_after (setting q.now) seat.old (Some (SetNs n.0)) }
+    ensures unchanged { (e : Errno) → result ≡ Err e → seat.new ≡ seat.old }
     ensures stands { seat.new.space < length q.now.spaces.now }
 {
     let at = seat.space;
@@ -60,16 +64,21 @@ fn join(q: &Query<'_>, seat: &mut Seat, n: SpaceId) -> Res
     }
 }
 
-// A move.
-pub(crate) fn make(q: &Query<'_>, seat: &mut Seat, m: Move)
+// A move. Whether a call was made for it and wasn't refused: if not, the member stands as before.
+pub(crate) fn make(q: &Query<'_>, seat: &mut Seat, m: Move) -> bool
     requires ready { IsReady q.now }
     requires stands { seat.old.space < length q.now.spaces.now }
     requires single { IsMoveOfWalk q.now.spaces.now m }
     ensures seat { seat.new ≡ after (setting q.now) seat.old (move_of m) }
+    ensures unchanged { result ≡ false → seat.new ≡ seat.old }
     ensures stands { seat.new.space < length q.now.spaces.now }
     ensures groups { seat.new.cred.groups ≡ seat.old.cred.groups }
 {
-    if let Some(call) = call_for(q, seat, m) {
-        answer(q, seat, &call);
+    match call_for(q, seat, m) {
+        Some(call) => match answer(q, seat, &call) {
+            Res::Err(_) => false,
+            _ => true,
+        },
+        None => false,
     }
 }

@@ -30,7 +30,9 @@ pub(crate) fn make_choice(q: &Query<'_>, seat: &mut Seat, c: Choice)
 {
     match c {
         Choice::Nothing => {}
-        Choice::One(m) => make(q, seat, m),
+        Choice::One(m) => {
+            make(q, seat, m);
+        }
         Choice::Two(m, n) => {
             make(q, seat, m);
             make(q, seat, n);

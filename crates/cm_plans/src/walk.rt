@@ -1,9 +1,9 @@
 // The walk over the choices of one member, on one seat, which is changed in place and put back.
-ghost use Rattle.std.specs.Prelude.{◌≡◌, ◌<◌, ◌∷◌, ◌++◌, All, length, map, option_map, IfSome};
+ghost use Rattle.std.specs.Prelude.{◌≡◌, ◌<◌, [], ◌∷◌, ◌++◌, false, All, None, length, map, option_map, IfSome};
 ghost use Rattle.cm_plans.specs.Choices.{choice_of, moves_of_two, moves_of_three};
 ghost use Rattle.cm_plans.specs.Choices.{IsChoiceOfWalk, IsChoiceOfRun, AreTwoOfRun, AreThreeOfRun};
 ghost use Rattle.cm_plans.specs.Middles.{Lists};
-ghost use Rattle.cm_plans.specs.Moves.{setting};
+ghost use Rattle.cm_plans.specs.Moves.{setting, move_of, IsMoveOfWalk};
 ghost use Rattle.cm_plans.specs.Ready.{IsReady};
 ghost use Rattle.model_plans.specs.Move as model;
 ghost use Rattle.model_plans.specs.Plan.{middle_choices, then_raise};
@@ -87,6 +87,49 @@ fn try_first(
     }
 }
 
+// After a raise a call is made for the move, and isn't refused. If not, plans with it end as those without it.
+fn is_made(alloc: Global, q: &Query<'_>, seat: &mut Seat, m: Move) -> bool
+    requires ready { IsReady q.now }
+    requires stands { seat.old.space < length q.now.spaces.now }
+    requires single { IsMoveOfWalk q.now.spaces.now m }
+    ensures none { result ≡ false → after_moves (setting q.now) seat.old (model.Raise ∷ move_of m ∷ [])
+        ≡ after_moves (setting q.now) seat.old (model.Raise ∷ []) }
+    ensures same { seat.new ≡ seat.old }
+{
+    let old = seat.saved(alloc);
+    make(q, seat, Move::Raise);
+    let made = make(q, seat, m);
+    seat.restore(old);
+    made
+}
+
+// After a raise and the first move: the other choices, where no plan without a first move ends with a holder.
+fn try_move(
+    alloc: Global,
+    q: &Query<'_>,
+    seat: &mut Seat,
+    middles: &[Choice],
+    first: Move,
+) -> Option<(Choice, Choice, Choice)>
+    requires ready { IsReady q.now }
+    requires stands { seat.old.space < length q.now.spaces.now }
+    requires middles { Lists q.now.spaces.now middles.now
+        (middle_choices q.now.world.now.files q.now.spaces.now seat.old.space) }
+    requires single { IsMoveOfWalk q.now.spaces.now first }
+    requires none { middle_found (setting q.now) (after_moves (setting q.now) seat.old (model.Raise ∷ []))
+        (middle_choices q.now.world.now.files q.now.spaces.now seat.old.space) ≡ None }
+    ensures found { option_map moves_of_three result ≡ option_map (λ rest. (model.Raise ∷ move_of first ∷ []) ++ rest)
+        (middle_found (setting q.now) (after_moves (setting q.now) seat.old (model.Raise ∷ move_of first ∷ []))
+        (middle_choices q.now.world.now.files q.now.spaces.now seat.old.space)) }
+    ensures standing { IfSome result (AreThreeOfRun q.now.spaces.now) }
+    ensures same { seat.new ≡ seat.old }
+{
+    if !is_made(alloc, q, seat, first) {
+        return None;
+    }
+    try_first(alloc, q, seat, middles, Choice::One(first))
+}
+
 // The choices of the first plan of the member at the seat after which it holds the right.
 pub(crate) fn find_moves(
     alloc: Global,
@@ -106,9 +149,9 @@ pub(crate) fn find_moves(
         Some(found) => return Some(found),
         None => {}
     }
-    match try_first(alloc, q, seat, middles, Choice::One(Move::BecomeZero)) {
+    match try_move(alloc, q, seat, middles, Move::BecomeZero) {
         Some(found) => return Some(found),
         None => {}
     }
-    try_first(alloc, q, seat, middles, Choice::One(Move::BecomeSought))
+    try_move(alloc, q, seat, middles, Move::BecomeSought)
 }

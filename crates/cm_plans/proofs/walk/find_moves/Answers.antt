@@ -11,22 +11,22 @@ pub returns-in-Some-clause-found : goal.returns-in-Some-clause-found
 returns-in-Some-clause-found c =
     sym (moves_first (setting c.args.q.now) c.args.seat.now (moves_of_three c.in-Some.found) (sym c.in-Some.ensures.found))
 
-pub returns-in-Some-try_first-clause-found : goal.returns-in-Some-try_first-clause-found
-returns-in-Some-try_first-clause-found c =
+pub returns-in-Some-try_move-clause-found : goal.returns-in-Some-try_move-clause-found
+returns-in-Some-try_move-clause-found c =
     let q = setting c.args.q.now in
-    let second : Some (moves_of_three c.in-Some-try_first.found) ≡ from_first q c.try_first.new.seat (own_middles q c.try_first.new.seat) (BecomeZero ∷ [])
-    = c.in-Some-try_first.ensures.found in
-    sym (moves_second q c.args.seat.now (moves_of_three c.in-Some-try_first.found) (sym c.in-None.ensures.found)
-    (sym (subst (λ (seat : Seat). Some (moves_of_three c.in-Some-try_first.found) ≡ from_first q seat (own_middles q seat) (BecomeZero ∷ []))
+    let second : Some (moves_of_three c.in-Some-try_move.found) ≡ from_first q c.try_first.new.seat (own_middles q c.try_first.new.seat) (BecomeZero ∷ [])
+    = c.in-Some-try_move.ensures.found in
+    sym (moves_second q c.args.seat.now (moves_of_three c.in-Some-try_move.found) (sym c.in-None.ensures.found)
+    (sym (subst (λ (seat : Seat). Some (moves_of_three c.in-Some-try_move.found) ≡ from_first q seat (own_middles q seat) (BecomeZero ∷ []))
     c.try_first.ensures.same second)))
 
 pub returns-clause-found : goal.returns-clause-found
 returns-clause-found c =
     let q = setting c.args.q.now in
-    let second : None ≡ from_first q c.try_first.new.seat (own_middles q c.try_first.new.seat) (BecomeZero ∷ []) = c.in-None-try_first.ensures.found in
-    let third : option_map moves_of_three c.try_first-3.result
-    ≡ from_first q c.try_first-2.new.seat (own_middles q c.try_first-2.new.seat) (BecomeSought ∷ []) = c.try_first-3.ensures.found in
-    subst (λ (seat : Seat). option_map moves_of_three c.try_first-3.result ≡ from_first q seat (own_middles q seat) (BecomeSought ∷ []))
-    (c.try_first-2.ensures.same ∙ c.try_first.ensures.same) third
+    let second : None ≡ from_first q c.try_first.new.seat (own_middles q c.try_first.new.seat) (BecomeZero ∷ []) = c.in-None-try_move.ensures.found in
+    let third : option_map moves_of_three c.try_move-2.result
+    ≡ from_first q c.try_move.new.seat (own_middles q c.try_move.new.seat) (BecomeSought ∷ []) = c.try_move-2.ensures.found in
+    subst (λ (seat : Seat). option_map moves_of_three c.try_move-2.result ≡ from_first q seat (own_middles q seat) (BecomeSought ∷ []))
+    (c.try_move.ensures.same ∙ c.try_first.ensures.same) third
     ∙ sym (moves_third q c.args.seat.now (sym c.in-None.ensures.found)
     (sym (subst (λ (seat : Seat). None ≡ from_first q seat (own_middles q seat) (BecomeZero ∷ [])) c.try_first.ensures.same second)))

@@ -1,7 +1,7 @@
 use Rattle.std.proofs.Common.{append_assoc, decimal, ◌≡◌, get_or}
 use Rattle.std.proofs.lemmas.Result.{IfOk-equal}
-use Rattle.cm_audit.proofs.GroupText.{groups_text-first}
-use Rattle.cm_audit.proofs.credential_line.put_groups.Goals as goal
+use Rattle.cm_credentials.proofs.GroupText.{groups_text-first}
+use Rattle.cm_credentials.proofs.credential_line.put_groups.Goals as goal
 
 pub returns-in_ok-put_decimal-in-len1-up : goal.returns-in_ok-put_decimal-in-len1-up
 returns-in_ok-put_decimal-in-len1-up c =
