@@ -1,7 +1,6 @@
 // The lines that ask, and their answers.
 use crate::asked::{first_open, lacking, met};
 use crate::case::Case;
-use crate::rules::name_of;
 use crate::stop::Stop;
 use crate::values::{pids, right};
 use cm_box::Rule;
@@ -32,7 +31,7 @@ fn closed_text(alloc: Global, open: Option<(Rule, u32)>) -> Result<String, Alloc
     match open {
         None => String::from_str(alloc, "yes"),
         Some((x, y)) => {
-            let name = name_of(x);
+            let name = x.name();
             format!(in alloc; "no, {name} {y}")
         }
     }

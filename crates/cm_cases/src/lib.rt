@@ -1,6 +1,5 @@
 //! Tests of the program beside its worked cases, which stand in report_cases: what no text of cases can hold, as reads and
-//! writes that fail, texts as long as the limits and bytes that don't show; and the calls of the machine. The crate has tests
-//! alone.
+//! writes that fail, texts as long as the limits and bytes that don't show. The crate has tests alone.
 #![tactic(auto)]
 
 #[cfg(test)]
@@ -9,8 +8,6 @@ mod case;
 mod limits;
 #[cfg(test)]
 mod lines;
-#[cfg(test)]
-mod machine;
 #[cfg(test)]
 mod outside;
 #[cfg(test)]

@@ -218,3 +218,32 @@ fn groups_of_a_line_have_a_limit(rt: HostRuntime) -> Result<(), Fail> {
     let end = b"\nbad log line 1: result\n";
     check_end(&rt, alloc, world, &log, Status::BadLog, end)
 }
+
+// The audit of the process 1000 for user id 0 has this status, and its report ends so, where it has so many children. They
+// have the id, and it doesn't.
+fn check_family(
+    rt: &impl Abort,
+    alloc: Global,
+    children: u32,
+    status: Status,
+    end: &[u8],
+) -> Result<(), Fail> {
+    let root = format!(in alloc; "{SCRIPT}[[process]]\npid = 1000\nuid = 7\n")?;
+    let child = "[[process]]\nparent = 1000\npid = ";
+    let world = with_rows(alloc, root.as_str(), children, child, "")?;
+    let words = strings(alloc, &["audit", "world", "log", "1000", "uid:0"])?;
+    let mut shelf = shelf(rt, alloc, &world, b"", &[])?;
+    let (got, text) = answer(alloc, &words, &mut shelf, &[])?;
+    assert_eq!(rt; got, status);
+    assert!(rt; text.ends_with(end));
+    Ok(())
+}
+
+#[test]
+fn families_have_a_limit(rt: HostRuntime) -> Result<(), Fail> {
+    let alloc = rt.alloc();
+    let end = b"\nend 0\nlimit family 256\n";
+    check_family(&rt, alloc, 256, Status::Limit, end)?;
+    let end = b"\nend 0\nno 0\nholder 1\n";
+    check_family(&rt, alloc, 255, Status::No, end)
+}

@@ -1,7 +1,8 @@
 -- Lemmas of this crate, by topic.
 pub mod RunText
+pub mod RowText
 pub mod Ready
-pub mod Following
+pub mod Auditing
 pub mod LogReport
 pub mod Replaying
 pub mod Complete

@@ -1,15 +1,15 @@
--- The text of a run back, and the calls of one.
+-- The text of a run, and of the calls of one.
 use Rattle.std.proofs.Common.{◌≡◌, ℕ, ◌+◌, ◌<◌, length, List, [], ◌∷◌, ◌++◌, map, drop, get_or, sym, ap, ◌∙◌}
 use Rattle.std.specs.Prelude.{codes}
 use Rattle.cm_report.proofs.ReportText.{text_of_append, text_of_cons, joined, step_on}
 use Rattle.model_cred.specs.Call.{Event}
 use Rattle.model_cred.specs.World.{World}
 use Rattle.model_report.specs.Replay.{ReportLine, Plain, text_of, at_line}
-use Rattle.model_report.specs.Report.{run_lines}
+use Rattle.model_report.specs.Answer.{run_lines}
 use Rattle.model_text.specs.Print.{event_text}
 
--- the lines of a run back: how many calls, the calls, and the holder
-run_text : (w : World) (pid : ℕ) (run : List Event) → text_of (run_lines w pid run)
+-- the lines of a run: how many calls, the calls, and the holder
+run_text : (w : World) (pid : ℕ) (run : List Event) → text_of (run_lines w (record { run = run; holder = pid }))
     ≡ text_of (Plain (at_line (codes "no ") (length run)) ∷ []) ++ text_of (map (λ e. Plain (event_text w e)) run)
     ++ text_of (Plain (at_line (codes "holder ") pid) ∷ [])
 run_text w pid run =
@@ -21,7 +21,7 @@ run_text w pid run =
 -- the same, written one after another
 pub run_written : (w : World) (old one two : List ℕ) (pid : ℕ) (run : List Event) → one ≡ old ++ text_of (Plain (at_line (codes "no ") (length run)) ∷ [])
     → two ≡ one ++ text_of (map (λ e. Plain (event_text w e)) run)
-    → two ++ text_of (Plain (at_line (codes "holder ") pid) ∷ []) ≡ old ++ text_of (run_lines w pid run)
+    → two ++ text_of (Plain (at_line (codes "holder ") pid) ∷ []) ≡ old ++ text_of (run_lines w (record { run = run; holder = pid }))
 run_written w old one two pid run first second =
     let no : List ℕ = text_of (Plain (at_line (codes "no ") (length run)) ∷ []) in
     let calls : List ℕ = text_of (map (λ e. Plain (event_text w e)) run) in

@@ -7,16 +7,19 @@ use Rattle.cm_io.specs.Shelf.{Files, bytes_at, Rose}
 use Rattle.cm_io.specs.Sink.{then_written}
 use Rattle.cm_report.specs.Sent.{IsFront}
 use Rattle.cm_report.specs.Telling.{IsOfReport}
-use Rattle.model_report.specs.Causes.{Cause, IsAccepted, IsUnbuilt, IsYes}
+use Rattle.model_report.specs.Causes.{Cause, IsUnbuilt}
 use Rattle.model_report.specs.Command.{Command, Replay, Audit, NoForm, command_of, files_of, query_of}
-use Rattle.model_report.specs.Laws.{ShowsRun}
+use Rattle.model_report.specs.Given.{CommandGives, GivesVerdict}
+use Rattle.model_report.specs.Laws.{Audits, members_of, ShowsYes, ShowsRun, ShowsBlame}
 use Rattle.model_report.specs.Query.{Query}
 use Rattle.model_report.specs.Replay.{Report, text_of}
 use Rattle.model_report.specs.Report.{report, command_report}
+use Rattle.model_verdict.specs.InWorld.{SettledIn}
+use Rattle.model_verdict.specs.Verdict.{Verdict}
 
--- the report of the words over files
-abbrev pub report_over : List (List ℕ) → Files → Report
-report_over words files = report words (bytes_at files)
+-- the report of the words over files, with a verdict
+abbrev pub report_over : List (List ℕ) → Files → Verdict → Report
+report_over words files v = report words (bytes_at files) v
 
 -- the command that asks this after the replay of a log in a world
 abbrev pub asking : Option Query → List ℕ → List ℕ → Command
@@ -33,11 +36,14 @@ abbrev pub IsUsageAnswer : Status → Type 0
 IsUsageAnswer answer = (answer ≡ answers.Usage) ⊎ (answer ≡ answers.WriteFault) ⊎ (answer ≡ answers.NoMemory)
 
 -- What a command answers and writes. Where it is told what the shelf holds, it is the report's status, and its text is
--- written; after a read fault nothing is. Words of no form give the usage, and no other words do.
+-- written, with each verdict that the command and the files give; after a read fault nothing is. Words of no form give the
+-- usage, and no other words do.
 pub record AnswersReport (held : Option Files) (command : Command) (answer : Status) (written written' : Option (List ℕ))
     : Type 0 where
-  pub status : IfSome held (λ files. IsOfReport answer → answer ≡ (command_report command (bytes_at files)).status)
-  pub text : IfSome held (λ files. WritesReport (command_report command (bytes_at files)) answer written written')
+  pub status : IfSome held (λ files. (v : Verdict) → CommandGives command (bytes_at files) v → IsOfReport answer
+      → answer ≡ (command_report command (bytes_at files) v).status)
+  pub text : IfSome held (λ files. (v : Verdict) → CommandGives command (bytes_at files) v
+      → WritesReport (command_report command (bytes_at files) v) answer written written')
   pub silent : answer ≡ answers.ReadFault → written' ≡ written
   pub usage : answer ≡ answers.Usage → command ≡ NoForm
   pub no_form : command ≡ NoForm → IsUsageAnswer answer
@@ -69,8 +75,7 @@ pub record NoneRose (reads reads' : List ℕ → ℕ) (writes writes' : ℕ) : T
   pub reads_same : (n : List ℕ) → ¬ Rose (reads n) (reads' n)
   pub writes_same : ¬ Rose writes writes'
 
--- the input is valid: none of the causes of a refusal stands (an audit may still ask, after an accepted log, for what
--- isn't built)
+-- the input is valid: none of the causes of a refusal stands
 pub record IsValid (words : List (List ℕ)) (files : Files) : Type 0 where
   pub usage : ¬ Cause words (bytes_at files) answers.Usage
   pub not_built : ¬ IsUnbuilt words
@@ -84,18 +89,33 @@ pub record IsValid (words : List (List ℕ)) (files : Files) : Type 0 where
 abbrev pub ComesByCause : List (List ℕ) → Files → Status → Type 0
 ComesByCause words files answer = (st : Status) → (answer ≡ st) ↔ Cause words (bytes_at files) st
 
--- A replay is accepted; an audit answers yes, no, or not built; or there was no memory.
+-- A replay is accepted; an audit answers yes, no or undecided; or there was no memory.
 abbrev pub IsCompleted : Option Query → Status → Type 0
 IsCompleted None answer = (answer ≡ answers.Accepted) ⊎ (answer ≡ answers.NoMemory)
 IsCompleted (Some q) answer =
-    (answer ≡ answers.Accepted) ⊎ (answer ≡ answers.No) ⊎ (answer ≡ answers.NotBuilt) ⊎ (answer ≡ answers.NoMemory)
+    (answer ≡ answers.Accepted) ⊎ (answer ≡ answers.No) ⊎ (answer ≡ answers.Undecided) ⊎ (answer ≡ answers.NoMemory)
 
--- What yes says of an audit: one process lives after the log, and no list of later setresuid calls of it, of any length,
--- ends where it holds the user id that the words ask for.
+-- An audit answers yes or no; or there was no memory.
+abbrev pub IsDecided : Status → Type 0
+IsDecided answer = (answer ≡ answers.Accepted) ⊎ (answer ≡ answers.No) ⊎ (answer ≡ answers.NoMemory)
+
+-- the words ask of a settled family
+pub record AsksOfSettled (words : List (List ℕ)) (files : Files) : Type 0 where
+  pub audits : Audits words (bytes_at files)
+  pub settled : SettledIn audits.accepted.world audits.accepted.state (members_of words (bytes_at files) audits)
+
+-- What yes says of an audit: after no later list of calls, of any length, does a member of the family hold the right.
 abbrev pub SaysYes : List (List ℕ) → Files → Type 0
-SaysYes words files =
-    (q : Query) → query_of (command_of words) ≡ Some q → (is : IsAccepted words (bytes_at files)) × IsYes words (bytes_at files) is q
+SaysYes words files = (q : Query) → query_of (command_of words) ≡ Some q → ShowsYes words (bytes_at files)
 
--- What no says: the last lines of the report show such a list, which does.
-abbrev pub SaysNo : List (List ℕ) → Files → Type 0
-SaysNo words files = ShowsRun words (bytes_at files) (report_over words files).lines
+-- What no says: the words and the files give a verdict; and with each that they give, the first plan's run that ends with a
+-- holder is a later run, and the last lines of the report show it, with its least holder.
+pub record SaysNo (words : List (List ℕ)) (files : Files) : Type 0 where
+  pub given : (v : Verdict) × GivesVerdict words (bytes_at files) v
+  pub shows : (v : Verdict) → GivesVerdict words (bytes_at files) v → ShowsRun words (bytes_at files) (report_over words files v).lines
+
+-- What undecided says: the same, and all closed covering bounds meet the right, no plan ends with a holder, and the family
+-- isn't settled.
+pub record SaysUndecided (words : List (List ℕ)) (files : Files) : Type 0 where
+  pub given : (v : Verdict) × GivesVerdict words (bytes_at files) v
+  pub shows : (v : Verdict) → GivesVerdict words (bytes_at files) v → ShowsBlame words (bytes_at files) (report_over words files v).lines

@@ -7,7 +7,7 @@ use Rattle.cm_base.specs.declared.limited.Limited.{Limited}
 use Rattle.cm_base.specs.declared.limited.Limited.TheVariants as limit
 use Rattle.cm_world.specs.World.{world_of}
 use Rattle.cm_world.specs.declared.world.World as code
-use Rattle.cm_cli.specs.LogReport.{log_report}
+use Rattle.cm_cli.specs.LogReport.{log_report, WorldGives}
 use Rattle.cm_cli.specs.declared.reading.Unready.{Unready}
 use Rattle.cm_cli.specs.declared.reading.Unready.TheVariants as unready
 use Rattle.cm_io.specs.Shelf.{Rose}
@@ -17,9 +17,11 @@ use Rattle.cm_report.specs.Telling.{short_report}
 use Rattle.cm_report.specs.declared.short.Short.{Short}
 use Rattle.cm_report.specs.declared.short.Short.TheVariants as short
 use Rattle.model_cred.specs.World.{World}
+use Rattle.model_report.specs.Given.{FilesGive}
 use Rattle.model_report.specs.Query.{Query}
-use Rattle.model_report.specs.Replay.{Report}
-use Rattle.model_text.specs.WorldText.{WorldText, Reads, Bad, Exceeds, world_text, text_says_more}
+use Rattle.model_report.specs.Report.{files_report}
+use Rattle.model_text.specs.WorldText.{WorldText, Reads, Bad, Exceeds, world_text}
+use Rattle.model_verdict.specs.Verdict.{Verdict}
 
 -- the bytes of a world, within the limit, read so
 pub record ReadsAs (bytes : List ℕ) (text : WorldText) : Type 0 where
@@ -36,7 +38,7 @@ WorldExceeds bytes l = ((l ≡ limit.World) × (limit_number limit.World < lengt
 
 -- what the bytes of a world come to
 abbrev pub IsWorldRead : Result code.World Unready → List ℕ → Type 0
-IsWorldRead (Ok w) bytes = ReadsAs bytes (Reads (world_of w)) × (w.more ≡ text_says_more bytes)
+IsWorldRead (Ok w) bytes = ReadsAs bytes (Reads (world_of w))
 IsWorldRead (Err (unready.Refused (short.Limit l))) bytes = WorldExceeds bytes l
 IsWorldRead (Err (unready.Refused (short.BadWorld table row why))) bytes = ReadsAs bytes (Bad table row why)
 IsWorldRead (Err (unready.Refused short.NotBuilt)) bytes = ⊥
@@ -54,12 +56,14 @@ IsLogRead (Err (unready.Refused short.Usage)) bytes = ⊥
 IsLogRead (Err unready.ReadFault) bytes = Unit {0}
 IsLogRead (Err unready.NoMemory) bytes = Unit {0}
 
--- the report that the files come to, with what is asked after the log
-abbrev pub IsReady : Option Query → Result (code.World × Vec ℕ Global) Unready → Report → Type 0
-IsReady query (Ok (w, log)) r = r ≡ log_report query w log.items
-IsReady query (Err (unready.Refused why)) r = r ≡ short_report why
-IsReady query (Err unready.ReadFault) r = Unit {0}
-IsReady query (Err unready.NoMemory) r = Unit {0}
+-- What the files come to, with what is asked after the log and a verdict: the report of the log in the world, which gives the
+-- verdict where the files do; or a report of one piece.
+abbrev pub IsReady : Option Query → Verdict → (world log : List ℕ) → Result (code.World × Vec ℕ Global) Unready → Type 0
+IsReady query v world log (Ok (w, text)) =
+    (files_report query v world log ≡ log_report query v w text.items) × (FilesGive query world log v → WorldGives query w text.items v)
+IsReady query v world log (Err (unready.Refused why)) = files_report query v world log ≡ short_report why
+IsReady query v world log (Err unready.ReadFault) = Unit {0}
+IsReady query v world log (Err unready.NoMemory) = Unit {0}
 
 -- the counts of faults before and after a file was read: only `ReadFault` raises one, and it raises that of its name
 pub record FileFaults {T : Type 0} (before now : List ℕ → ℕ) (name : List ℕ) (r : Result T Unready) : Type 0 where

@@ -1,35 +1,37 @@
-// The answer to an audit, after an accepted log: one process lives, and is asked for a user id (so far).
-ghost use Rattle.std.specs.Prelude.{◌≡◌, ◌++◌, false, Some, IfSome, IfNone, None, slice_get, length, ◌<◌};
+// The answer to an audit, after an accepted log: why the query is refused, or the verdict.
+ghost use Rattle.std.specs.Prelude.{◌≡◌, ◌<◌, ◌^◌, IfSome, IfNone, IsSomeAnd, None, length};
+ghost use Rattle.cm_audit.specs.Told.{told, verdict_in};
 ghost use Rattle.cm_base.specs.Outcome.{OrNoMemory};
+ghost use Rattle.cm_cli.specs.LogReport.{answer_to, IsPut};
 ghost use Rattle.cm_cli.specs.Query.{query_view, query_if};
-ghost use Rattle.cm_cli.specs.LogReport.{answer_to};
-ghost use Rattle.cm_state.specs.Right.{right_of};
 ghost use Rattle.cm_world.specs.World.{world_of};
-ghost use Rattle.model_run.specs.RunBack.{SetsFollowIds, StateFollows, run_back};
+ghost use Rattle.model_report.specs.Answer.{answer, verdict_report};
+ghost use Rattle.model_report.specs.Given.{StateGives};
 ghost use Rattle.model_report.specs.Query.{asked_process};
-ghost use Rattle.model_report.specs.Replay.{text_of};
-ghost use Rattle.model_report.specs.Report.{verdict, right_verdict, run_verdict};
+ghost use Rattle.model_report.specs.Replay.{IsWithin};
+ghost use Rattle.model_run.specs.Never.{MountsStand};
+ghost use Rattle.model_verdict.specs.Verdict.{Verdict as ModelVerdict};
 
-use crate::answers::{put_bad_pid, put_bad_right, put_run, put_yes};
+use crate::answers::{put_bad_query, put_run, put_undecided, put_yes};
 use crate::query::{Query, read_right};
-use cm_audit::audit_uid;
-use cm_base::{Kuid, NoMemory, Status};
-use cm_report::put_not_built;
+use cm_audit::{AuditRefusal, Verdict, audit};
+use cm_base::{Limited, NoMemory, Pid, Status};
+use cm_machine::Machine;
+use cm_report::put_limit;
 use cm_script::read_pid;
-use cm_state::{Proc, Right, State};
+use cm_state::{Spaces, State};
 use cm_world::World;
 use std::alloc::Global;
 
-/// Where an audit is asked: the state after the log in its world, and whether there is more to the processes than the
-/// weak audit knows.
+/// Where an audit is asked: the machine after the log, in its world.
 #[derive(Clone, Copy, Debug)]
 pub(crate) struct Asked<'a> {
     pub world: &'a World,
-    pub state: &'a State,
-    pub more: bool,
+    pub machine: &'a Machine,
 }
 
-/// Answers what is asked after a replay that ended with this status, and says the status of the whole.
+/// Answers what is asked after a replay that ended with this status, and says the status of the whole: with whatever
+/// verdict the state gives.
 pub(crate) fn put_answer(
     alloc: Global,
     asked: Asked<'_>,
@@ -37,11 +39,12 @@ pub(crate) fn put_answer(
     replayed: Status,
     text: &mut Vec<u8>,
 ) -> Result<Status, NoMemory>
-    requires { replayed ≡ Status.Accepted → asked.more ≡ false → StateFollows asked.state.now }
-    ensures status { OrNoMemory result (λ status. status ≡
-        (answer_to (query_if query.entry) asked.entry.more (world_of asked.entry.world.now) replayed asked.entry.state.now).status) }
-    ensures text { OrNoMemory result (λ _. text.new.items ≡ text.old.items ++ text_of
-        (answer_to (query_if query.entry) asked.entry.more (world_of asked.entry.world.now) replayed asked.entry.state.now).lines) }
+    requires within { replayed ≡ Status.Accepted → IsWithin asked.machine.now.state }
+    requires mounts { replayed ≡ Status.Accepted → MountsStand (world_of asked.world.now) asked.machine.now.state }
+    ensures { (v : ModelVerdict) →
+        (replayed ≡ Status.Accepted → StateGives (query_if query.entry) (world_of asked.entry.world.now) asked.entry.machine.now.state v) →
+        OrNoMemory result (λ status. IsPut (answer_to (query_if query.entry) v (world_of asked.entry.world.now) replayed
+        asked.entry.machine.now.state) text.old.items text.new.items status) }
 {
     match (query, replayed) {
         (Some(query), Status::Accepted) => put_verdict(alloc, asked, query, text),
@@ -49,86 +52,75 @@ pub(crate) fn put_answer(
     }
 }
 
+// Answers a query after an accepted log.
 fn put_verdict(
     alloc: Global,
     asked: Asked<'_>,
     query: Query<'_>,
     text: &mut Vec<u8>,
 ) -> Result<Status, NoMemory>
-    requires { asked.more ≡ false → StateFollows asked.state.now }
-    ensures status { OrNoMemory result (λ status. status ≡
-        (verdict asked.entry.more (world_of asked.entry.world.now) asked.entry.state.now (query_view query.entry)).status) }
-    ensures text { OrNoMemory result (λ _. text.new.items ≡ text.old.items ++ text_of
-        (verdict asked.entry.more (world_of asked.entry.world.now) asked.entry.state.now (query_view query.entry)).lines) }
+    requires within { IsWithin asked.machine.now.state }
+    requires mounts { MountsStand (world_of asked.world.now) asked.machine.now.state }
+    ensures { (v : ModelVerdict) →
+        StateGives (Some (query_view query.entry)) (world_of asked.entry.world.now) asked.entry.machine.now.state v →
+        OrNoMemory result (λ status. IsPut (answer v (world_of asked.entry.world.now) asked.entry.machine.now.state
+        (query_view query.entry)) text.old.items text.new.items status) }
 {
-    let Some(at) = place_asked(asked.state, query.pid.as_bytes()) else {
-        put_bad_pid(text)?;
-        return Ok(Status::BadQuery);
+    let m: &Machine = asked.machine;
+    let st: &State = &m.state;
+    let Some(root) = asked_pid(st, query.pid.as_bytes()) else {
+        return put_bad_query(text, b"pid");
     };
     let Some(right) = read_right(&asked.world.names, query.right.as_bytes()) else {
-        put_bad_right(text)?;
-        return Ok(Status::BadQuery);
+        return put_bad_query(text, b"right");
     };
-    put_right(alloc, asked, at, right, text)
-}
-
-// The place of the live process whose pid the text is.
-fn place_asked(state: &State, text: &[u8]) -> Option<usize>
-    ensures found { IfSome result (λ i. (i < length state.now.processes) × (slice_get state.now.processes i ≡ asked_process state.now text.now)) }
-    ensures none { IfNone result (asked_process state.now text.now ≡ None) }
-{
-    let pid = read_pid(text)?;
-    state.procs.find(pid)
-}
-
-fn put_right(
-    alloc: Global,
-    asked: Asked<'_>,
-    at: usize,
-    right: Right,
-    text: &mut Vec<u8>,
-) -> Result<Status, NoMemory>
-    requires here { at < length asked.state.now.processes }
-    requires follows { asked.more ≡ false → StateFollows asked.state.now }
-    ensures status { OrNoMemory result (λ status. IfSome (slice_get asked.entry.state.now.processes at) (λ p.
-        status ≡ (right_verdict asked.entry.more (world_of asked.entry.world.now) asked.entry.state.now p (right_of right)).status)) }
-    ensures text { OrNoMemory result (λ _. IfSome (slice_get asked.entry.state.now.processes at) (λ p.
-        text.new.items ≡ text.old.items ++ text_of
-        (right_verdict asked.entry.more (world_of asked.entry.world.now) asked.entry.state.now p (right_of right)).lines)) }
-{
-    let state: &State = asked.state;
-    match right {
-        Right::Uid(k) if !asked.more && state.procs.items().len() == 1 => {
-            put_uid(alloc, asked.world, &state.procs.items()[at], k, text)
+    match audit(alloc, asked.world, m, root, &right) {
+        Ok(verdict) => put_told(text, asked.world, &st.spaces, &verdict),
+        Err(AuditRefusal::NoProcess) => put_bad_query(text, b"pid"),
+        Err(AuditRefusal::NoSpace) => put_bad_query(text, b"space"),
+        Err(AuditRefusal::FamilyTooLarge(_)) => {
+            put_limit(text, Limited::Family)?;
+            Ok(Status::Limit)
         }
-        _ => {
-            put_not_built(text)?;
-            Ok(Status::NotBuilt)
-        }
+        Err(AuditRefusal::NoMemory) => Err(NoMemory),
     }
 }
 
-fn put_uid(
-    alloc: Global,
-    w: &World,
-    p: &Proc,
-    k: Kuid,
-    text: &mut Vec<u8>,
-) -> Result<Status, NoMemory>
-    requires { SetsFollowIds p.now.cred }
-    ensures status { OrNoMemory result (λ status. status ≡
-        (run_verdict (world_of w.now) p.now.pid (run_back p.now.cred p.now.pid k)).status) }
-    ensures text { OrNoMemory result (λ _. text.new.items ≡ text.old.items ++ text_of
-        (run_verdict (world_of w.now) p.now.pid (run_back p.now.cred p.now.pid k)).lines) }
+// The pid that the text is, where it is that of a live process.
+#[tactic(auto, using(crate::proofs::Auditing::found_named))]
+fn asked_pid(state: &State, text: &[u8]) -> Option<Pid>
+    ensures found { IfSome result (λ pid. IsSomeAnd (asked_process state.now text.now) (λ p. p.pid ≡ pid)) }
+    ensures none { IfNone result (asked_process state.now text.now ≡ None) }
 {
-    match audit_uid(alloc, &p.cred, p.pid, k)? {
-        None => {
+    let pid = read_pid(text)?;
+    match state.procs.find(pid) {
+        Some(_) => Some(pid),
+        None => None,
+    }
+}
+
+// What a verdict says, and its status.
+fn put_told(
+    text: &mut Vec<u8>,
+    w: &World,
+    spaces: &Spaces,
+    verdict: &Verdict,
+) -> Result<Status, NoMemory>
+    ensures { OrNoMemory result (λ status. IsPut (verdict_report (world_of w.now) spaces.now (verdict_in (told verdict.now)))
+        text.old.items text.new.items status) }
+{
+    match verdict {
+        Verdict::Yes(_) => {
             put_yes(text)?;
             Ok(Status::Accepted)
         }
-        Some(run) => {
-            put_run(text, w, p.pid, &run)?;
+        Verdict::No { run, holder } => {
+            put_run(text, w, *holder, run)?;
             Ok(Status::No)
+        }
+        Verdict::Undecided { rule, row, .. } => {
+            put_undecided(text, &w.names, spaces, *rule, *row)?;
+            Ok(Status::Undecided)
         }
     }
 }

@@ -1,7 +1,7 @@
 // The top call.
 ghost use Rattle.std.specs.Prelude.{◌≡◌, ◌≢◌, IfSome, Some};
 ghost use Rattle.cm_cli.specs.Answers.{asking, AnswersReport, CountsReads, NoneRose};
-ghost use Rattle.cm_cli.specs.Answers.{IsValid, ComesByCause, IsCompleted, SaysYes, SaysNo};
+ghost use Rattle.cm_cli.specs.Answers.{IsValid, ComesByCause, IsCompleted, SaysYes, SaysNo, SaysUndecided, IsDecided, AsksOfSettled};
 ghost use Rattle.cm_cli.specs.Query.{query_if};
 ghost use Rattle.cm_cli.specs.Reading.{TakesFor, ReadsFor};
 ghost use Rattle.cm_cli.specs.Words.{bytes_of, command_in, command_view};
@@ -28,8 +28,9 @@ pub fn run<H: Shelf, K: Sink>(
     shelf: &mut H,
     out: &mut K,
 ) -> Status
-    // Where the shelf tells what it holds, the answer is the report's status, and its text is written; after a read
-    // fault nothing is. Words of no form give the usage, and no other words do.
+    // Where the shelf tells what it holds, the answer is the report's status, and its text is written, with each verdict
+    // that the words and the files give; after a read fault nothing is. Words of no form give the usage, and no other
+    // words do.
     ensures report { AnswersReport (H.held shelf.old) (command_in words.now.items) result
         (K.written out.old) (K.written out.new) }
 
@@ -48,24 +49,31 @@ pub fn run<H: Shelf, K: Sink>(
     ensures answers { IfSome (H.held shelf.old) (λ files.
         IsOfReport result → ComesByCause (bytes_of words.now.items) files result) }
 
-    // What an audit says: with status 0, which writes yes, no list of later setresuid calls of the one process that
-    // lives after the log ends where it has the user id that is asked for; with status 1 the lines that are written
-    // show one.
+    // What an audit says. With status 0, which writes yes: after no later list of calls, by members of the family in any
+    // order, does a member hold the right. With status 1: the run that is written is the first of the list of plans that
+    // ends with a holder, and is a later run. With status 2: all closed covering bounds meet the right, no plan ends with a
+    // holder, and the family isn't settled.
     ensures yes { IfSome (H.held shelf.old) (λ files.
         result ≡ Status.Accepted → SaysYes (bytes_of words.now.items) files) }
     ensures no { IfSome (H.held shelf.old) (λ files. result ≡ Status.No → SaysNo (bytes_of words.now.items) files) }
+    ensures undecided { IfSome (H.held shelf.old) (λ files.
+        result ≡ Status.Undecided → SaysUndecided (bytes_of words.now.items) files) }
 
-    // Where nothing in the input is refused and no fault was counted, a replay is accepted, and an audit answers yes,
-    // no or not built; or the answer is `NoMemory`, which is free.
+    // Where nothing in the input is refused and no fault was counted, a replay is accepted, and an audit answers yes, no
+    // or undecided, of a settled family yes or no; or the answer is `NoMemory`, which is free.
     ensures complete { IfSome (H.held shelf.old) (λ files. IsValid (bytes_of words.now.items) files →
         NoneRose (H.faults shelf.old) (H.faults shelf.new) (K.faults out.old) (K.faults out.new) →
         IsCompleted (query_of (command_in words.now.items)) result) }
+    ensures settled { IfSome (H.held shelf.old) (λ files. IsValid (bytes_of words.now.items) files →
+        NoneRose (H.faults shelf.old) (H.faults shelf.new) (K.faults out.old) (K.faults out.new) →
+        AsksOfSettled (bytes_of words.now.items) files → IsDecided result) }
 {
     carry_out(alloc, read_words(words), shelf, out)
 }
 
 /// `run` over a shelf and a sink that never fail: no fault is answered. Where nothing in the input is refused, a replay
-/// is accepted, and an audit answers yes, no or not built; or the answer is `NoMemory`, which is free.
+/// is accepted, and an audit answers yes, no or undecided, of a settled family yes or no; or the answer is `NoMemory`,
+/// which is free.
 pub fn run_surely(
     alloc: Global,
     words: &Vec<String>,
@@ -76,6 +84,8 @@ pub fn run_surely(
     ensures no_write_fault { result ≢ Status.WriteFault }
     ensures complete { IfSome (⟦<SureShelf as Shelf>⟧.held shelf.old) (λ files.
         IsValid (bytes_of words.now.items) files → IsCompleted (query_of (command_in words.now.items)) result) }
+    ensures settled { IfSome (⟦<SureShelf as Shelf>⟧.held shelf.old) (λ files.
+        IsValid (bytes_of words.now.items) files → AsksOfSettled (bytes_of words.now.items) files → IsDecided result) }
 
     // The rest is as for every shelf and sink.
     ensures report { AnswersReport (⟦<SureShelf as Shelf>⟧.held shelf.old) (command_in words.now.items) result
@@ -91,6 +101,8 @@ pub fn run_surely(
         result ≡ Status.Accepted → SaysYes (bytes_of words.now.items) files) }
     ensures no { IfSome (⟦<SureShelf as Shelf>⟧.held shelf.old) (λ files.
         result ≡ Status.No → SaysNo (bytes_of words.now.items) files) }
+    ensures undecided { IfSome (⟦<SureShelf as Shelf>⟧.held shelf.old) (λ files.
+        result ≡ Status.Undecided → SaysUndecided (bytes_of words.now.items) files) }
 {
     run(alloc, words, shelf, out)
 }

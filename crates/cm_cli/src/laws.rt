@@ -1,6 +1,18 @@
 // Laws of the report that the top call writes.
-ghost use Rattle.model_report.specs.Laws.{EachByItsCause, AcceptedIsRun, ImpossibleIsNoStep, YesIsNever, NoIsRun};
+ghost use Rattle.model_report.specs.Laws.{VerdictIsGiven, ReportIsOne, EachByItsCause, AcceptedIsRun, ImpossibleIsNoStep, YesIsNever, NoIsRun, UndecidedIsOpen};
 ghost use Rattle.model_report.specs.Laws.{ReportTellsOfLog, EndCountsEvents, ImpossibleIsNumbered, BadLogIsNumbered, SameReadingSameReport, SameLogsSameReport};
+
+/// There is a verdict that the words and the files give, whatever they are.
+#[tactic(auto, using(model_report::proofs::Given::verdict_is_given))]
+pub fn verdict_is_given()
+    ensures { VerdictIsGiven }
+{}
+
+/// And with each that they give the report is one.
+#[tactic(auto, using(model_report::proofs::Given::report_is_one))]
+pub fn report_is_one()
+    ensures { ReportIsOne }
+{}
 
 /// A status comes exactly by its cause, whatever the words and the files.
 #[tactic(auto, using(model_report::proofs::Statuses::each_by_its_cause))]
@@ -21,17 +33,23 @@ pub fn impossible_is_no_step()
     ensures { ImpossibleIsNoStep }
 {}
 
-/// Where an audit's status is 0, one process lives after the log, and no list of later setresuid calls of it, of any
-/// length, ends where its effective user id is the one that is asked for.
-#[tactic(auto, using(model_report::proofs::Endings::yes_is_never))]
+/// Where an audit's status is 0, after no later list of calls, of any length, does a member of the family hold the right.
+#[tactic(auto, using(model_report::proofs::Audits::yes_is_never))]
 pub fn yes_is_never()
     ensures { YesIsNever }
 {}
 
-/// Where it is 1, the last lines of the report show such a list, which does.
-#[tactic(auto, using(model_report::proofs::Endings::no_is_run))]
+/// Where it is 1, the last lines of the report show the first plan's run after which a member does, and its least holder.
+#[tactic(auto, using(model_report::proofs::Audits::no_is_run))]
 pub fn no_is_run()
     ensures { NoIsRun }
+{}
+
+/// Where it is 2, all closed covering bounds meet the right, no plan ends with a holder, and the family isn't settled; the
+/// last line tells what is blamed.
+#[tactic(auto, using(model_report::proofs::Audits::undecided_is_open))]
+pub fn undecided_is_open()
+    ensures { UndecidedIsOpen }
 {}
 
 /// The report of a log tells the first of its events, in their order and none left out, each with the number of its line;
@@ -67,9 +85,8 @@ pub fn same_reading_same_report()
     ensures { SameReadingSameReport }
 {}
 
-/// Over the texts of two worlds that differ in the form of log alone, and that both say more than the weak audit knows or
-/// neither, two logs that read as the same events in the same places, and end alike, have the same report, byte for byte.
-/// One world's text for both is such a case.
+/// Over the texts of two worlds that differ in the form of log alone, two logs that read as the same events in the same
+/// places, and end alike, have the same report, byte for byte. One world's text for both is such a case.
 #[tactic(auto, using(model_report::proofs::Endings::same_logs_same_report))]
 pub fn same_logs_same_report()
     ensures { SameLogsSameReport }

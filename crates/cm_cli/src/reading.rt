@@ -1,12 +1,13 @@
 // Reading the files of a replay: the world, and then the log.
-ghost use Rattle.std.specs.Prelude.{◌≡◌, ◌≢◌, ◌≤◌, ◌⊎◌, ◌+◌, false, length, Err, Some, IfErr, IfSome, IfOk, Option};
+ghost use Rattle.std.specs.Prelude.{◌≡◌, ◌≢◌, ◌≤◌, ◌⊎◌, ◌+◌, length, Err, Some, IfErr, IfSome, IfOk, Option};
 ghost use Rattle.cm_cli.specs.Reading.{IsWorldRead, IsLogRead, IsReady, FileFaults, FilesFaults, WorldStands, TakesFor, ReadsFor, unready_by};
 ghost use Rattle.cm_io.specs.Shelf.{bytes_at, Rose, TakesAtMost, ReadsOnly};
 ghost use Rattle.cm_base.specs.Limited.{limit_number};
+ghost use Rattle.cm_world.specs.World.{world_of};
+ghost use Rattle.model_cred.specs.World.{KeepsWorld};
 ghost use Rattle.model_report.specs.Replay.{IsWithin};
-ghost use Rattle.model_report.specs.Report.{files_report};
 ghost use Rattle.model_report.specs.Query.{Query};
-ghost use Rattle.model_run.specs.RunBack.{StateFollows};
+ghost use Rattle.model_verdict.specs.Verdict.{Verdict};
 
 use cm_base::Limited;
 use cm_io::{Shelf, WholeError, read_whole};
@@ -29,10 +30,10 @@ pub(crate) fn read_files<H: Shelf>(
     world: &str,
     log: &str,
 ) -> Result<(World, Vec<u8>), Unready>
-    ensures ready { IfSome (H.held shelf.old) (λ files. (query : Option Query) →
-        IsReady query result (files_report query (bytes_at files world.now) (bytes_at files log.now))) }
-    // Where the world declares no more, the sets of each process follow its user ids. It is within the limits.
-    ensures follows { IfOk result (λ read. read.0.more ≡ false → StateFollows read.0.start) }
+    ensures ready { IfSome (H.held shelf.old) (λ files. (query : Option Query) (v : Verdict) →
+        IsReady query v (bytes_at files world.now) (bytes_at files log.now) result) }
+    // The world keeps what worlds keep, and is within the limits.
+    ensures keeps { IfOk result (λ read. KeepsWorld (world_of read.0)) }
     ensures within { IfOk result (λ read. IsWithin read.0.start) }
     ensures size { IfOk result (λ read. length read.1.items ≤ limit_number Limited.Log) }
     ensures not_usage { result ≢ Err (Unready.Refused Short.Usage) }
@@ -57,7 +58,7 @@ pub(crate) fn read_files<H: Shelf>(
 
 fn read_world_file<H: Shelf>(alloc: Global, shelf: &mut H, name: &str) -> Result<World, Unready>
     ensures read { IfSome (H.held shelf.old) (λ files. IsWorldRead result (bytes_at files name.now)) }
-    ensures follows { IfOk result (λ w. w.more ≡ false → StateFollows w.start) }
+    ensures keeps { IfOk result (λ w. KeepsWorld (world_of w)) }
     ensures within { IfOk result (λ w. IsWithin w.start) }
     ensures not_usage { result ≢ Err (Unready.Refused Short.Usage) }
     ensures held { H.held shelf.new ≡ H.held shelf.old }
@@ -78,7 +79,7 @@ fn read_world_file<H: Shelf>(alloc: Global, shelf: &mut H, name: &str) -> Result
 fn read_world_text(alloc: Global, text: &[u8]) -> Result<World, Unready>
     requires { length text.now ≤ limit_number Limited.World }
     ensures read { IsWorldRead result text.now }
-    ensures follows { IfOk result (λ w. w.more ≡ false → StateFollows w.start) }
+    ensures keeps { IfOk result (λ w. KeepsWorld (world_of w)) }
     ensures within { IfOk result (λ w. IsWithin w.start) }
     ensures not_usage { result ≢ Err (Unready.Refused Short.Usage) }
     ensures not_read_fault { result ≢ Err Unready.ReadFault }

@@ -1,13 +1,15 @@
 // Telling the report of a log: what is written goes to the sink, and the answer says how it went.
-ghost use Rattle.std.specs.Prelude.{◌≡◌, ◌≤◌, ◌||◌, not, false, [], length, IfOk, OnOk, OnErr};
+ghost use Rattle.std.specs.Prelude.{◌≡◌, ◌≢◌, ◌≤◌, [], length, IfOk, OnOk, OnErr};
 ghost use Rattle.cm_base.specs.Limited.{limit_number};
-ghost use Rattle.cm_cli.specs.LogReport.{log_report};
+ghost use Rattle.cm_cli.specs.LogReport.{log_report, WorldGives};
 ghost use Rattle.cm_cli.specs.Query.{query_if};
 ghost use Rattle.cm_io.specs.Sink.{WriteFaults};
 ghost use Rattle.cm_report.specs.Sent.{IsSent, IsFront};
-ghost use Rattle.cm_report.specs.Telling.{TellsReport};
-ghost use Rattle.model_run.specs.RunBack.{StateFollows};
+ghost use Rattle.cm_report.specs.Telling.{TellsReport, CountsWrites};
+ghost use Rattle.cm_world.specs.World.{world_of};
+ghost use Rattle.model_cred.specs.World.{KeepsWorld};
 ghost use Rattle.model_report.specs.Replay.{text_of, IsWithin};
+ghost use Rattle.model_verdict.specs.Verdict.{Verdict};
 
 use crate::answer::{Asked, put_answer};
 use crate::query::Query;
@@ -19,7 +21,8 @@ use cm_report::{send, stopped};
 use cm_world::World;
 use std::alloc::Global;
 
-/// Tells the report of a log in a world, and after an accepted log the answer to what is asked.
+/// Tells the report of a log in a world, and after an accepted log the answer to what is asked: with whatever verdict is
+/// given.
 pub(crate) fn tell_log<K: Sink>(
     alloc: Global,
     w: &World,
@@ -27,11 +30,15 @@ pub(crate) fn tell_log<K: Sink>(
     query: Option<Query<'_>>,
     out: &mut K,
 ) -> Status
-    requires follows { w.now.more ≡ false → StateFollows w.now.start }
+    requires keeps { KeepsWorld (world_of w.now) }
     requires within { IsWithin w.now.start }
     requires size { length log.now ≤ limit_number Limited.Log }
-    ensures { TellsReport (log_report (query_if query.entry) w.now log.now) result
+    ensures report { (v : Verdict) → WorldGives (query_if query.entry) w.now log.now v →
+        TellsReport (log_report (query_if query.entry) v w.now log.now) result
         (K.written out.old) (K.written out.new) (K.faults out.old) (K.faults out.new) }
+    ensures not_usage { result ≢ Status.Usage }
+    ensures not_read_fault { result ≢ Status.ReadFault }
+    ensures counts { CountsWrites result (K.faults out.old) (K.faults out.new) }
 {
     let mut text = Vec::new(alloc);
     let status = match put_log(alloc, w, log, query, &mut text, out) {
@@ -54,15 +61,17 @@ fn put_log<K: Sink>(
     text: &mut Vec<u8>,
     out: &mut K,
 ) -> Result<Status, Outside>
-    requires follows { w.now.more ≡ false → StateFollows w.now.start }
+    requires keeps { KeepsWorld (world_of w.now) }
     requires within { IsWithin w.now.start }
     requires size { length log.now ≤ limit_number Limited.Log }
     requires empty { text.old.items ≡ [] }
-    ensures status { IfOk result (λ status. (log_report (query_if query.entry) w.now log.now).status ≡ status) }
-    ensures sent { OnOk result (IsSent (K.written out.old) (K.written out.new) text.new.items
-        (text_of (log_report (query_if query.entry) w.now log.now).lines)) }
-    ensures stopped { OnErr result (IsFront (K.written out.old) (K.written out.new)
-        (text_of (log_report (query_if query.entry) w.now log.now).lines)) }
+    ensures status { (v : Verdict) → WorldGives (query_if query.entry) w.now log.now v →
+        IfOk result (λ status. (log_report (query_if query.entry) v w.now log.now).status ≡ status) }
+    ensures sent { (v : Verdict) → WorldGives (query_if query.entry) w.now log.now v →
+        OnOk result (IsSent (K.written out.old) (K.written out.new) text.new.items
+        (text_of (log_report (query_if query.entry) v w.now log.now).lines)) }
+    ensures stopped { (v : Verdict) → OnErr result (IsFront (K.written out.old) (K.written out.new)
+        (text_of (log_report (query_if query.entry) v w.now log.now).lines)) }
     ensures cause { WriteFaults (K.faults out.old) (K.faults out.new) result }
 {
     let mut replay = match Replay::new(alloc, w) {
@@ -81,22 +90,12 @@ fn put_log<K: Sink>(
         Ok(end) => end,
         Err(why) => return Err(why),
     };
-    let more = has_more(w.more, replay.setresuids);
     let asked = Asked {
         world: w,
-        state: &replay.machine.state,
-        more,
+        machine: &replay.machine,
     };
     match put_answer(alloc, asked, query, end, text) {
         Ok(status) => Ok(status),
         Err(NoMemory) => Err(Outside::NoMemory),
     }
-}
-
-// There is more after the log than the weak audit knows: the world declares more, or an event is another call than
-// setresuid.
-fn has_more(more: bool, setresuids: bool) -> bool
-    ensures { result ≡ (more || not setresuids) }
-{
-    more || !setresuids
 }

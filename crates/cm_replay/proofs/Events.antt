@@ -1,5 +1,5 @@
 -- What an event adds to the report, to the run and to what is counted.
-use Rattle.std.proofs.Common.{◌≡◌, ◌≢◌, ℕ, ◌+◌, ◌&&◌, Bool, true, false, List, [], ◌∷◌, ◌++◌, Option}
+use Rattle.std.proofs.Common.{◌≡◌, ◌≢◌, ℕ, ◌+◌, List, [], ◌∷◌, ◌++◌, Option}
 use Rattle.std.proofs.Common.{Some, refl, sym, ap, ◌∙◌, subst, append_assoc, append-nil}
 use Rattle.cm_base.specs.declared.limited.Limited.{Limited}
 use Rattle.cm_base.specs.declared.status.Status.{Status}
@@ -15,7 +15,6 @@ use Rattle.cm_machine.specs.declared.error.StepError.TheVariants as error
 use Rattle.model_cred.specs.Process.{State}
 use Rattle.model_cred.specs.World.{World}
 use Rattle.model_run.specs.Step.{Outcome, Goes, NoProcess, NoSpace, PidInUse, Wrong, outcome}
-use Rattle.model_run.specs.RunBack.{are_setresuids, is_setresuid}
 use Rattle.model_report.specs.Causes.{RunWithin}
 use Rattle.model_report.specs.Replay.{Report, ReportLine, Plain, text_of, by_outcome, after, impossible_text, limit_hit, step_lines, replayed}
 use Rattle.model_report.specs.Replay.{exceeded, IsWithin, unless_exceeded}
@@ -64,10 +63,6 @@ refused w e error.PidInUse become other a b c d =
 refused w e (error.Wrong res) become other a b c d =
     refused_as w e (error.Wrong res) become (Wrong res) (d res refl) (record { ends = record { other = λ is. cc; report = λ rest. refl }; lines = refl })
 
-both_and : (a b c : Bool) → ((a && b) && c) ≡ (a && (b && c))
-both_and true b c = refl
-both_and false b c = refl
-
 -- An event is read where a replay stands, and after it there is the rest.
 module _ (w : World) (from to : Replay) (reading rest : Reading) (e : Placed) (is : reading ≡ reads_on e rest) where
   -- what becomes of it
@@ -110,15 +105,6 @@ module _ (w : World) (from to : Replay) (reading rest : Reading) (e : Placed) (i
       → RunWithin w from.machine.state (events_of reading.events) s
   run_on step s run =
       subst (λ (r : Reading). RunWithin w from.machine.state (events_of r.events) s) (sym is) (to.machine.state, step.0, step.1, run)
-
-  -- and so does what is told of its call
-  pub told_on : to.setresuids ≡ (from.setresuids && is_setresuid e.event.call)
-      → (to.setresuids && are_setresuids (events_of rest.events))
-      ≡ (from.setresuids && are_setresuids (events_of reading.events))
-  told_on told =
-      ap (λ (b : Bool). b && are_setresuids (events_of rest.events)) told
-      ∙ both_and from.setresuids (is_setresuid e.event.call) (are_setresuids (events_of rest.events))
-      ∙ ap (λ (r : Reading). from.setresuids && are_setresuids (events_of r.events)) (sym is)
 
   -- ---- where it ends with it
   ends_here : (st : Status) → EndsWith w e st becomes

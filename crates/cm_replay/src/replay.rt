@@ -1,6 +1,6 @@
 // The replay of a log's events, whatever form of log they are read from: each is made a step of the machine, and its lines of
 // the report are written.
-ghost use Rattle.std.specs.Prelude.{◌≡◌, ◌<◌, ◌+◌, ◌^◌, ◌++◌, ◌&&◌, true, length, IfOk, OnOk, OnErr};
+ghost use Rattle.std.specs.Prelude.{◌≡◌, ◌<◌, ◌+◌, ◌^◌, ◌++◌, length, IfOk, OnOk, OnErr};
 ghost use Rattle.cm_base.specs.Outcome.{OrNoMemory};
 ghost use Rattle.cm_replay.specs.Replay.{event_lines, IsTurn, report_from};
 ghost use Rattle.cm_report.specs.Sent.{IsSent, IsFront};
@@ -11,7 +11,6 @@ ghost use Rattle.cm_world.specs.World.{world_of};
 ghost use Rattle.model_report.specs.Causes.{RunWithin};
 ghost use Rattle.model_report.specs.Replay.{text_of, by_end, exceeded, IsWithin};
 ghost use Rattle.model_run.specs.Step.{outcome};
-ghost use Rattle.model_run.specs.RunBack.{are_setresuids, is_setresuid};
 ghost use Rattle.model_text.specs.Reading.{events_of};
 
 use cm_base::{Limited, NoMemory, Status};
@@ -19,41 +18,25 @@ use cm_io::{Outside, Sink};
 use cm_log::{Log, Next, Placed, Stop};
 use cm_machine::Machine;
 use cm_report::{put_bad_log, put_end, put_impossible, put_limit, put_step, send_full};
-use cm_state::{Call, State};
+use cm_state::State;
 use cm_world::World;
 use std::alloc::Global;
 
-/// Where a replay stands: the machine after the events so far, how many these are, and whether each is a call of setresuid.
+/// Where a replay stands: the machine after the events so far, and how many these are.
 #[derive(Debug, Drop)]
 pub struct Replay {
     pub machine: Machine,
     pub events: u64,
-    pub setresuids: bool,
 }
 
 impl Replay {
     /// The beginning of a replay in a world. Its only error is want of memory.
     pub fn new(alloc: Global, w: &World) -> Result<Replay, NoMemory>
         ensures state { OrNoMemory result (λ replay. replay.machine.state ≡ w.now.start) }
-        ensures none { OrNoMemory result (λ replay. (replay.events ≡ 0) × (replay.setresuids ≡ true)) }
+        ensures none { OrNoMemory result (λ replay. replay.events ≡ 0) }
     {
         let machine = Machine::new(alloc, w)?;
-        Ok(Replay {
-            machine,
-            events: 0,
-            setresuids: true,
-        })
-    }
-
-    // One event more.
-    fn count(&mut self, event: &Placed)
-        requires { self.old.events + 1 < 2 ^ 64 }
-        ensures machine { self.new.machine ≡ self.old.machine }
-        ensures events { self.new.events ≡ self.old.events + 1 }
-        ensures setresuids { self.new.setresuids ≡ (self.old.setresuids && is_setresuid event.now.event.call) }
-    {
-        self.events += 1;
-        self.setresuids = self.setresuids && matches!(event.event.call, Call::SetResUid(_, _, _));
+        Ok(Replay { machine, events: 0 })
     }
 }
 
@@ -79,8 +62,6 @@ pub fn replay_log<K: Sink>(
     // Where the log is accepted, the machine is in the state that its events lead to.
     ensures reached { IfOk result (λ status. status ≡ Status.Accepted →
         RunWithin (world_of w.now) replay.old.machine.state (events_of (left (world_of w.now) log.old).events) replay.new.machine.state) }
-    ensures setresuids { IfOk result (λ status. status ≡ Status.Accepted →
-        replay.new.setresuids ≡ (replay.old.setresuids && are_setresuids (events_of (left (world_of w.now) log.old).events))) }
 {
     loop {
         match log.next(alloc, w) {
@@ -131,8 +112,6 @@ fn take_event(
     ensures lines { OrNoMemory result (λ _. text.new.items ≡ text.old.items
         ++ text_of (event_lines (world_of w.now) event.now (outcome (world_of w.now) replay.old.machine.state event.now.event))) }
     ensures events { OrNoMemory result (λ turn. turn ≡ Turn.Goes → replay.new.events ≡ replay.old.events + 1) }
-    ensures setresuids { OrNoMemory result (λ turn. turn ≡ Turn.Goes →
-        replay.new.setresuids ≡ (replay.old.setresuids && is_setresuid event.now.event.call)) }
 {
     match replay.machine.step(alloc, w, &event.event) {
         Ok(()) => {
@@ -141,7 +120,7 @@ fn take_event(
                 return Ok(Turn::Ends(Status::Limit));
             }
             put_step(text, w, &replay.machine.state, event)?;
-            replay.count(event);
+            replay.events += 1;
             Ok(Turn::Goes)
         }
         Err(why) => {

@@ -5,8 +5,8 @@ ghost use Rattle.cm_world.specs.World.{world_of};
 ghost use Rattle.model_cred.specs.Process.{process_at};
 ghost use Rattle.model_report.specs.Replay.{text_of, step_lines, child_lines, credentials_if, Credentials, Told};
 
-use cm_audit::put_credentials;
 use cm_base::{NoMemory, Pid, Res};
+use cm_credentials::put_credentials;
 use cm_log::Placed;
 use cm_script::numbers::{put, put_decimal};
 use cm_script::put_line;

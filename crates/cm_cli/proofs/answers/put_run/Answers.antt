@@ -5,4 +5,4 @@ use Rattle.cm_world.specs.World.{world_of}
 
 pub returns : goal.returns
 returns c = IfOk-equal _ _ _ _ c.put_holder.ensures
-    (run_written (world_of c.args.w.now) _ _ _ c.args.pid c.args.run.now c.in_ok-put_no.ensures c.in_ok-put_calls.ensures)
+    (run_written (world_of c.args.w.now) _ _ _ c.args.holder c.args.run.now c.in_ok-put_no.ensures c.in_ok-put_calls.ensures)

@@ -5,11 +5,11 @@ use Rattle.cm_cli.proofs.reading.read_files.Goals as goal
 pub returns-in-Ok-read_log_file-clause-ready : goal.returns-in-Ok-read_log_file-clause-ready
 returns-in-Ok-read_log_file-clause-ready g c =
     let log = rw c.in-Ok.ensures.held at c.in-Ok-read_log_file.ensures.read in
-    if_both (g.H.Shelf.held c.args.shelf.now) c.in-Ok.ensures.read log (λ files world_read log_read query.
-    files_ready query (bytes_at files c.args.world.now) (bytes_at files c.args.log.now) c.in-Ok.w c.in-Ok-read_log_file.text world_read log_read)
+    if_both (g.H.Shelf.held c.args.shelf.now) c.in-Ok.ensures.read log (λ files world_read log_read query v.
+    files_ready query v (bytes_at files c.args.world.now) (bytes_at files c.args.log.now) c.in-Ok.w c.in-Ok-read_log_file.text world_read log_read)
 
 pub returns-in-Err-read_log_file-clause-ready : goal.returns-in-Err-read_log_file-clause-ready
 returns-in-Err-read_log_file-clause-ready g c =
     let log = rw c.in-Ok.ensures.held at c.in-Err-read_log_file.ensures.read in
-    if_both (g.H.Shelf.held c.args.shelf.now) c.in-Ok.ensures.read log (λ files world_read log_read query.
-    log_unready query (bytes_at files c.args.world.now) (bytes_at files c.args.log.now) c.in-Err-read_log_file.why c.in-Ok.w world_read log_read)
+    if_both (g.H.Shelf.held c.args.shelf.now) c.in-Ok.ensures.read log (λ files world_read log_read query v.
+    log_unready query v (bytes_at files c.args.world.now) (bytes_at files c.args.log.now) c.in-Err-read_log_file.why c.in-Ok.w world_read log_read)

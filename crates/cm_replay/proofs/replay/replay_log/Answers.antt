@@ -26,7 +26,6 @@ loop-event-preserved g c =
     = record {
       turn = rw c.in-Ok-Goes.field-0-is at c.in-Ok-Goes.ensures.turn;
       events = (rw c.in-Ok-Goes.field-0-is at c.in-Ok-Goes.ensures.events) refl;
-      setresuids = (rw c.in-Ok-Goes.field-0-is at c.in-Ok-Goes.ensures.setresuids) refl;
       lines = c.in-Ok-Goes.ensures.lines;
     } in
     record {
