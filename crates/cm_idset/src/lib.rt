@@ -16,6 +16,3 @@ mod merge;
 pub use ids::IdSet;
 pub use interval::Interval;
 pub use laws::one_meaning_one_list;
-
-#[cfg(test)]
-mod tests;

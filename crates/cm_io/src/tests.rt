@@ -43,12 +43,22 @@ fn sure_shelf(rt: &impl Abort, alloc: Global) -> Result<SureShelf, Fail> {
 // Reads into a buffer of a length, and compares with what is to come.
 fn check_reads(rt: &impl Abort, shelf: &mut impl Shelf, rows: &[(&str, u64, usize, &[u8])]) {
     for (name, at, len, want) in rows {
-        let mut buf = [0u8; 8];
-        let len = (*len).min(8);
-        let got = shelf.read_at(name, *at, &mut buf[..len]);
-        assert_eq!(rt; got, Ok(want.len()), "{name} at {at}");
-        assert!(rt; buf.starts_with(want), "{name} at {at}");
+        check_read(rt, shelf, name, *at, *len, want);
     }
+}
+
+fn check_read(
+    rt: &impl Abort,
+    shelf: &mut impl Shelf,
+    name: &str,
+    at: u64,
+    len: usize,
+    want: &[u8],
+) {
+    let mut buf = [0u8; 8];
+    let got = shelf.read_at(name, at, &mut buf[..len.min(8)]);
+    assert!(rt; got == Ok(want.len()), "{name} at {at}");
+    assert!(rt; buf.starts_with(want), "{name} at {at}");
 }
 
 const ROWS: [(&str, u64, usize, &[u8]); 7] = [
@@ -82,7 +92,7 @@ fn reads_fail_at_their_turns(rt: HostRuntime) -> Result<(), Fail> {
         ("plan", Err(Outside::Failed)),
         ("world", Ok(1)),
     ] {
-        assert_eq!(rt; shelf.read_at(name, 0, &mut buf), want, "{name}");
+        assert!(rt; shelf.read_at(name, 0, &mut buf) == want, "{name}");
     }
     Ok(())
 }
@@ -105,28 +115,37 @@ fn read_unheld(shelf: &mut impl Shelf, name: &str) -> Result<usize, Outside> {
     }
 }
 
+// The faults, reads and bytes that are counted under a name are these.
+fn check_counts(rt: &impl Abort, files: &Held, name: &str, want: Option<[u64; 3]>) {
+    assert!(rt; counts_of(files, name) == want, "{name}");
+}
+
+// Two reads of a name that isn't held, on a shelf whose every read of it fails, and on one whose reads never do.
+fn check_unheld(rt: &impl Abort, shelf: &mut MemShelf, sure: &mut SureShelf, name: &str) {
+    check_counts(rt, &shelf.files, name, None);
+    for reads in [1, 2] {
+        assert!(rt; read_unheld(shelf, name) == Err(Outside::Failed), "{name}");
+        check_counts(rt, &shelf.files, name, Some([reads, reads, 0]));
+        assert!(rt; read_unheld(sure, name) == Ok(0), "{name}");
+        check_counts(rt, &sure.files, name, Some([0, reads, 0]));
+    }
+}
+
 #[test]
 fn reads_of_each_name_are_counted(rt: HostRuntime) -> Result<(), Fail> {
     let mut shelf = mem_shelf(&rt, rt.alloc(), &[2])?;
     let mut sure = sure_shelf(&rt, rt.alloc())?;
-    let mut buf = [0u8; 4];
-    assert_eq!(rt; shelf.read_at("world", 0, &mut buf), Ok(4));
-    assert_eq!(rt; sure.read_at("world", 0, &mut buf), Ok(4));
+    check_read(&rt, &mut shelf, "world", 0, 4, b"abcd");
+    check_read(&rt, &mut sure, "world", 0, 4, b"abcd");
     // More names than the shelves have room for at first.
     for name in ["plan", "memo", "note"] {
-        assert_eq!(rt; counts_of(&shelf.files, name), None);
-        for reads in [1, 2] {
-            assert_eq!(rt; read_unheld(&mut shelf, name), Err(Outside::Failed));
-            assert_eq!(rt; counts_of(&shelf.files, name), Some([reads, reads, 0]));
-            assert_eq!(rt; read_unheld(&mut sure, name), Ok(0));
-            assert_eq!(rt; counts_of(&sure.files, name), Some([0, reads, 0]));
-        }
+        check_unheld(&rt, &mut shelf, &mut sure, name);
     }
     // The first read of `plan` took the turn that was to fail, so this one is made.
-    assert_eq!(rt; shelf.read_at("world", 4, &mut buf), Ok(2));
-    assert_eq!(rt; counts_of(&shelf.files, "world"), Some([0, 2, 6]));
-    assert_eq!(rt; counts_of(&sure.files, "world"), Some([0, 1, 4]));
-    assert_eq!(rt; counts_of(&sure.files, "log"), Some([0, 0, 0]));
+    check_read(&rt, &mut shelf, "world", 4, 4, b"ef");
+    check_counts(&rt, &shelf.files, "world", Some([0, 2, 6]));
+    check_counts(&rt, &sure.files, "world", Some([0, 1, 4]));
+    check_counts(&rt, &sure.files, "log", Some([0, 0, 0]));
     Ok(())
 }
 
@@ -134,85 +153,94 @@ fn reads_of_each_name_are_counted(rt: HostRuntime) -> Result<(), Fail> {
 fn sinks_in_memory_write(rt: HostRuntime) -> Result<(), Fail> {
     let alloc = rt.alloc();
     let mut sink = MemSink::new(alloc, [2].to_vec(alloc)?);
-    assert_eq!(rt; sink.write(b"ab"), Ok(2));
-    assert_eq!(rt; sink.write(b"cd"), Err(Outside::Failed));
-    assert_eq!(rt; write_all(&mut sink, b"ef"), Ok(()));
-    assert_eq!(rt; sink.bytes(), b"abef".as_slice());
+    assert!(rt; sink.write(b"ab") == Ok(2));
+    assert!(rt; sink.write(b"cd") == Err(Outside::Failed));
+    assert!(rt; write_all(&mut sink, b"ef") == Ok(()));
+    assert!(rt; sink.bytes() == b"abef".as_slice());
     let mut sure = SureSink::new(alloc);
-    assert_eq!(rt; write_all(&mut sure, b"abc"), Ok(()));
-    assert_eq!(rt; sure.bytes(), b"abc".as_slice());
+    assert!(rt; write_all(&mut sure, b"abc") == Ok(()));
+    assert!(rt; sure.bytes() == b"abc".as_slice());
+    Ok(())
+}
+
+// A file of the shelf in memory, of which the read of that number fails, is read whole up to a limit, with this end and
+// this text.
+fn check_whole(
+    rt: &impl Abort,
+    alloc: Global,
+    (fail, name, limit): (u64, &str, u8),
+    want: Result<(), WholeError>,
+    read: &[u8],
+) -> Result<(), Fail> {
+    let mut shelf = mem_shelf(rt, alloc, &[fail])?;
+    let mut text = Vec::new(alloc);
+    let got = read_whole(alloc, &mut shelf, name, usize::from(limit), &mut text);
+    assert!(rt; got == want, "{name} up to {limit}");
+    assert!(rt; text.as_slice() == read, "{name} up to {limit}");
     Ok(())
 }
 
 #[test]
 fn files_are_read_whole(rt: HostRuntime) -> Result<(), Fail> {
     let alloc = rt.alloc();
-    for (fail, name, limit, want, read) in [
-        ([9], "world", 6, Ok(()), b"abcdef".as_slice()),
-        (
-            [9],
-            "world",
-            5,
-            Err(WholeError::TooMuch),
-            b"abcdef".as_slice(),
-        ),
-        ([9], "world", 2, Err(WholeError::TooMuch), b"abc".as_slice()),
-        ([2], "world", 6, Err(WholeError::Read), b"abcdef".as_slice()),
-        ([9], "plan", 6, Err(WholeError::Read), b"".as_slice()),
-    ] {
-        let mut shelf = mem_shelf(&rt, alloc, &fail)?;
-        let mut text = Vec::new(alloc);
-        let got = read_whole(alloc, &mut shelf, name, limit, &mut text);
-        assert_eq!(rt; got, want, "{name} up to {limit}");
-        assert_eq!(rt; text.as_slice(), read, "{name} up to {limit}");
-    }
-    Ok(())
+    let too_much = Err(WholeError::TooMuch);
+    let fault = Err(WholeError::Read);
+    check_whole(&rt, alloc, (9, "world", 6), Ok(()), b"abcdef")?;
+    check_whole(&rt, alloc, (9, "world", 5), too_much, b"abcdef")?;
+    check_whole(&rt, alloc, (9, "world", 2), too_much, b"abc")?;
+    check_whole(&rt, alloc, (2, "world", 6), fault, b"abcdef")?;
+    check_whole(&rt, alloc, (9, "plan", 6), fault, b"")
+}
+
+// The path of a file of this test's own.
+fn own_path(rt: &HostRuntime, alloc: Global) -> Result<String, Fail> {
+    let dir = env::temp_dir(rt)?;
+    let id = process::id(rt.process());
+    Ok(format!(in alloc; "{}/cm_io_{id}", dir.as_str())?)
 }
 
 #[test]
 fn real_files_are_read(rt: HostRuntime) -> Result<(), Fail> {
     let alloc = rt.alloc();
-    let dir = env::temp_dir(&rt)?;
-    let dir = dir.as_str();
-    let id = process::id(rt.process());
-    let path = format!(in alloc; "{dir}/cm_io_{id}")?;
+    let path = own_path(&rt, alloc)?;
+    let path = path.as_str();
     let long = vec![in alloc; b'y'; 70_000]?;
-    fs::write(&rt, path.as_str(), long.as_slice())?;
+    fs::write(&rt, path, long.as_slice())?;
     let mut names = Vec::new(alloc);
-    names.push(path.clone()?)?;
+    names.push(String::from_str(alloc, path)?)?;
     let mut shelf = RealShelf::new(&rt, alloc, &names)?;
     let mut text = Vec::new(alloc);
-    let got = read_whole(alloc, &mut shelf, path.as_str(), 70_000, &mut text);
-    assert_eq!(rt; got, Ok(()));
-    assert!(rt; text.as_slice() == long.as_slice());
-    fs::write(&rt, path.as_str(), "abcdef")?;
-    let name = path.as_str();
-    let rows = [
-        (name, 0, 4, b"abcd".as_slice()),
-        (name, 4, 4, b"ef".as_slice()),
-        (name, 6, 4, b"".as_slice()),
-        (name, 2, 2, b"cd".as_slice()),
-    ];
-    check_reads(&rt, &mut shelf, &rows);
-    fs::remove_file(&rt, path.as_str())?;
-    for name in [path.as_str(), dir, "/no/such/file"] {
-        let got = shelf.read_at(name, 0, &mut [0; 4]);
-        assert_eq!(rt; got, Err(Outside::Failed), "{name}");
-    }
+    let got = read_whole(alloc, &mut shelf, path, 70_000, &mut text);
+    assert!(rt; got == Ok(()) && text.as_slice() == long.as_slice());
+    fs::write(&rt, path, "abcdef")?;
+    check_read(&rt, &mut shelf, path, 0, 4, b"abcd");
+    check_read(&rt, &mut shelf, path, 4, 4, b"ef");
+    check_read(&rt, &mut shelf, path, 6, 4, b"");
+    check_read(&rt, &mut shelf, path, 2, 2, b"cd");
+    fs::remove_file(&rt, path)?;
+    check_fault(&rt, &mut shelf, path);
+    check_fault(&rt, &mut shelf, "/");
+    check_fault(&rt, &mut shelf, "/no/such/file");
     Ok(())
+}
+
+// A read of a name fails.
+fn check_fault(rt: &impl Abort, shelf: &mut impl Shelf, name: &str) {
+    let got = shelf.read_at(name, 0, &mut [0; 4]);
+    assert!(rt; got == Err(Outside::Failed), "{name}");
 }
 
 #[test]
 fn a_writer_is_written(rt: HostRuntime) -> Result<(), Fail> {
     let mut bytes = Vec::new(rt.alloc());
     let mut sink = RealSink::new(&mut bytes);
-    assert_eq!(rt; write_all(&mut sink, b"abc"), Ok(()));
-    assert_eq!(rt; sink.write(b""), Ok(0));
-    assert_eq!(rt; bytes.as_slice(), b"abc".as_slice());
+    assert!(rt; write_all(&mut sink, b"abc") == Ok(()));
+    assert!(rt; sink.write(b"") == Ok(0));
+    assert!(rt; bytes.as_slice() == b"abc".as_slice());
     // A slice takes what fits, and then nothing.
     let mut room = [0u8; 3];
     let mut sink = RealSink::new(room.as_mut_slice());
-    assert_eq!(rt; sink.write(b"abcd"), Ok(3));
-    assert_eq!(rt; sink.write(b"d"), Err(Outside::Failed));
+    assert!(rt; sink.write(b"abcd") == Ok(3));
+    assert!(rt; sink.write(b"d") == Err(Outside::Failed));
     Ok(())
 }

@@ -17,6 +17,3 @@ pub use descriptor::Descriptor;
 pub use parts::Parts;
 pub use task::Task;
 pub use written::{read_extents, read_written_word};
-
-#[cfg(test)]
-mod tests;

@@ -1,8 +1,8 @@
 // Credential lines of the processes of a world.
 use crate::stop::Stop;
 use crate::values::number;
-use cm_audit::credentials;
 use cm_base::{Pid, SpaceId};
+use cm_credentials::credentials;
 use cm_world::World;
 use std::alloc::Global;
 

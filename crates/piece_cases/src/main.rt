@@ -1,5 +1,5 @@
 //! Cases of script lines, id maps, tables of files and credential lines: what the calls of `cm_script`, `cm_idmap`,
-//! `cm_files` and `cm_audit` answer. The cases are standard input, line by line (docs/TESTING.md tells their form); each
+//! `cm_files` and `cm_credentials` answer. The cases are standard input, line by line (docs/TESTING.md tells their form); each
 //! line that asks something is printed with its answer.
 #![tactic(auto)]
 

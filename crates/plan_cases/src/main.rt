@@ -1,8 +1,10 @@
-//! Cases of plans, worked out by hand: what the calls of `cm_plans` give. The cases are standard input, line by line
-//! (docs/TESTING.md tells their form); each line that asks something is printed, and its answer below it.
+//! Cases of plans and machines, worked out by hand: what the calls of `cm_plans` and `cm_machine` give. The cases are
+//! standard input, line by line (docs/TESTING.md tells their form); each line that asks something is printed, and its answer
+//! below it.
 #![tactic(auto)]
 
 mod asked;
+mod machine;
 mod session;
 mod shown;
 mod stop;

@@ -1,8 +1,10 @@
 // The lines of cases, one after the other, and the answers to them.
 use crate::asked::{first, plan_list, run};
+use crate::machine::machine_answer;
 use crate::stop::Stop;
 use crate::values::{pids, right};
 use cm_base::Pid;
+use cm_machine::Machine;
 use cm_state::Right;
 use cm_world::{World, read_world};
 use std::alloc::Global;
@@ -10,11 +12,12 @@ use std::alloc::Global;
 // The world before the first one that is written: the initial space alone.
 const FIRST: &str = "log = \"script\"\n";
 
-// What is read so far: the world; the lines of one that hasn't ended yet; the answers.
+// What is read so far: the world; the lines of one that hasn't ended yet; the machine, once there is one; the answers.
 #[derive(Drop)]
 struct Session {
     world: World,
     lines: Option<String>,
+    machine: Option<Machine>,
     told: String,
 }
 
@@ -24,6 +27,7 @@ pub(crate) fn answers(alloc: Global, text: &str) -> Result<String, Stop> {
     let mut s = Session {
         world,
         lines: None,
+        machine: None,
         told: String::new(alloc),
     };
     for line in text.lines() {
@@ -61,7 +65,7 @@ impl Session {
         Ok(())
     }
 
-    // Another line: a question, the right and the members.
+    // Another line: one on the machine, or a question, the right and the members.
     fn case_line(&mut self, alloc: Global, line: &str) -> Result<(), Stop> {
         let words: Vec<&str> = line.split_whitespace().collect(alloc)?;
         match words.as_slice() {
@@ -70,6 +74,8 @@ impl Session {
                 self.lines = Some(String::new(alloc));
                 Ok(())
             }
+            ["machine"] => self.begin(alloc),
+            ["step" | "answer" | "family" | "processes", ..] => self.ask_machine(alloc, line),
             [word, kind, what, members @ ..] => {
                 let right = right(kind, what)?;
                 let members = pids(alloc, members)?;
@@ -93,6 +99,20 @@ impl Session {
             "run" => run(alloc, &self.world, members, right)?,
             _ => return Err(Stop::Bad),
         };
+        self.tell(line, answer.as_str())
+    }
+
+    // The machine is in the state that the world begins with.
+    fn begin(&mut self, alloc: Global) -> Result<(), Stop> {
+        self.machine = Some(Machine::new(alloc, &self.world)?);
+        Ok(())
+    }
+
+    fn ask_machine(&mut self, alloc: Global, line: &str) -> Result<(), Stop> {
+        let Some(m) = &mut self.machine else {
+            return Err(Stop::Bad);
+        };
+        let answer = machine_answer(alloc, &self.world, m, line)?;
         self.tell(line, answer.as_str())
     }
 

@@ -5,16 +5,19 @@ use cm_state::Right;
 use std::alloc::Global;
 
 // A number of at most 4294967295.
-fn number(word: &str) -> Result<u32, Stop> {
+pub(crate) fn number(word: &str) -> Result<u32, Stop> {
     read_u32(word.as_bytes()).map_err(|_| Stop::Bad)
+}
+
+pub(crate) fn pid(word: &str) -> Result<Pid, Stop> {
+    Pid::new(number(word)?).ok_or(Stop::Bad)
 }
 
 // The pids of these.
 pub(crate) fn pids(alloc: Global, words: &[&str]) -> Result<Vec<Pid>, Stop> {
     let mut list = Vec::new(alloc);
     for word in words {
-        let pid = Pid::new(number(word)?).ok_or(Stop::Bad)?;
-        list.push(pid)?;
+        list.push(pid(word)?)?;
     }
     Ok(list)
 }

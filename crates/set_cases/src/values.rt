@@ -1,0 +1,36 @@
+// Numbers and ranges as the lines of cases write them. What is none is bad.
+use crate::stop::Stop;
+use cm_base::read_u32;
+use cm_idset::IdSet;
+use cm_sets::SetLike;
+use std::alloc::Global;
+
+// A number of at most 4294967295.
+pub(crate) fn number(word: &str) -> Result<u32, Stop> {
+    read_u32(word.as_bytes()).map_err(|_| Stop::Bad)
+}
+
+// The ids from the one to the other, `first-last`, or a single id.
+fn range(alloc: Global, word: &str) -> Result<IdSet, Stop> {
+    let (first, last) = word.split_once('-').unwrap_or((word, word));
+    let first = number(first)?;
+    let last = number(last)?;
+    if first > last || last == u32::MAX {
+        return Err(Stop::Bad);
+    }
+    Ok(IdSet::range(alloc, first, last)?)
+}
+
+// The ids of all these.
+pub(crate) fn ids(alloc: Global, words: &[&str]) -> Result<IdSet, Stop> {
+    let mut all = IdSet::empty(alloc);
+    for word in words {
+        let more = range(alloc, word)?;
+        all = all.join(alloc, &more)?;
+    }
+    Ok(all)
+}
+
+pub(crate) fn yes_or_no(alloc: Global, yes: bool) -> Result<String, Stop> {
+    Ok(String::from_str(alloc, if yes { "yes" } else { "no" })?)
+}
