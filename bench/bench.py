@@ -22,6 +22,10 @@ PART is one of these, all being measured where it is left out:
            `check` in the built program of crates/judge_bench, against those of plain_replay.rs, once their numbers on the
            bounds are the same. It is processor time, and needs Linux's /proc/PID/schedstat
 
+  audit    seconds of `credaudit audit` at all limits, milliseconds in a small world, how often as long twice the members, the
+           spaces or the files take, and a hostile chain of programs (audits.py); ends with status 1 past 2 s, 10 ms or 2.3
+           times. The plain program has no audit
+
 KIND is what the logs of ratio, linear, scan and memory have (left out: ratio is measured for each, linear and memory for
 setresuid and strace; scan takes strace where KIND is none of strace):
 
@@ -47,6 +51,7 @@ import sys
 import tempfile
 import time
 
+from audits import audits
 from passes import bounds
 from worlds import BOUNDS_WORLDS, LOG_WORLDS, WORLDS
 
@@ -54,7 +59,7 @@ HERE = os.path.dirname(os.path.abspath(__file__))
 BUILT = os.path.normpath(os.path.join(HERE, "..", "crates", "credaudit", "out", "credaudit"))
 MIB = 1 << 20
 SIZES, STRACE_SIZES = (1, 4, 16, 64), (32, 64)
-PARTS = ("ratio", "linear", "scan", "memory", "world", "bounds")
+PARTS = ("ratio", "linear", "scan", "memory", "world", "bounds", "audit")
 # Of each kind of log the number of events, of strace that of lines, which are more than fill 64 MiB.
 STRACE = {"strace": 1000000, "strace-few": 1000000, "strace-held": 1150000, "strace-held-quarter": 1150000}
 KINDS = {"setresuid": 2700000, "setuid": 3400000, "mixed": 3100000, "spaces": 3300000, "execve": 2100000, **STRACE}
@@ -263,7 +268,7 @@ def large_worlds(plain, program, runs, work):
 
 def measure(program, asked, work):
     parts = [asked.only] if asked.only else PARTS
-    plain = plain_program(work)
+    plain = None if parts == ["audit"] else plain_program(work)
     kinds = [asked.kind] if asked.kind else list(KINDS)
     for kind in kinds if "ratio" in parts else ():
         ratio(kind, Logs(kind, plain, program, work), asked.runs)
@@ -283,6 +288,8 @@ def measure(program, asked, work):
         large_worlds(plain, program, asked.runs, work)
     for name, make in BOUNDS_WORLDS.items() if "bounds" in parts else ():
         bounds(name, write(os.path.join(work, f"{name}.toml"), make()), plain, program, asked.runs)
+    if "audit" in parts and program and not audits(program, asked.runs, work):
+        sys.exit("bench.py: an audit takes longer than it may")
 
 
 def main():

@@ -14,11 +14,11 @@ CALLS = ("setuid setreuid setresuid setfsuid setgid setregid setresgid setfsgid 
 VERSION_2, VERSION_3 = "010000020020000000000000000000{:02x}00000000", "010000030020000000000000000000{:02x}00000000a0860100"
 
 
-def row(table, **keys):
+def row(table: str, **keys: object) -> str:
     return f"[[{table}]]\n" + "".join(f"{key} = {value}\n" for key, value in keys.items() if value is not None)
 
 
-def text(value):
+def text(value: object) -> str:
     return f'"{value}"'
 
 

@@ -14,6 +14,7 @@ const OUTSIDE: [&str; 5] = ["ENOMEM", "EAGAIN", "EINTR", "EFAULT", "EIO"];
 const OF_EXEC: [&str; 9] =
     ["ENOENT", "EACCES", "ENOTDIR", "ELOOP", "ENAMETOOLONG", "E2BIG", "ENOEXEC", "ETXTBSY", "ELIBBAD"];
 
+#[derive(Clone)]
 pub struct Machine {
     pub procs: Procs,
     pub spaces: Vec<Space>,

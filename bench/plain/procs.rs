@@ -2,13 +2,14 @@
 use crate::cred::Cred;
 use std::rc::Rc;
 
+#[derive(Clone)]
 pub struct Proc {
     pub space: u32,
     pub cred: Cred,
     pub groups: Rc<[u32]>,
 }
 
-#[derive(Default)]
+#[derive(Clone, Default)]
 pub struct Procs {
     pids: Vec<u32>,
     parents: Vec<u32>, // 0: none
@@ -26,6 +27,12 @@ impl Procs {
 
     pub fn all(&self) -> impl Iterator<Item = (u32, &Proc)> {
         self.pids.iter().copied().zip(&self.procs)
+    }
+
+    /// The nearest living ancestor of each process, in the order of pids; 0 for none.
+    #[allow(dead_code)] // the search of tools/witness asks for it
+    pub fn parents(&self) -> &[u32] {
+        &self.parents
     }
 
     pub fn has(&self, pid: u32) -> bool {

@@ -5,6 +5,7 @@ use crate::map::{up, Extent, Map};
 pub const NONE: u32 = u32::MAX;
 pub const DEEPEST: u32 = 32;
 
+#[derive(Clone)]
 pub struct Space {
     pub parent: u32, // NONE of the initial one
     pub level: u32,
