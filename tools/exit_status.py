@@ -39,7 +39,15 @@ def files(world, log):
         "faulty": log + "100 setresuid 0 0\n",
         "bad": world + "no = \"key\"\n",
         "long": "#" * 1048577,
+        # A capability that is permitted and can't be raised: whether it is ever effective isn't told.
+        "held": 'log = "script"\n[[process]]\npid = 100\nuid = 1000\npermitted = "CAP_KILL"\n'
+                '[filter]\nexclude = ["capset"]\n',
+        "empty": "",
     }
+
+
+HELD = ("> 100 init uid=1000,1000,1000,1000 gid=0,0,0,0 groups=- inh=0000000000000000 prm=0000000000000020 "
+        "eff=0000000000000000 bnd=000001ffffffffff amb=0000000000000000 sec=00 nnp=0\nend 0\n")
 
 
 def rows(report):
@@ -47,6 +55,7 @@ def rows(report):
     front = report[:report.index("end 1\n")]
     return [
         (("audit", "world", "log", "100", "uid:1000"), 1, report + "no 0\nholder 100\n"),
+        (("audit", "held", "empty", "100", "cap:CAP_KILL@init"), 2, HELD + "undecided start init\n"),
         (("replay", "world", "impossible"), 3, front + "impossible line 2: the rules give EPERM\n"),
         (("replay", "bad", "log"), 4, "bad world process 1: UnknownKey\n"),
         (("replay", "world", "faulty"), 5, front + "bad log line 2: shape\n"),

@@ -39,7 +39,7 @@ enum { INIT, BOX, INNER, OTHER, BARE, OWN, SAME, ROOTLESS, USERS, MIXED, CALLERS
 
 // Mounts: the filesystem's space and what takes its 0 to the kernel's ids, flags, and the space whose maps an idmapped
 // mount has.
-static const struct mount_row {
+static struct mount_row {
     const char *name;
     int space;
     unsigned zero;
@@ -206,19 +206,52 @@ static void path_of(char *path, const char *below, const struct mount_row *m)
     sprintf(path, "%s/%s", below, m->name);
 }
 
-static void make_mount(const struct mount_row *m)
+static int copy_of(const char *path)
 {
-    struct mount_attr with_maps = { .attr_set = MOUNT_ATTR_IDMAP, .userns_fd = spaces[m->maps].file };
+    int copy = syscall(SYS_open_tree, AT_FDCWD, path, OPEN_TREE_CLONE | OPEN_TREE_CLOEXEC);
+
+    must(copy >= 0, "open_tree");
+    return copy;
+}
+
+// What a mount with maps is made of: a tmpfs, or where there is a folder, one within it.
+static int ground_of(const struct mount_row *m, const char *folder)
+{
+    char path[256];
+
+    if (!folder)
+        return tmpfs_of(m);
+    snprintf(path, sizeof path, "%s/%s", folder, m->name);
+    must(mkdir(path, 0755) == 0, path);
+    return copy_of(path);
+}
+
+static void make_mount_with_maps(const struct mount_row *m, const char *folder)
+{
+    struct mount_attr with_maps = { .attr_set = MOUNT_ATTR_IDMAP | (m->nosuid ? MOUNT_ATTR_NOSUID : 0),
+                                    .userns_fd = spaces[m->maps].file };
     char path[128];
     int copy;
 
-    path_of(path, m->maps ? BACK : TOP, m);
-    move(tmpfs_of(m), path);
-    if (!m->maps)
-        return;
-    copy = syscall(SYS_open_tree, AT_FDCWD, path, OPEN_TREE_CLONE | OPEN_TREE_CLOEXEC);
-    must(copy >= 0, "open_tree");
+    path_of(path, BACK, m);
+    move(ground_of(m, folder), path);
+    copy = copy_of(path);
     must(syscall(SYS_mount_setattr, copy, "", AT_EMPTY_PATH, &with_maps, sizeof with_maps) == 0, "mount_setattr");
     path_of(path, TOP, m);
     move(copy, path);
+}
+
+// With a folder, no tmpfs can have maps: those of a filesystem that must be one are left out.
+static void make_mount(struct mount_row *m, const char *folder)
+{
+    char path[128];
+
+    if (folder && m->space != INIT)
+        m->maps = INIT;
+    if (m->maps) {
+        make_mount_with_maps(m, folder);
+        return;
+    }
+    path_of(path, TOP, m);
+    move(tmpfs_of(m), path);
 }

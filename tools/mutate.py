@@ -58,7 +58,7 @@ AUDIT_ENDS = {
     **ENDS,
     0: rb"yes\n(?:\{.*\}\n)?",
     1: rb"no %s\n(?:%s [a-z_]+ .*\n)*holder %s\n" % (NUMBER, NUMBER, NUMBER),
-    2: rb"undecided [a-z_]+ .*\n\{.*\}\n",
+    2: rb"undecided [a-z_]+ .*\n(?:\{.*\}\n)?",
     6: re.escape(USAGE),
     12: rb"bad query: (?:pid|right|space)\n",
 }
@@ -152,8 +152,6 @@ def wrong_audit(case, seen, answer):
     tail, bad = answer.out[len(seen.text):], bad_query(seen, *case.query)
     if not re.fullmatch(AUDIT_ENDS[answer.status], tail):
         return "audit: another end"
-    if bad == "space" and tail == b"not built\n":     # rights over spaces come with the whole audit
-        return None
     told = tail == b"bad query: %s\n" % bad.encode() if bad else not tail.startswith(b"bad query")
     return None if told else f"audit: bad query {bad} wanted"
 

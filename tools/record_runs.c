@@ -163,7 +163,7 @@ int main(int argc, char **argv)
 {
     unsigned given[3] = { 1, 1, 300 };
 
-    read_words(argc, argv, "runs", "", given);
+    read_words(argc, argv, &(struct usage){ .names = { "seed", "first", "runs" } }, given);
     start_as_root(powers | CAP(SYS_ADMIN));
     make_page();
     put_kernel();

@@ -1,6 +1,6 @@
 // Records what the running kernel makes of the nine calls that set user and group ids.
 //
-//   record_set_ids > CASES
+//   record_set_ids [--every N] > CASES
 //
 // To be run as root on a 64-bit Linux, with CAP_SETUID, CAP_SETGID, CAP_SETPCAP and the other capabilities named below
 // permitted and effective, and with no securebits. The calls are setuid, setreuid, setresuid, setfsuid over all arguments
@@ -9,7 +9,7 @@
 // ids and these two securebits both set or neither, and there setgroups with some lists too. Then both again, in 648
 // states of the first two kinds, with the ids 0, 2147483648 and 4294967294. The calls are made as the kernel has them,
 // with nothing of the C library's in between, and each in a child of its own: a process goes into the state, and forks a
-// child for each case.
+// child for each case. With --every the first state is taken, the Nth after it and so on, and no others.
 //
 // CASES has lines of these forms:
 //
@@ -24,6 +24,7 @@
 // reads all ten before the call and after it; those of before must be those of the state.
 #define _GNU_SOURCE
 #include "credential.h"
+#include "words.h"
 
 #define ALL (~0ull)         // all that the recorder has
 #define MINE (1ull << 63)   // CAP_SETUID in a state for the uid calls, CAP_SETGID in one for the gid calls
@@ -178,10 +179,15 @@ static void reach(enum side side, const struct kind *kind, const unsigned *ids, 
     go_into(&to);
 }
 
+static unsigned every = 1, states;     // which are taken, and how many there were
+
 static void one_state(enum side side, const struct kind *kind, const unsigned *palette, int number, unsigned sec)
 {
-    pid_t child = fork();
+    pid_t child;
 
+    if (states++ % every)
+        return;
+    child = fork();
     if (child == 0) {
         unsigned ids[4];
         struct seen state;
@@ -213,11 +219,8 @@ int main(int argc, char **argv)
         CAP(DAC_READ_SEARCH) | CAP(FOWNER) | CAP(FSETID) | CAP(KILL) | CAP(LINUX_IMMUTABLE) | CAP(MAC_OVERRIDE) |
         CAP(MKNOD) | CAP(NET_BIND_SERVICE) | CAP(SYS_CHROOT);
 
-    (void)argv;
-    if (argc != 1) {
-        fprintf(stderr, "usage: record_set_ids > CASES\n");
-        return 2;
-    }
+    read_words(argc, argv, &(struct usage){ .names = { "every" } }, &every);
+    must(every > 0, "--every 0");
     start_as_root(needed);
     put_kernel();
     all_states(USERS, small_ids, KINDS, 1);

@@ -410,7 +410,7 @@ int main(int argc, char **argv)
 {
     unsigned given[3] = { 1, 1, 400 };
 
-    read_words(argc, argv, "runs", "", given);
+    read_words(argc, argv, &(struct usage){ .names = { "seed", "first", "runs" } }, given);
     start_as_root(powers | CAP(SYS_ADMIN) | CAP(SYS_PTRACE) | CAP(SETFCAP));
     make_page();
     more = mmap(NULL, sizeof *more, PROT_READ | PROT_WRITE, MAP_SHARED | MAP_ANONYMOUS, -1, 0);

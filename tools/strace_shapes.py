@@ -101,6 +101,8 @@ PASSED_OVER = [
         '100 write(3, "0 0 1\\n", 6)            = 6'], [], "end"),
     ("-X raw, -e raw=", ["100 prctl(0x8, 1)                     = 0"], [], "end"),
     ("-X raw, -e raw=", ["100 unshare(0x10000000)               = 0"], [], "end"),
+    ("-X raw, -e raw=", ["100 clone(child_stack=NULL, flags=0x10000000|17) = 101"], ["1: 100 fork = 101"], "end"),
+    ("-e verbose=none", ["100 clone3(0x7ffd4821a2c0, 88) = 101"], ["1: 100 fork = 101"], "end"),
     ("-X verbose", ["100 prctl(0x8 /* PR_SET_KEEPCAPS */, 1) = 0"], [], "end"),
     ("-X verbose", ["100 unshare(0x10000000 /* CLONE_NEWUSER */) = 0"], [], "end"),
     ("-qq", ["100 fork()                            = 101"], ["1: 100 fork = 101"], "end"),

@@ -37,10 +37,13 @@ int main(int count, char **words)
 """
 
 
-def seconds(words: list[str]) -> tuple[float, float]:
-    """What a command takes by the clock, and of the processors' time with all its children."""
+def seconds(words: list[str], most: int = 0) -> tuple[float, float]:
+    """What a command takes by the clock, and of the processors' time with all its children. Its status is `most` at
+    most."""
     begun, before = time.monotonic(), resource.getrusage(resource.RUSAGE_CHILDREN)
-    subprocess.run(words, check=True, stdout=subprocess.DEVNULL, stderr=subprocess.DEVNULL)
+    status = subprocess.run(words, stdout=subprocess.DEVNULL, stderr=subprocess.DEVNULL).returncode
+    if not 0 <= status <= most:
+        sys.exit(f"{words[0]} ended with status {status}")
     after = resource.getrusage(resource.RUSAGE_CHILDREN)
     return time.monotonic() - begun, after.ru_utime + after.ru_stime - before.ru_utime - before.ru_stime
 

@@ -43,18 +43,19 @@ def tell(name: str, text: str) -> None:
 
 
 class Progress:
-    """Says on standard error how far a long job is: nothing in its first second, then a line every few."""
+    """Says on standard error how far a long job is: nothing in its first second, then a line every few, where it has
+    another text."""
 
     def __init__(self, name: str, clock: Callable[[], float] = time.monotonic) -> None:
         self.name, self.clock = name, clock
-        self.next = clock() + PATIENCE
+        self.next, self.last = clock() + PATIENCE, ""
 
     def at(self, text: str) -> None:
         """How far the job is; told where it is time."""
         now = self.clock()
-        if now >= self.next:
+        if now >= self.next and text != self.last:
             tell(self.name, text)
-            self.next = now + PACE
+            self.next, self.last = now + PACE, text
 
 
 def carried_out(name: str, job: Callable[[Sequence[str]], int], words: Sequence[str]) -> int:

@@ -33,6 +33,7 @@ SHAPES = (
     (re.compile(rb"\[[0-9a-f?]{8,}\] "), "the instruction pointer stands before the call", "without -i"),
     (re.compile(rb"\[ *\d+\] "), "the call's number stands before it", "without -n"),
 )
+RAW_FLAGS = re.compile(rb"clone\(.*\bflags=0x|clone3\(\{flags=0x")
 RAW = re.compile(rb"(prctl|unshare|clone|clone3|setns)\((0x[0-9a-f]+)(?! *\|)|openat\((-100|0xffffff9c),")
 NOTED = re.compile(rb"0x[0-9a-f]+ /\* [A-Z][A-Z0-9_|]* \*/")      # with `???` strace says that it knows no name
 
@@ -75,7 +76,14 @@ def odd_shape(line: Line) -> Iterator[Doubt]:
 
 
 def raw_words(line: Line) -> Iterator[Doubt]:
-    if line.event or line.call is None:
+    if line.call is None:
+        return
+    if line.call.name in BIRTHS and line.call.done is not None and (RAW.match(line.body) or RAW_FLAGS.match(line.body)):
+        yield ("hidden flags",
+               "the flags of a birth aren't shown: it is read as a fork, also where it makes a namespace",
+               "without -X raw, -e raw= and -e verbose=none")
+        return
+    if line.event:
         return
     if RAW.match(line.body):
         yield ("raw", "numbers stand in the place of names: births, namespaces and prctl aren't read",

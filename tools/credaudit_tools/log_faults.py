@@ -95,6 +95,8 @@ STRACE = (
     meant("pid", rb"\s*\[?\[|\s*[a-z_]+ *= ", "this looks like a world", "WORLD stands before LOG"),
     meant("shape", rb"\d+ +[a-z_0-9]+ .* = ", "that is a line of a script", 'log = "script" in the world'),
     meant("shape", rb".*<pid changed to", "a thread that isn't the leader made an execve", "begin with -p after it"),
+    meant("shape", rb".*execve(at)?\(.*<detached \.\.\.>", "strace let go of the process, which runs on untraced",
+          "record anew, without -b execve and up to the end that you ask about"),
     meant("shape", rb".*<detached \.\.\.>", "strace ended while the call was under way", "cut that line off"),
     meant("shape", rb".*[^)]$", "the line is cut", "record it anew, or cut that line off"),
     meant("superseded", rb"", "a thread that isn't the leader made an execve",

@@ -6,6 +6,8 @@ import re
 from collections.abc import Iterable
 from dataclasses import dataclass
 
+from .command import Failure
+from .files import read_regular
 from .followed import Followed, Task
 from .mounts import Mount, table
 from .names import MAP_FILES
@@ -13,6 +15,7 @@ from .proc import Proc
 
 INSIDE = re.compile(rb"/([1-9][0-9]*)(?:/task/([1-9][0-9]*))?/(uid_map|gid_map|setgroups)")
 NAMES = tuple(name.encode() for name in MAP_FILES)
+MOST_STAT = 1 << 16
 
 
 class Unclear(Exception):
@@ -94,11 +97,10 @@ class MapFiles:
 
 
 def started(folder: bytes) -> bytes | None:
-    """When the process of a folder of proc was born."""
+    """When the process of a folder of proc was born. What stands there may be another file than proc's meanwhile."""
     try:
-        with open(folder + b"/stat", "rb") as file:
-            return file.read().rpartition(b")")[2].split()[19]
-    except (OSError, IndexError):
+        return read_regular(folder + b"/stat", MOST_STAT).rpartition(b")")[2].split()[19]
+    except (Failure, IndexError):
         return None
 
 

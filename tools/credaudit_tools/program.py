@@ -11,7 +11,7 @@ HERE = os.path.dirname(os.path.abspath(__file__))
 INSTALLED = os.path.normpath(os.path.join(HERE, "..", "..", "..", "bin", "credaudit"))
 BUILT = os.path.normpath(os.path.join(HERE, "..", "..", "crates", "credaudit", "out", "credaudit"))
 # What each status of the program means (docs/FORMATS.md, "Report").
-STATUSES = {0: "accepted", 1: "no", 3: "impossible", 4: "bad world", 5: "bad log", 6: "wrong words",
+STATUSES = {0: "accepted", 1: "no", 2: "undecided", 3: "impossible", 4: "bad world", 5: "bad log", 6: "wrong words",
             7: "a file can't be read", 8: "a write failed", 9: "a limit", 10: "no memory", 12: "bad query",
             13: "not built"}
 
@@ -26,6 +26,15 @@ def find() -> str:
             return os.path.abspath(candidate)
     raise Failure(f"credaudit isn't there: {named or BUILT}",
                   "build it with make, put it into the PATH, or name it by the variable CREDAUDIT")
+
+
+def is_text(word: str) -> bool:
+    """Whether a word is UTF-8."""
+    try:
+        os.fsencode(word).decode("utf-8")
+    except UnicodeDecodeError:
+        return False
+    return True
 
 
 class Program:
@@ -50,8 +59,14 @@ class Program:
         return report.read(*self.answer(*words))
 
     def replay(self, world: str, log: str) -> report.Report:
-        """The replay of two files."""
-        return self.run("replay", world, log)
+        """The replay of two files. The program takes words in UTF-8 alone: files of other names are named by links."""
+        if is_text(world) and is_text(log):
+            return self.run("replay", world, log)
+        with tempfile.TemporaryDirectory(prefix="credaudit-") as work:
+            links = [os.path.join(work, name) for name in ("world.toml", "log")]
+            for link, path in zip(links, (world, log)):
+                os.symlink(os.path.abspath(path), link)
+            return self.run("replay", *links)
 
     def replay_texts(self, world: bytes, log: bytes) -> report.Report:
         """The replay of two texts."""

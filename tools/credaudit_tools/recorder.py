@@ -165,10 +165,11 @@ class Recorder:
     def wait_for_end(self, stream: Stream) -> str:
         """Reads until an end comes; which one."""
         ends = None if self.asked.seconds is None else time.monotonic() + self.asked.seconds
+        how = "; Ctrl-C ends the recording" if ends is None else ""
         while not stream.ended:
             left = POLL if ends is None else max(0.0, min(POLL, ends - time.monotonic()))
             stream.pump(left)
-            self.progress.at(f"{stream.count} lines of strace, {len(self.filter.taken.lines)} kept")
+            self.progress.at(f"{stream.count} lines of strace, {len(self.filter.taken.lines)} kept{how}")
             if stream.stopped is not None:
                 return "stopped"
             if stream.reached:

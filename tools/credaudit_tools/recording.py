@@ -179,7 +179,8 @@ def read(folder: str) -> Recording:
 
 
 def write(folder: str, recording: Recording) -> None:
-    """Puts a recording into a folder, which is made where it isn't there; only its owner can read it then."""
+    """Puts a recording into a folder, which is made where it isn't there; only its owner can read it then. Of one
+    that was there before nothing stays."""
     os.makedirs(folder, mode=0o700, exist_ok=True)
     write_new(folder, WORLD, recording.world)
     texts = texts_of(recording)
@@ -191,3 +192,5 @@ def write(folder: str, recording: Recording) -> None:
     for name, text in ((CHANGES, recording.changes), (FILTERS, recording.filters)):
         if text:
             write_new(folder, name, text.encode())
+        elif os.path.lexists(os.path.join(folder, name)):
+            os.remove(os.path.join(folder, name))

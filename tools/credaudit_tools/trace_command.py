@@ -76,6 +76,8 @@ def main(given: Sequence[str]) -> int:
 def traced(options: argparse.Namespace, asked: Asked) -> int:
     """Records, writes, and verifies; the exit status."""
     proc.needs_root()
+    if recording.is_folder(options.output):
+        tell(NAME, f"{options.output} has a recording already: it is written over")
     found = Recorder(asked, Progress(NAME)).record()
     made = numbered(found, options.pids_from) if options.pids_from else found
     recording.write(options.output, made)

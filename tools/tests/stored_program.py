@@ -12,7 +12,7 @@ import subprocess
 import sys
 
 REPORTS = os.path.join(os.path.dirname(os.path.abspath(__file__)), "data", "reports")
-UNKNOWN = 99
+UNKNOWN, USAGE = 99, 6
 
 
 def part(word: str) -> str:
@@ -36,7 +36,10 @@ def called(program: str, words: list[str]) -> tuple[int, bytes]:
 
 
 def answer(words: list[str]) -> tuple[int, bytes]:
-    """The status and the report of a call. Where the program is named it is asked too, and must answer the same."""
+    """The status and the report of a call. Where the program is named it is asked too, and must answer the same. Words
+    that aren't UTF-8 get the usage, of which no report is kept."""
+    if any("\udc80" <= letter <= "\udcff" for word in words for letter in word):
+        return USAGE, b""
     path, program = stored(words), os.environ.get("CREDAUDIT_STORE")
     if not os.path.exists(path):
         if program is None:

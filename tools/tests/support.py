@@ -9,6 +9,7 @@ import stat
 import tempfile
 import unittest
 from collections.abc import Callable, Iterator, Sequence
+from unittest import mock
 
 from credaudit_tools import command
 from credaudit_tools.program import Program
@@ -31,7 +32,7 @@ def stored_answer(program: Program, *words: str) -> tuple[str, int]:
     return text.decode("ascii", "backslashreplace"), status
 
 
-Program.answer = stored_answer  # type: ignore[method-assign]
+mock.patch.object(Program, "answer", stored_answer).start()
 
 
 def data(*names: str) -> bytes:
@@ -76,7 +77,7 @@ class Case(unittest.TestCase):
 def cases(name: str) -> Iterator[tuple[str, list[tuple[str, str]]]]:
     """The cases of a stored text: `case TITLE`, then lines, each with the last mark that stood alone on a line
     before it. A line that begins with `;` is a remark."""
-    title, mark, lines = "", "", []
+    title, mark, lines = "", "", list[tuple[str, str]]()
     for line in data(name).decode("utf-8").split("\n"):
         if line.startswith("case "):
             if title:

@@ -30,7 +30,7 @@ class Systems(support.Case):
         return StoredSystem(text, os.path.join(self.work, "proc"))
 
     def capture(self, system: StoredSystem, wishes: Wishes = Wishes(), pid: int = ROOT) -> Capture:
-        read = family.settled(system, pid, False, 1.0, pause=lambda _: None)
+        read = family.settled(system, pid, False, 600.0, pause=lambda _: None)
         return captured(system, read, wishes, lambda _: None)
 
 

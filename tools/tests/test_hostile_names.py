@@ -1,9 +1,10 @@
 """Names that whoever is captured or recorded may choose, in each place where a name can stand: each stays one name."""
 import os
 import re
+import shutil
 import tomllib
 
-from credaudit_tools import family, lint_command, mounts, programs, shown, worlds
+from credaudit_tools import family, lint_command, mounts, programs, shown, verify_command, worlds
 from credaudit_tools.capture import Capture, Wishes, captured
 from credaudit_tools.command import FOUND
 from credaudit_tools.kernel import Program
@@ -34,7 +35,7 @@ class Hostile(support.Case):
     def capture(self, **rows: list[dict[str, object]]) -> Capture:
         self.system.table = {"thread": [{"tid": ROOT}], "mounts": [MOUNTS], **rows}
         self.system.build()
-        read = family.settled(self.system, ROOT, False, 1.0, pause=lambda _: None)
+        read = family.settled(self.system, ROOT, False, 600.0, pause=lambda _: None)
         return captured(self.system, read, Wishes(), lambda _: None)
 
     def check(self, made: Capture) -> worlds.World:
@@ -135,6 +136,15 @@ class OnDisk(support.Case):
         finally:
             os.close(top)
         self.assertEqual(sorted(each.path for each in found), sorted(b"/top/" + name for name in names))
+
+    def test_recordings_of_such_names_are_verified(self) -> None:
+        for name in self.made():
+            with self.subTest(name):
+                folder = os.path.join(self.work, "recordings", os.fsdecode(name))
+                shutil.copytree(os.path.join(support.DATA, "recordings", "daemon"), folder)
+                status, out, errors = self.told(verify_command.main, folder)
+                self.assertEqual((status, errors), (0, ""))
+                self.assertFalse(set(out) - set(map(chr, range(0x20, 0x7f))) - {"\n"}, out)
 
     def test_the_lint_shows_no_byte_that_is_obeyed(self) -> None:
         for name in self.made():

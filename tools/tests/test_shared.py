@@ -90,9 +90,9 @@ class Commands(Case):
         now, told = [0.0], []
         with mock.patch.object(command, "tell", lambda _, text: told.append(text)):
             progress = Progress("test", lambda: now[0])
-            for now[0] in (0.5, 1.5, 2.0, 7.0):
-                progress.at(str(now[0]))
-        self.assertEqual(told, ["1.5", "7.0"])
+            for now[0], text in ((0.5, "a"), (1.5, "b"), (2.0, "c"), (7.0, "d"), (13.0, "d"), (14.0, "e")):
+                progress.at(text)
+        self.assertEqual(told, ["b", "d", "e"])
 
 
 class Runner(Case):

@@ -8,7 +8,7 @@ import time
 import unittest
 from unittest import mock
 
-from credaudit_tools import proc, recording, trace_command
+from credaudit_tools import command, proc, recording, trace_command
 from credaudit_tools.command import Failure
 from credaudit_tools.stub import user_of
 
@@ -30,6 +30,7 @@ class Traced(Case):
     def setUp(self) -> None:
         super().setUp()
         self.out = os.path.join(self.work, "recording")
+        self.enterContext(mock.patch.object(command, "PATIENCE", 600.0))     # no word of progress on a slow machine
         if os.geteuid() != 0:
             self.enterContext(mock.patch.object(proc, "needs_root", lambda: None))
         handlers = [(number, signal.getsignal(number)) for number in (signal.SIGINT, signal.SIGTERM, signal.SIGHUP)]
@@ -106,6 +107,13 @@ class Traced(Case):
         self.assertEqual(status, 1)
         self.assertIn("doubt: the recording was stopped", errors)
         self.assertIn("of which user namespace that is isn't known", errors)
+
+    def test_an_older_recording_is_written_over(self) -> None:
+        self.assertEqual(self.trace("--", "true")[2], "")
+        with open(os.path.join(self.out, recording.FILTERS), "w", encoding="ascii") as file:
+            file.write("the older one's\n")
+        self.assertIn("has a recording already: it is written over", self.trace("--", "true")[2])
+        self.assertEqual(recording.read(self.out).filters, "")
 
     def test_verified_at_the_end(self) -> None:
         with mock.patch("credaudit_tools.verify_command.verified", return_value=1) as verified:

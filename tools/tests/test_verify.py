@@ -3,13 +3,14 @@ import os
 import shutil
 from dataclasses import replace
 
-from credaudit_tools import recording, verify_command
+from credaudit_tools import recording, report, verify_command
 from credaudit_tools.program import Program
 from credaudit_tools.verifying import Verdict, verify
 
 from .support import DATA, EXAMPLES, Case, cases
 
 RECORDINGS = os.path.join(DATA, "recordings")
+ALL = (1 << 41) - 1
 SUMMED = (recording.LOG, recording.STATUS, recording.SPACES)
 
 
@@ -130,6 +131,18 @@ class Failing(Case):
                 self.assertIn(told, errors)
                 with open(path, "wb") as file:
                     file.write(before)
+
+    def test_a_log_without_an_event(self) -> None:
+        """A process that only asks, as one that was attached to may; and one of whose lines a line isn't read."""
+        world = b'log = "strace"\n\n[[process]]\npid = 100\n'
+        told = report.read(f"> 100 init uid=0,0,0,0 gid=0,0,0,0 groups=- inh={0:016x} prm={ALL:016x} eff={ALL:016x}"
+                           f" bnd={ALL:016x} amb={0:016x} sec=00 nnp=0\nend 0\n", 0)
+        status = recording.read(os.path.join(RECORDINGS, "daemon")).statuses[0]
+        alive = replace(status, pid=100, credential=told.start[0].credential)
+        for log, wanted in ((b"100 getuid() = 0\n", []), (b"100 getuid() = 0\n100 [ 105] setuid(7) = 0\n",
+                            ["the log isn't empty, and no line of it is read as an event"])):
+            kept = recording.Recording(world, log, [alive])
+            self.assertEqual(verify(kept, told).differences, wanted)
 
     def test_a_doubt_is_no_clean_bill(self) -> None:
         kept = recording.read(os.path.join(RECORDINGS, "daemon"))
