@@ -3,9 +3,10 @@
 
   run.py [PROGRAM]        PROGRAM is credaudit; left out, the one in the PATH or that was built in this repository
 
-An example is a folder with world.toml, log and report. The reports were written by hand, from docs/RULES.md and the
-manual pages that it names. One line for each example, and where they differ the first line that does. Status 0: all
-agree; 1: some differ; 2: there is no program.
+An example is a folder with world.toml, log and report. Where the report is that of an audit, query has its PID and
+RIGHT; where the status is to be another than 0, status has it. The reports were written by hand, from docs/RULES.md and
+the manual pages that it names, docs/PLANS.md and docs/BOUNDS.md. One line for each example, and where they differ the
+first line that does. Status 0: all agree; 1: some differ; 2: there is no program.
 """
 import glob
 import itertools
@@ -20,19 +21,29 @@ from credaudit_tools.files import read_regular  # noqa: E402
 from credaudit_tools.program import Program  # noqa: E402
 
 
+def words_of(folder: str, name: str) -> list[str]:
+    """The words of a file of the example; none where it isn't there."""
+    path = os.path.join(folder, name)
+    return read_regular(path).decode("ascii").split() if os.path.exists(path) else []
+
+
 def difference(program: Program, folder: str) -> tuple[str, str] | None:
-    """The first line in which the replay differs from the report, and that of the report; None where none does."""
-    text, status = program.answer("replay", os.path.join(folder, "world.toml"), os.path.join(folder, "log"))
+    """The first line in which the answer differs from the report, and that of the report; None where none does."""
+    query = words_of(folder, "query")
+    files = [os.path.join(folder, name) for name in ("world.toml", "log")]
+    text, status = program.answer("audit" if query else "replay", *files, *query)
     report = read_regular(os.path.join(folder, "report")).decode("ascii")
+    wanted = int((words_of(folder, "status") or ["0"])[0])
     lines = itertools.zip_longest(text.splitlines(), report.splitlines(), fillvalue="nothing")
     found = next((pair for pair in lines if pair[0] != pair[1]), None)
-    return found or (None if status == 0 else (f"status {status}", "status 0"))
+    return found or (None if status == wanted else (f"status {status}", f"status {wanted}"))
 
 
 def main() -> int:
-    if len(sys.argv) > 2:
-        print("usage: run.py [PROGRAM]", file=sys.stderr)
-        return 2
+    if len(sys.argv) > 2 or sys.argv[1:2] in (["-h"], ["--help"]):
+        print(__doc__ if len(sys.argv) == 2 else "usage: run.py [PROGRAM]",
+              file=sys.stdout if len(sys.argv) == 2 else sys.stderr)
+        return 0 if len(sys.argv) == 2 else 2
     try:
         program, bad = Program(os.path.abspath(sys.argv[1]) if len(sys.argv) == 2 else None), 0
         for path in sorted(glob.glob(os.path.join(HERE, "*", "report"))):
