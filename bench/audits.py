@@ -179,23 +179,15 @@ def past(bar: float, measured: float) -> str:
     return "" if measured <= bar else f", past {bar:g}"
 
 
-def at_limits(program: str, runs: int, work: str) -> bool:
-    print(f"{'audit of 256 members, 4,096 files, 256 spaces':48}{'seconds':>9}")
+def all_within(program: str, runs: int, work: str, size: Size, most: float, unit: str, units: int) -> bool:
+    """Whether each audit of worlds of that size takes at most so many seconds; they are shown in the unit, of which a
+    second has so many."""
+    print(f"\n{f'audit of {size.members} members, {size.files:,} files, {size.spaces} spaces':48}{unit:>9}")
     good = True
-    for name, made in asked_of(LIMITS).items():
+    for name, made in asked_of(size).items():
         seconds = seconds_of(program, made, runs, work)
-        good = good and seconds <= MOST_SECONDS
-        print(f"{name:48}{seconds:9.3f}{past(MOST_SECONDS, seconds)}")
-    return good
-
-
-def small_ones(program: str, runs: int, work: str) -> bool:
-    print(f"\n{'audit of 10 members, 40 files, 5 spaces':48}{'ms':>9}")
-    good = True
-    for name, made in asked_of(SMALL).items():
-        seconds = seconds_of(program, made, runs, work)
-        good = good and seconds <= MOST_SMALL_SECONDS
-        print(f"{name:48}{1000 * seconds:9.2f}{past(1000 * MOST_SMALL_SECONDS, 1000 * seconds)}")
+        good = good and seconds <= most
+        print(f"{name:48}{units * seconds:9.3f}{past(units * most, units * seconds)}")
     return good
 
 
@@ -224,6 +216,7 @@ def hostile(program: str, work: str) -> None:
 
 def audits(program: str, runs: int, work: str) -> bool:
     """Whether all times are within their bars."""
-    results = [at_limits(program, runs, work), small_ones(program, runs, work), doubled(program, runs, work)]
+    results = [all_within(program, runs, work, LIMITS, MOST_SECONDS, "seconds", 1),
+               all_within(program, runs, work, SMALL, MOST_SMALL_SECONDS, "ms", 1000), doubled(program, runs, work)]
     hostile(program, work)
     return all(results)
