@@ -72,11 +72,15 @@ def hexadecimal(text):
     return int(text, 16) if good else None
 
 
-def capability(text):
-    """The capability that an argument names; a comment after it is passed over."""
-    comment = re.fullmatch(r"(.*?)/\*(.*?)\*/", text, re.S)
-    if comment and "*/" not in comment.group(2) and "/*" not in comment.group(1):
-        text = comment.group(1).strip(BLANKS)
+def capability(arguments):
+    """The capability that arguments begin with. A comment after it is passed over, also one with commas."""
+    text = arguments[0] if arguments else ""
+    if "/*" in text:
+        name, comment = ",".join(arguments).split("/*", 1)
+        comment, end, left = comment.partition("*/")
+        if not end or left.strip(BLANKS)[:1] not in ("", ","):
+            return None
+        text = name.strip(BLANKS)
     if text.startswith("CAP_") and text[4:] in CAPABILITIES:
         return CAPABILITIES.index(text[4:])
     n = number(text)
@@ -391,6 +395,12 @@ class Reader:
             raise Fault(f"argument {k}")
         return value
 
+    def deciding(self, arguments, k, outcome):
+        """The argument of that number, without which a call can't be told; the result is looked at before it."""
+        if len(arguments) < k and outcome[0] == OTHER:
+            raise Fault("result")
+        return self.need(arguments, k)
+
     @staticmethod
     def plain(outcome):
         """The result of a call that answers 0 or fails, as it is written."""
@@ -456,7 +466,7 @@ class Reader:
         self.event(n, pid, " ".join(["capset", *(f"{m:016x}" for m in masks)]) + f" = {result}")
 
     def call_prctl(self, n, pid, arguments, outcome):
-        option = self.need(arguments, 1)
+        option = self.deciding(arguments, 1, outcome)
         numbers = {"PR_SET_KEEPCAPS": ("keepcaps", number), "PR_SET_NO_NEW_PRIVS": ("no_new_privs", number),
                    "PR_SET_SECUREBITS": ("securebits", securebits)}
         if option in numbers:
@@ -465,18 +475,22 @@ class Reader:
             self.event(n, pid, f"{name} {self.need(arguments, 2, read)} = {result}")
         elif option == "PR_CAPBSET_DROP":
             result = self.plain(outcome)
-            self.event(n, pid, f"bset_drop {self.cap_text(self.need(arguments, 2, capability))} = {result}")
+            self.event(n, pid, f"bset_drop {self.cap_text(arguments, 2)} = {result}")
         elif option == "PR_CAP_AMBIENT":
-            what = self.need(arguments, 2)
+            what = self.deciding(arguments, 2, outcome)
             if what in ("PR_CAP_AMBIENT_RAISE", "PR_CAP_AMBIENT_LOWER"):
                 result = self.plain(outcome)
                 name = "amb_raise" if what.endswith("RAISE") else "amb_lower"
-                self.event(n, pid, f"{name} {self.cap_text(self.need(arguments, 3, capability))} = {result}")
+                self.event(n, pid, f"{name} {self.cap_text(arguments, 3)} = {result}")
             elif what == "PR_CAP_AMBIENT_CLEAR_ALL":
                 self.event(n, pid, f"amb_clear = {self.plain(outcome)}")
 
     @staticmethod
-    def cap_text(k):
+    def cap_text(arguments, number):
+        """The capability that the argument of that number is, as it is written, or its fault."""
+        k = capability(arguments[number - 1:])
+        if k is None:
+            raise Fault(f"argument {number}")
         return "CAP_" + CAPABILITIES[k] if k < len(CAPABILITIES) else str(k)
 
     # ---- births and spaces
@@ -541,7 +555,7 @@ class Reader:
             self.descriptors = {key: d for key, d in self.descriptors.items() if key[0] != pid or not d.until_exec}
 
     def call_execveat(self, n, pid, arguments, outcome):
-        if self.need(arguments, 1) == "AT_FDCWD":
+        if self.deciding(arguments, 1, outcome) == "AT_FDCWD":
             self.call_execve(n, pid, arguments, outcome, 2)
         elif outcome[0] == NUMBER:
             raise Fault("descriptor")

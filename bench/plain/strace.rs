@@ -71,8 +71,8 @@ fn plain(outcome: Outcome) -> Result<Res, Bad> {
     }
 }
 
-/// The first three arguments.
-struct First<'a>([&'a [u8]; 3], usize);
+/// The first three arguments, how many of them there are, and the text of all.
+struct First<'a>([&'a [u8]; 3], usize, &'a [u8]);
 
 impl<'a> First<'a> {
     fn of(inside: &'a [u8]) -> First<'a> {
@@ -81,7 +81,7 @@ impl<'a> First<'a> {
             *at = piece;
             count += 1;
         }
-        First(first, count)
+        First(first, count, inside)
     }
 
     fn get(&self, k: usize) -> Option<&'a [u8]> {
@@ -90,6 +90,23 @@ impl<'a> First<'a> {
 
     fn need<T>(&self, k: usize, read: impl FnOnce(&'a [u8]) -> Option<T>) -> Result<T, Bad> {
         self.get(k).and_then(read).ok_or(Argument(k as u32))
+    }
+
+    /// An argument without which the call can't be told; the result is looked at before it.
+    fn deciding(&self, k: usize, outcome: Outcome) -> Result<&'a [u8], Bad> {
+        match (self.get(k), outcome) {
+            (None, Outcome::Other) => Err(Fault("result")),
+            _ => self.need(k, Some),
+        }
+    }
+
+    /// The capability that the argument is.
+    fn capability(&self, k: usize) -> Result<u32, Bad> {
+        let mut left = pieces(self.2);
+        for _ in 1..k {
+            left.next();
+        }
+        left.0.and_then(capability).ok_or(Argument(k as u32))
     }
 
     fn number(&self, k: usize) -> Option<u64> {
@@ -345,7 +362,7 @@ impl<'a> Reader<'a> {
             Name::Unshare => self.unshare(pid, &a, outcome),
             Name::SetNs => self.setns(pid, &a, outcome, success),
             Name::Execve => self.execve(pid, &a, outcome, 1),
-            Name::ExecveAt => match a.need(1, Some)? {
+            Name::ExecveAt => match a.deciding(1, outcome)? {
                 b"AT_FDCWD" => self.execve(pid, &a, outcome, 2),
                 _ if success.is_some() => Err(Fault("descriptor")),
                 _ => Ok(None),
@@ -590,16 +607,16 @@ fn ids(name: Name, a: &First, outcome: Outcome) -> Given {
 }
 
 fn prctl(a: &First, outcome: Outcome) -> Given {
-    let option = a.need(1, Some)?;
-    let what = if option == b"PR_CAP_AMBIENT" { a.need(2, Some)? } else { b"" };
+    let option = a.deciding(1, outcome)?;
+    let what = if option == b"PR_CAP_AMBIENT" { a.deciding(2, outcome)? } else { b"" };
     let res = || plain(outcome);
     let (res, call) = match (option, what) {
         (b"PR_SET_KEEPCAPS", _) => (res()?, Call::KeepCaps(a.need(2, number)?)),
         (b"PR_SET_NO_NEW_PRIVS", _) => (res()?, Call::NoNewPrivs(a.need(2, number)?)),
         (b"PR_SET_SECUREBITS", _) => (res()?, Call::SecureBits(a.need(2, securebits)?)),
-        (b"PR_CAPBSET_DROP", _) => (res()?, Call::BsetDrop(a.need(2, capability)?)),
-        (_, b"PR_CAP_AMBIENT_RAISE") => (res()?, Call::AmbRaise(a.need(3, capability)?)),
-        (_, b"PR_CAP_AMBIENT_LOWER") => (res()?, Call::AmbLower(a.need(3, capability)?)),
+        (b"PR_CAPBSET_DROP", _) => (res()?, Call::BsetDrop(a.capability(2)?)),
+        (_, b"PR_CAP_AMBIENT_RAISE") => (res()?, Call::AmbRaise(a.capability(3)?)),
+        (_, b"PR_CAP_AMBIENT_LOWER") => (res()?, Call::AmbLower(a.capability(3)?)),
         (_, b"PR_CAP_AMBIENT_CLEAR_ALL") => (res()?, Call::AmbClear),
         _ => return Ok(None),
     };

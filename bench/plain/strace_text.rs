@@ -110,7 +110,7 @@ pub fn shape(call: &[u8]) -> Option<(&[u8], &[u8])> {
 }
 
 /// What commas outside of brackets and quotes part.
-pub struct Pieces<'a>(Option<&'a [u8]>);
+pub struct Pieces<'a>(pub Option<&'a [u8]>);
 
 pub fn pieces(text: &[u8]) -> Pieces<'_> {
     Pieces(Some(trimmed(text)).filter(|t| !t.is_empty()))
@@ -312,14 +312,18 @@ fn place(text: &[u8], of: &[u8; 2]) -> Option<usize> {
     text.windows(2).position(|w| w == of)
 }
 
-/// The capability that an argument of prctl names, whether or not there is one.
-pub fn capability(text: &[u8]) -> Option<u32> {
-    let mut text = text;
+/// The capability that arguments of prctl begin with, whether or not there is one. A comment after it is passed over, also
+/// one with commas.
+pub fn capability(arguments: &[u8]) -> Option<u32> {
+    let arguments = trimmed(arguments);
+    let mut text = pieces(arguments).next()?;
     if let Some(at) = place(text, b"/*") {
-        let comment = &text[at + 2..];
-        if place(comment, b"*/").is_some_and(|end| end + 2 == comment.len()) {
-            text = without_end(&text[..at]);
+        let comment = &arguments[at + 2..];
+        let left = without_front(&comment[place(comment, b"*/")? + 2..]);
+        if left.first().is_some_and(|b| *b != b',') {
+            return None;
         }
+        text = without_end(&arguments[..at]);
     }
     cap_of(text).map(|k| k as u32).or_else(|| number(text)).or_else(|| hexadecimal(text))
 }

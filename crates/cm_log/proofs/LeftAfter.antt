@@ -2,6 +2,7 @@
 use Rattle.std.proofs.Common.{◌≡◌, ◌≤◌, ◌<◌, ◌^◌, ℕ, ◌+◌, true, false, List, [], ◌∷◌, ◌++◌, Option, Some, None, length, reverse}
 use Rattle.std.proofs.Common.{refl, sym, ap, ap₂, ◌∙◌, append-nil, subst, arith, nat_lt}
 use Rattle.cm_base.specs.Limited.{limit_number}
+use Rattle.cm_base.specs.Limits.{greatest_number}
 use Rattle.cm_base.specs.declared.limited.Limited.TheVariants as limit
 use Rattle.cm_log.specs.Left.{IsOpen, StraceCanGoOn, phase_by, strace_later, strace_left}
 use Rattle.cm_log.specs.declared.strace.Phase.{Phase}
@@ -15,7 +16,7 @@ use Rattle.model_strace.proofs.Counts.{lines_are_counted}
 use Rattle.model_strace.proofs.RestLaws.{lines_go_on_by}
 use Rattle.model_strace.specs.After.{After, Goes, Halts, and_then}
 use Rattle.model_strace.specs.Body.{Row, TooLong, log_row, row_of}
-use Rattle.model_strace.specs.Counts.{LinesAreCounted}
+use Rattle.model_strace.specs.Counts.{LinesAreCounted, spaces_counted}
 use Rattle.model_strace.specs.Lines.{ended}
 use Rattle.model_strace.specs.Rest.{LinesGoOnBy, Session, Going, Stopped, Finished, Work, all_fed, answer_of, answered_then, after_line, fed_by}
 use Rattle.model_strace.specs.Rest.{line_answer, lines_fed, rest_by, row_fed, session_of, work_end}
@@ -120,16 +121,20 @@ open_after_line w (Finished count) line stop going is = absurd going
 pub after_line_goes_on : (w : World) (old new : StraceLog) (line after : List ℕ) (events : List Placed) (stop : Option Stop)
     → StraceCanGoOn old → old.phase ≡ phase.Reads → length after < length old.rest.now
     → new.tracer ≡ after_line w old.tracer line → new.rest.now ≡ after → new.phase ≡ phase_by stop
-    → record { events = events; ending = ending_is stop } ≡ line_answer w old.tracer line → StraceCanGoOn new
+    → record { events = events; ending = ending_is stop } ≡ line_answer w old.tracer line
+    → spaces_counted new.tracer ≤ spaces_counted old.tracer + 1 → StraceCanGoOn new
 unfolding LinesAreCounted
-after_line_goes_on w old new line after events stop can reads shorter tracer rest is answer =
+after_line_goes_on w old new line after events stop can reads shorter tracer rest is answer one_more =
     let counted : lines_fed (after_line w old.tracer line) ≤ lines_fed old.tracer + 1 = lines_are_counted w old.tracer line in
     let room : lines_fed old.tracer + length old.rest.now < 2 ^ 31 = can.room in
     let less : lines_fed (after_line w old.tracer line) + length after < 2 ^ 31 = omega (arith, counted, room, shorter) in
     let going : IsOpen (phase_by stop) (after_line w old.tracer line) =
     open_after_line w old.tracer line stop (subst (λ (p : Phase). IsOpen p old.tracer) reads can.open_session) (ap (λ (r : Reading). r.ending) answer) in
+    let spaces : spaces_counted old.tracer + length old.rest.now < greatest_number = can.spaces in
+    let fewer : spaces_counted new.tracer + length after < greatest_number = omega (arith, one_more, spaces, shorter) in
     record {
       room = subst (λ (s : Session). lines_fed s + length new.rest.now < 2 ^ 31) (sym tracer)
           (subst (λ (t : List ℕ). lines_fed (after_line w old.tracer line) + length t < 2 ^ 31) (sym rest) less);
+      spaces = subst (λ (t : List ℕ). spaces_counted new.tracer + length t < greatest_number) (sym rest) fewer;
       open_session = subst (λ (p : Phase). IsOpen p new.tracer) (sym is) (subst (λ (s : Session). IsOpen (phase_by stop) s) (sym tracer) going);
     }

@@ -1,5 +1,6 @@
 -- What is left of a log, as a reading, and that there are numbers enough for its lines.
 use Rattle.std.specs.Prelude.{◌<◌, ◌+◌, ◌^◌, ℕ, length, reverse, ◌++◌, Option, Some, None}
+use Rattle.cm_base.specs.Limits.{greatest_number}
 use Rattle.cm_log.specs.declared.log.Log.{Log}
 use Rattle.cm_log.specs.declared.log.Log.TheVariants.{Script, Strace}
 use Rattle.cm_log.specs.declared.script.ScriptLog.{ScriptLog}
@@ -10,6 +11,7 @@ use Rattle.cm_strace.specs.Answers.{ending_is}
 use Rattle.cm_strace.specs.declared.placed.Stop.{Stop}
 use Rattle.model_cred.specs.World.{World}
 use Rattle.model_strace.specs.Body.{log_row}
+use Rattle.model_strace.specs.Counts.{spaces_counted}
 use Rattle.model_strace.specs.Rest.{Session, Going, lines_fed, rest_by}
 use Rattle.model_text.specs.Cut.{lines_of}
 use Rattle.model_text.specs.Reading.{Reading, ends_at, lines_reading}
@@ -42,9 +44,11 @@ IsOpen phase.Reads (Going t) = Unit {0}
 IsOpen phase.Reads _ = ⊥
 IsOpen (phase.Ended stop) session = Unit {0}
 
--- There are numbers for its lines, and its session goes on as long as it is read.
+-- There are numbers for its lines, and for the user namespaces that they can make, one a line, and its session goes on as
+-- long as it is read.
 pub record StraceCanGoOn (log : StraceLog) : Type 0 where
   pub room : lines_fed log.tracer + length log.rest.now < 2 ^ 31
+  pub spaces : spaces_counted log.tracer + length log.rest.now < greatest_number
   pub open_session : IsOpen log.phase log.tracer
 
 -- whether a log is still read after a line, by the stop that it told of

@@ -9,8 +9,8 @@ pub fn numbers_are_lines()
     ensures { NumbersAreLines }
 {}
 
-/// What was written of an event is read again as the same event, where the names and paths of the world keep their rules and
-/// each part of the event is in its range.
+/// What was written of an event over a world that a text declares is read again as the same event: one whose parts are in
+/// their ranges.
 #[tactic(auto, using(model_text::proofs::ReadBack::lines_read_back))]
 pub fn lines_read_back()
     ensures { LinesReadBack }

@@ -1,5 +1,6 @@
 -- A session by its work and the stage that it is at.
-use Rattle.std.specs.Prelude.{◌+◌, ◌<◌, ◌≤◌, ◌^◌, Option, Some, None}
+use Rattle.std.specs.Prelude.{◌≤◌, Option, Some, None}
+use Rattle.cm_base.specs.Limits.{greatest_number}
 use Rattle.cm_strace.specs.Answers.{stop_is}
 use Rattle.cm_strace.specs.Works.{uses}
 use Rattle.cm_strace.specs.declared.placed.Stop.{Stop}
@@ -24,8 +25,7 @@ abbrev pub stage_ended : Option Stop → Stage
 stage_ended None = stage.Finished
 stage_ended (Some stop) = stage.Stopped stop
 
--- There is room for the numbers of the user namespaces that may still come: a session begins with fewer than 2^31 of
--- them, and is fed at most 2^31 lines, each of which makes one more at most.
+-- The number of user namespaces that a session counts is one of 32 bits, as their own numbers are.
 abbrev pub IsRoomy : Stage → Work → Type 0
-IsRoomy stage.Going t = (uses t < 2 ^ 31 + t.count) × (t.count ≤ 2 ^ 31)
+IsRoomy stage.Going t = uses t ≤ greatest_number
 IsRoomy _ t = Unit {0}

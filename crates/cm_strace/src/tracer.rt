@@ -7,6 +7,7 @@ ghost use Rattle.cm_strace.specs.Stages.{session_is, stage_after, stage_ended};
 ghost use Rattle.cm_strace.specs.Works.{uses};
 ghost use Rattle.cm_world.specs.World.{world_of};
 ghost use Rattle.model_strace.specs.Body.{row_of};
+ghost use Rattle.model_strace.specs.Counts.{spaces_counted};
 ghost use Rattle.model_strace.specs.Lines.{reading};
 ghost use Rattle.model_strace.specs.Rest.{answer_of, fed_by, first_session, lines_fed, rest, line_answer, after_line};
 ghost use Rattle.model_strace.specs.Rest.{after_finish, answered_then, session_of};
@@ -62,6 +63,17 @@ impl Tracer {
         self.work.count()
     }
 
+    /// How many user namespaces the session counts while it goes on: those that there are by the lines that were read,
+    /// and one for each line that is held, which may make one. It counts none once it has stopped or the log has ended.
+    pub fn spaces(&self) -> u32
+        ensures { result ≡ spaces_counted self.now }
+    {
+        match self.stage {
+            Stage::Going => self.work.uses(),
+            Stage::Stopped(_) | Stage::Finished => 0,
+        }
+    }
+
     /// A line comes, without its LF: its events, those of the held lines that come after a birth, and the stop where
     /// there is one. The events are all that the caller's list holds then. Its only error is want of memory, which
     /// leaves the session as it was.
@@ -72,13 +84,15 @@ impl Tracer {
         line: &[u8],
         events: &mut Vec<Placed>,
     ) -> Result<Option<Stop>, NoMemory>
-        requires { lines_fed self.old < 2 ^ 31 }
+        requires lines { lines_fed self.old < 2 ^ 63 }
+        requires spaces { spaces_counted self.old < greatest_number }
         ensures given { OrNoMemory result (λ stop. reading_is events.new.items stop
             ≡ line_answer (world_of w.now) self.old line.now) }
         ensures after { OrNoMemory result (λ _. self.new ≡ after_line (world_of w.now) self.old line.now) }
         ensures told { OrNoMemory result (λ stop. (lines : List (List ℕ)) →
             rest (world_of w.now) self.old (line.now ∷ lines) ≡ answered_then (reading_is events.new.items stop)
             (rest (world_of w.now) self.new lines)) }
+        ensures spaces { OrNoMemory result (λ _. spaces_counted self.new ≤ spaces_counted self.old + 1) }
         ensures unchanged { UnchangedOnErr result self.new self.old }
     {
         events.clear();

@@ -80,6 +80,14 @@ impl Work {
         self.count
     }
 
+    /// How many user namespaces there are, and one for each held line, which may make one.
+    pub(crate) fn uses(&self) -> u32
+        requires { uses self.now ≤ greatest_number }
+        ensures { result ≡ uses self.now }
+    {
+        self.parts.spaces() + self.held.len() as u32
+    }
+
     /// So many lines came.
     pub(crate) fn set_count(&mut self, count: u64)
         ensures { self.new ≡ record self.old { count = count } }

@@ -2,4 +2,3 @@
 pub mod FirstBytes
 pub mod FirstNames
 pub mod IdCalls
-pub mod ReadTexts

@@ -7,7 +7,7 @@ ghost use Rattle.cm_strace_values.specs.Outcomes.{outcome_is};
 ghost use Rattle.cm_world.specs.World.{world_of};
 ghost use Rattle.model_strace.specs.Calls.{execve_told, execve_at, execveat_told, file_quoted};
 
-use crate::arguments::{argument, needed};
+use crate::arguments::{argument, deciding};
 use crate::told::Told;
 use cm_base::{FileRef, LineFault, NoMemory};
 use cm_state::Call;
@@ -59,7 +59,7 @@ pub(crate) fn read_at<'a>(
     ensures { OrNoMemory result (λ told. told_is told
         ≡ execveat_told (world_of w.now) (arguments_in arguments.entry) (outcome_is outcome)) }
 {
-    match needed(1, arguments) {
+    match deciding(1, arguments, outcome) {
         Ok(folder) => in_folder(alloc, w, folder, arguments, outcome),
         Err(why) => Ok(Told::Faulty(why)),
     }

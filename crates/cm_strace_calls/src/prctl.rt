@@ -9,7 +9,7 @@ ghost use Rattle.model_cred.specs.Call.{AmbClear};
 ghost use Rattle.model_strace.specs.Calls.{Does, with_result, plain_call, prctl_told, option_told, ambient_told};
 ghost use Rattle.model_strace.specs.Outcome.{plain_result};
 
-use crate::arguments::{bits, capability, needed, number};
+use crate::arguments::{bits, capability, deciding, number};
 use crate::told::Told;
 use cm_base::LineFault;
 use cm_state::Call;
@@ -19,7 +19,7 @@ use cm_strace_values::Outcome;
 pub(crate) fn read<'a>(arguments: Option<&[u8]>, outcome: Outcome) -> Told<'a>
     ensures { told_is result ≡ prctl_told (arguments_in arguments.entry) (outcome_is outcome) }
 {
-    match needed(1, arguments) {
+    match deciding(1, arguments, outcome) {
         Ok(option) => read_option(option, arguments, outcome),
         Err(why) => Told::Faulty(why),
     }
@@ -49,7 +49,7 @@ fn read_ambient<'a>(arguments: Option<&[u8]>, outcome: Outcome) -> Told<'a>
     ensures { told_is result
         ≡ option_told (codes "PR_CAP_AMBIENT") (arguments_in arguments.entry) (outcome_is outcome) }
 {
-    match needed(2, arguments) {
+    match deciding(2, arguments, outcome) {
         Ok(what) => read_change(what, arguments, outcome),
         Err(why) => Told::Faulty(why),
     }

@@ -1,56 +1,91 @@
 // Capabilities and the two structures of capset(2), as strace(1) writes them.
 ghost use Rattle.std.specs.Prelude.{◌≡◌, ◌∷◌, [], codes, option_map};
-ghost use Rattle.std.specs.Option.{option_or};
 ghost use Rattle.cm_strace_text.specs.Depths.{arguments_in};
 ghost use Rattle.cm_strace_values.specs.Structures.{sets_is};
-ghost use Rattle.model_strace.specs.Marks.{cut_at};
-ghost use Rattle.model_text.specs.Token.{cap_token};
-ghost use Rattle.model_strace.specs.Numbers.{without_comment, comment_cut, before_comment, hex_number, capability};
+ghost use Rattle.model_strace.specs.Numbers.{bare_capability, has_ended, comment_end, ends_with_comment};
+ghost use Rattle.model_strace.specs.Numbers.{capability_before, capability};
 ghost use Rattle.model_strace.specs.Numbers.{members_of, member_set, three_sets, sets_in, sets_of, pid_in};
 ghost use Rattle.model_strace.specs.Numbers.{header_pid};
 
 use crate::hex::hex_number;
 use crate::sets::read_mask;
 use cm_base::CapWord;
-use cm_strace_text::{bracketed_whole, cut_at, next_argument, read_arguments, trimmed, value_of};
+use cm_strace_text::{
+    bracketed_whole, cut_at, next_argument, read_arguments, trimmed, value_of, without_front,
+};
 use cm_tokens::{read_cap, read_number};
 
-/// A capability: its name, a decimal or a hexadecimal number, whether or not there is such a capability. A comment after it
-/// is passed over.
-pub fn read_capability(text: &[u8]) -> Option<u32>
-    ensures { result ≡ capability text.now }
+/// The capability that arguments begin with: its name, a decimal or a hexadecimal number, whether or not there is such a
+/// capability. A comment after it is passed over, `/*` up to the next `*/`, whose commas part no arguments.
+pub fn read_capability(arguments: Option<&[u8]>) -> Option<u32>
+    ensures { result ≡ capability (arguments_in arguments.entry) }
 {
-    bare_capability(without_comment(text))
+    let (text, rest) = next_argument(arguments)?;
+    match cut_at(b"/*", text) {
+        Some((name, comment)) => before_comment(name, comment, rest),
+        None => bare_capability(text),
+    }
+}
+
+// The capability before a comment, of which this is left.
+fn before_comment(name: &[u8], comment: &[u8], rest: Option<&[u8]>) -> Option<u32>
+    ensures { result ≡ capability_before name.now (comment.now ∷ arguments_in rest.entry) }
+{
+    if comment_ends(comment, rest) {
+        bare_capability(trimmed(name))
+    } else {
+        None
+    }
 }
 
 // The same of a text without a comment.
 fn bare_capability(text: &[u8]) -> Option<u32>
-    ensures { result ≡ option_or (cap_token text.now) (hex_number text.now) }
+    ensures { result ≡ bare_capability text.now }
 {
     read_cap(text).or(hex_number(text))
 }
 
-// The text without a comment at its end; one that doesn't end there is none.
-fn without_comment(text: &[u8]) -> &[u8]
-    ensures { result.now ≡ without_comment text.now }
+// Whether an argument ends with its comment: the comment ends in this text, or in one of these after it.
+fn comment_ends(comment: &[u8], rest: Option<&[u8]>) -> bool
+    ensures { result ≡ ends_with_comment (comment.now ∷ arguments_in rest.entry) }
 {
-    match cut_at(b"/*", text) {
-        Some((before, comment)) => before_comment(text, before, comment),
-        None => text,
+    match comment_end(comment) {
+        Some(ends) => ends,
+        None => ends_with_comment(rest),
     }
 }
 
-// What stands before a comment, where the comment ends with the text.
-fn before_comment<'a>(text: &'a [u8], before: &'a [u8], comment: &[u8]) -> &'a [u8]
-    ensures { result.now ≡ before_comment text.now before.now (cut_at (codes "*/") comment.now) }
+// The same, where the comment ends in none before these.
+fn ends_with_comment(arguments: Option<&[u8]>) -> bool
+    ensures { result ≡ ends_with_comment (arguments_in arguments.entry) }
 {
-    match cut_at(b"*/", comment) {
-        Some((_, after)) => if after.is_empty() {
-            trimmed(before)
-        } else {
-            text
-        },
-        None => text,
+    let mut left = arguments;
+    while let Some((text, rest)) = next_argument(left) {
+        if let Some(ends) = comment_end(text) {
+            return ends;
+        }
+        left = rest;
+    }
+    false
+}
+
+// The same, where the comment ends in this text. None exactly where it doesn't.
+fn comment_end(text: &[u8]) -> Option<bool>
+    ensures { result ≡ comment_end text.now }
+{
+    match cut_at(b"*/", text) {
+        Some((_, after)) => Some(has_ended(without_front(after))),
+        None => None,
+    }
+}
+
+// An argument of which this is left has ended: nothing, or a comma.
+fn has_ended(left: &[u8]) -> bool
+    ensures { result ≡ has_ended left.now }
+{
+    match left {
+        [byte, ..] => *byte == b',',
+        [] => true,
     }
 }
 

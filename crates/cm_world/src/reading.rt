@@ -7,6 +7,7 @@ ghost use Rattle.cm_world.specs.Answers.{IsAnswer};
 ghost use Rattle.cm_world.specs.World.{world_of};
 ghost use Rattle.cm_tables.specs.declared.error.WorldError.TheVariants as error;
 ghost use Rattle.model_text.specs.WorldText.{Reads, Bad, Exceeds, read_text, world_text, document_world};
+ghost use Rattle.model_text.specs.Written.{KeepsNames};
 ghost use Rattle.toml.specs.Parse.{parse_document};
 
 use crate::tables::read_table;
@@ -17,9 +18,10 @@ use std::alloc::Global;
 /// The world that a text declares (choice; docs/FORMATS.md). Otherwise the text's first refusal, in this order: it isn't
 /// UTF-8 or isn't TOML; the whole table; the spaces, the mounts, the files, the processes, the filter. `Bad` tells the
 /// table, the row (from 1 on; 0 for the whole table and for the filter) and the row's first fault; `Limit` the count that is
-/// past its limit. `NoMemory` may come with any text.
+/// past its limit. `NoMemory` may come with any text. The names and the paths of a world that it gives keep their rules.
 pub fn read_world(alloc: Global, text: &[u8]) -> Result<World, WorldError>
     ensures read { IfOk result (λ w. world_text text.now ≡ Reads (world_of w)) }
+    ensures names { IfOk result (λ w. KeepsNames (world_of w)) }
     ensures bad { (table : TableName) (row : ℕ) (why : WorldFault) → result ≡ Err (error.Bad table row why) → world_text text.now ≡ Bad table row why }
     ensures limit { (l : Limited) → result ≡ Err (error.Limit l) → world_text text.now ≡ Exceeds l }
 {

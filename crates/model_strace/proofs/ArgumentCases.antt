@@ -164,6 +164,21 @@ pub a_comment_after_it : Tells
     (BsetDrop 42) (Err EINVAL)
 a_comment_after_it = refl
 
+pub a_comma_in_the_comment : Tells
+    (codes "200 prctl(PR_CAPBSET_DROP, 0x15 /* CAP_SYS_ADMIN, or so,*/, 0, 0) = 0")
+    (BsetDrop 21) Done
+a_comma_in_the_comment = refl
+
+pub a_comma_in_the_comment_of_the_last_argument : Tells
+    (codes "200 prctl(PR_CAP_AMBIENT, PR_CAP_AMBIENT_RAISE, 5 /*,*/) = 0")
+    (AmbRaise 5) Done
+a_comma_in_the_comment_of_the_last_argument = refl
+
+pub brackets_in_the_comment : Tells
+    (codes "200 prctl(PR_CAP_AMBIENT, PR_CAP_AMBIENT_LOWER, CAP_KILL /* [, (a, */ , 0) = 0")
+    (AmbLower 5) Done
+brackets_in_the_comment = refl
+
 pub an_ambient_capability_is_raised : Tells
     (codes "200 prctl(PR_CAP_AMBIENT, PR_CAP_AMBIENT_RAISE, CAP_KILL, 0, 0) = 0")
     (AmbRaise 5) Done
@@ -183,6 +198,7 @@ pub no_capability : Have (fault.Argument 2)
     (codes "200 prctl(PR_CAPBSET_DROP) = 0" ∷ codes "200 prctl(PR_CAPBSET_DROP, CAP_NONE) = 0"
     ∷ codes "200 prctl(PR_CAPBSET_DROP, 0x2a /* CAP_???) = 0"
     ∷ codes "200 prctl(PR_CAPBSET_DROP, 1 /* a */ b */) = 0" ∷ codes "200 prctl(PR_CAPBSET_DROP, /* a */) = 0"
+    ∷ codes "200 prctl(PR_CAPBSET_DROP, 1 /* a, b */ c, 0) = 0" ∷ codes "200 prctl(PR_CAPBSET_DROP, 1 /* a, 0) = 0"
     ∷ codes "200 prctl(PR_CAPBSET_DROP, 1 /*/) = 0" ∷ codes "200 prctl(PR_CAPBSET_DROP, 0x1ffffffff) = 0" ∷ [])
 no_capability = refl
 
@@ -192,13 +208,19 @@ pub no_ambient_capability : Have (fault.Argument 3)
 no_ambient_capability = refl
 
 pub no_option : Have (fault.Argument 1)
-    (codes "200 prctl() = 0" ∷ codes "200 prctl() = x" ∷ codes "200 prctl( ) = -1 EINVAL" ∷ [])
+    (codes "200 prctl() = 0" ∷ codes "200 prctl() = 7" ∷ codes "200 prctl( ) = -1 EINVAL" ∷ [])
 no_option = refl
 
 pub no_ambient_option : Have (fault.Argument 2)
     (codes "200 prctl(PR_CAP_AMBIENT) = 0" ∷ codes "200 prctl(PR_CAP_AMBIENT) = -1 EINVAL"
-    ∷ codes "200 prctl(PR_CAP_AMBIENT) = x" ∷ [])
+    ∷ codes "200 prctl(PR_CAP_AMBIENT) = 4294967296" ∷ [])
 no_ambient_option = refl
+
+pub a_result_that_is_none_comes_before_a_missing_option : Have fault.Outcome
+    (codes "200 prctl() = 0x5" ∷ codes "200 prctl() = x" ∷ codes "200 prctl( ) = -1 EFOO" ∷ codes "200 prctl() ="
+    ∷ codes "200 prctl(PR_CAP_AMBIENT) = 0x5" ∷ codes "200 prctl(PR_CAP_AMBIENT) = -1 EFOO"
+    ∷ codes "200 execveat() = x" ∷ codes "200 execveat() = -1 EFOO" ∷ codes "200 execveat( ) = -1" ∷ [])
+a_result_that_is_none_comes_before_a_missing_option = refl
 
 -- ---- execve
 
@@ -230,7 +252,7 @@ pub a_path_of_execveat_that_can_not_be_read : Have (fault.Argument 2)
 a_path_of_execveat_that_can_not_be_read = refl
 
 pub an_execveat_of_no_folder : Have (fault.Argument 1)
-    (codes "200 execveat() = 0" ∷ codes "200 execveat() = x" ∷ codes "200 execveat() = -1 EACCES" ∷ [])
+    (codes "200 execveat() = 0" ∷ codes "200 execveat() = 7" ∷ codes "200 execveat() = -1 EACCES" ∷ [])
 an_execveat_of_no_folder = refl
 
 pub an_execveat_of_a_descriptor : Have fault.Descriptor

@@ -1,7 +1,7 @@
 -- The table of the calls that a log of strace(1) is read for, and what a line of each tells, whatever processes and
 -- descriptors stand (the reading is a choice; what each call does is said in its own manual page). The result is looked at
 -- before the arguments, these from left to right; but an argument that decides whether the line tells anything comes first.
-use Rattle.std.specs.Prelude.{ℕ, codes, ◌-◌, ◌+◌, ◌==◌, ◌||◌, Bool, false, bytes_eq, find, get_or, length, take}
+use Rattle.std.specs.Prelude.{ℕ, codes, ◌-◌, ◌+◌, ◌==◌, ◌||◌, Bool, false, bytes_eq, find, get_or, length, take, drop}
 use Rattle.std.specs.Prelude.{slice_get, List, [], ◌∷◌}
 use Rattle.std.specs.Prelude.{Option, Some, None, option_and_then, option_map, Result, Ok, Err, ok_or, if◌then◌else◌}
 use Rattle.cm_base.specs.declared.faults.LineFault.{LineFault}
@@ -19,7 +19,7 @@ use Rattle.model_cred.specs.Files.{file_named}
 use Rattle.model_cred.specs.World.{World}
 use Rattle.model_strace.specs.Flags.{has_flag, birth_flags}
 use Rattle.model_strace.specs.Numbers.{Sets, id_list, capability, securebits, header_pid, sets_of}
-use Rattle.model_strace.specs.Outcome.{Outcome, NoReturn, outcome_of, plain_result, id_result, birth_result, success}
+use Rattle.model_strace.specs.Outcome.{Outcome, NoReturn, Other, outcome_of, plain_result, id_result, birth_result, success}
 use Rattle.model_strace.specs.Quoted.{quote_of, whole_text}
 use Rattle.model_strace.specs.Written.{Written, call_name, written_of, arguments_of}
 use Rattle.model_text.specs.Arguments.{Argument, Pattern, Just, pattern_of, call_with}
@@ -109,6 +109,15 @@ read_argument read number arguments = ok_or (option_and_then read (slice_get arg
 abbrev pub needed : ℕ → List (List ℕ) → Result (List ℕ) LineFault
 needed number arguments = ok_or (slice_get arguments (number - 1)) (fault.Argument number)
 
+-- the fault where it is missing and decides what a call is: a result that is none comes first
+abbrev pub lacking : Outcome → ℕ → LineFault
+lacking Other number = fault.Outcome
+lacking _ number = fault.Argument number
+
+-- its text, or that fault
+abbrev pub deciding : ℕ → List (List ℕ) → Outcome → Result (List ℕ) LineFault
+deciding number arguments outcome = ok_or (slice_get arguments (number - 1)) (lacking outcome number)
+
 -- its text, an empty one where it is missing
 abbrev pub text_of : ℕ → List (List ℕ) → List ℕ
 text_of number arguments = get_or arguments (number - 1) []
@@ -190,9 +199,13 @@ caps_told pid arguments outcome =
 abbrev pub number_told : (ℕ → Call) → List (List ℕ) → Outcome → Told
 number_told call arguments outcome = plain_call outcome (read_argument number_token 2 arguments) call
 
--- a call of the capability that the argument of that number is
+-- the capability that the argument of that number is, or its fault
+abbrev pub capability_argument : ℕ → List (List ℕ) → Result ℕ LineFault
+capability_argument number arguments = ok_or (capability (drop (number - 1) arguments)) (fault.Argument number)
+
+-- a call of that capability
 abbrev pub cap_told : (ℕ → Call) → ℕ → List (List ℕ) → Outcome → Told
-cap_told call number arguments outcome = plain_call outcome (read_argument capability number arguments) call
+cap_told call number arguments outcome = plain_call outcome (capability_argument number arguments) call
 
 -- PR_CAP_AMBIENT, by its second argument
 abbrev pub ambient_told : List ℕ → List (List ℕ) → Outcome → Told
@@ -211,12 +224,12 @@ option_told option arguments outcome =
     then plain_call outcome (read_argument securebits 2 arguments) model.SecureBits
     else if bytes_eq option (codes "PR_CAPBSET_DROP") then cap_told model.BsetDrop 2 arguments outcome
     else if bytes_eq option (codes "PR_CAP_AMBIENT")
-    then then_tells (needed 2 arguments) (λ what. ambient_told what arguments outcome)
+    then then_tells (deciding 2 arguments outcome) (λ what. ambient_told what arguments outcome)
     else Nothing
 
 -- a line of prctl
 abbrev pub prctl_told : List (List ℕ) → Outcome → Told
-prctl_told arguments outcome = then_tells (needed 1 arguments) (λ option. option_told option arguments outcome)
+prctl_told arguments outcome = then_tells (deciding 1 arguments outcome) (λ option. option_told option arguments outcome)
 
 -- ---- births and user namespaces
 -- fork(2), clone(2): a failed one in no new user namespace tells nothing
@@ -258,7 +271,8 @@ execve_at w folder arguments outcome =
 
 -- a line of execveat
 abbrev pub execveat_told : World → List (List ℕ) → Outcome → Told
-execveat_told w arguments outcome = then_tells (needed 1 arguments) (λ folder. execve_at w folder arguments outcome)
+execveat_told w arguments outcome =
+    then_tells (deciding 1 arguments outcome) (λ folder. execve_at w folder arguments outcome)
 
 -- ---- descriptors: a call that fails tells nothing, nor does one of a number that can't be read
 -- the open of a path with these flags

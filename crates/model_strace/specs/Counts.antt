@@ -1,5 +1,5 @@
 -- How many events a session can still tell: no more than it holds lines and others come, so a log tells no more events than it
--- has lines; and how many lines it counts.
+-- has lines; and how many lines and user namespaces it counts.
 use Rattle.std.specs.Prelude.{◌≡◌, ◌≤◌, ℕ, ◌+◌, length, List}
 use Rattle.model_cred.specs.World.{World}
 use Rattle.model_strace.specs.Body.{Row}
@@ -10,6 +10,13 @@ abbrev pub held_count : Session → ℕ
 held_count (Going t) = length t.held
 held_count (Stopped count stop) = 0
 held_count (Finished count) = 0
+
+-- how many user namespaces a session counts while it goes on: those that there are, and one for each line that it holds, which
+-- may make one
+abbrev pub spaces_counted : Session → ℕ
+spaces_counted (Going t) = t.parts.spaces + length t.held
+spaces_counted (Stopped count stop) = 0
+spaces_counted (Finished count) = 0
 
 unfoldable pub EventsWithinLines : Type 0
 EventsWithinLines = (cut : List ℕ → Row) (w : World) (session : Session) (lines : List (List ℕ))

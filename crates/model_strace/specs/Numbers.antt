@@ -1,11 +1,11 @@
 -- Ids, numbers, capabilities and sets as strace(1) writes them (the reading is a choice).
-use Rattle.std.specs.Prelude.{ℕ, codes, nat_le, bytes_eq, map, find, List, [], ◌∷◌, Option, Some, None, if◌then◌else◌}
-use Rattle.std.specs.Prelude.{option_and_then, option_map}
+use Rattle.std.specs.Prelude.{ℕ, codes, ◌==◌, Bool, true, false, nat_le, bytes_eq, map, find, List, [], ◌∷◌, Option, Some, None}
+use Rattle.std.specs.Prelude.{option_and_then, option_map, unwrap_or, if◌then◌else◌}
 use Rattle.std.specs.Option.{option_or}
 use Rattle.cm_base.specs.CapSet.{none, single, union}
 use Rattle.cm_base.specs.Limits.{greatest_number}
 use Rattle.cm_base.specs.Names.{cap_of}
-use Rattle.model_strace.specs.Marks.{trimmed, after_mark, cut_at, barred}
+use Rattle.model_strace.specs.Marks.{without_front, trimmed, after_mark, cut_at, barred}
 use Rattle.model_strace.specs.Written.{arguments_of, bracketed_whole, value_of}
 use Rattle.model_text.specs.CapText.{hex_after}
 use Rattle.model_text.specs.Token.{number_token, id_token, cap_token}
@@ -39,23 +39,37 @@ id_list text =
     else option_and_then (λ inside. ids_of (arguments_of inside)) (bracketed_whole (codes "[") (codes "]") text)
 
 -- ---- capabilities
--- the text before a comment, by what follows the comment's end
-abbrev pub before_comment : List ℕ → List ℕ → Option (List ℕ × List ℕ) → List ℕ
-before_comment text before None = text
-before_comment text before (Some sides) = if bytes_eq sides.1 [] then trimmed before else text
+-- a capability without a comment: its name, a decimal or a hexadecimal number, whether or not there is such a capability
+abbrev pub bare_capability : List ℕ → Option ℕ
+bare_capability text = option_or (cap_token text) (hex_number text)
 
--- the text before a comment, by what precedes and follows the comment's begin
-abbrev pub comment_cut : List ℕ → Option (List ℕ × List ℕ) → List ℕ
-comment_cut text None = text
-comment_cut text (Some sides) = before_comment text sides.0 (cut_at (codes "*/") sides.1)
+-- an argument of which this is left has ended: nothing, or a comma
+abbrev pub has_ended : List ℕ → Bool
+has_ended [] = true
+has_ended (byte ∷ text) = byte == 44
 
--- the text without a comment at its end; one that doesn't end there is none
-abbrev pub without_comment : List ℕ → List ℕ
-without_comment text = comment_cut text (cut_at (codes "/*") text)
+-- whether the argument ends with a comment, where the comment ends in this text: at the first `*/`
+abbrev pub comment_end : List ℕ → Option Bool
+comment_end text = option_map (λ sides. has_ended (without_front sides.1)) (cut_at (codes "*/") text)
 
--- a capability: its name, a decimal or a hexadecimal number, whether or not there is such a capability
-abbrev pub capability : List ℕ → Option ℕ
-capability text = option_or (cap_token (without_comment text)) (hex_number (without_comment text))
+-- the same by the texts that commas part, since those in a comment part no arguments; a comment that doesn't end is none
+abbrev pub ends_with_comment : List (List ℕ) → Bool
+ends_with_comment [] = false
+ends_with_comment (text ∷ texts) = unwrap_or (comment_end text) (ends_with_comment texts)
+
+-- the capability before a comment, of which these texts are left
+abbrev pub capability_before : List ℕ → List (List ℕ) → Option ℕ
+capability_before text texts = if ends_with_comment texts then bare_capability (trimmed text) else None
+
+-- the capability of a text, by what precedes and follows the begin of a comment, with the texts after it
+abbrev pub capability_cut : List ℕ → Option (List ℕ × List ℕ) → List (List ℕ) → Option ℕ
+capability_cut text None texts = bare_capability text
+capability_cut text (Some sides) texts = capability_before sides.0 (sides.1 ∷ texts)
+
+-- the capability that arguments begin with, and a comment that may follow it
+abbrev pub capability : List (List ℕ) → Option ℕ
+capability [] = None
+capability (text ∷ texts) = capability_cut text (cut_at (codes "/*") text) texts
 
 -- ---- sets
 -- the union of a set and those that terms are

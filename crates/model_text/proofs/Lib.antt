@@ -16,6 +16,7 @@ pub mod CapTexts
 pub mod Values
 pub mod KeepsSpaces
 pub mod KeepsMounts
+pub mod KeepsNames
 pub mod KeepsFiles
 pub mod KeepsProcesses
 pub mod Keeping

@@ -29,16 +29,18 @@ use Rattle.model_text.proofs.DecimalTexts.{digits_of_decimal, decimal_token, num
 use Rattle.model_text.proofs.FileTexts.{file_written}
 use Rattle.model_text.proofs.Found.{length_other}
 use Rattle.model_text.proofs.HexTexts.{set_is_token, set_back, set_length}
+use Rattle.model_text.proofs.KeepsNames.{declared_names_keep}
 use Rattle.model_text.proofs.SpaceTexts.{space_written}
 use Rattle.model_text.proofs.Tokens.{IsToken, token_alone, token_before, tokens_before}
 use Rattle.model_text.specs.Arguments.{Form, AnId, ANumber, ACap, ASet, ASpace, AWord, AFile, Pattern, Ids, Triples, pattern_of, takes, form_at}
 use Rattle.model_text.specs.Arguments.{Argument, Id, Number, Cap, Set, Space, Word, File, argument_token}
 use Rattle.model_text.specs.Arguments.{argument_text, extents_in, ids_in, call_with, triple_of, arguments_of}
 use Rattle.model_text.specs.Cut.{tokens_of}
-use Rattle.model_text.specs.Line.{Tells, Tokens, parts_of, after_argument, arguments_from, call_told, result_of_kind, tokens_line}
+use Rattle.model_text.specs.Line.{Tells, Tokens, parts_of, after_argument, arguments_from, call_told, result_of_kind, script_line, tokens_line}
 use Rattle.model_text.specs.Print.{event_text}
 use Rattle.model_text.specs.Token.{pid_token, result_token, birth_token, old_id_token, done_token, res_text, is_comment, is_equals}
-use Rattle.model_text.specs.Written.{AreNames, ArePaths, IsInRange, IsOutcome, IsBirth, IsOldId, MayAnswer, IsWritable, LinesReadBack}
+use Rattle.model_text.specs.Written.{AreNames, ArePaths, KeepsNames, DeclaredNamesKeep, IsInRange, IsOutcome, IsBirth, IsOldId, MayAnswer}
+use Rattle.model_text.specs.Written.{IsWritable, LinesReadBack}
 
 -- ---- single arguments
 -- the form of an argument
@@ -352,12 +354,15 @@ tokens_back w e can all =
       can.groups,
     ) refl
 
--- What was written of an event is read again as the same event.
-pub lines_read_back : LinesReadBack
-unfolding LinesReadBack
-lines_read_back w e can =
+-- What was written of an event is read again as the same event, where the names and paths of the world are.
+pub event_read_back : (w : World) (e : Event) → KeepsNames w → IsWritable w e → script_line w (event_text w e) ≡ Tells e
+event_read_back w e keeps can =
     let all : All (Written w) (arguments_of e.call) =
-    All-weaker (IsInRange w) (Written w) (λ argument fits. written w argument can.names can.paths fits) (arguments_of e.call) can.arguments in
+    All-weaker (IsInRange w) (Written w) (λ argument fits. written w argument keeps.names keeps.paths fits) (arguments_of e.call) can.arguments in
     ap (tokens_line w)
     (line_tokens w e (decimal_token e.pid (pid_fits e.pid can.pid)) all (result_written (kind_of e.call) e.res can.result).token)
     ∙ tokens_back w e can all
+
+pub lines_read_back : LinesReadBack
+unfolding LinesReadBack DeclaredNamesKeep
+lines_read_back bytes w e reads can = event_read_back w e (declared_names_keep bytes w reads) can

@@ -11,12 +11,12 @@ use Rattle.model_cred.specs.Call.{SetNs, Exec}
 use Rattle.model_text.proofs.CaseWorld.{the_world}
 use Rattle.model_text.proofs.Found.{text_same}
 use Rattle.model_text.proofs.LineCases.{event_of}
-use Rattle.model_text.proofs.ReadBack.{lines_read_back}
+use Rattle.model_text.proofs.ReadBack.{event_read_back}
 use Rattle.model_text.specs.Arguments.{File, Space}
 use Rattle.model_text.specs.Line.{Tells, script_line}
 use Rattle.model_text.specs.NameText.{is_name, is_path}
 use Rattle.model_text.specs.Print.{event_text}
-use Rattle.model_text.specs.Written.{AreNames, ArePaths, IsInRange, IsWritable, LinesReadBack}
+use Rattle.model_text.specs.Written.{AreNames, ArePaths, KeepsNames, IsInRange, IsWritable}
 
 -- no two texts are equal
 are_distinct : List (List ℕ) → Bool
@@ -61,10 +61,11 @@ paths_keep = record {
   distinct = pairs_differ (map (λ row. row.path) the_world.files.rows) refl;
 }
 
+the_names_keep : KeepsNames the_world
+the_names_keep = record { names = names_keep; paths = paths_keep }
+
 pub an_execve_can_be_written : IsWritable the_world (event_of (Exec (Row 2)) Done)
 an_execve_can_be_written = record {
-  names = names_keep;
-  paths = paths_keep;
   pid = refl;
   arguments = All-cons (IsInRange the_world) (File (Row 2)) [] (lit≤ tt) (All-nil (IsInRange the_world));
   groups = refl;
@@ -73,8 +74,6 @@ an_execve_can_be_written = record {
 
 pub a_setns_can_be_written : IsWritable the_world (event_of (SetNs 4294967295) Done)
 a_setns_can_be_written = record {
-  names = names_keep;
-  paths = paths_keep;
   pid = refl;
   arguments = All-cons (IsInRange the_world) (Space 4294967295) [] (lit≤ tt) (All-nil (IsInRange the_world));
   groups = refl;
@@ -83,5 +82,4 @@ a_setns_can_be_written = record {
 
 -- and so it is read again
 pub the_execve_is_read_again : script_line the_world (event_text the_world (event_of (Exec (Row 2)) Done)) ≡ Tells (event_of (Exec (Row 2)) Done)
-unfolding LinesReadBack
-the_execve_is_read_again = lines_read_back the_world (event_of (Exec (Row 2)) Done) an_execve_can_be_written
+the_execve_is_read_again = event_read_back the_world (event_of (Exec (Row 2)) Done) the_names_keep an_execve_can_be_written

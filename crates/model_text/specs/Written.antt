@@ -14,6 +14,7 @@ use Rattle.model_text.specs.Arguments.{Argument, Id, Number, Cap, Set, Space, Wo
 use Rattle.model_text.specs.Line.{Tells, groups_fit, script_line}
 use Rattle.model_text.specs.NameText.{is_name, is_path}
 use Rattle.model_text.specs.Print.{event_text}
+use Rattle.model_text.specs.WorldText.{Reads, world_text}
 
 -- The names are names, and no two are equal.
 pub record AreNames (names : List (List ℕ)) : Type 0 where
@@ -24,6 +25,15 @@ pub record AreNames (names : List (List ℕ)) : Type 0 where
 pub record ArePaths (paths : List (List ℕ)) : Type 0 where
   pub each : All (λ path. IsTrue (is_path path)) paths
   pub distinct : AllPairs (λ path other. path ≢ other) paths
+
+-- The names of a world's spaces are names, and the paths of its files are paths.
+pub record KeepsNames (w : World) : Type 0 where
+  pub names : AreNames w.names
+  pub paths : ArePaths (map (λ row. row.path) w.files.rows)
+
+-- So it is with each world that a text declares.
+unfoldable pub DeclaredNamesKeep : Type 0
+DeclaredNamesKeep = (bytes : List ℕ) (w : World) → world_text bytes ≡ Reads w → KeepsNames w
 
 -- the file of an execve is in the table
 abbrev pub FileStands : FileTable → Call → Type 0
@@ -66,16 +76,14 @@ MayAnswer kind.CloneUser answer = IsBirth answer
 MayAnswer kind.Exit answer = answer ≡ res.Done
 MayAnswer _ answer = IsOutcome answer
 
--- The names and paths of the world keep their rules, the pid, the arguments and the result of the event are in their
--- ranges, and its groups are within their limit.
+-- An event over a world: its pid, its arguments and its result are in their ranges, and its groups are within their limit.
 pub record IsWritable (w : World) (e : Event) : Type 0 where
-  pub names : AreNames w.names
-  pub paths : ArePaths (map (λ row. row.path) w.files.rows)
   pub pid : IsTrue (is_pid e.pid)
   pub arguments : All (IsInRange w) (arguments_of e.call)
   pub groups : IsTrue (groups_fit e.call)
   pub result : MayAnswer (kind_of e.call) e.res
 
--- What was written of an event is read again as the same event.
+-- What was written of an event over a world that a text declares is read again as the same event.
 unfoldable pub LinesReadBack : Type 0
-LinesReadBack = (w : World) (e : Event) → IsWritable w e → script_line w (event_text w e) ≡ Tells e
+LinesReadBack = (bytes : List ℕ) (w : World) (e : Event) → world_text bytes ≡ Reads w → IsWritable w e
+    → script_line w (event_text w e) ≡ Tells e

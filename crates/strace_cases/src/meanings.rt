@@ -20,7 +20,7 @@ pub(crate) fn value_answer(alloc: Global, line: &str) -> Result<Vec<u8>, Stop> {
         "old_id" => named(alloc, &read_outcome(&text).old_id()),
         "birth" => named(alloc, &read_outcome(&text).birth()),
         "success" => named(alloc, &read_outcome(&text).success()),
-        "capability" => named(alloc, &read_capability(&text)),
+        "capability" => named(alloc, &read_capability(read_arguments(&text))),
         "securebits" => named(alloc, &read_securebits(&text)),
         "header" => named(alloc, &read_header(&text)),
         "sets" => named(alloc, &read_sets(&text)),

@@ -1,7 +1,9 @@
-use Rattle.std.proofs.Common.{◌∙◌, ap, arith}
+use Rattle.std.proofs.Common.{◌+◌, ◌≤◌, ◌∙◌, ap, arith, subst, sym}
 use Rattle.cm_log.proofs.LeftAfter.{after_line_goes_on, after_line_left, long_line_left}
 use Rattle.cm_log.proofs.strace.StraceLog.read_line.Goals as goal
 use Rattle.cm_world.specs.World.{world_of}
+use Rattle.model_strace.specs.Counts.{spaces_counted}
+use Rattle.model_strace.specs.Rest.{Session}
 
 pub returns-then-line-gt-LINE_LIMIT-clause-left : goal.returns-then-line-gt-LINE_LIMIT-clause-left
 returns-then-line-gt-LINE_LIMIT-clause-left c =
@@ -36,3 +38,5 @@ returns-clause-room c =
     c.requires.room c.requires.reads c.requires.shorter
     (c.turn_waiting.ensures.tracer ∙ c.in_ok-stop.ensures.after) (ap (λ r. r.now) c.turn_waiting.ensures.rest) c.phase_after-self.ensures
     c.in_ok-stop.ensures.given
+    (subst (λ (t : Session). spaces_counted t ≤ spaces_counted c.args.self.now.tracer + 1) (sym c.turn_waiting.ensures.tracer)
+    c.in_ok-stop.ensures.spaces)
