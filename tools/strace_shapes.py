@@ -51,6 +51,8 @@ STOPS = [
         '101 execve("/usr/bin/true", ["true"], 0x7ffd8990e358 /* 35 vars */ <unfinished ...>',
         "100 +++ superseded by execve in pid 101 +++"], ["1: 100 fork = 101"], bad(3, "superseded")),
     ("a detached tracer's last line", ['100 write(1, "\\0\\0"..., 131072 <detached ...>'], [], bad(1, "shape")),
+    ("a child that closes thousands of descriptors before its birth is told (made)", [
+        f"101 close({number})                   = 0" for number in range(3, 4100)], [], "limit held 4096"),
     ("lost lines (made)", ["100 vfork( <unfinished ...>", "100 vfork( <unfinished ...>"], [], bad(2, "unfinished")),
     ("lost lines (made)", ["100 <... vfork resumed>)              = 101"], [], bad(1, "unfinished")),
     ("without -v", [f"100 setgroups(40, {LARGE_LIST}) = 0"], [], bad(1, "argument 2")),
@@ -84,8 +86,10 @@ STOPS = [
         " > /usr/lib/x86_64-linux-gnu/libc.so.6(setuid+0x14) [0xd1594]"], ["1: 100 setuid 7 = 0"], bad(2, "pid")),
 ]
 PASSED_OVER = [
-    ("-t, -r", ["100 00:13:52 setuid(7)                = 0"], [], "end"),
-    ("-t, -r", ["100      0.000059 setuid(7)           = 0"], [], "end"),
+    ("-t, -tt, -ttt, -r", ["100 00:13:52 setuid(7)                = 0"], [], "end"),
+    ("-t, -tt, -ttt, -r", ["100 00:13:52.123456 setuid(7)         = 0"], [], "end"),
+    ("-t, -tt, -ttt, -r", ["100 1790000000.123456 setuid(7)       = 0"], [], "end"),
+    ("-t, -tt, -ttt, -r", ["100      0.000059 setuid(7)           = 0"], [], "end"),
     ("-i, -n", ["100 [00007f7d143bf594] setuid(7)      = 0"], [], "end"),
     ("-i, -n", ["100 [ 105] setuid(7)                  = 0"], [], "end"),
     ("-y, -yy", [
@@ -105,7 +109,11 @@ PASSED_OVER = [
     ("-e verbose=none", ["100 clone3(0x7ffd4821a2c0, 88) = 101"], ["1: 100 fork = 101"], "end"),
     ("-X verbose", ["100 prctl(0x8 /* PR_SET_KEEPCAPS */, 1) = 0"], [], "end"),
     ("-X verbose", ["100 unshare(0x10000000 /* CLONE_NEWUSER */) = 0"], [], "end"),
-    ("-qq", ["100 fork()                            = 101"], ["1: 100 fork = 101"], "end"),
+    ("-qq, --quiet=exit", ["100 fork()                            = 101"], ["1: 100 fork = 101"], "end"),
+    ("fewer calls than CALLS (made)", ["100 fork()                            = 101", "100 +++ exited with 0 +++"],
+     ["1: 100 fork = 101", "2: 100 exit = 0"], "end"),
+    ("lines cut or chosen by text (`grep`, `head`) (made)", ["100 setuid(7)                         = 0"],
+     ["1: 100 setuid 7 = 0"], "end"),
     ("a process in a PID namespace", [
         "100 vfork()                           = 2",
         '27323 execve("/usr/bin/true", ["true"], 0x7ffdb75cf060 /* 35 vars */) = 0'],
@@ -114,6 +122,21 @@ PASSED_OVER = [
         '100 openat2(AT_FDCWD, "/proc/self/uid_map", {flags=O_WRONLY, resolve=0}, 24) = 3',
         '100 writev(3, [{iov_base="0 0 1\\n", iov_len=6}], 1) = 6',
         "100 close_range(3, 4294967295, 0)     = 0"], [], "end"),
+    ("a map under another spelling (made)", [
+        '100 openat(AT_FDCWD, "//proc/100/uid_map", O_WRONLY) = 3',
+        '100 write(3, "0 0 1\\n", 6)            = 6'], [], "end"),
+    ("a map under another spelling (made)", [
+        '100 openat(AT_FDCWD, "/proc/self/../100/uid_map", O_WRONLY) = 3',
+        '100 write(3, "0 0 1\\n", 6)            = 6'], [], "end"),
+    ("a descriptor that was handed over (made)", [
+        "100 pidfd_getfd(5, 3, 0)              = 4",
+        '100 write(4, "0 0 1\\n", 6)            = 6'], [], "end"),
+    ("fcntl64 (made)", [
+        '100 openat(AT_FDCWD, "/proc/self/uid_map", O_WRONLY) = 3',
+        "100 fcntl64(3, F_DUPFD, 10)           = 10",
+        '100 write(10, "0 0 1\\n", 6)           = 6'], [], "end"),
+    ("CLONE_UNTRACED (made)", [
+        "100 clone(child_stack=NULL, flags=CLONE_UNTRACED|SIGCHLD) = 101"], ["1: 100 fork = 101"], "end"),
 ]
 
 

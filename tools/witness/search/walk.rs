@@ -44,10 +44,10 @@ impl Draws {
         (self.0 % n as u64) as usize
     }
 
-    /// The turns that a choice of that many keeps: those that are always kept, and some of the others.
-    fn choose(&mut self, menu: Menu, most: usize) -> Vec<Turn> {
+    /// The turns that a choice keeps: those that are always kept, and that many of the others.
+    fn choose(&mut self, menu: Menu, others: usize) -> Vec<Turn> {
         let (mut turns, kept) = (menu.turns, menu.kept);
-        let most = most.max(kept);
+        let most = kept.saturating_add(others);
         for at in kept..most.min(turns.len()) {
             let other = at + self.below(turns.len() - at);
             turns.swap(at, other);
