@@ -3,10 +3,12 @@ pub mod Ways
 pub mod Special
 pub mod Ready
 pub mod Moves
+pub mod Becomes
 pub mod Choices
 pub mod Middles
 pub mod Finds
 pub mod Takes
+pub mod Tried
 pub mod PlansLeft
 pub mod Left
 pub mod Turns

@@ -1,17 +1,18 @@
 -- What a question keeps.
-use Rattle.std.specs.Prelude.{◌≡◌}
+use Rattle.std.specs.Prelude.{◌≡◌, All}
 use Rattle.cm_plans.specs.Ways.{AreWays}
 use Rattle.cm_plans.specs.declared.query.Query.{Query}
 use Rattle.cm_state.specs.Right.{right_of}
 use Rattle.cm_state.specs.declared.right.Right.{Right}
 use Rattle.cm_world.specs.declared.world.World.{World}
 use Rattle.model_cred.specs.Process.{State}
-use Rattle.model_cred.specs.Space.{IsTree}
+use Rattle.model_cred.specs.Space.{IsTree, KeepsSpace}
 use Rattle.model_plans.specs.Plan.{special_rows}
 
--- What was worked out of the question is right, and its spaces are a tree.
+-- What was worked out of the question is right, and its spaces are a tree and keep what spaces keep.
 pub record IsReady (q : Query) : Type 0 where
   pub tree : IsTree q.spaces.now
+  pub keeps : All KeepsSpace q.spaces.now
   pub ways : AreWays q.spaces.now (right_of q.right.now) q.ways.items
   pub special : q.special.items ≡ special_rows q.world.now.files.rows
 

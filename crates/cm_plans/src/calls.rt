@@ -8,6 +8,7 @@ ghost use Rattle.cm_state.specs.Call.{call_of as told};
 ghost use Rattle.model_cred.specs.Call.{SetNs};
 ghost use Rattle.model_plans.specs.Walk.{after, reply_at, seat_after};
 
+use crate::barred::is_barred;
 use crate::moves::{Move, call_for};
 use crate::query::Query;
 use crate::seat::Seat;
@@ -74,6 +75,9 @@ pub(crate) fn make(q: &Query<'_>, seat: &mut Seat, m: Move) -> bool
     ensures stands { seat.new.space < length q.now.spaces.now }
     ensures groups { seat.new.cred.groups ≡ seat.old.cred.groups }
 {
+    if is_barred(q, seat, m) {
+        return false;
+    }
     match call_for(q, seat, m) {
         Some(call) => match answer(q, seat, &call) {
             Res::Err(_) => false,

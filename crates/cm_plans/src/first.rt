@@ -7,7 +7,7 @@ ghost use Rattle.cm_state.specs.Right.{right_of};
 ghost use Rattle.model_cred.specs.Call.{Event};
 ghost use Rattle.model_plans.specs.PlanRun.{holder as model_holder};
 
-use crate::middles::middle_list;
+use crate::middles::single_list;
 use crate::query::Query;
 use crate::runs::run_of;
 use crate::seat::Seat;
@@ -121,8 +121,8 @@ fn found_for(alloc: Global, q: &Query<'_>, st: &State, pid: Pid) -> Result<Optio
     let Some(mut seat) = Seat::of(alloc, st, pid)? else {
         return Ok(None);
     };
-    let middles = middle_list(alloc, q, seat.space)?;
-    match find_moves(alloc, q, &mut seat, &middles) {
+    let singles = single_list(alloc, q, seat.space)?;
+    match find_moves(alloc, q, &mut seat, &singles) {
         Some(choices) => {
             let run = run_of(alloc, q, pid, &mut seat, choices)?;
             Ok(Some(Found { run, holder: pid }))

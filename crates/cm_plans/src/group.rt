@@ -14,12 +14,14 @@ pub(crate) fn takes_group(q: &Query<'_>, seat: &Seat, id: Kgid) -> bool
     requires { seat.now.space < length q.now.spaces.now }
     ensures { result ≡ takes (setting q.now) seat.now id }
 {
+    if !seat.cred.eff.holds(Cap::SETGID) {
+        return false;
+    }
     let s = q.spaces.standing(seat.space);
     match &s.gids {
         Some(map) => match map.up(id.number()) {
             Some(inside) => {
                 q.world.filter.permits(CallKind::SetGroups)
-                    && seat.cred.eff.holds(Cap::SETGID)
                     && !s.deny
                     && is_id(map.down(inside), id)
             }

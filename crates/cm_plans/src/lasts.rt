@@ -1,16 +1,18 @@
 // The last place of a plan: after which choice the member holds the right.
-ghost use Rattle.std.specs.Prelude.{◌≡◌, ◌<◌, ◌&&◌, ◌||◌, length, option_map, IfSome};
+ghost use Rattle.std.specs.Prelude.{◌≡◌, ◌<◌, ◌&&◌, ◌||◌, false, length, option_map, IfSome};
 ghost use Rattle.cm_base.specs.CapSet.{holds};
-ghost use Rattle.cm_plans.specs.Choices.{choice_of, IsChoiceOfWalk, IsChoiceOfRun};
-ghost use Rattle.cm_plans.specs.Moves.{setting};
+ghost use Rattle.cm_plans.specs.Choices.{choice_of, IsChoiceOfRun};
+ghost use Rattle.cm_plans.specs.Moves.{setting, move_of, IsMoveOfWalk};
 ghost use Rattle.cm_plans.specs.Ready.{IsReady};
 ghost use Rattle.cm_state.specs.Right.{right_of};
 ghost use Rattle.model_cred.specs.IdMap.{is_the};
-ghost use Rattle.model_plans.specs.Plan.{then_raise};
-ghost use Rattle.model_plans.specs.Walk.{after_moves, last_found, seat_holds};
+ghost use Rattle.model_plans.specs.Move.{Raise};
+ghost use Rattle.model_plans.specs.Walk.{after, last_found, seat_holds};
 ghost use Rattle.model_run.specs.Holds.{holds_right};
 
-use crate::choices::{Choice, make_and_raise};
+use crate::barred::is_barred;
+use crate::calls::make;
+use crate::choices::Choice;
 use crate::group::takes_group;
 use crate::moves::Move;
 use crate::query::Query;
@@ -59,17 +61,42 @@ fn is_id(number: Option<u32>, id: Kuid) -> bool
     }
 }
 
-// After the last choice and a raise the member holds the right.
-fn ends(alloc: Global, q: &Query<'_>, seat: &mut Seat, last: Choice) -> bool
+// After a raise the member holds the right.
+fn holds_raised(alloc: Global, q: &Query<'_>, seat: &mut Seat) -> bool
     requires ready { IsReady q.now }
     requires stands { seat.old.space < length q.now.spaces.now }
-    requires single { IsChoiceOfWalk q.now.spaces.now last }
-    ensures held { result
-        ≡ seat_holds (setting q.now) (after_moves (setting q.now) seat.old (then_raise (choice_of last))) }
+    ensures held { result ≡ seat_holds (setting q.now) (after (setting q.now) seat.old Raise) }
     ensures same { seat.new ≡ seat.old }
 {
+    if is_barred(q, seat, Move::Raise) {
+        return holds(q, seat);
+    }
     let old = seat.saved(alloc);
-    make_and_raise(q, seat, last);
+    make(q, seat, Move::Raise);
+    let raised = holds(q, seat);
+    seat.restore(old);
+    raised
+}
+
+// After the move and a raise the member holds the right, which it doesn't hold after a raise alone: so a move that leaves
+// it where it is needn't be looked at further.
+fn ends(alloc: Global, q: &Query<'_>, seat: &mut Seat, last: Move) -> bool
+    requires ready { IsReady q.now }
+    requires stands { seat.old.space < length q.now.spaces.now }
+    requires single { IsMoveOfWalk q.now.spaces.now last }
+    requires none { seat_holds (setting q.now) (after (setting q.now) seat.old Raise) ≡ false }
+    ensures held { result
+        ≡ seat_holds (setting q.now) (after (setting q.now) (after (setting q.now) seat.old (move_of last)) Raise) }
+    ensures same { seat.new ≡ seat.old }
+{
+    if is_barred(q, seat, last) {
+        return false;
+    }
+    let old = seat.saved(alloc);
+    if !make(q, seat, last) {
+        return false;
+    }
+    make(q, seat, Move::Raise);
     let held = holds(q, seat);
     seat.restore(old);
     held
@@ -83,18 +110,18 @@ pub(crate) fn find_last(alloc: Global, q: &Query<'_>, seat: &mut Seat) -> Option
     ensures standing { IfSome result (IsChoiceOfRun q.now.spaces.now) }
     ensures same { seat.new ≡ seat.old }
 {
-    if ends(alloc, q, seat, Choice::Nothing) {
+    if holds_raised(alloc, q, seat) {
         return Some(Choice::Nothing);
     }
-    if ends(alloc, q, seat, Choice::One(Move::BecomeZero)) {
+    if ends(alloc, q, seat, Move::BecomeZero) {
         return Some(Choice::One(Move::BecomeZero));
     }
-    if ends(alloc, q, seat, Choice::One(Move::BecomeSought)) {
+    if ends(alloc, q, seat, Move::BecomeSought) {
         return Some(Choice::One(Move::BecomeSought));
     }
     match q.right {
         Right::Gid(id) => {
-            if ends(alloc, q, seat, Choice::One(Move::BecomeGroup)) {
+            if ends(alloc, q, seat, Move::BecomeGroup) {
                 return Some(Choice::One(Move::BecomeGroup));
             }
             if takes_group(q, seat, *id) {

@@ -3,6 +3,8 @@
 //! `model_plans`, with what a walk over it may share (docs/PLANS.md).
 #![tactic(auto)]
 
+mod alike;
+mod barred;
 mod becoming;
 mod calls;
 mod choices;

@@ -2,7 +2,7 @@
 ghost use Rattle.std.specs.Prelude.{◌≡◌, ◌<◌, ◌∷◌, [], length, map};
 ghost use Rattle.cm_base.specs.Outcome.{OrNoMemory};
 ghost use Rattle.cm_plans.specs.Choices.{choice_of, join_of, IsChoiceOfWalk};
-ghost use Rattle.cm_plans.specs.Middles.{Adds, Lists};
+ghost use Rattle.cm_plans.specs.Middles.{Adds, Lists, single_choices};
 ghost use Rattle.cm_plans.specs.Ready.{IsReady};
 ghost use Rattle.model_cred.specs.Space.{Spaces as ModelSpaces};
 ghost use Rattle.cm_base.specs.declared.res.FileRef.TheVariants.{Plain};
@@ -27,12 +27,25 @@ pub(crate) fn middle_list(
     ensures { OrNoMemory result (λ list. Lists q.now.spaces.now list.items
         (middle_choices q.now.world.now.files q.now.spaces.now at.0)) }
 {
+    let mut list = single_list(alloc, q, at)?;
+    put_pairs(&mut list, &q.special)?;
+    Ok(list)
+}
+
+// Those of them that run no two files.
+pub(crate) fn single_list(
+    alloc: Global,
+    q: &Query<'_>,
+    at: SpaceId,
+) -> Result<Vec<Choice>, NoMemory>
+    ensures { OrNoMemory result (λ list. Lists q.now.spaces.now list.items
+        (single_choices q.now.world.now.files q.now.spaces.now at.0)) }
+{
     let mut list = Vec::new(alloc);
     put(&mut list, Choice::Nothing)?;
     put_rows(&mut list, &q.world.files)?;
     put_plain(&mut list)?;
     put_joins(&mut list, q.spaces, at)?;
-    put_pairs(&mut list, &q.special)?;
     Ok(list)
 }
 

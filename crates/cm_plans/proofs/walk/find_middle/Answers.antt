@@ -1,35 +1,24 @@
-use Rattle.std.proofs.Common.{◌+◌, drop, get_or, map, List, sym, ap, ◌∙◌}
-use Rattle.std.proofs.lemmas.List.{drop_more}
-use Rattle.cm_plans.proofs.Finding.{middle_some, middle_none}
+use Rattle.std.proofs.Common.{ℕ, List, sym, ap, ◌∙◌}
+use Rattle.cm_plans.proofs.Pairing.{first_part, second_part}
 use Rattle.cm_plans.proofs.walk.find_middle.Goals as goal
-use Rattle.cm_plans.specs.Choices.{choice_of}
+use Rattle.cm_plans.specs.Choices.{moves_of_two}
+use Rattle.cm_plans.specs.Middles.{single_choices}
 use Rattle.cm_plans.specs.Moves.{setting}
-use Rattle.cm_plans.specs.declared.choices.Choice.{Choice}
-use Rattle.cm_plans.specs.declared.choices.Choice.TheVariants.{Nothing}
+use Rattle.model_plans.specs.Plan.{Choice, pairs, special_rows}
 use Rattle.model_plans.specs.Walk.{middle_found}
 
 pub returns-in-Some-clause-found : goal.returns-in-Some-clause-found
-returns-in-Some-clause-found c =
+returns-in-Some-clause-found c at lists =
     let q = setting c.args.q.now in
-    let middles = c.args.middles.now in
-    let middle : Choice = get_or middles c.loop-middle.middle-index Nothing in
-    sym (ap (λ (ms : List Choice). middle_found q c.args.seat.now (map choice_of ms))
-    (drop_more middles c.loop-middle.middle-index Nothing c.loop-middle-test.true)
-    ∙ middle_some q c.args.seat.now (choice_of middle) (choice_of c.in-Some.last)
-    (map choice_of (drop (c.loop-middle.middle-index + 1) middles))
-    (sym (rw c.loop-middle.invariant.same at c.in-Some.ensures.found)))
-    ∙ c.loop-middle.invariant.left
+    let singles : List Choice = single_choices q.files q.spaces at in
+    sym (first_part q c.args.seat.now singles (pairs (special_rows q.files.rows)) (moves_of_two c.in-Some.found)
+    (ap (middle_found q c.args.seat.now) (sym lists.same) ∙ sym c.in-Some.ensures.found))
 
-pub loop-middle-preserved : goal.loop-middle-preserved
-loop-middle-preserved c = record {
-  same = c.try_middle.ensures.same ∙ c.loop-middle.invariant.same;
-  left =
-      let q = setting c.args.q.now in
-      let middles = c.args.middles.now in
-      let middle : Choice = get_or middles c.loop-middle.middle-index Nothing in
-      sym (ap (λ (ms : List Choice). middle_found q c.args.seat.now (map choice_of ms))
-      (drop_more middles c.loop-middle.middle-index Nothing c.loop-middle-test.true)
-      ∙ middle_none q c.args.seat.now (choice_of middle) (map choice_of (drop (c.loop-middle.middle-index + 1) middles))
-      (sym (rw c.loop-middle.invariant.same at c.in-None.ensures.found)))
-      ∙ c.loop-middle.invariant.left;
-}
+pub returns-clause-found : goal.returns-clause-found
+returns-clause-found c at lists =
+    let q = setting c.args.q.now in
+    let singles : List Choice = single_choices q.files q.spaces at in
+    (rw c.find_single.ensures.same at c.find_pair.ensures.found)
+    ∙ ap (λ (rows : List ℕ). middle_found q c.args.seat.now (pairs rows)) c.requires.ready.special
+    ∙ sym (second_part q c.args.seat.now singles (pairs (special_rows q.files.rows))
+    (ap (middle_found q c.args.seat.now) (sym lists.same) ∙ sym c.in-None.ensures.found))
