@@ -10,3 +10,4 @@ pub mod RowCopies
 pub mod RowRules
 pub mod Starting
 pub mod WholeRules
+pub mod Zeros

@@ -137,7 +137,7 @@ fn root_runs(spaces: &Spaces, b: &Bounds, at: Place) -> bool
     ensures { IsTrue result ↔ RootRuns spaces.now (RowsHold b.now) (row_of at) }
 {
     let row = b.row(at);
-    if !row.r.0 {
+    if !row.r.holds(&()) {
         return false;
     }
     if !may_gain(row) {

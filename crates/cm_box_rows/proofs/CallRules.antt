@@ -1,5 +1,5 @@
 -- The rules of the calls, as the answers of the tests that their functions make.
-use Rattle.std.proofs.Common.{◌≡◌, ℕ, Bool, true}
+use Rattle.std.proofs.Common.{◌≡◌, ℕ, Bool, true, refl}
 use Rattle.std.specs.Prelude.{◌↔◌, IsTrue}
 use Rattle.cm_base.specs.CapSet.{holds}
 use Rattle.cm_sets.specs.Sets.{IsWithin}
@@ -9,6 +9,7 @@ use Rattle.model_box.specs.Gains.{Settable, GainsGroups, GainsInheritable, Gains
 use Rattle.model_rules.specs.Caps.{cap_setgid, cap_setpcap}
 use Rattle.cm_box_rows.specs.Rows.{RowHolds, HoldsAll}
 use Rattle.cm_box_rows.proofs.GainedRows.{settable_told}
+use Rattle.cm_box_rows.proofs.RowParts.{Raised}
 use Rattle.cm_box_rows.proofs.Settable.{groups_held, inheritable_held, root_held}
 use Rattle.cm_box_rows.proofs.Tests.{on}
 
@@ -45,9 +46,10 @@ module _ (row : BoxRow) (p : Bool) where
     λ all. told.1 (λ x mapped. (groups_held (RowHolds row)).1 all x (can.0 is, mapped)),
   )
 
-  pub root_open : IsPrivileged cap_setpcap → p ≡ true → row.lock_clear ≡ true
-      → IsTrue row.root_counts ↔ HoldsAll (RowHolds row) (GainsRoot (RowHolds row))
-  root_open can is unlocked = (
-    λ held. (root_held (RowHolds row)).0 (λ has. held),
-    λ all. (root_held (RowHolds row)).1 all (can.0 is, unlocked),
+  pub root_open : (b : Bool) → IsPrivileged cap_setpcap → p ≡ true → Raised row.lock_clear 0
+      → IsTrue b ↔ Raised row.root_counts 0
+      → IsTrue b ↔ HoldsAll (RowHolds row) (GainsRoot (RowHolds row))
+  root_open b can is unlocked told = (
+    λ held. (root_held (RowHolds row)).0 (λ has. (told.0 held).1),
+    λ all. told.1 (refl, (root_held (RowHolds row)).1 all (can.0 is, unlocked.1)),
   )

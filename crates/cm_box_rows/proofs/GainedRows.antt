@@ -1,7 +1,6 @@
 -- Rows that hold what calls add, and nothing besides.
-use Rattle.std.proofs.Common.{◌≡◌, ℕ, Bool, true, false, Ok, Err, sym, subst, ◌∙◌, inl, inr}
+use Rattle.std.proofs.Common.{◌≡◌, ℕ, Bool, Ok, Err, sym, subst, inl, inr}
 use Rattle.std.specs.Prelude.{◌↔◌, IsTrue, List, Result}
-use Rattle.std.proofs.lemmas.Bool.{false≢true}
 use Rattle.cm_base.specs.Outcome.{OrNoMemory}
 use Rattle.cm_sets.specs.Sets.{AreSame, InEither}
 use Rattle.cm_base.specs.CapSet.{holds}
@@ -57,13 +56,13 @@ module _ (row : Part → ℕ → Type 0) where
   inheritable_row word same InheritableCaps x = same x
   inheritable_row word same part x = nothing part x
 
-  pub root_row : (flag : Bool) → IsTrue flag ↔ (row PermittedCaps cap_setpcap × row LockClear 0)
+  pub root_row : (flag : Bool) → row PermittedCaps cap_setpcap → IsTrue flag ↔ row LockClear 0
       → AreSameRows (RowHolds (record no_row { root_counts = flag })) (GainsRoot row)
-  root_row flag told RootCounts x = (
-    λ held. let two = (raised_is flag x).0 held in (two.0, (told.0 two.1).0, (told.0 two.1).1),
-    λ has. (raised_is flag x).1 (has.0, told.1 (has.1, has.2)),
+  root_row flag can told RootCounts x = (
+    λ held. let two = (raised_is flag x).0 held in (two.0, can, told.0 two.1),
+    λ has. (raised_is flag x).1 (has.0, told.1 has.2),
   )
-  root_row flag told part x = nothing part x
+  root_row flag can told part x = nothing part x
 
 -- what holds of a row that is made over the least one
 pub over : (base : BoxRow) (with : BoxRow → BoxRow) (Q : Part → ℕ → Type 0) → base ≡ no_row
@@ -76,14 +75,3 @@ pub or_more : {T E : Type 0} (r : Result T E) (P Q : T → Type 0) → OrNoMemor
     → OrNoMemory r Q
 or_more (Ok x) P Q is more = more x is
 or_more (Err e) P Q is more = is
-
--- a test and a flag, as one test
-pub both_then : (r h k : Bool) (P : Type 0) → IsTrue h ↔ P → h ≡ true → r ≡ k → IsTrue r ↔ (P × IsTrue k)
-both_then r h k P told is same = (λ one. (told.0 is, sym same ∙ one), λ both. same ∙ both.1)
-
-pub both_else : (r h k : Bool) (P : Type 0) → IsTrue h ↔ P → h ≡ false → r ≡ false → IsTrue r ↔ (P × IsTrue k)
-both_else r h k P told is same = (
-  λ one. absurd (false≢true (sym same ∙ one)),
-  λ both. absurd
-      (false≢true (sym is ∙ told.1 both.0)),
-)

@@ -4,6 +4,7 @@ pub mod ByFiles
 pub mod CallRules
 pub mod Chains
 pub mod CredParts
+pub mod Elsewhere
 pub mod GainedRows
 pub mod Gathered
 pub mod IdKinds

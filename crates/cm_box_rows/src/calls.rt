@@ -66,10 +66,10 @@ pub fn secure_bits_held(row: &BoxRow) -> bool
     if !row.p.holds(&Cap::SETPCAP) {
         return true;
     }
-    if !row.k.0 {
+    if !row.k.holds(&()) {
         return true;
     }
-    row.r.0
+    row.r.holds(&())
 }
 
 /// The effective ids are among the real and saved ones, and among the fs ones, as calls make them.

@@ -102,7 +102,10 @@ pub fn cap_set_gained(alloc: Global, row: &BoxRow) -> Result<BoxRow, NoMemory>
 pub fn secure_bits_gained(alloc: Global, row: &BoxRow) -> BoxRow
     ensures { AreSameRows (RowHolds result) (GainsRoot (RowHolds row.now)) }
 {
-    let r = Flag(row.p.holds(&Cap::SETPCAP) && row.k.0);
+    if !row.p.holds(&Cap::SETPCAP) {
+        return BoxRow::least(alloc);
+    }
+    let r = Flag(row.k.holds(&()));
     BoxRow {
         r,
         ..BoxRow::least(alloc)

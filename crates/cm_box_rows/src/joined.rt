@@ -13,6 +13,12 @@ impl BoxRow {
         ensures { OrNoMemory result
             (λ row. AreSameRows (RowHolds row) (InEitherRow (RowHolds self.now) (RowHolds other.now))) }
     {
+        let p = self.p.join(alloc, &other.p)?;
+        let i = self.i.join(alloc, &other.i)?;
+        let b = self.b.join(alloc, &other.b)?;
+        let n = self.n.join(alloc, &other.n)?;
+        let r = self.r.join(alloc, &other.r)?;
+        let k = self.k.join(alloc, &other.k)?;
         let u = self.u.join(alloc, &other.u)?;
         let eu = self.eu.join(alloc, &other.eu)?;
         let fu = self.fu.join(alloc, &other.fu)?;
@@ -22,12 +28,6 @@ impl BoxRow {
         let s = self.s.join(alloc, &other.s)?;
         let mu = self.mu.join(alloc, &other.mu)?;
         let mg = self.mg.join(alloc, &other.mg)?;
-        let p = self.p.join(alloc, &other.p)?;
-        let i = self.i.join(alloc, &other.i)?;
-        let b = self.b.join(alloc, &other.b)?;
-        let n = self.n.join(alloc, &other.n)?;
-        let r = self.r.join(alloc, &other.r)?;
-        let k = self.k.join(alloc, &other.k)?;
         Ok(BoxRow {
             u,
             eu,

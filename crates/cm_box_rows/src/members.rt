@@ -112,13 +112,13 @@ fn sets_held(c: &Cred, row: &BoxRow) -> bool
 fn flags_held(c: &Cred, row: &BoxRow) -> bool
     ensures { IsTrue result ↔ FlagsHeld (RowHolds row.now) c.now }
 {
-    if !c.nnp && row.n.0 {
+    if !c.nnp && !row.n.holds(&()) {
         return false;
     }
-    if !c.sec.has(SecBits::NOROOT) && !row.r.0 {
+    if !c.sec.has(SecBits::NOROOT) && !row.r.holds(&()) {
         return false;
     }
-    c.sec.has(SecBits::NOROOT << 1) || row.k.0
+    c.sec.has(SecBits::NOROOT << 1) || row.k.holds(&())
 }
 
 /// The set holds the outside ids of the map, where it is written.

@@ -111,7 +111,7 @@ pub(crate) fn set_id_can(spaces: &Spaces, n: SpaceId, row: &BoxRow, f: &FileView
 pub fn may_gain(row: &BoxRow) -> bool
     ensures { IsTrue result ↔ RowHolds row.now NewPrivs 0 }
 {
-    !row.n.0
+    row.n.holds(&())
 }
 
 /// Programs of the file's mount may raise privilege in the space: the mount isn't nosuid, and the space is the mount's

@@ -64,10 +64,10 @@ fn full_held(row: &BoxRow) -> bool
     if !full.within(&row.b) {
         return false;
     }
-    if !row.r.0 {
+    if !row.r.holds(&()) {
         return false;
     }
-    row.k.0
+    row.k.holds(&())
 }
 
 /// A member that stands in the space can make a space.
