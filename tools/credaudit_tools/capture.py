@@ -7,12 +7,12 @@ import os
 from dataclasses import dataclass, field
 
 from . import programs, spaces, worlds
-from .command import Failure
+from .command import Failure, Says
 from .family import Family
 from .kernel import Kernel, Trouble
 from .marks import DOUBT, SCANNED, UNSCANNED
 from .members import heads, merged, process_notes, process_rows
-from .scan import Says, Scan
+from .scan import Scan
 from .shown import few, plural, quoted
 
 MOST_PROCESSES = 4096

@@ -8,7 +8,7 @@ from contextlib import contextmanager, nullcontext
 
 from . import command, family, worlds
 from .capture import Capture, Wishes, captured
-from .command import FOUND, GOOD, Failure, Progress, tell
+from .command import FOUND, GOOD, Failure, Progress, Says, tell
 from .files import write_new
 from .freezer import frozen
 from .kernel import Kernel
@@ -28,12 +28,12 @@ couldn't be looked at (each is told); 2 the words are wrong; 3 nothing is writte
 
 def words_of(words: Sequence[str]) -> argparse.Namespace:
     ask = command.parser(NAME, SAYS, AFTER)
-    ask.add_argument("pid", metavar="PID", type=number, help="the process")
+    ask.add_argument("pid", metavar="PID", type=command.pid_word, help="the process")
     ask.add_argument("-o", metavar="FILE", dest="out",
                      help="where the world goes; standard output where it isn't given")
     ask.add_argument("--freeze", action="store_true", help="freeze the control groups of the family while it is read")
     ask.add_argument("--running", action="store_true", help="take threads too that run at each reading")
-    ask.add_argument("--patience", metavar="SECONDS", type=float, default=10.0,
+    ask.add_argument("--patience", metavar="SECONDS", type=command.seconds, default=10.0,
                      help="how long it is read again until two readings agree (10)")
     ask.add_argument("--no-files", action="store_true", help="declare no files")
     ask.add_argument("--skip", metavar="POINT", action="append", default=[], help="a mount point that isn't looked at")
@@ -42,16 +42,10 @@ def words_of(words: Sequence[str]) -> argparse.Namespace:
     return ask.parse_args(words)
 
 
-def number(word: str) -> int:
-    if not word.isascii() or not word.isdigit() or not 1 <= int(word) <= 4194304:
-        raise argparse.ArgumentTypeError(f"{word!r} is no pid")
-    return int(word)
-
-
-def read_family(kernel: Kernel, asked: argparse.Namespace) -> family.Family:
+def read_family(kernel: Kernel, asked: argparse.Namespace, says: Says) -> family.Family:
     still = frozen(kernel.proc, kernel.reader, asked.pid, lambda: family.processes(kernel, asked.pid))
     with still if asked.freeze else nullcontext(), ahead():
-        return family.settled(kernel, asked.pid, asked.running, asked.patience)
+        return family.settled(kernel, asked.pid, asked.running, asked.patience, says)
 
 
 @contextmanager
@@ -101,10 +95,9 @@ def told(capture: Capture) -> int:
 
 def capture(kernel: Kernel, asked: argparse.Namespace) -> int:
     """The whole, over any system."""
-    began = time.monotonic()
-    read = read_family(kernel, asked)
+    began, progress = time.monotonic(), Progress(NAME)
+    read = read_family(kernel, asked, progress.at)
     settled = time.monotonic()
-    progress = Progress(NAME)
     wishes = Wishes(not asked.no_files, asked.merge, asked.own_spaces,
                     tuple(os.fsencode(point) for point in asked.skip))
     made = captured(kernel, read, wishes, progress.at)
@@ -119,7 +112,7 @@ def capture(kernel: Kernel, asked: argparse.Namespace) -> int:
 
 def main(words: Sequence[str]) -> int:
     asked = words_of(words)
-    needs_root()
+    needs_root("to others the kernel shows neither the namespaces and files of a process nor closed folders (proc(5))")
     live = Live()
     try:
         return capture(live, asked)

@@ -18,6 +18,8 @@ from . import VERSION
 from .shown import shown
 
 GOOD, FOUND, USAGE, FAILED = range(4)
+Says = Callable[[str], None]    # takes how far a long job is
+LAST_PID, MOST_SECONDS = 4194304, 1e9
 PATIENCE, PACE = 1.0, 5.0       # seconds before the first word of progress, and between two of them
 
 
@@ -37,9 +39,28 @@ def parser(name: str, says: str, after: str = "") -> argparse.ArgumentParser:
     return ask
 
 
+def pid_word(word: str) -> int:
+    """A pid of the words (pid_max, proc(5))."""
+    if not word.isascii() or not word.isdigit() or not 1 <= int(word) <= LAST_PID:
+        raise argparse.ArgumentTypeError(f"{word!r} is no pid")
+    return int(word)
+
+
+def seconds(word: str) -> float:
+    """A time of the words."""
+    value = float(word)
+    if not 0 <= value < MOST_SECONDS:
+        raise ValueError
+    return value
+
+
 def tell(name: str, text: str) -> None:
     """One line on standard error, with nothing in it that a terminal obeys."""
     print(f"{name}: {shown(text)}", file=sys.stderr, flush=True)
+
+
+def silent(_: str) -> None:
+    """Tells nobody how far a job is."""
 
 
 class Progress:

@@ -10,10 +10,10 @@ import time
 from collections.abc import Callable
 from dataclasses import dataclass
 
-from .command import Failure
+from .command import Failure, Says, silent
 from .kernel import Kernel
 from .proc import Proc
-from .shown import quoted
+from .shown import plural, quoted
 from .statuses import Status, from_file, parts_of_file
 
 DEAD = ("Z", "X")
@@ -245,8 +245,8 @@ class Settling:
         return Family(self.root, live, self.readings, moving)
 
 
-def settled(kernel: Kernel, root: int, running: bool, patience: float, clock: Callable[[], float] = time.monotonic,
-            pause: Callable[[float], None] = time.sleep) -> Family:
+def settled(kernel: Kernel, root: int, running: bool, patience: float, says: Says = silent,
+            clock: Callable[[], float] = time.monotonic, pause: Callable[[float], None] = time.sleep) -> Family:
     """The family at one instant. Fails where it doesn't hold still for `patience` seconds."""
     settling, ends = Settling(root, running), clock() + patience
     while True:
@@ -256,4 +256,5 @@ def settled(kernel: Kernel, root: int, running: bool, patience: float, clock: Ca
         if clock() >= ends:
             raise Failure(f"process {root} and what descends from it never held still in {settling.readings} readings:"
                           f" {settling.why}", ADVICE)
+        says(f"{plural(settling.readings, 'reading')}, and no two agree yet: {settling.why}")
         pause(PAUSE if settling.last is None else PAUSE / 10)

@@ -40,9 +40,12 @@ def kind(mode: int) -> str:
 
 
 def write_new(folder: str, name: str, data: bytes) -> None:
-    """Puts a file into a folder, in the place of one of that name; readable by its owner alone."""
+    """Puts a file into a folder, in the place of one of that name; readable by its owner alone. It is a new one,
+    whoever put something there before."""
     path = os.path.join(folder, name)
     part = path + ".part"
-    with open(os.open(part, os.O_WRONLY | os.O_CREAT | os.O_TRUNC | os.O_NOFOLLOW | os.O_CLOEXEC, 0o600), "wb") as file:
+    if os.path.lexists(part):
+        os.unlink(part)
+    with open(os.open(part, os.O_WRONLY | os.O_CREAT | os.O_EXCL | os.O_NOFOLLOW | os.O_CLOEXEC, 0o600), "wb") as file:
         file.write(data)
     os.replace(part, path)

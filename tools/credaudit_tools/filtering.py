@@ -14,7 +14,7 @@ from .filters import of_argument
 from .followed import Followed, Task
 from .lines import Call
 from .map_files import NAMES
-from .map_writes import TRANSFERS, Maps, System
+from .map_writes import LIKE_MAP, TRANSFERS, Maps, System
 from .shown import shown
 from .taken import Stopped, Taken
 
@@ -29,7 +29,8 @@ PRCTLS = (b"PR_SET_KEEPCAPS", b"PR_SET_NO_NEW_PRIVS", b"PR_SET_SECUREBITS", b"PR
 QUOTED = rb'"(?:[^"\\]|\\.)*"(?:\.\.\.)?'
 PLAIN_DESCRIPTOR = rb"<([^<>\\\"]*)(?:<[^<>]*>)?>(?:\(deleted\))?"
 # The two kinds of lines of which a log has most, where nothing in them is odd.
-OTHER_WRITE = re.compile(rb"([0-9]+) +p?writev?(?:64|2)?\([0-9]+" + PLAIN_DESCRIPTOR + rb", .*", re.S)
+OTHER_WRITE = re.compile(rb"([0-9]+) +p?writev?(?:64|2)?\([0-9]+" + PLAIN_DESCRIPTOR + rb", (?!" + LIKE_MAP + rb").*",
+                         re.S)
 OTHER_OPEN = re.compile(rb"([0-9]+) +open(?:at)?\((?:AT_FDCWD" + PLAIN_DESCRIPTOR + rb", )?" + QUOTED
                         + rb", [A-Z_|]+(?:, 0[0-7]*)?\) += (?:-1 E.*|([0-9]+)" + PLAIN_DESCRIPTOR + rb")", re.S)
 CHANGED = re.compile(rb"<pid changed to ([0-9]+) \.\.\.>$")

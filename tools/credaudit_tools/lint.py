@@ -1,9 +1,9 @@
 """A lint: the program's refusal in words, or, of what it accepts, what makes it suspect."""
-from collections.abc import Iterator
+from collections.abc import Callable, Iterator
 from dataclasses import dataclass
 
 from . import log_doubts, log_faults, other_faults, world_doubts, world_faults, worlds
-from .command import Failure
+from .command import Failure, Says, silent
 from .files import read_regular
 from .findings import LOG, WORLD, Finding
 from .recording import Recording
@@ -35,8 +35,9 @@ def declared_pids(data: bytes) -> list[int]:
     return [row["pid"] for row in map(as_row, rows) if isinstance(row.get("pid"), int)]
 
 
-def refusal(report: Report, world: bytes, log: bytes) -> list[Finding]:
-    """The last line of a report that doesn't accept."""
+def refusal(report: Report, world: bytes, log: bytes, says: Says = silent) -> list[Finding]:
+    """The last line of a report that doesn't accept. Of a line that the rules don't allow the cause may be another one,
+    that was passed over."""
     told = report.ending[-1] if report.ending else ""
     if report.status == BAD_WORLD:
         return world_faults.faults(told, world)
@@ -45,26 +46,32 @@ def refusal(report: Report, world: bytes, log: bytes) -> list[Finding]:
     if report.status == LIMIT:
         return other_faults.limits(told)
     if report.status == IMPOSSIBLE:
-        return other_faults.impossible(told, log, declared_pids(world))
+        causes = log_doubts.of_strace(log, report, worlds.read(world), says) if form_of(world) == "strace" else []
+        return [*other_faults.impossible(told, log, declared_pids(world)), *causes]
     return [Finding(LOG, None, f"the program ends with status {report.status}", told)]
 
 
-def suspicion(report: Report, world: bytes, log: bytes, recording: Recording | None) -> Iterator[Finding]:
+def suspicion(report: Report, world: bytes, log: bytes, recording: Recording | None, says: Says) -> Iterator[Finding]:
     """What is odd of what the program accepts."""
     read = worlds.read(world)
-    yield from world_doubts.of_world(world, read)
-    yield from log_doubts.of_strace(log, report, read) if read.log == "strace" else log_doubts.front_doubts(log, report)
+    yield from world_doubts.of_world(world, read, report)
+    if read.log == "strace":
+        yield from log_doubts.of_strace(log, report, read, says)
+    else:
+        yield from log_doubts.front_doubts(log, report)
     if recording is not None:
         yield from world_doubts.of_recording(recording, read, report)
 
 
-def findings(given: Given, report: Report) -> list[Finding]:
-    """All that is to be told of two files and of what the program answered about them."""
+def findings(given: Given, replay: Callable[[], Report], says: Says = silent) -> list[Finding]:
+    """All that is to be told of two files and of what the program answers about them. It is asked about files alone
+    that can be read: a pipe would keep it waiting."""
     unread = [found for path, file in ((given.world, WORLD), (given.log, LOG))
               if (found := other_faults.unreadable(path, file)) is not None]
     if unread:
         return unread
     world, log = (read_regular(path, other_faults.LOG_MOST + 1, follow=True) for path in (given.world, given.log))
+    report = replay()
     if report.status != ACCEPTED:
-        return refusal(report, world, log)
-    return list(suspicion(report, world, log, given.recording))
+        return refusal(report, world, log, says)
+    return list(suspicion(report, world, log, given.recording, says))

@@ -4,7 +4,7 @@ import os
 from collections.abc import Sequence
 
 from . import command, lint, recording
-from .command import FOUND, GOOD, Failure
+from .command import FOUND, GOOD, Failure, Progress
 from .findings import LOG, RECORDING, WORLD, Finding
 from .lint import Given
 from .program import Program
@@ -47,9 +47,8 @@ def line_of(found: Finding, given: Given) -> str:
 
 
 def main(words: Sequence[str]) -> int:
-    given = given_by(words_of(words).names)
-    report = Program().replay(given.world, given.log)
-    found = lint.findings(given, report)
+    given, progress = given_by(words_of(words).names), Progress(NAME)
+    found = lint.findings(given, lambda: Program().replay(given.world, given.log), progress.at)
     for each in found:
         print(line_of(each, given))
         if each.hint:

@@ -14,7 +14,7 @@ from .kernel import Program, Trouble
 from .namespaces import UserSpace, ioctl_owner, ioctl_parent, map_text
 from .proc import GONE, Proc
 from .programs import EXECUTE, SET_IDS
-from .safe_open import LISTING, NO_XDEV, PLACE, PLAIN, ROOTED, WITHIN, mount_number, safe_open
+from .safe_open import LISTING, PLACE, PLAIN, ROOTED, WITHIN, mount_number, safe_open
 from .standing import CLONE_NEWNS, CLONE_NEWUSER, Standing
 
 NS_GET_USERNS = 0xb701
@@ -25,7 +25,8 @@ PASSED_OVER = (errno.ENOENT, errno.EXDEV)
 
 
 class Live:
-    """The running kernel. What it named stays open until `close`, so that numbers of namespaces don't come again."""
+    """The running kernel, with the methods of `Kernel`. What it named stays open until `close`, so that numbers of
+    namespaces don't come again."""
 
     def __init__(self) -> None:
         self.proc, self.reader, self.release = Proc(), os.getpid(), os.uname().release

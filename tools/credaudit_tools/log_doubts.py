@@ -8,13 +8,14 @@ from collections.abc import Callable, Iterator
 from dataclasses import dataclass, field
 
 from . import filters
+from .command import Says, silent
 from .findings import LOG, Finding, doubt
 from .lines import RESUMED, UNFINISHED, Call, call_of, flags_of, name_of, parted, text_of
 from .report import Report
 from .shown import quoted, shown
 from .worlds import World
 
-SHOWN = 100
+SHOWN, STEP = 100, 4096         # bytes of a line that are told; lines between two words of progress
 MAP_NAME = re.compile(rb"(^|/)(uid_map|gid_map|setgroups)$")
 PLAIN_MAP = re.compile(rb"/proc/([0-9]+|self|thread-self)/(task/[0-9]+/)?(uid_map|gid_map|setgroups)")
 MAP_TEXT = re.compile(rb"\s*\d+ +\d+ +\d+\s*(\n\s*\d+ +\d+ +\d+\s*)*")
@@ -225,6 +226,8 @@ class Reader:
     seen: dict[int, int] = field(default_factory=dict)          # of each pid its first line
     ended: set[int] = field(default_factory=set)
     leaving: dict[int, int] = field(default_factory=dict)       # of each pid the line of its exit_group
+    failed: int = 0                                             # calls that failed, and calls that didn't
+    done: int = 0
 
     def line(self, number: int, text: bytes) -> Line | None:
         split = parted(text)
@@ -242,7 +245,11 @@ class Reader:
             body = self.begun.pop(pid)[1] + resumed.group(2)
         if name_of(body) in (b"exit_group", b"exit"):
             self.leaving[pid] = number
-        return Line(number, pid, body, call_of(body), number in self.events)
+        call = call_of(body)
+        if call is not None:
+            self.done += call.done is not None
+            self.failed += call.result.startswith(b"-1 ")
+        return Line(number, pid, body, call, number in self.events)
 
 
 def collected(told: Iterator[tuple[int, str, Doubt]]) -> list[Finding]:
@@ -256,9 +263,11 @@ def collected(told: Iterator[tuple[int, str, Doubt]]) -> list[Finding]:
             for key, (number, text, (_, why, hint)) in first.items()]
 
 
-def line_doubts(log: bytes, reader: Reader, paths: frozenset[bytes]) -> Iterator[tuple[int, str, Doubt]]:
-    executed = Executed(paths)
-    for number, text in enumerate(log.split(b"\n"), 1):
+def line_doubts(log: bytes, reader: Reader, paths: frozenset[bytes], says: Says) -> Iterator[tuple[int, str, Doubt]]:
+    executed, lines = Executed(paths), log.split(b"\n")
+    for number, text in enumerate(lines, 1):
+        if number % STEP == 0:
+            says(f"{number} of {len(lines)} lines looked at")
         line = reader.line(number, text)
         if line is None:
             continue
@@ -275,6 +284,8 @@ def whole_doubts(log: bytes, reader: Reader, report: Report, world: World) -> It
         yield doubt(LOG, reader.seen[strangers[0]], f"{len(strangers)} processes have lines and no birth, the first is"
                     f" {strangers[0]}: their lines are passed over",
                     "declare them, or keep the lines of births (-f, and fork, vfork, clone, clone3 in -e trace=)")
+    if reader.failed and not reader.done:
+        yield doubt(LOG, 1, "no call in it succeeded", "without -Z and -e status=failed, which leave out what was done")
     for pid, (number, body) in sorted(reader.begun.items()):
         if name_of(body) in CREDENTIAL_CALLS:
             yield doubt(LOG, number, f"the call never ended: {shown(body[:SHOWN])}",
@@ -295,9 +306,9 @@ def front_doubts(log: bytes, report: Report) -> Iterator[Finding]:
                     "docs/STRACE.md tells which options change lines (-t, -i, -n ..) and which calls are read")
 
 
-def of_strace(log: bytes, report: Report, world: World) -> list[Finding]:
+def of_strace(log: bytes, report: Report, world: World, says: Says = silent) -> list[Finding]:
     """All doubts about a log as strace writes it, which the program accepted."""
     reader = Reader(frozenset(event.line for event in report.events))
     paths = frozenset(row.path.encode() for row in world.files)
-    made = collected(line_doubts(log, reader, paths))
+    made = collected(line_doubts(log, reader, paths, says))
     return [*front_doubts(log, report), *made, *whole_doubts(log, reader, report, world)]

@@ -35,6 +35,8 @@ def meant(faults: str, pattern: bytes, why: str, hint: str) -> Meant:
     return Meant(tuple(faults.split()), re.compile(pattern, re.S), why, hint)
 
 
+COMPRESSED = rb"\x1f\x8b|\xfd7zXZ|\x28\xb5\x2f\xfd|BZh[1-9]1AY"
+UNPACK = "the file is compressed", "unpack it first (gunzip, unxz, unzstd, bunzip2)"
 STRACE_CALL = rb"\d+ +[a-z_0-9]+\(.*\) += "
 # The first row that fits decides.
 SCRIPT = (
@@ -51,6 +53,7 @@ SCRIPT = (
     meant("pid", rb"\s*[a-z_0-9]+\(", "that is a line of strace without a pid",
           'strace -f -o FILE, and log = "strace"'),
     meant("pid", rb"\s*[a-z_]+( |$)", "the pid is missing", "begin with the pid of the process: 100 .."),
+    meant("pid", COMPRESSED, *UNPACK),
     meant("call", STRACE_CALL, "that is a line of strace",
           'log = "strace" in the world, or write `100 setuid 1000 = 0`'),
     meant("call", rb"\d+ +(\+\+\+|---|<\.\.\.|\[)", "that is a line of strace", 'log = "strace" in the world'),
@@ -69,7 +72,10 @@ SCRIPT = (
     meant("count", rb"\d+ +(setres[ug]id) ", "it has three ids", "real, effective, saved; -1 leaves one as it is"),
     meant("count", rb"\d+ +(setre[ug]id) ", "it has two ids", "real, effective; -1 leaves one as it is"),
     meant("argument", rb"\d+ +setgroups .*[\[,]", "groups stand between blanks", "setgroups 4 24 27 = 0"),
+    meant("argument", rb"\d+ +setgroups +(none|-|\(\)) ", "no groups are told by no word", "setgroups = 0"),
+    meant("argument", rb"\d+ +set[a-z]*[ug]id .*0x", "an id has decimal digits", "33, and not 0x21"),
     meant("argument", rb"\d+ +set[a-z]*[ug]id .*[A-Za-z]", "an id is a number", "`id -u NAME` tells it"),
+    meant("argument", rb"\d+ +set[a-z]*[ug]id .*\d,", "ids stand between blanks", "setresuid 33 33 33 = 0"),
     meant("argument", rb"\d+ +set[a-z]*[ug]id .*(-[2-9]|429496729[6-9])", "that is no id", "0 to 4294967294, or -1"),
     meant("argument", rb"\d+ +capset .*0x", "a set has 16 hexadecimal digits without 0x", "0000000000000400, or names"),
     meant("argument", rb"\d+ +capset ", "a set is `all`, `none`, 16 hexadecimal digits, or names between commas",
@@ -93,6 +99,11 @@ STRACE = (
     meant("pid", rb" > /", "that is a line of the stack", "without -k"),
     meant("pid", rb"\s*[a-z_0-9]+\(", "the line has no pid", "-f -o FILE; with -ff there are no pids"),
     meant("pid", rb"\s*\[?\[|\s*[a-z_]+ *= ", "this looks like a world", "WORLD stands before LOG"),
+    meant("pid", rb"\s+\d+ ", "a blank stands before the pid", "the line begins with the pid"),
+    meant("pid", rb"(% time|------ ------| *\d+\.\d+ +\d+\.\d+ +\d)", "that is strace's table of counts",
+          "without -c and -C"),
+    meant("pid", rb"type=[A-Z_]+ msg=audit\(", "that is a line of auditd", "record with credaudit-trace or strace"),
+    meant("pid", COMPRESSED, *UNPACK),
     meant("shape", rb"\d+ +[a-z_0-9]+ .* = ", "that is a line of a script", 'log = "script" in the world'),
     meant("shape", rb".*<pid changed to", "a thread that isn't the leader made an execve", "begin with -p after it"),
     meant("shape", rb".*execve(at)?\(.*<detached \.\.\.>", "strace let go of the process, which runs on untraced",
@@ -107,11 +118,14 @@ STRACE = (
           "keep all lines: filter by -e trace= and not by text"),
     meant("result", rb".*\) += \S.* <\d+\.\d+>$", "the time stands behind the result", "without -T"),
     meant("result", rb".*in strace's PID NS", "two pids stand in the result", "without --pidns-translation"),
+    meant("result", rb".*\(INJECTED\)", "strace answered in the kernel's place: the call wasn't made",
+          "without -e inject= and -e fault="),
     meant("result", rb"", "that is no result of this call", "docs/STRACE.md, \"Calls\""),
     meant("argument", rb".*setgroups\(.*\.\.\.\]", "the list is cut", "record with -v"),
     meant("argument", rb'.*(write|pwrite64)\(.*"\.\.\.', "the map's text is cut", "record with -s 65535"),
     meant("argument", rb'.*execve(at)?\(.*\\x', "the path is written in hexadecimal", "without -xx"),
     meant("argument", rb'.*execve(at)?\(.*"\.\.\.', "the path is cut", "record with -s 65535"),
+    meant("argument", rb".*set[a-z]*[ug]id(32)?\(.*0x", "ids stand in hexadecimal", "without -X raw and -e raw="),
     meant("argument", rb".*capset\(.*0x", "strace doesn't know a capability", "a newer strace"),
     meant("argument", rb".*= -1 E", "what was asked for can't be read",
           "cut the line off: a call that failed changes nothing"),

@@ -22,6 +22,10 @@ class Unclear(Exception):
     """A file may be a map file, and whose isn't certain."""
 
 
+class Unseen(Unclear):
+    """The mounts of a process can't be read any more."""
+
+
 @dataclass(frozen=True)
 class MapFile:
     """A map file of a process."""
@@ -69,10 +73,29 @@ class MapFiles:
             raise Unclear
         return MapFile(self.outer(int(found.group(2) or found.group(1)), top + point, inner, family), found.group(3))
 
+    def bound(self, pid: int, top: bytes, path: bytes, family: Iterable[int]) -> MapFile | None:
+        """The map file that is mounted at a path of another name; None where none is. Unclear where it isn't certain
+        whose it is."""
+        mounts = self.mounts(pid, top)
+        if not mounts:
+            raise Unseen
+        parts = [mount.part for mount in mounts if mount.kind == b"proc" and mount.point == path]
+        found = INSIDE.fullmatch(parts[-1]) if parts else None
+        if found is None:
+            return None
+        named = [each for each in family if int(found.group(2) or found.group(1)) in self.numbers(each)]
+        if len(named) != 1:
+            raise Unclear
+        return MapFile(named[0], found.group(3))
+
+    def mounts(self, pid: int, top: bytes) -> list[Mount]:
+        """The mounts that a process has now; none where they can't be read."""
+        own = b"" if top else self.proc.read(os.getpid(), "mountinfo")
+        return table(self.proc.read(pid, "mountinfo") or own or b"")
+
     def mount_of(self, pid: int, top: bytes, path: bytes) -> Mount:
         """The mount on which a path lies now, as the process has it."""
-        data = self.proc.read(pid, "mountinfo") or (b"" if top else self.proc.read(os.getpid(), "mountinfo")) or b""
-        mounts = [mount for mount in reversed(table(data)) if below(path, mount.point) is not None]
+        mounts = [mount for mount in reversed(self.mounts(pid, top)) if below(path, mount.point) is not None]
         if not path.startswith(b"/") or not mounts:
             raise Unclear
         return max(mounts, key=lambda each: len(each.point.rstrip(b"/")))       # of those on one place the last
@@ -121,3 +144,7 @@ class RunningSystem:
     def map_file(self, task: Task, path: bytes, followed: Followed) -> MapFile | None:
         """As MapFiles.find, for what is followed."""
         return self.maps.find(task.pid, self.top_of(task, followed), path, {*followed.tasks, *followed.maps})
+
+    def bound_map(self, task: Task, path: bytes, followed: Followed) -> MapFile | None:
+        """As MapFiles.bound, for what is followed."""
+        return self.maps.bound(task.pid, self.top_of(task, followed), path, {*followed.tasks, *followed.maps})

@@ -10,7 +10,7 @@ from typing import Protocol
 from . import lines, plain_log
 from .followed import UNKNOWN, Followed, Place, Task
 from .lines import Call
-from .map_files import MapFile, Unclear
+from .map_files import MapFile, Unclear, Unseen
 from .shown import shown
 from .taken import Stopped, Taken
 
@@ -19,7 +19,10 @@ USER_SPACE = re.compile(rb"user:\[([0-9]+)\]")
 PIDFD = re.compile(rb"pid:([0-9]+)")
 SPACE_PATH = re.compile(rb"/proc/([1-9][0-9]*|self|thread-self)(?:/task/([1-9][0-9]*))?/ns/user")
 WRITING = (b"O_WRONLY", b"O_RDWR")
+# How what is written begins where it may be a map or a setgroups word, in strace's spelling.
+LIKE_MAP = rb'(?:\[\{iov_base=)?"(?: |\\[nrtvf])*(?:[0-9]+(?: |\\t)+[0-9]+(?: |\\t)+[0-9]|allow|deny)'
 FIRST_DESCRIPTOR = 1000000
+PAGE = 4096
 
 
 class System(Protocol):
@@ -30,6 +33,10 @@ class System(Protocol):
 
     def map_file(self, task: Task, path: bytes, followed: Followed) -> MapFile | None:
         """The map file of a descriptor's path, None for another file. Unclear where that can't be said."""
+
+    def bound_map(self, task: Task, path: bytes, followed: Followed) -> MapFile | None:
+        """The map file that is mounted at a path of another name, None where none is. Unclear as above, Unseen where
+        the mounts can't be read."""
 
 
 class Maps:
@@ -100,7 +107,7 @@ class Maps:
         try:
             return self.system.map_file(task, path, self.followed)
         except Unclear as unclear:
-            raise Stopped(f"{task.pid}: it uses {shown(path)}, and whose map that is isn't certain") from unclear
+            raise unclear_map(task, path) from unclear
 
     def open(self, task: Task, made: Call) -> None:
         """open, openat, openat2 and creat."""
@@ -160,6 +167,8 @@ class Maps:
             self.taken.left_out["writes to other files"] += 1
             return
         named = self.map_of(task, told[1])
+        if named is None and made.done is not None and re.match(LIKE_MAP, b"".join(made.arguments[1:2])):
+            named = self.bound_map(task, told[1])
         if named is None:
             self.taken.left_out["writes to other files"] += 1
             return
@@ -170,6 +179,17 @@ class Maps:
             return
         number = int(told[0]) if told[0].isdigit() else UNKNOWN
         self.map_write(task, made, named, self.followed.standing_of_map(task, number, told[1], named.pid), text)
+
+    def bound_map(self, task: Task, path: bytes) -> MapFile | None:
+        """The map file that is mounted under another name, of what may be one."""
+        try:
+            return self.system.bound_map(task, path, self.followed)
+        except Unseen:
+            self.taken.doubt(f"process {task.pid} wrote what looks like a map to {shown(path)}, and whether that is one"
+                             " isn't known")
+            return None
+        except Unclear as unclear:
+            raise unclear_map(task, path) from unclear
 
     def text(self, made: Call) -> bytes | None:
         """The text of a write; of a writev the parts that were taken. The kernel writes these one by one, so what
@@ -214,14 +234,25 @@ class Maps:
         """What the kernel copies into a file has no text in the log."""
         place = TRANSFERS[made.name]
         told = lines.descriptor(made.arguments[place]) if len(made.arguments) > place else None
-        if made.done is not None and (told is None or told[1] is None or self.map_of(task, told[1]) is not None):
+        if made.done is not None and (told is None or told[1] is None or self.is_map(task, told[1], made.done)):
             raise Stopped(f"{task.pid}: {made.name.decode()} wrote to a map file, and its text isn't told")
         self.taken.left_out["writes to other files"] += 1
+
+    def is_map(self, task: Task, path: bytes, count: int) -> bool:
+        """Whether a file to which so many bytes were written is a map file; one takes less than a page."""
+        if self.map_of(task, path) is not None:
+            return True
+        return 0 < count < PAGE and path.startswith(b"/") and self.bound_map(task, path) is not None
 
     def io_uring(self, task: Task, made: Call) -> None:
         """io_uring_setup(2)."""
         if made.done is not None:
             self.taken.doubt(f"process {task.pid} uses io_uring: what it opens and writes by that isn't in the log")
+
+
+def unclear_map(task: Task, path: bytes) -> Stopped:
+    """Why a recording ends at a map file."""
+    return Stopped(f"{task.pid}: it uses {shown(path)}, and whose map that is isn't certain")
 
 
 def is_for_writing(made: Call) -> bool:

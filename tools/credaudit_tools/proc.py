@@ -61,11 +61,10 @@ class Proc:
         return {number: told for number, told in found.items() if told is not None}
 
 
-def needs_root() -> None:
-    """Fails for all but root of the initial user namespace, whose ids worlds have."""
+def needs_root(advice: str = "") -> None:
+    """Fails for all but root of the initial user namespace, whose ids worlds have; `advice` says why root is needed."""
     if os.geteuid() != 0:
-        raise Failure("this is to be run as root",
-                      "an ordinary user's tracer takes the effect from set-user-ID bits (execve(2))")
+        raise Failure("this is to be run as root", advice)
     with open("/proc/self/uid_map") as file:
         if file.read().split() != ["0", "0", "4294967295"]:
             raise Failure("this is to be run in the initial user namespace, whose ids worlds have")

@@ -19,11 +19,12 @@ from .command import Failure, Progress
 from .executed import Executed
 from .filtering import Filtering
 from .followed import Files, Followed, Place, Task
+from .lines import call_of, parted
 from .live import Live
 from .map_files import RunningSystem
 from .namespaces import INITIAL_INODE
 from .recording import Made, Recording, SpaceSeen
-from .shown import shown
+from .shown import few, quoted, shown
 from .statuses import Status, from_file
 from .stream import Stream
 from .stub import PR_SET_CHILD_SUBREAPER, begin, prctl
@@ -88,13 +89,29 @@ class Recorder:
             return [pid]
         roots = self.asked.pids
         for pid in roots:
-            if watching.glance(self.live.proc, pid) is None:
-                raise Failure(f"there is no process {pid}")
+            self.check_is_there(pid)
+        self.check_runs(roots)
         found = watching.bring_to_stop(
             lambda: watching.family(watching.all_threads(self.live.proc), roots, [os.getpid()]), time.sleep)
         self.start = self.statuses(sorted(found))
         self.made.notes.append("the securebits of a process that ran already can't be read: 0 is taken")
         return sorted(watching.processes(found.values()))
+
+    def check_is_there(self, pid: int) -> None:
+        """Fails where a process that is asked for isn't there, or is a thread of one."""
+        seen = watching.glance(self.live.proc, pid)
+        if seen is None:
+            raise Failure(f"there is no process {pid}")
+        if seen.tgid != pid:
+            raise Failure(f"{pid} is a thread of process {seen.tgid}", f"-p {seen.tgid} records all its threads")
+
+    def check_runs(self, roots: Sequence[int]) -> None:
+        """Fails where a process was stopped before: the recording would let it go on in the end."""
+        threads = watching.family(watching.all_threads(self.live.proc), roots, [os.getpid()])
+        halted = sorted(watching.processes(each for each in threads.values() if each.state == watching.HALTED))
+        if halted:
+            raise Failure(f"process {few([str(pid) for pid in halted])} is stopped already, and would go on after the"
+                          " recording", "let it go on (kill -CONT), or end it")
 
     def follow(self) -> None:
         """The processes at the start, for the filter."""
@@ -302,7 +319,17 @@ class Recorder:
             living |= self.doubt_ends(tracer)
         self.release(living)
         self.filter.finish()
+        self.check_began()
         return self.recording(statuses, seen)
+
+    def check_began(self) -> None:
+        """Fails where the program that was to be recorded was never executed."""
+        first = parted(self.filter.taken.lines[0]) if self.asked.words and self.filter.taken.lines else None
+        made = call_of(first[1]) if first is not None else None
+        if made is not None and made.name == b"execve" and made.done is None:
+            why = shown(made.result.removeprefix(b"-1 "))
+            raise Failure(f"{quoted(self.asked.words[0])} can't be executed: {why}",
+                          "name its interpreter before it, as sh" if "ENOEXEC" in why else "")
 
     def doubt_ends(self, tracer: subprocess.Popen[bytes]) -> set[int]:
         """Doubts that strace's lines ended with the program; the processes that live on."""

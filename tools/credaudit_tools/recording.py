@@ -13,6 +13,8 @@ Of an older recording only the first three stand.
 import hashlib
 import os
 import tomllib
+from collections.abc import Iterator
+from contextlib import contextmanager
 from dataclasses import dataclass, field, replace
 
 from . import worlds
@@ -176,6 +178,24 @@ def read(folder: str) -> Recording:
         raise Failure(f"{MADE} can't be read: {error}") from error
     rest = [(optional(folder, name) or b"").decode("ascii", "backslashreplace") for name in (CHANGES, FILTERS)]
     return Recording(world, log, kept, seen, told, *rest)
+
+
+@contextmanager
+def room(folder: str) -> Iterator[None]:
+    """The folder of a recording that is made meanwhile. It is made where it isn't there, for its owner alone, and goes
+    again where the recording fails. Fails at once where nothing can be put into it."""
+    if os.path.lexists(folder) and not os.path.isdir(folder):
+        raise Failure(f"{quoted(folder)} is no folder", "name one, or a path at which nothing stands")
+    fresh = not os.path.isdir(folder)
+    os.makedirs(folder, mode=0o700, exist_ok=True)
+    if not os.access(folder, os.W_OK | os.X_OK):
+        raise Failure(f"nothing can be put into {quoted(folder)}")
+    try:
+        yield
+    except BaseException:
+        if fresh and not os.listdir(folder):
+            os.rmdir(folder)
+        raise
 
 
 def write(folder: str, recording: Recording) -> None:

@@ -1,9 +1,10 @@
 """The files of the mount namespaces in which a family stands: all programs with set-id bits or the attribute
 security.capability, and what wasn't looked at."""
-from collections.abc import Callable, Iterator
+from collections.abc import Iterator
 from dataclasses import dataclass, field
 
 from . import mounts, programs
+from .command import Failure, Says
 from .family import Family, Thread
 from .kernel import Kernel, Program, Trouble
 from .mounts import Area, Mount
@@ -11,7 +12,6 @@ from .namespaces import INITIAL_INODE
 from .shown import escaped, few, plural, quoted
 
 DAC_SEARCH = 1 << 1 | 1 << 2        # CAP_DAC_OVERRIDE, CAP_DAC_READ_SEARCH
-Says = Callable[[str], None]
 
 
 @dataclass
@@ -43,6 +43,7 @@ class Scan:
     def rows(self) -> programs.Rows:
         namespaces = self.namespaces()
         tables = self.tables(list(namespaces))
+        self.check_skipped(tables)
         planned = mounts.plan(tables, list(self.skip))
         self.tell_mounts(tables)
         taken: set[str] = set()
@@ -74,6 +75,14 @@ class Scan:
             else:
                 yield found
         self.looked_at += count
+
+    def check_skipped(self, tables: dict[int, list[Mount]]) -> None:
+        """Fails where what is to be skipped is no mount's point: it would be looked at, and told as left out."""
+        points = {mount.point for table in tables.values() for mount in table}
+        for point in self.skip:
+            if point not in points:
+                raise Failure(f"nothing is mounted at {quoted(point)}, so it can't be left out",
+                              "--skip takes mount points as /proc/PID/mountinfo has them")
 
     def tell_mounts(self, tables: dict[int, list[Mount]]) -> None:
         """What isn't looked through."""

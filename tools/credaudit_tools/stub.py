@@ -22,7 +22,7 @@ def prctl(option: int, value: int = 0) -> int:
 def user_of(name: str) -> pwd.struct_passwd:
     """A user by name or number."""
     try:
-        return pwd.getpwuid(int(name)) if name.isdigit() else pwd.getpwnam(name)
+        return pwd.getpwuid(int(name)) if name.isascii() and name.isdigit() else pwd.getpwnam(name)
     except KeyError as error:
         raise Failure(f"there is no user {quoted(name)}") from error
 

@@ -4,6 +4,7 @@ import tomllib
 
 from .findings import WORLD, Finding
 from .lines import PID
+from .log_faults import COMPRESSED, UNPACK
 from .shown import quoted
 
 AT = re.compile(r" \(at line (\d+), column (\d+)\)$")
@@ -15,6 +16,9 @@ MEANT = (
     (KEY + r"=\s*(True|False|TRUE|FALSE|yes|no|Yes|No|on|off)\s*(#.*)?$",
      "a boolean is true or false, in small letters"),
     (KEY + r"=\s*[-+]?[0-9]+[A-Za-z]", "a number has digits alone"),
+    (r"^\s*([ug]id|owner|groups)\s*=\s*(\[[^\]]*)?[A-Za-z_]", "an id is a number; `id -u NAME` and `getent group NAME`"
+     " tell it"),
+    (KEY + r"=\s*\[\s*[0-9]+ +[0-9]", "a comma stands between two values: [24, 27]"),
     (KEY + r"=\s*(\[\s*)?[A-Za-z_/]", "a text stands between double quotes"),
     (r"[\u201c\u201d\u2018\u2019\u00ab\u00bb]", "plain quotes: \""),
     (r"^\s*(//|;|--)", "a remark begins with #"),
@@ -48,6 +52,8 @@ def toml_fault(data: bytes) -> Finding:
 
 
 def encoding_hint(data: bytes) -> str:
+    if re.match(COMPRESSED, data):
+        return "it is compressed: " + UNPACK[1]
     if data[:2] in (b"\xff\xfe", b"\xfe\xff"):
         return "it is UTF-16: save it as UTF-8"
     return "a byte that is no text, such as one of Latin-1: save it as UTF-8"

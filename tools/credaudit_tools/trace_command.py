@@ -5,9 +5,10 @@ from collections.abc import Sequence
 from dataclasses import replace
 
 from . import command, proc, recording, verify_command, worlds
-from .command import FOUND, GOOD, USAGE, Failure, Progress, tell
+from .command import FOUND, GOOD, USAGE, Progress, tell
 from .plain_log import numbers_of, renumbered
 from .recorder import Asked, Recorder
+from .shown import shown
 from .statuses import Status
 
 NAME = "credaudit-trace"
@@ -23,14 +24,6 @@ ADVICE = ('what was recorded ends there; docs/STRACE.md, "What stops a log", tel
           ' moment on')
 
 
-def seconds(text: str) -> float:
-    """A time."""
-    value = float(text)
-    if not 0 < value < 1e9:
-        raise ValueError
-    return value
-
-
 def pattern(text: str) -> re.Pattern[bytes]:
     """A regular expression over bytes."""
     try:
@@ -43,15 +36,16 @@ def words() -> argparse.ArgumentParser:
     """The words of the command."""
     ask = command.parser(NAME, SAYS, AFTER)
     ask.add_argument("-o", "--output", metavar="DIR", required=True, help="the folder of the recording")
-    ask.add_argument("-p", "--pid", type=int, action="append", default=[], metavar="PID",
+    ask.add_argument("-p", "--pid", type=command.pid_word, action="append", default=[], metavar="PID",
                      help="a process that runs already, with its threads and all that descends from it; can stand"
                           " repeatedly")
     ask.add_argument("-u", "--user", help="the user who runs the program, by name or number")
-    ask.add_argument("--for", type=seconds, dest="seconds", metavar="SECONDS", help="ends after this time")
+    ask.add_argument("--for", type=command.seconds, dest="seconds", metavar="SECONDS", help="ends after this time")
     ask.add_argument("--until", type=pattern, metavar="EXPR",
                      help="ends after a line of the log that this regular expression fits")
     ask.add_argument("--keep", action="store_true", help="lets the program run on after the recording")
-    ask.add_argument("--pids-from", type=int, metavar="FIRST", help="numbers the pids by birth, from FIRST on")
+    ask.add_argument("--pids-from", type=command.pid_word, metavar="FIRST",
+                     help="numbers the pids by birth, from FIRST on")
     ask.add_argument("--no-verify", action="store_true", help="doesn't compare the replay with what the kernel showed")
     ask.add_argument("--strace", metavar="COMMAND", help="another strace than the one in the PATH")
     ask.add_argument("command", nargs=argparse.REMAINDER, metavar="CMD ..", help="the program and its words")
@@ -75,27 +69,27 @@ def main(given: Sequence[str]) -> int:
 
 def traced(options: argparse.Namespace, asked: Asked) -> int:
     """Records, writes, and verifies; the exit status."""
-    proc.needs_root()
+    proc.needs_root("an ordinary user's tracer takes the effect from set-user-ID bits (execve(2))")
     if recording.is_folder(options.output):
         tell(NAME, f"{options.output} has a recording already: it is written over")
-    found = Recorder(asked, Progress(NAME)).record()
-    made = numbered(found, options.pids_from) if options.pids_from else found
-    recording.write(options.output, made)
+    with recording.room(options.output):
+        found = Recorder(asked, Progress(NAME)).record()
+        made = numbered(found, options.pids_from) if options.pids_from else found
+        recording.write(options.output, made)
     doubts = found.made.doubts if found.made else []
     for doubt in doubts:
         tell(NAME, f"doubt: {doubt}")
     end = found.made.end if found.made else ""
     if end == "stopped":
         tell(NAME, ADVICE)
-    print(f"{options.output}: {len(made.log.splitlines())} lines, {len(made.statuses)} processes at the end ({end})")
+    print(f"{shown(options.output)}: {len(made.log.splitlines())} lines, {len(made.statuses)} processes at the end"
+          f" ({end})")
     status = GOOD if options.no_verify else verify_command.verified(NAME, options.output, tell_doubts=False)
     return FOUND if doubts and status == GOOD else status
 
 
 def numbered(found: recording.Recording, first: int) -> recording.Recording:
     """The recording with its pids numbered by birth."""
-    if not 1 <= first < 1 << 22:
-        raise Failure("--pids-from: no pid")
     world, log = worlds.read(found.world), found.log.split(b"\n")[:-1]
     numbers = numbers_of(log, [row.pid for row in world.processes], first)
     for each in found.statuses:

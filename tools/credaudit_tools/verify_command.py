@@ -3,10 +3,10 @@ import os
 from collections.abc import Sequence
 
 from . import command, recording
-from .command import FAILED, FOUND, GOOD, Failure, tell
+from .command import FAILED, FOUND, GOOD, Failure, Progress, tell
 from .program import STATUSES, Program
-from .shown import shown
-from .verifying import Verdict, verify
+from .shown import plural, shown
+from .verifying import NOTHING, Verdict, verify
 
 NAME = "credaudit-verify"
 SAYS = """Replays a recording with credaudit, and holds the replay against what the kernel showed: each process that
@@ -32,7 +32,9 @@ def tell_verdict(name: str, folder: str, verdict: Verdict, doubts: list[str]) ->
     for text in verdict.notes:
         tell(name, f"note: {text}")
     found = len(verdict.differences)
-    outcome = "no difference" if not found else f"{found} difference{'s' if found > 1 else ''}"
+    outcome = plural(found, "difference") if found else "no difference"
+    if verdict.differences == [NOTHING]:
+        outcome = "nothing to compare"
     print(f"{shown(folder)}: {verdict.processes} processes, {verdict.answers} answers compared: {outcome}", flush=True)
     return FOUND if found or doubts else GOOD
 
@@ -44,7 +46,7 @@ def verified(name: str, folder: str, tell_doubts: bool = True) -> int:
     if report.status in (6, 7, 8, 10):
         raise Failure(f"credaudit ended with status {report.status}: {STATUSES[report.status]}")
     doubts = kept.made.doubts if kept.made and tell_doubts else []
-    return tell_verdict(name, folder, verify(kept, report), doubts)
+    return tell_verdict(name, folder, verify(kept, report, Progress(name).at), doubts)
 
 
 def main(given: Sequence[str]) -> int:

@@ -6,6 +6,7 @@ from dataclasses import dataclass, field
 
 from . import answers, kernel_rows, lines, recording, report, worlds
 from .answers import At
+from .command import Says, silent
 from .credential import WORDS, differences
 from .kernel_rows import Made
 from .recording import Recording, SpaceSeen
@@ -14,6 +15,9 @@ from .shown import shown
 from .spaces_of_report import SpacesTold, joined, map_words, of_world
 from .statuses import Status
 from .worlds import INITIAL
+
+STEP = 4096                     # lines between two words of progress
+NOTHING = "nothing could be compared: no process lived at the end, and no call asked for a credential"
 
 
 @dataclass
@@ -50,13 +54,16 @@ def changes(made: Made, field: str) -> bool:
 # ---- the log ---------------------------------------------------------------------------------------------------------
 
 
-def through(kept: Recording, told: Report, verdict: Verdict) -> Replayed:
+def through(kept: Recording, told: Report, verdict: Verdict, says: Says) -> Replayed:
     """Goes through the log beside the replay, and compares each answer at its line."""
     now = Replayed({one.pid: one for one in told.start}, of_world(worlds.read(kept.world)),
                    {one.pid: [] for one in told.start})
     events = iter(told.events)
     event = next(events, None)
-    for number, line in enumerate(kept.log.split(b"\n")[:-1], 1):
+    log = kept.log.split(b"\n")[:-1]
+    for number, line in enumerate(log, 1):
+        if number % STEP == 0:
+            says(f"{number} of {len(log)} lines compared")
         event_here = event is not None and event.line == number
         while event is not None and event.line <= number:
             take(now, event)
@@ -195,7 +202,7 @@ def failure_of(kept: Recording, told: Report) -> str:
     return with_row(f"line {number}: {ending}: {shown(line[:200])}", row)
 
 
-def verify(kept: Recording, told: Report) -> Verdict:
+def verify(kept: Recording, told: Report, says: Says = silent) -> Verdict:
     """The verdict on a recording, by the program's report of its world and log."""
     verdict = Verdict()
     if kept.log and not kept.log.endswith(b"\n"):
@@ -204,14 +211,16 @@ def verify(kept: Recording, told: Report) -> Verdict:
     if told.status != 0:
         verdict.differences.append(failure_of(kept, told))
         return verdict
-    now = through(kept, told, verdict)
+    now = through(kept, told, verdict, says)
     if kept.log and not told.events and verdict.answers < kept.log.count(b"\n"):
         verdict.differences.append("the log isn't empty, and no line of it is read as an event")
-    if kept.made is not None and kept.made.end == "program":
+    if kept.made is None:
+        verdict.notes.append(f"there is no {recording.MADE}: whether the recording had doubts, and whether its files"
+                             " were changed since, isn't known")
+    elif kept.made.end == "program":
         verdict.notes.append("the program had ended: what its calls answered is compared, and who lives")
     compare_processes(kept, now, verdict)
     compare_spaces(kept, now, verdict)
     if verdict.processes == 0 and verdict.answers == 0:
-        verdict.differences.append("nothing could be compared: no process lived at the end, and no call asked for a"
-                                   " credential")
+        verdict.differences.append(NOTHING)
     return verdict

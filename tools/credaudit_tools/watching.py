@@ -11,7 +11,8 @@ from .proc import Proc
 from .statuses import parts_of_file
 
 DEAD = ("Z", "X", "x")
-STOPPED = ("T", "t")
+HALTED = "T"                    # by a signal, and not by a tracer
+STOPPED = (HALTED, "t")
 STUCK = "D"
 PATIENCE, STUCK_PATIENCE, PAUSE = 10.0, 2.0, 0.03
 

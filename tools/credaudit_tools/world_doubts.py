@@ -6,7 +6,7 @@ from .findings import RECORDING, WORLD, Finding, doubt
 from .marks import DOUBT, SCANNED
 from .recording import Recording
 from .report import Report
-from .shown import few
+from .shown import few, quoted
 from .toml_places import Places, places
 from .worlds import World
 
@@ -18,8 +18,8 @@ def is_interpreter(path: str) -> bool:
     return name.rstrip("0123456789.") in INTERPRETERS
 
 
-def of_world(data: bytes, world: World) -> Iterator[Finding]:
-    """Doubts about an accepted world."""
+def of_world(data: bytes, world: World, report: Report) -> Iterator[Finding]:
+    """Doubts about an accepted world, with the report of a log in it."""
     text = data.decode("utf-8", "replace")
     where = places(text.removeprefix("\ufeff"))
     if "# " + SCANNED not in text.split("\n"):
@@ -31,6 +31,7 @@ def of_world(data: bytes, world: World) -> Iterator[Finding]:
             yield doubt(WORLD, number, line.removeprefix(DOUBT), "the doubt of who made the world")
     yield from process_doubts(world, where)
     yield from file_doubts(world, where)
+    yield from path_doubts(world, where, report)
     if world.exclude is not None and (len(world.processes) > 1 or not world.exclude):
         yield doubt(WORLD, where.line("filter", 0),
                     "[filter] holds for every process of the family, on all its paths and for all"
@@ -62,6 +63,16 @@ def file_doubts(world: World, where: Places) -> Iterator[Finding]:
             yield doubt(WORLD, where.line("mount", number),
                         f"set-id programs are declared on {mount.name}, where they have no"
                         " effect", "see that no other mount shows them without nosuid (/proc/PID/mountinfo)")
+
+
+def path_doubts(world: World, where: Places, report: Report) -> Iterator[Finding]:
+    """Declared paths that begin at no root, and that the log doesn't execute so."""
+    executed = {event.arguments[0] for event in report.events if event.call == "execve" and event.arguments}
+    for number, row in enumerate(world.files, 1):
+        if not row.path.startswith("/") and row.path not in executed:
+            yield doubt(WORLD, where.line("file", number, "path"),
+                        f"the path {quoted(row.path)} doesn't begin with /, so it isn't the file that the log"
+                        " executes by its whole path", "the whole path, or the very text of the log's execve")
 
 
 # ---- recordings ------------------------------------------------------------------------------------------------------

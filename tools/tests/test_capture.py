@@ -93,6 +93,10 @@ class Wished(Systems):
         self.assertEqual(made.world.files, [])
         self.assertEqual(made.doubts, ["/srv isn't looked at, as asked for"])
 
+    def test_what_is_skipped_is_a_mount(self) -> None:
+        with self.assertRaisesRegex(Failure, "nothing is mounted at '/srv/data'"):
+            self.capture(self.system(stored("nosuid_on_one_mount.toml")), Wishes(skip=(b"/srv/data",)))
+
     def test_own_namespaces_alone(self) -> None:
         made = self.capture(self.system(stored("namespace_of_others.toml")), Wishes(own_spaces=True))
         self.assertEqual(made.world.spaces, [])
@@ -135,6 +139,10 @@ class Moving(Systems):
 
     TEXT = "[[thread]]\ntid = 100\n\n[[thread]]\ntid = 101\nparent = 100\nuid = 1000\n" + MOUNTS
 
+    def setUp(self) -> None:
+        super().setUp()
+        self.says: list[str] = []
+
     def settle(self, changes: list[dict[str, object]], running: bool = False) -> family.Family:
         """The family of a system in which before each reading the row of process 101 becomes the next of these, and
         then stays."""
@@ -148,10 +156,15 @@ class Moving(Systems):
                 kept = [each for each in system.rows("thread") if each["tid"] != 101]
                 system.table["thread"] = kept if row.get("gone") else [*kept, {"tid": 101, "parent": 100, **row}]
                 system.build()
-        return family.settled(system, ROOT, running, 12.0, lambda: float(next(clock)), pause)
+        return family.settled(system, ROOT, running, 12.0, self.says.append, lambda: float(next(clock)), pause)
 
     def test_two_readings_that_agree(self) -> None:
         self.assertEqual(self.settle([]).readings, 2)
+
+    def test_readings_that_do_not_agree_are_told(self) -> None:
+        self.settle([{"uid": 1001}, {"uid": 1002}])
+        self.assertEqual(len(self.says), 3)
+        self.assertEqual(self.says[1], "2 readings, and no two agree yet: process 101 ('daemon') changed")
 
     def test_a_change_is_read_again(self) -> None:
         read = self.settle([{"uid": 1001}])

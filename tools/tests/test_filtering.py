@@ -1,5 +1,6 @@
 """What a recording makes of strace's lines: the stored cases of silent.txt, and hostile names."""
 import os
+import shutil
 
 from credaudit_tools.executed import Executed
 from credaudit_tools.filtering import Filtering
@@ -16,6 +17,8 @@ MOUNTS = b"""21 1 254:0 / / rw - ext4 /dev/vda rw
 23 21 0:40 / /mnt/second rw - proc proc rw
 24 21 0:20 /101 /mnt/part rw - proc proc rw
 25 21 0:41 / /mnt/inner rw - proc proc rw
+26 21 0:20 /101/uid_map /mnt/innocent rw - proc proc rw
+27 21 0:20 /900/gid_map /mnt/stranger rw - proc proc rw
 """
 
 
@@ -83,6 +86,14 @@ class Silent(Filtered):
 
     def test_there_are_enough(self) -> None:
         self.assertGreaterEqual(len(list(cases("silent.txt"))), 60)
+
+    def test_a_text_like_a_map_of_a_process_that_is_gone(self) -> None:
+        for pid in (100, os.getpid()):
+            shutil.rmtree(os.path.join(self.work, "proc", str(pid)), ignore_errors=True)
+        filtering = self.filtering()
+        self.assertIsNone(self.fed(filtering, ['100 write(3</tmp/a>, "0 0 1\\n", 6) = 6']))
+        self.assertEqual(filtering.taken.doubts, ["process 100 wrote what looks like a map to /tmp/a, and whether that is"
+                                                  " one isn't known"])
 
 
 # Bytes of a name, and how a recording's log and world have it.

@@ -3,10 +3,12 @@ import os
 import re
 import shutil
 import tomllib
+from unittest import mock
 
-from credaudit_tools import family, lint_command, mounts, programs, shown, verify_command, worlds
+from credaudit_tools import (family, lint_command, mounts, proc, programs, shown, strace_command, trace_command,
+                             verify_command, worlds)
 from credaudit_tools.capture import Capture, Wishes, captured
-from credaudit_tools.command import FOUND
+from credaudit_tools.command import FAILED, FOUND
 from credaudit_tools.kernel import Program
 from credaudit_tools.live import walk_tree
 from credaudit_tools.marks import SCANNED
@@ -114,6 +116,22 @@ class Hostile(support.Case):
         rows: list[dict[str, object]] = [{"path": "/opt/" + name, "mode": "4755"} for name in NAMES]
         files = self.check(self.capture(file=rows)).files
         self.assertEqual(len({row.path for row in files}), len(NAMES))
+
+
+class Users(support.Case):
+    """Each stored name as that of the user who is to run a program."""
+
+    def test_as_the_name_of_a_user(self) -> None:
+        for name in NAMES:
+            word = os.fsdecode(name.encode("latin-1"))
+            with self.subTest(name), mock.patch.object(proc, "needs_root", lambda _: None), \
+                    mock.patch.object(strace_command, "find", return_value="strace"), \
+                    mock.patch.object(strace_command, "version", return_value="6.1"):
+                folder = os.path.join(self.work, "x")
+                status, out, errors = self.told(trace_command.main, "-o", folder, "--user=" + word, "true")
+                self.assertEqual((status, out), (FAILED, ""))
+                self.assertFalse(set(errors) - set(map(chr, range(0x20, 0x7f))) - {"\n"}, errors)
+                self.assertEqual(errors.count("\n"), 1)
 
 
 class OnDisk(support.Case):

@@ -5,7 +5,8 @@ import tempfile
 import unittest
 from unittest import mock
 
-from credaudit_tools import hints, lint, lint_command, log_faults, other_faults, recording, report, toml_faults
+from credaudit_tools import (hints, lint, lint_command, log_doubts, log_faults, other_faults, recording, report,
+                             toml_faults)
 from credaudit_tools.command import FAILED, FOUND, GOOD, USAGE, Failure
 from credaudit_tools.findings import WORLD, Finding
 from credaudit_tools.lint import Given
@@ -54,7 +55,7 @@ class Cases(unittest.TestCase):
     def told(self, case: Case) -> list[Finding]:
         unread = report.Report(status=7)
         with tempfile.TemporaryDirectory() as work:
-            return lint.findings(put(work, case), self.answers.get(case.name, unread))
+            return lint.findings(put(work, case), lambda: self.answers.get(case.name, unread))
 
     def test_each_case_is_told(self) -> None:
         for case in lint_cases.every():
@@ -125,6 +126,24 @@ class Command(support.Case):
         status, out, _ = self.run_case("thread left out of the world", folder=True)
         self.assertEqual(status, FOUND)
         self.assertIn(": suspect: process 103 lived at the end", out)
+
+    def test_a_pipe_keeps_nobody_waiting(self) -> None:
+        world, pipe = self.put("world.toml", lint_cases.WORLD.encode()), os.path.join(self.work, "pipe")
+        os.mkfifo(pipe)
+        with mock.patch.object(lint_command, "Program") as program:
+            for words in ((world, pipe), (pipe, world)):
+                status, out, _ = self.called(*words)
+                self.assertEqual(status, FOUND)
+                self.assertIn("it is a pipe, no regular file", out)
+        self.assertEqual(program.call_count, 0)
+
+    def test_progress(self) -> None:
+        count = 2 * log_doubts.STEP
+        world, log = lint_cases.WORLD.replace("script", "strace").encode(), b"100 getuid() = 0\n" * count
+        said: list[str] = []
+        given = Given(self.put("world.toml", world), self.put("log", log))
+        lint.findings(given, lambda: report.Report(ending=["end 0"]), said.append)
+        self.assertEqual(said, [f"{number} of {count + 1} lines looked at" for number in (count // 2, count)])
 
     def test_words(self) -> None:
         self.assertEqual(self.called("--version")[0], GOOD)
@@ -228,6 +247,9 @@ class Words(unittest.TestCase):
         for front in (b"\xef\xbb\xbf", b"\xff\xfe"):
             [found] = log_faults.faults("bad log line 1: pid", front + b"100 fork = 101\n", "script")
             self.assertIn("save it as", found.hint)
+        for form in ("script", "strace"):
+            [found] = log_faults.faults("bad log line 1: pid", b"\x1f\x8b\x08\0\n", form)
+            self.assertIn("gunzip", found.hint)
         [found] = log_faults.faults("bad log line 9: pid", b"", "script")
         self.assertEqual(found.line, 9)
         [found] = log_faults.faults("bad log line 1: call", b"100\n", "script")
@@ -238,6 +260,7 @@ class Words(unittest.TestCase):
 
     def test_texts_that_are_none(self) -> None:
         self.assertIn("UTF-16", toml_faults.toml_fault(b"\xff\xfel\0").hint)
+        self.assertIn("gunzip", toml_faults.toml_fault(b"\x1f\x8b\x08\0\n").hint)
         found = toml_faults.toml_fault(b"a = 1\nb = '\xe4'\n")
         self.assertEqual((found.line, "Latin-1" in found.hint), (2, True))
         self.assertIn("more than 80 deep", toml_faults.toml_fault(b"a = " + b"[" * 5000).why)

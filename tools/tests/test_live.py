@@ -326,7 +326,7 @@ class Command(support.Case):
             stored = StoredSystem(file.read(), os.path.join(self.work, "proc"))
         stored.close = lambda: None      # type: ignore[attr-defined]
         with mock.patch.object(capture_command, "Live", lambda: stored), \
-                mock.patch.object(capture_command, "needs_root", lambda: None):
+                mock.patch.object(capture_command, "needs_root", lambda _: None):
             return self.told(capture_command.main, *words, name=capture_command.NAME)
 
     def test_a_world_goes_to_a_file(self) -> None:
@@ -339,6 +339,13 @@ class Command(support.Case):
         with open(path, encoding="ascii") as file:
             self.assertIn("/usr/bin/su", file.read())
         self.assertEqual(os.stat(path).st_mode & 0o777, 0o600)
+
+    def test_root_is_needed(self) -> None:
+        with mock.patch("os.geteuid", return_value=1000):
+            status, _, errors = self.told(capture_command.main, "100", name=capture_command.NAME)
+        self.assertEqual(status, FAILED)
+        self.assertIn("as root", errors)
+        self.assertNotIn("tracer", errors)
 
     def test_a_doubt_has_a_status_of_its_own(self) -> None:
         status, _, errors = self.called("unreadable_folder.toml", "-o", os.path.join(self.work, "world"), "100")
@@ -357,7 +364,8 @@ class Command(support.Case):
         self.assertIn("no control group that can be frozen", errors)
 
     def test_words(self) -> None:
-        for words in ((), ("0",), ("4194305",), ("-5",), ("one",), ("100", "101"), ("--what", "100")):
+        for words in ((), ("0",), ("4194305",), ("-5",), ("one",), ("100", "101"), ("--what", "100"),
+                      ("--patience", "nan", "100"), ("--patience", "inf", "100"), ("--patience", "-1", "100")):
             self.assertEqual(self.called("programs.toml", *words)[0], USAGE, words)
         self.assertEqual(self.called("programs.toml", "--version")[0], GOOD)
         self.assertIn("Exit status", self.called("programs.toml", "--help")[1])

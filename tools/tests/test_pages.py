@@ -41,6 +41,12 @@ class Pages(Case):
             statuses = page(name).split(".Sh EXIT STATUS")[1].split(".Sh ")[0]
             self.assertEqual(re.findall(r"^\.It (\d)$", statuses, re.MULTILINE), ["0", "1", "2", "3"], name)
 
+    def test_the_example_of_a_verification(self) -> None:
+        folder = os.path.join(EXAMPLES, "strace", "sudo")
+        status, told, _ = self.told(verify_command.main, folder)
+        self.assertEqual(status, 0)
+        self.assertIn("\nexamples/strace/sudo" + told.removeprefix(folder), page("credaudit-verify"))
+
     @unittest.skipIf(shutil.which("mandoc") is None, "mandoc isn't there")
     def test_form(self) -> None:
         for name in COMMANDS:

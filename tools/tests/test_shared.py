@@ -62,10 +62,13 @@ class Files(Case):
 
     def test_nothing_is_written_through_a_link(self) -> None:
         victim = self.put("victim", b"before")
-        self.link("x.part", victim)
-        with self.assertRaises(OSError):
+        part = os.path.join(self.work, "x.part")
+        for symbolic in (True, False):
+            os.symlink(victim, part) if symbolic else os.link(victim, part)
             files.write_new(self.work, "x", b"after")
-        self.assertEqual(files.read_regular(victim), b"before")
+            self.assertEqual(files.read_regular(victim), b"before")
+            self.assertEqual(files.read_regular(os.path.join(self.work, "x")), b"after")
+            self.assertFalse(os.path.lexists(part))
 
 
 class Commands(Case):

@@ -4,6 +4,7 @@ import shutil
 import signal
 import subprocess
 import sys
+import threading
 import time
 import unittest
 from unittest import mock
@@ -32,7 +33,7 @@ class Traced(Case):
         self.out = os.path.join(self.work, "recording")
         self.enterContext(mock.patch.object(command, "PATIENCE", 600.0))     # no word of progress on a slow machine
         if os.geteuid() != 0:
-            self.enterContext(mock.patch.object(proc, "needs_root", lambda: None))
+            self.enterContext(mock.patch.object(proc, "needs_root", lambda _: None))
         handlers = [(number, signal.getsignal(number)) for number in (signal.SIGINT, signal.SIGTERM, signal.SIGHUP)]
         for number, handler in handlers:
             self.addCleanup(signal.signal, number, handler)
@@ -79,6 +80,39 @@ class Traced(Case):
         finally:
             running.kill()
             running.wait()
+
+    def test_a_program_that_can_not_be_executed(self) -> None:
+        for mode, text, why in ((0o644, b"#!/bin/sh\n", "EACCES"), (0o755, b"id\n", "ENOEXEC")):
+            status, out, errors = self.trace("--", self.put("program", text, mode))
+            self.assertEqual((status, out), (3, ""))
+            self.assertIn("can't be executed: " + why, errors)
+            self.assertFalse(os.path.exists(self.out))
+
+    def test_a_process_that_was_stopped(self) -> None:
+        running = subprocess.Popen(["sleep", "60"])
+        try:
+            running.send_signal(signal.SIGSTOP)
+            os.waitpid(running.pid, os.WUNTRACED)
+            status, _, errors = self.trace("--for", "0.3", "-p", str(running.pid))
+            self.assertEqual(status, 3)
+            self.assertIn(f"process {running.pid} is stopped already", errors)
+            with open(f"/proc/{running.pid}/stat", encoding="ascii") as file:
+                self.assertEqual(file.read().split()[2], "T")
+        finally:
+            running.kill()
+            running.wait()
+
+    def test_a_thread_is_no_process(self) -> None:
+        ends = threading.Event()
+        other = threading.Thread(target=ends.wait)
+        other.start()
+        try:
+            status, _, errors = self.trace("-p", str(other.native_id))
+            self.assertEqual(status, 3)
+            self.assertIn(f"is a thread of process {os.getpid()}", errors)
+        finally:
+            ends.set()
+            other.join()
 
     def test_a_signal_ends_it(self) -> None:
         status, out, _ = self.trace("--", "sh", "-c", "kill -TERM $PPID; sleep 60")
@@ -132,6 +166,8 @@ class Refused(Case):
         self.assertEqual(self.trace("--until", "(", "true")[0], 2)
         self.assertEqual(self.trace("--for", "-1", "true")[0], 2)
         self.assertEqual(self.trace("--ver")[0], 2)
+        for words in (("-p", "0"), ("-p", "x"), ("--pids-from", "0", "true"), ("--pids-from", "4194305", "true")):
+            self.assertEqual(self.trace(*words)[0], 2, words)
         self.assertEqual(self.told(trace_command.main, "--version"), (0, "credaudit-trace 1\n", ""))
         self.assertIn("exit status:", self.told(trace_command.main, "--help")[1])
 
@@ -140,7 +176,7 @@ class Refused(Case):
             status, _, errors = self.trace("true")
         self.assertEqual(status, 3)
         self.assertIn("as root", errors)
-        with mock.patch.object(proc, "needs_root", lambda: None):
+        with mock.patch.object(proc, "needs_root", lambda _: None):
             for words, told in [
                     (("--strace", "/nowhere/strace", "true"), "/nowhere/strace isn't there"),
                     (("--strace", "true", "true"), "isn't strace"),
@@ -157,8 +193,23 @@ class Refused(Case):
             old = self.put("strace", b"#!/bin/sh\necho 'strace -- version 4.26'\n", 0o755)
             self.assertIn("is too old", self.trace("--strace", old, "true")[2])
 
+    def test_a_folder_that_can_not_be_one(self) -> None:
+        with mock.patch.object(proc, "needs_root", lambda _: None), \
+                mock.patch.object(trace_command, "Recorder") as recorder:
+            status, _, errors = self.told(trace_command.main, "-o", self.put("file"), "true")
+            self.assertEqual(status, 3)
+            self.assertIn("is no folder", errors)
+            folder = os.path.join(self.work, "folder")
+            with mock.patch("os.access", return_value=False):
+                status, _, errors = self.told(trace_command.main, "-o", folder, "true")
+            self.assertEqual(status, 3)
+            self.assertIn("nothing can be put into", errors)
+            self.assertEqual(recorder.call_count, 0)
+            os.rmdir(folder)
+
     def test_users(self) -> None:
         self.assertEqual(user_of("0").pw_uid, 0)
         self.assertEqual(user_of("root").pw_uid, 0)
-        with self.assertRaises(Failure):
-            user_of("4294967294000")
+        for name in ("4294967294000", "\u00b2", ""):
+            with self.assertRaises(Failure):
+                user_of(name)

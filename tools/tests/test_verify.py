@@ -2,8 +2,9 @@
 import os
 import shutil
 from dataclasses import replace
+from unittest import mock
 
-from credaudit_tools import recording, report, verify_command
+from credaudit_tools import recording, report, verify_command, verifying
 from credaudit_tools.program import Program
 from credaudit_tools.verifying import Verdict, verify
 
@@ -133,7 +134,7 @@ class Failing(Case):
                     file.write(before)
 
     def test_a_log_without_an_event(self) -> None:
-        """A process that only asks, as one that was attached to may; and one of whose lines a line isn't read."""
+        # A process that only asks, as one that was attached to may; and one of whose lines a line isn't read.
         world = b'log = "strace"\n\n[[process]]\npid = 100\n'
         told = report.read(f"> 100 init uid=0,0,0,0 gid=0,0,0,0 groups=- inh={0:016x} prm={ALL:016x} eff={ALL:016x}"
                            f" bnd={ALL:016x} amb={0:016x} sec=00 nnp=0\nend 0\n", 0)
@@ -143,6 +144,31 @@ class Failing(Case):
                             ["the log isn't empty, and no line of it is read as an event"])):
             kept = recording.Recording(world, log, [alive])
             self.assertEqual(verify(kept, told).differences, wanted)
+
+    def test_what_is_not_known_of_a_recording_is_told(self) -> None:
+        folder = os.path.join(self.work, "x")
+        shutil.copytree(os.path.join(RECORDINGS, "daemon"), folder)
+        os.remove(os.path.join(folder, recording.MADE))
+        status, _, errors = self.told(verify_command.main, folder)
+        self.assertEqual(status, 0)
+        self.assertIn("note: there is no recording.toml: whether the recording had doubts", errors)
+
+    def test_a_recording_without_anything_to_compare(self) -> None:
+        folder = os.path.join(self.work, "x")
+        world = b'log = "strace"\n\n[[process]]\npid = 100\n'
+        made = recording.Made(end="program")
+        recording.write(folder, recording.Recording(world, b"100 +++ exited with 0 +++\n", [], [], made))
+        ended = report.Report(events=[report.Event(1, 100, "exit", (), "0", ())], ending=["end 1"])
+        with mock.patch.object(Program, "replay", lambda *_: ended):
+            status, out, errors = self.told(verify_command.main, folder)
+        self.assertEqual((status, out), (1, f"{folder}: 0 processes, 0 answers compared: nothing to compare\n"))
+        self.assertIn("no call asked for a credential", errors)
+
+    def test_progress(self) -> None:
+        kept = recording.read(os.path.join(RECORDINGS, "daemon"))
+        said: list[str] = []
+        verify(replace(kept, log=b"100 getuid() = 0\n" * verifying.STEP), report.Report(), said.append)
+        self.assertEqual(said, [f"{verifying.STEP} of {verifying.STEP} lines compared"])
 
     def test_a_doubt_is_no_clean_bill(self) -> None:
         kept = recording.read(os.path.join(RECORDINGS, "daemon"))
