@@ -1,5 +1,6 @@
 // Laws of the report that the top call writes.
 ghost use Rattle.model_report.specs.Laws.{VerdictIsGiven, ReportIsOne, EachByItsCause, AcceptedIsRun, ImpossibleIsNoStep, YesIsNever, NoIsRun, UndecidedIsOpen};
+ghost use Rattle.model_report.specs.Laws.{EventsReadBack, RunReadsBack};
 ghost use Rattle.model_report.specs.Laws.{ReportTellsOfLog, EndCountsEvents, ImpossibleIsNumbered, BadLogIsNumbered, SameReadingSameReport, SameLogsSameReport};
 
 /// There is a verdict that the words and the files give, whatever they are.
@@ -90,4 +91,13 @@ pub fn same_reading_same_report()
 #[tactic(auto, using(model_report::proofs::Endings::same_logs_same_report))]
 pub fn same_logs_same_report()
     ensures { SameLogsSameReport }
+{}
+
+/// What is written of an event of the log, whatever form that has, is read as a line of a script that tells the event: so
+/// it is with each that the report tells, after the number of its line. And the lines of the run after which a member
+/// holds the right, read as a script log, are that run: its events, in their order, and nothing else.
+#[tactic(auto, using(model_report::proofs::LogEvents::events_read_back, model_report::proofs::RunEvents::run_reads_back))]
+pub fn reports_read_back()
+    ensures events { EventsReadBack }
+    ensures run { RunReadsBack }
 {}

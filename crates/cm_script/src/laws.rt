@@ -1,6 +1,6 @@
 // What holds of script lines by their definitions, as contracts.
 ghost use Rattle.model_text.specs.Numbers.{NumbersAreLines};
-ghost use Rattle.model_text.specs.Written.{LinesReadBack};
+ghost use Rattle.model_text.specs.Written.{LinesReadBack, LogsReadBack, ToldAreWritable, ToldReadBack};
 
 /// A log reads as the events of its lines, each with the number of its line and none left out, as far as the first line that
 /// has a fault, whose number and fault are told, or exceeds a limit, which is told.
@@ -14,4 +14,19 @@ pub fn numbers_are_lines()
 #[tactic(auto, using(model_text::proofs::ReadBack::lines_read_back))]
 pub fn lines_read_back()
     ensures { LinesReadBack }
+{}
+
+/// Each event that a script line tells over a world that a text declares is writable over it: its parts are in their
+/// ranges. So what was read, written, and read again is the same event.
+#[tactic(auto, using(model_text::proofs::ToldEvents::told_are_writable, model_text::proofs::ToldEvents::told_read_back))]
+pub fn told_read_back()
+    ensures writable { ToldAreWritable }
+    ensures back { ToldReadBack }
+{}
+
+/// What was written of several such events, a line for each, is read again as a script log that tells these events, in
+/// their order, and nothing else, where no line exceeds the limit of lines.
+#[tactic(auto, using(model_text::proofs::WrittenLogs::logs_read_back))]
+pub fn logs_read_back()
+    ensures { LogsReadBack }
 {}

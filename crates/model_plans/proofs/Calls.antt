@@ -71,7 +71,7 @@ each_call P q seat (RunFile file) of join = (of.exec file, tt)
 each_call P q seat (JoinSpace n) of join = (join, tt)
 
 -- the first of the calls that passes a test
-found_call : (P : Call → Type 0) (test : Call → Bool) (calls : List Call) (call : Call) → Each P calls → find test calls ≡ Some call
+pub found_call : (P : Call → Type 0) (test : Call → Bool) (calls : List Call) (call : Call) → Each P calls → find test calls ≡ Some call
     → P call × (test call ≡ true)
 found_call P test [] call each is = absurd (cc)
 found_call P test (c ∷ calls) call each is =

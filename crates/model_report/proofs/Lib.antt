@@ -8,6 +8,9 @@ pub mod Given
 pub mod Forms
 pub mod Endings
 pub mod Audits
+pub mod LivePids
+pub mod RunEvents
+pub mod LogEvents
 pub mod CommandCases
 pub mod CaseReports
 pub mod ReportCases

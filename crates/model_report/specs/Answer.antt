@@ -3,6 +3,7 @@ use Rattle.std.specs.Prelude.{ℕ, codes, Bool, true, nat_lt, length, List, [], 
 use Rattle.cm_base.specs.declared.limited.Limited.TheVariants as limit
 use Rattle.cm_base.specs.declared.status.Status.TheVariants as status
 use Rattle.cm_base.specs.Limited.{limit_number}
+use Rattle.model_cred.specs.Call.{Event}
 use Rattle.model_cred.specs.Process.{Process, State}
 use Rattle.model_cred.specs.Right.{Right, Cap, Uid, Gid}
 use Rattle.model_cred.specs.Space.{Spaces, stands}
@@ -46,11 +47,15 @@ undecided_text names spaces blame =
     codes "undecided " ++ blamed_rule blame ++ codes " " ++ row_text names spaces (Some (blamed_row blame))
 
 -- ---- verdicts
--- the lines of a run after which a member holds the right: how many calls, each as a script line, and the holder
+-- events, each as a script line
+abbrev pub event_lines : World → List Event → List ReportLine
+event_lines w events = map (λ e. Plain (event_text w e)) events
+
+-- the lines of a run after which a member holds the right: how many calls, the calls, and the holder
 abbrev pub run_lines : World → Found → List ReportLine
 run_lines w found =
     Plain (at_line (codes "no ") (length found.run))
-    ∷ map (λ e. Plain (event_text w e)) found.run ++ Plain (at_line (codes "holder ") found.holder) ∷ []
+    ∷ event_lines w found.run ++ Plain (at_line (codes "holder ") found.holder) ∷ []
 
 -- what a verdict says, the spaces being those of the state
 abbrev pub verdict_report : World → Spaces → Verdict → Report

@@ -11,7 +11,7 @@ use Rattle.model_run.specs.Family.{family}
 use Rattle.model_run.specs.Never.{NeverHeld}
 use Rattle.model_run.specs.Step.{Step, Run, outcome}
 use Rattle.model_plans.specs.PlanRun.{Found}
-use Rattle.model_report.specs.Answer.{run_lines, undecided_text}
+use Rattle.model_report.specs.Answer.{event_lines, run_lines, undecided_text}
 use Rattle.model_report.specs.Causes.{Begins, Cause, IsAccepted, IsImpossible, IsStopped, AsksVerdict}
 use Rattle.model_report.specs.Command.{command_of, query_of}
 use Rattle.model_report.specs.Given.{GivesVerdict}
@@ -19,11 +19,13 @@ use Rattle.model_report.specs.Query.{Query}
 use Rattle.model_report.specs.Replay.{Report, ReportLine, Credentials, Told, Plain, at_line, bad_log_text, impossible_text, reason, text_of}
 use Rattle.model_report.specs.Report.{report, log_report}
 use Rattle.model_text.specs.Cut.{lines_of}
-use Rattle.model_text.specs.Line.{Line, Tells, Faulty}
+use Rattle.model_text.specs.Line.{Line, Tells, Faulty, script_line}
 use Rattle.model_strace.specs.LineNumbers as strace
 use Rattle.model_strace.specs.Logs.{log_reading}
 use Rattle.model_text.specs.Numbers.{StandsFor}
-use Rattle.model_text.specs.Reading.{Placed, Fault, Reading, events_of}
+use Rattle.model_text.specs.Print.{event_text}
+use Rattle.model_text.specs.Reading.{Placed, Fault, Reading, AtEnd, events_of, script_reading}
+use Rattle.model_text.specs.Written.{placed_from}
 use Rattle.model_verdict.specs.Blame.{Blame}
 use Rattle.model_verdict.specs.Least.{Test}
 use Rattle.model_verdict.specs.InWorld.{ExcludedIn, OpenIn, SettledIn, FirstRunIn, BlameIn}
@@ -139,6 +141,13 @@ BadLogIsNumbered =
     → EndsIn (report words bytes v).lines is.comes.events (bad_log_text number why) []
     × LineStandsFor is.world (bytes is.comes.begins.log) number (Faulty why)
 
+-- What is written of an event of the log, whatever form that has, is read as a line of a script that tells the event. So it
+-- is with each that the report tells, after the number of its line.
+unfoldable pub EventsReadBack : Type 0
+EventsReadBack = (words : List (List ℕ)) (bytes : List ℕ → List ℕ) (w : World) (reading : Reading)
+    → Begins words bytes w reading
+    → All (λ e. script_line w (event_text w e.event) ≡ Tells e.event) reading.events
+
 -- ---- readings
 -- The reports have the same status and the same text.
 pub record SameText (one other : Report) : Type 0 where
@@ -225,3 +234,10 @@ unfoldable pub UndecidedIsOpen : Type 0
 UndecidedIsOpen =
     (words : List (List ℕ)) (bytes : List ℕ → List ℕ) (v : Verdict) → GivesVerdict words bytes v
     → (report words bytes v).status ≡ status.Undecided → ShowsBlame words bytes (report words bytes v).lines
+
+-- The bytes of its lines, read as a script log in the world, are the run: its events, in their order, and nothing else.
+unfoldable pub RunReadsBack : Type 0
+RunReadsBack =
+    (words : List (List ℕ)) (bytes : List ℕ → List ℕ) (lines : List ReportLine) (shows : ShowsRun words bytes lines)
+    → script_reading shows.audits.accepted.world (text_of (event_lines shows.audits.accepted.world shows.found.run))
+    ≡ record { events = placed_from 1 shows.found.run; ending = AtEnd }

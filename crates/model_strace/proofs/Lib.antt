@@ -12,3 +12,6 @@ pub mod HeldLines
 pub mod RestLaws
 pub mod LineNumbers
 pub mod Counts
+pub mod ToldEvents
+pub mod NamedSpaces
+pub mod ReadBack

@@ -16,3 +16,4 @@ pub mod Logs
 pub mod Rest
 pub mod LineNumbers
 pub mod Counts
+pub mod ReadBack

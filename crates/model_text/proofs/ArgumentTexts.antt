@@ -30,7 +30,8 @@ begins_with_c (byte ∷ text) = eqb byte 67
 
 -- a name of a capability is a token, no `=`, and begins as they all do
 abbrev is_cap_name : List ℕ → Bool
-is_cap_name name = (nat_lt 0 (length name) && list_all is_plain name) && (not (is_equals name) && begins_with_c name)
+is_cap_name name =
+    ((nat_lt 0 (length name) && nat_lt (length name) 4096) && list_all is_plain name) && (not (is_equals name) && begins_with_c name)
 
 -- What the name of a capability is.
 record IsCapName (name : List ℕ) : Type 0 where
@@ -40,13 +41,16 @@ record IsCapName (name : List ℕ) : Type 0 where
 
 cap_name_is : (name : List ℕ) → is_cap_name name ≡ true → IsCapName name
 cap_name_is name is =
-    let bytes : Bool = nat_lt 0 (length name) && list_all is_plain name in
+    let size : Bool = nat_lt 0 (length name) && nat_lt (length name) 4096 in
+    let bytes : Bool = size && list_all is_plain name in
     let rest : Bool = not (is_equals name) && begins_with_c name in
     let halves : (bytes ≡ true) × (rest ≡ true) = and_parts bytes rest is in
-    let first : (nat_lt 0 (length name) ≡ true) × (list_all is_plain name ≡ true) = and_parts (nat_lt 0 (length name)) (list_all is_plain name) halves.0 in
+    let first : (size ≡ true) × (list_all is_plain name ≡ true) = and_parts size (list_all is_plain name) halves.0 in
+    let sizes : (nat_lt 0 (length name) ≡ true) × (nat_lt (length name) 4096 ≡ true)
+    = and_parts (nat_lt 0 (length name)) (nat_lt (length name) 4096) first.0 in
     let second : (not (is_equals name) ≡ true) × (begins_with_c name ≡ true) = and_parts (not (is_equals name)) (begins_with_c name) halves.1 in
     record {
-      token = record { some = ltb-true 0 (length name) first.0; plain = first.1 };
+      token = record { some = ltb-true 0 (length name) sizes.0; short = ltb-true (length name) 4096 sizes.1; plain = first.1 };
       plain = not-true (is_equals name) second.0;
       begins = second.1;
     }
@@ -100,8 +104,8 @@ cap_written cap fits =
 
 -- ---- words
 pub word_is_token : (deny : Bool) → IsToken (word_text deny)
-word_is_token true = record { some = lit< tt; plain = refl }
-word_is_token false = record { some = lit< tt; plain = refl }
+word_is_token true = record { some = lit< tt; short = lit< tt; plain = refl }
+word_is_token false = record { some = lit< tt; short = lit< tt; plain = refl }
 
 pub word_is_no_equals : (deny : Bool) → is_equals (word_text deny) ≡ false
 word_is_no_equals true = refl

@@ -35,7 +35,7 @@ pub if_mapped : {A B : Type 0} (P : A → Type 0) (Q : B → Type 0) (f : A → 
 if_mapped P Q f None is step = tt
 if_mapped P Q f (Some x) is step = step x is
 
-if_either : {A : Type 0} (P : A → Type 0) (o other : Option A) → IfSome o P → IfSome other P → IfSome (option_or o other) P
+pub if_either : {A : Type 0} (P : A → Type 0) (o other : Option A) → IfSome o P → IfSome other P → IfSome (option_or o other) P
 if_either P None other is others = others
 if_either P (Some x) other is others = is
 
@@ -55,7 +55,7 @@ digits_are text =
 
 -- ---- names
 -- a name is that of one of the capabilities
-named_is : (name : List ℕ) → IfSome (cap_of name) (λ cap. cap < cap_count)
+pub named_is : (name : List ℕ) → IfSome (cap_of name) (λ cap. cap < cap_count)
 named_is name = if_there (λ cap. cap < cap_count) (cap_of name) (λ cap is. (position-Some (λ n. bytes_eq n name) cap_names cap [] is).0)
 
 names_are_with : (set : ℕ) (names : List (List ℕ)) → IsCapSet set → IfSome (names_with set names) IsCapSet

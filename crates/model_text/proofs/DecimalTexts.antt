@@ -2,7 +2,7 @@
 use Rattle.std.proofs.Common.{◌≡◌, ℕ, ◌+◌, ◌-◌, ◌*◌, ◌/◌, ◌%◌, ◌<◌, ◌≤◌, true, false, List, [], ◌∷◌, ◌++◌, length, refl, ap, ◌∙◌, arith, inl, inr}
 use Rattle.std.proofs.Common.{Some, length-append, lit<, nat_le, nat_lt, eqb}
 use Rattle.std.proofs.lemmas.Bool.{and_parts, and_from, le-leb, lt-ltb, leb-true, ne_eqb, cases_eq}
-use Rattle.std.proofs.lemmas.Fmt.{decimal_by_steps}
+use Rattle.std.proofs.lemmas.Fmt.{decimal_by_steps, length-decimal-le}
 use Rattle.std.proofs.lemmas.Grind.{fold-append}
 use Rattle.std.specs.Prelude.{decimal, codes, bytes_eq, Ok}
 use Rattle.std.specs.List.{list_all}
@@ -57,10 +57,15 @@ plain_digits (d ∷ ds) all =
     let parts : (is_digit 10 d ≡ true) × (list_all (is_digit 10) ds ≡ true) = and_parts (is_digit 10 d) (list_all (is_digit 10) ds) all in
     and_from (is_plain d) (list_all is_plain ds) (plain_digit d parts.0) (plain_digits ds parts.1)
 
+-- a number has ten digits at most
+pub decimal_short : (n : ℕ) → n ≤ greatest_number → length (decimal n) ≤ 10
+decimal_short n fits = length-decimal-le 10 n (omega arith) (omega arith) (omega arith)
+
 pub decimal_token : (n : ℕ) → n ≤ greatest_number → IsToken (decimal n)
 decimal_token n fits =
     let digits : AreDigitsOf n (decimal n) = digits_of_decimal n fits in
-    record { some = digits.some; plain = plain_digits (decimal n) digits.each }
+    let size : length (decimal n) ≤ 10 = decimal_short n fits in
+    record { some = digits.some; short = omega arith; plain = plain_digits (decimal n) digits.each }
 
 -- ---- what it is read as
 -- no text that begins with another byte than a digit is the number's
@@ -89,7 +94,7 @@ number_back n fits = ap result_ok (decimal_read n fits)
 pub id_is_token : (n : ℕ) → n ≤ greatest_number → IsToken (id_text n)
 id_is_token n fits =
     elim (cases_eq n minus_one) [
-      | inl same ↦ rw (same) (record { some = lit< tt; plain = refl })
+      | inl same ↦ rw (same) (record { some = lit< tt; short = lit< tt; plain = refl })
       | inr other ↦ rw (ne_eqb n minus_one other) (decimal_token n fits)
     ]
 

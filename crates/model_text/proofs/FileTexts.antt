@@ -43,8 +43,9 @@ path_is path is =
     let three : ((low && high) ≡ true) × (bytes ≡ true) = and_parts (low && high) bytes four.0 in
     let two : (low ≡ true) × (high ≡ true) = and_parts low high three.0 in
     let one : 1 ≤ length path = leb-true 1 (length path) two.0 in
+    let few : length path ≤ 4095 = leb-true (length path) 4095 two.1 in
     record {
-      token = record { some = omega arith; plain = all_weaker is_path_byte is_plain plain_byte path three.1 };
+      token = record { some = omega arith; short = omega arith; plain = all_weaker is_path_byte is_plain plain_byte path three.1 };
       dash = not-true (bytes_eq path (codes "-")) four.1;
       equals = not-true (is_equals path) five.1;
     }
@@ -91,5 +92,5 @@ row_there files i None are within is = absurd (none_there files.rows i within is
 
 pub file_written : (files : FileTable) (file : FileRef) → ArePaths (paths_of files.rows) → IsDeclared files file
     → FileWritten files file (file_text files file)
-file_written files Plain are there = record { token = record { some = lit< tt; plain = refl }; plain = refl; back = refl }
+file_written files Plain are there = record { token = record { some = lit< tt; short = lit< tt; plain = refl }; plain = refl; back = refl }
 file_written files (Row i) are within = row_there files i (slice_get files.rows i) are within refl

@@ -88,7 +88,7 @@ set_of_digits n text small long reads =
 
 pub set_is_token : (n : ℕ) → IsToken (hex_set n)
 unfolding hex_set
-set_is_token n = record { some = omega (arith, hex_length 16 n); plain = hex_plain 16 n }
+set_is_token n = record { some = omega (arith, hex_length 16 n); short = omega (arith, hex_length 16 n); plain = hex_plain 16 n }
 
 pub set_back : (n : ℕ) → IsCapSet n → set_of_text (hex_set n) ≡ Some n
 unfolding hex_set

@@ -9,7 +9,8 @@ pub mod ArgumentTexts
 pub mod SpaceTexts
 pub mod FileTexts
 pub mod ReadBack
-pub mod ToldFiles
+pub mod ToldEvents
+pub mod WrittenLogs
 pub mod WrittenCases
 pub mod Numbers
 pub mod CapTexts

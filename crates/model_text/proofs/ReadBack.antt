@@ -54,8 +54,8 @@ form_of (Word deny) = AWord
 form_of (File file) = AFile
 
 -- What is written of an argument.
-record Written (w : World) (argument : Argument) : Type 0 where
-  token : IsToken (argument_text w argument)
+pub record Written (w : World) (argument : Argument) : Type 0 where
+  pub token : IsToken (argument_text w argument)
   plain : is_equals (argument_text w argument) ≡ false
   back : argument_token w (form_of argument) (argument_text w argument) ≡ Some argument
 
@@ -178,32 +178,32 @@ record KindWritten (kind : CallKind) : Type 0 where
   back : kind_named (call_name kind) ≡ Some kind
 
 kind_written : (kind : CallKind) → KindWritten kind
-kind_written kind.SetUid = record { token = record { some = lit< tt; plain = refl }; back = refl }
-kind_written kind.SetReUid = record { token = record { some = lit< tt; plain = refl }; back = refl }
-kind_written kind.SetResUid = record { token = record { some = lit< tt; plain = refl }; back = refl }
-kind_written kind.SetFsUid = record { token = record { some = lit< tt; plain = refl }; back = refl }
-kind_written kind.SetGid = record { token = record { some = lit< tt; plain = refl }; back = refl }
-kind_written kind.SetReGid = record { token = record { some = lit< tt; plain = refl }; back = refl }
-kind_written kind.SetResGid = record { token = record { some = lit< tt; plain = refl }; back = refl }
-kind_written kind.SetFsGid = record { token = record { some = lit< tt; plain = refl }; back = refl }
-kind_written kind.SetGroups = record { token = record { some = lit< tt; plain = refl }; back = refl }
-kind_written kind.CapSet = record { token = record { some = lit< tt; plain = refl }; back = refl }
-kind_written kind.BsetDrop = record { token = record { some = lit< tt; plain = refl }; back = refl }
-kind_written kind.AmbRaise = record { token = record { some = lit< tt; plain = refl }; back = refl }
-kind_written kind.AmbLower = record { token = record { some = lit< tt; plain = refl }; back = refl }
-kind_written kind.AmbClear = record { token = record { some = lit< tt; plain = refl }; back = refl }
-kind_written kind.SecureBits = record { token = record { some = lit< tt; plain = refl }; back = refl }
-kind_written kind.KeepCaps = record { token = record { some = lit< tt; plain = refl }; back = refl }
-kind_written kind.NoNewPrivs = record { token = record { some = lit< tt; plain = refl }; back = refl }
-kind_written kind.Fork = record { token = record { some = lit< tt; plain = refl }; back = refl }
-kind_written kind.CloneUser = record { token = record { some = lit< tt; plain = refl }; back = refl }
-kind_written kind.Unshare = record { token = record { some = lit< tt; plain = refl }; back = refl }
-kind_written kind.SetNs = record { token = record { some = lit< tt; plain = refl }; back = refl }
-kind_written kind.WriteUidMap = record { token = record { some = lit< tt; plain = refl }; back = refl }
-kind_written kind.WriteGidMap = record { token = record { some = lit< tt; plain = refl }; back = refl }
-kind_written kind.WriteSetgroups = record { token = record { some = lit< tt; plain = refl }; back = refl }
-kind_written kind.Exec = record { token = record { some = lit< tt; plain = refl }; back = refl }
-kind_written kind.Exit = record { token = record { some = lit< tt; plain = refl }; back = refl }
+kind_written kind.SetUid = record { token = record { some = lit< tt; short = lit< tt; plain = refl }; back = refl }
+kind_written kind.SetReUid = record { token = record { some = lit< tt; short = lit< tt; plain = refl }; back = refl }
+kind_written kind.SetResUid = record { token = record { some = lit< tt; short = lit< tt; plain = refl }; back = refl }
+kind_written kind.SetFsUid = record { token = record { some = lit< tt; short = lit< tt; plain = refl }; back = refl }
+kind_written kind.SetGid = record { token = record { some = lit< tt; short = lit< tt; plain = refl }; back = refl }
+kind_written kind.SetReGid = record { token = record { some = lit< tt; short = lit< tt; plain = refl }; back = refl }
+kind_written kind.SetResGid = record { token = record { some = lit< tt; short = lit< tt; plain = refl }; back = refl }
+kind_written kind.SetFsGid = record { token = record { some = lit< tt; short = lit< tt; plain = refl }; back = refl }
+kind_written kind.SetGroups = record { token = record { some = lit< tt; short = lit< tt; plain = refl }; back = refl }
+kind_written kind.CapSet = record { token = record { some = lit< tt; short = lit< tt; plain = refl }; back = refl }
+kind_written kind.BsetDrop = record { token = record { some = lit< tt; short = lit< tt; plain = refl }; back = refl }
+kind_written kind.AmbRaise = record { token = record { some = lit< tt; short = lit< tt; plain = refl }; back = refl }
+kind_written kind.AmbLower = record { token = record { some = lit< tt; short = lit< tt; plain = refl }; back = refl }
+kind_written kind.AmbClear = record { token = record { some = lit< tt; short = lit< tt; plain = refl }; back = refl }
+kind_written kind.SecureBits = record { token = record { some = lit< tt; short = lit< tt; plain = refl }; back = refl }
+kind_written kind.KeepCaps = record { token = record { some = lit< tt; short = lit< tt; plain = refl }; back = refl }
+kind_written kind.NoNewPrivs = record { token = record { some = lit< tt; short = lit< tt; plain = refl }; back = refl }
+kind_written kind.Fork = record { token = record { some = lit< tt; short = lit< tt; plain = refl }; back = refl }
+kind_written kind.CloneUser = record { token = record { some = lit< tt; short = lit< tt; plain = refl }; back = refl }
+kind_written kind.Unshare = record { token = record { some = lit< tt; short = lit< tt; plain = refl }; back = refl }
+kind_written kind.SetNs = record { token = record { some = lit< tt; short = lit< tt; plain = refl }; back = refl }
+kind_written kind.WriteUidMap = record { token = record { some = lit< tt; short = lit< tt; plain = refl }; back = refl }
+kind_written kind.WriteGidMap = record { token = record { some = lit< tt; short = lit< tt; plain = refl }; back = refl }
+kind_written kind.WriteSetgroups = record { token = record { some = lit< tt; short = lit< tt; plain = refl }; back = refl }
+kind_written kind.Exec = record { token = record { some = lit< tt; short = lit< tt; plain = refl }; back = refl }
+kind_written kind.Exit = record { token = record { some = lit< tt; short = lit< tt; plain = refl }; back = refl }
 
 -- The name of an error is a token, and neither a number nor `0`.
 record ErrorWritten (e : Errno) : Type 0 where
@@ -213,23 +213,23 @@ record ErrorWritten (e : Errno) : Type 0 where
   back : result_token (errno_name e) ≡ Some (res.Err e)
 
 error_written : (e : Errno) → ErrorWritten e
-error_written errno.EPERM = record { token = record { some = lit< tt; plain = refl }; number = refl; done = refl; back = refl }
-error_written errno.EINVAL = record { token = record { some = lit< tt; plain = refl }; number = refl; done = refl; back = refl }
-error_written errno.ENOSPC = record { token = record { some = lit< tt; plain = refl }; number = refl; done = refl; back = refl }
-error_written errno.ENOMEM = record { token = record { some = lit< tt; plain = refl }; number = refl; done = refl; back = refl }
-error_written errno.EAGAIN = record { token = record { some = lit< tt; plain = refl }; number = refl; done = refl; back = refl }
-error_written errno.EINTR = record { token = record { some = lit< tt; plain = refl }; number = refl; done = refl; back = refl }
-error_written errno.EFAULT = record { token = record { some = lit< tt; plain = refl }; number = refl; done = refl; back = refl }
-error_written errno.EIO = record { token = record { some = lit< tt; plain = refl }; number = refl; done = refl; back = refl }
-error_written errno.ENOENT = record { token = record { some = lit< tt; plain = refl }; number = refl; done = refl; back = refl }
-error_written errno.EACCES = record { token = record { some = lit< tt; plain = refl }; number = refl; done = refl; back = refl }
-error_written errno.ENOTDIR = record { token = record { some = lit< tt; plain = refl }; number = refl; done = refl; back = refl }
-error_written errno.ELOOP = record { token = record { some = lit< tt; plain = refl }; number = refl; done = refl; back = refl }
-error_written errno.ENAMETOOLONG = record { token = record { some = lit< tt; plain = refl }; number = refl; done = refl; back = refl }
-error_written errno.E2BIG = record { token = record { some = lit< tt; plain = refl }; number = refl; done = refl; back = refl }
-error_written errno.ENOEXEC = record { token = record { some = lit< tt; plain = refl }; number = refl; done = refl; back = refl }
-error_written errno.ETXTBSY = record { token = record { some = lit< tt; plain = refl }; number = refl; done = refl; back = refl }
-error_written errno.ELIBBAD = record { token = record { some = lit< tt; plain = refl }; number = refl; done = refl; back = refl }
+error_written errno.EPERM = record { token = record { some = lit< tt; short = lit< tt; plain = refl }; number = refl; done = refl; back = refl }
+error_written errno.EINVAL = record { token = record { some = lit< tt; short = lit< tt; plain = refl }; number = refl; done = refl; back = refl }
+error_written errno.ENOSPC = record { token = record { some = lit< tt; short = lit< tt; plain = refl }; number = refl; done = refl; back = refl }
+error_written errno.ENOMEM = record { token = record { some = lit< tt; short = lit< tt; plain = refl }; number = refl; done = refl; back = refl }
+error_written errno.EAGAIN = record { token = record { some = lit< tt; short = lit< tt; plain = refl }; number = refl; done = refl; back = refl }
+error_written errno.EINTR = record { token = record { some = lit< tt; short = lit< tt; plain = refl }; number = refl; done = refl; back = refl }
+error_written errno.EFAULT = record { token = record { some = lit< tt; short = lit< tt; plain = refl }; number = refl; done = refl; back = refl }
+error_written errno.EIO = record { token = record { some = lit< tt; short = lit< tt; plain = refl }; number = refl; done = refl; back = refl }
+error_written errno.ENOENT = record { token = record { some = lit< tt; short = lit< tt; plain = refl }; number = refl; done = refl; back = refl }
+error_written errno.EACCES = record { token = record { some = lit< tt; short = lit< tt; plain = refl }; number = refl; done = refl; back = refl }
+error_written errno.ENOTDIR = record { token = record { some = lit< tt; short = lit< tt; plain = refl }; number = refl; done = refl; back = refl }
+error_written errno.ELOOP = record { token = record { some = lit< tt; short = lit< tt; plain = refl }; number = refl; done = refl; back = refl }
+error_written errno.ENAMETOOLONG = record { token = record { some = lit< tt; short = lit< tt; plain = refl }; number = refl; done = refl; back = refl }
+error_written errno.E2BIG = record { token = record { some = lit< tt; short = lit< tt; plain = refl }; number = refl; done = refl; back = refl }
+error_written errno.ENOEXEC = record { token = record { some = lit< tt; short = lit< tt; plain = refl }; number = refl; done = refl; back = refl }
+error_written errno.ETXTBSY = record { token = record { some = lit< tt; short = lit< tt; plain = refl }; number = refl; done = refl; back = refl }
+error_written errno.ELIBBAD = record { token = record { some = lit< tt; short = lit< tt; plain = refl }; number = refl; done = refl; back = refl }
 
 -- ---- results
 -- What is written of a result, read by this.
@@ -267,13 +267,13 @@ birth_written (res.Err e) _ = record {
 }
 
 outcome_written : (answer : Res) → IsOutcome answer → ResultWritten result_token answer
-outcome_written res.Done _ = record { token = record { some = lit< tt; plain = refl }; back = refl }
+outcome_written res.Done _ = record { token = record { some = lit< tt; short = lit< tt; plain = refl }; back = refl }
 outcome_written (res.Id n) never = absurd never
 outcome_written (res.Child pid) never = absurd never
 outcome_written (res.Err e) _ = record { token = (error_written e).token; back = (error_written e).back }
 
 done_written : (answer : Res) → answer ≡ res.Done → ResultWritten done_token answer
-done_written answer is = rw is (record { token = record { some = lit< tt; plain = refl }; back = refl })
+done_written answer is = rw is (record { token = record { some = lit< tt; short = lit< tt; plain = refl }; back = refl })
 
 result_written : (kind : CallKind) (answer : Res) → MayAnswer kind answer → ResultWritten (result_of_kind kind) answer
 result_written kind.SetFsUid answer may = old_id_written answer may
@@ -320,7 +320,7 @@ line_tokens w e pid all result =
     ∙ ap (λ (tokens : Tokens). decimal e.pid ∷ tokens)
     (tokens_before (argument_text w) name arguments rest (kind_written (kind_of e.call)).token are
     ∙ ap (λ (tokens : Tokens). name ∷ map (argument_text w) arguments ++ tokens)
-    (token_before (codes "=") (res_text e.res) (record { some = lit< tt; plain = refl })
+    (token_before (codes "=") (res_text e.res) (record { some = lit< tt; short = lit< tt; plain = refl })
     ∙ ap (λ (tokens : Tokens). codes "=" ∷ tokens) (token_alone (res_text e.res) result))))
 
 -- a number begins no comment
@@ -354,14 +354,27 @@ tokens_back w e can all =
       can.groups,
     ) refl
 
+-- The tokens that are written of an event.
+pub record TokensWritten (w : World) (e : Event) : Type 0 where
+  pub pid : IsToken (decimal e.pid)
+  pub name : IsToken (call_name (kind_of e.call))
+  pub arguments : All (Written w) (arguments_of e.call)
+  pub result : IsToken (res_text e.res)
+
+pub tokens_written : (w : World) (e : Event) → KeepsNames w → IsWritable w e → TokensWritten w e
+tokens_written w e keeps can = record {
+  pid = decimal_token e.pid (pid_fits e.pid can.pid);
+  name = (kind_written (kind_of e.call)).token;
+  arguments =
+      All-weaker (IsInRange w) (Written w) (λ argument fits. written w argument keeps.names keeps.paths fits) (arguments_of e.call) can.arguments;
+  result = (result_written (kind_of e.call) e.res can.result).token;
+}
+
 -- What was written of an event is read again as the same event, where the names and paths of the world are.
 pub event_read_back : (w : World) (e : Event) → KeepsNames w → IsWritable w e → script_line w (event_text w e) ≡ Tells e
 event_read_back w e keeps can =
-    let all : All (Written w) (arguments_of e.call) =
-    All-weaker (IsInRange w) (Written w) (λ argument fits. written w argument keeps.names keeps.paths fits) (arguments_of e.call) can.arguments in
-    ap (tokens_line w)
-    (line_tokens w e (decimal_token e.pid (pid_fits e.pid can.pid)) all (result_written (kind_of e.call) e.res can.result).token)
-    ∙ tokens_back w e can all
+    let are : TokensWritten w e = tokens_written w e keeps can in
+    ap (tokens_line w) (line_tokens w e are.pid are.arguments are.result) ∙ tokens_back w e can are.arguments
 
 pub lines_read_back : LinesReadBack
 unfolding LinesReadBack DeclaredNamesKeep

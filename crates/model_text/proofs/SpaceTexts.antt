@@ -8,7 +8,7 @@ use Rattle.std.specs.Prelude.{codes, decimal, bytes_eq, slice_get, unwrap_or}
 use Rattle.std.specs.List.{list_all, position_from}
 use Rattle.std.specs.Result.{result_ok}
 use Rattle.cm_base.specs.Limits.{greatest_number}
-use Rattle.model_text.proofs.DecimalTexts.{decimal_token, decimal_read}
+use Rattle.model_text.proofs.DecimalTexts.{decimal_short, decimal_token, decimal_read}
 use Rattle.model_text.proofs.Found.{text_same, text_other, all_at, all_weaker, found_at, found_nowhere, distinct_at}
 use Rattle.model_text.proofs.Tokens.{IsToken, is_plain, plain_above}
 use Rattle.model_text.specs.NameText.{is_name_byte, is_name}
@@ -26,6 +26,7 @@ pub record SpaceWritten (names : List (List ℕ)) (space : ℕ) (text : List ℕ
 -- What a name is.
 record IsName (name : List ℕ) : Type 0 where
   some : 0 < length name
+  short : length name ≤ 32
   bytes : list_all is_name_byte name ≡ true
   other : bytes_eq name (codes "init") ≡ false
 
@@ -40,7 +41,7 @@ name_is name is =
     let middle : ((low && high) ≡ true) × (bytes ≡ true) = and_parts (low && high) bytes last.0 in
     let first : (low ≡ true) × (high ≡ true) = and_parts low high middle.0 in
     let one : 1 ≤ length name = leb-true 1 (length name) first.0 in
-    record { some = omega arith; bytes = middle.1; other = not-true (bytes_eq name (codes "init")) last.1 }
+    record { some = omega arith; short = leb-true (length name) 32 first.1; bytes = middle.1; other = not-true (bytes_eq name (codes "init")) last.1 }
 
 -- a byte of a name is above the space
 name_byte_above : (byte : ℕ) → is_name_byte byte ≡ true → 32 < byte
@@ -66,12 +67,13 @@ name_begins (b ∷ name) rest other all none =
 plain_name : (name : List ℕ) → IsName name → IsToken name
 plain_name name is = record {
   some = is.some;
+  short = omega (arith, is.short);
   plain = all_weaker is_name_byte is_plain (λ byte kept. plain_above byte (name_byte_above byte kept)) name is.bytes;
 }
 
 -- ---- the initial space, a declared one, and any other
 initial_written : (names : List (List ℕ)) → SpaceWritten names 0 (codes "init")
-initial_written names = record { token = record { some = lit< tt; plain = refl }; plain = refl; back = refl }
+initial_written names = record { token = record { some = lit< tt; short = lit< tt; plain = refl }; plain = refl; back = refl }
 
 -- the number of a name is its place, counted on from the number of the first
 number_is_place : (n : ℕ) (names : List (List ℕ)) (token : List ℕ) → number_named n names token ≡ position_from (λ name. bytes_eq name token) n names
@@ -103,13 +105,14 @@ declared_written names i name are is =
 numbered_written : (names : List (List ℕ)) (n : ℕ) → AreNames names → n ≤ greatest_number → SpaceWritten names n (35 ∷ decimal n)
 numbered_written names n are fits =
     let digits : IsToken (decimal n) = decimal_token n fits in
+    let size : length (decimal n) ≤ 10 = decimal_short n fits in
     let none : number_named 1 names (35 ∷ decimal n) ≡ None =
     number_is_place 1 names (35 ∷ decimal n)
     ∙ found_nowhere (λ name. bytes_eq name (35 ∷ decimal n)) 1 names
     (all_weaker is_name (λ name. not (bytes_eq name (35 ∷ decimal n)))
     (λ name is. ap not (name_begins name (decimal n) 35 (name_is name is).bytes refl)) names (each_name names are.each)) in
     record {
-      token = record { some = omega arith; plain = digits.plain };
+      token = record { some = omega arith; short = omega (arith, size); plain = digits.plain };
       plain = refl;
       back = rw none (ap result_ok (decimal_read n fits));
     }

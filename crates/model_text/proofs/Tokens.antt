@@ -1,23 +1,27 @@
 -- The tokens of texts that are made of tokens with a space between each two.
-use Rattle.std.proofs.Common.{◌≡◌, ℕ, ◌<◌, Bool, true, false, not, List, [], ◌∷◌, ◌++◌, length, map, refl, ap, ◌∙◌, arith, append_assoc, All}
-use Rattle.std.proofs.lemmas.Bool.{and_parts, not-true, ne_eqb}
+use Rattle.std.proofs.Common.{◌≡◌, ℕ, ◌<◌, Bool, true, false, not, List, [], ◌∷◌, ◌++◌, length, map, refl, ap, ◌∙◌, arith, append_assoc, All, nat_lt}
+use Rattle.std.proofs.lemmas.Bool.{and_parts, lt-ltb, ltb-true, ne_eqb}
 use Rattle.std.proofs.lemmas.List.Elements.{All-head, All-tail}
 use Rattle.std.specs.List.{list_all, flat_map}
 use Rattle.model_text.specs.Cut.{is_blank, goes_on, tokens_of}
 use Rattle.model_text.specs.Line.{Tokens}
 
--- the byte is no blank
+-- the byte is above the space: so it is no blank, and no LF
 abbrev pub is_plain : ℕ → Bool
-is_plain byte = not (is_blank byte)
+is_plain byte = nat_lt 32 byte
 
--- The text is a token: it has bytes, and none of them is a blank.
+-- The text is a token that a line may have: it has bytes, no more of them than a path, and each is above the space.
 pub record IsToken (text : List ℕ) : Type 0 where
   pub some : 0 < length text
+  pub short : length text < 4096
   pub plain : list_all is_plain text ≡ true
 
--- a byte above the space is none
 pub plain_above : (byte : ℕ) → 32 < byte → is_plain byte ≡ true
-plain_above byte above =
+plain_above byte above = lt-ltb 32 byte above
+
+no_blank : (byte : ℕ) → is_plain byte ≡ true → is_blank byte ≡ false
+no_blank byte plain =
+    let above : 32 < byte = ltb-true 32 byte plain in
     rw (ne_eqb byte 32 (λ same. omega arith), ne_eqb byte 9 (λ same. omega arith), ne_eqb byte 13 (λ same. omega arith)) refl
 
 -- ---- the first token
@@ -34,7 +38,7 @@ extends b text token others here on rest = rw (here, on, rest) refl
 parts_of_plain : (b : ℕ) (text : List ℕ) → list_all is_plain (b ∷ text) ≡ true → (is_blank b ≡ false) × (list_all is_plain text ≡ true)
 parts_of_plain b text plain =
     let parts : (is_plain b ≡ true) × (list_all is_plain text ≡ true) = and_parts (is_plain b) (list_all is_plain text) plain in
-    (not-true (is_blank b) parts.0, parts.1)
+    (no_blank b parts.0, parts.1)
 
 bytes_alone : (text : List ℕ) → 0 < length text → list_all is_plain text ≡ true → tokens_of text ≡ text ∷ []
 bytes_alone [] some plain = absurd (omega arith)

@@ -30,7 +30,7 @@ number_or_within low high default key row within =
     or_default (λ n. n ≤ high) (number_of low high (get_member key row)) default (optional_within low high (get_member key row)) within
 
 -- ---- spaces
-named_within : (n : ℕ) (names : List (List ℕ)) (name : List ℕ) → IfSome (number_named n names name) (λ k. k < n + length names)
+pub named_within : (n : ℕ) (names : List (List ℕ)) (name : List ℕ) → IfSome (number_named n names name) (λ k. k < n + length names)
 named_within n [] name = tt
 named_within n (other ∷ names) name =
     cond_both (bytes_eq other name) (Some n) (number_named (n + 1) names name) (λ o. IfSome o (λ k. k < n + suc (length names)))

@@ -1,19 +1,22 @@
 -- Which events are read again as they were written.
-use Rattle.std.specs.Prelude.{◌≡◌, ◌≢◌, ℕ, ◌≤◌, map, List, IsTrue, All, AllPairs}
+use Rattle.std.specs.Prelude.{◌≡◌, ◌≢◌, ℕ, ◌+◌, ◌≤◌, length, map, flat_map, List, [], ◌∷◌, ◌++◌, IsTrue, All, AllPairs}
 use Rattle.cm_base.specs.CapSet.{IsCapSet}
+use Rattle.cm_base.specs.Limited.{limit_number}
 use Rattle.cm_base.specs.Limits.{greatest_number}
+use Rattle.cm_base.specs.declared.limited.Limited.TheVariants as limit
 use Rattle.cm_base.specs.declared.res.Res.{Res}
 use Rattle.cm_base.specs.declared.res.Res.TheVariants as res
 use Rattle.cm_filter.specs.declared.kind.CallKind.{CallKind}
 use Rattle.cm_filter.specs.declared.kind.CallKind.TheVariants as kind
-use Rattle.model_cred.specs.Call.{Call, Event, Exec, kind_of}
-use Rattle.model_cred.specs.Files.{FileTable, IsDeclared}
+use Rattle.model_cred.specs.Call.{Event, kind_of}
+use Rattle.model_cred.specs.Files.{IsDeclared}
 use Rattle.model_cred.specs.Process.{is_pid}
 use Rattle.model_cred.specs.World.{World}
 use Rattle.model_text.specs.Arguments.{Argument, Id, Number, Cap, Set, Space, Word, File, arguments_of}
 use Rattle.model_text.specs.Line.{Tells, groups_fit, script_line}
 use Rattle.model_text.specs.NameText.{is_name, is_path}
 use Rattle.model_text.specs.Print.{event_text}
+use Rattle.model_text.specs.Reading.{Placed, AtEnd, script_reading}
 use Rattle.model_text.specs.WorldText.{Reads, world_text}
 
 -- The names are names, and no two are equal.
@@ -34,11 +37,6 @@ pub record KeepsNames (w : World) : Type 0 where
 -- So it is with each world that a text declares.
 unfoldable pub DeclaredNamesKeep : Type 0
 DeclaredNamesKeep = (bytes : List ℕ) (w : World) → world_text bytes ≡ Reads w → KeepsNames w
-
--- the file of an execve is in the table
-abbrev pub FileStands : FileTable → Call → Type 0
-FileStands files (Exec file) = IsDeclared files file
-FileStands files _ = Unit {0}
 
 -- the argument is in its range: a number of 32 bits, a set of capabilities, a file of the table
 abbrev pub IsInRange : World → Argument → Type 0
@@ -87,3 +85,30 @@ pub record IsWritable (w : World) (e : Event) : Type 0 where
 unfoldable pub LinesReadBack : Type 0
 LinesReadBack = (bytes : List ℕ) (w : World) (e : Event) → world_text bytes ≡ Reads w → IsWritable w e
     → script_line w (event_text w e) ≡ Tells e
+
+-- Each event that a script line tells over a world that a text declares is writable over it.
+unfoldable pub ToldAreWritable : Type 0
+ToldAreWritable = (bytes : List ℕ) (w : World) (line : List ℕ) (e : Event) → world_text bytes ≡ Reads w
+    → script_line w line ≡ Tells e → IsWritable w e
+
+-- So what was read, written, and read again is the same event.
+unfoldable pub ToldReadBack : Type 0
+ToldReadBack = (bytes : List ℕ) (w : World) (line : List ℕ) (e : Event) → world_text bytes ≡ Reads w
+    → script_line w line ≡ Tells e → script_line w (event_text w e) ≡ Tells e
+
+-- ---- whole logs
+-- events as the lines of a script log, each with its LF
+abbrev pub events_text : World → List Event → List ℕ
+events_text w events = flat_map (λ e. event_text w e ++ 10 ∷ []) events
+
+-- events, each with the number of its line, the first of which is this one
+abbrev pub placed_from : ℕ → List Event → List Placed
+placed_from number [] = []
+placed_from number (e ∷ events) = record { line = number; event = e } ∷ placed_from (number + 1) events
+
+-- Events that are writable over a world that a text declares, each with a line within the limit of lines, are read again
+-- from these lines: all of them, in their order, and nothing else.
+unfoldable pub LogsReadBack : Type 0
+LogsReadBack = (bytes : List ℕ) (w : World) (events : List Event) → world_text bytes ≡ Reads w
+    → All (IsWritable w) events → All (λ e. length (event_text w e) ≤ limit_number limit.Line) events
+    → script_reading w (events_text w events) ≡ record { events = placed_from 1 events; ending = AtEnd }

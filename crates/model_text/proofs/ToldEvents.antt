@@ -1,0 +1,487 @@
+-- Each event that a script line tells over a world that a text declares is writable over it.
+use Rattle.std.proofs.Common.{◌≡◌, ℕ, ◌+◌, ◌<◌, ◌≤◌, ◌==◌, Bool, List, [], ◌∷◌, length, map}
+use Rattle.std.proofs.Common.{Option, Some, None, Result, Ok, Err, IfSome, refl, sym, ap, ◌∙◌, arith, inl, inr, subst}
+use Rattle.std.proofs.Common.{if◌then◌else◌, nat_le, All, IsTrue}
+use Rattle.std.proofs.lemmas.Bool.{cases_Bool, cond_both, leb-true}
+use Rattle.std.proofs.lemmas.Iterator.Adapters.{position_from-zero}
+use Rattle.std.proofs.lemmas.List.Elements.{All-nil, All-cons}
+use Rattle.std.proofs.lemmas.Option.{IfSome_then, same_Some}
+use Rattle.std.specs.Prelude.{codes, bytes_eq, ok_or, option_map, flat_map}
+use Rattle.std.specs.List.{position_from}
+use Rattle.std.specs.Option.{option_or}
+use Rattle.std.specs.Result.{result_ok}
+use Rattle.cm_base.specs.CapSet.{IsCapSet}
+use Rattle.cm_base.specs.Limited.{limit_number}
+use Rattle.cm_base.specs.Limits.{greatest_number, minus_one}
+use Rattle.cm_base.specs.Names.{cap_of, errno_of}
+use Rattle.cm_base.specs.Number.{is_number, value_of}
+use Rattle.cm_base.specs.declared.faults.LineFault.{LineFault}
+use Rattle.cm_base.specs.declared.faults.LineFault.TheVariants as fault
+use Rattle.cm_base.specs.declared.limited.Limited.TheVariants as limit
+use Rattle.cm_base.specs.declared.number.BadNumber.{BadNumber}
+use Rattle.cm_base.specs.declared.number.BadNumber.TheVariants.{NotNumber, TooLarge}
+use Rattle.cm_base.specs.declared.res.FileRef.{FileRef}
+use Rattle.cm_base.specs.declared.res.FileRef.TheVariants.{Plain}
+use Rattle.cm_base.specs.declared.res.Res.{Res}
+use Rattle.cm_base.specs.declared.res.Res.TheVariants as res
+use Rattle.cm_filter.specs.declared.kind.CallKind.{CallKind}
+use Rattle.cm_filter.specs.declared.kind.CallKind.TheVariants as kind
+use Rattle.cm_filter.specs.Kinds.{kind_named}
+use Rattle.model_cred.specs.Call as model
+use Rattle.model_cred.specs.Call.{Call, Event, kind_of}
+use Rattle.model_cred.specs.Files.{FileTable, IsDeclared, file_named, ref_of, row_named}
+use Rattle.model_cred.specs.IdMap.{Extent}
+use Rattle.model_cred.specs.Process.{is_pid, as_pid}
+use Rattle.model_cred.specs.World.{World}
+use Rattle.model_text.proofs.CapTexts.{if_there, if_then, if_mapped, if_either, named_is, text_is}
+use Rattle.model_text.proofs.ReadBack.{lines_read_back}
+use Rattle.model_text.proofs.Starts.{start_names}
+use Rattle.model_text.proofs.Values.{named_within}
+use Rattle.model_text.specs.Arguments.{Form, AnId, ANumber, ACap, ASet, ASpace, AWord, AFile, Pattern, form_at}
+use Rattle.model_text.specs.Arguments.{pattern_of, takes}
+use Rattle.model_text.specs.Arguments.{Argument, Id, Number, Cap, Set, Space, Word, File, argument_token, arguments_of}
+use Rattle.model_text.specs.Arguments.{triple_of}
+use Rattle.model_text.specs.Arguments.{call_with, ids_in, extents_in, with_id, with_two_ids, with_three_ids, with_ids}
+use Rattle.model_text.specs.Arguments.{with_sets, with_cap}
+use Rattle.model_text.specs.Arguments.{with_number, with_space, with_file, with_word, with_extents, with_none}
+use Rattle.model_text.specs.CapText.{set_of_text}
+use Rattle.model_text.specs.Cut.{tokens_of}
+use Rattle.model_text.specs.Line.{Line, NoEvent, Tells, Faulty, Exceeds, Tokens, Parts, parts_of, argument_before}
+use Rattle.model_text.specs.Line.{arguments_from, call_read, call_told, result_of_kind, groups_fit}
+use Rattle.model_text.specs.Line.{told_line, outcome_line, parts_line, kind_line, call_line, pid_line, tokens_line}
+use Rattle.model_text.specs.Line.{script_line}
+use Rattle.model_text.specs.NameText.{is_path}
+use Rattle.model_text.specs.SpaceToken.{hash_number, number_named, space_of_token}
+use Rattle.model_text.specs.Token.{birth_token, cap_token, done_token, file_token, id_token, is_comment, number_token}
+use Rattle.model_text.specs.Token.{old_id_token, pid_token}
+use Rattle.model_text.specs.Token.{result_token, word_token}
+use Rattle.model_text.specs.WorldText.{Reads, world_text}
+use Rattle.model_text.specs.Written.{IsInRange, IsOutcome, IsBirth, IsOldId, MayAnswer, IsWritable, LinesReadBack}
+use Rattle.model_text.specs.Written.{ToldAreWritable, ToldReadBack}
+
+-- ---- numbers, pids, capabilities, spaces
+-- the number is one of 32 bits
+abbrev pub Fits : ℕ → Type 0
+Fits n = n ≤ greatest_number
+
+pub number_fits : (text : List ℕ) → IfSome (number_token text) Fits
+number_fits text =
+    let value : ℕ = value_of 10 text in
+    let spelled : Result ℕ BadNumber = if nat_le value greatest_number then Ok value else Err TooLarge in
+    let IsGood : Result ℕ BadNumber → Type 0 = λ r. IfSome (result_ok r) Fits in
+    cond_both (is_number 10 text) spelled (Err NotNumber) IsGood
+    (λ _. cond_both (nat_le value greatest_number) (Ok value) (Err TooLarge) IsGood
+    (λ low. leb-true value greatest_number low) (λ _. tt))
+    (λ _. tt)
+
+pub id_fits : (text : List ℕ) → IfSome (id_token text) Fits
+id_fits text =
+    cond_both (bytes_eq text (codes "-1")) (Some minus_one) (number_token text) (λ o. IfSome o Fits) (λ _. omega arith)
+    (λ _. number_fits text)
+
+pub pid_is : (text : List ℕ) → IfSome (pid_token text) (λ n. IsTrue (is_pid n))
+pid_is text =
+    if_then Fits (λ n. IsTrue (is_pid n)) as_pid (number_token text) (number_fits text)
+    (λ n fits. cond_both (is_pid n) (Some n) None (λ o. IfSome o (λ n. IsTrue (is_pid n))) (λ is. is) (λ _. tt))
+
+pub cap_fits : (text : List ℕ) → IfSome (cap_token text) Fits
+cap_fits text =
+    if_either Fits (cap_of text) (number_token text)
+    (IfSome_then (cap_of text) (named_is text) (λ cap low. omega arith)) (number_fits text)
+
+hash_fits : (text : List ℕ) → IfSome (hash_number text) Fits
+hash_fits [] = tt
+hash_fits (byte ∷ digits) =
+    cond_both (byte == 35) (number_token digits) None (λ o. IfSome o Fits) (λ _. number_fits digits) (λ _. tt)
+
+-- the spaces that have names are few enough for numbers of 32 bits
+abbrev pub AreFew : World → Type 0
+AreFew w = length w.names < greatest_number
+
+space_fits : (w : World) (text : List ℕ) → AreFew w → IfSome (space_of_token w.names text) Fits
+space_fits w text few =
+    cond_both (bytes_eq text (codes "init")) (Some 0) (option_or (number_named 1 w.names text) (hash_number text))
+    (λ o. IfSome o Fits)
+    (λ _. omega arith)
+    (λ _. if_either Fits (number_named 1 w.names text) (hash_number text)
+    (IfSome_then (number_named 1 w.names text) (named_within 1 w.names text) (λ n below. omega arith))
+    (hash_fits text))
+
+-- ---- files
+-- what is found is in the list
+found_within : {A : Type 0} (p : A → Bool) (n : ℕ) (xs : List A) (i : ℕ) → position_from p n xs ≡ Some i
+    → i < n + length xs
+found_within p n [] i is = absurd (cc)
+found_within p n (x ∷ xs) i is =
+    elim (cases_Bool (p x)) [
+      | inl here ↦ let same : n ≡ i = same_Some n i (rw here at is) in omega arith
+      | inr later ↦ let below : i < n + 1 + length xs = found_within p (n + 1) xs i (rw later at is) in omega arith
+    ]
+
+ref_declared : (files : FileTable) (row : Option ℕ) → ((n : ℕ) → row ≡ Some n → n < length files.rows)
+    → IsDeclared files (ref_of row)
+ref_declared files None within = tt
+ref_declared files (Some n) within = within n refl
+
+pub named_declared : (files : FileTable) (path : List ℕ) → IsDeclared files (file_named files path)
+named_declared files path =
+    ref_declared files (row_named files.rows path)
+    (λ n is. let below : n < 0 + length files.rows =
+    found_within (λ row. bytes_eq row.path path) 0 files.rows n
+    (sym (position_from-zero (λ row. bytes_eq row.path path) files.rows) ∙ is) in
+    omega arith)
+
+file_declared : (files : FileTable) (text : List ℕ) → IfSome (file_token files text) (IsDeclared files)
+file_declared files text =
+    let named : Option FileRef = if is_path text then Some (file_named files text) else None in
+    let IsGood : Option FileRef → Type 0 = λ o. IfSome o (IsDeclared files) in
+    cond_both (bytes_eq text (codes "-")) (Some Plain) named IsGood
+    (λ _. tt)
+    (λ _. cond_both (is_path text) (Some (file_named files text)) None IsGood (λ _. named_declared files text)
+    (λ _. tt))
+
+-- ---- arguments
+argument_fits : (w : World) (form : Form) (text : List ℕ) → AreFew w → IfSome (argument_token w form text) (IsInRange w)
+argument_fits w AnId text few = if_mapped Fits (IsInRange w) Id (id_token text) (id_fits text) (λ n fits. fits)
+argument_fits w ANumber text few =
+    if_mapped Fits (IsInRange w) Number (number_token text) (number_fits text) (λ n fits. fits)
+argument_fits w ACap text few = if_mapped Fits (IsInRange w) Cap (cap_token text) (cap_fits text) (λ n fits. fits)
+argument_fits w ASet text few = if_mapped IsCapSet (IsInRange w) Set (set_of_text text) (text_is text) (λ n is. is)
+argument_fits w ASpace text few =
+    if_mapped Fits (IsInRange w) Space (space_of_token w.names text) (space_fits w text few) (λ n fits. fits)
+argument_fits w AWord text few =
+    if_mapped (λ deny. Unit {0}) (IsInRange w) Word (word_token text)
+    (if_there (λ deny. Unit {0}) (word_token text) (λ deny _. tt)) (λ deny _. tt)
+argument_fits w AFile text few =
+    if_mapped (IsDeclared w.files) (IsInRange w) File (file_token w.files text) (file_declared w.files text)
+    (λ file is. is)
+
+-- one argument more before others
+before_fits : (w : World) (number : ℕ) (first : Option Argument) (rest : Result (List Argument) ℕ) (arguments : List Argument)
+    → IfSome first (IsInRange w) → ((more : List Argument) → rest ≡ Ok more → All (IsInRange w) more)
+    → argument_before number first rest ≡ Ok arguments → All (IsInRange w) arguments
+before_fits w number None rest arguments one others is = absurd (cc)
+before_fits w number (Some argument) (Err n) arguments one others is = absurd (cc)
+before_fits w number (Some argument) (Ok more) arguments one others is =
+    let same : argument ∷ more ≡ arguments = cc in subst (All (IsInRange w)) same
+    (All-cons (IsInRange w) argument more one (others more refl))
+
+pub arguments_fit : (w : World) (pattern : Pattern) (place : ℕ) (tokens : Tokens) (arguments : List Argument) → AreFew w
+    → arguments_from w pattern place tokens ≡ Ok arguments → All (IsInRange w) arguments
+arguments_fit w pattern place [] arguments few is =
+    let same : [] ≡ arguments = cc in subst (All (IsInRange w)) same (All-nil (IsInRange w))
+arguments_fit w pattern place (token ∷ tokens) arguments few is =
+    before_fits w (place + 1) (argument_token w (form_at pattern place) token)
+    (arguments_from w pattern (place + 1) tokens) arguments
+    (argument_fits w (form_at pattern place) token few)
+    (λ more there. arguments_fit w pattern (place + 1) tokens more few there) is
+
+-- ---- calls
+-- The call is of the kind, and has these arguments.
+pub record IsMade (kind : CallKind) (arguments : List Argument) (call : Call) : Type 0 where
+  pub is : kind_of call ≡ kind
+  pub from : arguments_of call ≡ arguments
+
+-- so is each call that is made
+abbrev pub Makes : CallKind → List Argument → Option Call → Type 0
+Makes kind arguments made = IfSome made (IsMade kind arguments)
+
+of_id : (kind : CallKind) (make : ℕ → Call) → ((a : ℕ) → IsMade kind (Id a ∷ []) (make a)) → (arguments : List Argument)
+    → Makes kind arguments (with_id make arguments)
+of_id kind make each (Id a ∷ []) = each a
+of_id kind make each _ = tt
+
+of_two : (kind : CallKind) (make : ℕ → ℕ → Call) → ((a b : ℕ) → IsMade kind (Id a ∷ Id b ∷ []) (make a b))
+    → (arguments : List Argument)
+    → Makes kind arguments (with_two_ids make arguments)
+of_two kind make each (Id a ∷ Id b ∷ []) = each a b
+of_two kind make each _ = tt
+
+of_three : (kind : CallKind) (make : ℕ → ℕ → ℕ → Call)
+    → ((a b c : ℕ) → IsMade kind (Id a ∷ Id b ∷ Id c ∷ []) (make a b c))
+    → (arguments : List Argument) → Makes kind arguments (with_three_ids make arguments)
+of_three kind make each (Id a ∷ Id b ∷ Id c ∷ []) = each a b c
+of_three kind make each _ = tt
+
+of_sets : (kind : CallKind) (make : ℕ → ℕ → ℕ → Call)
+    → ((a b c : ℕ) → IsMade kind (Set a ∷ Set b ∷ Set c ∷ []) (make a b c))
+    → (arguments : List Argument) → Makes kind arguments (with_sets make arguments)
+of_sets kind make each (Set a ∷ Set b ∷ Set c ∷ []) = each a b c
+of_sets kind make each _ = tt
+
+of_cap : (kind : CallKind) (make : ℕ → Call) → ((a : ℕ) → IsMade kind (Cap a ∷ []) (make a))
+    → (arguments : List Argument)
+    → Makes kind arguments (with_cap make arguments)
+of_cap kind make each (Cap a ∷ []) = each a
+of_cap kind make each _ = tt
+
+of_number : (kind : CallKind) (make : ℕ → Call) → ((a : ℕ) → IsMade kind (Number a ∷ []) (make a))
+    → (arguments : List Argument)
+    → Makes kind arguments (with_number make arguments)
+of_number kind make each (Number a ∷ []) = each a
+of_number kind make each _ = tt
+
+of_space : (kind : CallKind) (make : ℕ → Call) → ((a : ℕ) → IsMade kind (Space a ∷ []) (make a))
+    → (arguments : List Argument)
+    → Makes kind arguments (with_space make arguments)
+of_space kind make each (Space a ∷ []) = each a
+of_space kind make each _ = tt
+
+of_file : (kind : CallKind) (make : FileRef → Call) → ((a : FileRef) → IsMade kind (File a ∷ []) (make a))
+    → (arguments : List Argument)
+    → Makes kind arguments (with_file make arguments)
+of_file kind make each (File a ∷ []) = each a
+of_file kind make each _ = tt
+
+of_word : (kind : CallKind) (make : ℕ → Bool → Call)
+    → ((a : ℕ) (b : Bool) → IsMade kind (Space a ∷ Word b ∷ []) (make a b))
+    → (arguments : List Argument) → Makes kind arguments (with_word make arguments)
+of_word kind make each (Space a ∷ Word b ∷ []) = each a b
+of_word kind make each _ = tt
+
+of_none : (kind : CallKind) (call : Call) → IsMade kind [] call → (arguments : List Argument)
+    → Makes kind arguments (with_none call arguments)
+of_none kind call is [] = is
+of_none kind call is (argument ∷ arguments) = tt
+
+-- ids, and triples of numbers, are those that they are read from
+ids_are : (arguments : List Argument) → IfSome (ids_in arguments) (λ ids. map Id ids ≡ arguments)
+ids_are [] = refl
+ids_are (Id n ∷ more) =
+    if_mapped (λ ids. map Id ids ≡ more) (λ ids. map Id ids ≡ Id n ∷ more) (λ (ids : List ℕ). n ∷ ids) (ids_in more)
+    (ids_are more)
+    (λ ids same. ap (λ (list : List Argument). Id n ∷ list) same)
+ids_are (_ ∷ more) = tt
+
+extents_are : (arguments : List Argument) → IfSome (extents_in arguments) (λ list. flat_map triple_of list ≡ arguments)
+extents_are [] = refl
+extents_are (Number i ∷ Number o ∷ Number n ∷ more) =
+    if_mapped (λ list. flat_map triple_of list ≡ more)
+    (λ list. flat_map triple_of list ≡ Number i ∷ Number o ∷ Number n ∷ more)
+    (λ (list : List Extent). record { inside = i; outside = o; length = n } ∷ list) (extents_in more) (extents_are more)
+    (λ list same. ap (λ (others : List Argument). Number i ∷ Number o ∷ Number n ∷ others) same)
+extents_are _ = tt
+
+of_ids : (kind : CallKind) (make : List ℕ → Call) → ((ids : List ℕ) → IsMade kind (map Id ids) (make ids))
+    → (arguments : List Argument)
+    → Makes kind arguments (with_ids make arguments)
+of_ids kind make each arguments =
+    if_mapped (λ ids. map Id ids ≡ arguments) (IsMade kind arguments) make (ids_in arguments) (ids_are arguments)
+    (λ ids same. subst (λ (list : List Argument). IsMade kind list (make ids)) same (each ids))
+
+of_extents : (kind : CallKind) (make : ℕ → List Extent → Call)
+    → ((a : ℕ) (list : List Extent) → IsMade kind (Space a ∷ flat_map triple_of list) (make a list))
+    → (arguments : List Argument) → Makes kind arguments (with_extents make arguments)
+of_extents kind make each (Space a ∷ more) =
+    if_mapped (λ list. flat_map triple_of list ≡ more) (IsMade kind (Space a ∷ more)) (make a) (extents_in more)
+    (extents_are more)
+    (λ list same. subst (λ (others : List Argument). IsMade kind (Space a ∷ others) (make a list)) same (each a list))
+of_extents kind make each _ = tt
+
+pub calls_made : (kind : CallKind) (arguments : List Argument) → Makes kind arguments (call_with kind arguments)
+calls_made kind.SetUid arguments = of_id kind.SetUid model.SetUid (λ a. record { is = refl; from = refl }) arguments
+calls_made kind.SetReUid arguments =
+    of_two kind.SetReUid model.SetReUid (λ a b. record { is = refl; from = refl }) arguments
+calls_made kind.SetResUid arguments =
+    of_three kind.SetResUid model.SetResUid (λ a b c. record { is = refl; from = refl }) arguments
+calls_made kind.SetFsUid arguments =
+    of_id kind.SetFsUid model.SetFsUid (λ a. record { is = refl; from = refl }) arguments
+calls_made kind.SetGid arguments = of_id kind.SetGid model.SetGid (λ a. record { is = refl; from = refl }) arguments
+calls_made kind.SetReGid arguments =
+    of_two kind.SetReGid model.SetReGid (λ a b. record { is = refl; from = refl }) arguments
+calls_made kind.SetResGid arguments =
+    of_three kind.SetResGid model.SetResGid (λ a b c. record { is = refl; from = refl }) arguments
+calls_made kind.SetFsGid arguments =
+    of_id kind.SetFsGid model.SetFsGid (λ a. record { is = refl; from = refl }) arguments
+calls_made kind.SetGroups arguments =
+    of_ids kind.SetGroups model.SetGroups (λ ids. record { is = refl; from = refl }) arguments
+calls_made kind.CapSet arguments =
+    of_sets kind.CapSet model.CapSet (λ a b c. record { is = refl; from = refl }) arguments
+calls_made kind.BsetDrop arguments =
+    of_cap kind.BsetDrop model.BsetDrop (λ a. record { is = refl; from = refl }) arguments
+calls_made kind.AmbRaise arguments =
+    of_cap kind.AmbRaise model.AmbRaise (λ a. record { is = refl; from = refl }) arguments
+calls_made kind.AmbLower arguments =
+    of_cap kind.AmbLower model.AmbLower (λ a. record { is = refl; from = refl }) arguments
+calls_made kind.AmbClear arguments = of_none kind.AmbClear model.AmbClear (record { is = refl; from = refl }) arguments
+calls_made kind.SecureBits arguments =
+    of_number kind.SecureBits model.SecureBits (λ a. record { is = refl; from = refl }) arguments
+calls_made kind.KeepCaps arguments =
+    of_number kind.KeepCaps model.KeepCaps (λ a. record { is = refl; from = refl }) arguments
+calls_made kind.NoNewPrivs arguments =
+    of_number kind.NoNewPrivs model.NoNewPrivs (λ a. record { is = refl; from = refl }) arguments
+calls_made kind.Fork arguments = of_none kind.Fork model.Fork (record { is = refl; from = refl }) arguments
+calls_made kind.CloneUser arguments =
+    of_none kind.CloneUser model.CloneUser (record { is = refl; from = refl }) arguments
+calls_made kind.Unshare arguments = of_none kind.Unshare model.Unshare (record { is = refl; from = refl }) arguments
+calls_made kind.SetNs arguments = of_space kind.SetNs model.SetNs (λ a. record { is = refl; from = refl }) arguments
+calls_made kind.WriteUidMap arguments =
+    of_extents kind.WriteUidMap model.WriteUidMap (λ a list. record { is = refl; from = refl }) arguments
+calls_made kind.WriteGidMap arguments =
+    of_extents kind.WriteGidMap model.WriteGidMap (λ a list. record { is = refl; from = refl }) arguments
+calls_made kind.WriteSetgroups arguments =
+    of_word kind.WriteSetgroups model.WriteSetgroups (λ a b. record { is = refl; from = refl }) arguments
+calls_made kind.Exec arguments = of_file kind.Exec model.Exec (λ a. record { is = refl; from = refl }) arguments
+calls_made kind.Exit arguments = of_none kind.Exit model.Exit (record { is = refl; from = refl }) arguments
+
+-- What a call that is told is: of the kind, its arguments in their ranges.
+pub record IsCallOf (w : World) (kind : CallKind) (call : Call) : Type 0 where
+  pub is : kind_of call ≡ kind
+  pub fit : All (IsInRange w) (arguments_of call)
+
+pub made_fits : (w : World) (kind : CallKind) (arguments : List Argument) (call : Call) → All (IsInRange w) arguments
+    → IsMade kind arguments call
+    → IsCallOf w kind call
+made_fits w kind arguments call fit made = record { is = made.is; fit = subst (All (IsInRange w)) (sym made.from) fit }
+
+-- the call of arguments that are read
+read_fits : (w : World) (kind : CallKind) (read : Result (List Argument) ℕ) (call : Call)
+    → ((arguments : List Argument) → read ≡ Ok arguments → All (IsInRange w) arguments)
+    → call_read kind read ≡ Ok call → IsCallOf w kind call
+read_fits w kind (Err n) call fit is = absurd (cc)
+read_fits w kind (Ok arguments) call fit is = by_made (call_with kind arguments) (calls_made kind arguments) is
+  where
+    by_made : (made : Option Call) → Makes kind arguments made → ok_or made fault.Count ≡ Ok call → IsCallOf w kind call
+    by_made None makes never = absurd (cc)
+    by_made (Some other) makes same =
+        let is_it : other ≡ call = cc in subst (IsCallOf w kind) is_it
+        (made_fits w kind arguments other (fit arguments refl) makes)
+
+told_fits : (w : World) (kind : CallKind) (tokens : Tokens) (call : Call) → AreFew w → call_told w kind tokens ≡ Ok call
+    → IsCallOf w kind call
+told_fits w kind tokens call few is =
+    elim (cases_Bool (takes (pattern_of kind) (length tokens))) [
+      | inl counted ↦ read_fits w kind (arguments_from w (pattern_of kind) 0 tokens) call
+          (λ arguments there. arguments_fit w (pattern_of kind) 0 tokens arguments few there) (rw counted at is)
+      | inr other ↦ absurd (cc (rw other at is))
+    ]
+
+-- ---- results
+outcome_may : (text : List ℕ) → IfSome (result_token text) IsOutcome
+outcome_may text =
+    cond_both (bytes_eq text (codes "0")) (Some res.Done) (option_map res.Err (errno_of text)) (λ o. IfSome o IsOutcome)
+    (λ _. tt)
+    (λ _. if_mapped (λ e. Unit {0}) IsOutcome res.Err (errno_of text)
+    (if_there (λ e. Unit {0}) (errno_of text) (λ e _. tt)) (λ e _. tt))
+
+birth_may : (text : List ℕ) → IfSome (birth_token text) IsBirth
+birth_may text =
+    if_either IsBirth (option_map res.Child (pid_token text)) (option_map res.Err (errno_of text))
+    (if_mapped (λ n. IsTrue (is_pid n)) IsBirth res.Child (pid_token text) (pid_is text) (λ n is. is))
+    (if_mapped (λ e. Unit {0}) IsBirth res.Err (errno_of text) (if_there (λ e. Unit {0}) (errno_of text) (λ e _. tt))
+    (λ e _. tt))
+
+old_id_may : (text : List ℕ) → IfSome (old_id_token text) IsOldId
+old_id_may text = if_mapped Fits IsOldId res.Id (number_token text) (number_fits text) (λ n fits. fits)
+
+done_may : (text : List ℕ) → IfSome (done_token text) (λ answer. answer ≡ res.Done)
+done_may text =
+    cond_both (bytes_eq text (codes "0")) (Some res.Done) None (λ o. IfSome o (λ answer. answer ≡ res.Done)) (λ _. refl)
+    (λ _. tt)
+
+result_may : (kind : CallKind) (text : List ℕ) → IfSome (result_of_kind kind text) (MayAnswer kind)
+result_may kind.SetFsUid text = old_id_may text
+result_may kind.SetFsGid text = old_id_may text
+result_may kind.Fork text = birth_may text
+result_may kind.CloneUser text = birth_may text
+result_may kind.Exit text = done_may text
+result_may _ text = outcome_may text
+
+-- ---- spaces of which this isn't known
+-- the numbers of the spaces among the arguments are at most this
+abbrev pub SpacesWithin : ℕ → List Argument → Type 0
+SpacesWithin most [] = Unit {0}
+SpacesWithin most (Space n ∷ arguments) = (n ≤ most) × SpacesWithin most arguments
+SpacesWithin most (_ ∷ arguments) = SpacesWithin most arguments
+
+-- they are numbers of 32 bits
+abbrev pub SpacesFit : List Argument → Type 0
+SpacesFit arguments = SpacesWithin greatest_number arguments
+
+-- The event is writable, where those that it names have such numbers.
+abbrev pub CanWrite : World → Event → Type 0
+CanWrite w e = SpacesFit (arguments_of e.call) → IsWritable w e
+
+-- ---- lines
+-- each event that the line tells is writable
+TellsWritable : World → Line → Type 0
+TellsWritable w line = (e : Event) → line ≡ Tells e → IsWritable w e
+
+silent : (w : World) (line : Line) → ((e : Event) → line ≡ Tells e → ⊥) → TellsWritable w line
+unfolding TellsWritable
+silent w line never e is = absurd (never e is)
+
+tells_it : (w : World) (e : Event) → IsWritable w e → TellsWritable w (Tells e)
+unfolding TellsWritable
+tells_it w e can other is = let same : e ≡ other = cc in subst (IsWritable w) same can
+
+line_writable : (w : World) (pid : ℕ) (kind : CallKind) (call : Call) (answer : Option Res) → IsTrue (is_pid pid)
+    → IsCallOf w kind call
+    → IfSome answer (MayAnswer kind) → TellsWritable w (told_line pid call answer)
+line_writable w pid kind call None is fits may = silent w (Faulty fault.Outcome) (λ e is. absurd (cc))
+line_writable w pid kind call (Some answer) is fits may =
+    cond_both (groups_fit call) (Tells (record { pid = pid; call = call; res = answer })) (Exceeds limit.Groups)
+    (TellsWritable w)
+    (λ fit. tells_it w (record { pid = pid; call = call; res = answer })
+    (record {
+      pid = is;
+      arguments = fits.fit;
+      groups = fit;
+      result = subst (λ (k : CallKind). MayAnswer k answer)
+          (sym fits.is) may;
+    }))
+    (λ _. silent w (Exceeds limit.Groups) (λ e is. absurd (cc)))
+
+outcome_writable : (w : World) (pid : ℕ) (kind : CallKind) (told : Result Call LineFault) (text : List ℕ)
+    → IsTrue (is_pid pid)
+    → ((call : Call) → told ≡ Ok call → IsCallOf w kind call) → TellsWritable w (outcome_line pid kind told text)
+outcome_writable w pid kind (Err why) text is fits = silent w (Faulty why) (λ e is. absurd (cc))
+outcome_writable w pid kind (Ok call) text is fits =
+    line_writable w pid kind call (result_of_kind kind text) is (fits call refl) (result_may kind text)
+
+parts_writable : (w : World) (pid : ℕ) (kind : CallKind) (parts : Option Parts) → AreFew w → IsTrue (is_pid pid)
+    → TellsWritable w (parts_line w pid kind parts)
+parts_writable w pid kind None few is = silent w (Faulty fault.Shape) (λ e is. absurd (cc))
+parts_writable w pid kind (Some parts) few is =
+    outcome_writable w pid kind (call_told w kind parts.arguments) parts.outcome is
+    (λ call told. told_fits w kind parts.arguments call few told)
+
+kind_writable : (w : World) (pid : ℕ) (kind : Option CallKind) (tokens : Tokens) → AreFew w → IsTrue (is_pid pid)
+    → TellsWritable w (kind_line w pid kind tokens)
+kind_writable w pid None tokens few is = silent w (Faulty fault.Call) (λ e is. absurd (cc))
+kind_writable w pid (Some kind) tokens few is = parts_writable w pid kind (parts_of tokens) few is
+
+call_writable : (w : World) (pid : ℕ) (tokens : Tokens) → AreFew w → IsTrue (is_pid pid)
+    → TellsWritable w (call_line w pid tokens)
+call_writable w pid [] few is = silent w (Faulty fault.Call) (λ e is. absurd (cc))
+call_writable w pid (name ∷ tokens) few is = kind_writable w pid (kind_named name) tokens few is
+
+pid_writable : (w : World) (pid : Option ℕ) (tokens : Tokens) → AreFew w → IfSome pid (λ n. IsTrue (is_pid n))
+    → TellsWritable w (pid_line w pid tokens)
+pid_writable w None tokens few is = silent w (Faulty fault.Pid) (λ e is. absurd (cc))
+pid_writable w (Some pid) tokens few is = call_writable w pid tokens few is
+
+tokens_writable : (w : World) (tokens : Tokens) → AreFew w → TellsWritable w (tokens_line w tokens)
+tokens_writable w [] few = silent w NoEvent (λ e is. absurd (cc))
+tokens_writable w (first ∷ tokens) few =
+    cond_both (is_comment first) NoEvent (pid_line w (pid_token first) tokens) (TellsWritable w)
+    (λ _. silent w NoEvent (λ e is. absurd (cc)))
+    (λ _. pid_writable w (pid_token first) tokens few (pid_is first))
+
+pub told_is_writable : (w : World) (line : List ℕ) (e : Event) → AreFew w → script_line w line ≡ Tells e
+    → IsWritable w e
+unfolding TellsWritable
+told_is_writable w line e few is = tokens_writable w (tokens_of line) few e is
+
+-- a world that a text declares has few spaces
+pub few_names : (bytes : List ℕ) (w : World) → world_text bytes ≡ Reads w → AreFew w
+few_names bytes w reads =
+    let few : length w.names + 1 ≤ limit_number limit.Spaces = start_names bytes w reads in omega arith
+
+pub told_are_writable : ToldAreWritable
+unfolding ToldAreWritable
+told_are_writable bytes w line e reads told = told_is_writable w line e (few_names bytes w reads) told
+
+pub told_read_back : ToldReadBack
+unfolding ToldReadBack LinesReadBack ToldAreWritable
+told_read_back bytes w line e reads told = lines_read_back bytes w e reads (told_are_writable bytes w line e reads told)
