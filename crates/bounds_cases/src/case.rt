@@ -2,9 +2,10 @@
 use crate::stop::Stop;
 use cm_base::Pid;
 use cm_box::{Bounds, BoxRow, Rows};
+use cm_declared::World;
 use cm_filter::Filter;
 use cm_state::State;
-use cm_world::{World, read_world};
+use cm_world::read_world;
 use std::alloc::Global;
 
 #[derive(Drop)]

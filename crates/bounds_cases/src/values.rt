@@ -4,7 +4,7 @@ use cm_base::{Cap, Kgid, Kuid, Pid, SpaceId, read_u32};
 use cm_idset::IdSet;
 use cm_sets::{CapSet, SetLike};
 use cm_state::Right;
-use cm_values::read_cap_text;
+use cm_tokens::read_cap_text;
 use std::alloc::Global;
 
 // A number of at most 4294967295.

@@ -7,10 +7,11 @@ use crate::shown::all_shown;
 use crate::stop::Stop;
 use cm_base::{Pid, Res};
 use cm_credentials::credentials;
+use cm_declared::World;
 use cm_exec::may_exec;
 use cm_setid::set_groups;
 use cm_state::{Call, Procs, Spaces, State};
-use cm_world::{World, read_world};
+use cm_world::read_world;
 use std::alloc::Global;
 
 #[derive(Drop)]

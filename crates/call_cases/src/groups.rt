@@ -2,7 +2,7 @@
 use crate::stop::Stop;
 use crate::values::number;
 use cm_base::{Kgid, NoMemory};
-use cm_script::numbers::{put, put_decimal};
+use cm_tokens::{put, put_decimal};
 use std::alloc::Global;
 
 // The ids from that number down to 1, and then these.

@@ -6,10 +6,10 @@ use crate::stop::Stop;
 use crate::strace::what_is_told;
 use crate::values;
 use cm_base::Res;
-use cm_script::numbers::put;
+use cm_declared::World;
 use cm_script::{put_res, read_line};
 use cm_state::Event;
-use cm_world::World;
+use cm_tokens::put;
 use std::alloc::Global;
 
 // A case, and what is told so far.

@@ -2,10 +2,10 @@
 ghost use Rattle.std.specs.Prelude.{◌<◌, length};
 
 use cm_base::{NoMemory, SpaceId};
+use cm_declared::{Names, put_space};
 use cm_idmap::{Extent, IdMap};
-use cm_script::numbers::{put, put_decimal, put_space};
 use cm_state::Spaces;
-use cm_values::Names;
+use cm_tokens::{put, put_decimal};
 use std::alloc::Global;
 
 // Each space that stands.

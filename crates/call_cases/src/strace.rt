@@ -1,9 +1,9 @@
 // What lines of strace(1) tell, as text.
 use crate::stop::Stop;
 use cm_base::Pid;
+use cm_declared::World;
 use cm_strace_calls::{Told, read_call};
 use cm_strace_text::next_argument;
-use cm_world::World;
 use std::alloc::Global;
 
 // What a line of a process tells, without its pid.

@@ -1,9 +1,9 @@
 // Values as the lines of cases write them. What is none is bad.
 use crate::stop::Stop;
 use cm_base::{Cap, Kgid, Kuid, Pid, read_u32};
+use cm_declared::Names;
 use cm_script::read_pid;
 use cm_state::Right;
-use cm_values::Names;
 
 // A number of at most 4294967295.
 pub(crate) fn number(word: &str) -> Result<u32, Stop> {

@@ -6,7 +6,7 @@ ghost use Rattle.cm_base.specs.Limited.{limit_number};
 ghost use Rattle.cm_base.specs.Outcome.{OrNoMemory};
 ghost use Rattle.model_run.specs.Never.{MountsStand, NeverHeld};
 ghost use Rattle.cm_state.specs.Right.{right_of};
-ghost use Rattle.cm_world.specs.World.{world_of};
+ghost use Rattle.cm_declared.specs.World.{world_of};
 ghost use Rattle.model_box.specs.Meets.{IsOverStanding};
 ghost use Rattle.model_cred.specs.Process.{is_alive};
 ghost use Rattle.model_plans.specs.PlanRun.{first_found};
@@ -15,12 +15,12 @@ ghost use Rattle.model_verdict.specs.InWorld.{each_may, ExcludedIn, FoundIn, Ope
 
 use crate::{AuditRefusal, Verdict};
 use cm_base::{Limited, NoMemory, Pid};
+use cm_declared::World;
 use cm_files::see_files;
 use cm_machine::Machine;
 use cm_maker::{Bounded, decide};
 use cm_plans::first_found;
 use cm_state::{Right, Spaces, State, see_state};
-use cm_world::World;
 use std::alloc::Global;
 
 /// The verdict on a right of the family of a process: by calls that the world's filter permits, can a member, or any

@@ -14,8 +14,8 @@ use Rattle.cm_replay.specs.declared.replay.Replay.{Replay}
 use Rattle.cm_cli.specs.LogReport.{log_report, answer_to}
 use Rattle.cm_report.proofs.Told.{of_report}
 use Rattle.cm_report.specs.Telling.{IsOfReport}
-use Rattle.cm_world.specs.World.{world_of}
-use Rattle.cm_world.specs.declared.world.World as code
+use Rattle.cm_declared.specs.World.{world_of}
+use Rattle.cm_declared.specs.declared.world.World as code
 use Rattle.model_box.proofs.Grows.{run_grows}
 use Rattle.model_cred.specs.Call.{Event}
 use Rattle.model_cred.specs.Process.{Process, State}

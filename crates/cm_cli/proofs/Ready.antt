@@ -11,8 +11,8 @@ use Rattle.cm_cli.specs.declared.reading.Unready.{Unready}
 use Rattle.cm_cli.specs.declared.reading.Unready.TheVariants as unready
 use Rattle.cm_report.specs.declared.short.Short.{Short}
 use Rattle.cm_report.specs.declared.short.Short.TheVariants as short
-use Rattle.cm_world.specs.World.{world_of}
-use Rattle.cm_world.specs.declared.world.World as code
+use Rattle.cm_declared.specs.World.{world_of}
+use Rattle.cm_declared.specs.declared.world.World as code
 use Rattle.model_cred.specs.Process.{State}
 use Rattle.model_report.proofs.Statuses.{of_size, not_above, is_above}
 use Rattle.model_report.specs.Given.{FilesGive}

@@ -2,8 +2,8 @@
 use Rattle.std.specs.Prelude.{◌≡◌, ℕ, List, [], ◌++◌, Option, Some}
 use Rattle.cm_base.specs.declared.status.Status.{Status}
 use Rattle.cm_base.specs.declared.status.Status.TheVariants as answers
-use Rattle.cm_world.specs.World.{world_of}
-use Rattle.cm_world.specs.declared.world.World.{World}
+use Rattle.cm_declared.specs.World.{world_of}
+use Rattle.cm_declared.specs.declared.world.World.{World}
 use Rattle.model_cred.specs.Process.{State}
 use Rattle.model_cred.specs.World as model
 use Rattle.model_report.specs.Answer.{answer}

@@ -5,8 +5,8 @@ use Rattle.std.specs.declared.alloc.Global.{Global}
 use Rattle.cm_base.specs.Limited.{limit_number}
 use Rattle.cm_base.specs.declared.limited.Limited.{Limited}
 use Rattle.cm_base.specs.declared.limited.Limited.TheVariants as limit
-use Rattle.cm_world.specs.World.{world_of}
-use Rattle.cm_world.specs.declared.world.World as code
+use Rattle.cm_declared.specs.World.{world_of}
+use Rattle.cm_declared.specs.declared.world.World as code
 use Rattle.cm_cli.specs.LogReport.{log_report, WorldGives}
 use Rattle.cm_cli.specs.declared.reading.Unready.{Unready}
 use Rattle.cm_cli.specs.declared.reading.Unready.TheVariants as unready

@@ -4,7 +4,7 @@ ghost use Rattle.cm_audit.specs.Told.{told, verdict_in};
 ghost use Rattle.cm_base.specs.Outcome.{OrNoMemory};
 ghost use Rattle.cm_cli.specs.LogReport.{answer_to, IsPut};
 ghost use Rattle.cm_cli.specs.Query.{query_view, query_if};
-ghost use Rattle.cm_world.specs.World.{world_of};
+ghost use Rattle.cm_declared.specs.World.{world_of};
 ghost use Rattle.model_report.specs.Answer.{answer, verdict_report};
 ghost use Rattle.model_report.specs.Given.{StateGives};
 ghost use Rattle.model_report.specs.Query.{asked_process};
@@ -16,11 +16,11 @@ use crate::answers::{put_bad_query, put_run, put_undecided, put_yes};
 use crate::query::{Query, read_right};
 use cm_audit::{AuditRefusal, Verdict, audit};
 use cm_base::{Limited, NoMemory, Pid, Status};
+use cm_declared::World;
 use cm_machine::Machine;
 use cm_report::put_limit;
 use cm_script::read_pid;
 use cm_state::{Spaces, State};
-use cm_world::World;
 use std::alloc::Global;
 
 /// Where an audit is asked: the machine after the log, in its world.

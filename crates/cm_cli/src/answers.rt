@@ -3,7 +3,7 @@ ghost use Rattle.std.specs.Prelude.{◌≡◌, ◌++◌, [], ◌∷◌, codes, m
 ghost use Rattle.cm_base.specs.Outcome.{OrNoMemory};
 ghost use Rattle.cm_cli.specs.LogReport.{IsPut};
 ghost use Rattle.cm_maker.specs.Sweeping.{blame_told};
-ghost use Rattle.cm_world.specs.World.{world_of};
+ghost use Rattle.cm_declared.specs.World.{world_of};
 ghost use Rattle.model_box.specs.Row.{row_at};
 ghost use Rattle.model_report.specs.Answer.{bad_query, blamed_rule, row_text, run_lines, undecided_text};
 ghost use Rattle.model_report.specs.Replay.{text_of, at_line, Plain};
@@ -11,11 +11,10 @@ ghost use Rattle.model_text.specs.Print.{event_text};
 
 use cm_base::{NoMemory, Pid, SpaceId, Status};
 use cm_box::Rule;
-use cm_script::numbers::{put, put_decimal, put_space};
+use cm_declared::{Names, World, put_space};
 use cm_script::put_line;
 use cm_state::{Event, Spaces};
-use cm_values::Names;
-use cm_world::World;
+use cm_tokens::{put, put_decimal};
 
 /// No member ever holds the right.
 pub(crate) fn put_yes(text: &mut Vec<u8>) -> Result<(), NoMemory>

@@ -4,8 +4,8 @@ ghost use Rattle.cm_state.specs.Right.{right_of};
 ghost use Rattle.model_report.specs.Query.{rest_after, id_number, cap_text, right_token};
 
 use cm_base::{Cap, Kgid, Kuid, read_u32};
+use cm_declared::Names;
 use cm_state::Right;
-use cm_values::Names;
 
 /// The words of a query.
 #[derive(Clone, Copy, Debug)]

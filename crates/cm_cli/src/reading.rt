@@ -3,16 +3,17 @@ ghost use Rattle.std.specs.Prelude.{◌≡◌, ◌≢◌, ◌≤◌, ◌⊎◌, 
 ghost use Rattle.cm_cli.specs.Reading.{IsWorldRead, IsLogRead, IsReady, FileFaults, FilesFaults, WorldStands, TakesFor, ReadsFor, unready_by};
 ghost use Rattle.cm_io.specs.Shelf.{bytes_at, Rose, TakesAtMost, ReadsOnly};
 ghost use Rattle.cm_base.specs.Limited.{limit_number};
-ghost use Rattle.cm_world.specs.World.{world_of};
+ghost use Rattle.cm_declared.specs.World.{world_of};
 ghost use Rattle.model_cred.specs.World.{KeepsWorld};
 ghost use Rattle.model_report.specs.Replay.{IsWithin};
 ghost use Rattle.model_report.specs.Query.{Query};
 ghost use Rattle.model_verdict.specs.Verdict.{Verdict};
 
 use cm_base::Limited;
+use cm_declared::World;
 use cm_io::{Shelf, WholeError, read_whole};
 use cm_report::Short;
-use cm_world::{World, WorldError, read_world};
+use cm_world::{WorldError, read_world};
 use std::alloc::Global;
 
 /// Why there is nothing to replay: a report of one piece tells it, a read failed, or there was no memory.

@@ -6,7 +6,7 @@ ghost use Rattle.cm_cli.specs.Query.{query_if};
 ghost use Rattle.cm_io.specs.Sink.{WriteFaults};
 ghost use Rattle.cm_report.specs.Sent.{IsSent, IsFront};
 ghost use Rattle.cm_report.specs.Telling.{TellsReport, CountsWrites};
-ghost use Rattle.cm_world.specs.World.{world_of};
+ghost use Rattle.cm_declared.specs.World.{world_of};
 ghost use Rattle.model_cred.specs.World.{KeepsWorld};
 ghost use Rattle.model_report.specs.Replay.{text_of, IsWithin};
 ghost use Rattle.model_verdict.specs.Verdict.{Verdict};
@@ -14,11 +14,11 @@ ghost use Rattle.model_verdict.specs.Verdict.{Verdict};
 use crate::answer::{Asked, put_answer};
 use crate::query::Query;
 use cm_base::{Limited, NoMemory, Status};
+use cm_declared::World;
 use cm_io::{Outside, Sink};
 use cm_log::Log;
 use cm_replay::{Replay, replay_log, send_start};
 use cm_report::{send, stopped};
-use cm_world::World;
 use std::alloc::Global;
 
 /// Tells the report of a log in a world, and after an accepted log the answer to what is asked: with whatever verdict is

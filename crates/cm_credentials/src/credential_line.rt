@@ -5,9 +5,9 @@ ghost use Rattle.model_text.specs.Print.{credential_line, ids_text, groups_text,
 ghost use Rattle.model_text.specs.SpaceToken.{space_token};
 
 use cm_base::{Kgid, NoMemory, Pid, SpaceId};
-use cm_script::numbers::{put, put_decimal, put_hex2, put_hex16, put_space};
+use cm_declared::{World, put_space};
 use cm_state::{Cred, FourIds};
-use cm_world::World;
+use cm_tokens::{put, put_decimal, put_hex2, put_hex16};
 use std::alloc::Global;
 
 /// The credential line of a process of that pid in that user namespace, without LF: the namespace by its name in the world,

@@ -3,14 +3,14 @@ ghost use Rattle.std.specs.Prelude.{◌≡◌, ◌≤◌, ◌<◌, ◌^◌, leng
 ghost use Rattle.cm_base.specs.Outcome.{OrNoMemory};
 ghost use Rattle.cm_log.specs.Left.{CanGoOn, left};
 ghost use Rattle.cm_log.specs.Next.{IsNext};
-ghost use Rattle.cm_world.specs.World.{world_of};
+ghost use Rattle.cm_declared.specs.World.{world_of};
 ghost use Rattle.model_strace.specs.Logs.{log_reading};
 
 use crate::next::Next;
 use crate::script::ScriptLog;
 use crate::strace::StraceLog;
 use cm_base::NoMemory;
-use cm_world::{LogForm, World};
+use cm_declared::{LogForm, World};
 use std::alloc::Global;
 
 /// What is left of a log, from a line on, in the form that its world declares.

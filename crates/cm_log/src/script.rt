@@ -4,18 +4,18 @@ ghost use Rattle.cm_base.specs.Outcome.{OrNoMemory};
 ghost use Rattle.cm_log.specs.Left.{script_left};
 ghost use Rattle.cm_log.specs.Next.{IsNext};
 ghost use Rattle.cm_script.specs.Lines.{IsRead};
-ghost use Rattle.cm_world.specs.World.{world_of};
+ghost use Rattle.cm_declared.specs.World.{world_of};
 ghost use Rattle.model_cred.specs.World as model;
 ghost use Rattle.model_text.specs.Reading.{script_reading, log_line};
 
 use crate::limits::LINE_LIMIT;
 use crate::next::Next;
 use cm_base::{Limited, NoMemory};
+use cm_declared::World;
 use cm_script::{LineError, read_line};
 use cm_state::Event;
 use cm_strace::{Placed, Stop};
 use cm_tokens::next_line;
-use cm_world::World;
 use std::alloc::Global;
 
 /// What is left of a script log: its text from a line on, which has that number.

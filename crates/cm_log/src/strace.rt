@@ -3,7 +3,7 @@ ghost use Rattle.std.specs.Prelude.{◌≡◌, ◌<◌, ◌^◌, [], ◌∷◌, 
 ghost use Rattle.cm_base.specs.Outcome.{OrNoMemory};
 ghost use Rattle.cm_log.specs.Left.{StraceCanGoOn, phase_by, strace_left, steps_left};
 ghost use Rattle.cm_log.specs.Next.{IsNext};
-ghost use Rattle.cm_world.specs.World.{world_of};
+ghost use Rattle.cm_declared.specs.World.{world_of};
 ghost use Rattle.model_strace.specs.Lines.{strace_reading};
 ghost use Rattle.model_strace.specs.Rest.{first_session};
 ghost use Rattle.model_text.specs.Cut.{lines_of};
@@ -11,9 +11,9 @@ ghost use Rattle.model_text.specs.Cut.{lines_of};
 use crate::limits::LINE_LIMIT;
 use crate::next::Next;
 use cm_base::{Limited, NoMemory};
+use cm_declared::World;
 use cm_strace::{Placed, Stop, Tracer};
 use cm_tokens::next_line;
-use cm_world::World;
 use std::alloc::Global;
 
 /// Whether a log is still read, or how its reading ended.

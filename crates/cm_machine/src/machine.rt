@@ -5,7 +5,7 @@ ghost use Rattle.cm_base.specs.Outcome.{OrNoMemory, UnchangedOnErr};
 ghost use Rattle.cm_base.specs.declared.errno.Errno.{Errno};
 ghost use Rattle.cm_machine.specs.Outcomes.{IsOwn, IsNoAnswer, takes_memory};
 ghost use Rattle.cm_state.specs.Call.{call_of};
-ghost use Rattle.cm_world.specs.World.{world_of};
+ghost use Rattle.cm_declared.specs.World.{world_of};
 ghost use Rattle.model_run.specs.Family.{family};
 ghost use Rattle.model_run.specs.Step as outcome;
 ghost use Rattle.model_cred.specs.Process.{process_at, is_alive};
@@ -17,8 +17,8 @@ use crate::naming::names_no_space;
 use crate::own::make_own;
 use crate::step::take_step;
 use cm_base::{NoMemory, Pid, Res};
+use cm_declared::World;
 use cm_state::{Call, Event, State};
-use cm_world::World;
 use std::alloc::Global;
 
 /// The machine: the state that it is in.

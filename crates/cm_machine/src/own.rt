@@ -5,7 +5,7 @@ ghost use Rattle.cm_base.specs.Outcome.{OrNoMemory, UnchangedOnErr};
 ghost use Rattle.cm_machine.specs.Asking.{OfCaller};
 ghost use Rattle.cm_machine.specs.Outcomes.{takes_memory};
 ghost use Rattle.cm_state.specs.Call.{call_of};
-ghost use Rattle.cm_world.specs.World.{world_of};
+ghost use Rattle.cm_declared.specs.World.{world_of};
 ghost use Rattle.model_run.specs.Ruling.{own};
 ghost use Rattle.model_run.specs.Step.{names_no_space};
 
@@ -13,8 +13,8 @@ use crate::births::own_pid;
 use crate::change::keep;
 use crate::ruling::{Asked, ask};
 use cm_base::{NoMemory, Res};
+use cm_declared::World;
 use cm_state::{Call, State};
-use cm_world::World;
 use std::alloc::Global;
 
 /// Makes the call of the process at this place, and says what the rules answer.

@@ -12,7 +12,7 @@ ghost use Rattle.cm_machine.specs.declared.change.Change.TheVariants as change;
 ghost use Rattle.cm_nscalls.specs.Answers.{res_of, stored_list};
 ghost use Rattle.cm_nscalls.specs.File.{file_of};
 ghost use Rattle.cm_state.specs.Call.{call_of};
-ghost use Rattle.cm_world.specs.World.{world_of};
+ghost use Rattle.cm_declared.specs.World.{world_of};
 ghost use Rattle.model_cred.specs.Process.{Process, is_alive};
 ghost use Rattle.model_rules.specs.Maps.{write_map};
 ghost use Rattle.model_rules.specs.SetGroups.{setgroups};
@@ -25,6 +25,7 @@ use cm_base::{Errno, NoMemory, Pid, Res};
 use cm_capcalls::{
     amb_clear, amb_lower, amb_raise, bset_drop, cap_set, keep_caps, no_new_privs, secure_bits,
 };
+use cm_declared::World;
 use cm_exec::exec;
 use cm_idmap::Extent;
 use cm_nscalls::{MapFile, Write, map_to_store, may_join, may_make, may_write_word};
@@ -33,7 +34,6 @@ use cm_setid::{
     set_uid,
 };
 use cm_state::{Call, Cred, Groups, Proc, Space, Spaces, State};
-use cm_world::World;
 use std::alloc::Global;
 use std::mem;
 

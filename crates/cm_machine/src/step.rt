@@ -4,7 +4,7 @@ ghost use Rattle.cm_base.specs.Limits.{greatest_number};
 ghost use Rattle.cm_base.specs.Outcome.{UnchangedOnErr};
 ghost use Rattle.cm_machine.specs.Asking.{OfCaller};
 ghost use Rattle.cm_machine.specs.Outcomes.{Becomes, takes_memory};
-ghost use Rattle.cm_world.specs.World.{world_of};
+ghost use Rattle.cm_declared.specs.World.{world_of};
 ghost use Rattle.model_cred.specs.Process.{Ascends};
 ghost use Rattle.model_run.specs.Step.{outcome, is_living_child, names_no_space as model_names_no_space, told_call};
 
@@ -16,8 +16,8 @@ use crate::outside::from_outside;
 use crate::ruling::{Asked, ask};
 use crate::same::is_same;
 use cm_base::Res;
+use cm_declared::World;
 use cm_state::{Event, Procs, State};
-use cm_world::World;
 use std::alloc::Global;
 
 /// Makes the step of an event, or says why it is none.

@@ -7,8 +7,8 @@ use Rattle.cm_plans.specs.Ready.{IsAbout}
 use Rattle.cm_plans.specs.declared.query.Query.{Query}
 use Rattle.cm_state.specs.Right.{right_of}
 use Rattle.cm_state.specs.declared.right.Right.{Right as CodeRight}
-use Rattle.cm_world.specs.World.{world_of}
-use Rattle.cm_world.specs.declared.world.World.{World as CodeWorld}
+use Rattle.cm_declared.specs.World.{world_of}
+use Rattle.cm_declared.specs.declared.world.World.{World as CodeWorld}
 use Rattle.model_cred.specs.Process.{State, process_at}
 use Rattle.model_cred.specs.Right.{Right}
 use Rattle.model_cred.specs.World.{World}

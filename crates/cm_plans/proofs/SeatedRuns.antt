@@ -5,7 +5,7 @@ use Rattle.cm_plans.specs.Moves.{setting}
 use Rattle.cm_plans.specs.Turns.{IsRunOf}
 use Rattle.cm_plans.specs.declared.query.Query.{Query}
 use Rattle.cm_state.specs.Right.{right_of}
-use Rattle.cm_world.specs.World.{world_of}
+use Rattle.cm_declared.specs.World.{world_of}
 use Rattle.model_cred.specs.Call.{Event}
 use Rattle.model_cred.specs.Process.{Process, State, process_at}
 use Rattle.model_cred.specs.Space.{Spaces}

@@ -4,8 +4,8 @@ use Rattle.cm_filter.specs.Filters.{permits}
 use Rattle.cm_plans.specs.declared.query.Query.{Query}
 use Rattle.cm_state.specs.Right.{right_of}
 use Rattle.cm_state.specs.declared.right.Right.{Right}
-use Rattle.cm_world.specs.World.{world_of}
-use Rattle.cm_world.specs.declared.world.World.{World}
+use Rattle.cm_declared.specs.World.{world_of}
+use Rattle.cm_declared.specs.declared.world.World.{World}
 use Rattle.model_cred.specs.Call.{Event}
 use Rattle.model_cred.specs.Process.{State, process_at}
 use Rattle.model_plans.specs.PlanRun.{Found, first_found}

@@ -4,7 +4,7 @@ use Rattle.cm_plans.specs.Ways.{AreWays}
 use Rattle.cm_plans.specs.declared.query.Query.{Query}
 use Rattle.cm_state.specs.Right.{right_of}
 use Rattle.cm_state.specs.declared.right.Right.{Right}
-use Rattle.cm_world.specs.declared.world.World.{World}
+use Rattle.cm_declared.specs.declared.world.World.{World}
 use Rattle.model_cred.specs.Process.{State}
 use Rattle.model_cred.specs.Space.{IsTree, KeepsSpace}
 use Rattle.model_plans.specs.Plan.{special_rows}

@@ -13,9 +13,9 @@ use crate::runs::run_of;
 use crate::seat::Seat;
 use crate::walk::find_moves;
 use cm_base::{NoMemory, Pid};
+use cm_declared::World;
 use cm_machine::Machine;
 use cm_state::{Event, Right, State};
-use cm_world::World;
 use std::alloc::Global;
 use std::marker::Model;
 

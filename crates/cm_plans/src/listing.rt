@@ -23,7 +23,7 @@ impl<'a> Model for Plans<'a> {
     ghost use Rattle.cm_plans.specs.Ready.{IsReady};
     ghost use Rattle.cm_plans.specs.Turns.{TurnStands};
     ghost use Rattle.cm_state.specs.Right.{right_of};
-    ghost use Rattle.cm_world.specs.World.{world_of};
+    ghost use Rattle.cm_declared.specs.World.{world_of};
 
     ghost Value = { PlansLeft };
 

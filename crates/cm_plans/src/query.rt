@@ -8,8 +8,8 @@ ghost use Rattle.cm_state.specs.Right.{right_of};
 use crate::special::special_rows;
 use crate::ways::{Way, ways_to};
 use cm_base::{NoMemory, SpaceId};
+use cm_declared::World;
 use cm_state::{Right, Spaces, State, see_state};
-use cm_world::World;
 use std::alloc::Global;
 
 // The declared files and the calls that the filter permits, the spaces, and the right that is sought; and what is

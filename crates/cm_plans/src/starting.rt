@@ -2,7 +2,7 @@
 ghost use Rattle.std.specs.Prelude.{◌≡◌};
 ghost use Rattle.cm_base.specs.Outcome.{OrNoMemory};
 ghost use Rattle.cm_state.specs.Right.{right_of};
-ghost use Rattle.cm_world.specs.World.{world_of};
+ghost use Rattle.cm_declared.specs.World.{world_of};
 ghost use Rattle.model_plans.specs.Plan.{plans as model_plans};
 
 use crate::cursor::Cursor;
@@ -10,9 +10,9 @@ use crate::listing::Plans;
 use crate::query::Query;
 use crate::turn::turn_with;
 use cm_base::{NoMemory, Pid};
+use cm_declared::World;
 use cm_machine::Machine;
 use cm_state::Right;
-use cm_world::World;
 use std::alloc::Global;
 
 /// The whole list of plans that the members have in the machine's state, none of them given yet. A space that the right

@@ -7,19 +7,19 @@ ghost use Rattle.cm_report.specs.Sent.{IsSent, IsFront};
 ghost use Rattle.cm_io.specs.Sink.{WriteFaults};
 ghost use Rattle.cm_log.specs.Left.{CanGoOn, left};
 ghost use Rattle.cm_strace.specs.Answers.{ending_is};
-ghost use Rattle.cm_world.specs.World.{world_of};
+ghost use Rattle.cm_declared.specs.World.{world_of};
 ghost use Rattle.model_report.specs.Causes.{RunWithin};
 ghost use Rattle.model_report.specs.Replay.{text_of, by_end, exceeded, IsWithin};
 ghost use Rattle.model_run.specs.Step.{outcome};
 ghost use Rattle.model_text.specs.Reading.{events_of};
 
 use cm_base::{Limited, NoMemory, Status};
+use cm_declared::World;
 use cm_io::{Outside, Sink};
 use cm_log::{Log, Next, Placed, Stop};
 use cm_machine::Machine;
 use cm_report::{put_bad_log, put_end, put_impossible, put_limit, put_step, send_full};
 use cm_state::State;
-use cm_world::World;
 use std::alloc::Global;
 
 /// Where a replay stands: the machine after the events so far, and how many these are.

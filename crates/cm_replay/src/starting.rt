@@ -2,15 +2,15 @@
 ghost use Rattle.std.specs.Prelude.{◌≡◌, ◌++◌, map, OnOk, OnErr};
 ghost use Rattle.cm_io.specs.Sink.{WriteFaults};
 ghost use Rattle.cm_report.specs.Sent.{IsSent, IsFront};
-ghost use Rattle.cm_world.specs.World.{world_of};
+ghost use Rattle.cm_declared.specs.World.{world_of};
 ghost use Rattle.model_report.specs.Replay.{Credentials, text_of};
 ghost use Rattle.model_report.specs.Report.{start_lines};
 
 use cm_base::NoMemory;
+use cm_declared::World;
 use cm_io::{Outside, Sink};
 use cm_report::{put_process, send_full};
 use cm_state::Proc;
-use cm_world::World;
 
 /// The credential lines of the processes with which the world begins. They go through the buffer `text` to the sink in large
 /// pieces; at `Ok` the rest of them waits in the buffer, after an error a front of them is written.

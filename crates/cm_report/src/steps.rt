@@ -1,17 +1,17 @@
 // The lines of an event that is a step: the event with the number of its line, and credential lines.
 ghost use Rattle.std.specs.Prelude.{◌≡◌, ◌++◌, [], ◌∷◌};
 ghost use Rattle.cm_base.specs.Outcome.{OrNoMemory};
-ghost use Rattle.cm_world.specs.World.{world_of};
+ghost use Rattle.cm_declared.specs.World.{world_of};
 ghost use Rattle.model_cred.specs.Process.{process_at};
 ghost use Rattle.model_report.specs.Replay.{text_of, step_lines, child_lines, credentials_if, Credentials, Told};
 
 use cm_base::{NoMemory, Pid, Res};
 use cm_credentials::put_credentials;
+use cm_declared::World;
 use cm_log::Placed;
-use cm_script::numbers::{put, put_decimal};
 use cm_script::put_line;
 use cm_state::{Proc, State};
-use cm_world::World;
+use cm_tokens::{put, put_decimal};
 
 /// The lines of a step to the state: the event, the caller's credentials where it lives on, and those of a child that was
 /// born.

@@ -8,8 +8,8 @@ ghost use Rattle.model_run.specs.Step.{Wrong};
 
 use cm_base::{Limited, LineFault, NoMemory, Res, Table, WorldFault};
 use cm_machine::StepError;
-use cm_script::numbers::{put, put_decimal};
 use cm_script::put_res;
+use cm_tokens::{put, put_decimal};
 
 const USAGE: &[u8] = b"usage: credaudit replay WORLD LOG
 usage: credaudit audit WORLD LOG PID RIGHT

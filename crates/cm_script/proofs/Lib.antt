@@ -2,6 +2,5 @@
 pub mod Items
 pub mod Telling
 pub mod CapNumbers
-pub mod HexDigits
 pub mod Outcomes
 pub mod CallNames

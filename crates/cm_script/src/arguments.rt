@@ -9,9 +9,9 @@ ghost use Rattle.model_text.specs.Token.{number_token, id_token, cap_token, word
 use crate::files::read_file;
 use crate::parts::next_argument;
 use cm_base::{CapWord, FileRef, LineFault, SpaceId};
+use cm_declared::Names;
 use cm_files::FileTable;
-use cm_tokens::{read_cap, read_id, read_number, read_word};
-use cm_values::{Names, read_cap_text};
+use cm_tokens::{read_cap, read_cap_text, read_id, read_number, read_word};
 
 /// An id.
 #[inline]

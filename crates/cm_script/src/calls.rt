@@ -4,7 +4,7 @@ ghost use Rattle.cm_base.specs.declared.faults.LineFault.TheVariants.{Count};
 ghost use Rattle.cm_script.specs.Lines.{IsTold};
 ghost use Rattle.cm_script.specs.Steps.{arguments_in, and_make, three_told, ids_told, told};
 ghost use Rattle.cm_state.specs.Call.{call_of};
-ghost use Rattle.cm_world.specs.World.{world_of};
+ghost use Rattle.cm_declared.specs.World.{world_of};
 ghost use Rattle.model_cred.specs.Call as model;
 ghost use Rattle.model_cred.specs.World as worlds;
 ghost use Rattle.model_text.specs.Arguments.{pattern_of, takes};
@@ -18,9 +18,9 @@ use crate::arguments::{
 use crate::error::LineError;
 use crate::lists::{read_extents, read_ids};
 use cm_base::LineFault;
+use cm_declared::World;
 use cm_filter::CallKind;
 use cm_state::{Call, Extents, Ids};
-use cm_world::World;
 use std::alloc::Global;
 
 // A call of that kind may have so many arguments.

@@ -4,10 +4,9 @@ ghost use Rattle.cm_base.specs.Outcome.{OrNoMemory};
 ghost use Rattle.cm_script.specs.Paths.{declared_path};
 ghost use Rattle.model_text.specs.Token.{file_text, file_token};
 
-use crate::numbers::put;
 use cm_base::{FileRef, NoMemory};
 use cm_files::{FileRow, FileTable};
-use cm_values::is_path;
+use cm_tokens::{is_path, put};
 
 /// The file that a token stands for: the plain one for `-`, and for a path that isn't declared. None exactly where the token
 /// is neither `-` nor a path.

@@ -1,6 +1,6 @@
 //! Script lines, the text form of logs: `read_line` makes an event of a line, or answers why it can't (`LineError`), and
 //! `put_line` writes an event as a line. What a line stands for, and how an event is written, is in
-//! model_text/specs (Line, Arguments, Token, Print). `numbers` writes the pieces of which other lines are made too.
+//! model_text/specs (Line, Arguments, Token, Print).
 #![tactic(auto)]
 
 mod arguments;
@@ -9,7 +9,6 @@ mod error;
 mod files;
 mod laws;
 mod lists;
-pub mod numbers;
 mod parts;
 mod reading;
 mod results;

@@ -3,7 +3,7 @@ ghost use Rattle.std.specs.Prelude.{◌≡◌, ◌≢◌, ◌^◌, ◌<◌, Some
 ghost use Rattle.cm_script.specs.Lines.{IsRead};
 ghost use Rattle.cm_script.specs.Steps.{arguments_in};
 ghost use Rattle.cm_state.specs.Call.{call_of};
-ghost use Rattle.cm_world.specs.World.{world_of};
+ghost use Rattle.cm_declared.specs.World.{world_of};
 ghost use Rattle.model_text.specs.Cut.{tokens_of};
 ghost use Rattle.model_text.specs.Line.{script_line, call_line, kind_line, outcome_line, groups_fit};
 
@@ -12,10 +12,10 @@ use crate::error::LineError;
 use crate::parts::find_parts;
 use crate::results::read_result;
 use cm_base::{Limited, LineFault, Pid};
+use cm_declared::World;
 use cm_filter::CallKind;
 use cm_state::{Call, Event};
 use cm_tokens::{begins_comment, next_token, read_pid};
-use cm_world::World;
 use std::alloc::Global;
 
 /// The event that a line of a script log tells; None for a blank line and for a comment. The error is `Bad` exactly where the

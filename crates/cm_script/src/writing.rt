@@ -2,7 +2,7 @@
 ghost use Rattle.std.specs.Prelude.{◌≡◌, ◌<◌, ◌∷◌, ◌++◌, [], SomeIff, decimal, flat_map, map};
 ghost use Rattle.cm_base.specs.Outcome.{OrNoMemory};
 ghost use Rattle.cm_state.specs.Call.{call_of};
-ghost use Rattle.cm_world.specs.World.{world_of};
+ghost use Rattle.cm_declared.specs.World.{world_of};
 ghost use Rattle.model_text.specs.Arguments.{Id, arguments_of, spaced_texts, triple_of};
 ghost use Rattle.model_text.specs.Hex.{hex_set};
 ghost use Rattle.model_text.specs.Print.{call_text, event_text};
@@ -10,13 +10,12 @@ ghost use Rattle.model_text.specs.SpaceToken.{space_token};
 ghost use Rattle.model_text.specs.Token.{cap_name_or_number, file_text, id_text, res_text, word_text};
 
 use crate::files::put_file;
-use crate::numbers::{put, put_decimal, put_hex16, put_id, put_space};
 use cm_base::{CAP_COUNT, Cap, CapWord, FileRef, NoMemory, Res, SpaceId};
+use cm_declared::{Names, World, put_space};
 use cm_files::FileTable;
 use cm_idmap::Extent;
 use cm_state::{Call, Event};
-use cm_values::Names;
-use cm_world::World;
+use cm_tokens::{put, put_decimal, put_hex16, put_id};
 use std::alloc::Global;
 
 /// The event as a script line, without LF: a space by its name in the world, a file by its path there. Its only error is want

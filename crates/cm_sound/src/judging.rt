@@ -6,16 +6,16 @@ ghost use Rattle.cm_box.specs.declared.rules.Rule.{Rule};
 ghost use Rattle.cm_sound.specs.Judged.{IsFirstOpenIn, IsFirstMetIn, Excludes};
 ghost use Rattle.cm_sound.specs.Never.{MountsStand, NeverHeld};
 ghost use Rattle.cm_state.specs.Right.{right_of};
-ghost use Rattle.cm_world.specs.World.{world_of};
+ghost use Rattle.cm_declared.specs.World.{world_of};
 ghost use Rattle.model_box.specs.Meets.{IsOverStanding};
 
 use crate::Checked;
 use cm_base::Pid;
 use cm_box::{Bounds, closed, covers_start, meets};
+use cm_declared::World;
 use cm_files::see_files;
 use cm_machine::Machine;
 use cm_state::{Right, see_state};
-use cm_world::World;
 
 /// Whether the bounds show that the members never hold the right, by calls that the world's filter permits. The answer
 /// is the first of these, in this order, that stands: `NotStart` with the first row that lacks what the start bounds

@@ -3,16 +3,17 @@
 ghost use Rattle.std.specs.Prelude.{◌≡◌, length, IfOk};
 ghost use Rattle.cm_base.specs.Outcome.{OrNoMemory};
 ghost use Rattle.cm_sound.specs.Never.{MountsStand};
-ghost use Rattle.cm_world.specs.World.{world_of};
+ghost use Rattle.cm_declared.specs.World.{world_of};
 
 use crate::{Checked, check};
 use cm_base::{Cap, CapWord, Kuid, NoMemory, Pid, SpaceId};
 use cm_box::{Bounds, BoxRow, Rows, Rule};
+use cm_declared::World;
 use cm_idset::IdSet;
 use cm_machine::Machine;
 use cm_sets::{CapSet, Flag, RevFlag};
 use cm_state::Right;
-use cm_world::{World, read_world};
+use cm_world::read_world;
 use std::alloc::Global;
 use std::test::Fail;
 

@@ -5,7 +5,7 @@ ghost use Rattle.cm_base.specs.Outcome.{OrNoMemory};
 ghost use Rattle.cm_strace.specs.Drafts.{work_of};
 ghost use Rattle.cm_strace.specs.Given.{after_is};
 ghost use Rattle.cm_strace.specs.Works.{concluded, uses};
-ghost use Rattle.cm_world.specs.World.{world_of};
+ghost use Rattle.cm_declared.specs.World.{world_of};
 ghost use Rattle.model_strace.specs.After.{preceded};
 ghost use Rattle.model_strace.specs.Rest.{released};
 
@@ -14,8 +14,8 @@ use crate::deed::{Given, Origin, Step};
 use crate::placed::{Placed, Stop};
 use crate::waiting::Waiting;
 use cm_base::{NoMemory, Pid};
+use cm_declared::World;
 use cm_strace_parts::Parts;
-use cm_world::World;
 use std::alloc::Global;
 
 /// What is known, the held lines, which stand where they are held, and how many lines came.

@@ -2,7 +2,7 @@
 ghost use Rattle.std.specs.Prelude.{◌≡◌, ◌+◌, ◌≤◌, length};
 ghost use Rattle.cm_base.specs.Limits.{greatest_number};
 ghost use Rattle.cm_base.specs.Outcome.{OrNoMemory};
-ghost use Rattle.cm_world.specs.World.{world_of};
+ghost use Rattle.cm_declared.specs.World.{world_of};
 ghost use Rattle.model_strace.specs.Lines.{at_end};
 ghost use Rattle.model_strace.specs.Rest.{work_end};
 
@@ -11,8 +11,8 @@ use crate::line::Line;
 use crate::placed::Fed;
 use crate::work::Work;
 use cm_base::NoMemory;
+use cm_declared::World;
 use cm_strace_parts::Parts;
-use cm_world::World;
 use std::alloc::Global;
 
 /// What the log's end gives. Its only error is want of memory.

@@ -6,7 +6,7 @@ ghost use Rattle.cm_base.specs.Limits.{greatest_number};
 ghost use Rattle.cm_base.specs.Outcome.{OrNoMemory};
 ghost use Rattle.cm_strace.specs.Given.{given_is};
 ghost use Rattle.cm_strace.specs.Taken.{NextFlag, untaken, waits_before};
-ghost use Rattle.cm_world.specs.World.{world_of};
+ghost use Rattle.cm_declared.specs.World.{world_of};
 ghost use Rattle.model_strace.specs.After.{preceded};
 ghost use Rattle.model_strace.specs.Lines.{is_line_of, read_line};
 ghost use Rattle.model_strace.specs.Rest.{without_first};
@@ -16,8 +16,8 @@ use crate::deed::{Given, Origin};
 use crate::placed::Placed;
 use crate::step::read_step;
 use cm_base::{NoMemory, Pid};
+use cm_declared::World;
 use cm_strace_parts::Parts;
-use cm_world::World;
 use std::alloc::Global;
 use std::marker::Model;
 

@@ -7,7 +7,7 @@ ghost use Rattle.cm_strace.specs.Deeds.{begun_text, step_is, Waits};
 ghost use Rattle.cm_strace.specs.Heard.{heard_turn};
 ghost use Rattle.cm_strace_calls.specs.Told.{listed_is};
 ghost use Rattle.cm_strace_text.specs.Lines.{body_is};
-ghost use Rattle.cm_world.specs.World.{world_of};
+ghost use Rattle.cm_declared.specs.World.{world_of};
 ghost use Rattle.model_cred.specs.World as model;
 ghost use Rattle.model_strace.specs.Calls.{call_told, listed_told};
 ghost use Rattle.model_strace.specs.Parts as known;
@@ -17,10 +17,10 @@ ghost use Rattle.model_strace.specs.Turn.{Quiet, begins, body_turn, resumes, tol
 use crate::deed::{Act, Deed, Step};
 use crate::told::take;
 use cm_base::{LineFault, NoMemory, Pid};
+use cm_declared::World;
 use cm_strace_calls::{Listed, named_call, read_call, read_named};
 use cm_strace_parts::Parts;
 use cm_strace_text::{Body, call_name, ends_name, read_body, without_32};
-use cm_world::World;
 use std::alloc::Global;
 
 /// What a body tells, before anything that is known is looked at: nothing, a call that is read, an end, or a part of a

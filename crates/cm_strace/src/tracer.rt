@@ -5,7 +5,7 @@ ghost use Rattle.cm_base.specs.Outcome.{OrNoMemory, UnchangedOnErr};
 ghost use Rattle.cm_strace.specs.Answers.{stop_is, reading_is};
 ghost use Rattle.cm_strace.specs.Stages.{session_is, stage_after, stage_ended};
 ghost use Rattle.cm_strace.specs.Works.{uses};
-ghost use Rattle.cm_world.specs.World.{world_of};
+ghost use Rattle.cm_declared.specs.World.{world_of};
 ghost use Rattle.model_strace.specs.Body.{row_of};
 ghost use Rattle.model_strace.specs.Counts.{spaces_counted};
 ghost use Rattle.model_strace.specs.Lines.{reading};
@@ -18,7 +18,7 @@ use crate::placed::{Fed, Placed, Stop};
 use crate::stage::Stage;
 use crate::work::Work;
 use cm_base::NoMemory;
-use cm_world::World;
+use cm_declared::World;
 use std::alloc::Global;
 use std::marker::Model;
 

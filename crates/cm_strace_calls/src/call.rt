@@ -4,7 +4,7 @@ ghost use Rattle.cm_base.specs.Outcome.{OrNoMemory};
 ghost use Rattle.cm_strace_calls.specs.Told.{listed_is, told_is};
 ghost use Rattle.cm_strace_text.specs.Depths.{arguments_in};
 ghost use Rattle.cm_strace_values.specs.Outcomes.{outcome_is};
-ghost use Rattle.cm_world.specs.World.{world_of};
+ghost use Rattle.cm_declared.specs.World.{world_of};
 ghost use Rattle.model_strace.specs.Calls.{call_told, listed_named, listed_told, outcome_told, returned};
 ghost use Rattle.model_strace.specs.Outcome.{outcome_of};
 ghost use Rattle.model_strace.specs.Written.{arguments_of, call_name};
@@ -18,9 +18,9 @@ use crate::listed::{Listed, begins_unread};
 use crate::told::Told;
 use crate::{caps, exec, groups, ids, prctl};
 use cm_base::{LineFault, NoMemory, Pid};
+use cm_declared::World;
 use cm_strace_text::{Written, call_name, read_arguments, read_written};
 use cm_strace_values::{Outcome, birth_flags, read_outcome};
-use cm_world::World;
 use std::alloc::Global;
 
 /// The call that a text names. None exactly where it isn't read; most of these texts are told by their first byte.

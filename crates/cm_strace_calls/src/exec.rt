@@ -4,16 +4,16 @@ ghost use Rattle.cm_base.specs.Outcome.{OrNoMemory};
 ghost use Rattle.cm_strace_calls.specs.Told.{told_is};
 ghost use Rattle.cm_strace_text.specs.Depths.{arguments_in};
 ghost use Rattle.cm_strace_values.specs.Outcomes.{outcome_is};
-ghost use Rattle.cm_world.specs.World.{world_of};
+ghost use Rattle.cm_declared.specs.World.{world_of};
 ghost use Rattle.model_strace.specs.Calls.{execve_told, execve_at, execveat_told, file_quoted};
 
 use crate::arguments::{argument, deciding};
 use crate::told::Told;
 use cm_base::{FileRef, LineFault, NoMemory};
+use cm_declared::World;
 use cm_state::Call;
 use cm_strace_text::read_quote;
 use cm_strace_values::Outcome;
-use cm_world::World;
 use std::alloc::Global;
 
 /// A line of execve, whose path is the argument of that number.

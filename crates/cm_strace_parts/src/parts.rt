@@ -2,7 +2,7 @@
 ghost use Rattle.std.specs.Prelude.{◌≡◌, ◌<◌, length, option_map};
 ghost use Rattle.cm_base.specs.Limits.{greatest_number};
 ghost use Rattle.cm_base.specs.Outcome.{OrNoMemory, UnchangedOnErr};
-ghost use Rattle.cm_world.specs.World.{world_of};
+ghost use Rattle.cm_declared.specs.World.{world_of};
 ghost use Rattle.model_strace.specs.Parts.{first_parts, task_of, is_known, space_of, shares_files, moved};
 ghost use Rattle.model_strace.specs.Parts.{moved_to_new, kept_of, keeping, without_kept, without_any_kept};
 ghost use Rattle.model_strace.specs.Parts.{descriptor_of, has_descriptor, without_descriptor, with_descriptor};
@@ -14,7 +14,7 @@ use crate::kept::Kept;
 use crate::task::Task;
 use crate::{files, kept, ordered, task};
 use cm_base::{NoMemory, Pid, SpaceId};
-use cm_world::World;
+use cm_declared::World;
 use std::alloc::Global;
 use std::marker::Model;
 

@@ -1,5 +1,7 @@
 -- Lemmas of this crate, by topic.
+pub mod CapTexts
+pub mod Cuts
 pub mod FirstLine
 pub mod FirstToken
-pub mod Cuts
+pub mod HexDigits
 pub mod Options

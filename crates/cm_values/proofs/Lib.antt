@@ -1,6 +1,4 @@
 -- Lemmas of this crate, by topic.
-pub mod CapTexts
-pub mod FirstPlaces
 pub mod Fours
+pub mod Members
 pub mod Paths
-pub mod SpaceNames

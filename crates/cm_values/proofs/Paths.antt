@@ -2,7 +2,7 @@
 use Rattle.std.proofs.Common.{◌≡◌, ℕ, List, is_some, sym}
 use Rattle.std.specs.Prelude.{bytes_eq}
 use Rattle.cm_files.specs.Fault.{has_path}
-use Rattle.cm_values.proofs.FirstPlaces.{any_placed}
+use Rattle.cm_declared.proofs.FirstPlaces.{any_placed}
 use Rattle.model_cred.specs.Files.{FileRow, row_named}
 
 -- one of the rows has the path exactly where there is a first one that has it

@@ -1,3 +1,4 @@
--- What the readers of a row's values answer, and words on id maps.
+-- The keys of the code as those of the definitions, what the readers of rows and of their values answer, and words on id maps.
+pub mod Keys
 pub mod Answers
 pub mod MountMaps

@@ -16,9 +16,9 @@ ghost use Rattle.model_text.specs.Toml.{text_of};
 ghost use Rattle.toml.specs.Data.{get_member};
 ghost use Rattle.toml.specs.View.{table_view};
 
+use crate::{RowError, text_at};
 use cm_base::{NoMemory, WorldFault, read_octal};
 use cm_files::FileRow;
-use cm_rows::{RowError, text_at};
 use cm_vfscap::{FileCaps, read};
 use hex::{FromHexError, decode};
 use std::alloc::Global;

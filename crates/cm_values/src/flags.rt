@@ -4,8 +4,8 @@ ghost use Rattle.model_text.specs.Toml.{flag_of, number_or};
 ghost use Rattle.toml.specs.Data.{get_member};
 ghost use Rattle.toml.specs.View.{table_view};
 
+use crate::{flag_at, number_or};
 use cm_base::SecBits;
-use cm_rows::{flag_at, number_or};
 use toml::Table;
 
 /// The greatest number of securebits: eight flags (capabilities(7)).

@@ -9,8 +9,8 @@ ghost use Rattle.model_text.specs.Toml.{array_items};
 ghost use Rattle.toml.specs.Data.{get_member};
 ghost use Rattle.toml.specs.View.{items_view, table_view, view};
 
+use crate::{LAST_ID, items_at, number_from, value_at};
 use cm_base::{Kgid, NoMemory};
-use cm_rows::{LAST_ID, items_at, number_from, value_at};
 use cm_state::{FourIds, Groups};
 use std::alloc::Global;
 use toml::{Table, Value};

@@ -6,9 +6,9 @@ ghost use Rattle.model_text.specs.MapText.{is_bad_map, map_at, stored_under};
 ghost use Rattle.model_text.specs.Refusal.{Fault};
 ghost use Rattle.toml.specs.View.{table_view};
 
+use crate::{RowError, extents_at};
 use cm_base::WorldFault;
 use cm_idmap::{BadMap, Extent, IdMap};
-use cm_rows::{RowError, extents_at};
 use std::alloc::Global;
 use toml::Table;
 

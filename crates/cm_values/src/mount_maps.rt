@@ -9,11 +9,11 @@ ghost use Rattle.model_text.specs.MountText.{both_maps};
 ghost use Rattle.model_text.specs.Refusal.{Fault};
 ghost use Rattle.toml.specs.View.{table_view};
 
+use crate::RowError;
 use crate::maps::map_at;
 use cm_base::NoMemory;
 use cm_files::MapPair;
 use cm_idmap::IdMap;
-use cm_rows::RowError;
 use std::alloc::Global;
 use toml::Table;
 

@@ -3,9 +3,9 @@ ghost use Rattle.std.specs.Prelude.{◌≡◌, ◌≤◌, IfSome, length, option
 ghost use Rattle.model_text.specs.MountText.{space_of_row};
 ghost use Rattle.toml.specs.View.{table_view};
 
-use crate::Names;
+use crate::text_or;
 use cm_base::SpaceId;
-use cm_rows::text_or;
+use cm_declared::Names;
 use toml::Table;
 
 /// The space that a row names, the initial one where it names none. None where no space has that name.

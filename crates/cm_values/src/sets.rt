@@ -3,11 +3,11 @@ ghost use Rattle.std.specs.Prelude.{◌≡◌};
 ghost use Rattle.model_text.specs.ProcessText as model;
 ghost use Rattle.toml.specs.View.{table_view};
 
-use crate::cap_text::read_cap_text;
 use crate::ids::ids_at;
+use crate::text_at;
 use cm_base::CapWord;
-use cm_rows::text_at;
 use cm_state::FourIds;
+use cm_tokens::read_cap_text;
 use std::marker::Model;
 use toml::Table;
 

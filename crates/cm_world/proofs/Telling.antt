@@ -8,11 +8,11 @@ use Rattle.cm_base.specs.declared.faults.Table.TheVariants as table
 use Rattle.cm_base.specs.declared.faults.WorldFault.{WorldFault}
 use Rattle.cm_base.specs.declared.faults.WorldFault.TheVariants.{Toml}
 use Rattle.cm_base.specs.declared.limited.Limited.{Limited}
-use Rattle.cm_tables.specs.declared.error.WorldError.{WorldError}
-use Rattle.cm_tables.specs.declared.error.WorldError.TheVariants as error
+use Rattle.cm_world.specs.declared.error.WorldError.{WorldError}
+use Rattle.cm_world.specs.declared.error.WorldError.TheVariants as error
 use Rattle.cm_world.specs.Answers.{IsAnswer}
-use Rattle.cm_world.specs.World.{world_of}
-use Rattle.cm_world.specs.declared.world.World as code
+use Rattle.cm_declared.specs.World.{world_of}
+use Rattle.cm_declared.specs.declared.world.World as code
 use Rattle.model_text.specs.Refusal.{At}
 use Rattle.model_text.proofs.KeepsNames.{declared_names_keep}
 use Rattle.model_text.specs.WorldText.{Reads, Bad, Exceeds, read_text, text_as, world_text}

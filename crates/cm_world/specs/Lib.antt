@@ -1,5 +1,6 @@
--- How the code's worlds show themselves as those of the definitions, and what their reader answers.
-pub mod World
+-- What the readers of tables and of a world answer, words on the parts of a row, and what holds of the worlds that are read.
 pub mod Answers
+pub mod RowChecks
+pub mod Tables
 pub mod Steps
 pub mod Laws

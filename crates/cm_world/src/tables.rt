@@ -1,24 +1,25 @@
 // The tables of a world's text, one after another, up to the first refusal: the whole table, spaces, mounts, files,
 // processes, the filter.
 ghost use Rattle.std.specs.Prelude.{◌≡◌, ◌<◌, All, codes, length, option_map};
-ghost use Rattle.cm_rows.specs.Keys.{keys_of};
-ghost use Rattle.cm_tables.specs.Answers.{Answers};
-ghost use Rattle.cm_world.specs.Answers.{IsAnswer};
+ghost use Rattle.cm_values.specs.Keys.{keys_of};
+ghost use Rattle.cm_world.specs.Answers.{Answers, IsAnswer};
 ghost use Rattle.cm_world.specs.Steps.{after_whole, after_spaces, after_mounts, after_files, after_processes, world_made};
-ghost use Rattle.cm_world.specs.World.{form_of, world_of};
+ghost use Rattle.cm_declared.specs.World.{form_of, world_of};
 ghost use Rattle.model_cred.specs.Process.{Ascends};
 ghost use Rattle.model_text.specs.WorldText as model;
 ghost use Rattle.toml.specs.View.{table_view};
 
+use crate::files::read_files;
+use crate::filter::read_filter;
+use crate::mounts::{Mounts, read_mounts};
+use crate::processes::read_processes;
+use crate::spaces::{Declared, read_spaces};
 use crate::{LogForm, World, WorldError};
 use cm_base::Table as TableName;
 use cm_files::FileTable;
 use cm_filter::Filter;
-use cm_rows::{Key, Kind, Need, is_text_at, items_at, shape_fault, value_at};
 use cm_state::{Procs, State};
-use cm_tables::{
-    Declared, Mounts, read_files, read_filter, read_mounts, read_processes, read_spaces,
-};
+use cm_values::{Key, Kind, Need, is_text_at, items_at, shape_fault, value_at};
 use std::alloc::Global;
 use toml::Table;
 

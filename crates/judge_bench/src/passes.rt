@@ -1,7 +1,7 @@
 // The passes whose time is taken.
 ghost use Rattle.std.specs.Prelude.{◌≡◌, ◌<◌, ◌*◌, ◌^◌, length};
 ghost use Rattle.cm_sound.specs.Never.{MountsStand};
-ghost use Rattle.cm_world.specs.World.{world_of};
+ghost use Rattle.cm_declared.specs.World.{world_of};
 
 use crate::setup::Setup;
 use cm_base::{Kuid, MINUS_ONE};

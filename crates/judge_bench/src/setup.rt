@@ -1,13 +1,14 @@
 // What is judged: a world, the machine at the begin of a log, and all processes as members.
 ghost use Rattle.std.specs.Prelude.{◌<◌, ◌^◌, length, IfOk};
 ghost use Rattle.cm_sound.specs.Never.{MountsStand};
-ghost use Rattle.cm_world.specs.World.{world_of};
+ghost use Rattle.cm_declared.specs.World.{world_of};
 
 use crate::stop::Stop;
 use cm_base::{NoMemory, Pid};
+use cm_declared::World;
 use cm_machine::Machine;
 use cm_state::Proc;
-use cm_world::{World, read_world};
+use cm_world::read_world;
 use std::alloc::Global;
 
 #[derive(Drop)]

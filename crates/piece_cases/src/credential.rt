@@ -3,7 +3,7 @@ use crate::stop::Stop;
 use crate::values::number;
 use cm_base::{Pid, SpaceId};
 use cm_credentials::credentials;
-use cm_world::World;
+use cm_declared::World;
 use std::alloc::Global;
 
 // The answer to `credentials PID SPACE`: the credential line of that process, as in the space of that number.

@@ -2,9 +2,9 @@
 use crate::escapes::bytes_of;
 use crate::stop::Stop;
 use crate::values::{named, word};
+use cm_declared::World;
 use cm_script::{lines_read_back, numbers_are_lines, read_line, write_line};
 use cm_state::Event;
-use cm_world::World;
 use std::alloc::Global;
 
 // The answer to `read LINE` or `event LINE`.

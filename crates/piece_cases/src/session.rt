@@ -5,8 +5,9 @@ use crate::files::Files;
 use crate::lines::{laws_called, line_answer};
 use crate::maps::map_answer;
 use crate::stop::Stop;
+use cm_declared::World;
 use cm_idmap::IdMap;
-use cm_world::{World, read_world};
+use cm_world::read_world;
 use std::alloc::Global;
 
 // The world before the first one that is written.

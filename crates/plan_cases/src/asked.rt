@@ -2,10 +2,10 @@
 use crate::shown::put_run;
 use crate::stop::Stop;
 use cm_base::Pid;
+use cm_declared::World;
 use cm_machine::Machine;
 use cm_plans::{first_found, first_run, plans};
 use cm_state::Right;
-use cm_world::World;
 use std::alloc::Global;
 
 // How many plans are shown at most.

@@ -2,10 +2,10 @@
 use crate::stop::Stop;
 use crate::values::{number, pid};
 use cm_base::{Errno, Res};
+use cm_declared::World;
 use cm_machine::Machine;
 use cm_script::{LineError, read_line};
 use cm_state::{Event, Proc};
-use cm_world::World;
 use std::alloc::{AllocError, Global};
 use std::fmt::Debug;
 

@@ -4,9 +4,10 @@ use crate::machine::machine_answer;
 use crate::stop::Stop;
 use crate::values::{pids, right};
 use cm_base::Pid;
+use cm_declared::World;
 use cm_machine::Machine;
 use cm_state::Right;
-use cm_world::{World, read_world};
+use cm_world::read_world;
 use std::alloc::Global;
 
 // The world before the first one that is written: the initial space alone.

@@ -1,8 +1,8 @@
 // Runs as text: each a line, its events as a log writes them, parted by `; `.
 use crate::stop::Stop;
+use cm_declared::World;
 use cm_script::write_line;
 use cm_state::Event;
-use cm_world::World;
 use std::alloc::Global;
 
 // Puts the line of a run at the end: `-` for one without events.

@@ -4,9 +4,9 @@ use crate::shown::{optional, yes_or_no};
 use crate::stop::Stop;
 use crate::values::{number, pid, word};
 use cm_base::{Pid, SpaceId};
+use cm_declared::World;
 use cm_strace_parts::{Descriptor, Parts};
 use cm_strace_values::Followed;
-use cm_world::World;
 use std::alloc::Global;
 use std::mem;
 

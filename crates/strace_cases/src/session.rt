@@ -4,7 +4,8 @@ use crate::meanings::value_answer;
 use crate::pieces::{marked_answer, text_answer};
 use crate::stop::Stop;
 use crate::written::written_answer;
-use cm_world::{World, read_world};
+use cm_declared::World;
+use cm_world::read_world;
 use std::alloc::Global;
 
 // The world before the first one that is written.

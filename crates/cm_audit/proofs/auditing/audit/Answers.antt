@@ -2,7 +2,7 @@ use Rattle.std.proofs.Common.{◌≡◌, ◌<◌, List, length, slice_get, ap, s
 use Rattle.cm_audit.proofs.Clauses as clauses
 use Rattle.cm_audit.proofs.auditing.audit.Goals as goal
 use Rattle.cm_state.specs.Right.{right_of}
-use Rattle.cm_world.specs.World.{world_of}
+use Rattle.cm_declared.specs.World.{world_of}
 use Rattle.model_box.proofs.Worlds.{files_fit}
 use Rattle.model_box.specs.Meets.{IsOverStanding}
 use Rattle.model_cred.specs.Process.{Process, State, process_at}

@@ -5,7 +5,7 @@ use Rattle.cm_cli.proofs.Auditing.{no_pid, too_large, told_verdict, standing_if,
 use Rattle.cm_cli.proofs.answer.put_verdict.Goals as goal
 use Rattle.cm_cli.specs.Query.{query_view}
 use Rattle.cm_state.specs.Right.{right_of}
-use Rattle.cm_world.specs.World.{world_of}
+use Rattle.cm_declared.specs.World.{world_of}
 
 pub returns-in-Ok : goal.returns-in-Ok
 returns-in-Ok c = λ v gives.

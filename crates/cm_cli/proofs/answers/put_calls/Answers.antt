@@ -1,7 +1,7 @@
 use Rattle.std.proofs.Common.{◌∙◌, sym}
 use Rattle.cm_cli.proofs.RunText.{call_step}
 use Rattle.cm_cli.proofs.answers.put_calls.Goals as goal
-use Rattle.cm_world.specs.World.{world_of}
+use Rattle.cm_declared.specs.World.{world_of}
 
 pub loop-event-preserved : goal.loop-event-preserved
 loop-event-preserved c =

@@ -1,5 +1,5 @@
 use Rattle.std.proofs.Common.{◌≡◌, ◌++◌, map, drop}
-use Rattle.cm_world.specs.World.{world_of}
+use Rattle.cm_declared.specs.World.{world_of}
 use Rattle.model_text.specs.Print.{event_text}
 use Rattle.model_report.specs.Replay.{text_of, Plain}
 use Rattle.cm_cli.proofs.answers.put_calls.Given as goal

@@ -1,7 +1,7 @@
 use Rattle.std.proofs.lemmas.Result.{IfOk-equal}
 use Rattle.cm_cli.proofs.RunText.{run_written}
 use Rattle.cm_cli.proofs.answers.put_run.Goals as goal
-use Rattle.cm_world.specs.World.{world_of}
+use Rattle.cm_declared.specs.World.{world_of}
 
 pub returns : goal.returns
 returns c = IfOk-equal _ _ _ _ c.put_holder.ensures

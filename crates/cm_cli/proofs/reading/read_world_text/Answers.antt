@@ -1,6 +1,6 @@
 use Rattle.cm_cli.proofs.Ready.{within_limits}
 use Rattle.cm_cli.proofs.reading.read_world_text.Goals as goal
-use Rattle.cm_world.specs.World.{world_of}
+use Rattle.cm_declared.specs.World.{world_of}
 use Rattle.model_text.proofs.Keeping.{start_keeps}
 use Rattle.model_text.proofs.Starts.{start_processes, start_spaces}
 

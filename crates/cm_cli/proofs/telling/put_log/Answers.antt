@@ -7,7 +7,7 @@ use Rattle.cm_log.specs.Left.{left}
 use Rattle.cm_cli.specs.Query.{query_if}
 use Rattle.cm_cli.specs.LogReport.{answer_to}
 use Rattle.cm_report.proofs.Told.{wrote_on}
-use Rattle.cm_world.specs.World.{world_of}
+use Rattle.cm_declared.specs.World.{world_of}
 use Rattle.model_cred.specs.Process.{State}
 use Rattle.model_report.specs.Replay.{text_of}
 use Rattle.model_strace.specs.Logs.{log_reading}

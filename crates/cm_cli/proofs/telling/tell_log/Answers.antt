@@ -6,7 +6,7 @@ use Rattle.cm_report.proofs.Waiting.{front_on, sent_on}
 use Rattle.cm_cli.proofs.telling.tell_log.Goals as goal
 use Rattle.cm_cli.specs.Query.{query_if}
 use Rattle.cm_cli.specs.LogReport.{log_report, WorldGives}
-use Rattle.cm_world.specs.World.{world_of}
+use Rattle.cm_declared.specs.World.{world_of}
 use Rattle.model_report.proofs.Given.{log_gives}
 use Rattle.model_strace.specs.Logs.{log_reading}
 use Rattle.model_verdict.specs.Verdict.{Verdict}

@@ -5,7 +5,7 @@ use Rattle.cm_machine.proofs.Changing.{put_keeps, stands_at}
 use Rattle.cm_machine.proofs.ruling.ask.Goals as goal
 use Rattle.cm_machine.specs.Asking.{AsksRules, pid_number}
 use Rattle.cm_state.specs.Call.{call_of}
-use Rattle.cm_world.specs.World.{world_of}
+use Rattle.cm_declared.specs.World.{world_of}
 use Rattle.model_cred.specs.Process.{Process, State}
 use Rattle.model_run.specs.Ruling.{Ruling, ruling}
 

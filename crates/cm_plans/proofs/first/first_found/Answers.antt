@@ -3,7 +3,7 @@ use Rattle.cm_filter.specs.Filters.{permits}
 use Rattle.cm_plans.proofs.Members.{found_about, found_now, found_later}
 use Rattle.cm_plans.proofs.first.first_found.Goals as goal
 use Rattle.cm_state.specs.Right.{right_of}
-use Rattle.cm_world.specs.World.{world_of}
+use Rattle.cm_declared.specs.World.{world_of}
 use Rattle.model_cred.specs.Call.{Event}
 use Rattle.model_plans.specs.PlanRun.{Found}
 

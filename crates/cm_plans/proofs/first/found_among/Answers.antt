@@ -6,7 +6,7 @@ use Rattle.cm_plans.proofs.Items.{next_of}
 use Rattle.cm_plans.proofs.Members.{among_next}
 use Rattle.cm_plans.proofs.first.found_among.Goals as goal
 use Rattle.cm_state.specs.Right.{right_of}
-use Rattle.cm_world.specs.World.{world_of}
+use Rattle.cm_declared.specs.World.{world_of}
 
 pub returns-in-Some : goal.returns-in-Some
 returns-in-Some c =

@@ -4,7 +4,7 @@ use Rattle.cm_replay.proofs.Standing.{Goes_on, stands_on}
 use Rattle.cm_report.proofs.Waiting.{front_on, front_of_more, waits_as}
 use Rattle.cm_replay.proofs.replay.replay_log.Goals as goal
 use Rattle.cm_log.specs.Left.{left}
-use Rattle.cm_world.specs.World.{world_of}
+use Rattle.cm_declared.specs.World.{world_of}
 use Rattle.model_text.specs.Reading.{Reading}
 
 pub returns-in-Err-send_full-clause-stopped : goal.returns-in-Err-send_full-clause-stopped

@@ -2,7 +2,7 @@ use Rattle.std.proofs.Common.{◌<◌, ◌+◌, ◌^◌, length}
 use Rattle.cm_replay.proofs.Standing.{Stands}
 use Rattle.cm_replay.proofs.replay.replay_log.Given as goal
 use Rattle.cm_log.specs.Left.{CanGoOn, left}
-use Rattle.cm_world.specs.World.{world_of}
+use Rattle.cm_declared.specs.World.{world_of}
 
 -- Where the replay stands, and that there are numbers enough for what is left.
 abbrev pub invariant-loop-event : goal.invariant-loop-event

@@ -4,7 +4,7 @@ use Rattle.cm_replay.proofs.Events.{refused}
 use Rattle.cm_replay.proofs.replay.take_event.Goals as goal
 use Rattle.cm_replay.specs.Replay.{EndsWith, event_lines}
 use Rattle.cm_report.specs.Reason.{reason_of}
-use Rattle.cm_world.specs.World.{world_of}
+use Rattle.cm_declared.specs.World.{world_of}
 use Rattle.model_report.specs.Replay.{ReportLine, Plain, impossible_text, text_of}
 use Rattle.model_run.specs.Step.{outcome}
 use Rattle.model_text.specs.Reading.{Placed}

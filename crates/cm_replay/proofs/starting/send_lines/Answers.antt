@@ -2,7 +2,7 @@ use Rattle.std.proofs.Common.{◌∙◌}
 use Rattle.cm_replay.proofs.StartLines.{start_step}
 use Rattle.cm_report.proofs.Waiting.{sent_on, front_on, more_waits, front_of_more, waits_as}
 use Rattle.cm_replay.proofs.starting.send_lines.Goals as goal
-use Rattle.cm_world.specs.World.{world_of}
+use Rattle.cm_declared.specs.World.{world_of}
 
 pub returns-in-Err-send_full-clause-stopped : goal.returns-in-Err-send_full-clause-stopped
 returns-in-Err-send_full-clause-stopped g c =

@@ -1,7 +1,7 @@
 use Rattle.std.proofs.Common.{◌≡◌, ◌++◌, map, drop}
 use Rattle.cm_replay.proofs.starting.send_lines.Given as goal
 use Rattle.cm_report.specs.Sent.{IsSent}
-use Rattle.cm_world.specs.World.{world_of}
+use Rattle.cm_declared.specs.World.{world_of}
 use Rattle.model_report.specs.Replay.{text_of, Credentials}
 
 -- The lines of the processes that are left come after what is written and what waits.

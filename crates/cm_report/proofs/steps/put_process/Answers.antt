@@ -1,7 +1,7 @@
 use Rattle.std.proofs.Common.{sym, codes, None}
 use Rattle.cm_report.proofs.ReportText.{closed, joined_once}
 use Rattle.cm_report.proofs.steps.put_process.Goals as goal
-use Rattle.cm_world.specs.World.{world_of}
+use Rattle.cm_declared.specs.World.{world_of}
 use Rattle.model_report.specs.Replay.{Credentials}
 use Rattle.model_text.specs.Print.{credential_line, place_text}
 

@@ -1,5 +1,5 @@
 use Rattle.std.proofs.Common.{◌≡◌, ◌++◌, drop, map}
-use Rattle.cm_world.specs.World.{world_of}
+use Rattle.cm_declared.specs.World.{world_of}
 use Rattle.model_text.specs.Arguments.{Id, spaced_texts}
 use Rattle.cm_script.proofs.writing.put_all.Given as goal
 

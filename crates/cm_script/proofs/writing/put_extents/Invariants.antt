@@ -1,5 +1,5 @@
 use Rattle.std.proofs.Common.{◌≡◌, ◌++◌, drop, flat_map}
-use Rattle.cm_world.specs.World.{world_of}
+use Rattle.cm_declared.specs.World.{world_of}
 use Rattle.model_text.specs.Arguments.{spaced_texts, triple_of}
 use Rattle.cm_script.proofs.writing.put_extents.Given as goal
 

@@ -1,7 +1,7 @@
 use Rattle.cm_sound.proofs.Never.{fits, never_held}
 use Rattle.cm_sound.proofs.judging.check.Goals as goal
 use Rattle.cm_state.specs.Right.{right_of}
-use Rattle.cm_world.specs.World.{world_of}
+use Rattle.cm_declared.specs.World.{world_of}
 use Rattle.model_box.proofs.Excludes.{fits_starts}
 use Rattle.model_box.proofs.Worlds.{state_fits}
 

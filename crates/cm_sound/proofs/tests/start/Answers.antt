@@ -1,6 +1,6 @@
 use Rattle.cm_sound.proofs.AfterLogs.{mounts_at_start}
 use Rattle.cm_sound.proofs.tests.start.Goals as goal
-use Rattle.cm_world.specs.World.{world_of}
+use Rattle.cm_declared.specs.World.{world_of}
 
 pub returns : goal.returns
 returns c =

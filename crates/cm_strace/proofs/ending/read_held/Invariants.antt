@@ -1,7 +1,7 @@
 use Rattle.std.proofs.Common.{◌≡◌, ◌≤◌, ◌+◌, ◌-◌, drop, length}
 use Rattle.cm_base.specs.Limits.{greatest_number}
 use Rattle.cm_strace.proofs.ending.read_held.Given as goal
-use Rattle.cm_world.specs.World.{world_of}
+use Rattle.cm_declared.specs.World.{world_of}
 use Rattle.model_strace.specs.Lines.{at_end}
 
 -- what the later lines give, where the earlier ones told nothing

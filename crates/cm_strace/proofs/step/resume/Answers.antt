@@ -1,7 +1,7 @@
 use Rattle.std.proofs.Common.{sym}
 use Rattle.cm_strace.proofs.Resumed.{resumes_begun}
 use Rattle.cm_strace.proofs.step.resume.Goals as goal
-use Rattle.cm_world.specs.World.{world_of}
+use Rattle.cm_declared.specs.World.{world_of}
 use Rattle.model_strace.specs.Parts.{kept_of}
 
 pub returns-in-Some-clause-turn : goal.returns-in-Some-clause-turn

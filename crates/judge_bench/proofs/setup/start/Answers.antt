@@ -1,5 +1,5 @@
 use Rattle.cm_sound.proofs.AfterLogs.{mounts_at_start}
-use Rattle.cm_world.specs.World.{world_of}
+use Rattle.cm_declared.specs.World.{world_of}
 use Rattle.judge_bench.proofs.setup.start.Goals as goal
 
 pub returns-clause-mounts : goal.returns-clause-mounts

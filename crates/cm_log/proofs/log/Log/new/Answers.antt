@@ -1,7 +1,7 @@
 use Rattle.std.proofs.Common.{◌≤◌, length, subst, sym}
 use Rattle.cm_log.proofs.Few.{script_few, strace_few}
 use Rattle.cm_log.proofs.log.Log.new.Goals as goal
-use Rattle.cm_world.specs.World.{world_of}
+use Rattle.cm_declared.specs.World.{world_of}
 use Rattle.model_text.specs.Reading.{Reading}
 
 pub returns-in-Script-clause-few : goal.returns-in-Script-clause-few

@@ -1,7 +1,7 @@
 use Rattle.std.proofs.Common.{◌≡◌, length}
 use Rattle.cm_log.proofs.script.ScriptLog.next.Given as goal
 use Rattle.cm_log.specs.Left.{ScriptCanGoOn, script_left}
-use Rattle.cm_world.specs.World.{world_of}
+use Rattle.cm_declared.specs.World.{world_of}
 
 -- What is left reads as what was left, and there are numbers for its lines.
 abbrev pub invariant-loop-line : goal.invariant-loop-line

@@ -1,7 +1,7 @@
 use Rattle.std.proofs.Common.{◌≡◌}
 use Rattle.cm_log.proofs.strace.StraceLog.next.Given as goal
 use Rattle.cm_log.specs.Left.{StraceCanGoOn, strace_left, steps_left}
-use Rattle.cm_world.specs.World.{world_of}
+use Rattle.cm_declared.specs.World.{world_of}
 
 -- What is left reads as what was left, and there are numbers for its lines.
 abbrev pub invariant-loop-event : goal.invariant-loop-event

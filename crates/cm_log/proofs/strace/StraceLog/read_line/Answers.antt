@@ -1,7 +1,7 @@
 use Rattle.std.proofs.Common.{◌+◌, ◌≤◌, ◌∙◌, ap, arith, subst, sym}
 use Rattle.cm_log.proofs.LeftAfter.{after_line_goes_on, after_line_left, long_line_left}
 use Rattle.cm_log.proofs.strace.StraceLog.read_line.Goals as goal
-use Rattle.cm_world.specs.World.{world_of}
+use Rattle.cm_declared.specs.World.{world_of}
 use Rattle.model_strace.specs.Counts.{spaces_counted}
 use Rattle.model_strace.specs.Rest.{Session}
 

@@ -3,7 +3,7 @@ use Rattle.cm_base.specs.declared.res.Res.TheVariants.{Err}
 use Rattle.cm_machine.proofs.Changing.{some_at}
 use Rattle.cm_machine.proofs.machine.Machine.answer.Goals as goal
 use Rattle.cm_state.specs.Call.{call_of}
-use Rattle.cm_world.specs.World.{world_of}
+use Rattle.cm_declared.specs.World.{world_of}
 use Rattle.model_cred.specs.Process.{State, process_at}
 use Rattle.model_laws.proofs.Refusals.{safe_ruling}
 use Rattle.model_run.specs.Ruling.{Ruling, free_pid}

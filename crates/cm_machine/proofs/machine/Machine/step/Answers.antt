@@ -1,7 +1,7 @@
 use Rattle.std.proofs.Common.{ap}
 use Rattle.cm_machine.proofs.Errors.{told_error_kept}
 use Rattle.cm_machine.proofs.machine.Machine.step.Goals as goal
-use Rattle.cm_world.specs.World.{world_of}
+use Rattle.cm_declared.specs.World.{world_of}
 use Rattle.model_cred.specs.Process.{State}
 
 pub returns-clause-told_error : goal.returns-clause-told_error

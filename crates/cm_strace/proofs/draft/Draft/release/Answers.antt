@@ -4,7 +4,7 @@ use Rattle.cm_strace.specs.Given.{born_is}
 use Rattle.cm_strace.specs.Queues.{Queue}
 use Rattle.cm_strace.proofs.Released.{goes_then, halts_then, released_none, released_next, released_same}
 use Rattle.cm_strace.proofs.draft.Draft.release.Goals as goal
-use Rattle.cm_world.specs.World.{world_of}
+use Rattle.cm_declared.specs.World.{world_of}
 use Rattle.model_strace.specs.After.{Goes, preceded}
 use Rattle.model_strace.specs.Lines.{Line, Read, read_line}
 use Rattle.model_strace.specs.Rest.{Work, released, without_first}

@@ -2,7 +2,7 @@ use Rattle.std.proofs.Common.{◌≡◌, ◌≤◌, length}
 use Rattle.cm_strace.specs.Drafts.{work_of}
 use Rattle.cm_strace.specs.Works.{uses}
 use Rattle.cm_strace.proofs.draft.Draft.release.Given as goal
-use Rattle.cm_world.specs.World.{world_of}
+use Rattle.cm_declared.specs.World.{world_of}
 use Rattle.model_strace.specs.After.{preceded}
 use Rattle.model_strace.specs.Rest.{released}
 

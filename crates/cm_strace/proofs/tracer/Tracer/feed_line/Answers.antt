@@ -2,7 +2,7 @@ use Rattle.std.proofs.Common.{◌∷◌, sym, ◌∙◌, ap}
 use Rattle.cm_strace.specs.Answers.{reading_is}
 use Rattle.cm_strace.specs.Stages.{session_is}
 use Rattle.cm_strace.proofs.tracer.Tracer.feed_line.Goals as goal
-use Rattle.cm_world.specs.World.{world_of}
+use Rattle.cm_declared.specs.World.{world_of}
 use Rattle.model_strace.proofs.RestLaws.{lines_go_on}
 use Rattle.model_strace.specs.Rest.{Going, rest, after_line, answered_then, LinesGoOn}
 

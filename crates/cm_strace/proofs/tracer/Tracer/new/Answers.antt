@@ -1,6 +1,6 @@
 use Rattle.std.proofs.Common.{◌∙◌, ap}
 use Rattle.cm_strace.proofs.tracer.Tracer.new.Goals as goal
-use Rattle.cm_world.specs.World.{world_of}
+use Rattle.cm_declared.specs.World.{world_of}
 use Rattle.model_strace.proofs.RestLaws.{begins_with_reading}
 use Rattle.model_strace.specs.Rest.{Going, rest, BeginsWithReading}
 

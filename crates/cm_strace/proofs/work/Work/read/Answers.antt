@@ -4,7 +4,7 @@ use Rattle.cm_strace.specs.Works.{concluded}
 use Rattle.cm_strace.proofs.Concluded.{concluded_read, at_world}
 use Rattle.cm_strace.proofs.Quiet.{quiet_read}
 use Rattle.cm_strace.proofs.work.Work.read.Goals as goal
-use Rattle.cm_world.specs.World.{world_of}
+use Rattle.cm_declared.specs.World.{world_of}
 use Rattle.model_strace.specs.After.{preceded}
 
 pub returns-in-Nothing-clause-read : goal.returns-in-Nothing-clause-read

@@ -1,0 +1,3 @@
+-- Lemmas of this crate, by topic.
+pub mod FirstPlaces
+pub mod SpaceNames

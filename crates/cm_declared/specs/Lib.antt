@@ -1,0 +1,2 @@
+-- How the code's worlds show themselves as those of the definitions.
+pub mod World

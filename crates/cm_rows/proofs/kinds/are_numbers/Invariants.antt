@@ -1,9 +1,0 @@
-use Rattle.std.proofs.Common.{◌≡◌, drop}
-use Rattle.model_text.specs.Keys.{is_number}
-use Rattle.model_text.specs.Toml.{all_items}
-use Rattle.toml.specs.View.{items_view}
-use Rattle.cm_rows.proofs.kinds.are_numbers.Given as goal
-
-abbrev pub invariant-loop-value : goal.invariant-loop-value
-invariant-loop-value l = all_items (is_number l.ranged 0 l.high) (items_view (drop l.value-index l.values))
-    ≡ all_items (is_number l.ranged 0 l.high) (items_view l.values)

@@ -1,0 +1,9 @@
+use Rattle.std.proofs.Common.{◌≡◌, drop}
+use Rattle.model_text.specs.Keys.{is_number, is_list_of}
+use Rattle.model_text.specs.Toml.{all_items}
+use Rattle.toml.specs.View.{items_view}
+use Rattle.cm_values.proofs.kinds.are_extents.Given as goal
+
+abbrev pub invariant-loop-value : goal.invariant-loop-value
+invariant-loop-value l = all_items (is_list_of 3 (is_number l.ranged 0 4294967295)) (items_view (drop l.value-index l.values))
+    ≡ all_items (is_list_of 3 (is_number l.ranged 0 4294967295)) (items_view l.values)
