@@ -1,10 +1,10 @@
 -- Whether a list holds all of an interval, of another list, and of what two lists have in common.
-use Rattle.std.proofs.Common.{◌≡◌, ℕ, ◌+◌, ◌<◌, ◌≤◌, ◌||◌, Bool, true, false, List, [], ◌∷◌, refl, sym, ap, subst, ◌∙◌, inl, inr, arith}
-use Rattle.std.specs.Prelude.{IsTrue, nat_le, nat_lt, ◌&&◌}
+use Rattle.std.proofs.Common.{◌≡◌, ℕ, ◌+◌, ◌<◌, ◌≤◌, false, List, ◌∷◌, sym, subst, ◌∙◌, inl, inr, arith}
+use Rattle.std.specs.Prelude.{nat_le, nat_lt, ◌&&◌}
 use Rattle.cm_sets.specs.Sets.{InBoth, IsWithin, Exceeds}
-use Rattle.model_cred.specs.Intervals.{Interval, is_between, ids_hold, ascend_from, IsCanonical}
+use Rattle.model_cred.specs.Intervals.{Interval, is_between, ids_hold, IsCanonical}
 use Rattle.std.proofs.lemmas.Bool.{or_cases, or_right, and_cases, and_parts, and_from, ltb-false, leb-false}
-use Rattle.model_cred.proofs.Intervals.{ascend_parts, held_above, none_below, between_parts, between_from, rest_holds, from_first, rest_canonical}
+use Rattle.model_cred.proofs.Intervals.{ascend_parts, held_above, none_below, between_from, rest_holds, from_first, rest_canonical}
 use Rattle.cm_idset.specs.Held.{Held, Between}
 use Rattle.cm_idset.specs.Cover.{Covers, CoversCommon}
 use Rattle.cm_idset.proofs.Walks.{step}

@@ -1,10 +1,10 @@
 -- What holds of each interval of a canonical list, and what it holds at all.
-use Rattle.std.proofs.Common.{◌≡◌, ℕ, suc, ◌+◌, ◌<◌, ◌≤◌, ◌||◌, Bool, true, false, List, [], ◌∷◌, length, get_or, refl, sym, subst, ◌∙◌, arith}
+use Rattle.std.proofs.Common.{◌≡◌, ℕ, ◌+◌, ◌<◌, false, List, [], ◌∷◌, length, get_or, sym, subst, arith}
 use Rattle.std.specs.Prelude.{IsTrue, nat_eq}
 use Rattle.std.proofs.lemmas.List.Elements.{All-cons, All-nil}
 use Rattle.cm_base.specs.Limits.{id_count}
 use Rattle.cm_sets.specs.Sets.{HoldsSome, IsBelow}
-use Rattle.model_cred.specs.Intervals.{Interval, ids_hold, ascend_from, IsCanonical}
+use Rattle.model_cred.specs.Intervals.{Interval, ascend_from, IsCanonical}
 use Rattle.model_cred.proofs.Intervals.{ascend_parts, held_above, first_held}
 use Rattle.cm_idset.specs.Held.{Held}
 use Rattle.cm_idset.specs.Order.{IsOfIds, AreIds}

@@ -3,7 +3,7 @@ use Rattle.std.proofs.Common.{◌≡◌, ℕ, ◌+◌, ◌≤◌, ◌||◌, Bool
 use Rattle.std.specs.Prelude.{IsTrue}
 use Rattle.model_cred.specs.Intervals.{Interval, is_between, ids_hold, ascend_from, IsCanonical}
 use Rattle.model_cred.proofs.Intervals.{ascend_parts, ascend_lower, from_first, rest_canonical}
-use Rattle.cm_idset.specs.Order.{AllBegun, InOrderFrom, Continues, CanTake, Taken}
+use Rattle.cm_idset.specs.Order.{InOrderFrom, Continues, Taken}
 use Rattle.cm_idset.proofs.Growth.{begun_later, continues_on}
 
 -- What is left of two lists, and what of them is in the list that is made.

@@ -1,6 +1,6 @@
 -- Walks over two lists of intervals at once. Each time one of the two first intervals is left, the one that ends first.
-use Rattle.std.proofs.Common.{◌≡◌, ℕ, ◌+◌, ◌-◌, ◌<◌, ◌≤◌, ◌&&◌, ◌||◌, Bool, true, false, List, [], ◌∷◌, ◌++◌, ◌⊎◌}
-use Rattle.std.proofs.Common.{Option, Some, None, if◌then◌else◌, length, take, drop, get_or, max, min, refl, sym, ap}
+use Rattle.std.proofs.Common.{◌≡◌, ℕ, ◌+◌, ◌<◌, ◌≤◌, ◌&&◌, ◌||◌, Bool, true, false, List, [], ◌∷◌, ◌++◌, ◌⊎◌}
+use Rattle.std.proofs.Common.{Option, Some, None, if◌then◌else◌, max, min, refl, sym, ap}
 use Rattle.std.proofs.Common.{◌∙◌, subst, inl, inr, arith}
 use Rattle.std.specs.Prelude.{IsTrue, nat_lt, nat_le}
 use Rattle.std.proofs.lemmas.Bool.{cases_Bool, cases_lt, cond-true, cond-false, leb-true, leb-false, and_parts, and_from, or_right, ltb-true, ltb-false}
@@ -10,11 +10,11 @@ use Rattle.std.proofs.Math.Nat.{max_comm, min_comm}
 use Rattle.std.proofs.lemmas.List.{append-nil}
 use Rattle.cm_sets.specs.Sets.{InBoth, HoldsSome}
 use Rattle.model_cred.specs.Intervals.{Interval, is_between, ids_hold, IsCanonical}
-use Rattle.model_cred.proofs.Intervals.{none_below, rest_holds, from_first, rest_canonical, ascend_parts, none_after, first_held, held_above}
+use Rattle.model_cred.proofs.Intervals.{none_below, rest_canonical, ascend_parts, none_after, first_held, held_above}
 use Rattle.std.specs.Option.{option_to_list}
 use Rattle.cm_idset.specs.Held.{Held}
 use Rattle.cm_idset.specs.Pairs.{in_common}
-use Rattle.cm_idset.proofs.Growth.{AllBefore, held_appended, before_later, before_pushed, canonical_pushed}
+use Rattle.cm_idset.proofs.Growth.{AllBefore, held_appended, before_pushed, canonical_pushed}
 
 -- ---- steps
 and_or : (p q r s : Bool) → s ≡ false → ((p || q) && (r || s)) ≡ ((p && r) || (q && (r || s)))

@@ -1,5 +1,5 @@
 -- Two intervals.
-use Rattle.std.specs.Prelude.{ℕ, ◌+◌, Bool, Option, Some, None, if◌then◌else◌, nat_le, max, min}
+use Rattle.std.specs.Prelude.{◌+◌, Bool, Option, Some, None, if◌then◌else◌, nat_le, max, min}
 use Rattle.model_cred.specs.Intervals.{Interval}
 
 -- the ids that two intervals have in common: those from the later begin to the earlier end

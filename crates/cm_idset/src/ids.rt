@@ -1,14 +1,15 @@
 // Sets of ids: canonical lists of intervals, and what is asked and made of them.
-ghost use Rattle.std.specs.Prelude.{◌≡◌, ◌↔◌, ◌⊎◌, ℕ, ◌<◌, ◌≤◌, [], ◌∷◌, false, IsTrue};
+ghost use Rattle.std.specs.Prelude.{◌≡◌, ◌↔◌, ◌⊎◌, ℕ, ◌<◌, ◌≤◌, [], ◌∷◌, false, IsTrue, if◌then◌else◌, Some, None};
 ghost use Rattle.cm_base.specs.Limits.{id_count};
 ghost use Rattle.cm_base.specs.Outcome.{OrNoMemory};
 ghost use Rattle.cm_sets.specs.Sets.{AreSame, IsWithin, Exceeds};
 ghost use Rattle.cm_sets.specs.Decided.{test_decides};
-ghost use Rattle.model_cred.specs.Intervals.{ids_hold, IsCanonical};
+ghost use Rattle.model_cred.specs.Intervals.{ids_hold, is_canonical, IsCanonical};
 ghost use Rattle.cm_idset.specs.Held.{Held, Span};
 ghost use Rattle.cm_idset.specs.Image.{InImage};
 ghost use Rattle.cm_idset.specs.Size.{ids_count, count_below};
 
+use crate::ascending::ascends;
 use crate::common::{apart, common};
 use crate::cover::{common_is_within, cover, is_within};
 use crate::merge::merged;
@@ -64,6 +65,18 @@ impl IdSet {
     {
         let list = vec![in alloc; Interval { first, last }]?;
         Ok(IdSet { list })
+    }
+
+    /// The set with these intervals, None exactly where they aren't ascending, apart and of ids alone. It takes no memory,
+    /// and one walk over the list.
+    pub fn from_list(list: Vec<Interval>) -> Option<IdSet>
+        ensures { result ≡ (if is_canonical list.items then Some list.items else None) }
+    {
+        if ascends(&list) {
+            Some(IdSet { list })
+        } else {
+            None
+        }
     }
 
     /// The ids to which `down` of the map takes those of the set (user_namespaces(7)). Its only error is want of memory.

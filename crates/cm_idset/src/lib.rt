@@ -2,6 +2,7 @@
 //! its intervals, and say by `ids_hold` what it holds.
 #![tactic(auto)]
 
+mod ascending;
 mod common;
 mod counting;
 mod cover;

@@ -1,7 +1,7 @@
 // Sets of ids: what the calls of cm_idset answer. The sets and numbers of a line are parted by `/`.
 use crate::shown::ids_shown;
 use crate::stop::Stop;
-use crate::values::{ids, number, yes_or_no};
+use crate::values::{ids, interval, number, yes_or_no};
 use cm_idmap::{Extent, IdMap};
 use cm_idset::{IdSet, one_meaning_one_list};
 use cm_sets::SetLike;
@@ -20,13 +20,19 @@ pub(crate) fn set_answered(alloc: Global, text: &str) -> Result<String, Stop> {
 }
 
 fn of_one(alloc: Global, asked: &str, one: &str) -> Result<String, Stop> {
-    let set = set(alloc, one)?;
     match asked {
-        "ranges" => ids_shown(alloc, &set),
+        "one" => set_of_one(alloc, one),
+        "list" => set_of_list(alloc, one),
+        "laws" => laws_called(alloc),
+        _ => of_set(alloc, asked, &set(alloc, one)?),
+    }
+}
+
+fn of_set(alloc: Global, asked: &str, set: &IdSet) -> Result<String, Stop> {
+    match asked {
+        "ranges" => ids_shown(alloc, set),
         "size" => Ok(format!(in alloc; "{}", set.size())?),
         "empty" => yes_or_no(alloc, set.is_empty()),
-        "one" => set_of_one(alloc, one),
-        "laws" => laws_called(alloc),
         _ => Err(Stop::Bad),
     }
 }
@@ -140,4 +146,16 @@ fn set_of_one(alloc: Global, text: &str) -> Result<String, Stop> {
         return Err(Stop::Bad);
     }
     ids_shown(alloc, &IdSet::one(alloc, id)?)
+}
+
+// The set of these ids and ranges, handed over as the list that they are.
+fn set_of_list(alloc: Global, text: &str) -> Result<String, Stop> {
+    let mut list = Vec::new(alloc);
+    for word in text.split_whitespace() {
+        list.push(interval(word)?)?;
+    }
+    match IdSet::from_list(list) {
+        Some(set) => ids_shown(alloc, &set),
+        None => Ok(String::from_str(alloc, "refused")?),
+    }
 }

@@ -1,7 +1,7 @@
 // Numbers and ranges as the lines of cases write them. What is none is bad.
 use crate::stop::Stop;
 use cm_base::read_u32;
-use cm_idset::IdSet;
+use cm_idset::{IdSet, Interval};
 use cm_sets::SetLike;
 use std::alloc::Global;
 
@@ -10,11 +10,18 @@ pub(crate) fn number(word: &str) -> Result<u32, Stop> {
     read_u32(word.as_bytes()).map_err(|_| Stop::Bad)
 }
 
-// The ids from the one to the other, `first-last`, or a single id.
-fn range(alloc: Global, word: &str) -> Result<IdSet, Stop> {
+// Two numbers, `first-last`, or a single one, which is both.
+pub(crate) fn interval(word: &str) -> Result<Interval, Stop> {
     let (first, last) = word.split_once('-').unwrap_or((word, word));
-    let first = number(first)?;
-    let last = number(last)?;
+    Ok(Interval {
+        first: number(first)?,
+        last: number(last)?,
+    })
+}
+
+// The ids from the one to the other.
+fn range(alloc: Global, word: &str) -> Result<IdSet, Stop> {
+    let Interval { first, last } = interval(word)?;
     if first > last || last == u32::MAX {
         return Err(Stop::Bad);
     }

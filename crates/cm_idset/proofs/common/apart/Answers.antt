@@ -1,4 +1,4 @@
-use Rattle.std.proofs.Common.{arith, rules}
+use Rattle.std.proofs.Common.{rules}
 use Rattle.cm_idset.proofs.Rests.{first_and_rest}
 use Rattle.cm_idset.proofs.Walks.{left_before, left_after, both_hold}
 use Rattle.cm_idset.proofs.common.apart.Goals as goal

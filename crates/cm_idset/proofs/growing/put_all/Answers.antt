@@ -1,4 +1,3 @@
-use Rattle.std.proofs.Common.{◌∙◌, ap, sym, drop}
 use Rattle.cm_idset.proofs.Growth.{put_next}
 use Rattle.cm_idset.proofs.Rests.{next_of}
 use Rattle.cm_idset.proofs.growing.put_all.Goals as goal

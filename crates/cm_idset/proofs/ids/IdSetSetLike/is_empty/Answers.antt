@@ -1,7 +1,4 @@
-use Rattle.std.proofs.Common.{sym, ◌∙◌, subst}
-use Rattle.cm_sets.specs.Sets.{HoldsSome}
-use Rattle.model_cred.specs.Intervals.{Interval}
-use Rattle.cm_idset.specs.Held.{Held}
+use Rattle.std.proofs.Common.{sym, ◌∙◌}
 use Rattle.cm_idset.proofs.Elements.{some_held, all_ids}
 use Rattle.cm_idset.proofs.ids.IdSetSetLike.is_empty.Goals as goal
 
