@@ -2,7 +2,7 @@
 ghost use Rattle.std.specs.Prelude.{◌≡◌, ◌<◌, ◌+◌, ◌^◌, length};
 ghost use Rattle.cm_base.specs.Outcome.{OrNoMemory};
 ghost use Rattle.cm_log.specs.Left.{script_left};
-ghost use Rattle.cm_log.specs.Next.{IsNext};
+ghost use Rattle.cm_log.specs.Next.{IsNext, EndsAgain};
 ghost use Rattle.cm_script.specs.Lines.{IsRead};
 ghost use Rattle.cm_declared.specs.World.{world_of};
 ghost use Rattle.model_cred.specs.World as model;
@@ -42,6 +42,7 @@ impl<'a> ScriptLog<'a> {
     pub(crate) fn next(&mut self, alloc: Global, w: &World) -> Result<Next, NoMemory>
         requires { self.old.number + length self.old.rest.now < 2 ^ 64 }
         ensures next { OrNoMemory result (λ next. IsNext next (script_left (world_of w.now) self.old) (script_left (world_of w.now) self.new)) }
+        ensures again { OrNoMemory result (λ next. EndsAgain next (script_left (world_of w.now) self.new)) }
         ensures room { OrNoMemory result (λ _. self.new.number + length self.new.rest.now < 2 ^ 64) }
     {
         while let Some((line, after)) = next_line(self.rest) {

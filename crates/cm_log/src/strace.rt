@@ -2,7 +2,7 @@
 ghost use Rattle.std.specs.Prelude.{◌≡◌, ◌<◌, ◌^◌, [], ◌∷◌, length, reverse};
 ghost use Rattle.cm_base.specs.Outcome.{OrNoMemory};
 ghost use Rattle.cm_log.specs.Left.{StraceCanGoOn, phase_by, strace_left, steps_left};
-ghost use Rattle.cm_log.specs.Next.{IsNext};
+ghost use Rattle.cm_log.specs.Next.{IsNext, EndsAgain};
 ghost use Rattle.cm_declared.specs.World.{world_of};
 ghost use Rattle.model_strace.specs.Lines.{strace_reading};
 ghost use Rattle.model_strace.specs.Rest.{first_session};
@@ -54,6 +54,7 @@ impl<'a> StraceLog<'a> {
     pub(crate) fn next(&mut self, alloc: Global, w: &World) -> Result<Next, NoMemory>
         requires { StraceCanGoOn self.old }
         ensures next { OrNoMemory result (λ next. IsNext next (strace_left (world_of w.now) self.old) (strace_left (world_of w.now) self.new)) }
+        ensures again { OrNoMemory result (λ next. EndsAgain next (strace_left (world_of w.now) self.new)) }
         ensures room { OrNoMemory result (λ _. StraceCanGoOn self.new) }
     {
         loop {

@@ -1,11 +1,8 @@
 use Rattle.std.proofs.Common.{◌≤◌, length, subst, sym}
-use Rattle.cm_log.proofs.Few.{script_few, strace_few}
+use Rattle.cm_log.proofs.Few.{strace_few}
 use Rattle.cm_log.proofs.log.Log.new.Goals as goal
 use Rattle.cm_declared.specs.World.{world_of}
 use Rattle.model_text.specs.Reading.{Reading}
-
-pub returns-in-Script-clause-few : goal.returns-in-Script-clause-few
-returns-in-Script-clause-few c = rw (c.new.ensures.rest) (script_few (world_of c.args.w.now) c.new.result.number c.args.text.now)
 
 pub returns-in_ok-log-in-Strace-clause-few : goal.returns-in_ok-log-in-Strace-clause-few
 returns-in_ok-log-in-Strace-clause-few c =
