@@ -1,7 +1,7 @@
 -- What is answered to a query after an accepted log, by the verdict that the audit tells, or why it tells none.
 use Rattle.std.proofs.Common.{◌≡◌, ℕ, ◌<◌, ◌≤◌, Bool, true, false, length, List, Option, Some, None, refl, sym, ◌∙◌, ap, subst, is_some, Result, slice_get, inl, inr, arith}
 use Rattle.std.proofs.lemmas.Option.{slice_get_cases}
-use Rattle.std.specs.Prelude.{codes, IsSomeAnd, option_map}
+use Rattle.std.specs.Prelude.{codes, IsSomeAnd}
 use Rattle.cm_audit.specs.Told.{Told, IsVerdictOn, verdict_in}
 use Rattle.cm_base.specs.declared.limited.Limited.TheVariants as limit
 use Rattle.cm_base.specs.Limited.{limit_number}

@@ -6,3 +6,4 @@ pub mod Auditing
 pub mod LogReport
 pub mod Replaying
 pub mod Complete
+pub mod FileReads

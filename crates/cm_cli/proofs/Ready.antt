@@ -5,7 +5,7 @@ use Rattle.std.specs.declared.alloc.Global.{Global}
 use Rattle.cm_base.specs.Limited.{limit_number}
 use Rattle.cm_base.specs.declared.limited.Limited.TheVariants as limit
 use Rattle.cm_cli.specs.Reading.{ReadsAs, IsWorldRead, IsLogRead, IsReady}
-use Rattle.cm_cli.specs.LogReport.{log_report, WorldGives}
+use Rattle.cm_cli.specs.LogReport.{WorldGives}
 use Rattle.cm_report.specs.Telling.{short_report}
 use Rattle.cm_cli.specs.declared.reading.Unready.{Unready}
 use Rattle.cm_cli.specs.declared.reading.Unready.TheVariants as unready
@@ -15,7 +15,6 @@ use Rattle.cm_declared.specs.World.{world_of}
 use Rattle.cm_declared.specs.declared.world.World as code
 use Rattle.model_cred.specs.Process.{State}
 use Rattle.model_report.proofs.Statuses.{of_size, not_above, is_above}
-use Rattle.model_report.specs.Given.{FilesGive}
 use Rattle.model_report.specs.Query.{Query}
 use Rattle.model_report.specs.Replay.{Report, limit_hit, IsWithin}
 use Rattle.model_report.specs.Report.{files_report, by_world, text_report}

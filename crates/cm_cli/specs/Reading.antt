@@ -1,6 +1,6 @@
 -- What the files of a replay come to, where the shelf tells what it holds, the counts of its faults, and what is taken.
 use Rattle.std.specs.Prelude.{◌≡◌, ◌≢◌, ◌⊎◌, ◌≤◌, ◌<◌, ◌+◌, ℕ, bytes_eq, if◌then◌else◌}
-use Rattle.std.specs.Prelude.{length, List, Option, None, Some, Result, Ok, Err, Vec}
+use Rattle.std.specs.Prelude.{length, List, Option, None, Some, IfSome, Result, Ok, Err, Vec}
 use Rattle.std.specs.declared.alloc.Global.{Global}
 use Rattle.cm_base.specs.Limited.{limit_number}
 use Rattle.cm_base.specs.declared.limited.Limited.{Limited}
@@ -10,7 +10,7 @@ use Rattle.cm_declared.specs.declared.world.World as code
 use Rattle.cm_cli.specs.LogReport.{log_report, WorldGives}
 use Rattle.cm_cli.specs.declared.reading.Unready.{Unready}
 use Rattle.cm_cli.specs.declared.reading.Unready.TheVariants as unready
-use Rattle.cm_io.specs.Shelf.{Rose}
+use Rattle.cm_io.specs.Shelf.{Files, bytes_at, EachGives, Rose}
 use Rattle.cm_io.specs.declared.whole.WholeError.{WholeError}
 use Rattle.cm_io.specs.declared.whole.WholeError.TheVariants as whole
 use Rattle.cm_report.specs.Telling.{short_report}
@@ -87,11 +87,14 @@ unready_by whole.NoMemory past = unready.NoMemory
 abbrev pub under : List ℕ → ℕ → List ℕ → ℕ
 under name most n = if bytes_eq n name then most else 0
 
--- the most bytes that are taken under a name for the world and the log of a command, where it has them: the limit and
--- one byte of each that has the name
+-- so many under a name for the world of a command, and so many for its log, where it has them and they have the name
+abbrev pub for_files : Option (List ℕ × List ℕ) → (of_world of_log : ℕ) → List ℕ → ℕ
+for_files None of_world of_log n = 0
+for_files (Some (world, log)) of_world of_log n = under world of_world n + under log of_log n
+
+-- the most bytes that are taken under a name for the files of a command: the limit and one byte of each that has the name
 abbrev pub most_for : Option (List ℕ × List ℕ) → List ℕ → ℕ
-most_for None n = 0
-most_for (Some (world, log)) n = under world (limit_number limit.World + 1) n + under log (limit_number limit.Log + 1) n
+most_for files n = for_files files (limit_number limit.World + 1) (limit_number limit.Log + 1) n
 
 -- no more than that is taken under any name
 abbrev pub TakesFor : Option (List ℕ × List ℕ) → (taken taken' : List ℕ → ℕ) → Type 0
@@ -104,6 +107,18 @@ pub record IsFileOf (files : Option (List ℕ × List ℕ)) (n : List ℕ) : Typ
   pub names : files ≡ Some (world, log)
   pub is : (n ≡ world) ⊎ (n ≡ log)
 
--- no other name is read
-abbrev pub ReadsFor : Option (List ℕ × List ℕ) → (reads reads' : List ℕ → ℕ) → Type 0
-ReadsFor files reads reads' = (n : List ℕ) → ¬ IsFileOf files n → reads' n ≡ reads n
+-- No other name is read, and each file at most once for each byte that is taken of it, and once more.
+pub record ReadsFor (files : Option (List ℕ × List ℕ)) (reads reads' taken taken' : List ℕ → ℕ) : Type 0 where
+  pub others : (n : List ℕ) → ¬ IsFileOf files n → reads' n ≡ reads n
+  pub each : (n : List ℕ) → EachGives (reads n) (reads' n) (taken n) (taken' n) (for_files files 1 1 n)
+
+-- The log isn't read where the world couldn't be, which its count of faults tells, and, where it is told what the shelf
+-- holds, where the world doesn't stand.
+pub record LogWaits (held : Option Files) (world log : List ℕ) (faults faults' reads reads' : List ℕ → ℕ) : Type 0 where
+  pub unread : faults world < faults' world → reads' log ≡ reads log
+  pub refused : IfSome held (λ files. ¬ WorldStands (bytes_at files world) → reads' log ≡ reads log)
+
+-- the same of a command's files, unless both have one name
+abbrev pub ReadsInOrder : Option Files → Option (List ℕ × List ℕ) → (faults faults' reads reads' : List ℕ → ℕ) → Type 0
+ReadsInOrder held None faults faults' reads reads' = Unit {0}
+ReadsInOrder held (Some (world, log)) faults faults' reads reads' = world ≢ log → LogWaits held world log faults faults' reads reads'

@@ -3,7 +3,7 @@ ghost use Rattle.std.specs.Prelude.{◌≡◌, ◌≢◌, IfSome, Some};
 ghost use Rattle.cm_cli.specs.Answers.{asking, AnswersReport, CountsReads, NoneRose};
 ghost use Rattle.cm_cli.specs.Answers.{IsValid, ComesByCause, IsCompleted, SaysYes, SaysNo, SaysUndecided, IsDecided, AsksOfSettled};
 ghost use Rattle.cm_cli.specs.Query.{query_if};
-ghost use Rattle.cm_cli.specs.Reading.{TakesFor, ReadsFor};
+ghost use Rattle.cm_cli.specs.Reading.{TakesFor, ReadsFor, ReadsInOrder};
 ghost use Rattle.cm_cli.specs.Words.{bytes_of, command_in, command_view};
 ghost use Rattle.cm_report.specs.Telling.{IsOfReport, CountsWrites};
 ghost use Rattle.model_report.specs.Command.{files_of, query_of};
@@ -21,7 +21,8 @@ use std::alloc::Global;
 ///
 /// The answer is the report's status. `ReadFault` comes only where a read of a file that the words name failed, and
 /// then nothing is written; `WriteFault` only where a write failed, and `NoMemory` only where neither did: then a front
-/// of the report is written. No other file is read, and of each no more than its limit and one byte.
+/// of the report is written. No other file is read, and of each no more than its limit and one byte; the log only after a
+/// world that stands.
 pub fn run<H: Shelf, K: Sink>(
     alloc: Global,
     words: &Vec<String>,
@@ -40,9 +41,13 @@ pub fn run<H: Shelf, K: Sink>(
         (H.faults shelf.old) (H.faults shelf.new) }
     ensures write_faults { CountsWrites result (K.faults out.old) (K.faults out.new) }
 
-    // Of each file that the words name at most its limit and one byte are taken, and no other name is read.
+    // Of each file that the words name at most its limit and one byte are taken, and it is read at most once for each byte
+    // that is taken, and once more; no other name is read. The log isn't read where the world couldn't be or doesn't stand.
     ensures takes { TakesFor (files_of (command_in words.now.items)) (H.taken shelf.old) (H.taken shelf.new) }
-    ensures reads { ReadsFor (files_of (command_in words.now.items)) (H.reads shelf.old) (H.reads shelf.new) }
+    ensures reads { ReadsFor (files_of (command_in words.now.items)) (H.reads shelf.old) (H.reads shelf.new)
+        (H.taken shelf.old) (H.taken shelf.new) }
+    ensures waits { ReadsInOrder (H.held shelf.old) (files_of (command_in words.now.items))
+        (H.faults shelf.old) (H.faults shelf.new) (H.reads shelf.old) (H.reads shelf.new) }
     ensures held { H.held shelf.new ≡ H.held shelf.old }
 
     // Each answer of a report has its cause in the words and the files, and each cause its answer.
@@ -93,6 +98,10 @@ pub fn run_surely(
     ensures takes { TakesFor (files_of (command_in words.now.items))
         (⟦<SureShelf as Shelf>⟧.taken shelf.old) (⟦<SureShelf as Shelf>⟧.taken shelf.new) }
     ensures reads { ReadsFor (files_of (command_in words.now.items))
+        (⟦<SureShelf as Shelf>⟧.reads shelf.old) (⟦<SureShelf as Shelf>⟧.reads shelf.new)
+        (⟦<SureShelf as Shelf>⟧.taken shelf.old) (⟦<SureShelf as Shelf>⟧.taken shelf.new) }
+    ensures waits { ReadsInOrder (⟦<SureShelf as Shelf>⟧.held shelf.old) (files_of (command_in words.now.items))
+        (⟦<SureShelf as Shelf>⟧.faults shelf.old) (⟦<SureShelf as Shelf>⟧.faults shelf.new)
         (⟦<SureShelf as Shelf>⟧.reads shelf.old) (⟦<SureShelf as Shelf>⟧.reads shelf.new) }
     ensures held { ⟦<SureShelf as Shelf>⟧.held shelf.new ≡ ⟦<SureShelf as Shelf>⟧.held shelf.old }
     ensures answers { IfSome (⟦<SureShelf as Shelf>⟧.held shelf.old) (λ files.
@@ -120,7 +129,10 @@ fn carry_out<H: Shelf, K: Sink>(
         (H.faults shelf.old) (H.faults shelf.new) }
     ensures write_faults { CountsWrites result (K.faults out.old) (K.faults out.new) }
     ensures takes { TakesFor (files_of (command_view command.entry)) (H.taken shelf.old) (H.taken shelf.new) }
-    ensures reads { ReadsFor (files_of (command_view command.entry)) (H.reads shelf.old) (H.reads shelf.new) }
+    ensures reads { ReadsFor (files_of (command_view command.entry)) (H.reads shelf.old) (H.reads shelf.new)
+        (H.taken shelf.old) (H.taken shelf.new) }
+    ensures waits { ReadsInOrder (H.held shelf.old) (files_of (command_view command.entry))
+        (H.faults shelf.old) (H.faults shelf.new) (H.reads shelf.old) (H.reads shelf.new) }
     ensures held { H.held shelf.new ≡ H.held shelf.old }
 {
     match command {
@@ -146,7 +158,9 @@ fn run_log<H: Shelf, K: Sink>(
         (H.faults shelf.old) (H.faults shelf.new) }
     ensures write_faults { CountsWrites result (K.faults out.old) (K.faults out.new) }
     ensures takes { TakesFor (Some (world.now, log.now)) (H.taken shelf.old) (H.taken shelf.new) }
-    ensures reads { ReadsFor (Some (world.now, log.now)) (H.reads shelf.old) (H.reads shelf.new) }
+    ensures reads { ReadsFor (Some (world.now, log.now)) (H.reads shelf.old) (H.reads shelf.new) (H.taken shelf.old) (H.taken shelf.new) }
+    ensures waits { ReadsInOrder (H.held shelf.old) (Some (world.now, log.now)) (H.faults shelf.old) (H.faults shelf.new)
+        (H.reads shelf.old) (H.reads shelf.new) }
     ensures held { H.held shelf.new ≡ H.held shelf.old }
 {
     match read_files(alloc, shelf, world, log) {

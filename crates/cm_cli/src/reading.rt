@@ -1,7 +1,7 @@
 // Reading the files of a replay: the world, and then the log.
 ghost use Rattle.std.specs.Prelude.{◌≡◌, ◌≢◌, ◌≤◌, ◌⊎◌, ◌+◌, length, Err, Some, IfErr, IfSome, IfOk, Option};
-ghost use Rattle.cm_cli.specs.Reading.{IsWorldRead, IsLogRead, IsReady, FileFaults, FilesFaults, WorldStands, TakesFor, ReadsFor, unready_by};
-ghost use Rattle.cm_io.specs.Shelf.{bytes_at, Rose, TakesAtMost, ReadsOnly};
+ghost use Rattle.cm_cli.specs.Reading.{IsWorldRead, IsLogRead, IsReady, FileFaults, FilesFaults, WorldStands, TakesFor, ReadsFor, ReadsInOrder, unready_by};
+ghost use Rattle.cm_io.specs.Shelf.{bytes_at, Rose, TakesAtMost, ReadsByBytes, CountsApart};
 ghost use Rattle.cm_base.specs.Limited.{limit_number};
 ghost use Rattle.cm_declared.specs.World.{world_of};
 ghost use Rattle.model_cred.specs.World.{KeepsWorld};
@@ -40,10 +40,13 @@ pub(crate) fn read_files<H: Shelf>(
     ensures not_usage { result ≢ Err (Unready.Refused Short.Usage) }
     ensures held { H.held shelf.new ≡ H.held shelf.old }
     ensures faults { FilesFaults (H.faults shelf.old) (H.faults shelf.new) world.now log.now result }
-    // Of each file at most its limit and one byte are taken, and no other name is read.
+    // Of each file at most its limit and one byte are taken, in no more reads than bytes and one more, and no other name is
+    // read.
     ensures takes { TakesFor (Some (world.now, log.now)) (H.taken shelf.old) (H.taken shelf.new) }
-    ensures reads { ReadsFor (Some (world.now, log.now)) (H.reads shelf.old) (H.reads shelf.new) }
+    ensures reads { ReadsFor (Some (world.now, log.now)) (H.reads shelf.old) (H.reads shelf.new) (H.taken shelf.old) (H.taken shelf.new) }
     // Only a world that stands lets the log be read.
+    ensures waits { ReadsInOrder (H.held shelf.old) (Some (world.now, log.now)) (H.faults shelf.old) (H.faults shelf.new)
+        (H.reads shelf.old) (H.reads shelf.new) }
     ensures order { IfSome (H.held shelf.old) (λ files. result ≡ Err Unready.ReadFault →
         Rose (H.faults shelf.old world.now) (H.faults shelf.new world.now) ⊎ WorldStands (bytes_at files world.now)) }
 {
@@ -65,7 +68,7 @@ fn read_world_file<H: Shelf>(alloc: Global, shelf: &mut H, name: &str) -> Result
     ensures held { H.held shelf.new ≡ H.held shelf.old }
     ensures faults { FileFaults (H.faults shelf.old) (H.faults shelf.new) name.now result }
     ensures takes { TakesAtMost (H.taken shelf.old) (H.taken shelf.new) name.now (limit_number Limited.World + 1) }
-    ensures reads { ReadsOnly (H.reads shelf.old) (H.reads shelf.new) name.now }
+    ensures reads { ReadsByBytes (H.reads shelf.old) (H.reads shelf.new) (H.taken shelf.old) (H.taken shelf.new) name.now 1 }
 {
     let limit = Limited::World.number() as usize;
     let mut text = Vec::new(alloc);
@@ -102,7 +105,9 @@ fn read_log_file<H: Shelf>(alloc: Global, shelf: &mut H, name: &str) -> Result<V
     ensures held { H.held shelf.new ≡ H.held shelf.old }
     ensures faults { FileFaults (H.faults shelf.old) (H.faults shelf.new) name.now result }
     ensures takes { TakesAtMost (H.taken shelf.old) (H.taken shelf.new) name.now (limit_number Limited.Log + 1) }
-    ensures reads { ReadsOnly (H.reads shelf.old) (H.reads shelf.new) name.now }
+    ensures reads { ReadsByBytes (H.reads shelf.old) (H.reads shelf.new) (H.taken shelf.old) (H.taken shelf.new) name.now 1 }
+    ensures apart { CountsApart (H.counted shelf.old) (H.faults shelf.old) (H.faults shelf.new)
+        (H.reads shelf.old) (H.reads shelf.new) name.now }
 {
     let limit = Limited::Log.number() as usize;
     let mut text = Vec::new(alloc);

@@ -2,4 +2,5 @@ pub mod Counting
 pub mod Files
 pub mod Front
 pub mod Places
+pub mod ReadCounts
 pub mod Written

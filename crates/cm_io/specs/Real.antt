@@ -1,10 +1,11 @@
--- What a shelf of real files counts.
-use Rattle.std.specs.Prelude.{◌≡◌, ◌≢◌, ℕ, List, ◌||◌, IsTrue, Result, if◌then◌else◌}
+-- What a shelf of real files counts, and the bytes of a real sink.
+use Rattle.std.specs.Prelude.{◌≡◌, ◌≢◌, ℕ, List, ◌||◌, IsTrue, Result, Option, if◌then◌else◌}
 use Rattle.cm_io.specs.Shelf.{ReadFaults, CountsOn, reads_made, bytes_given}
 use Rattle.cm_io.specs.Counts.{faults_of, reads_of, taken_of, counts_name, names_of}
 use Rattle.cm_io.specs.declared.outside.Outside.{Outside}
 use Rattle.cm_io.specs.declared.real.Tally.{Tally}
 use Rattle.cm_io.specs.declared.real.RealShelf.{RealShelf}
+use Rattle.cm_io.specs.declared.real.RealSink.{RealSink}
 
 -- what a shelf counts: for each name that was handed over, and the faults of all others
 abbrev pub real_tally : {R File Dir : Type 0} → RealShelf R File Dir → Tally
@@ -26,3 +27,7 @@ pub record TalliesRead (old new : Tally) (name : List ℕ) (read : Result ℕ Ou
   pub reads : CountsOn (counts_name old.counts) (reads_of old.counts) (reads_of new.counts) name (reads_made read)
   pub taken : CountsOn (counts_name old.counts) (taken_of old.counts) (taken_of new.counts) name (bytes_given read)
   pub others : OtherTalliesStay old new name
+
+-- the bytes that the writer of a sink holds, as the writer's contract tells of them
+abbrev pub writer_bytes : {W : Type 0} → (W → Option (List ℕ)) → RealSink W → Option (List ℕ)
+writer_bytes contents sink = contents sink.writer

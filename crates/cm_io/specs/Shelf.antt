@@ -61,6 +61,24 @@ pub record TakesAtMost (before now : List ℕ → ℕ) (name : List ℕ) (most :
   pub here : now name ≤ before name + most
   pub others : (n : List ℕ) → n ≢ name → now n ≡ before n
 
--- the counts of reads, before and after: that of a name may have changed, and no other one
-abbrev pub ReadsOnly : (before now : List ℕ → ℕ) → List ℕ → Type 0
-ReadsOnly before now name = (n : List ℕ) → n ≢ name → now n ≡ before n
+-- counts before and after: that of a name may have changed, and no other one
+abbrev pub OthersStay : (before now : List ℕ → ℕ) → List ℕ → Type 0
+OthersStay before now name = (n : List ℕ) → n ≢ name → now n ≡ before n
+
+-- How often a name was read, and how many bytes that gave, before and after: each of the reads gave a byte at least, but for
+-- so many. A count of bytes at its last value tells no more.
+abbrev pub EachGives : (reads reads' taken taken' idle : ℕ) → Type 0
+EachGives reads reads' taken taken' idle = (reads' + taken ≤ reads + taken' + idle) ⊎ (2 ^ 64 - 1 ≤ taken')
+
+-- the counts of reads and of bytes, before and after: of a name each read gave a byte, but for so many, and no other name was
+-- read
+pub record ReadsByBytes (reads reads' taken taken' : List ℕ → ℕ) (name : List ℕ) (idle : ℕ) : Type 0 where
+  pub later : taken name ≤ taken' name
+  pub here : EachGives (reads name) (reads' name) (taken name) (taken' name) idle
+  pub others : OthersStay reads reads' name
+
+-- The counts of faults and of reads, before and after a name was read: where it is counted, no other name's faults changed;
+-- where it isn't, its reads didn't.
+pub record CountsApart (counted : List ℕ → Bool) (faults faults' reads reads' : List ℕ → ℕ) (name : List ℕ) : Type 0 where
+  pub faults_stay : IsTrue (counted name) → OthersStay faults faults' name
+  pub reads_stay : IsTrue (not (counted name)) → reads' name ≡ reads name

@@ -54,7 +54,7 @@ impl MemShelf {
 
 impl Shelf for MemShelf {
     ghost use Rattle.std.specs.Prelude.{◌≢◌, ◌≤◌, ◌↔◌, ℕ, List, length, Some, IsTrue, true, IfOk};
-    ghost use Rattle.cm_io.specs.Shelf.{ReadsHeld, ReadFaults, CountsOn, reads_made, bytes_given};
+    ghost use Rattle.cm_io.specs.Shelf.{ReadsHeld, ReadFaults, CountsOn, OthersStay, reads_made, bytes_given};
     ghost use Rattle.cm_io.specs.Counts.{faults_of, reads_of, taken_of, counts_name, names_of, noted, SameCounts};
     ghost use Rattle.cm_io.specs.Held.{held_files, GivesAll};
     ghost use Rattle.cm_io.specs.Turns.{TakesTurn};
@@ -81,6 +81,8 @@ impl Shelf for MemShelf {
         ensures held { ⟦<MemShelf as Shelf>⟧.held self.new ≡ ⟦<MemShelf as Shelf>⟧.held self.old }
         ensures cause { ReadFaults (⟦<MemShelf as Shelf>⟧.faults self.old)
             (⟦<MemShelf as Shelf>⟧.faults self.new) name.now result }
+        ensures apart { IsTrue (⟦<MemShelf as Shelf>⟧.counted self.old name.now) →
+            OthersStay (⟦<MemShelf as Shelf>⟧.faults self.old) (⟦<MemShelf as Shelf>⟧.faults self.new) name.now }
         ensures counted { (n : List ℕ) →
             ⟦<MemShelf as Shelf>⟧.counted self.new n ≡ ⟦<MemShelf as Shelf>⟧.counted self.old n }
         ensures reads { CountsOn (⟦<MemShelf as Shelf>⟧.counted self.old) (⟦<MemShelf as Shelf>⟧.reads self.old)

@@ -1,6 +1,7 @@
 // The real outside: the files of the system, and a writer such as standard output. No contract can
 // say what they hold.
-ghost use Rattle.std.specs.Prelude.{◌≡◌, ◌≢◌, ◌≤◌, ℕ, List, None, length, map, IfOk, IfSome, is_some, string_bytes};
+ghost use Rattle.std.specs.Prelude.{◌≡◌, ◌≢◌, ◌≤◌, ℕ, List, None, length, map, IfOk, IfSome, IsTrue, is_some, string_bytes};
+ghost use Rattle.std.specs.Io.KnownBytes.{WriteAppends};
 
 use crate::counts::Counts;
 use crate::{NoMemory, Outside, Shelf, Sink};
@@ -111,7 +112,7 @@ fn copies_of(alloc: Global, names: &Vec<String>) -> Result<Vec<String>, NoMemory
 }
 
 impl<R: Files> Shelf for RealShelf<R> {
-    ghost use Rattle.cm_io.specs.Shelf.{ReadsHeld, ReadFaults, CountsOn, reads_made, bytes_given};
+    ghost use Rattle.cm_io.specs.Shelf.{ReadsHeld, ReadFaults, CountsOn, OthersStay, reads_made, bytes_given};
     ghost use Rattle.cm_io.specs.Counts.{reads_of, taken_of, counts_name};
     ghost use Rattle.cm_io.specs.Real.{tally_faults, real_tally, OtherTalliesStay};
 
@@ -133,6 +134,8 @@ impl<R: Files> Shelf for RealShelf<R> {
         ensures held { ⟦<RealShelf<R> as Shelf>⟧.held self.new ≡ None }
         ensures cause { ReadFaults (⟦<RealShelf<R> as Shelf>⟧.faults self.old)
             (⟦<RealShelf<R> as Shelf>⟧.faults self.new) name.now result }
+        ensures apart { IsTrue (⟦<RealShelf<R> as Shelf>⟧.counted self.old name.now) →
+            OthersStay (⟦<RealShelf<R> as Shelf>⟧.faults self.old) (⟦<RealShelf<R> as Shelf>⟧.faults self.new) name.now }
         ensures counted { (n : List ℕ) →
             ⟦<RealShelf<R> as Shelf>⟧.counted self.new n ≡ ⟦<RealShelf<R> as Shelf>⟧.counted self.old n }
         ensures reads { CountsOn (⟦<RealShelf<R> as Shelf>⟧.counted self.old) (⟦<RealShelf<R> as Shelf>⟧.reads self.old)
@@ -218,7 +221,8 @@ fn read_once<F: Read>(file: &mut F, buf: &mut [u8]) -> Option<usize>
     None
 }
 
-/// A writer such as standard output. It tells nothing of what was written.
+/// A writer such as standard output. As a sink it tells nothing of what was written; of the bytes that its writer holds
+/// each call says what the writer's contract says.
 ///
 /// The writer is to hold nothing back: no call flushes it.
 #[derive(Drop)]
@@ -228,16 +232,23 @@ pub struct RealSink<W: Write> {
 }
 
 impl<W: Write> RealSink<W> {
+    ghost use Rattle.cm_io.specs.Real.{writer_bytes};
+
     /// A sink over this writer. The count of faults is 0.
     pub fn new(writer: W) -> RealSink<W>
         ensures written { ⟦<RealSink<W> as Sink>⟧.written result ≡ None }
         ensures faults { ⟦<RealSink<W> as Sink>⟧.faults result ≡ 0 }
+        ensures bytes { writer_bytes W.contents result ≡ W.contents writer }
     {
         RealSink { writer, faults: 0 }
     }
 }
 
 impl<W: Write> Sink for RealSink<W> {
+    ghost use Rattle.std.specs.Io.KnownBytes.{WriteAppends};
+    ghost use Rattle.cm_io.specs.Sink.{then_written, sent, WriteFaults};
+    ghost use Rattle.cm_io.specs.Real.{writer_bytes};
+
     ghost written = { λ _. None };
 
     ghost faults = { λ s. s.faults };
@@ -245,7 +256,17 @@ impl<W: Write> Sink for RealSink<W> {
     /// Each error is a fault, and so is a write that takes nothing of a piece that isn't empty; no call
     /// is made for an empty piece. A write that a signal interrupts is tried again, up to a million
     /// times. It never wants memory.
-    fn write(&mut self, piece: &[u8]) -> Result<usize, Outside> {
+    fn write(&mut self, piece: &[u8]) -> Result<usize, Outside>
+        ensures count { IfOk result (λ n. n ≤ length piece.now) }
+        ensures some { IfOk result (λ n. n ≡ 0 → length piece.now ≡ 0) }
+        ensures written { ⟦<RealSink<W> as Sink>⟧.written self.new
+            ≡ then_written (⟦<RealSink<W> as Sink>⟧.written self.old) (sent piece.now result) }
+        ensures cause { WriteFaults (⟦<RealSink<W> as Sink>⟧.faults self.old) (⟦<RealSink<W> as Sink>⟧.faults self.new) result }
+
+        // Known bytes of the writer grow by what was taken of the piece, and at an error by nothing.
+        ensures bytes { WriteAppends (writer_bytes W.contents self.old) (writer_bytes W.contents self.new) result piece.now }
+        ensures no_want { result ≢ Err Outside.NoMemory }
+    {
         if piece.is_empty() {
             return Ok(0);
         }
@@ -260,7 +281,8 @@ impl<W: Write> Sink for RealSink<W> {
 }
 
 fn write_once<W: Write>(writer: &mut W, piece: &[u8]) -> io::Result<usize>
-    ensures { IfOk result (λ n. n ≤ length piece.now) }
+    ensures count { IfOk result (λ n. n ≤ length piece.now) }
+    ensures bytes { WriteAppends (W.contents writer.old) (W.contents writer.new) result piece.now }
 {
     for _ in 0..TRIES {
         match writer.write(piece) {

@@ -1,6 +1,6 @@
 // Files as the program sees them: bytes under names, read from a place on.
-ghost use Rattle.std.specs.Prelude.{◌≡◌, ◌≤◌, List, ℕ, Bool, Option, length, IfOk};
-ghost use Rattle.cm_io.specs.Shelf.{Files, ReadsHeld, ReadFaults, CountsOn, reads_made, bytes_given};
+ghost use Rattle.std.specs.Prelude.{◌≡◌, ◌≤◌, List, ℕ, Bool, Option, length, IfOk, IsTrue};
+ghost use Rattle.cm_io.specs.Shelf.{Files, ReadsHeld, ReadFaults, CountsOn, OthersStay, reads_made, bytes_given};
 
 use crate::Outside;
 
@@ -29,13 +29,14 @@ pub trait Shelf {
     /// end of the file or for an empty `buf`, and a name that isn't held has no bytes.
     ///
     /// `Failed` comes only where the name's count of faults rose, and `NoMemory` where the shelf itself
-    /// wanted memory: then no count rose. What is held stays the same. After an error `buf`
-    /// may have any bytes, and none count as taken.
+    /// wanted memory: then no count rose. A read of a name that is counted changes no other name's count of
+    /// faults. What is held stays the same. After an error `buf` may have any bytes, and none count as taken.
     fn read_at(&mut self, name: &str, at: u64, buf: &mut [u8]) -> Result<usize, Outside>
         ensures count { IfOk result (λ n. n ≤ length buf.new) }
         ensures read { ReadsHeld (held self.old) name.now at buf.new result }
         ensures held { held self.new ≡ held self.old }
         ensures cause { ReadFaults (faults self.old) (faults self.new) name.now result }
+        ensures apart { IsTrue (counted self.old name.now) → OthersStay (faults self.old) (faults self.new) name.now }
         ensures counted { (n : List ℕ) → counted self.new n ≡ counted self.old n }
         ensures reads { CountsOn (counted self.old) (reads self.old) (reads self.new) name.now (reads_made result) }
         ensures taken { CountsOn (counted self.old) (taken self.old) (taken self.new) name.now (bytes_given result) };

@@ -43,7 +43,7 @@ impl SureShelf {
 
 impl Shelf for SureShelf {
     ghost use Rattle.std.specs.Prelude.{◌≢◌, ◌≤◌, ℕ, List, length, Some, IfOk, IsTrue, true};
-    ghost use Rattle.cm_io.specs.Shelf.{ReadsHeld, ReadFaults, CountsOn, reads_made, bytes_given};
+    ghost use Rattle.cm_io.specs.Shelf.{ReadsHeld, ReadFaults, CountsOn, OthersStay, reads_made, bytes_given};
     ghost use Rattle.cm_io.specs.Counts.{reads_of, taken_of, counts_name, names_of, noted, SameCounts};
     ghost use Rattle.cm_io.specs.Held.{held_files, GivesAll};
     ghost use Rattle.cm_io.specs.Sure.{sure_counts};
@@ -75,6 +75,8 @@ impl Shelf for SureShelf {
         ensures held { ⟦<SureShelf as Shelf>⟧.held self.new ≡ ⟦<SureShelf as Shelf>⟧.held self.old }
         ensures cause { ReadFaults (⟦<SureShelf as Shelf>⟧.faults self.old)
             (⟦<SureShelf as Shelf>⟧.faults self.new) name.now result }
+        ensures apart { IsTrue (⟦<SureShelf as Shelf>⟧.counted self.old name.now) →
+            OthersStay (⟦<SureShelf as Shelf>⟧.faults self.old) (⟦<SureShelf as Shelf>⟧.faults self.new) name.now }
         ensures counted { (n : List ℕ) →
             ⟦<SureShelf as Shelf>⟧.counted self.new n ≡ ⟦<SureShelf as Shelf>⟧.counted self.old n }
         ensures reads { CountsOn (⟦<SureShelf as Shelf>⟧.counted self.old) (⟦<SureShelf as Shelf>⟧.reads self.old)

@@ -193,31 +193,37 @@ fn files_are_read_whole(rt: HostRuntime) -> Result<(), Fail> {
 }
 
 // The path of a file of this test's own.
-fn own_path(rt: &HostRuntime, alloc: Global) -> Result<String, Fail> {
+fn own_path(rt: &HostRuntime, alloc: Global, which: &str) -> Result<String, Fail> {
     let dir = env::temp_dir(rt)?;
     let id = process::id(rt.process());
-    Ok(format!(in alloc; "{}/cm_io_{id}", dir.as_str())?)
+    Ok(format!(in alloc; "{}/cm_io_{id}_{which}", dir.as_str())?)
 }
 
 #[test]
 fn real_files_are_read(rt: HostRuntime) -> Result<(), Fail> {
     let alloc = rt.alloc();
-    let path = own_path(&rt, alloc)?;
-    let path = path.as_str();
+    let names = vec![in alloc;
+        own_path(&rt, alloc, "one")?,
+        own_path(&rt, alloc, "other")?,
+    ]?;
+    let (path, other) = (names[0].as_str(), names[1].as_str());
     let long = vec![in alloc; b'y'; 70_000]?;
     fs::write(&rt, path, long.as_slice())?;
-    let mut names = Vec::new(alloc);
-    names.push(String::from_str(alloc, path)?)?;
     let mut shelf = RealShelf::new(&rt, alloc, &names)?;
     let mut text = Vec::new(alloc);
     let got = read_whole(alloc, &mut shelf, path, 70_000, &mut text);
     assert!(rt; got == Ok(()) && text.as_slice() == long.as_slice());
     fs::write(&rt, path, "abcdef")?;
+    fs::write(&rt, other, "uvwxyz")?;
     check_read(&rt, &mut shelf, path, 0, 4, b"abcd");
+    // The other file is read up to the place at which the first one is read on.
+    check_read(&rt, &mut shelf, other, 0, 4, b"uvwx");
     check_read(&rt, &mut shelf, path, 4, 4, b"ef");
+    check_read(&rt, &mut shelf, other, 4, 4, b"yz");
     check_read(&rt, &mut shelf, path, 6, 4, b"");
     check_read(&rt, &mut shelf, path, 2, 2, b"cd");
     fs::remove_file(&rt, path)?;
+    fs::remove_file(&rt, other)?;
     check_fault(&rt, &mut shelf, path);
     check_fault(&rt, &mut shelf, "/");
     check_fault(&rt, &mut shelf, "/no/such/file");

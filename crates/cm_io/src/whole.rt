@@ -1,7 +1,7 @@
 // Whole files and whole pieces: reads and writes until nothing is left.
-ghost use Rattle.std.specs.Prelude.{◌≡◌, ◌≢◌, ◌++◌, ◌+◌, ◌-◌, ◌^◌, ◌<◌, ◌≤◌, ℕ, [], length, take, vec_len};
+ghost use Rattle.std.specs.Prelude.{◌≡◌, ◌≢◌, ◌++◌, ◌+◌, ◌-◌, ◌^◌, ◌<◌, ◌≤◌, ℕ, List, [], length, take, vec_len};
 ghost use Rattle.std.specs.Prelude.{IfOk, IfSome, OnOk, OnErr};
-ghost use Rattle.cm_io.specs.Shelf.{bytes_at, ReadsText, TakesAtMost, ReadsOnly};
+ghost use Rattle.cm_io.specs.Shelf.{bytes_at, ReadsText, TakesAtMost, ReadsByBytes, CountsApart};
 ghost use Rattle.cm_io.specs.Sink.{then_written, WriteFaults};
 ghost use Rattle.cm_io.specs.Whole.{WholeFaults};
 ghost use Rattle.cm_io.specs.declared.whole.WholeError.TheVariants.{NoMemory as OutOfMemory};
@@ -85,12 +85,16 @@ pub fn read_whole<H: Shelf>(
     ensures too_long { IfSome (H.held shelf.old) (λ files.
         result ≡ Err WholeError.TooMuch → limit < length (bytes_at files name.now)) }
 
-    // No byte is taken that the text doesn't keep, and no other name is read.
+    // No byte is taken that the text doesn't keep. The file is read at most once for each byte that is taken, and once more,
+    // and no other name is read.
     ensures takes { TakesAtMost (H.taken shelf.old) (H.taken shelf.new) name.now (vec_len text.new) }
-    ensures reads { ReadsOnly (H.reads shelf.old) (H.reads shelf.new) name.now }
+    ensures reads { ReadsByBytes (H.reads shelf.old) (H.reads shelf.new) (H.taken shelf.old) (H.taken shelf.new) name.now 1 }
 
     ensures held { H.held shelf.new ≡ H.held shelf.old }
     ensures cause { WholeFaults (H.faults shelf.old) (H.faults shelf.new) name.now result }
+    ensures counted { (n : List ℕ) → H.counted shelf.new n ≡ H.counted shelf.old n }
+    ensures apart { CountsApart (H.counted shelf.old) (H.faults shelf.old) (H.faults shelf.new)
+        (H.reads shelf.old) (H.reads shelf.new) name.now }
 {
     let mut buffer = zeros(alloc, PIECE)?;
     while text.len() <= limit {
@@ -124,7 +128,11 @@ fn read_more<H: Shelf>(
     ensures not_too_much { result ≢ Err WholeError.TooMuch }
     ensures cause { WholeFaults (H.faults shelf.old) (H.faults shelf.new) name.now result }
     ensures takes { TakesAtMost (H.taken shelf.old) (H.taken shelf.new) name.now (vec_len text.new - vec_len text.old) }
-    ensures reads { ReadsOnly (H.reads shelf.old) (H.reads shelf.new) name.now }
+    ensures reads { ReadsByBytes (H.reads shelf.old) (H.reads shelf.new) (H.taken shelf.old) (H.taken shelf.new) name.now
+        (1 - (vec_len text.new - vec_len text.old)) }
+    ensures counted { (n : List ℕ) → H.counted shelf.new n ≡ H.counted shelf.old n }
+    ensures apart { CountsApart (H.counted shelf.old) (H.faults shelf.old) (H.faults shelf.new)
+        (H.reads shelf.old) (H.reads shelf.new) name.now }
 {
     text.reserve(buffer.len())?;
     match shelf.read_at(name, text.len() as u64, buffer) {

@@ -1,7 +1,6 @@
-use Rattle.std.proofs.Common.{◌≡◌, Some, Err, ◌∙◌, sym, ap, refl, arith}
-use Rattle.cm_audit.specs.Told.{told, verdict_in}
-use Rattle.cm_base.specs.declared.limited.Limited.TheVariants as limit
-use Rattle.cm_cli.proofs.Auditing.{no_pid, too_large, told_verdict, standing_if, alive, put_as}
+use Rattle.std.proofs.Common.{Err, sym, ap, refl, arith}
+use Rattle.cm_audit.specs.Told.{told}
+use Rattle.cm_cli.proofs.Auditing.{too_large, told_verdict, standing_if, alive, put_as}
 use Rattle.cm_cli.proofs.answer.put_verdict.Goals as goal
 use Rattle.cm_cli.specs.Query.{query_view}
 use Rattle.cm_state.specs.Right.{right_of}

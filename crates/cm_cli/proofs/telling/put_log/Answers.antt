@@ -1,4 +1,4 @@
-use Rattle.std.proofs.Common.{◌≡◌, ◌∙◌, refl, sym}
+use Rattle.std.proofs.Common.{◌≡◌, ◌∙◌, sym}
 use Rattle.cm_base.specs.declared.status.Status.TheVariants as status
 use Rattle.cm_cli.proofs.LogReport.{log_text, log_whole, log_longer, is_answered, from_start, ends_there, within_there, mounts_there}
 use Rattle.cm_report.proofs.Waiting.{all_waits, sent_on, front_on, more_waits, front_of_longer, waits_as}

@@ -1,5 +1,6 @@
 use Rattle.std.proofs.Common.{rules, vec_len}
 use Rattle.cm_io.proofs.Front.{front_more}
+use Rattle.cm_io.proofs.ReadCounts.{apart_then, reads_then, reads_within}
 use Rattle.cm_io.proofs.whole.read_whole.Goals as goal
 
 pub loop-text-preserved : goal.loop-text-preserved
@@ -11,6 +12,9 @@ loop-text-preserved g c = record {
       c.loop-text.invariant.front (rw c.loop-text.invariant.held at c.in-Ok.ensures.read) c.in-Ok.ensures.text c.in-Ok.ensures.len;
   held = search rules;
   takes = search rules;
-  reads = search rules;
+  reads = reads_within _ _ _ _ c.args.name.now _ 0 (search rules)
+      (reads_then _ _ _ _ _ _ c.args.name.now 0 _ c.loop-text.invariant.reads c.read_more.ensures.reads);
+  counted = search rules;
+  apart = apart_then _ _ _ _ _ _ _ _ c.args.name.now (c.loop-text.invariant.counted c.args.name.now) c.loop-text.invariant.apart c.read_more.ensures.apart;
   faults = search rules;
 }

@@ -1,5 +1,5 @@
 use Rattle.std.proofs.Common.{◌≡◌, ◌+◌, ◌-◌, ◌≤◌, ℕ, List, vec_len}
-use Rattle.cm_io.specs.Shelf.{TakesAtMost, ReadsOnly}
+use Rattle.cm_io.specs.Shelf.{TakesAtMost, ReadsByBytes, CountsApart}
 use Rattle.cm_io.proofs.Front.{IsFront}
 use Rattle.cm_io.proofs.whole.read_whole.Given as goal
 
@@ -11,7 +11,11 @@ invariant-loop-text g l = record {
   front : IsFront (g.H.Shelf.held l.initial.shelf) l.name (vec_len l.text) l.text.items;
   held : g.H.Shelf.held l.shelf ≡ g.H.Shelf.held l.initial.shelf;
   takes : TakesAtMost (g.H.Shelf.taken l.initial.shelf) (g.H.Shelf.taken l.shelf) l.name (vec_len l.text);
-  reads : ReadsOnly (g.H.Shelf.reads l.initial.shelf) (g.H.Shelf.reads l.shelf) l.name;
+  reads : ReadsByBytes (g.H.Shelf.reads l.initial.shelf) (g.H.Shelf.reads l.shelf)
+      (g.H.Shelf.taken l.initial.shelf) (g.H.Shelf.taken l.shelf) l.name 0;
+  counted : (n : List ℕ) → g.H.Shelf.counted l.shelf n ≡ g.H.Shelf.counted l.initial.shelf n;
+  apart : CountsApart (g.H.Shelf.counted l.initial.shelf) (g.H.Shelf.faults l.initial.shelf) (g.H.Shelf.faults l.shelf)
+      (g.H.Shelf.reads l.initial.shelf) (g.H.Shelf.reads l.shelf) l.name;
   faults : (n : List ℕ) → g.H.Shelf.faults l.shelf n ≡ g.H.Shelf.faults l.initial.shelf n;
 }
 

@@ -1,0 +1,5 @@
+use Rattle.std.proofs.Common.{rules}
+use Rattle.cm_cli.proofs.commands.run_surely.Goals as goal
+
+pub returns-clause-settled : goal.returns-clause-settled
+returns-clause-settled c valid asks = c.run.ensures.settled valid (search rules) asks

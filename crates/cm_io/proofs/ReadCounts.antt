@@ -1,0 +1,80 @@
+-- How often a name is read, by the bytes that the reads give, and which counts that leaves.
+use Rattle.std.proofs.Common.{◌≡◌, ◌+◌, ◌-◌, ◌^◌, ◌≤◌, ℕ, List, Bool, not, IsTrue, inl, inr, arith, refl, subst, sym, ◌∙◌}
+use Rattle.std.proofs.lemmas.Bool.{cases_Bool, cases_lt}
+use Rattle.cm_io.specs.Shelf.{CountsOn, CountsApart, EachGives, OthersStay, ReadsByBytes}
+
+-- counts that stay
+pub reads_none : (reads taken : List ℕ → ℕ) (name : List ℕ) (idle : ℕ) → ReadsByBytes reads reads taken taken name idle
+reads_none reads taken name idle = record { later = omega arith; here = inl (omega arith); others = λ n other. refl }
+
+-- a read that is counted
+pub read_gives : (counted : List ℕ → Bool) (reads reads' taken taken' : List ℕ → ℕ) (name : List ℕ) (made given : ℕ) → made ≤ 1
+    → CountsOn counted reads reads' name made → CountsOn counted taken taken' name given
+    → ReadsByBytes reads reads' taken taken' name (1 - given)
+read_gives counted reads reads' taken taken' name made given one made_on given_on = record {
+  later = given_on.later;
+  here = elim (cases_Bool (counted name)) [
+    | inl is ↦
+        let all = given_on.all is in
+        elim (cases_lt (taken' name) (2 ^ 64 - 1)) [
+          | inl below ↦ inl (omega (arith, one, made_on.most, all, below))
+          | inr last ↦ inr last
+        ]
+    | inr isnt ↦
+        let no_reads = made_on.uncounted (rw isnt refl) in
+        let no_bytes = given_on.uncounted (rw isnt refl) in
+        inl (omega (arith, no_reads, no_bytes, given_on.later))
+  ];
+  others = made_on.others;
+}
+
+-- some reads of a name, and then some more
+pub each_then : (reads reads' reads'' taken taken' taken'' a b : ℕ) → taken' ≤ taken'' → EachGives reads reads' taken taken' a
+    → EachGives reads' reads'' taken' taken'' b → EachGives reads reads'' taken taken'' (a + b)
+each_then reads reads' reads'' taken taken' taken'' a b later (inl gives) (inl gives') = inl (omega (arith, gives, gives'))
+each_then reads reads' reads'' taken taken' taken'' a b later (inl gives) (inr last) = inr last
+each_then reads reads' reads'' taken taken' taken'' a b later (inr last) second = inr (omega (arith, last, later))
+
+pub reads_then : (reads reads' reads'' taken taken' taken'' : List ℕ → ℕ) (name : List ℕ) (a b : ℕ)
+    → ReadsByBytes reads reads' taken taken' name a → ReadsByBytes reads' reads'' taken' taken'' name b
+    → ReadsByBytes reads reads'' taken taken'' name (a + b)
+reads_then reads reads' reads'' taken taken' taken'' name a b first second = record {
+  later = omega (arith, first.later, second.later);
+  here = each_then (reads name) (reads' name) (reads'' name) (taken name) (taken' name) (taken'' name) a b second.later first.here second.here;
+  others = λ n other. second.others n other ∙ first.others n other;
+}
+
+-- more that give nothing are allowed
+pub each_within : (reads reads' taken taken' a b : ℕ) → a ≤ b → EachGives reads reads' taken taken' a → EachGives reads reads' taken taken' b
+each_within reads reads' taken taken' a b within (inl gives) = inl (omega (arith, within, gives))
+each_within reads reads' taken taken' a b within (inr last) = inr last
+
+pub reads_within : (reads reads' taken taken' : List ℕ → ℕ) (name : List ℕ) (a b : ℕ) → a ≤ b → ReadsByBytes reads reads' taken taken' name a
+    → ReadsByBytes reads reads' taken taken' name b
+reads_within reads reads' taken taken' name a b within gives = record {
+  later = gives.later;
+  here = each_within (reads name) (reads' name) (taken name) (taken' name) a b within gives.here;
+  others = gives.others;
+}
+
+-- counts that stay are apart
+pub apart_none : (counted : List ℕ → Bool) (faults reads : List ℕ → ℕ) (name : List ℕ) → CountsApart counted faults faults reads reads name
+apart_none counted faults reads name = record { faults_stay = λ is n other. refl; reads_stay = λ isnt. refl }
+
+-- those of a read
+pub read_apart : (counted : List ℕ → Bool) (faults faults' reads reads' : List ℕ → ℕ) (name : List ℕ) (made : ℕ)
+    → (IsTrue (counted name) → OthersStay faults faults' name) → CountsOn counted reads reads' name made
+    → CountsApart counted faults faults' reads reads' name
+read_apart counted faults faults' reads reads' name made stay on = record {
+  faults_stay = stay;
+  reads_stay = λ isnt. let none = on.uncounted isnt in omega (arith, none, on.later);
+}
+
+-- and of some reads, and then some more
+pub apart_then : (counted counted' : List ℕ → Bool) (faults faults' faults'' reads reads' reads'' : List ℕ → ℕ) (name : List ℕ)
+    → counted' name ≡ counted name → CountsApart counted faults faults' reads reads' name → CountsApart counted' faults' faults'' reads' reads'' name
+    → CountsApart counted faults faults'' reads reads'' name
+apart_then counted counted' faults faults' faults'' reads reads' reads'' name same first second = record {
+  faults_stay = λ is n other. second.faults_stay (subst (λ (t : Bool). IsTrue t) (sym same) is) n other ∙ first.faults_stay is n other;
+  reads_stay = λ isnt. second.reads_stay (subst (λ (t : Bool). IsTrue (not t)) (sym same) isnt) ∙ first.reads_stay isnt;
+}
