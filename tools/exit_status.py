@@ -1,16 +1,19 @@
 #!/usr/bin/env python3
-"""Runs the built program once for each status that it can end with but 0 and 10, and compares status and bytes with what
-docs/FORMATS.md tells.
+"""Runs the built program for each status that it can end with, and with words of many kinds, and compares status and bytes
+with what docs/FORMATS.md tells.
 
   exit_status.py [PROGRAM]
 
 PROGRAM is credaudit; left out, the one that was built in this repository. The world, the log and the front of the reports
 are those of the stored run (crates/credaudit). So it shows what no contract says of `main`: it carries out the words once,
-writes nothing else, to standard output or standard error, and ends with the number of the answer. Status 10 (no memory)
-isn't among them: tools/refusals.py has it. Status 0: nothing differs; 1: something does; 2: there is no program.
+all of them and in their order, writes nothing else, to standard output or standard error, and ends with the number of the
+answer. For status 10 (no memory) the program gets less memory than its log takes. Status 0: nothing differs; 1: something
+does; 2: there is no program.
 """
 import argparse
+import itertools
 import os
+import resource
 import subprocess
 import sys
 import tempfile
@@ -21,6 +24,8 @@ from recordings import program_of
 CRATE = os.path.join(os.path.dirname(os.path.abspath(__file__)), "..", "crates", "credaudit")
 FORMS = ("replay WORLD LOG", "audit WORLD LOG PID RIGHT", "check WORLD LOG PID RIGHT CERT", "confirm WORLD LOG PID RIGHT RUN",
          "drill N")
+# What the program gets, and a log past it that is within its limit.
+MEMORY, LARGE = 32 << 20, 60 << 20
 USAGE = "".join(f"usage: credaudit {form}\n" for form in FORMS)
 
 
@@ -43,6 +48,9 @@ def files(world, log):
         "held": 'log = "script"\n[[process]]\npid = 100\nuid = 1000\npermitted = "CAP_KILL"\n'
                 '[filter]\nexclude = ["capset"]\n',
         "empty": "",
+        "a world": world,
+        "-log\n": log,
+        "large": "#" + "\n" * LARGE,
     }
 
 
@@ -50,10 +58,25 @@ HELD = ("> 100 init uid=1000,1000,1000,1000 gid=0,0,0,0 groups=- inh=00000000000
         "eff=0000000000000000 bnd=000001ffffffffff amb=0000000000000000 sec=00 nnp=0\nend 0\n")
 
 
+AUDIT = ("world", "log", "100", "uid:1000")
+
+
+def ordered(report, world, log, pid, right):
+    """Status and text of an audit by these words, which are those of AUDIT in some order."""
+    if world == "log":
+        return 4, "bad world whole 0: Toml\n"
+    if world != "world" or log != "log":
+        return 7, ""
+    return (1, report + "no 0\nholder 100\n") if pid == "100" else (12, report + "bad query: pid\n")
+
+
 def rows(report):
     """Words, status and text of each run; the stored run's report ends with a line `end 1`."""
     front = report[:report.index("end 1\n")]
+    later = ("world", "log", "100", "uid:1000", "log")
     return [
+        (("replay", "world", "log"), 0, report),
+        (("audit", "world", "log", "100", "uid:0"), 0, report + "yes\n"),
         (("audit", "world", "log", "100", "uid:1000"), 1, report + "no 0\nholder 100\n"),
         (("audit", "held", "empty", "100", "cap:CAP_KILL@init"), 2, HELD + "undecided start init\n"),
         (("replay", "world", "impossible"), 3, front + "impossible line 2: the rules give EPERM\n"),
@@ -66,16 +89,38 @@ def rows(report):
         (("replay", "long", "log"), 9, "limit world 1048576\n"),
         (("audit", "world", "log", "7", "uid:0"), 12, report + "bad query: pid\n"),
         (("drill", "1"), 13, "not built\n"),
+        # Each word counts, the empty one and the last one too, and their order does.
+        *[(("audit", *words), *ordered(report, *words)) for words in itertools.permutations(AUDIT)],
+        (("replay", "a world", "-log\n"), 0, report),
+        (("replay", "", "log"), 7, ""),
+        (("replay", "world", "log", ""), 6, USAGE),
+        (("", "replay", "world", "log"), 6, USAGE),
+        (("world", "replay", "log"), 6, USAGE),
+        (("replay", "world", "log", *["log"] * 1000), 6, USAGE),
+        # Words that aren't UTF-8 are answered as no words are.
+        (("replay", "world", "log\udcff"), 6, USAGE),
+        (("audit", *AUDIT[:3]), 6, USAGE),
+        (("audit", *AUDIT, "log"), 6, USAGE),
+        *[((name, *later), 13, "not built\n") for name in ("check", "confirm")],
+        *[((name, *words), 6, USAGE) for name in ("check", "confirm") for words in (later[:4], (*later, "log"))],
+        (("drill", "100000"), 13, "not built\n"),
+        (("drill", "100001"), 6, USAGE),
+        (("drill", "1", "1"), 6, USAGE),
     ]
 
 
-def run(program, words, work, out):
-    return subprocess.run([program, *words], cwd=work, stdin=subprocess.DEVNULL, stdout=out, stderr=subprocess.PIPE)
+def run(program, words, work, out, prepared=None):
+    return subprocess.run([program, *words], cwd=work, stdin=subprocess.DEVNULL, stdout=out, stderr=subprocess.PIPE,
+                          preexec_fn=prepared)
+
+
+def with_less():
+    resource.setrlimit(resource.RLIMIT_AS, (MEMORY, MEMORY))
 
 
 def differs(words, wanted, got):
     if wanted != got:
-        print(f"credaudit {' '.join(words)}: wanted {wanted}, got {got}")
+        print(ascii(f"credaudit {' '.join(words[:8])}: wanted {wanted}, got {got}"))
     return wanted != got
 
 
@@ -94,7 +139,10 @@ def main():
         words = ("replay", "world", "log")
         got = run(program, words, work, full)
         wrong += differs(words, (8, b""), (got.returncode, got.stderr))
-    print(f"{len(table) + 1} runs, {wrong} differ")
+        words = ("replay", "world", "large")
+        got = run(program, words, work, subprocess.PIPE, with_less)
+        wrong += differs(words, (10, b"", b""), (got.returncode, got.stdout, got.stderr))
+    print(f"{len(table) + 2} runs, {wrong} differ")
     sys.exit(1 if wrong else 0)
 
 

@@ -1,7 +1,8 @@
 #!/usr/bin/env python3
-"""Runs two examples again and again, with one thing refused each time, and counts what the program answers.
+"""Runs two examples again and again, with one thing refused each time or with pipes for files, and counts what the program
+answers.
 
-  refusals.py [--only allocations|calls] [--form script|strace]
+  refusals.py [--only allocations|calls|pipes] [--form script|strace]
 
 The examples are the program's stored one, of a script log, and tools/data/strace_run, of a log of strace with a birth, held
 lines, an unfinished call and a map; its report is that of plain_report.py. --form takes one of them.
@@ -11,9 +12,13 @@ allocations   Each of the allocations that the built program asks for is refused
 calls         Each opening, read and write that the built program makes of its files and of standard output ends in an
               error, one a run, by the fault injection of strace (needed for this part alone); then each is
               interrupted once (EINTR), which mustn't be seen.
+pipes         Both files are pipes, and then FIFOs, which can be read once and from their front alone; what they have comes
+              byte by byte, in larger pieces, and at once. Then each second call on a FIFO is interrupted (strace). Last,
+              standard output is a pipe that nobody reads.
 
 Right answers are: status 10 (no memory), 7 (a read failed) or 8 (a write failed) with a front of the report, 7 with
-nothing of it; or the whole report with its own status. Any other one is printed, and the script ends with status 1.
+nothing of it; or the whole report with its own status; with pipes the whole report, and where nobody reads status 8. Any
+other one is printed, and the script ends with status 1.
 """
 import argparse
 import collections
@@ -22,6 +27,7 @@ import re
 import subprocess
 import sys
 import tempfile
+import threading
 
 from credaudit_tools.program import BUILT as PROGRAM
 from plain_report import report
@@ -150,6 +156,81 @@ def calls(example):
     return good
 
 
+class Pipe:
+    """A text as a pipe, or as a FIFO of that path: `word` names it, and it is filled so many bytes at once."""
+
+    def __init__(self, text, piece, path=None):
+        self.ends = () if path else os.pipe()
+        self.word = path or f"/dev/fd/{self.ends[0]}"
+        if path:
+            os.mkfifo(path)
+        threading.Thread(target=self.fill, args=(text, piece), daemon=True).start()
+
+    def fill(self, text, piece):
+        try:
+            with open(self.ends[1] if self.ends else self.word, "wb", buffering=0) as end:
+                for at in range(0, len(text), piece):
+                    end.write(text[at:at + piece])
+        except BrokenPipeError:
+            pass  # It was left unread: the answer shows it.
+
+
+def of_pipes(example, piece, fifos, *before):
+    """The status and what was written where both files are pipes, or FIFOs, filled so many bytes at once."""
+    with tempfile.TemporaryDirectory() as work:
+        pipes = {}
+        for name in example.files:
+            with open(os.path.join(example.folder, name), "rb") as file:
+                pipes[name] = Pipe(file.read(), piece, os.path.join(work, name) if fifos else None)
+        words = [pipes[word].word if word in pipes else word for word in example.words]
+        fds = [pipe.ends[0] for pipe in pipes.values() if pipe.ends]
+        try:
+            run = subprocess.run([*before, PROGRAM, *words], stdin=subprocess.DEVNULL, stdout=subprocess.PIPE, pass_fds=fds,
+                                 timeout=60)
+        except subprocess.TimeoutExpired:
+            return "none", b""
+        finally:
+            for fd in fds:
+                os.close(fd)
+    return run.returncode, run.stdout
+
+
+def unread(example):
+    """The status where standard output is a pipe that nobody reads."""
+    ends = os.pipe()
+    os.close(ends[0])
+    with open(ends[1], "wb") as out:
+        return subprocess.run([PROGRAM, *example.words], cwd=example.folder, stdin=subprocess.DEVNULL, stdout=out).returncode
+
+
+def interrupted(example, work):
+    """The words before the program by which each second opening, read and write is interrupted, from its own first on."""
+    words, first = ["strace", "-o", "/dev/null"], {}
+    for name, number in calls_of(example, work):
+        first.setdefault(name, number)
+    for name, number in first.items():
+        words += ["-e", f"inject={name}:error=EINTR:when={number}+2"]
+    return words
+
+
+def pipes(example):
+    counts, good = collections.Counter(), True
+    with tempfile.TemporaryDirectory() as work:
+        runs = [(kind, piece, ()) for kind in ("pipes", "FIFOs") for piece in (1, 100, 1 << 20)]
+        runs.append(("FIFOs", 100, interrupted(example, work)))
+    for kind, piece, before in runs:
+        status, text = of_pipes(example, piece, kind == "FIFOs", *before)
+        answer = example.answer(status, text, ())
+        if answer is None:
+            print(f"{kind}, {piece} bytes at once: status {status}, {len(text)} bytes that are no right answer")
+            good = False
+        counts[answer or "wrong"] += 1
+    show(f"{example.form}, files that are pipes and FIFOs, the last ones with interruptions", counts)
+    status = unread(example)
+    print(f"{example.form}, nobody reads: status {status}")
+    return good and status == 8
+
+
 def show(title, counts):
     print(title)
     for answer, count in sorted(counts.items()):
@@ -159,17 +240,17 @@ def show(title, counts):
 
 
 def main():
-    ask = argparse.ArgumentParser(usage="refusals.py [--only allocations|calls] [--form script|strace]")
-    ask.add_argument("--only", choices=("allocations", "calls"))
+    parts = {"calls": calls, "allocations": allocations, "pipes": pipes}
+    ask = argparse.ArgumentParser(usage="refusals.py [--only allocations|calls|pipes] [--form script|strace]")
+    ask.add_argument("--only", choices=sorted(parts))
     ask.add_argument("--form", choices=EXAMPLES)
     asked, good = ask.parse_args(), True
     if not os.access(PROGRAM, os.X_OK):
         sys.exit("refusals.py: the program isn't built: run make first")
     examples = [EXAMPLES[form]() for form in ([asked.form] if asked.form else EXAMPLES)]
-    for example in examples if asked.only != "allocations" else ():
-        good = calls(example) and good
-    for example in examples if asked.only != "calls" else ():
-        good = allocations(example) and good
+    for part in [parts[asked.only]] if asked.only else parts.values():
+        for example in examples:
+            good = part(example) and good
     sys.exit(0 if good else 1)
 
 
