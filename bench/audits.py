@@ -33,6 +33,7 @@ LINKS, LINKS_SPACES, LONGEST = (32, 64, 128, 256), 32, 120.0
 
 @dataclass(frozen=True)
 class Size:
+    """How much of each a world has; `special` of the files are special ones."""
     members: int
     files: int
     spaces: int
@@ -55,10 +56,12 @@ class Made:
 
 
 def file_row(number: int, uid: int, gid: int, mode: str, caps: str | None = None) -> str:
+    """The row of a file."""
     return row("file", path=text(f"/f{number}"), uid=uid, gid=gid, mode=text(mode), caps=caps and text(caps))
 
 
 def special_row(number: int, at: int) -> str:
+    """The row of a special file, which is the one of that place among them."""
     if at % 2:
         return file_row(number, FIRST + at, FIRST + at, "0755", NET_RAW)
     return file_row(number, FIRST + at, FIRST + at, "4755")
@@ -77,6 +80,7 @@ def first_step(number: int, kind: str, last: int) -> str:
 
 
 def files_of(size: Size, kind: str, verdict: str) -> Iterator[str]:
+    """The rows of all files."""
     apart, last = max(1, size.files // size.special), 1000 + size.members - 1
     for number in range(size.files):
         at, is_special = number // apart, number % apart == 0 and number // apart < size.special
@@ -91,6 +95,7 @@ def files_of(size: Size, kind: str, verdict: str) -> Iterator[str]:
 
 
 def space_row(number: int, parent: str) -> str:
+    """The row of a space."""
     lines = "[[0, 0, 20000]]"
     return row("space", name=text(f"s{number}"), parent=text(parent), owner=8000 + number, uid_map=lines, gid_map=lines)
 
@@ -106,6 +111,7 @@ def member_row(number: int, size: Size, opens: str | None) -> str:
 
 
 def world(size: Size, kind: str, verdict: str, in_chains: bool = False) -> Made:
+    """A world for that verdict on a right of that kind."""
     opens = ("group" if kind == "uid" else "user") if verdict == "undecided" else None
     parents = ("init" if not in_chains or number % CHAIN == 1 else f"s{number - 1}" for number in range(1, size.spaces))
     rows = [*map(space_row, range(1, size.spaces), parents), *files_of(size, kind, verdict),
@@ -136,6 +142,7 @@ def links(count: int, spaces: int) -> Made:
 
 
 def seconds_of(program: str, made: Made, runs: int, work: str) -> float:
+    """The least seconds of that audit."""
     return turn_by_turn(program, [made], runs, work)[0]
 
 
@@ -171,11 +178,13 @@ def ended(words: list[str]) -> tuple[int, float]:
 
 
 def asked_of(size: Size) -> dict[str, Made]:
+    """The worlds of that size, by what is asked of them."""
     every = {f"{kind}, {verdict}": world(size, kind, verdict) for kind in KINDS for verdict in STATUS}
     return {**every, "cap, chains of 32 spaces": chained(size)}
 
 
 def past(bar: float, measured: float) -> str:
+    """That it is past the bar, where it is."""
     return "" if measured <= bar else f", past {bar:g}"
 
 
@@ -192,6 +201,7 @@ def all_within(program: str, runs: int, work: str, size: Size, most: float, unit
 
 
 def doubled(program: str, runs: int, work: str) -> bool:
+    """Whether each audit takes at most so many times as long with twice the members, spaces or files; that is shown."""
     print(f"\n{'times as long with twice the':48}" + "".join(f"{name:>10}" for name in HALVES))
     good = True
     whole, halves = asked_of(LIMITS), {name: asked_of(size) for name, size in HALVES.items()}

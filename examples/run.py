@@ -40,6 +40,7 @@ def difference(program: Program, folder: str) -> tuple[str, str] | None:
 
 
 def main() -> int:
+    """Compares all examples; the status."""
     if len(sys.argv) > 2 or sys.argv[1:2] in (["-h"], ["--help"]):
         print(__doc__ if len(sys.argv) == 2 else "usage: run.py [PROGRAM]",
               file=sys.stdout if len(sys.argv) == 2 else sys.stderr)

@@ -31,6 +31,7 @@ STAND_IN = Path(__file__).resolve().parent / "witness" / "stand_in.py"
 
 
 def trial(asked: Asked, searches: Searches, number: int) -> Outcome:
+    """One world: searched, asked, and compared."""
     query = small(asked.seed, number)
     settled = is_settled(query.world, query.pid)
     world, answer = trials.answered(asked, query, number)
@@ -48,6 +49,7 @@ def trial(asked: Asked, searches: Searches, number: int) -> Outcome:
 
 
 def search(asked: Asked) -> tuple[Counter[str], int]:
+    """What all trials count, and how many are wrong."""
     searches = Searches(asked.work, asked.search)
     try:
         return trials.counted(asked, lambda number: trial(asked, searches, number), small)
@@ -68,6 +70,7 @@ def selftest(asked: Asked) -> list[str]:
 
 
 def main() -> None:
+    """Tries the worlds that the words ask for, or the witness itself."""
     ask = trials.options("audit_witness.py", __doc__, 10000)
     ask.add_argument("--selftest", action="store_true", help="the witness is tried, with a hundredth of the queries")
     ask.add_argument("--search", help="a plain_search that is built already")

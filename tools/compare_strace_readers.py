@@ -1,13 +1,13 @@
 #!/usr/bin/env python3
-"""Compares what two plain readers of docs/STRACE.md read in logs of strace: plain_strace.py, and the unproved Rust program
-of bench/. Events, their numbers, and how the reading ends must be the same. The logs are those of odd_strace_logs.py, made
-by hand, and drawn ones. Then whole reports are compared, plain_report.py's with the Rust program's, of the recordings in
-examples/ and of what strangers.py draws; worlds that are refused are passed over.
+"""Compares what two plain readers of docs/STRACE.md read in logs of strace: plain_strace.py, and the unproved Rust
+program of bench/. Events, their numbers, and how the reading ends must be the same. The logs are those of
+odd_strace_logs.py, made by hand, and drawn ones. Then whole reports are compared, plain_report.py's with the Rust
+program's, of the recordings in examples/ and of what strangers.py draws; worlds that are refused are passed over.
 
   compare_strace_readers.py [--logs N] [--seed S] [--kind any|calm|files|reports] [--program PLAIN]
 
-PLAIN is bench/plain_replay.rs as rustc built it; left out, it is built anew (needs rustc). N logs (3000) of each kind, by
-draw_strace_logs.py. Status 1: they differ; the first log that differs is shown.
+PLAIN is bench/plain_replay.rs as rustc built it; left out, it is built anew (needs rustc). N logs (3000) of each kind,
+by draw_strace_logs.py. Status 1: they differ; the first log that differs is shown.
 """
 import argparse
 import itertools
@@ -16,6 +16,8 @@ import random
 import subprocess
 import sys
 import tempfile
+from collections.abc import Iterable, Iterator
+from typing import NamedTuple
 
 from draw_strace_logs import WORLD, Draws
 from odd_strace_logs import LOGS
@@ -31,20 +33,30 @@ TEXT = ('log = "strace"\n[[file]]\npath = "/bin/su"\nuid = 0\ngid = 0\nmode = "4
         '[[process]]\npid = 200\nuid = 0\n')
 
 
-def built(work):
+class Differs(NamedTuple):
+    """A log of which two programs tell something else: the lines of the Python one, and those of the Rust one."""
+    log: bytes
+    wanted: list[bytes]
+    told: list[bytes]
+
+
+def built(work: str) -> str:
+    """The Rust program, compiled into that folder."""
     program = os.path.join(work, "plain_replay")
     subprocess.run(["rustc", "-O", os.path.join(HERE, "..", "bench", "plain_replay.rs"), "-o", program], check=True)
     return program
 
 
-def readings(program, work, logs):
+def readings(program: str, work: str, logs: list[bytes]) -> list[list[bytes]]:
     """The lines that the Rust program writes of each log."""
     names = [os.path.join(work, f"{k}.log") for k in range(len(logs))]
     for name, log in zip(names, logs):
         with open(name, "wb") as file:
             file.write(log)
-    run = subprocess.run([program, "events", os.path.join(work, "world.toml"), *names], stdout=subprocess.PIPE, check=True)
-    found, lines = [], []
+    run = subprocess.run([program, "events", os.path.join(work, "world.toml"), *names], stdout=subprocess.PIPE,
+                         check=True)
+    found: list[list[bytes]] = []
+    lines: list[bytes] = []
     for line in run.stdout.split(b"\n")[:-1]:
         lines.append(line)
         if not line[:1].isdigit():
@@ -53,13 +65,13 @@ def readings(program, work, logs):
     return found
 
 
-def drawn(draws, count):
+def drawn(draws: Draws, count: int) -> Iterator[list[str]]:
     """That many drawn logs, some at a time."""
     for at in range(0, count, PIECE):
         yield ["".join(line + "\n" for line in draws.log()) for _ in range(min(PIECE, count - at))]
 
 
-def compare(program, work, pieces):
+def compare(program: str, work: str, pieces: Iterable[list[str]]) -> tuple[int, Differs | None]:
     """How many logs were read alike, and the first one that wasn't."""
     done = 0
     for piece in pieces:
@@ -68,12 +80,12 @@ def compare(program, work, pieces):
             events, ending = reading(WORLD, log)
             wanted = [line.encode("latin-1") for line in events + [ending]]
             if told != wanted:
-                return done, (log, wanted, told)
+                return done, Differs(log, wanted, told)
             done += 1
     return done, None
 
 
-def written(program, work, world, log):
+def written(program: str, work: str, world: bytes, log: bytes) -> tuple[int, bytes]:
     """The status and the report of the Rust program."""
     names = [os.path.join(work, name) for name in ("drawn.toml", "drawn.log")]
     for name, text in zip(names, (world, log)):
@@ -83,7 +95,7 @@ def written(program, work, world, log):
     return run.returncode, run.stdout
 
 
-def compare_reports(program, work, seed, count):
+def compare_reports(program: str, work: str, seed: int, count: int) -> tuple[int, Differs | None]:
     """How many reports are the same, and the first case that differs."""
     strangers, done = Strangers(), 0
     drawn_ones = (strangers.draw_strace(random.Random(f"{seed}:{number}")) for number in range(count))
@@ -98,20 +110,23 @@ def compare_reports(program, work, seed, count):
         if text == b"bad world\n":     # it reads the TOML of the bench alone
             continue
         if (status, text) != (seen.status, seen.text):
-            return done, (log, seen.text.split(b"\n"), text.split(b"\n"))
+            return done, Differs(log, seen.text.split(b"\n"), text.split(b"\n"))
         done += 1
     return done, None
 
 
-def show(log, wanted, told):
-    for number, line in enumerate(log.split(b"\n")[:20], 1):
+def show(differs: Differs) -> None:
+    """Writes the front of a log, and the ends of what the two tell of it."""
+    for number, line in enumerate(differs.log.split(b"\n")[:20], 1):
         print(f"  {number}: {line[:200]!r}")
-    for name, lines in (("plain_strace.py", wanted), ("plain_replay.rs", told)):
+    for name, lines in (("plain_strace.py", differs.wanted), ("plain_replay.rs", differs.told)):
         print(f"{name}:", *lines[-20:], sep="\n  ")
 
 
-def main():
-    ask = argparse.ArgumentParser(usage="compare_strace_readers.py [--logs N] [--seed S] [--kind KIND] [--program PLAIN]")
+def main() -> None:
+    """Compares the kinds that the words ask for."""
+    ask = argparse.ArgumentParser(usage="compare_strace_readers.py [--logs N] [--seed S] [--kind KIND]"
+                                        " [--program PLAIN]")
     ask.add_argument("--logs", type=int, default=3000)
     ask.add_argument("--seed", type=int, default=1)
     ask.add_argument("--kind", choices=KINDS)
@@ -129,7 +144,7 @@ def main():
                 done, differs = compare(program, work, pieces)
             print(f"{kind}: {done} {'are the same' if kind == 'reports' else 'logs are read alike'}", flush=True)
             if differs:
-                show(*differs)
+                show(differs)
                 good = False
     sys.exit(0 if good else 1)
 

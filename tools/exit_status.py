@@ -1,14 +1,14 @@
 #!/usr/bin/env python3
-"""Runs the built program for each status that it can end with, and with words of many kinds, and compares status and bytes
-with what docs/FORMATS.md tells.
+"""Runs the built program for each status that it can end with, and with words of many kinds, and compares status and
+bytes with what docs/FORMATS.md tells.
 
   exit_status.py [PROGRAM]
 
-PROGRAM is credaudit; left out, the one that was built in this repository. The world, the log and the front of the reports
-are those of the stored run (crates/credaudit). So it shows what no contract says of `main`: it carries out the words once,
-all of them and in their order, writes nothing else, to standard output or standard error, and ends with the number of the
-answer. For status 10 (no memory) the program gets less memory than its log takes. Status 0: nothing differs; 1: something
-does; 2: there is no program.
+PROGRAM is credaudit; left out, the one that was built in this repository. The world, the log and the front of the
+reports are those of the stored run (crates/credaudit). So it shows what no contract says of `main`: it carries out the
+words once, all of them and in their order, writes nothing else, to standard output or standard error, and ends with the
+number of the answer. For status 10 (no memory) the program gets less memory than its log takes. Status 0: nothing
+differs; 1: something does; 2: there is no program.
 """
 import argparse
 import itertools
@@ -17,24 +17,34 @@ import resource
 import subprocess
 import sys
 import tempfile
+from collections.abc import Callable, Sequence
+from typing import BinaryIO, NamedTuple
 
 from credaudit_tools.program import BUILT
 from recordings import program_of
 
 CRATE = os.path.join(os.path.dirname(os.path.abspath(__file__)), "..", "crates", "credaudit")
-FORMS = ("replay WORLD LOG", "audit WORLD LOG PID RIGHT", "check WORLD LOG PID RIGHT CERT", "confirm WORLD LOG PID RIGHT RUN",
-         "drill N")
+FORMS = ("replay WORLD LOG", "audit WORLD LOG PID RIGHT", "check WORLD LOG PID RIGHT CERT",
+         "confirm WORLD LOG PID RIGHT RUN", "drill N")
 # What the program gets, and a log past it that is within its limit.
 MEMORY, LARGE = 32 << 20, 60 << 20
 USAGE = "".join(f"usage: credaudit {form}\n" for form in FORMS)
 
 
-def of_crate(name):
+class Row(NamedTuple):
+    """The words of a run, and what it is to answer."""
+    words: tuple[str, ...]
+    status: int
+    text: str
+
+
+def of_crate(name: str) -> str:
+    """The text of a file of the program's crate."""
     with open(os.path.join(CRATE, name)) as file:
         return file.read()
 
 
-def files(world, log):
+def files(world: str, log: str) -> dict[str, str]:
     """The files of the runs: the stored world and log, and others."""
     return {
         "world": world,
@@ -61,7 +71,7 @@ HELD = ("> 100 init uid=1000,1000,1000,1000 gid=0,0,0,0 groups=- inh=00000000000
 AUDIT = ("world", "log", "100", "uid:1000")
 
 
-def ordered(report, world, log, pid, right):
+def ordered(report: str, world: str, log: str, pid: str, right: str) -> tuple[int, str]:
     """Status and text of an audit by these words, which are those of AUDIT in some order."""
     if world == "log":
         return 4, "bad world whole 0: Toml\n"
@@ -70,61 +80,66 @@ def ordered(report, world, log, pid, right):
     return (1, report + "no 0\nholder 100\n") if pid == "100" else (12, report + "bad query: pid\n")
 
 
-def rows(report):
-    """Words, status and text of each run; the stored run's report ends with a line `end 1`."""
+def rows(report: str) -> list[Row]:
+    """The runs; the stored run's report ends with a line `end 1`."""
     front = report[:report.index("end 1\n")]
     later = ("world", "log", "100", "uid:1000", "log")
     return [
-        (("replay", "world", "log"), 0, report),
-        (("audit", "world", "log", "100", "uid:0"), 0, report + "yes\n"),
-        (("audit", "world", "log", "100", "uid:1000"), 1, report + "no 0\nholder 100\n"),
-        (("audit", "held", "empty", "100", "cap:CAP_KILL@init"), 2, HELD + "undecided start init\n"),
-        (("replay", "world", "impossible"), 3, front + "impossible line 2: the rules give EPERM\n"),
-        (("replay", "bad", "log"), 4, "bad world process 1: UnknownKey\n"),
-        (("replay", "world", "faulty"), 5, front + "bad log line 2: shape\n"),
-        ((), 6, USAGE),
-        (("replay", "world"), 6, USAGE),
-        (("replay", "missing", "log"), 7, ""),
-        (("replay", "world", "missing"), 7, ""),
-        (("replay", "long", "log"), 9, "limit world 1048576\n"),
-        (("audit", "world", "log", "7", "uid:0"), 12, report + "bad query: pid\n"),
-        (("drill", "1"), 13, "not built\n"),
+        Row(("replay", "world", "log"), 0, report),
+        Row(("audit", "world", "log", "100", "uid:0"), 0, report + "yes\n"),
+        Row(("audit", "world", "log", "100", "uid:1000"), 1, report + "no 0\nholder 100\n"),
+        Row(("audit", "held", "empty", "100", "cap:CAP_KILL@init"), 2, HELD + "undecided start init\n"),
+        Row(("replay", "world", "impossible"), 3, front + "impossible line 2: the rules give EPERM\n"),
+        Row(("replay", "bad", "log"), 4, "bad world process 1: UnknownKey\n"),
+        Row(("replay", "world", "faulty"), 5, front + "bad log line 2: shape\n"),
+        Row((), 6, USAGE),
+        Row(("replay", "world"), 6, USAGE),
+        Row(("replay", "missing", "log"), 7, ""),
+        Row(("replay", "world", "missing"), 7, ""),
+        Row(("replay", "long", "log"), 9, "limit world 1048576\n"),
+        Row(("audit", "world", "log", "7", "uid:0"), 12, report + "bad query: pid\n"),
+        Row(("drill", "1"), 13, "not built\n"),
         # Each word counts, the empty one and the last one too, and their order does.
-        *[(("audit", *words), *ordered(report, *words)) for words in itertools.permutations(AUDIT)],
-        (("replay", "a world", "-log\n"), 0, report),
-        (("replay", "", "log"), 7, ""),
-        (("replay", "world", "log", ""), 6, USAGE),
-        (("", "replay", "world", "log"), 6, USAGE),
-        (("world", "replay", "log"), 6, USAGE),
-        (("replay", "world", "log", *["log"] * 1000), 6, USAGE),
+        *[Row(("audit", *words), *ordered(report, *words)) for words in itertools.permutations(AUDIT)],
+        Row(("replay", "a world", "-log\n"), 0, report),
+        Row(("replay", "", "log"), 7, ""),
+        Row(("replay", "world", "log", ""), 6, USAGE),
+        Row(("", "replay", "world", "log"), 6, USAGE),
+        Row(("world", "replay", "log"), 6, USAGE),
+        Row(("replay", "world", "log", *["log"] * 1000), 6, USAGE),
         # Words that aren't UTF-8 are answered as no words are.
-        (("replay", "world", "log\udcff"), 6, USAGE),
-        (("audit", *AUDIT[:3]), 6, USAGE),
-        (("audit", *AUDIT, "log"), 6, USAGE),
-        *[((name, *later), 13, "not built\n") for name in ("check", "confirm")],
-        *[((name, *words), 6, USAGE) for name in ("check", "confirm") for words in (later[:4], (*later, "log"))],
-        (("drill", "100000"), 13, "not built\n"),
-        (("drill", "100001"), 6, USAGE),
-        (("drill", "1", "1"), 6, USAGE),
+        Row(("replay", "world", "log\udcff"), 6, USAGE),
+        Row(("audit", *AUDIT[:3]), 6, USAGE),
+        Row(("audit", *AUDIT, "log"), 6, USAGE),
+        *[Row((name, *later), 13, "not built\n") for name in ("check", "confirm")],
+        *[Row((name, *words), 6, USAGE) for name in ("check", "confirm") for words in (later[:4], (*later, "log"))],
+        Row(("drill", "100000"), 13, "not built\n"),
+        Row(("drill", "100001"), 6, USAGE),
+        Row(("drill", "1", "1"), 6, USAGE),
     ]
 
 
-def run(program, words, work, out, prepared=None):
+def run(program: str, words: Sequence[str], work: str, out: int | BinaryIO,
+        prepared: Callable[[], None] | None = None) -> subprocess.CompletedProcess[bytes]:
+    """One run, within that folder; `prepared` is called in its process before it begins."""
     return subprocess.run([program, *words], cwd=work, stdin=subprocess.DEVNULL, stdout=out, stderr=subprocess.PIPE,
                           preexec_fn=prepared)
 
 
-def with_less():
+def with_less() -> None:
+    """Leaves the process less memory than its log takes."""
     resource.setrlimit(resource.RLIMIT_AS, (MEMORY, MEMORY))
 
 
-def differs(words, wanted, got):
+def differs(words: Sequence[str], wanted: object, got: object) -> bool:
+    """Whether a run answers otherwise; that is told."""
     if wanted != got:
         print(ascii(f"credaudit {' '.join(words[:8])}: wanted {wanted}, got {got}"))
     return wanted != got
 
 
-def main():
+def main() -> None:
+    """Compares all runs."""
     ask = argparse.ArgumentParser(usage="exit_status.py [PROGRAM]")
     ask.add_argument("program", nargs="?", default=BUILT)
     program, table, wrong = program_of(ask.parse_args()).path, rows(of_crate("stdout")), 0
@@ -136,14 +151,15 @@ def main():
             got = run(program, words, work, subprocess.PIPE)
             wrong += differs(words, (status, text.encode(), b""), (got.returncode, got.stdout, got.stderr))
         # Nothing can be written to a full device.
-        words = ("replay", "world", "log")
-        got = run(program, words, work, full)
-        wrong += differs(words, (8, b""), (got.returncode, got.stderr))
-        words = ("replay", "world", "large")
-        got = run(program, words, work, subprocess.PIPE, with_less)
-        wrong += differs(words, (10, b"", b""), (got.returncode, got.stdout, got.stderr))
+        of_log = ("replay", "world", "log")
+        got = run(program, of_log, work, full)
+        wrong += differs(of_log, (8, b""), (got.returncode, got.stderr))
+        of_large = ("replay", "world", "large")
+        got = run(program, of_large, work, subprocess.PIPE, with_less)
+        wrong += differs(of_large, (10, b"", b""), (got.returncode, got.stdout, got.stderr))
     print(f"{len(table) + 2} runs, {wrong} differ")
     sys.exit(1 if wrong else 0)
 
 
-main()
+if __name__ == "__main__":
+    main()

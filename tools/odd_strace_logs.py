@@ -139,23 +139,29 @@ x
 300 open("/proc/self/uid_map", O_WRONLY) = 3
 """
 
+MORE_GROUPS: tuple[tuple[int, list[str]], ...] = ((1024, []), (1025, ["1"]), (1025, ["x"]))     # after 1024 good ones
 LOGS = [
     # numbers past the greatest one count as one
-    '200 open("/proc/self/uid_map", O_WRONLY) = 99999999999\n200 open("/x", 0) = 88888888888\n200 clone(flags=CLONE_FILES) = 201\n',
+    '200 open("/proc/self/uid_map", O_WRONLY) = 99999999999\n200 open("/x", 0) = 88888888888\n'
+    "200 clone(flags=CLONE_FILES) = 201\n",
     f"200 setuid(1) = {BIG}\n", f"200 setfsuid(1) = {BIG}\n", f"200 fork() = {BIG}\n", f"200 setuid({BIG}) = 0\n",
     f"200 setuid({'0' * 5000}) = 0\n", f"200 prctl(PR_CAPBSET_DROP, 0x{'0' * 5000}1) = 0\n",
     '200 open("/proc/self/uid_map", O_WRONLY) = 4294967295\n200 write(4294967295, "0 0 1", 5) = 5\n',
     # descriptors
-    '200 write(3, "", 0) = 0\n200 open("/proc/self/uid_map", O_RDWR) = 3\n200 write(3, "", 0) = 0\n200 write(3, "\\n", 1) = 1\n',
+    '200 write(3, "", 0) = 0\n200 open("/proc/self/uid_map", O_RDWR) = 3\n200 write(3, "", 0) = 0\n'
+    '200 write(3, "\\n", 1) = 1\n',
     '200 creat("/proc/self/uid_map") = 3\n200 write(3, "1 2 3\\r\\n4\\t5 6 ", 99) = 14\n',
-    "200 creat() = 3\n200 open() = 3\n200 openat(1) = 3\n200 close() = 0\n200 dup() = 0\n200 fcntl(3) = 0\n200 write() = 0\n",
+    "200 creat() = 3\n200 open() = 3\n200 openat(1) = 3\n200 close() = 0\n200 dup() = 0\n200 fcntl(3) = 0\n"
+    "200 write() = 0\n",
     '200 open("/proc/777/task/200/ns/user", 0) = 3\n200 setns(3, CLONE_NEWUSER) = 0\n',
     FOLLOWED + "200 fork() = 201\n201 setns(3, 0) = 0\n200 clone(flags=CLONE_FILES) = 202\n",
     "".join(map(OPENS.format, range(65536))), "".join(map(OPENS.format, range(65537))),
     "".join(map(OPENS.format, range(32768))) + "200 fork() = 201\n200 close(0) = 0\n201 fork() = 202\n",
     # calls that aren't finished
-    "200 <unfinished ...>\n200 <...  resumed>setuid(0) = 0\n", "200 <unfinished ...>\n200 <... x resumed>setuid(0) = 0\n",
-    "200 setu<unfinished ...>\n200 <... setu resumed>id(0) = 0\n", "200 setuid3<unfinished ...>\n200 <... setuid3 resumed>2(0) = 0\n",
+    "200 <unfinished ...>\n200 <...  resumed>setuid(0) = 0\n",
+    "200 <unfinished ...>\n200 <... x resumed>setuid(0) = 0\n",
+    "200 setu<unfinished ...>\n200 <... setu resumed>id(0) = 0\n",
+    "200 setuid3<unfinished ...>\n200 <... setuid3 resumed>2(0) = 0\n",
     "200 read<unfinished ...>\n200 <... read resumed>32(0) = 0\n", "200 <unfinished ...>\n200 <unfinished ...>\n",
     "200 x<unfinished ...>\n200 y<unfinished ...>\n",
     "200 setuid(0 <unfinished ...>\n200 +++ exited with 0 +++\n200 <... setuid resumed>) = 0\n",
@@ -163,7 +169,8 @@ LOGS = [
     "300 read(0 <unfinished ...>\n300 <... read resumed>) = 0\n300 read( <unfinished ...>\n301 setuid(0) = x\n",
     # lines that are held
     '300 open("/proc/200/uid_map", O_WRONLY) = 3\n300 write(3, "0 0 1", 5) = 5\n',
-    '300 close(3) = 0\n300 dup(3) = 4\n300 execveat(3, "x") = -1 EPERM\n300 setns(3, 0) = -1 EPERM\n300 unshare() = 0\n300 prctl() = x\n',
+    '300 close(3) = 0\n300 dup(3) = 4\n300 execveat(3, "x") = -1 EPERM\n300 setns(3, 0) = -1 EPERM\n'
+    "300 unshare() = 0\n300 prctl() = x\n",
     "201 setuid(1) = 0\n201 +++ exited with 0 +++\n201 setuid(2) = 0\n200 fork() = 201\n200 fork() = 201\n",
     "201 fork() = 202\n202 fork() = 201\n201 setuid(4) = 0\n202 setuid(5) = 0\n200 fork() = 201\n",
     "201 fork() = 201\n201 setuid(1) = 0\n200 fork() = 201\n",
@@ -174,9 +181,11 @@ LOGS = [
     '200 fork() = 201\n201 open("/proc/self/ns/user", 0) = 3\n200 open("/proc/self/uid_map", O_WRONLY) = 3\n'
     '200 open("/proc/self/gid_map", O_WRONLY) = 4\n200 fork() = 201\n201 setns(3, 0) = 0\n201 write(4, "", 0) = 0\n',
     # long lines, blanks, and the limit of groups
-    "200 " + "x" * 1048572 + "\n", "200 " + "x" * 1048573 + "\n", " " * 1048576 + "\n200 setuid(0) = 0", " " * 1048577 + "\n",
-    "\n \n\t\r\n200\n200 \n 200 x\n", "200 setuid(0)\t=\t0\n", "200 setuid(0) = -1\tEPERM (x)\n", "200\tsetuid(0) = 0\n",
+    "200 " + "x" * 1048572 + "\n", "200 " + "x" * 1048573 + "\n", " " * 1048576 + "\n200 setuid(0) = 0",
+    " " * 1048577 + "\n",
+    "\n \n\t\r\n200\n200 \n 200 x\n", "200 setuid(0)\t=\t0\n", "200 setuid(0) = -1\tEPERM (x)\n",
+    "200\tsetuid(0) = 0\n",
     "200\vsetuid(0) = 0\n", "\x00\n", "200 setuid(0) = 0", "200 +++ exited  with\t3+++\n",
-    *(f"200 setgroups({n}, [{', '.join(['1'] * 1024 + more)}]) = 0\n" for n, more in ((1024, []), (1025, ["1"]), (1025, ["x"]))),
+    *(f"200 setgroups({n}, [{', '.join(['1'] * 1024 + more)}]) = 0\n" for n, more in MORE_GROUPS),
     *(line + "\n" for line in ALONE.strip("\n").split("\n")),
 ]

@@ -1,7 +1,10 @@
 """Hand-made rows for plain_reader.py, and their reading: texts beside what they are by docs/FORMATS.md. For
 `plain_reader.py --selftest`. What stands here was worked out by hand from the formats, never from a program's answer.
 """
-from plain_reader import CALLS, NotJudged, Refused, read_line, read_world
+from collections.abc import Callable
+from functools import partial
+
+from plain_reader import CALLS, NotJudged, Refused, World, read_line, read_world
 
 SCRIPT = 'log = "script"\n'
 SPACE = '[[space]]\nname = "box"\nparent = "init"\nowner = 1000\n'
@@ -12,24 +15,29 @@ PROCESS = "[[process]]\npid = 100\n"
 VERSION_2, VERSION_3 = "0100000200200000000000000000000000000000", "010000030020000000000000000000000000000000000000"
 
 
-def inner(maps, parent="box"):
+def inner(maps: str, parent: str = "box") -> str:
+    """A space below another one, with these maps."""
     return f'[[space]]\nname = "inner"\nparent = "{parent}"\nowner = 0\n{maps}'
 
 
-def chain(levels):
+def chain(levels: int) -> str:
+    """Spaces, each below the one before it."""
     names = ["init"] + [f"s{level}" for level in range(1, levels + 1)]
     return "".join(f'[[space]]\nname="{name}"\nparent="{above}"\nowner=0\n' for above, name in zip(names, names[1:]))
 
 
-def many(count, row):
+def many(count: int, row: str) -> str:
+    """Rows with the numbers from 1 on."""
     return "".join(row % number for number in range(1, count + 1))
 
 
-def extents(count):
+def extents(count: int) -> str:
+    """A map of so many lines."""
     return "uid_map = [" + ", ".join(f"[{number}, {number}, 1]" for number in range(count)) + "]\n"
 
 
-def bad(table, row, word):
+def bad(table: str, row: int, word: str) -> str:
+    """What a report says of that fault."""
     return f"bad world {table} {row}: {word}"
 
 
@@ -196,56 +204,78 @@ LINES = [
     (b"1", "call"), (b"1 SETUID 0 = 0", "call"), (b"1 = 0", "call"), (b"1 setuid\x0c0 = 0", "call"),
     (b"1 setuid 0", "shape"), (b"1 setuid 0 0 =", "shape"), (b"1 setuid 0 = 0 0", "shape"), (b"1 setuid 0 =0", "shape"),
     (b"1 setuid = = 0", "shape"), (b"1 fork = =", "result"),
-    (b"1 setuid = 0", "count"), (b"1 setuid 0 0 = 0", "count"), (b"1 exit 1 = 0", "count"), (b"1 setresuid 0 0 = 0", "count"),
+    (b"1 setuid = 0", "count"), (b"1 setuid 0 0 = 0", "count"), (b"1 exit 1 = 0", "count"),
+    (b"1 setresuid 0 0 = 0", "count"),
     (b"1 write_uid_map = 0", "count"), (b"1 write_uid_map box 0 0 = 0", "count"),
-    (b"1 setuid x = x", "argument 1"), (b"1 setresuid 0 x y = 0", "argument 2"), (b"1 setuid 4294967296 = 0", "argument 1"),
+    (b"1 setuid x = x", "argument 1"), (b"1 setresuid 0 x y = 0", "argument 2"),
+    (b"1 setuid 4294967296 = 0", "argument 1"),
     (b"1 setuid +1 = 0", "argument 1"), (b"1 setuid -2 = 0", "argument 1"), (b"1 keepcaps -1 = 0", "argument 1"),
-    (b"1 bset_drop -1 = 0", "argument 1"), (b"1 bset_drop CAP_X = 0", "argument 1"), (b"1 bset_drop cap_kill = 0", "argument 1"),
+    (b"1 bset_drop -1 = 0", "argument 1"), (b"1 bset_drop CAP_X = 0", "argument 1"),
+    (b"1 bset_drop cap_kill = 0", "argument 1"),
     (b"1 capset all x = 0", "count"), (b"1 capset all none 1 = 0", "argument 3"), (b"1 setns x = 0", "argument 1"),
     (b"1 setns # = 0", "argument 1"), (b"1 setns #4294967296 = 0", "argument 1"), (b"1 setns 1 = 0", "argument 1"),
     (b"1 write_uid_map box 0 -1 1 = 0", "argument 3"), (b"1 write_setgroups box Deny = 0", "argument 2"),
-    (b"1 execve \x01 = 0", "argument 1"), (b"1 execve /\x7f = 0", "argument 1"), (b"1 execve " + b"a" * 4096 + b" = 0", "argument 1"),
+    (b"1 execve \x01 = 0", "argument 1"), (b"1 execve /\x7f = 0", "argument 1"),
+    (b"1 execve " + b"a" * 4096 + b" = 0", "argument 1"),
     (b"1 setuid 0 = 00", "result"), (b"1 setuid 0 = 1", "result"), (b"1 setuid 0 = ESRCH", "result"),
     (b"1 setfsuid 0 = EPERM", "result"), (b"1 setfsuid 0 = -1", "result"), (b"1 fork = 0", "result"),
-    (b"1 fork = 4194305", "result"), (b"1 exit = EPERM", "result"), (b"1 exit = 00", "result"), (b"1 setuid 0 = eperm", "result"),
+    (b"1 fork = 4194305", "result"), (b"1 exit = EPERM", "result"), (b"1 exit = 00", "result"),
+    (b"1 setuid 0 = eperm", "result"),
     (b"1 setgroups " + b"1 " * 1025 + b"= 0", "limit groups 1024"), (b"1 setgroups " + b"1 " * 1025 + b"= x", "result"),
     (b"x" * 1048577, "limit line 1048576"), (b";" * 1048577, "limit line 1048576"), (b";" * 1048576, NO_EVENT),
     (b" 0001\tsetuid  007 =\r0 ", "1 setuid 7 = 0"), (b"1 setuid 4294967295 = EINVAL", "1 setuid -1 = EINVAL"),
     (b"1 setresuid -1 0 -1 = 0", "1 setresuid -1 0 -1 = 0"), (b"1 setgroups = EPERM", "1 setgroups = EPERM"),
-    (b"1 setgroups 5 5 -1 = EPERM", "1 setgroups 5 5 -1 = EPERM"), (b"1 bset_drop 0007 = 0", "1 bset_drop CAP_SETUID = 0"),
-    (b"1 bset_drop 41 = EINVAL", "1 bset_drop 41 = EINVAL"), (b"1 amb_raise CAP_CHOWN = 0", "1 amb_raise CAP_CHOWN = 0"),
+    (b"1 setgroups 5 5 -1 = EPERM", "1 setgroups 5 5 -1 = EPERM"),
+    (b"1 bset_drop 0007 = 0", "1 bset_drop CAP_SETUID = 0"),
+    (b"1 bset_drop 41 = EINVAL", "1 bset_drop 41 = EINVAL"),
+    (b"1 amb_raise CAP_CHOWN = 0", "1 amb_raise CAP_CHOWN = 0"),
     (b"1 capset all CAP_CHOWN,CAP_KILL FFFFFFFFFFFFFFFF = 0",
      "1 capset 000001ffffffffff 0000000000000021 000001ffffffffff = 0"),
     (b"1 fork = 0042", "1 fork = 42"), (b"1 setfsuid 1 = 0042", "1 setfsuid 1 = 42"), (b"1 fork = EIO", "1 fork = EIO"),
-    (b"1 setns #00 = 0", "1 setns init = 0"), (b"1 setns #01 = 0", "1 setns box = 0"), (b"1 setns #2 = 0", "1 setns #2 = 0"),
+    (b"1 setns #00 = 0", "1 setns init = 0"), (b"1 setns #01 = 0", "1 setns box = 0"),
+    (b"1 setns #2 = 0", "1 setns #2 = 0"),
     (b"1 write_uid_map box = EINVAL", "1 write_uid_map box = EINVAL"),
     (b"1 write_gid_map #9 0 4294967295 01 = 0", "1 write_gid_map #9 0 4294967295 1 = 0"),
-    (b"1 execve /su = 0", "1 execve /su = 0"), (b"1 execve /SU = 0", "1 execve - = 0"), (b"1 execve \xff = 0", "1 execve - = 0"),
+    (b"1 execve /su = 0", "1 execve /su = 0"), (b"1 execve /SU = 0", "1 execve - = 0"),
+    (b"1 execve \xff = 0", "1 execve - = 0"),
     (b"1 securebits 4294967295 = EPERM", "1 securebits 4294967295 = EPERM"),
 ]
 
 
-def said(read, *given):
+def of_world(data: bytes) -> str:
+    """What a world is that is read."""
+    read_world(data)
+    return WORLD
+
+
+def of_line(world: World, line: bytes) -> str:
+    """What a line is that is read."""
+    event = read_line(line, world)
+    return event.written.decode() if event else NO_EVENT
+
+
+def said(read: Callable[[bytes], str], text: bytes) -> str:
     """What a reader says of a text, by words."""
     try:
-        value = read(*given)
+        return read(text)
     except Refused as refused:
         return refused.words
     except NotJudged:
         return NOT_JUDGED
-    return WORLD if read is read_world else value.written.decode() if value else NO_EVENT
 
 
-def selftest():
-    world = read_world((SCRIPT + SPACE + FILE).encode())
-    rows = [(read_world, ((SCRIPT + text).encode(),), wanted) for text, wanted in WORLDS]
-    rows += [(read_world, (text,), wanted) for text, wanted in TEXTS]
-    rows += [(read_line, (line, world), wanted) for line, wanted in LINES]
+def selftest() -> int:
+    """Reads all rows, tells those that are read otherwise, and gives the status."""
+    of_this_world = partial(of_line, read_world((SCRIPT + SPACE + FILE).encode()))
+    rows: list[tuple[Callable[[bytes], str], bytes, str]] = []
+    rows += [(of_world, (SCRIPT + text).encode(), wanted) for text, wanted in WORLDS]
+    rows += [(of_world, text, wanted) for text, wanted in TEXTS]
+    rows += [(of_this_world, line, wanted) for line, wanted in LINES]
     wrong = 0
     for read, given, wanted in rows:
-        got = said(read, *given)
+        got = said(read, given)
         if got != wanted:
             wrong += 1
-            print(f"wanted {wanted!r}, got {got!r}: {given[0][:300]!r}")
+            print(f"wanted {wanted!r}, got {got!r}: {given[:300]!r}")
     print(f"{len(rows)} rows, {wrong} are read otherwise; {len(CALLS)} calls")
     return 1 if wrong else 0

@@ -1,6 +1,6 @@
 #!/usr/bin/env python3
-"""The report of a replay by plain_reader.py, plain_strace.py and plain_rules.py: what `credaudit replay WORLD LOG` ought to
-write, worked out without it. For mutate.py, and for whoever wants a second opinion on a report.
+"""The report of a replay by plain_reader.py, plain_strace.py and plain_rules.py: what `credaudit replay WORLD LOG`
+ought to write, worked out without it. For mutate.py, and for whoever wants a second opinion on a report.
 
   plain_report.py WORLD LOG    writes the report, and ends with its status
 
@@ -8,17 +8,18 @@ Status 14, which the program doesn't have, says that the plain reader doesn't ju
 """
 import re
 import sys
+from collections.abc import Iterator
 from dataclasses import dataclass
 
 from plain_credential import credentials, fields_from
-from plain_reader import (BIRTHS, CAP_NUMBERS, LAST_ID, LIMITS, MAPS, NotJudged, Refused, digits, past_limit, read_line,
-                          read_space, read_world, space_token)
-from plain_rules import Rules
-from plain_strace import reading
+from plain_reader import (BIRTHS, CAP_NUMBERS, LAST_ID, LIMITS, MAPS, Event, NotJudged, Refused, World, digits,
+                          past_limit, read_line, read_world, space_number, space_token)
+from plain_rules import Rules, State
+from plain_strace import Start, reading
 
 ANY = ("ENOMEM", "EAGAIN", "EINTR", "EFAULT", "EIO")
 # The errors that come from outside: of these calls these, of all others those of ANY.
-FROM_OUTSIDE = {
+FROM_OUTSIDE: dict[str, tuple[str, ...]] = {
     "setfsuid": (), "setfsgid": (), "exit": (),
     "unshare": ANY + ("EINVAL",), "clone_user": ANY + ("EINVAL",), "setns": ANY + ("EINVAL",),
     "execve": ANY + ("ENOENT", "EACCES", "ENOTDIR", "ELOOP", "ENAMETOOLONG", "E2BIG", "ENOEXEC", "ETXTBSY", "ELIBBAD"),
@@ -26,25 +27,33 @@ FROM_OUTSIDE = {
 ON_SPACES = ("setns", "write_setgroups", *(name.decode() for name in MAPS))
 
 
-def impossible(why):
+def impossible(why: str) -> Refused:
+    """The refusal for a line that can't be; where it stands is added by `replay`."""
     return Refused(3, why)
 
 
-def least_free(state):
+def least_free(state: State) -> int:
+    """The least pid that no process has."""
     return next(pid for pid in range(1, len(state.processes) + 2) if pid not in state.processes)
 
 
-def child_of(event):
+def child_of(event: Event) -> int | None:
     """The child that an event tells of, None where it tells of none."""
-    return int(event.result) if event.call[0].encode() in BIRTHS and event.result.isdigit() else None
+    return int(event.result) if event.call.name.encode() in BIRTHS and event.result.isdigit() else None
 
 
-def next_state(rules, state, event):
+def target_of(event: Event) -> int | None:
+    """The number of the space that a call goes to, None where it goes to none."""
+    first = event.call.arguments[0] if event.call.name in ON_SPACES else None
+    return first if isinstance(first, int) else None
+
+
+def next_state(rules: Rules, state: State, event: Event) -> State:
     """The state after an event; Refused tells why there is none."""
-    name, child = event.call[0], child_of(event)
+    name, child, target = event.call.name, child_of(event), target_of(event)
     if event.pid not in state.processes:
         raise impossible("no process")
-    if name in ON_SPACES and event.call[1] >= len(state.spaces):
+    if target is not None and target >= len(state.spaces):
         raise impossible("no space")
     if child in state.processes:
         raise impossible("pid in use")
@@ -54,32 +63,34 @@ def next_state(rules, state, event):
     if result != event.result:
         own, _ = rules.answer(state, event.pid, event.call, least_free(state))
         raise impossible(f"the rules give {own}")
-    for limit, items in (("processes", after.processes), ("spaces", after.spaces)):
-        before = state.processes if limit == "processes" else state.spaces
-        if len(items) > LIMITS[limit] and len(items) > len(before):
+    for limit, count, before in (("processes", len(after.processes), len(state.processes)),
+                                 ("spaces", len(after.spaces), len(state.spaces))):
+        if count > LIMITS[limit] and count > before:
             raise past_limit(limit)
     return after
 
 
-def credential_line(world, state, pid):
+def credential_line(world: World, state: State, pid: int) -> bytes:
+    """The line that a report has for a process."""
     number, cred = state.processes[pid]
     return f"> {pid} {space_token(world, number)} {credentials(fields_from(cred))}".encode()
 
 
-def lines_of(log):
+def lines_of(log: bytes) -> list[bytes]:
     """Its lines without their LF; a last one without LF counts where it isn't empty."""
     lines = log.split(b"\n")
     return lines if lines[-1] else lines[:-1]
 
 
-def told_at(number, refused):
+def told_at(number: int, refused: Refused) -> Refused:
     """The refusal as a report tells it of that line."""
     front = {3: f"impossible line {number}: ", 5: f"bad log line {number}: "}.get(refused.status, "")
     return Refused(refused.status, front + refused.words)
 
 
-def script_events(world, log):
-    """The events of a script log, each with the number of its line, up to the refusal that is raised, where there is one."""
+def script_events(world: World, log: bytes) -> Iterator[tuple[int, Event]]:
+    """The events of a script log, each with the number of its line, up to the refusal that is raised, where there is
+    one."""
     for number, line in enumerate(lines_of(log), 1):
         try:
             event = read_line(line, world)
@@ -89,20 +100,22 @@ def script_events(world, log):
             yield number, event
 
 
-def strace_events(world, log):
+def strace_events(world: World, log: bytes) -> Iterator[tuple[int, Event]]:
     """The same of a log of strace; plain_strace.py gives events as script lines."""
-    spaces = sorted(world.names, key=world.names.get)
-    processes = [{"pid": pid, "space": space_token(world, space)} for pid, (space, _) in world.state.processes.items()]
-    events, ending = reading({"space": [{"name": name} for name in spaces], "process": processes,
-                              "file": [{"path": path.decode()} for path in world.files]}, log)
+    start = Start({pid: space_token(world, space) for pid, (space, _) in world.state.processes.items()},
+                  tuple(sorted(world.names, key=world.names.__getitem__)),
+                  frozenset(path.decode("latin-1") for path in world.files))
+    events, ending = reading(start, log)
     for text in events:
         number, line = text.encode("latin-1").split(b": ", 1)
-        yield int(number), read_line(line, world)
+        event = read_line(line, world)
+        assert event is not None
+        yield int(number), event
     if ending != "end":
         raise Refused(9 if ending.startswith("limit") else 5, ending)
 
 
-def replay(world, log, out):
+def replay(world: World, log: bytes, out: list[bytes]) -> State:
     """Adds the report's lines to `out`, up to the refusal that it raises, where there is one; else the last state."""
     if len(log) > LIMITS["log"]:
         raise past_limit("log")
@@ -115,22 +128,27 @@ def replay(world, log, out):
             raise told_at(number, refused)
         count += 1
         out.append(b"%d: %s" % (number, event.written))
-        out.extend(credential_line(world, state, pid) for pid in (event.pid, child_of(event)) if pid in state.processes)
+        out.extend(credential_line(world, state, pid) for pid in (event.pid, child_of(event) or 0)
+                   if pid in state.processes)
     out.append(b"end %d" % count)
     return state
 
 
 @dataclass
 class Report:
+    """A report: the status and the text of it."""
     status: int
     text: bytes
-    world: object = None    # what was read, None where the replay is refused
-    state: object = None    # the last state
+    world: World | None = None      # what was read, None where the world is refused
+    state: State | None = None      # the last state, None where the replay is refused
 
 
-def report(world, log):
-    """The report of a world and a log, both bytes. NotJudged where the reader can't say."""
-    out, read, state, status = [], None, None, 0
+def report(world: bytes, log: bytes) -> Report:
+    """The report of a world and a log. NotJudged where the reader can't say."""
+    out: list[bytes] = []
+    read: World | None = None
+    state: State | None = None
+    status = 0
     try:
         read = read_world(world)
         state = replay(read, log, out)
@@ -143,8 +161,9 @@ def report(world, log):
 RIGHT = re.compile(rb"(?:uid|gid):(\d+)|cap:(\w+)@(.*)", re.DOTALL)
 
 
-def bad_query(seen, pid, right):
+def bad_query(seen: Report, pid: bytes, right: bytes) -> str | None:
     """What is bad of an audit's query after an accepted log: `pid`, `right` or `space`, or None."""
+    assert seen.world is not None and seen.state is not None
     if digits(pid) not in seen.state.processes:
         return "pid"
     found = RIGHT.fullmatch(right)
@@ -153,13 +172,14 @@ def bad_query(seen, pid, right):
     id_, cap, space = found.groups()
     if id_ is not None:
         return None if digits(id_, 0, LAST_ID) is not None else "right"
-    target = read_space(space, seen.world)
+    target = space_number(space, seen.world)
     if cap not in CAP_NUMBERS or target is None:
         return "right"
-    return None if target[0] < len(seen.state.spaces) else "space"
+    return None if target < len(seen.state.spaces) else "space"
 
 
-def main():
+def main() -> None:
+    """Writes the report of two files."""
     if len(sys.argv) != 3:
         sys.exit("usage: plain_report.py WORLD LOG")
     texts = []

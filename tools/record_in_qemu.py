@@ -6,12 +6,12 @@ program, with busybox as the first process.
 
 DEB is a package of a kernel; left out, the one that Debian's linux-image-amd64 names is downloaded (apt-get download).
 NAME is set_ids, runs, spaces or execs; all where none is named. The recordings are kept in DIR, data/debian beside this
-script where none is named, and replayed by `replay_NAME.py --cases FILE`. No root is needed and nothing of the machine is
-changed. Needs cc with the static C library, cpio, mkfs.ext4, and Debian's busybox-static and qemu-system-x86. The
+script where none is named, and replayed by `replay_NAME.py --cases FILE`. No root is needed and nothing of the machine
+is changed. Needs cc with the static C library, cpio, mkfs.ext4, and Debian's busybox-static and qemu-system-x86. The
 machine is emulated, on one processor: 15 minutes, and more where others work.
 
-The machine ends with each recording on its second serial line, told with its length and sum on the first one. One line for
-each recording. Status 0: all are recorded; 1: one isn't; 2: the machine didn't start.
+The machine ends with each recording on its second serial line, told with its length and sum on the first one. One line
+for each recording. Status 0: all are recorded; 1: one isn't; 2: the machine didn't start.
 """
 import argparse
 import glob
@@ -26,8 +26,9 @@ import subprocess
 import sys
 import tempfile
 import time
+from collections.abc import Sequence
 
-from recordings import HERE, compile_to
+from recordings import FREESTANDING, HERE, compile_to, give_up, kernel_named
 
 # How each recorder is called, the longest one last: each records as much as is kept of the first kernel, but of the
 # states of set_ids only each 5th is taken. 5 has no divisor in common with the numbers of ids, securebits and kinds, by
@@ -39,7 +40,6 @@ RECORDERS = {
     "set_ids": ("record_set_ids", "--every 5"),
 }
 KEPT = {"set_ids": "set_ids.cases.xz"}
-SHOWN = ("-nostdlib", "-ffreestanding", "-fno-stack-protector", "-s")
 MODULES = ("crypto/crc32c_generic", "lib/crc16", "fs/mbcache", "fs/jbd2/jbd2", "fs/ext4/ext4", "drivers/block/loop")
 MEMORY, IMAGE = "512", 16 << 20
 PATIENCE = 3 * 3600
@@ -69,20 +69,16 @@ record() {{
 """
 
 
-def give_up(why):
-    print("record_in_qemu.py: " + why, file=sys.stderr)
-    sys.exit(2)
-
-
-def run(*words, **options):
-    if subprocess.call(words, stdout=subprocess.DEVNULL, **options) != 0:
+def run(*words: str, cwd: str | None = None, env: dict[str, str] | None = None) -> None:
+    """Runs a command, in that folder and with those variables where they are given. Gives up where it fails."""
+    if subprocess.call(words, stdout=subprocess.DEVNULL, cwd=cwd, env=env) != 0:
         give_up("this failed: " + " ".join(words))
 
 
 # ---- the machine -----------------------------------------------------------------------------------------------------
 
 
-def kernel_of(package, work):
+def kernel_of(package: str | None, work: str) -> tuple[str, str]:
     """The kernel of a package, and the folder of its modules. The package is downloaded where none is named."""
     if package is None:
         told = subprocess.run(["apt-cache", "depends", "linux-image-amd64"], stdout=subprocess.PIPE, text=True)
@@ -93,17 +89,18 @@ def kernel_of(package, work):
         package = glob.glob(os.path.join(work, "linux-image-*.deb"))[0]
     tree = os.path.join(work, "kernel")
     run("dpkg-deb", "-x", package, tree)
-    return glob.glob(os.path.join(tree, "boot", "vmlinuz-*"))[0], glob.glob(os.path.join(tree, "lib/modules/*/kernel"))[0]
+    return glob.glob(os.path.join(tree, "boot", "vmlinuz-*"))[0], glob.glob(os.path.join(tree,
+                                                                                         "lib/modules/*/kernel"))[0]
 
 
-def furnish(root, names, modules):
+def furnish(root: str, names: Sequence[str], modules: str) -> None:
     """The machine's files: busybox, the recorders, what they need, and the first process."""
     for folder in ("bin", "lib", "proc", "dev", "srv", "mapped"):
         os.makedirs(os.path.join(root, folder))
     shutil.copy("/bin/busybox", os.path.join(root, "bin"))
     for recorder, _ in (RECORDERS[name] for name in names):
         compile_to(os.path.join(root, "bin", recorder), recorder, "-static")
-    compile_to(os.path.join(root, "bin", "shows_itself"), "shows_itself", "-static", *SHOWN)
+    compile_to(os.path.join(root, "bin", "shows_itself"), "shows_itself", "-static", *FREESTANDING)
     for module in MODULES:
         shutil.copy(os.path.join(modules, module + ".ko"), os.path.join(root, "lib"))
     with open(os.path.join(root, "image"), "wb") as file:
@@ -116,8 +113,8 @@ def furnish(root, names, modules):
     os.chmod(init, 0o755)
 
 
-def packed(root, path):
-    """The machine's files as one archive that its kernel reads, all of them root's."""
+def packed(root: str, path: str) -> None:
+    """Makes the machine's files one archive that its kernel reads, all of them root's."""
     files = subprocess.run(["find", ".", "-print0"], cwd=root, stdout=subprocess.PIPE, check=True).stdout
     made = subprocess.run(["cpio", "-o", "-0", "-H", "newc", "-R", "0:0", "--quiet"], cwd=root, input=files,
                           stdout=subprocess.PIPE, check=True).stdout
@@ -125,7 +122,7 @@ def packed(root, path):
         file.write(made)
 
 
-def begin(kernel, archive, work):
+def begin(kernel: str, archive: str, work: str) -> tuple[subprocess.Popen[bytes], list[str]]:
     """The machine, and the files of its two serial lines."""
     lines = [os.path.join(work, name) for name in ("console", "recordings")]
     words = ["qemu-system-x86_64", "-accel", "tcg", "-m", MEMORY, "-no-reboot", "-nodefaults",
@@ -139,21 +136,22 @@ def begin(kernel, archive, work):
 # ---- what comes out --------------------------------------------------------------------------------------------------
 
 
-def text_of(path):
+def text_of(path: str) -> bytes:
+    """What a serial line has told so far."""
     if not os.path.exists(path):
         return b""
     with open(path, "rb") as file:
         return file.read()
 
 
-def keep(told, data, into):
-    """One recording; whether it is whole."""
+def keep(told: re.Match[str], data: bytes, into: str) -> bool:
+    """Keeps one recording, of which the first line told so; whether it is whole."""
     name, status, length, wanted = told[1], int(told[2]), int(told[3]), told[4]
     if len(data) != length or hashlib.sha256(data).hexdigest() != wanted:
         print(f"{name}: it came out damaged", flush=True)
         return False
     text = gzip.decompress(data)
-    kernel = text.split(b"\n", 1)[0].decode("ascii", "replace").removeprefix("kernel ")
+    kernel = kernel_named(text.split(b"\n", 1)[0].decode("ascii", "replace"))
     print(f"{name}: {kernel}, {text.count(10)} lines, status {status}, in {int(told[6]) - int(told[5])} s", flush=True)
     if status == 0:
         with lzma.open(os.path.join(into, KEPT.get(name, name + ".xz")), "wb", preset=9 | lzma.PRESET_EXTREME) as file:
@@ -161,7 +159,7 @@ def keep(told, data, into):
     return status == 0
 
 
-def gather(machine, lines, names, into):
+def gather(machine: subprocess.Popen[bytes], lines: Sequence[str], names: Sequence[str], into: str) -> int:
     """Keeps each recording as it comes; how many are whole."""
     kept, whole, taken, ends = 0, 0, 0, time.monotonic() + PATIENCE
     while kept < len(names) and time.monotonic() < ends:
@@ -178,7 +176,8 @@ def gather(machine, lines, names, into):
     return whole
 
 
-def main():
+def main() -> None:
+    """Records what the words ask for."""
     ask = argparse.ArgumentParser(usage="record_in_qemu.py [--package DEB] [--work DIR] [--into DIR] [NAME ..]")
     ask.add_argument("--package")
     ask.add_argument("--work")

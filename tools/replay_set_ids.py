@@ -20,8 +20,12 @@ taken out, and those after it are replayed again, so one run tells all. Where it
 credential than the kernel, the program must print that one, and the case counts as explained. Status 0: no other
 difference; 1: some; 2: nothing could be compared.
 """
-from recordings import (FS_ID_LEFT, HEAD, IMPOSSIBLE, Recordings, Tally, credentials, difference, fields_of, fs_id_left,
-                        give_up, program_of, replay, row)
+from collections.abc import Iterator
+
+from credaudit_tools.program import Program
+from plain_credential import Fields, credentials
+from recordings import (FS_ID_LEFT, HEAD, IMPOSSIBLE, Recordings, Tally, difference, fields_of, fs_id_left, give_up,
+                        program_of, replay, row)
 
 PROCESSES, WORLD = 4096, 1 << 20
 CALLS = "setuid setreuid setresuid setfsuid setgid setregid setresgid setfsgid setgroups".split()
@@ -33,7 +37,7 @@ CALLS = "setuid setreuid setresuid setfsuid setgid setregid setresgid setfsgid s
 class State:
     """What the kernel showed before each call of its cases: by field, as a credential line has it, and as a row."""
 
-    def __init__(self, words):
+    def __init__(self, words: list[str]) -> None:
         self.fields = fields_of(words)
         self.line, self.row = credentials(self.fields), row(0, self.fields)
 
@@ -43,46 +47,52 @@ class Case:
 
     __slots__ = ("state", "call", "result", "changed")
 
-    def __init__(self, state, words):
+    def __init__(self, state: State, words: list[str]) -> None:
         equals = words.index("=")
         self.state, self.call, self.result = state, words[:equals], words[equals + 1]
         self.changed = fields_of(words[equals + 2:])
 
-    def after(self):
+    def after(self) -> Fields:
+        """All fields after it."""
         return {**self.state.fields, **self.changed} if self.changed else self.state.fields
 
-    def line(self, pid):
+    def line(self, pid: int | str) -> str:
+        """Its line in a log, by the process of that pid, or of a word that stands for it."""
         return f"{pid} {' '.join(self.call)} = {self.result}"
 
-    def row(self, pid):
+    def row(self, pid: int) -> str:
+        """The row of that process in a world."""
         return self.state.row.replace("pid = 0\n", f"pid = {pid}\n", 1)
 
 
-def read_cases(lines):
-    """The number of states, and the cases; None where there are no cases."""
-    cases, states, state = [], 0, None
+def read_cases(lines: list[str]) -> tuple[int, list[Case]] | None:
+    """The number of states, and the cases; None where there are no cases. ValueError or IndexError where a line is
+    odd."""
+    cases: list[Case] = []
+    states: list[State] = []
     for line in lines:
         words = line.split()
         if words[0] == "state":
-            state, states = State(words[1:]), states + 1
+            states.append(State(words[1:]))
         else:
-            cases.append(Case(state, words))
-    return (states, cases) if cases else None
+            cases.append(Case(states[-1], words))
+    return (len(states), cases) if cases else None
 
 
 # ---- differences ---------------------------------------------------------------------------------------------------
 
 
-def differs(tally, case, what, told):
+def differs(tally: Tally, case: Case, what: str, told: str) -> None:
+    """Counts a difference of a case: what it is, and what the program told."""
     tally.differs(f"{case.call[0]}: {what}", state=case.state.line, call=case.line("PID"),
                   kernel=credentials(case.after()), told=told)
 
 
-def compare(tally, case, pid, event, shown):
+def compare(tally: Tally, case: Case, pid: int, event: str, shown: str) -> None:
     """One case with what the program printed for it: the line of the event, and the credential line."""
-    by_rules = fs_id_left(case.call, case.result, case.state.fields, case.after())
-    explained = by_rules is not None and by_rules != case.after()
-    wanted = credentials(by_rules if explained else case.after())
+    by_rules = fs_id_left(case.call, case.result, case.state.fields, case.after()) or case.after()
+    explained = by_rules != case.after()
+    wanted = credentials(by_rules)
     if event != f"{pid}: {case.line(pid)}":
         differs(tally, case, "the line of the event", event)
     elif shown != f"> {pid} init {wanted}":
@@ -91,7 +101,9 @@ def compare(tally, case, pid, event, shown):
         tally.explained[FS_ID_LEFT] += 1
 
 
-def compare_world(program, batch, tally):
+def compare_world(program: Program, batch: list[Case], tally: Tally) -> None:
+    """Replays the cases in one world, and those after an impossible one in another; gives up where a replay ends
+    otherwise."""
     while batch:
         world = HEAD + "".join(case.row(pid) for pid, case in enumerate(batch, 1))
         report, status = replay(program, world, "".join(case.line(pid) + "\n" for pid, case in enumerate(batch, 1)))
@@ -104,15 +116,17 @@ def compare_world(program, batch, tally):
             credential = f"> {pid} init "
             if report[pid - 1] != credential + case.state.line:
                 differs(tally, case, "the credential line before the call", report[pid - 1])
-            elif pid > events:
+            elif last and pid > events:
                 differs(tally, case, last[2], report[-1])
             else:
                 compare(tally, case, pid, *report[count + 2 * pid - 2:count + 2 * pid])
         batch = batch[events + 1:]
 
 
-def worlds(cases):
-    batch, size = [], len(HEAD)
+def worlds(cases: list[Case]) -> Iterator[list[Case]]:
+    """The cases in worlds as large as a world may be."""
+    batch: list[Case] = []
+    size = len(HEAD)
     for case in cases:
         more = len(case.row(len(batch) + 1))
         if len(batch) == PROCESSES or size + more > WORLD:
@@ -123,7 +137,8 @@ def worlds(cases):
     yield batch
 
 
-def main():
+def main() -> None:
+    """Compares the cases that the words ask for."""
     recordings, tally, count = Recordings("record_set_ids", "set_ids.cases.xz"), Tally([FS_ID_LEFT]), 0
     ask = recordings.parser("replay_set_ids.py [--cases FILE | --record [--keep]] [PROGRAM]")
     asked = ask.parse_args()
@@ -139,4 +154,5 @@ def main():
     tally.end()
 
 
-main()
+if __name__ == "__main__":
+    main()

@@ -6,8 +6,8 @@
   replay_strace.py --leave-out  how many lines are noticed, by these comparisons, where one is left out
 
 Each log is read by plain_strace.py and its events are run by plain_rules.py (plain_report.py). Without --plain the
-program replays the log too. Each replay is held against the recording as credaudit-verify(1) does. One line for each program.
-Status 0: all agree; 1: some differ, or a log isn't read to its end; 2: nothing could be compared.
+program replays the log too. Each replay is held against the recording as credaudit-verify(1) does. One line for each
+program. Status 0: all agree; 1: some differ, or a log isn't read to its end; 2: nothing could be compared.
 """
 import collections
 import glob
@@ -64,6 +64,7 @@ def compared(folder: str, program: Program | None) -> tuple[Verdict, list[str], 
 
 
 def main() -> int:
+    """Compares the recordings; the status."""
     folders = [os.path.dirname(status) for status in sorted(glob.glob(FOLDERS))]
     words = [word for word in sys.argv[1:] if word != "--plain"]
     if sys.argv[1:] == ["--leave-out"]:

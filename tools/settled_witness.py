@@ -18,6 +18,7 @@ from witness.worlds import family
 
 
 def trial(asked: Asked, number: int) -> Outcome:
+    """One settled family: asked, and its answer counted."""
     query = settled(asked.seed, number)
     (by,) = alternatives(query.world, family(query.world, query.pid))
     _, answer = trials.answered(asked, query, number)
@@ -26,6 +27,7 @@ def trial(asked: Asked, number: int) -> Outcome:
 
 
 def main() -> None:
+    """Tries the families that the words ask for."""
     told = trials.options("settled_witness.py", __doc__, 10000).parse_args()
     with trials.work_folder() as folder:
         asked = trials.asked_of(told, Path(folder))

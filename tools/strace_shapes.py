@@ -11,20 +11,22 @@ ends. Status 0: all are read so; 1: some are read otherwise.
 import os
 import sys
 
-from plain_strace import reading
+from plain_strace import Start, reading
 
 HERE = os.path.dirname(os.path.abspath(__file__))
 DOCUMENT = os.path.join(HERE, "..", "docs", "STRACE.md")
-WORLD = {"process": [{"pid": 100}]}
+WORLD = Start({100: "init"})
+Row = tuple[str, list[str], list[str], str]     # its name, the lines, the events, and how the reading ends
 LARGE_LIST = "[" + ", ".join(map(str, range(1, 33))) + ", ...]"
 THREAD = "CLONE_VM|CLONE_FS|CLONE_FILES|CLONE_SIGHAND|CLONE_THREAD|CLONE_SYSVSEM"
 
 
-def bad(line, fault):
+def bad(line: int, fault: str) -> str:
+    """How a reading ends at that line, by that fault."""
     return f"bad log line {line}: {fault}"
 
 
-STOPS = [
+STOPS: list[Row] = [
     ("newuidmap", ['100 openat(3, "uid_map", O_WRONLY)    = 5'], [], bad(1, "descriptor")),
     ("bwrap", ['100 openat(4, "uid_map", O_RDWR|O_CLOEXEC) = 5'], [], bad(1, "descriptor")),
     ("runc", ['100 execveat(6, "", ["runc", "init"], 0x4dbc2e0 /* 8 vars */, AT_EMPTY_PATH) = 0'], [],
@@ -65,7 +67,8 @@ STOPS = [
         " permitted=1<<CAP_CHOWN, inheritable=0}) = 0"], [], bad(1, "argument 2")),
     ("a call that failed for its arguments", ["100 execve(0x1, NULL, NULL)           = -1 EFAULT (Bad address)"], [],
      bad(1, "argument 1")),
-    ("a call that failed for its arguments", ["100 setgroups(70000, 0x7ffe0000)      = -1 EINVAL (Invalid argument)"], [],
+    ("a call that failed for its arguments", ["100 setgroups(70000, 0x7ffe0000)      = -1 EINVAL (Invalid argument)"],
+     [],
      bad(1, "argument 2")),
     ("a call that failed for its arguments", [
         "100 capset({version=_LINUX_CAPABILITY_VERSION_3, pid=0}, NULL) = -1 EFAULT (Bad address)"], [],
@@ -85,7 +88,7 @@ STOPS = [
         "100 setuid(7)                         = 0",
         " > /usr/lib/x86_64-linux-gnu/libc.so.6(setuid+0x14) [0xd1594]"], ["1: 100 setuid 7 = 0"], bad(2, "pid")),
 ]
-PASSED_OVER = [
+PASSED_OVER: list[Row] = [
     ("-t, -tt, -ttt, -r", ["100 00:13:52 setuid(7)                = 0"], [], "end"),
     ("-t, -tt, -ttt, -r", ["100 00:13:52.123456 setuid(7)         = 0"], [], "end"),
     ("-t, -tt, -ttt, -r", ["100 1790000000.123456 setuid(7)       = 0"], [], "end"),
@@ -98,7 +101,8 @@ PASSED_OVER = [
         '100 write(3</proc/100/uid_map>, "0 0 1\\n", 6) = 6'], ["1: 100 unshare = 0"], "end"),
     ("-y, -yy", ['100 openat(3</proc/100>, "uid_map", O_WRONLY|O_CLOEXEC) = 4</proc/100/uid_map>'], [], "end"),
     ("-xx and -p", [
-        '100 openat(AT_FDCWD, "\\x2f\\x70\\x72\\x6f\\x63\\x2f\\x73\\x65\\x6c\\x66\\x2f\\x75\\x69\\x64\\x5f\\x6d\\x61\\x70", O_WRONLY) = 3',
+        '100 openat(AT_FDCWD, "\\x2f\\x70\\x72\\x6f\\x63\\x2f\\x73\\x65\\x6c\\x66\\x2f\\x75\\x69\\x64\\x5f\\x6d\\x61'
+        '\\x70", O_WRONLY) = 3',
         '100 write(3, "\\x30\\x20\\x30\\x20\\x31\\x0a", 6) = 6'], [], "end"),
     ("-X raw, -e raw=", [
         '100 openat(-100, "/proc/self/uid_map", 0x80001) = 3',
@@ -143,12 +147,13 @@ PASSED_OVER = [
 ]
 
 
-def read(lines):
-    events, ending = reading(WORLD, "".join(line + "\n" for line in lines).encode())
-    return events, ending
+def read(lines: list[str]) -> tuple[list[str], str]:
+    """The events of lines, and how their reading ends."""
+    return reading(WORLD, "".join(line + "\n" for line in lines).encode())
 
 
-def main():
+def main() -> None:
+    """Compares each row, and tells the ones that are read otherwise."""
     with open(DOCUMENT) as file:
         document = file.read()
     bad_rows = 0

@@ -1,12 +1,15 @@
-"""Worlds and logs as strangers might bring them, for mutate.py: those of examples/ and some built-in ones, which use every
-table, key and call and stand at the limits; and changes that cut, double, swap, flip and replace bytes, tokens, keys and
-rows of them. Logs have both forms, script and strace; some of strace are drawn by draw_strace_logs.py.
+"""Worlds and logs as strangers might bring them, for mutate.py: those of examples/ and some built-in ones, which use
+every table, key and call and stand at the limits; and changes that cut, double, swap, flip and replace bytes, tokens,
+keys and rows of them. Logs have both forms, script and strace; some of strace are drawn by draw_strace_logs.py.
 
 All that is drawn comes of the random.Random that is handed in, so a case can be made again from its number.
 """
 import glob
 import os
 import re
+from collections.abc import Callable, Iterator, Sequence
+from random import Random
+from typing import TypeVar
 
 from draw_strace_logs import Draws
 from odd_strace_logs import LOGS
@@ -16,6 +19,8 @@ from plain_rules import CAPABILITIES
 EXAMPLES = os.path.normpath(os.path.join(os.path.dirname(os.path.abspath(__file__)), "..", "examples"))
 ATTRIBUTE = "0100000200200000000000000000000000000000"
 ATTRIBUTE_3 = "0100000300200000000000000000000000000000a0860100"
+Change = Callable[[Random, bytes], bytes]       # what is made of a text
+Items = TypeVar("Items", bytes, list[bytes])    # a text, or its tokens, lines or rows
 
 # ---- what is changed -----------------------------------------------------------------------------------------------
 
@@ -163,8 +168,8 @@ EVERY_STRACE_CALL = r"""103 setuid32(1000)                    = 0
 103 setfsgid(5)                       = 1000
 100 <... read resumed>"\177ELF"..., 832) = 832
 101 setgroups(3, [5, 1, 65536])       = 0
-101 capset({version=V3, pid=0}, {effective=1<<CAP_SETUID|1<<CAP_KILL, permitted=1<<CAP_SETUID|1<<CAP_KILL, inheritable=0}) = 0
-100 prctl(PR_CAPBSET_DROP, CAP_SYS_TIME) = 0
+""" + ("101 capset({version=V3, pid=0}, {effective=1<<CAP_SETUID|1<<CAP_KILL, permitted=1<<CAP_SETUID|1<<CAP_KILL,"
+       " inheritable=0}) = 0\n") + r"""100 prctl(PR_CAPBSET_DROP, CAP_SYS_TIME) = 0
 100 prctl(PR_CAPBSET_DROP, 0x2a /* CAP_??? */) = -1 EINVAL (Invalid argument)
 100 prctl(PR_CAP_AMBIENT, PR_CAP_AMBIENT_RAISE, CAP_KILL, 0, 0) = -1 EPERM (Operation not permitted)
 100 prctl(PR_CAP_AMBIENT, PR_CAP_AMBIENT_LOWER, CAP_KILL, 0, 0) = 0
@@ -219,22 +224,26 @@ SMALL_LOG = "1 setuid 5 = 0\n2 setuid 5 = EPERM\n1 setfsuid 0 = 5\n2 fork = 3\n3
 WEAK_LOG = "1 setresuid -1 7 -1 = 0\n1 setresuid -1 0 -1 = 0\n1 setresuid 5 5 5 = 0\n"
 
 
-def many(count, row):
+def many(count: int, row: str) -> str:
+    """A world of rows with the numbers from 1 on."""
     return 'log = "script"\n' + "".join(row % number for number in range(1, count + 1))
 
 
-def chain(levels):
+def chain(levels: int) -> str:
+    """A world of spaces, each below the one before it."""
     names = ["init"] + [f"s{level}" for level in range(1, levels + 1)]
     row = '[[space]]\nname="{}"\nparent="{}"\nowner=0\n'
     return 'log = "script"\n' + "".join(row.format(name, above) for above, name in zip(names, names[1:]))
 
 
-def at_the_limits():
+def at_the_limits() -> list[tuple[str, str]]:
+    """Worlds and logs that stand at a limit or exceed it."""
     ids = " ".join(map(str, range(1024)))
     one = 'log = "script"\n[[process]]\npid = 1\n'
     return [
         (many(255, '[[space]]\nname="s%d"\nparent="init"\nowner=0\n') + "[[process]]\npid=1\n", "1 unshare = 0\n"),
-        (many(254, '[[space]]\nname="s%d"\nparent="init"\nowner=0\n') + "[[process]]\npid=1\n", "1 unshare = 0\n1 unshare = EPERM\n"),
+        (many(254, '[[space]]\nname="s%d"\nparent="init"\nowner=0\n') + "[[process]]\npid=1\n",
+         "1 unshare = 0\n1 unshare = EPERM\n"),
         (many(63, '[[mount]]\nname="m%d"\n'), ""),
         (many(4096, '[[file]]\npath="/%d"\nuid=0\ngid=0\nmode="1"\n'), ""),
         (many(4096, "[[process]]\npid=%d\n"), "1 fork = 5000\n"),
@@ -252,28 +261,30 @@ def at_the_limits():
     ]
 
 
-def strace_at_the_limits():
+def strace_at_the_limits() -> list[str]:
     """Logs of strace that stand at a limit or exceed it, for a world with the process 200."""
-    def groups(count):
+    def groups(count: int) -> str:
         return f"200 setgroups({count}, [{', '.join(['7'] * count)}]) = 0\n"
 
-    def opens(count):
+    def opens(count: int) -> str:
         return "".join(f'200 openat(3, "/proc/self/ns/user", O_RDONLY) = {fd}\n' for fd in range(count))
 
     chain_of_births = "".join(f"{pid} fork() = {pid + 1}\n" for pid in range(300, 1800))
     return [
         "300 x\n" * 4096 + "200 fork() = 300\n" + "301 x\n" * 4096 + "200 fork() = 301\n", "300 x\n" * 4097,
-        chain_of_births + "200 fork() = 300\n", groups(1024), groups(1025), opens(65536) + "200 setns(65535, 0) = -1 EINVAL\n",
-        opens(65537), opens(32769) + "200 fork() = 300\n", "200 " + "x" * 1048572 + "\n200 setuid(0) = 0\n", "200 " + "x" * 1048573,
+        chain_of_births + "200 fork() = 300\n", groups(1024), groups(1025),
+        opens(65536) + "200 setns(65535, 0) = -1 EINVAL\n", opens(65537), opens(32769) + "200 fork() = 300\n",
+        "200 " + "x" * 1048572 + "\n200 setuid(0) = 0\n", "200 " + "x" * 1048573,
     ]
 
 
-def read(path):
+def read(path: str) -> bytes:
+    """The bytes of a file."""
     with open(path, "rb") as file:
         return file.read()
 
 
-def examples():
+def examples() -> Iterator[tuple[bytes, bytes]]:
     """Each world of examples/, with each log beside it."""
     for world in sorted(glob.glob(os.path.join(EXAMPLES, "*", "*.toml"))):
         folder = os.path.dirname(world)
@@ -281,8 +292,8 @@ def examples():
             yield read(world), read(log)
 
 
-def recorded():
-    """Each recording of strace in examples/, with the world beside it."""
+def recorded() -> Iterator[tuple[bytes, bytes]]:
+    """Of each recording of strace in examples/ the world beside it, and the log."""
     logs = glob.glob(os.path.join(EXAMPLES, "*", "*.strace")) + glob.glob(os.path.join(EXAMPLES, "strace", "*", "log"))
     for log in sorted(logs):
         yield read(os.path.join(os.path.dirname(log), "world.toml")).replace(b'"script"', b'"strace"', 1), read(log)
@@ -293,7 +304,7 @@ class Strangers:
     LIMITS = 0.005      # how often one of the large texts is drawn
     STRACE = 0.2        # how often a log of strace is, half of them by draw_strace_logs.py
 
-    def __init__(self):
+    def __init__(self) -> None:
         built_in = [(EVERY_TABLE, EVERY_CALL)] * 3 + [(SMALL, SMALL_LOG), (SMALL[:SMALL.rindex("[[")], WEAK_LOG)]
         self.texts = [(world.encode(), log.encode()) for world, log in built_in] + list(examples())
         of_strace = [(STRACE_TABLE, EVERY_STRACE_CALL)] * 15 + [(SMALL.replace("script", "strace"), SMALL_STRACE)]
@@ -302,7 +313,7 @@ class Strangers:
         self.odd_strace = [log.encode("latin-1") for log in LOGS if len(log) < 20000]
         self.large = [(world.encode(), log.encode()) for world, log in at_the_limits()]
 
-    def draw(self, rng):
+    def draw(self, rng: Random) -> tuple[bytes, bytes]:
         """A changed world and a changed log; one of the two may be as it was."""
         if rng.random() < self.STRACE:
             return self.draw_strace(rng)
@@ -314,12 +325,13 @@ class Strangers:
             log = changed(rng, log, LOG_CHANGES)
         return world, log
 
-    def draw_strace(self, rng):
+    def draw_strace(self, rng: Random) -> tuple[bytes, bytes]:
+        """A world and a log of strace, both changed or drawn, or as they were."""
         if rng.random() < self.LIMITS:
             return DRAWN_WORLD.encode(), rng.choice(self.large_strace)
         if rng.random() < 0.5:
-            log = "".join(line + "\n" for line in Draws(rng.randrange(1 << 32), "any").log())
-            return DRAWN_WORLD.encode(), log.encode("latin-1")
+            drawn = "".join(line + "\n" for line in Draws(rng.randrange(1 << 32), "any").log())
+            return DRAWN_WORLD.encode(), drawn.encode("latin-1")
         if rng.random() < 0.3:
             log = rng.choice(self.odd_strace)
             return DRAWN_WORLD.encode(), changed(rng, log, STRACE_CHANGES) if rng.random() < 0.5 else log
@@ -332,104 +344,121 @@ class Strangers:
 # ---- bytes ---------------------------------------------------------------------------------------------------------
 
 
-def span(rng, items):
+def span(rng: Random, items: Items) -> tuple[int, int]:
     """Where some items that follow one another begin and end; mostly few."""
     begin = rng.randrange(len(items) + 1)
     return begin, min(len(items), begin + 1 + int(rng.expovariate(0.5)))
 
 
-def cut(rng, items):
+def cut(rng: Random, items: Items) -> Items:
+    """Some items go."""
     begin, end = span(rng, items)
     return items[:begin] + items[end:]
 
 
-def double(rng, items):
+def double(rng: Random, items: Items) -> Items:
+    """Some items stand twice."""
     begin, end = span(rng, items)
     return items[:end] + items[begin:]
 
 
-def swap(rng, items):
+def swap(rng: Random, items: Items) -> Items:
+    """Some items and others change places."""
     (begin, end), (other, last) = sorted((span(rng, items), span(rng, items)))
     end = min(end, other)
     return items[:begin] + items[other:last] + items[end:other] + items[begin:end] + items[last:]
 
 
-def move(rng, items):
+def move(rng: Random, items: Items) -> Items:
+    """Some items come to another place."""
     begin, end = span(rng, items)
     rest = items[:begin] + items[end:]
     at = rng.randrange(len(rest) + 1)
     return rest[:at] + items[begin:end] + rest[at:]
 
 
-def end_early(rng, items):
+def end_early(rng: Random, items: Items) -> Items:
+    """What follows a place goes."""
     return items[:rng.randrange(len(items) + 1)]
 
 
-SHAPES = (cut, double, swap, move)
+def shaped(rng: Random, items: Items) -> Items:
+    """One of these four changes."""
+    shapes: Sequence[Callable[[Random, Items], Items]] = (cut, double, swap, move)
+    return rng.choice(shapes)(rng, items)
 
 
-def shaped(rng, items):
-    return rng.choice(SHAPES)(rng, items)
-
-
-def flip(rng, text):
+def flip(rng: Random, text: bytes) -> bytes:
+    """One bit is turned."""
     if not text:
         return text
     at = rng.randrange(len(text))
     return text[:at] + bytes([text[at] ^ 1 << rng.randrange(8)]) + text[at + 1:]
 
 
-SOME_BYTES = (b"\x00", b"\t", b"\n", b"\x0b", b"\r", b"\r\n", b" ", b'"', b"#", b"'", b",", b";", b"=", b"[", b"]", b"\\", b"{",
-              b"}", b".", b"-", b"_", b"0", b"9", b"\x7f", b"\x80", b"\xc3\xa4", b"\xef\xbb\xbf", b"\xff")
+SOME_BYTES = (b"\x00", b"\t", b"\n", b"\x0b", b"\r", b"\r\n", b" ", b'"', b"#", b"'", b",", b";", b"=", b"[", b"]",
+              b"\\", b"{", b"}", b".", b"-", b"_", b"0", b"9", b"\x7f", b"\x80", b"\xc3\xa4", b"\xef\xbb\xbf", b"\xff")
 
 
-def insert(rng, text):
+def insert(rng: Random, text: bytes) -> bytes:
+    """Some bytes come in, at times in the place of one."""
     at = rng.randrange(len(text) + 1)
     return text[:at] + rng.choice(SOME_BYTES) + text[at + rng.randrange(2):]
 
 
-def of_bytes(rng, text):
-    return rng.choice((flip, insert, shaped, end_early))(rng, text)
+def of_bytes(rng: Random, text: bytes) -> bytes:
+    """A change of bytes."""
+    ways: tuple[Change, ...] = (flip, insert, shaped, end_early)
+    return rng.choice(ways)(rng, text)
 
 
 # ---- tokens --------------------------------------------------------------------------------------------------------
 
-NUMBERS = ("0 1 2 3 5 7 40 41 64 100 101 102 103 104 255 256 340 1000 65535 65536 100000 4194304 4194305 4294967294 4294967295"
-           " 4294967296 -1 -0 +1 00 007 1_000 0x10 9223372036854775807 9223372036854775808 -9223372036854775809"
-           " 99999999999999999999").split()
-NAMES = "init root box inner.1 data usb none all allow deny script strace".split() + ["a" * 32, "a" * 33, "#0", "#1", "#3", ""]
-PATHS = ["/bin/su", "/bin/script", "/data/ping", "/usb/game", "-", "=", "/x y", "/\\u007f", "a" * 4095, "a" * 4096, "\u00e4"]
-SETS = ["CAP_KILL", "CAP_SETUID,CAP_SETGID", "CAP_NO", "CAP_KILL,", "000001ffffffffff", "FFFFFFFFFFFFFFFF", "00000000000000000",
-        "000000000000002g"] + ["CAP_" + name for name in CAPABILITIES[::8]]
+NUMBERS = ("0 1 2 3 5 7 40 41 64 100 101 102 103 104 255 256 340 1000 65535 65536 100000 4194304 4194305 4294967294"
+           " 4294967295 4294967296 -1 -0 +1 00 007 1_000 0x10 9223372036854775807 9223372036854775808"
+           " -9223372036854775809 99999999999999999999").split()
+NAMES = ["init", "root", "box", "inner.1", "data", "usb", "none", "all", "allow", "deny", "script", "strace", "a" * 32,
+         "a" * 33, "#0", "#1", "#3", ""]
+PATHS = ["/bin/su", "/bin/script", "/data/ping", "/usb/game", "-", "=", "/x y", "/\\u007f", "a" * 4095, "a" * 4096,
+         "\u00e4"]
+SETS = ["CAP_KILL", "CAP_SETUID,CAP_SETGID", "CAP_NO", "CAP_KILL,", "000001ffffffffff", "FFFFFFFFFFFFFFFF",
+        "00000000000000000", "000000000000002g"] + ["CAP_" + name for name in CAPABILITIES[::8]]
 MODES = ["4755", "0", "8", "77777", "7777", "2010", "1"]
-TEXTS = NAMES + PATHS + SETS + MODES + [ATTRIBUTE, ATTRIBUTE_3, ATTRIBUTE[2:], ATTRIBUTE[:-1] + "g", "02" + ATTRIBUTE[2:]]
-LISTS = ["[]", "[0]", "[1, 2, 3]", "[1, 2, 3, 4]", "[0, -1, 0, 0]", "[[0, 0, 1]]", "[[0, 100000, 65536]]", "[[0, 0, 0]]",
-         "[[0, 0, 4294967295]]", "[[1, 0, 4294967295]]", "[[0, 0, 2], [1, 5, 1]]", "[[0, 0, 4294967296]]", "[[0, 0]]",
-         "[[0, 1000, 65536]]", '["setuid"]', '["setuid", "no"]', '["x", 1]', "[1, \"x\"]", "[[]]"]
+ATTRIBUTES = [ATTRIBUTE, ATTRIBUTE_3, ATTRIBUTE[2:], ATTRIBUTE[:-1] + "g", "02" + ATTRIBUTE[2:]]
+TEXTS = NAMES + PATHS + SETS + MODES + ATTRIBUTES
+LISTS = ["[]", "[0]", "[1, 2, 3]", "[1, 2, 3, 4]", "[0, -1, 0, 0]", "[[0, 0, 1]]", "[[0, 100000, 65536]]",
+         "[[0, 0, 0]]", "[[0, 0, 4294967295]]", "[[1, 0, 4294967295]]", "[[0, 0, 2], [1, 5, 1]]",
+         "[[0, 0, 4294967296]]", "[[0, 0]]", "[[0, 1000, 65536]]", '["setuid"]', '["setuid", "no"]', '["x", 1]',
+         "[1, \"x\"]", "[[]]"]
 VALUES = NUMBERS + LISTS + [f'"{text}"' for text in TEXTS] + ["true", "false", "1.5", "{}", "inf", "''", '""""""']
-LOG_TOKENS = [token.encode() for token in NUMBERS + NAMES + PATHS + SETS + list(ERRORS) + ["=", ";", "#9", "#300", "#4294967296", "#"]]
+LOG_TOKENS = [token.encode() for token in (
+    NUMBERS + NAMES + PATHS + SETS + list(ERRORS) + ["=", ";", "#9", "#300", "#4294967296", "#"])]
 LOG_TOKENS += list(CALLS) + [b"\xff", b"\x0b", b"x\x00y", b"\x7f"]
 
 STRACE_TOKENS = [token.encode() for token in (
-    NUMBERS + list(ERRORS) + PATHS + ["<unfinished ...>", "<... read resumed>", '"0 \\60 1"', '"\\400"', '"deny"', '"uid_map"']
+    NUMBERS + list(ERRORS) + PATHS
+    + ["<unfinished ...>", "<... read resumed>", '"0 \\60 1"', '"\\400"', '"deny"', '"uid_map"']
     + ['"/proc/self/uid_map"', '"/proc/104/ns/user"'] + list("()[]{},|=?")
-    + "0 = -1 NULL ... 104 201 +++ --- exited superseded CLONE_FILES CLONE_NEWUSER flags=CLONE_NEWUSER O_WRONLY O_RDWR O_CLOEXEC"
-      " SIGCHLD AT_FDCWD CAP_KILL 1<<CAP_KILL SECBIT_NOROOT ENOSYS ESRCH fork clone3 setns dup write pwrite64 open close setuid32"
-      " exit_group".split())]
+    + "0 = -1 NULL ... 104 201 +++ --- exited superseded CLONE_FILES CLONE_NEWUSER flags=CLONE_NEWUSER O_WRONLY O_RDWR"
+      " O_CLOEXEC SIGCHLD AT_FDCWD CAP_KILL 1<<CAP_KILL SECBIT_NOROOT ENOSYS ESRCH fork clone3 setns dup write pwrite64"
+      " open close setuid32 exit_group".split())]
 
 # Values of the kind that a key asks for, not all of them good ones.
 IDS = ["0", "1000", "100000", "100005", "4294967294", "4294967295", "-1"]
 FLAGS, SETS_QUOTED = ["true", "false", "1"], [f'"{text}"' for text in ["all", "none", *SETS]]
-SPACES, MAPS = ['"init"', '"box"', '"inner.1"', '"nobody"', '"#1"'], [one for one in LISTS if one.startswith("[[")] + ["[]"]
+SPACES = ['"init"', '"box"', '"inner.1"', '"nobody"', '"#1"']
+MAPS = [one for one in LISTS if one.startswith("[[")] + ["[]"]
 MAPS += ["[[0, 100000, 10], [20, 100020, 10]]", "[[0, 0, 10], [9, 20, 10]]", "[[7, 1500, 1]]", "[[0, 65530, 100]]"]
 PLAUSIBLE = {
-    "log": ['"script"', '"strace"', '"Script"'], "name": [f'"{text}"' for text in NAMES], "parent": SPACES + ["100", "101", "7"],
+    "log": ['"script"', '"strace"', '"Script"'],
+    "name": [f'"{text}"' for text in NAMES], "parent": SPACES + ["100", "101", "7"],
     "owner": IDS, "uid_map": MAPS, "gid_map": MAPS, "fs_uid_map": MAPS, "fs_gid_map": MAPS,
-    "setgroups": ['"allow"', '"deny"', '"Deny"'], "creator_setfcap": FLAGS, "space": SPACES, "nosuid": FLAGS, "noexec": FLAGS,
+    "setgroups": ['"allow"', '"deny"', '"Deny"'], "creator_setfcap": FLAGS,
+    "space": SPACES, "nosuid": FLAGS, "noexec": FLAGS,
     "path": [f'"{text}"' for text in PATHS], "mount": ['"root"', '"data"', '"usb"', '"init"'],
     "uid": IDS + ["[0, 1, 2, 3]", "[1, 2, 3]"], "gid": IDS + ["[0, 1, 2, 3]", "[0, 0, 0, -1]"],
     "mode": [f'"{text}"' for text in MODES], "interpreter": ['"/bin/su"', '"/bin/script"', '"/usb/game"', '"-"'],
-    "caps": [f'"{text}"' for text in (ATTRIBUTE, ATTRIBUTE_3, ATTRIBUTE[2:], ATTRIBUTE[:-1] + "g", "02" + ATTRIBUTE[2:], "")],
+    "caps": [f'"{text}"' for text in (*ATTRIBUTES, "")],
     "pid": ["1", "100", "101", "4194304", "4194305", "0"], "groups": ["[]", "[5, 5, 0]", "[4294967295]"],
     "securebits": ["0", "16", "255", "256", "-1"], "no_new_privs": FLAGS,
     "exclude": ['["setuid", "exit"]', '["setuid", "no"]', '["Exit"]', "[]", "[1]"],
@@ -441,7 +470,7 @@ LOG_TOKEN = re.compile(rb"[^ \t\r\n]+|[ \t\r]+|\n")
 STRACE_TOKEN = re.compile(rb'"(?:[^"\\\n]|\\.)*"|<?[A-Za-z0-9_.+-]+>?|[ \t\r]+|.', re.DOTALL)
 
 
-def replaced(rng, tokens, some):
+def replaced(rng: Random, tokens: list[bytes], some: Sequence[bytes]) -> list[bytes]:
     """One token that isn't blank becomes another."""
     places = [at for at, token in enumerate(tokens) if token.strip()]
     if not places:
@@ -450,9 +479,10 @@ def replaced(rng, tokens, some):
     return tokens[:at] + [rng.choice(some)] + tokens[at + 1:]
 
 
-def of_tokens(pattern, some):
-    def change(rng, text):
-        tokens = pattern.findall(text)
+def of_tokens(pattern: re.Pattern[bytes], some: Sequence[bytes]) -> Change:
+    """A change of tokens, as the pattern finds them, of which one may become one of these."""
+    def change(rng: Random, text: bytes) -> bytes:
+        tokens: list[bytes] = pattern.findall(text)
         return b"".join(replaced(rng, tokens, some) if rng.random() < 0.6 else shaped(rng, tokens))
     return change
 
@@ -460,22 +490,19 @@ def of_tokens(pattern, some):
 # ---- keys ----------------------------------------------------------------------------------------------------------
 
 KEY = re.compile(rb"(\w+)\s*=\s*(.*)")
-ALL_KEYS = sorted({key.encode() for keys, _ in KEYS.values() for key in keys} | {b"x"})
+ALL_KEYS = sorted({key.encode() for table in KEYS.values() for key in table.kinds} | {b"x"})
 SOME_VALUES = [value.encode() for value in VALUES]
 
 
-def lines_with_keys(lines):
-    return [at for at, line in enumerate(lines) if KEY.match(line)]
-
-
-def of_keys(rng, text):
+def of_keys(rng: Random, text: bytes) -> bytes:
     """A key is put in, taken out, doubled, renamed, or given another value or that of another key."""
     lines = text.split(b"\n")
-    places = lines_with_keys(lines)
+    with_keys = {at: found for at, found in enumerate(map(KEY.match, lines)) if found}
+    places = list(with_keys)
     if not places:
         return text
     at, other = rng.choice(places), rng.choice(places)
-    key, value = KEY.match(lines[at]).groups()
+    key, value = with_keys[at].groups()
     how = rng.randrange(7)
     if how == 0:
         lines.insert(at, rng.choice(ALL_KEYS) + b" = " + rng.choice(SOME_VALUES))
@@ -488,7 +515,7 @@ def of_keys(rng, text):
     elif how == 4:
         lines[at], lines[other] = lines[other], lines[at]
     elif how == 5:
-        lines[at] = key + b" = " + KEY.match(lines[other]).group(2)
+        lines[at] = key + b" = " + with_keys[other].group(2)
     else:
         lines[at] = key + b" = " + rng.choice(SOME_VALUES)
     return b"\n".join(lines)
@@ -497,13 +524,13 @@ def of_keys(rng, text):
 TABLE = re.compile(rb"\[\[?(\w+)\]")
 
 
-def of_kinds(rng, text):
+def of_kinds(rng: Random, text: bytes) -> bytes:
     """A key that its table may have gets a value of the right kind, in the place of what it has or as a new line."""
     lines = text.split(b"\n")
     at = rng.randrange(len(lines))
     headers = [found.group(1).decode() for found in map(TABLE.match, lines[:at + 1]) if found]
     table = headers[-1] if headers and headers[-1] in KEYS else "whole"
-    key = rng.choice([key for key in KEYS[table][0] if key in PLAUSIBLE] or ["log"])
+    key = rng.choice([key for key in KEYS[table].kinds if key in PLAUSIBLE] or ["log"])
     line = f"{key} = {rng.choice(PLAUSIBLE[key])}".encode()
     begin = next((place for place in range(at, -1, -1) if TABLE.match(lines[place])), -1)
     end = next((place for place in range(begin + 1, len(lines)) if TABLE.match(lines[place])), len(lines))
@@ -517,10 +544,11 @@ def of_kinds(rng, text):
 
 # ---- rows ----------------------------------------------------------------------------------------------------------
 
-HEADERS = [f"[[{table}]]".encode() for table in KEYS] + [b"[filter]", b"[process]", b"[[process.x]]", b"[]", b"[[space]"]
+HEADERS = [f"[[{table}]]".encode() for table in KEYS]
+HEADERS += [b"[filter]", b"[process]", b"[[process.x]]", b"[]", b"[[space]"]
 
 
-def of_rows(rng, text):
+def of_rows(rng: Random, text: bytes) -> bytes:
     """A row of a world is cut, doubled, moved, or comes to another table."""
     rows = re.split(rb"(?m)^(?=\[)", text)
     if rng.random() < 0.7:
@@ -530,11 +558,12 @@ def of_rows(rng, text):
     return b"".join(rows)
 
 
-def of_lines(rng, text):
+def of_lines(rng: Random, text: bytes) -> bytes:
+    """Lines are cut, doubled or moved."""
     return b"".join(shaped(rng, text.splitlines(keepends=True)))
 
 
-def line_of(rng, text):
+def line_of(rng: Random, text: bytes) -> bytes:
     """A line of tokens that are drawn comes in."""
     lines = text.split(b"\n")
     call = rng.choice(list(CALLS))
@@ -546,12 +575,13 @@ def line_of(rng, text):
 
 # ---- changes -------------------------------------------------------------------------------------------------------
 
-WORLD_CHANGES = (of_bytes, of_tokens(WORLD_TOKEN, SOME_VALUES), of_keys, of_kinds, of_kinds, of_kinds, of_rows)
-STRACE_CHANGES = (of_bytes, *[of_tokens(STRACE_TOKEN, STRACE_TOKENS)] * 3, of_lines, of_lines)
-LOG_CHANGES = (of_bytes, of_tokens(LOG_TOKEN, LOG_TOKENS), of_tokens(LOG_TOKEN, LOG_TOKENS), of_lines, line_of)
+Changes = tuple[Change, ...]
+WORLD_CHANGES: Changes = (of_bytes, of_tokens(WORLD_TOKEN, SOME_VALUES), of_keys, of_kinds, of_kinds, of_kinds, of_rows)
+STRACE_CHANGES: Changes = (of_bytes, *[of_tokens(STRACE_TOKEN, STRACE_TOKENS)] * 3, of_lines, of_lines)
+LOG_CHANGES: Changes = (of_bytes, *[of_tokens(LOG_TOKEN, LOG_TOKENS)] * 2, of_lines, line_of)
 
 
-def changed(rng, text, changes):
+def changed(rng: Random, text: bytes, changes: Changes) -> bytes:
     """One to five changes, mostly one."""
     for _ in range(min(5, 1 + int(rng.expovariate(1.2)))):
         text = rng.choice(changes)(rng, text)
@@ -559,7 +589,8 @@ def changed(rng, text, changes):
 
 
 PIDS = (b"1", b"2", b"100", b"101", b"0100", b"104", b"0", b"x", b"-1", b"4194305", b"", b"4867")
-RIGHTS = (b"uid:0", b"uid:7", b"uid:4294967294", b"uid:4294967295", b"uid:", b"uid:-1", b"gid:0", b"gid:100005", b"gid:x",
+RIGHTS = (b"uid:0", b"uid:7", b"uid:4294967294", b"uid:4294967295", b"uid:", b"uid:-1", b"gid:0", b"gid:100005",
+          b"gid:x",
           b"cap:CAP_SYS_ADMIN@init", b"cap:CAP_KILL@box", b"cap:CAP_KILL@#1", b"cap:CAP_KILL@#00", b"cap:CAP_KILL@#9",
-          b"cap:CAP_KILL@#4294967296", b"cap:CAP_KILL@nobody", b"cap:KILL@init", b"cap:CAP_KILL", b"cap:5@init", b"cap:@@",
-          b"", b"uid", b"UID:0", b"uid:\xff")
+          b"cap:CAP_KILL@#4294967296", b"cap:CAP_KILL@nobody", b"cap:KILL@init", b"cap:CAP_KILL", b"cap:5@init",
+          b"cap:@@", b"", b"uid", b"UID:0", b"uid:\xff")

@@ -4,15 +4,17 @@
   time_capture.py [PROCESSES [THREADS]]     200 processes, each with 2 threads beside its first, where no number is said
 
 To be run as root. Needs cc. The family is made for it: a process and its children, half of which have another user's
-ids, and all of which wait. Tells how many rows the world has, and the time by the clock and of the processors. Status 1:
-the world lacks a thread, or it took more than 10 seconds by the clock.
+ids, and all of which wait. Tells how many rows the world has, and the time by the clock and of the processors. Status
+1: the world lacks a thread, or it took more than 10 seconds by the clock.
 """
 import os
 import subprocess
 import sys
 import tempfile
 
+from credaudit_tools import worlds
 from credaudit_tools.command import Failure
+from credaudit_tools.files import read_regular
 from credaudit_tools.proc import needs_root
 from time_trace import seconds
 
@@ -67,6 +69,7 @@ int main(int count, char **words)
 
 
 def main() -> int:
+    """Times it; the status."""
     processes, threads = [int(word) for word in [*sys.argv[1:], *("200", "2")[len(sys.argv) - 1:]]]
     try:
         needs_root()
@@ -86,8 +89,7 @@ def main() -> int:
                 clock, used = seconds([*capture, str(family.pid)], most=1)
             finally:
                 family.kill()
-        with open(world, encoding="ascii") as file:
-            rows = file.read().count("[[process]]")
+        rows = len(worlds.read(read_regular(world)).processes)
     print(f"{processes} processes with {threads} threads each beside the first: {rows} rows")
     print(f"{clock:.1f} s by the clock, {used:.1f} s of processors")
     return 1 if clock > MOST or rows != processes * (threads + 1) else 0

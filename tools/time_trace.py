@@ -49,6 +49,7 @@ def seconds(words: list[str], most: int = 0) -> tuple[float, float]:
 
 
 def main() -> int:
+    """Times both; the status."""
     calls = sys.argv[1] if len(sys.argv) > 1 else "200000"
     try:
         needs_root()

@@ -3,11 +3,11 @@
 
   trim_strace.py WORLD LOG    writes the trimmed log
 
-Kept are the calls that set or show credentials, births, execves, the calls of user namespaces, exits, and of descriptors
-the calls that open a map file or a namespace's file, and those on numbers that these answered. Dropped is all else: what
-other files are opened and what is written to them, signals, and what a call beside the table does. Of an execve the words
-and the environment go, since no rule reads them, and addresses become one and the same. Needs credaudit: a log that it
-reads otherwise when it is trimmed is refused, status 1. credaudit-trace(1) needs no trimming.
+Kept are the calls that set or show credentials, births, execves, the calls of user namespaces, exits, and of
+descriptors the calls that open a map file or a namespace's file, and those on numbers that these answered. Dropped is
+all else: what other files are opened and what is written to them, signals, and what a call beside the table does. Of an
+execve the words and the environment go, since no rule reads them, and addresses become one and the same. Needs
+credaudit: a log that it reads otherwise when it is trimmed is refused, status 1. credaudit-trace(1) needs no trimming.
 """
 import re
 import sys
@@ -60,6 +60,7 @@ class Kept:
         self.numbers: set[bytes] = set()
 
     def is_kept(self, body: bytes) -> bool:
+        """Whether a line of that body stays."""
         if body.startswith(b"+++"):
             return not body.startswith(b"+++ stopped")
         name = lines.name_of(body)
@@ -90,7 +91,8 @@ def plain(line: bytes) -> bytes:
         arguments = lines.pieces(inside) if inside is not None else call.arguments if call else None
         if arguments is not None:
             few = b", ".join([*arguments[:1 if name == b"execve" else 2], b"[]", b"NULL"])
-            body = name + b"(" + few + (b" " + lines.UNFINISHED if unfinished else b") = " + (call.result if call else b""))
+            result = call.result if call else b""
+            body = name + b"(" + few + (b" " + lines.UNFINISHED if unfinished else b") = " + result)
     return b"%d  %s" % (pid, ADDRESS.sub(b"0x7f0000000000", body))
 
 
@@ -110,6 +112,7 @@ def events(told: Report) -> list[tuple[object, ...]]:
 
 
 def main() -> int:
+    """Writes the trimmed log; the status."""
     if len(sys.argv) != 3:
         print("usage: trim_strace.py WORLD LOG", file=sys.stderr)
         return 2

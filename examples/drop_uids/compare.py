@@ -26,6 +26,7 @@ from credaudit_tools.statuses import credential_of, parts_of_line  # noqa: E402
 
 
 def read(name: str) -> list[str]:
+    """The lines of a file beside this script."""
     return read_regular(os.path.join(HERE, name)).decode("ascii").splitlines()
 
 
@@ -49,6 +50,7 @@ def report_of(words: list[str]) -> report.Report:
 
 
 def event_text(event: report.Event) -> str:
+    """An event, as a report has it."""
     return " ".join([f"{event.line}: {event.pid} {event.call}", *event.arguments, "=", event.result])
 
 
@@ -71,6 +73,7 @@ def compared(calls: list[str], seen: list[Credential], told: report.Report) -> i
 
 
 def main() -> int:
+    """Compares what the words ask for; the status."""
     try:
         calls, seen = read("drop_uids.log"), seen_in(read("status.txt"))
         if not calls or len(seen) != len(calls) + 1:

@@ -19,18 +19,20 @@ import tempfile
 from compare import HERE, seen_in
 
 from credaudit_tools import lines, worlds
+from credaudit_tools.files import read_regular
 from credaudit_tools.lines import Call
 
 EXIT = b"+++ exited with 0 +++"
 
 
-def run(words):
+def run(words: list[str]) -> None:
+    """Runs a command; ends the script where it fails."""
     if subprocess.call(words) != 0:
         sys.exit("record.py: this failed: " + " ".join(words))
 
 
 def script_line(line: bytes) -> tuple[int, str] | None:
-    """A line of strace as the pid and the script line, None for that of the exit."""
+    """A line of strace as the pid and the script line, None for that of the exit. Ends the script at any other."""
     pid, body = lines.parted(line) or (0, b"")
     call = lines.call_of(body)
     if call is not None and call.name == b"setresuid":
@@ -46,29 +48,32 @@ def answer(call: Call) -> str:
     return failed.group(1).decode() if failed else str(call.done)
 
 
-def put(name, text):
+def put(name: str, text: str) -> None:
+    """Writes a file beside this script."""
     with open(os.path.join(HERE, name), "w") as out:
         out.write(text)
 
 
-def main():
+def main() -> None:
+    """Records the example."""
     if os.geteuid() != 0:
         sys.exit("record.py: to be run as root, since the program drops root's ids")
     with tempfile.TemporaryDirectory() as work:
         program, trace, status = (os.path.join(work, name) for name in ("drop_uids", "trace", "status"))
         run(["cc", "-O2", "-o", program, os.path.join(HERE, "drop_uids.c")])
         run(["strace", "-f", "-e", "trace=setresuid", "-o", trace, program, status])
-        trace, status = open(trace).read(), open(status).read()
-    calls = [call for call in map(script_line, trace.encode().splitlines()) if call]
+        log, seen = read_regular(trace), read_regular(status).decode("ascii")
+    calls = [call for call in map(script_line, log.splitlines()) if call]
     pids = {pid for pid, _ in calls}
-    if len(pids) != 1 or len(calls) + 1 != len(status.splitlines()):
+    if len(pids) != 1 or len(calls) + 1 != len(seen.splitlines()):
         sys.exit("record.py: more than one process, or another number of calls than of status lines")
-    put("drop_uids.strace", trace)
+    put("drop_uids.strace", log.decode("ascii"))
     put("drop_uids.log", "".join(line + "\n" for _, line in calls))
-    process = worlds.Process(pids.pop(), seen_in(status.splitlines())[0])
+    process = worlds.Process(pids.pop(), seen_in(seen.splitlines())[0])
     put("world.toml", worlds.written(worlds.World("script", processes=[process])).decode())
-    put("status.txt", status)
+    put("status.txt", seen)
     print(f"{len(calls)} calls recorded")
 
 
-main()
+if __name__ == "__main__":
+    main()

@@ -1,8 +1,8 @@
 """The programs that record.py records: what each is run with, and what lives when it has dropped its privilege."""
-import collections
 import os
 import subprocess
-from dataclasses import dataclass, field
+from collections.abc import Callable
+from dataclasses import dataclass
 
 HERE = os.path.dirname(os.path.abspath(__file__))
 # Made in copies of /etc and /var: lina (2001), who is in the group crew (2100), and mila (2002).
@@ -15,25 +15,29 @@ USERS = (
 SLEEP = "exec sleep 600"
 
 
+def nothing(_: str) -> None:
+    """What a program needs that needs nothing."""
+
+
 @dataclass
 class Program:
+    """A program to record: what its world says of it, and what is done before it runs and while it does."""
     name: str
     says: str
-    words: list             # PLACE in them is a folder of the program's own
-    lives: dict             # how many threads of which name live at the end
-    user: str = None        # who runs it; root where nobody is named
+    words: list[str]                # PLACE in them is a folder of the program's own
+    lives: dict[str, int]           # how many threads of which name live at the end
+    user: str | None = None         # who runs it; root where nobody is named
     input: bytes = b""
-    before: object = lambda place: None
-    client: object = lambda place: None
+    before: Callable[[str], None] = nothing         # with the folder
+    client: Callable[[str], subprocess.Popen[bytes] | None] = nothing
 
-    def __post_init__(self):
-        self.lives = collections.Counter(self.lives)
-
-    def as_user(self):
+    def as_user(self) -> list[str]:
+        """The option of credaudit-trace for it."""
         return ["-u", self.user] if self.user else []
 
 
-def put(place, name, text, mode=0o644):
+def put(place: str, name: str, text: str, mode: int = 0o644) -> str:
+    """Writes a file into a folder, and gives its path."""
     path = os.path.join(place, name)
     with open(path, "w") as file:
         file.write(text)
@@ -41,24 +45,29 @@ def put(place, name, text, mode=0o644):
     return path
 
 
-def mila_has_a_password(_):
+def mila_has_a_password(_: str) -> None:
+    """What su asks for."""
     subprocess.run(["chpasswd"], input=f"mila:{PASSWORD}\n", text=True, check=True)
 
 
-def lina_may_be_mila(_):
+def lina_may_be_mila(_: str) -> None:
+    """What sudo asks for."""
     put("/etc/sudoers.d", "examples", "Defaults !use_pty\nlina ALL = (mila) NOPASSWD: ALL\n", 0o440)
 
 
-def lina_has_a_folder(place):
+def lina_has_a_folder(place: str) -> None:
+    """Where a program that lina runs may write."""
     os.mkdir(os.path.join(place, "lina"))
     os.chown(os.path.join(place, "lina"), 2001, 2001)
 
 
-def bus(_):
+def bus(_: str) -> None:
+    """The folder of the bus."""
     os.makedirs("/run/dbus", exist_ok=True)
 
 
-def nginx(place):
+def nginx(place: str) -> None:
+    """The words of nginx.conf."""
     put(place, "nginx.conf", f"""user www-data;
 worker_processes 2;
 daemon off;
@@ -69,11 +78,13 @@ http {{ access_log off; server {{ listen 127.0.0.1:80; }} }}
 """)
 
 
-def chrony(place):
+def chrony(place: str) -> None:
+    """The words of chrony.conf."""
     put(place, "chrony.conf", "port 0\ncmdport 0\n")
 
 
-def keys(place):
+def keys(place: str) -> None:
+    """The keys of sshd and of a user, and the words of sshd.conf."""
     os.makedirs("/run/sshd", exist_ok=True)
     for name in ("host", "user"):
         subprocess.run(["ssh-keygen", "-q", "-t", "ed25519", "-N", "", "-f", os.path.join(place, name)], check=True)
@@ -88,22 +99,25 @@ KbdInteractiveAuthentication no
 """)
 
 
-def log_in(place):
+def log_in(place: str) -> subprocess.Popen[bytes]:
+    """A login by that key, once sshd listens."""
     words = ["ssh", "-i", f"{place}/user", "-o", "StrictHostKeyChecking=no", "-o", "UserKnownHostsFile=/dev/null", "-o",
              "ConnectionAttempts=10", "lina@127.0.0.1", SLEEP]
     return subprocess.Popen(["sh", "-c", 'sleep 2; exec "$@"', "sh", *words], stdin=subprocess.DEVNULL,
                             stdout=subprocess.DEVNULL, stderr=subprocess.DEVNULL)
 
 
-def crontab(_):
+def crontab(_: str) -> None:
+    """A job of lina's, each minute."""
     put("/etc/cron.d", "examples", f"* * * * * lina {SLEEP}\n")
 
 
-def daemon(name, says, user=None, capabilities=None, threads=2):
+def daemon(name: str, says: str, user: str | None = None, capabilities: str | None = None,
+           threads: int = 2) -> Program:
     """One of the small daemons, NAME/NAME.c: its file below /run, with these capabilities where there are some."""
     path = f"/run/{name}"
 
-    def build(_):
+    def build(_: str) -> None:
         subprocess.run(["cc", "-O1", "-pthread", "-o", path, os.path.join(HERE, name, name + ".c")], check=True)
         if capabilities:
             subprocess.run(["setcap", capabilities, path], check=True)

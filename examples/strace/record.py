@@ -2,23 +2,24 @@
 
   record.py [--strace COMMAND] [--into DIR] [NAME ..]     all of them where none is named
 
-COMMAND is another strace than the machine's own; then a folder has its version after the program's name. The folders stand
-beside this script, or in DIR. To be run as root. Needs strace, overlayfs and Debian's packages that programs.py names.
-Nothing of the machine is changed: the programs run in namespaces of mounts, network, hostname and IPC of their own, with
-copies of /etc and /var that go away, in which two users are made. Each program's folder gets a recording
+COMMAND is another strace than the machine's own; then a folder has its version after the program's name. The folders
+stand beside this script, or in DIR. To be run as root. Needs strace, overlayfs and Debian's packages that programs.py
+names. Nothing of the machine is changed: the programs run in namespaces of mounts, network, hostname and IPC of their
+own, with copies of /etc and /var that go away, in which two users are made. Each program's folder gets a recording
 (credaudit-trace(1)), which is verified.
 
 One line for each program. Status 0: all are recorded, and none differs; 1: some aren't, or do.
 """
 import argparse
-import collections
 import os
 import signal
 import subprocess
 import sys
 import tempfile
 import time
+from collections import Counter
 from dataclasses import dataclass
+from typing import NoReturn
 
 HERE = os.path.dirname(os.path.abspath(__file__))
 TOOLS = os.path.normpath(os.path.join(HERE, "..", "..", "tools"))
@@ -31,7 +32,7 @@ from credaudit_tools.proc import Proc, needs_root  # noqa: E402
 from credaudit_tools.recording import WORLD  # noqa: E402
 from credaudit_tools.statuses import from_file  # noqa: E402
 from credaudit_tools.worlds import remark  # noqa: E402
-from programs import PROGRAMS, USERS  # noqa: E402
+from programs import PROGRAMS, USERS, Program  # noqa: E402
 
 TRACE = os.path.join(TOOLS, "credaudit-trace")
 CLEAN = {"PATH": "/usr/sbin:/usr/bin:/sbin:/bin", "LANG": "C"}
@@ -43,19 +44,21 @@ class Failed(Exception):
     """A program isn't recorded, for this reason."""
 
 
-def give_up(why):
+def give_up(why: str) -> NoReturn:
+    """Ends with status 1, for this reason."""
     sys.exit("record.py: " + why)
 
 
 # ---- a place of its own ----------------------------------------------------------------------------------------------
 
 
-def run(*words, **options):
-    if subprocess.call(words, **options) != 0:
+def run(*words: str, env: dict[str, str] | None = None) -> None:
+    """Runs a command, with those variables where they are given. Gives up where it fails."""
+    if subprocess.call(words, env=env) != 0:
         give_up("this failed: " + " ".join(words))
 
 
-def go_apart():
+def go_apart() -> NoReturn:
     """The same program again in namespaces of its own."""
     try:
         needs_root()
@@ -65,7 +68,7 @@ def go_apart():
                           sys.executable, os.path.abspath(__file__), "--apart", *sys.argv[1:]])
 
 
-def furnish(work):
+def furnish(work: str) -> None:
     """Copies of /etc and /var, an empty /run, the loopback device, and the users of the examples."""
     run("mount", "-t", "tmpfs", "tmpfs", work)
     for name in ("etc", "var"):
@@ -84,25 +87,26 @@ def furnish(work):
 # ---- what lives ------------------------------------------------------------------------------------------------------
 
 
-def living(tracing):
+def living(tracing: subprocess.Popen[bytes]) -> Counter[str]:
     """The names of the threads that the strace of a credaudit-trace traces."""
     threads = watching.all_threads(PROC)
     tracers = {each.tgid for each in threads.values() if each.parent == tracing.pid}
     traced = [tid for tid, each in threads.items() if each.tracer in tracers]
     found = [PROC.read(tid, "status") for tid in traced]
-    return collections.Counter(from_file(data).name.decode("latin-1") for data in found if data)
+    return Counter(from_file(data).name.decode("latin-1") for data in found if data)
 
 
-def wait_for(program, tracing):
-    """Waits until what lives is what the program says, and stays so for a while."""
-    last, ends = None, time.monotonic() + PATIENCE
+def wait_for(program: Program, tracing: subprocess.Popen[bytes]) -> None:
+    """Waits until what lives is what the program says, and stays so for a while. Failed where that doesn't come."""
+    last: Counter[str] | None = None
+    ends = time.monotonic() + PATIENCE
     while time.monotonic() < ends and tracing.poll() is None:
         names = living(tracing)
-        if names == program.lives and names == last:
+        if names == Counter(program.lives) and names == last:
             return
         last = names
         time.sleep(1)
-    raise Failed(f"what lives is {dict(last or {})}, not {dict(program.lives)}")
+    raise Failed(f"what lives is {dict(last or {})}, not {program.lives}")
 
 
 # ---- one program -----------------------------------------------------------------------------------------------------
@@ -110,24 +114,26 @@ def wait_for(program, tracing):
 
 @dataclass
 class Recorder:
+    """The strace that records, where the recordings are put, and a folder for the programs."""
     strace: str
     into: str
     work: str
 
 
-def begin(recorder, program, place, folder):
+def begin(recorder: Recorder, program: Program, place: str, folder: str) -> subprocess.Popen[bytes]:
     """The credaudit-trace that runs a program."""
     words = [sys.executable, TRACE, "-o", folder, "--no-verify", "--pids-from", str(FIRST_PID),
              "--strace", recorder.strace, *program.as_user(), "--",
              *(word.replace("PLACE", place) for word in program.words)]
     tracing = subprocess.Popen(words, env=CLEAN, stdin=subprocess.PIPE, stdout=subprocess.DEVNULL, cwd="/",
                                stderr=subprocess.PIPE)
+    assert tracing.stdin is not None
     tracing.stdin.write(program.input)
     tracing.stdin.flush()
     return tracing
 
 
-def end(tracing, client):
+def end(tracing: subprocess.Popen[bytes], client: subprocess.Popen[bytes] | None) -> str:
     """Ends a recording; what it said."""
     if tracing.poll() is None:
         tracing.send_signal(signal.SIGTERM)
@@ -137,8 +143,8 @@ def end(tracing, client):
     return said.decode("ascii", "backslashreplace")
 
 
-def record(recorder, program):
-    """Records a program; the status of its verification."""
+def record(recorder: Recorder, program: Program) -> int:
+    """Records a program; the status of its verification. Failed where there is no whole recording."""
     place = os.path.join(recorder.work, program.name)
     os.mkdir(place)
     os.chmod(place, 0o755)
@@ -159,7 +165,8 @@ def record(recorder, program):
     return verify_command.verified("record.py", folder)
 
 
-def is_recorded(recorder, program):
+def is_recorded(recorder: Recorder, program: Program) -> bool:
+    """Whether a program is recorded, and the recording verified."""
     try:
         return record(recorder, program) == 0
     except (Failed, Failure) as why:
@@ -167,7 +174,8 @@ def is_recorded(recorder, program):
         return False
 
 
-def main():
+def main() -> None:
+    """Records the programs that the words name."""
     ask = argparse.ArgumentParser(usage="record.py [--strace COMMAND] [--into DIR] [NAME ..]")
     ask.add_argument("--apart", action="store_true", help=argparse.SUPPRESS)
     ask.add_argument("--strace", default="strace")

@@ -56,6 +56,7 @@ def named_spaces(kernel: Kernel, family: Family, own: bool, capture: Capture) ->
 
 
 def front(kernel: Kernel, family: Family) -> list[str]:
+    """The remarks at the front of a captured world: of whom it is, and what goes with it."""
     name = heads(family)[family.root].status.name if family.root in heads(family) else b"?"
     return [f"Process {family.root} ({quoted(name)}) and all that descends from it, as they were at one instant:"
             f" {plural(len(family.processes()), 'process')}, {plural(len(family.threads), 'thread')}. Linux"

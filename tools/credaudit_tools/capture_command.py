@@ -27,6 +27,7 @@ couldn't be looked at (each is told); 2 the words are wrong; 3 nothing is writte
 
 
 def words_of(words: Sequence[str]) -> argparse.Namespace:
+    """The words of the command."""
     ask = command.parser(NAME, SAYS, AFTER)
     ask.add_argument("pid", metavar="PID", type=command.pid_word, help="the process")
     ask.add_argument("-o", metavar="FILE", dest="out",
@@ -43,6 +44,7 @@ def words_of(words: Sequence[str]) -> argparse.Namespace:
 
 
 def read_family(kernel: Kernel, asked: argparse.Namespace, says: Says) -> family.Family:
+    """The family of the process that was asked for, at one instant. Fails where it never holds still."""
     still = frozen(kernel.proc, kernel.reader, asked.pid, lambda: family.processes(kernel, asked.pid))
     with still if asked.freeze else nullcontext(), ahead():
         return family.settled(kernel, asked.pid, asked.running, asked.patience, says)
@@ -76,6 +78,7 @@ def tried(data: bytes) -> None:
 
 
 def put(data: bytes, path: str | None) -> None:
+    """Writes the world to a file, or to standard output where none is named."""
     if path is None:
         sys.stdout.buffer.write(data)
         sys.stdout.flush()
@@ -111,6 +114,7 @@ def capture(kernel: Kernel, asked: argparse.Namespace) -> int:
 
 
 def main(words: Sequence[str]) -> int:
+    """The command; its exit status (above)."""
     asked = words_of(words)
     needs_root("to others the kernel shows neither the namespaces and files of a process nor closed folders (proc(5))")
     live = Live()

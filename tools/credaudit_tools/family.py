@@ -12,7 +12,7 @@ from dataclasses import dataclass
 
 from .command import Failure, Says, silent
 from .kernel import Kernel
-from .proc import Proc
+from .proc import Proc, stat_words
 from .shown import plural, quoted
 from .statuses import Status, from_file, parts_of_file
 
@@ -72,6 +72,7 @@ class Family:
     ran: tuple[int, ...] = ()
 
     def processes(self) -> list[int]:
+        """Their pids, ascending."""
         return sorted({thread.listed.pid for thread in self.threads.values()})
 
 
@@ -79,12 +80,13 @@ class Family:
 
 
 def stat_fields(data: bytes) -> tuple[int, int]:
-    """The parent and the start of a stat file. The name stands in parentheses, and may hold any byte."""
-    words = data[data.rindex(b")") + 1:].split()
+    """The parent and the start of a stat file."""
+    words = stat_words(data)
     return int(words[1]), int(words[19])
 
 
 def stat_of(proc: Proc, pid: int, tid: int) -> tuple[int, int]:
+    """The parent and the start of a thread. Moved where it ended meanwhile."""
     data = proc.read(pid, f"task/{tid}/stat")
     if data is None:
         raise Moved(f"process {tid} ended while it was read")
@@ -118,6 +120,8 @@ def listing(proc: Proc, root: int, reader: int) -> list[Listed]:
 
 
 def listed_once(proc: Proc, root: int, reader: int) -> list[Listed]:
+    """The threads of the family, as /proc lists them now. Moved where one ended meanwhile; fails where the root is not
+    there."""
     stats = {pid: stat_of(proc, pid, pid) for pid in proc.pids()}
     if root not in stats:
         raise Failure(f"there is no process {root}")
@@ -239,6 +243,7 @@ class Settling:
         return self.family(read, tuple(sorted(self.ran))) if self.running and self.agreeing >= TIMES else None
 
     def family(self, read: Reading, moving: tuple[int, ...]) -> Family:
+        """The family of two readings that agree. Fails where nothing of it lives."""
         live = {tid: seen.thread for tid, seen in read.items() if not seen.thread.dead()}
         if not live:
             raise Failure(f"process {self.root} has ended")

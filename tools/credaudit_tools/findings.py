@@ -17,4 +17,5 @@ class Finding:
 
 
 def doubt(file: str, line: int | None, why: str, hint: str = "") -> Finding:
+    """A finding about something that the program accepts."""
     return Finding(file, line, why, hint, refused=False)

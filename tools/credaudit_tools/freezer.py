@@ -12,7 +12,7 @@ from dataclasses import dataclass, field
 
 from . import mounts
 from .command import Failure
-from .proc import Proc
+from .proc import Proc, stat_words
 
 PATIENCE, PAUSE = 5.0, 0.01
 APART = "start it in a group of its own, as `systemd-run --scope PROGRAM` does"
@@ -62,7 +62,7 @@ def group_of(proc: Proc, found: dict[str, Way], pid: int) -> tuple[Way, str]:
 def has_ended(proc: Proc, pid: int) -> bool:
     """Whether a process is gone, or has only its number left: then it counts for the root group."""
     data = proc.read(pid, "stat")
-    return data is None or data[data.rindex(b")") + 2:][:1] in (b"Z", b"X")
+    return data is None or stat_words(data)[0] in (b"Z", b"X")
 
 
 @dataclass
@@ -96,17 +96,21 @@ class Freezer:
         return True
 
     def path(self, way: Way, group: str, name: str) -> str:
+        """A file of a group."""
         return way.top + group + "/" + name
 
     def say(self, way: Way, group: str, word: str) -> None:
+        """Writes a word to the group's file that stops it and lets it go."""
         with open(self.path(way, group, way.name), "w", encoding="ascii") as file:
             file.write(word)
 
     def is_stopped(self, way: Way, group: str) -> bool:
+        """Whether the group stands still."""
         with open(self.path(way, group, way.state), encoding="ascii") as file:
             return way.stopped in file.read().split("\n")
 
     def wait(self, way: Way, group: str) -> None:
+        """Waits until the group stands still. Fails where that takes too long."""
         ends = time.monotonic() + PATIENCE
         while not self.is_stopped(way, group):
             if time.monotonic() > ends:
@@ -114,12 +118,14 @@ class Freezer:
             time.sleep(PAUSE)
 
     def let_go(self) -> None:
+        """Lets all go that were stopped."""
         for way, group in self.stopped:
             self.say(way, group, way.go)
         self.stopped = []
 
 
 def interrupted(number: int, _: object) -> None:
+    """What a signal does while groups are stopped: it fails, and so they are let go."""
     raise Failure(f"ended by {signal.Signals(number).name}")
 
 

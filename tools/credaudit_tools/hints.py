@@ -65,6 +65,7 @@ def attribute_hint(text: str) -> str | None:
 
 
 def base64_hint(text: str) -> str:
+    """Of what stands behind 0s, where getfattr(1) writes base64: the hexadecimal digits."""
     import base64
     try:
         return f'that is base64; caps = "{base64.b64decode(text, validate=True).hex()}"'

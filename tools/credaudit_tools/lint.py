@@ -31,6 +31,7 @@ def form_of(data: bytes) -> str:
 
 
 def declared_pids(data: bytes) -> list[int]:
+    """The pids that a world declares, also one that isn't accepted. Fails where it is no TOML."""
     rows = worlds.table_of(data).get("process", [])
     return [row["pid"] for row in map(as_row, rows) if isinstance(row.get("pid"), int)]
 

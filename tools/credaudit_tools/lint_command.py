@@ -19,6 +19,7 @@ looked at."""
 
 
 def words_of(words: Sequence[str]) -> argparse.Namespace:
+    """The words of the command."""
     ask = command.parser(NAME, SAYS, AFTER)
     ask.usage = f"{NAME} [--help] [--version] WORLD LOG\n       {NAME} [--help] [--version] RECORDING"
     ask.add_argument("names", metavar="WORLD LOG | RECORDING", nargs="+")
@@ -29,6 +30,7 @@ def words_of(words: Sequence[str]) -> argparse.Namespace:
 
 
 def given_by(names: list[str]) -> Given:
+    """The world and the log of two files, or those of a recording's folder. Fails where it is no folder."""
     if len(names) == 2:
         return Given(names[0], names[1])
     folder = names[0]
@@ -47,6 +49,7 @@ def line_of(found: Finding, given: Given) -> str:
 
 
 def main(words: Sequence[str]) -> int:
+    """The command: status 1 where something is found."""
     given, progress = given_by(words_of(words).names), Progress(NAME)
     found = lint.findings(given, lambda: Program().replay(given.world, given.log), progress.at)
     for each in found:

@@ -34,6 +34,7 @@ class Live:
         self.standing: dict[int, Standing] = {}
 
     def close(self) -> None:
+        """Gives back what was kept: waiting processes and open namespaces."""
         for stander in self.standing.values():
             stander.leave()
         for handle in self.handles.values():
@@ -52,12 +53,14 @@ class Live:
         return key
 
     def space_of(self, pid: int, tid: int, kind: str) -> int | None:
+        """The number of a thread's namespace of this kind, None where it isn't shown."""
         try:
             return self.keep(os.open(self.proc.path(pid, "task", tid, "ns", kind), os.O_RDONLY | os.O_CLOEXEC))
         except OSError:
             return None
 
     def user_space(self, key: int) -> UserSpace:
+        """A user namespace that was named before, its maps looked at from within. Fails where it can't be entered."""
         above = ioctl_parent(self.handles[key])
         parent = None if above is None else self.keep(above)
         stander = Standing(self.handles[key], CLONE_NEWUSER)
@@ -69,6 +72,7 @@ class Live:
                          texts[2].decode("ascii").strip())
 
     def other_spaces(self) -> tuple[set[int], list[Trouble]]:
+        """The user namespaces of all processes, of open descriptors and of mounts, and who couldn't be looked into."""
         found: set[int] = set()
         troubles = []
         tables: set[int] = set()
@@ -97,6 +101,7 @@ class Live:
         return self.opened([os.fsencode(self.proc.path(pid, "root")) + point for point in points])
 
     def opened(self, paths: list[str] | list[bytes]) -> set[int]:
+        """The user namespaces that these paths lead to; what can't be opened is passed over."""
         found = set()
         for path in paths:
             try:
@@ -119,6 +124,7 @@ class Live:
             return set()
 
     def owner_of_mounts(self, key: int) -> int:
+        """The user namespace that owns a mount namespace."""
         import fcntl
         return self.keep(fcntl.ioctl(self.handles[key], NS_GET_USERNS))
 
@@ -131,6 +137,7 @@ class Live:
         return self.proc.path(self.standing[key].pid, "root")
 
     def mount_table(self, key: int) -> bytes:
+        """The text of mountinfo of a mount namespace, from its own root. Fails where it can't be read."""
         self.root_of(key)
         text = self.proc.read(self.standing[key].pid, "mountinfo")
         if text is None:
@@ -147,6 +154,7 @@ class Live:
             os.close(root)
 
     def walk(self, key: int, start: bytes, mount: int) -> Iterator[Program | Trouble | int]:
+        """All programs on one mount, from a directory or a file on, what can't be looked at, and counts of files."""
         try:
             handle = self.place(key, start, PLAIN)
         except OSError as error:
@@ -163,6 +171,7 @@ class Live:
             os.close(handle)
 
     def resolve(self, key: int, path: bytes) -> Program | Trouble:
+        """The program that a path leads to, through symbolic links, or why it leads to none."""
         try:
             handle = self.place(key, path, ROOTED)
         except OSError as error:
@@ -178,6 +187,7 @@ class Live:
             os.close(handle)
 
     def directory_modes(self, key: int, path: bytes) -> list[tuple[bytes, int, int, int]]:
+        """The directories above a file: path, owner, group, mode; those that can't be opened are left out."""
         found = []
         parts = path.strip(b"/").split(b"/")[:-1]
         for count in range(len(parts) + 1):
@@ -290,4 +300,5 @@ def looked_at(folder: int, entry: os.DirEntry[str], path: bytes, mount: int) -> 
 
 
 def join(above: bytes, name: bytes) -> bytes:
+    """A path below another one; either may be empty."""
     return above.rstrip(b"/") + b"/" + name if above and name else above or name

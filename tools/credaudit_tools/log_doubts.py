@@ -49,6 +49,7 @@ class Line:
     event: bool
 
     def text(self) -> str:
+        """Its front, as a message shows it."""
         return shown(self.body[:SHOWN])
 
 
@@ -77,6 +78,7 @@ def odd_shape(line: Line) -> Iterator[Doubt]:
 
 
 def raw_words(line: Line) -> Iterator[Doubt]:
+    """Numbers in the place of names."""
     if line.call is None:
         return
     if line.call.name in BIRTHS and line.call.done is not None and (RAW.match(line.body) or RAW_FLAGS.match(line.body)):
@@ -103,6 +105,7 @@ def decorated(line: Line) -> Iterator[Doubt]:
 
 
 def hexadecimal(line: Line) -> Iterator[Doubt]:
+    """Texts that were written in hexadecimal."""
     if line.call is not None and any(re.match(rb'"(\\x[0-9a-f]{2})+"', each) for each in line.call.arguments):
         yield "hexadecimal", "texts are written in hexadecimal: paths of maps aren't known", "without -xx"
 
@@ -140,6 +143,7 @@ def transferred(line: Line) -> Iterator[Doubt]:
 
 
 def untraced(line: Line) -> Iterator[Doubt]:
+    """A birth that isn't followed."""
     call = line.call
     if call is None or call.name not in BIRTHS or call.done is None:
         return
@@ -183,6 +187,7 @@ class Executed:
     moved: dict[int, int] = field(default_factory=dict)         # by process the line of its chroot or pivot_root
 
     def doubts(self, line: Line) -> Iterator[Doubt]:
+        """What is doubtful of a line, and what it changes of roots."""
         call = line.call
         if call is None or call.done is None:
             return
@@ -196,6 +201,7 @@ class Executed:
                 yield from self.path_doubts(line, text[0])
 
     def path_doubts(self, line: Line, path: bytes) -> Iterator[Doubt]:
+        """What is doubtful of a path that was executed."""
         if line.pid in self.moved:
             yield ("chroot",
                    f"after line {self.moved[line.pid]} paths begin at another root, so {quoted(path)} may be another"
@@ -230,6 +236,7 @@ class Reader:
     done: int = 0
 
     def line(self, number: int, text: bytes) -> Line | None:
+        """The line with what it tells; None for one that begins with no pid, and for the front of a call."""
         split = parted(text)
         if split is None:
             return None
@@ -264,6 +271,7 @@ def collected(told: Iterator[tuple[int, str, Doubt]]) -> list[Finding]:
 
 
 def line_doubts(log: bytes, reader: Reader, paths: frozenset[bytes], says: Says) -> Iterator[tuple[int, str, Doubt]]:
+    """What is doubtful, line by line: the number, the line's front, and the doubt."""
     executed, lines = Executed(paths), log.split(b"\n")
     for number, text in enumerate(lines, 1):
         if number % STEP == 0:
@@ -277,6 +285,7 @@ def line_doubts(log: bytes, reader: Reader, paths: frozenset[bytes], says: Says)
 
 
 def whole_doubts(log: bytes, reader: Reader, report: Report, world: World) -> Iterator[Finding]:
+    """What is missing in the log as a whole: births, ends of calls, and ends of processes."""
     births = [event for event in report.events if event.call in ("fork", "clone_user") and event.result.isdigit()]
     known = {row.pid for row in world.processes} | {int(event.result) for event in births}
     strangers = sorted(set(reader.seen) - known)

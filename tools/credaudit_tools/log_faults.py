@@ -32,6 +32,7 @@ class Meant:
 
 
 def meant(faults: str, pattern: bytes, why: str, hint: str) -> Meant:
+    """What lines of these faults that fit the pattern were meant to be."""
     return Meant(tuple(faults.split()), re.compile(pattern, re.S), why, hint)
 
 
@@ -148,6 +149,7 @@ GENERAL = {
 
 
 def line_of(log: bytes, number: int) -> bytes:
+    """The line of that number, empty where there is none."""
     lines = log.split(b"\n")
     return lines[number - 1] if number <= len(lines) else b""
 

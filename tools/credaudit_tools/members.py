@@ -42,6 +42,7 @@ def in_order(family: Family) -> list[tuple[Thread, int | None]]:
 
 
 def process_rows(family: Family, names: dict[int, str]) -> list[worlds.Process]:
+    """The rows of all threads, parents first; `names` has the names of their namespaces."""
     return [worlds.Process(pid=thread.listed.tid, parent=parent, space=names[thread.user],
                            credential=replace(thread.status.credential, sec=0)) for thread, parent in in_order(family)]
 
@@ -75,6 +76,7 @@ def beside(kernel: Kernel, family: Family) -> list[str]:
 
 
 def process_notes(kernel: Kernel, family: Family) -> Iterator[str]:
+    """What isn't known of the members, and what was left out."""
     yield "not known: securebits, which a process tells of itself alone; none are taken to be set, which allows more"
     have = filtered(family)
     if have:

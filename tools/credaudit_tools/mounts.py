@@ -60,6 +60,7 @@ def mount_of(line: bytes) -> Mount:
 
 
 def table(text: bytes) -> list[Mount]:
+    """The mounts of a text of mountinfo."""
     return [mount_of(line) for line in text.split(b"\n") if line]
 
 

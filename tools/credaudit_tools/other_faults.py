@@ -57,6 +57,7 @@ def reading_hint(path: str) -> str:
 
 
 def directory_hint(path: str) -> str:
+    """What to name in the place of a directory."""
     kept = [name for name in ("world.toml", "log") if os.path.exists(os.path.join(path, name))]
     if kept:
         return f"it has {' and '.join(kept)} in it: name these, or the folder alone for a recording"
@@ -64,6 +65,7 @@ def directory_hint(path: str) -> str:
 
 
 def missing_hint(path: str, folder: str, name: str) -> str:
+    """What may be meant by a path that isn't there: the file `name` of that folder."""
     if os.path.islink(path):
         return f"it is a symbolic link to {quoted(os.readlink(path))}, which isn't there"
     if not os.path.isdir(folder):
@@ -73,6 +75,7 @@ def missing_hint(path: str, folder: str, name: str) -> str:
 
 
 def limits(told: str) -> list[Finding]:
+    """The limit that a report's last line tells of, none where it is no such line."""
     found = LIMIT.fullmatch(told)
     if found is None:
         return []
@@ -90,6 +93,7 @@ def impossible(told: str, log: bytes, pids: list[int]) -> list[Finding]:
 
 
 def impossible_hint(why: str, log: bytes, number: int, pids: list[int]) -> str:
+    """Why a line may be impossible, by the program's words for it."""
     if why == "no process":
         return no_process_hint(log, number, pids)
     if why == "no space":
@@ -101,6 +105,7 @@ def impossible_hint(why: str, log: bytes, number: int, pids: list[int]) -> str:
 
 
 def no_process_hint(log: bytes, number: int, pids: list[int]) -> str:
+    """Why a line's process may not be there."""
     line = log.split(b"\n")[number - 1] if number <= log.count(b"\n") + 1 else b""
     split = parted(line.lstrip())
     first = next((one for one in map(parted, log.split(b"\n")) if one is not None), None)

@@ -61,6 +61,12 @@ class Proc:
         return {number: told for number, told in found.items() if told is not None}
 
 
+def stat_words(data: bytes) -> list[bytes]:
+    """What a stat file has behind the name, from the state on (proc_pid_stat(5)). The name stands in parentheses, and
+    may hold any byte. ValueError where it has no name."""
+    return data[data.rindex(b")") + 1:].split()
+
+
 def needs_root(advice: str = "") -> None:
     """Fails for all but root of the initial user namespace, whose ids worlds have; `advice` says why root is needed."""
     if os.geteuid() != 0:

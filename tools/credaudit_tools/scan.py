@@ -36,11 +36,13 @@ class Scan:
         return found
 
     def tables(self, keys: list[int]) -> dict[int, list[Mount]]:
+        """The mounts of these mount namespaces; they are kept by number too."""
         tables = {key: mounts.table(self.kernel.mount_table(key)) for key in keys}
         self.by_number = {mount.number: mount for table in tables.values() for mount in table}
         return tables
 
     def rows(self) -> programs.Rows:
+        """The rows of all programs that were found, with what isn't known of them."""
         namespaces = self.namespaces()
         tables = self.tables(list(namespaces))
         self.check_skipped(tables)
@@ -59,12 +61,15 @@ class Scan:
         return rows
 
     def resolver(self, key: int) -> programs.Resolve:
+        """What a path of that mount namespace leads to."""
         return lambda path: self.kernel.resolve(key, path)
 
     def flags(self, number: int) -> frozenset[bytes]:
+        """The options of the mount of that number."""
         return self.by_number[number].options if number in self.by_number else frozenset()
 
     def area(self, area: Area, prefix: bytes) -> Iterator[Program]:
+        """The programs of one part of a mount; what can't be looked at becomes a doubt, under that prefix."""
         count = 0
         for found in self.kernel.walk(area.key, area.start, area.mount.number):
             if isinstance(found, int):

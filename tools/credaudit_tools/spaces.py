@@ -52,6 +52,7 @@ def with_parents(kernel: Kernel, keys: set[int]) -> dict[int, UserSpace]:
 
 
 def depth(spaces: dict[int, UserSpace], key: int) -> int:
+    """How many namespaces are above that one, 0 for the initial one."""
     above = spaces[key].parent if key in spaces else None
     return 0 if above is None else 1 + depth(spaces, above)
 

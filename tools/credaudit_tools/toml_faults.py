@@ -52,6 +52,7 @@ def toml_fault(data: bytes) -> Finding:
 
 
 def encoding_hint(data: bytes) -> str:
+    """How to save bytes that are no UTF-8, or to unpack them."""
     if re.match(COMPRESSED, data):
         return "it is compressed: " + UNPACK[1]
     if data[:2] in (b"\xff\xfe", b"\xfe\xff"):
@@ -60,6 +61,7 @@ def encoding_hint(data: bytes) -> str:
 
 
 def refused(told: str, lines: list[str]) -> Finding:
+    """The finding for what Python's TOML reader tells, with what was meant where it is known."""
     found = AT.search(told)
     number = int(found.group(1)) if found else len(lines)
     why = AT.sub("", told).removesuffix(" (at end of document)")

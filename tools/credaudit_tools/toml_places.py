@@ -37,9 +37,11 @@ class Reader:
     counts: dict[str, int] = field(default_factory=dict)
 
     def peek(self, ahead: int = 0) -> str:
+        """The word that comes, or one further ahead; a line feed at the end."""
         return self.tokens[self.at + ahead][0] if self.at + ahead < len(self.tokens) else "\n"
 
     def read(self) -> Places:
+        """The places of all rows and keys."""
         while self.at < len(self.tokens):
             word, line = self.tokens[self.at]
             if word == "[":
@@ -60,10 +62,12 @@ class Reader:
         self.to_end_of_line()
 
     def next_row(self, table: str) -> int:
+        """The number of the row of a table that begins."""
         self.counts[table] = self.counts.get(table, 0) + 1
         return self.counts[table]
 
     def to_end_of_line(self) -> None:
+        """Passes over the rest of the line."""
         while self.at < len(self.tokens) and self.peek() != "\n":
             self.at += 1
 
@@ -107,6 +111,7 @@ class Reader:
 
 
 def plain(word: str) -> str:
+    """A word without its quotes."""
     return word[1:-1] if word[:1] in ('"', "'") else word
 
 

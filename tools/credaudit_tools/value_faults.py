@@ -17,10 +17,12 @@ Bad = tuple[str, str, str]          # the program's word, what is wrong, what to
 
 
 def is_number(value: object) -> bool:
+    """Whether it is a whole number."""
     return isinstance(value, int) and not isinstance(value, bool)
 
 
 def number_hint(key: str, value: object) -> str:
+    """How to write the number of that key."""
     if isinstance(value, str) and re.fullmatch(r"\s*-?\d+\s*", value):
         return f"write it without quotes: {key} = {int(value)}"
     if isinstance(value, str):
@@ -29,6 +31,7 @@ def number_hint(key: str, value: object) -> str:
 
 
 def id_bad(key: str, value: object, first: int = 0, last: int = LAST_ID) -> Iterator[Bad]:
+    """What is wrong with an id or a pid."""
     if not is_number(value):
         yield "WrongType", f"{key} is no whole number", number_hint(key, value)
     elif isinstance(value, int) and not first <= value <= last:
@@ -37,6 +40,7 @@ def id_bad(key: str, value: object, first: int = 0, last: int = LAST_ID) -> Iter
 
 
 def ids_bad(key: str, value: object) -> Iterator[Bad]:
+    """What is wrong with one id or four."""
     if isinstance(value, list):
         if len(value) != 4:
             yield ("WrongType", f"{key} has {len(value)} ids",
@@ -48,6 +52,7 @@ def ids_bad(key: str, value: object) -> Iterator[Bad]:
 
 
 def groups_bad(key: str, value: object) -> Iterator[Bad]:
+    """What is wrong with a list of groups."""
     if not isinstance(value, list):
         numbers = re.findall(r"\d+", str(value))
         yield "WrongType", f"{key} is no array", f"{key} = [{', '.join(numbers)}]"
@@ -57,28 +62,33 @@ def groups_bad(key: str, value: object) -> Iterator[Bad]:
 
 
 def flag_bad(key: str, value: object) -> Iterator[Bad]:
+    """What is wrong with a flag."""
     if not isinstance(value, bool):
         right = "true" if value in (1, "1", "yes", "true", "True", "on") else "false"
         yield "WrongType", f"{key} is no boolean", f"{key} = {right}"
 
 
 def text_bad(key: str, value: object) -> Iterator[Bad]:
+    """What is wrong with a text."""
     if not isinstance(value, str):
         yield "WrongType", f"{key} is no text", f'{key} = "{value}"'
 
 
 def word_bad(key: str, value: object) -> Iterator[Bad]:
+    """What is wrong with the word of setgroups."""
     if value not in ("allow", "deny"):
         yield "WrongType", f"{key} is neither allow nor deny", f'{key} = "allow" or {key} = "deny" (user_namespaces(7))'
 
 
 def log_bad(key: str, value: object) -> Iterator[Bad]:
+    """What is wrong with the form of the log."""
     if value not in ("script", "strace"):
         yield ("WrongType", f"{key} is neither script nor strace",
                'log = "strace" for what strace wrote, else log = "script"')
 
 
 def name_bad(key: str, value: object) -> Iterator[Bad]:
+    """What is wrong with the name of a space or a mount."""
     yield from text_bad(key, value)
     if isinstance(value, str) and (value == "init" or not NAME.fullmatch(value)):
         hint = "init is the initial one, which isn't declared" if value == "init" else \
@@ -87,6 +97,7 @@ def name_bad(key: str, value: object) -> Iterator[Bad]:
 
 
 def path_bad(key: str, value: object) -> Iterator[Bad]:
+    """What is wrong with the path of a file."""
     yield from text_bad(key, value)
     if isinstance(value, str):
         data = value.encode()
@@ -96,6 +107,7 @@ def path_bad(key: str, value: object) -> Iterator[Bad]:
 
 
 def mode_bad(key: str, value: object) -> Iterator[Bad]:
+    """What is wrong with the mode of a file."""
     if not isinstance(value, str):
         digits = f"{value:04d}" if is_number(value) and re.fullmatch("[0-7]{1,4}", str(value)) else "4755"
         yield "WrongType", f"{key} is no text", f'write its octal digits between quotes: {key} = "{digits}"'
@@ -104,6 +116,7 @@ def mode_bad(key: str, value: object) -> Iterator[Bad]:
 
 
 def set_bad(key: str, value: object) -> Iterator[Bad]:
+    """What is wrong with a capability text."""
     if isinstance(value, list):
         names = ",".join(str(each) for each in value)
         yield "WrongType", f"{key} is an array", f'one text, names between commas: {key} = "{names}"'
@@ -115,6 +128,7 @@ def set_bad(key: str, value: object) -> Iterator[Bad]:
 
 
 def attribute_bad(key: str, value: object) -> Iterator[Bad]:
+    """What is wrong with the attribute of a file."""
     if not isinstance(value, str):
         yield ("WrongType", f"{key} is no text",
                "hexadecimal digits between quotes, as getfattr -e hex shows them, without 0x")
@@ -128,6 +142,7 @@ def is_attribute(text: str) -> bool:
 
 
 def map_bad(key: str, value: object) -> Iterator[Bad]:
+    """What is wrong with a map."""
     shape = f"{key} = [[inside, outside, length]]"
     if isinstance(value, str):
         numbers = re.findall(r"\d+", value)
@@ -144,11 +159,13 @@ def map_bad(key: str, value: object) -> Iterator[Bad]:
 
 
 def triple(numbers: list[Any]) -> tuple[int, int, int]:
+    """The three numbers of a range."""
     inside, outside, length = numbers
     return inside, outside, length
 
 
 def extents_bad(key: str, extents: list[list[object]]) -> Iterator[Bad]:
+    """What is wrong with the ranges of a map, each of which has three items."""
     triples = [triple(each) for each in extents if all(is_number(one) for one in each)]
     if not 1 <= len(triples) <= 340:
         yield "BadMap", f"{key} has {len(triples)} ranges", "1 to 340; a map that isn't written is left out"
@@ -162,6 +179,7 @@ def extents_bad(key: str, extents: list[list[object]]) -> Iterator[Bad]:
 
 
 def overlap(triples: list[tuple[int, int, int]]) -> bool:
+    """Whether two of the ranges have an inside or an outside id in common."""
     for side in (0, 1):
         ordered = sorted((each[side], each[2]) for each in triples)
         if any(first + length > then for (first, length), (then, _) in zip(ordered, ordered[1:])):
@@ -170,6 +188,7 @@ def overlap(triples: list[tuple[int, int, int]]) -> bool:
 
 
 def calls_bad(key: str, value: object) -> Iterator[Bad]:
+    """What is wrong with a list of calls."""
     if not isinstance(value, list) or any(not isinstance(each, str) for each in value):
         yield "WrongType", f"{key} is no array of texts", f'{key} = ["setuid", "setgid"]'
         return
@@ -179,6 +198,7 @@ def calls_bad(key: str, value: object) -> Iterator[Bad]:
 
 
 def call_hint(name: str) -> str:
+    """Which of the calls may be meant by a name that is none."""
     if name in ("prctl", "clone", "vfork", "clone3"):
         kinds = "fork and clone_user"
         if name == "prctl":
@@ -189,11 +209,13 @@ def call_hint(name: str) -> str:
 
 
 def rows_bad(key: str, value: object) -> Iterator[Bad]:
+    """What is wrong with a list of rows."""
     if not isinstance(value, list):
         yield "WrongType", f"{key} is no list of rows", f"two brackets before each row: [[{key}]]"
 
 
 def table_bad(key: str, value: object) -> Iterator[Bad]:
+    """What is wrong with a table that stands once."""
     if not isinstance(value, dict):
         yield "WrongType", f"{key} is no table that stands once", f"one bracket: [{key}]"
 

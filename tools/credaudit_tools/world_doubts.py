@@ -14,6 +14,7 @@ INTERPRETERS = ("sh", "bash", "dash", "perl", "python", "ruby", "node", "php", "
 
 
 def is_interpreter(path: str) -> bool:
+    """Whether a path is that of a program that runs scripts."""
     name = path.rpartition("/")[2]
     return name.rstrip("0123456789.") in INTERPRETERS
 
@@ -39,6 +40,7 @@ def of_world(data: bytes, world: World, report: Report) -> Iterator[Finding]:
 
 
 def process_doubts(world: World, where: Places) -> Iterator[Finding]:
+    """What is doubtful of the processes."""
     alone = [number for number, row in enumerate(world.processes, 1) if row.parent is None]
     if len(alone) > 1:
         pids = [str(world.processes[number - 1].pid) for number in alone[1:]]
@@ -51,6 +53,7 @@ def process_doubts(world: World, where: Places) -> Iterator[Finding]:
 
 
 def file_doubts(world: World, where: Places) -> Iterator[Finding]:
+    """What is doubtful of the files and the mounts."""
     named = {row.interpreter for row in world.files}
     for number, row in enumerate(world.files, 1):
         privileged = row.caps is not None or row.mode & 0o6000
@@ -98,6 +101,7 @@ def of_recording(recording: Recording, world: World, report: Report) -> Iterator
 
 
 def filter_doubts(recording: Recording, world: World) -> Iterator[Finding]:
+    """What is doubtful of the filter, by what the kernel showed of filters."""
     counts: dict[tuple[int | None, int | None], list[str]] = {}
     for status in recording.statuses:
         counts.setdefault((status.seccomp, status.filters), []).append(str(status.pid))
@@ -111,6 +115,7 @@ def filter_doubts(recording: Recording, world: World) -> Iterator[Finding]:
 
 
 def space_doubts(recording: Recording, report: Report) -> Iterator[Finding]:
+    """Who stands elsewhere for the kernel than in the replay."""
     alive = report.alive()
     odd = [str(status.pid) for status in recording.statuses
            if status.pid in alive and (status.space == 0) != (alive[status.pid].space == "init")]

@@ -32,6 +32,7 @@ class Context:
     places: Places = field(default_factory=Places)
 
     def row(self) -> Row:
+        """The row that the program named, empty where it is no table."""
         if self.table == WHOLE:
             return self.world
         if self.table == "filter":
@@ -53,10 +54,12 @@ class Context:
 
 
 def as_row(value: object) -> Row:
+    """A value as a row, empty where it is no table."""
     return value if isinstance(value, dict) else {}
 
 
 def key_hint(table: str, key: str) -> str:
+    """What may be meant by a key that the table doesn't have."""
     meant = MEANT.get(table, {}).get(key)
     if meant is not None:
         return f"write {meant}"
@@ -65,6 +68,7 @@ def key_hint(table: str, key: str) -> str:
 
 
 def unknown_bad(context: Context, row: Row) -> Iterator[tuple[str, Bad]]:
+    """The keys that the table doesn't have."""
     for key in row:
         if key in KEYS[context.table]:
             continue
@@ -77,10 +81,12 @@ def unknown_bad(context: Context, row: Row) -> Iterator[tuple[str, Bad]]:
 
 
 def where(table: str) -> str:
+    """A table, as a message names it."""
     return "the world" if table == WHOLE else f"[{table}]" if table == "filter" else f"[[{table}]]"
 
 
 def missing_bad(context: Context, row: Row) -> Iterator[tuple[str, Bad]]:
+    """The keys that are missing."""
     for key in REQUIRED[context.table]:
         if key not in row:
             yield key, ("MissingKey", f"{key} is missing", missing_hint(context, key))
@@ -90,6 +96,7 @@ def missing_bad(context: Context, row: Row) -> Iterator[tuple[str, Bad]]:
 
 
 def missing_hint(context: Context, key: str) -> str:
+    """What to write for a key that is missing."""
     below = [table for table in (*TABLES, "filter") for row in rows_of(context.world, table) if key in row]
     if key == "log" and below:
         return f"it stands below [[{below[0]}]], and so belongs to that row: move it to the front"
@@ -101,6 +108,7 @@ def missing_hint(context: Context, key: str) -> str:
 
 
 def rows_of(world: Row, table: str) -> list[Row]:
+    """The rows of a table."""
     value = world.get(table, [])
     return [as_row(each) for each in (value if isinstance(value, list) else [value])]
 
@@ -128,10 +136,12 @@ def reference_bad(context: Context, row: Row) -> Iterator[tuple[str, Bad]]:
 
 
 def declared(names: list[Any], table: str) -> str:
+    """Which names are declared."""
     return f"declared are: {', '.join(map(str, names))}; or add a [[{table}]]"
 
 
 def interpreter_bad(context: Context, row: Row) -> Iterator[tuple[str, Bad]]:
+    """What is wrong with the interpreter of a script."""
     before = [each for each in rows_of(context.world, "file")[:context.number - 1]
               if each.get("path") == row["interpreter"]]
     if not before:
@@ -142,6 +152,7 @@ def interpreter_bad(context: Context, row: Row) -> Iterator[tuple[str, Bad]]:
 
 
 def twice_bad(context: Context, row: Row) -> Iterator[tuple[str, Bad]]:
+    """What an earlier row has too."""
     key = {"space": "name", "mount": "name", "file": "path", "process": "pid"}.get(context.table)
     if key is None or key not in row:
         return
@@ -164,6 +175,7 @@ def others_bad(context: Context, row: Row) -> Iterator[tuple[str, Bad]]:
 
 
 def all_bad(context: Context) -> Iterator[tuple[str, Bad]]:
+    """All that is wrong with the row, by key."""
     row = context.row()
     yield from unknown_bad(context, row)
     yield from missing_bad(context, row)
@@ -195,6 +207,7 @@ def faults(told: str, data: bytes) -> list[Finding]:
 
 
 def applying(context: Context, word: str) -> list[Finding]:
+    """The findings to which the program's word applies; one of the row alone where none is known."""
     made = [Finding(WORLD, context.places.line(context.table, context.number, key), why, hint, key)
             for key, (told, why, hint) in all_bad(context) if told == word]
     if word == "WrongType" and not made and context.table != WHOLE and not context.row():

@@ -96,6 +96,9 @@ class StoredSystem:
         self.proc, self.reader, self.release, self.root = Proc(root), READER, "6.1.0", root
         self.build()
 
+    def close(self) -> None:
+        """As that of the running kernel; nothing is kept here."""
+
     def rows(self, name: str) -> list[Row]:
         found: list[Row] = self.table.get(name, [])
         return found

@@ -45,8 +45,9 @@ class Filtered(Case):
         self.put("/opt/odd", b"odd", 0o755)
         self.put("/tmp/100/uid_map")
         self.put("/usr/bin/nothing")
-        for name, target in (("/bin", "usr/bin"), ("/usr/short", "/opt"), ("/dev/fd", "/proc/self/fd"), ("/srv/jail/bin/out", "/bin/rise"),
-                             ("/proc/self", str(os.getpid())), ("/proc/100/fd/3", "/x"), ("/proc/100/fd/9", "/x"), ("/proc/100/exe", "/x")):
+        for name, target in (("/bin", "usr/bin"), ("/usr/short", "/opt"), ("/dev/fd", "/proc/self/fd"),
+                             ("/srv/jail/bin/out", "/bin/rise"), ("/proc/self", str(os.getpid())),
+                             ("/proc/100/fd/3", "/x"), ("/proc/100/fd/9", "/x"), ("/proc/100/exe", "/x")):
             self.link(name, target)
         for pid, inner in ((100, ""), (101, ""), (102, ""), (104, "\t1")):
             self.put(f"/proc/{pid}/status", f"Name:\tx\nNSpid:\t{pid}{inner}\n".encode())
@@ -98,9 +99,10 @@ class Silent(Filtered):
 
 # Bytes of a name, and how a recording's log and world have it.
 HOSTILE = [
-    (b"a b", r"a\040b"), (b"a\nb", r"a\012b"), (b"a\tb", r"a\011b"), (b'a"b', 'a"b'), (b"a\\b", r"a\b"), (b"a\x1b[2Jb", r"a\033[2Jb"),
-    (b"a<b", "a<b"), (b"a>b", "a>b"), (b"\xff\xfe", r"\377\376"), (b"a\x7fb", r"a\177b"), (b"-", "-"), (b"--help", "--help"),
-    (b"a'b", "a'b"), (b"$(id)", "$(id)"), (b"a;b", "a;b"), (b"[[file]]", "[[file]]"), (b"a#b", "a#b"), (b"\xe2\x80\xae", "\u202e"),
+    (b"a b", r"a\040b"), (b"a\nb", r"a\012b"), (b"a\tb", r"a\011b"), (b'a"b', 'a"b'), (b"a\\b", r"a\b"),
+    (b"a\x1b[2Jb", r"a\033[2Jb"), (b"a<b", "a<b"), (b"a>b", "a>b"), (b"\xff\xfe", r"\377\376"), (b"a\x7fb", r"a\177b"),
+    (b"-", "-"), (b"--help", "--help"), (b"a'b", "a'b"), (b"$(id)", "$(id)"), (b"a;b", "a;b"),
+    (b"[[file]]", "[[file]]"), (b"a#b", "a#b"), (b"\xe2\x80\xae", "\u202e"),
 ]
 
 
@@ -114,8 +116,8 @@ class Hostile(Filtered):
                 line = b"100 execve(" + lines.quoted(b"/opt/" + name) + b", [], 0x7ffe) = 0"
                 self.assertIsNone(self.fed(filtering, [line.decode("latin-1")]))
                 self.assertEqual(len(filtering.taken.lines), 1)
-                self.assertEqual(lines.text_of(filtering.taken.lines[0][len(b"100 execve("):].rpartition(b", [], NULL")[0]),
-                                 (("/opt/" + shown).encode(), True))
+                path = filtering.taken.lines[0][len(b"100 execve("):].rpartition(b", [], NULL")[0]
+                self.assertEqual(lines.text_of(path), (("/opt/" + shown).encode(), True))
                 world = worlds.World(files=list(filtering.executed.files.values()))
                 self.assertEqual([row.path for row in worlds.read(worlds.written(world)).files], ["/opt/" + shown])
                 text = changes_text(filtering.taken)

@@ -6,7 +6,8 @@ from credaudit_tools import lines
 # A name's bytes, as strace writes them between quotes and in a decoration.
 NAMES = [
     (b"plain", rb"plain", rb"plain"), (b"a<b>c", rb"a<b>c", rb"a\74b\76c"), (b'q"u', rb'q\"u', rb'q\"u'),
-    (b"esc\x1b[31m", rb"esc\33[31m", rb"esc\33[31m"), (b"lf\nx", rb"lf\nx", rb"lf\nx"), (b"bs\\n", rb"bs\\n", rb"bs\\n"),
+    (b"esc\x1b[31m", rb"esc\33[31m", rb"esc\33[31m"), (b"lf\nx", rb"lf\nx", rb"lf\nx"),
+    (b"bs\\n", rb"bs\\n", rb"bs\\n"),
     (b"\xff\xfe", rb"\377\376", rb"\377\376"), (b"b) = 0", rb"b) = 0", rb"b) = 0"), (b"x-", rb"x-", rb"x-"),
     (b"), 1", rb"), 1", rb"), 1"), (b"[x", rb"[x", rb"[x"), (b"}", rb"}", rb"}"), (b"TCP:[x", rb"TCP:[x", rb"TCP:[x"),
 ]
@@ -90,7 +91,8 @@ class Calls(unittest.TestCase):
     def test_flags(self) -> None:
         rows = [(b"clone(child_stack=NULL, flags=CLONE_VM|SIGCHLD) = 1", [b"CLONE_VM", b"SIGCHLD"]),
                 (b"clone3({flags=CLONE_NEWUSER, exit_signal=SIGCHLD} => {parent_tid=[7]}, 88) = 1", [b"CLONE_NEWUSER"]),
-                (b"clone3({flags=CLONE_NEWUSER, exit_signal=SIGCHLD}, 88) = 1", [b"CLONE_NEWUSER"]), (b"fork() = 1", []),
+                (b"clone3({flags=CLONE_NEWUSER, exit_signal=SIGCHLD}, 88) = 1", [b"CLONE_NEWUSER"]),
+                (b"fork() = 1", []),
                 (b"clone(0x7ffe) = 1", None)]
         for body, flags in rows:
             call = lines.call_of(body)

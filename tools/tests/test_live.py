@@ -324,7 +324,6 @@ class Command(support.Case):
     def called(self, system: str, *words: str) -> tuple[int, str, str]:
         with open(os.path.join(SYSTEMS, system), encoding="utf-8") as file:
             stored = StoredSystem(file.read(), os.path.join(self.work, "proc"))
-        stored.close = lambda: None      # type: ignore[attr-defined]
         with mock.patch.object(capture_command, "Live", lambda: stored), \
                 mock.patch.object(capture_command, "needs_root", lambda _: None):
             return self.told(capture_command.main, *words, name=capture_command.NAME)

@@ -18,10 +18,11 @@ LINE = ("> 100 init uid=0,1,2,3 gid=4,5,6,7 groups=8,9 inh=0000000000000001 prm=
         " bnd=000001ffffffffff amb=0000000000000001 sec=2f nnp=1")
 STATUS = (b"Name:\t%b\nUmask:\t0022\nState:\tS (sleeping)\nTgid:\t100\nPid:\t100\nPPid:\t1\nTracerPid:\t0\n"
           b"Uid:\t0\t1\t2\t3\nGid:\t4\t5\t6\t7\nGroups:\t8 9 \nNSpid:\t100\nCapInh:\t0000000000000001\n"
-          b"CapPrm:\t0000000000000003\nCapEff:\t0000000000000002\nCapBnd:\t000001ffffffffff\nCapAmb:\t0000000000000001\n"
-          b"NoNewPrivs:\t1\nSeccomp:\t2\nSeccomp_filters:\t1\n")
+          b"CapPrm:\t0000000000000003\nCapEff:\t0000000000000002\nCapBnd:\t000001ffffffffff\n"
+          b"CapAmb:\t0000000000000001\nNoNewPrivs:\t1\nSeccomp:\t2\nSeccomp_filters:\t1\n")
 # What a process calls itself, as the kernel writes it, and the name.
-COMMS = [(b"plain", b"plain"), (b"a b", b"a b"), (b"a\\nUid:", b"a\nUid:"), (b"a\\\\n", b"a\\n"), (b"\x1b[2J", b"\x1b[2J"), (b"; Pid: 1", b"; Pid: 1"),
+COMMS = [(b"plain", b"plain"), (b"a b", b"a b"), (b"a\\nUid:", b"a\nUid:"), (b"a\\\\n", b"a\\n"),
+         (b"\x1b[2J", b"\x1b[2J"), (b"; Pid: 1", b"; Pid: 1"),
          (b"\xff", b"\xff"), (b"<x>", b"<x>"), (b'"', b'"'), (b"Space: 7", b"Space: 7"), (b"", b"")]
 
 
@@ -41,7 +42,8 @@ class Names(unittest.TestCase):
         self.assertEqual(names.capability_text("CAP_CHOWN,CAP_SETUID"), 0x81)
         self.assertEqual(names.capability_text("FFFFFFFFFFFFFFFF"), names.ALL)
         self.assertIsNone(names.capability_text("cap_chown"))
-        self.assertEqual([names.capability_names(bits) for bits in (0, names.ALL, 0x81)], ["none", "all", "CAP_CHOWN,CAP_SETUID"])
+        self.assertEqual([names.capability_names(bits) for bits in (0, names.ALL, 0x81)],
+                         ["none", "all", "CAP_CHOWN,CAP_SETUID"])
 
 
 class Files(Case):
@@ -50,7 +52,8 @@ class Files(Case):
         self.assertEqual(files.read_regular(path), b"text")
         self.link("link", path)
         os.mkfifo(os.path.join(self.work, "pipe"))
-        for name, why in (("link", "Too many levels"), ("pipe", "a pipe"), (".", "a directory"), ("none", "No such file")):
+        for name, why in (("link", "Too many levels"), ("pipe", "a pipe"), (".", "a directory"),
+                          ("none", "No such file")):
             with self.subTest(name), self.assertRaisesRegex(Failure, why):
                 files.read_regular(os.path.join(self.work, name))
         self.assertEqual(files.read_regular(os.path.join(self.work, "link"), follow=True), b"text")
@@ -58,7 +61,8 @@ class Files(Case):
             files.read_regular("/dev/null")
         with self.assertRaisesRegex(Failure, "more than 3 bytes"):
             files.read_regular(path, 3)
-        self.assertEqual([files.kind(mode) for mode in (0o120000, 0o140000, 0)], ["a symbolic link", "a socket", "another kind of file"])
+        self.assertEqual([files.kind(mode) for mode in (0o120000, 0o140000, 0)],
+                         ["a symbolic link", "a socket", "another kind of file"])
 
     def test_nothing_is_written_through_a_link(self) -> None:
         victim = self.put("victim", b"before")
@@ -121,10 +125,12 @@ class Runner(Case):
 class Reports(unittest.TestCase):
     def test_a_report(self) -> None:
         child = LINE.replace("> 100", "> 101")
-        told = report.read(f"{LINE}\n2: 100 fork = 101\n{LINE}\n{child}\n5: 101 exit = 0\nend 2\nno 1\n101 setuid 0 = 0\nholder 101\n", 1)
+        told = report.read(f"{LINE}\n2: 100 fork = 101\n{LINE}\n{child}\n5: 101 exit = 0\nend 2\nno 1\n"
+                           "101 setuid 0 = 0\nholder 101\n", 1)
         self.assertEqual((told.start[0].pid, told.start[0].space, told.status), (100, "init", 1))
         own = told.start[0].credential
-        self.assertEqual((own.uid, own.gid, own.groups, own.sec, own.nnp), ((0, 1, 2, 3), (4, 5, 6, 7), frozenset({8, 9}), 0x2f, True))
+        self.assertEqual((own.uid, own.gid, own.groups, own.sec, own.nnp),
+                         ((0, 1, 2, 3), (4, 5, 6, 7), frozenset({8, 9}), 0x2f, True))
         self.assertEqual([(each.line, each.call, each.result, len(each.after)) for each in told.events],
                          [(2, "fork", "101", 2), (5, "exit", "0", 0)])
         self.assertEqual(told.ending, ["end 2", "no 1", "101 setuid 0 = 0", "holder 101"])
@@ -176,9 +182,11 @@ class Statuses(unittest.TestCase):
 
     def test_differences(self) -> None:
         one = from_file(STATUS % b"x").credential
-        other = from_file((STATUS % b"x").replace(b"Uid:\t0", b"Uid:\t9").replace(b"NoNewPrivs:\t1", b"NoNewPrivs:\t0")).credential
+        changed = (STATUS % b"x").replace(b"Uid:\t0", b"Uid:\t9").replace(b"NoNewPrivs:\t1", b"NoNewPrivs:\t0")
+        other = from_file(changed).credential
         self.assertEqual(differences(one, other), [("uid", "0,1,2,3", "9,1,2,3"), ("nnp", "1", "0")])
-        self.assertEqual([field_text("sec", 5), field_text("sec", None), field_text("groups", frozenset())], ["05", "not known", "-"])
+        self.assertEqual([field_text("sec", 5), field_text("sec", None), field_text("groups", frozenset())],
+                         ["05", "not known", "-"])
 
 
 class Stored(Case):
@@ -190,7 +198,8 @@ class Stored(Case):
         self.link("100/fd/3", "/x")
         self.link("100/cwd", "/home")
         tree = Proc(self.work)
-        self.assertEqual((tree.pids(), tree.tasks(100), tree.threads(), tree.tasks(7)), ([100], [100, 101], [100, 101], []))
+        self.assertEqual((tree.pids(), tree.tasks(100), tree.threads(), tree.tasks(7)),
+                         ([100], [100, 101], [100, 101], []))
         self.assertEqual((tree.read(100, "status"), tree.read(7, "status")), (b"x", None))
         self.assertEqual((tree.link(100, "cwd"), tree.link(100, "exe"), tree.descriptors(100), tree.descriptors(7)),
                          ("/home", None, {3: "/x"}, {}))

@@ -22,7 +22,8 @@ def why_not() -> str | None:
     """Why nothing can be traced here."""
     if shutil.which("strace") is None:
         return "strace isn't there"
-    done = subprocess.run(["strace", "-o", "/dev/null", "true"], stdout=subprocess.DEVNULL, stderr=subprocess.DEVNULL, check=False)
+    done = subprocess.run(["strace", "-o", "/dev/null", "true"], stdout=subprocess.DEVNULL, stderr=subprocess.DEVNULL,
+                          check=False)
     return None if done.returncode == 0 else "processes can't be traced here"
 
 
@@ -42,7 +43,8 @@ class Traced(Case):
         return self.told(trace_command.main, "-o", self.out, "--no-verify", *words)
 
     def test_until_a_line(self) -> None:
-        status, out, errors = self.trace("--pids-from", "100", "--until", r'execve\(".*/sleep".* = 0', "--", "sh", "-c", "exec sleep 60")
+        status, out, errors = self.trace("--pids-from", "100", "--until", r'execve\(".*/sleep".* = 0', "--", "sh", "-c",
+                                         "exec sleep 60")
         self.assertEqual((status, errors), (0, ""))
         self.assertIn("1 processes at the end (line)", out)
         kept = recording.read(self.out)
@@ -60,7 +62,8 @@ class Traced(Case):
 
     def test_children_and_threads(self) -> None:
         program = "\n".join(["import os, threading, time", "if os.fork():",
-                             " threading.Thread(target=time.sleep, args=(60,)).start()", " os.getgroups()", "time.sleep(60)"])
+                             " threading.Thread(target=time.sleep, args=(60,)).start()", " os.getgroups()",
+                             "time.sleep(60)"])
         status, out, _ = self.trace("--until", "getgroups", "--", sys.executable, "-c", program)
         self.assertEqual(status, 0)
         self.assertIn("3 processes at the end (line)", out)

@@ -75,7 +75,8 @@ class Altered(Case):
                 else:
                     self.assertEqual(told, [])
                 for name in changed & set(SUMMED):
-                    self.assertIn(f"{name} isn't as it was recorded: its sum differs", self.verdict(folder, sums=True).differences)
+                    self.assertIn(f"{name} isn't as it was recorded: its sum differs",
+                                  self.verdict(folder, sums=True).differences)
 
     def test_there_are_enough(self) -> None:
         self.assertGreaterEqual(len(list(cases("altered.txt"))), 30)
@@ -86,7 +87,8 @@ class Stored(Case):
         for name in sorted(os.listdir(RECORDINGS)):
             with self.subTest(name):
                 status, out, errors = self.told(verify_command.main, os.path.join(RECORDINGS, name))
-                self.assertEqual((status, [line for line in errors.split("\n") if line and "note: " not in line]), (0, []))
+                self.assertEqual((status, [line for line in errors.split("\n") if line and "note: " not in line]),
+                                 (0, []))
                 self.assertIn("no difference", out)
 
     def test_examples_agree(self) -> None:

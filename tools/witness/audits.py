@@ -53,6 +53,7 @@ def verdict_of(status: int, lines: list[str]) -> Answer:
 
 
 def ask(audit: list[str], world: Path, log: Path, query: Query) -> Answer:
+    """The audit's answer to a query. Wrong where it is none."""
     return verdict_of(*asked([*audit, "audit", str(world), str(log), str(query.pid), query.right()]))
 
 

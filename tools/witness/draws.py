@@ -20,6 +20,7 @@ ID_CALLS = (("setuid", "setreuid", "setresuid"), ("setgid", "setregid", "setresg
 
 
 def some(rng: Random, share: float) -> bool:
+    """Whether it happens, of this share of the cases."""
     return rng.random() < share
 
 
@@ -38,6 +39,7 @@ def lines_below(rng: Random, parent: Lines | None, written: float) -> Lines | No
 
 
 def draw_spaces(rng: Random, most: int, written: float) -> tuple[Space, ...]:
+    """Up to `most` spaces, of whose maps this share is written."""
     spaces: list[Space] = []
     for number in range(rng.randint(0, most)):
         parent = rng.choice((number, rng.randint(0, number)))
@@ -49,6 +51,7 @@ def draw_spaces(rng: Random, most: int, written: float) -> tuple[Space, ...]:
 
 
 def draw_file(rng: Random, mounts: int, modes: tuple[int, ...], with_caps: float) -> File:
+    """A file on one of the mounts, with one of the modes, and in this share of the cases an attribute."""
     caps = (rng.choice((0, 1 << SETUID, 1 << SYS_ADMIN, 1 << KILL)), rng.choice((0, 1 << SETGID)), some(rng, 0.5))
     return File(rng.randint(0, mounts), rng.choice(IDS), rng.choice(IDS), rng.choice(modes),
                 caps if some(rng, with_caps) else None)
@@ -58,6 +61,7 @@ def draw_file(rng: Random, mounts: int, modes: tuple[int, ...], with_caps: float
 
 
 def draw_ids(rng: Random, few: tuple[int, ...]) -> Four:
+    """Four ids of a few."""
     effective = rng.choice(few)
     if some(rng, 0.5):
         return (effective,) * 4
@@ -65,6 +69,7 @@ def draw_ids(rng: Random, few: tuple[int, ...]) -> Four:
 
 
 def draw_sets(rng: Random, powerless: float) -> Four:
+    """Permitted, effective, inheritable and ambient set, in this share of the cases all empty."""
     if some(rng, powerless):
         return 0, 0, 0, 0
     held = sum(1 << one for one in rng.sample(CAPABILITIES, rng.randint(1, 2)))
@@ -91,6 +96,7 @@ def draw_processes(rng: Random, spaces: int, powerless: float) -> tuple[Process,
 
 
 def draw_excluded(rng: Random) -> frozenset[str]:
+    """The calls that a filter excludes."""
     every = (set[str](), set(SPACES), set(SPACES), {"unshare", "clone_user"}, set(rng.sample(CALLS, 8)))
     excluded = rng.choice(every)
     for calls in ID_CALLS:
@@ -111,6 +117,7 @@ def draw_query(rng: Random, world: World) -> Query:
 
 
 def small(seed: int, number: int) -> Query:
+    """The query of that seed and number, on a small world."""
     rng = Random(f"{seed} small {number}")
     spaces = draw_spaces(rng, 3, rng.choice((0.0, 0.5, 1.0)))
     mounts = (Mount(rng.randint(0, len(spaces)), some(rng, 0.5)),) if some(rng, 0.3) else ()

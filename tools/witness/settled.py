@@ -27,6 +27,7 @@ def serves(world: World, member: Process) -> bool:
 
 
 def has_zero(world: World, process: Process) -> bool:
+    """Whether the inside 0 of its space is among a process's real, effective and saved user ids."""
     zero = down(stored(world, process.space, "uids"), 0)
     return zero is not None and zero in process.uid[:3]
 
@@ -42,6 +43,7 @@ def alternatives(world: World, members: list[Process]) -> list[str]:
 
 
 def is_settled(world: World, pid: int) -> bool:
+    """Whether the family of a process is settled."""
     members = family(world, pid)
     return (all(is_plain(world, one) for one in members) and SPACES <= world.exclude
             and bool(alternatives(world, members)))

@@ -12,6 +12,7 @@ NOBODY = "uid=9,9,9,9 gid=9,9,9,9 groups=- inh={0} prm={0} eff={0} bnd={0} amb={
 
 
 def searched(program: str, world: str, pid: str, right: str) -> tuple[int, list[str]]:
+    """The status and the lines of an audit, as the plain search finds them."""
     query = f"{world} {pid} {right} 1\n"
     told = subprocess.run([program], input=query, capture_output=True, text=True, check=True).stdout.rstrip("\n")
     head, *run = told.split("\t")
@@ -20,6 +21,7 @@ def searched(program: str, world: str, pid: str, right: str) -> tuple[int, list[
 
 
 def answer(kind: str, words: list[str]) -> tuple[int, list[str]]:
+    """The status and the lines of an answer, after the line of the log's end."""
     if kind == "search":
         program, _, world, _, pid, right = words
         return searched(program, world, pid, right)
@@ -29,6 +31,7 @@ def answer(kind: str, words: list[str]) -> tuple[int, list[str]]:
 
 
 def main() -> None:
+    """Answers as the words ask."""
     status, lines = answer(sys.argv[1], sys.argv[2:])
     print("\n".join(["end 0", *lines]))
     sys.exit(status)

@@ -42,6 +42,7 @@ class Outcome:
 
 
 def options(name: str, says: str | None, count: int) -> argparse.ArgumentParser:
+    """The words that the witnesses share."""
     raw = argparse.RawDescriptionHelpFormatter
     ask_for = argparse.ArgumentParser(prog=name, description=says, formatter_class=raw)
     ask_for.add_argument("--count", type=int, default=count, help=f"how many queries ({count})")
@@ -54,6 +55,7 @@ def options(name: str, says: str | None, count: int) -> argparse.ArgumentParser:
 
 
 def asked_of(told: argparse.Namespace, work: Path) -> Asked:
+    """What the words ask for; files go into that folder."""
     return Asked(told.count, told.seed, told.jobs, shlex.split(told.audit), shlex.split(told.replay), told.case, work,
                  getattr(told, "search", None))
 
@@ -124,6 +126,7 @@ class Searches:
         return [*head.split(), *run]
 
     def close(self) -> None:
+        """Ends the processes."""
         for child in self.all:
             if child.stdin:
                 child.stdin.close()
@@ -131,15 +134,18 @@ class Searches:
 
 
 def work_folder() -> tempfile.TemporaryDirectory[str]:
+    """A folder that goes away."""
     return tempfile.TemporaryDirectory(prefix="witness")
 
 
 def show(counts: Counter[str]) -> None:
+    """Writes counts, by name."""
     for name in sorted(counts):
         print(f"{name:44}{counts[name]:>14,}")
 
 
 def end(faults: list[str]) -> None:
+    """Tells the faults and ends: with status 1 where there are some."""
     for fault in faults:
         print(f"fault: {fault}")
     sys.exit(1 if faults else 0)

@@ -29,6 +29,7 @@ class Space:
 
 @dataclass(frozen=True)
 class Mount:
+    """The mount `mN`: the space that it belongs to, and whether it is mounted with nosuid."""
     space: int
     nosuid: bool
 
@@ -45,6 +46,7 @@ class File:
 
 @dataclass(frozen=True)
 class Process:
+    """A process; without a parent it begins a family of its own."""
     pid: int
     parent: int | None
     space: int
@@ -59,6 +61,7 @@ class Process:
 
 @dataclass(frozen=True)
 class World:
+    """A small world, and the calls that its filter excludes."""
     spaces: tuple[Space, ...] = ()
     mounts: tuple[Mount, ...] = ()
     files: tuple[File, ...] = ()
@@ -76,12 +79,14 @@ class Query:
     capability: int = 0
 
     def right(self) -> str:
+        """The right, as the words of an audit have it."""
         if self.kind == "cap":
             return f"cap:CAP_{CAPABILITIES[self.capability]}@{space_name(self.of)}"
         return f"{self.kind}:{self.of}"
 
 
 def space_name(number: int) -> str:
+    """The name of a space."""
     return f"s{number}" if number else "init"
 
 
@@ -106,11 +111,13 @@ EVERY_ID: Lines = ((0, 0, 4294967295),)
 
 
 def down(lines: Lines | None, inside: int) -> int | None:
+    """The outside id of an inside id, None where no line has it."""
     found = [first + inside - start for start, first, length in lines or () if start <= inside < start + length]
     return found[0] if found else None
 
 
 def up(lines: Lines | None, outside: int) -> int | None:
+    """The inside id of an outside id."""
     return down(tuple((first, start, length) for start, first, length in lines or ()), outside)
 
 
@@ -128,18 +135,22 @@ def stored(world: World, number: int, side: str) -> Lines | None:
 
 
 def quoted(value: str) -> str:
+    """A TOML string."""
     return f'"{value}"'
 
 
 def flag(value: bool) -> str | None:
+    """A flag that is set; one that isn't is left out."""
     return "true" if value else None
 
 
 def row(table: str, **keys: object) -> str:
+    """A row of a table: the keys that aren't None."""
     return f"[[{table}]]\n" + "".join(f"{key} = {value}\n" for key, value in keys.items() if value is not None)
 
 
 def lines_text(lines: Lines | None) -> str | None:
+    """A map, None where it isn't written."""
     return None if lines is None else str([list(line) for line in lines])
 
 
@@ -152,21 +163,25 @@ def caps_text(caps: tuple[int, int, bool]) -> str:
 
 
 def space_text(number: int, space: Space) -> str:
+    """The row of a space."""
     return row("space", name=quoted(space_name(number)), parent=quoted(space_name(space.parent)), owner=space.owner,
                uid_map=lines_text(space.uids), gid_map=lines_text(space.gids),
                setgroups=quoted("deny") if space.deny else None, creator_setfcap=flag(space.setfcap))
 
 
 def mount_text(number: int, mount: Mount) -> str:
+    """The row of a mount."""
     return row("mount", name=quoted(f"m{number}"), space=quoted(space_name(mount.space)), nosuid=flag(mount.nosuid))
 
 
 def file_text(number: int, file: File) -> str:
+    """The row of a file."""
     return row("file", path=quoted(f"/f{number}"), mount=quoted(f"m{file.mount}") if file.mount else None, uid=file.uid,
                gid=file.gid, mode=quoted(f"{file.mode:04o}"), caps=file.caps and quoted(caps_text(file.caps)))
 
 
 def process_text(process: Process) -> str:
+    """The row of a process."""
     sets = (quoted(f"{one:016x}") for one in (*process.sets, process.bounding))
     names = ("permitted", "effective", "inheritable", "ambient", "bounding")
     return row("process", pid=process.pid, parent=process.parent, space=quoted(space_name(process.space)),
@@ -175,6 +190,7 @@ def process_text(process: Process) -> str:
 
 
 def text(world: World) -> str:
+    """The text of a world."""
     tables = [space_text(number, one) for number, one in enumerate(world.spaces, 1)]
     tables += [mount_text(number, one) for number, one in enumerate(world.mounts, 1)]
     tables += [file_text(number, one) for number, one in enumerate(world.files)]
