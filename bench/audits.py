@@ -11,6 +11,8 @@ alone:
              member's finds it, by nearly the last pair of programs
   undecided  a program that the last member alone may run, which has no_new_privs; the first member, which stands in the
              initial space too and hasn't no_new_privs, may not run it
+
+and a `yes` in which each member has the saved user id 0 without what it would give, so that more plans are tried.
 """
 import os
 import subprocess
@@ -100,13 +102,18 @@ def space_row(number: int, parent: str) -> str:
     return row("space", name=text(f"s{number}"), parent=text(parent), owner=8000 + number, uid_map=lines, gid_map=lines)
 
 
+def space_of(number: int, size: Size) -> str | None:
+    """The name of the space of a member: the last one's is the initial one."""
+    space = 0 if number == size.members - 1 else number % size.spaces
+    return text(f"s{space}") if space else None
+
+
 def member_row(number: int, size: Size, opens: str | None) -> str:
     """A member; of an undecided world the last one has what opens the program, and no_new_privs."""
     is_last = number == size.members - 1
-    space = 0 if is_last else number % size.spaces
     own, open_to = 1000 + number, opens if is_last else None
     return row("process", pid=FIRST + number, parent=FIRST if number else None,
-               space=text(f"s{space}") if space else None, uid=HELPER if open_to == "user" else own, gid=own,
+               space=space_of(number, size), uid=HELPER if open_to == "user" else own, gid=own,
                groups=f"[{STEP}]" if open_to == "group" else None, no_new_privs="true" if open_to else None)
 
 
@@ -117,6 +124,16 @@ def world(size: Size, kind: str, verdict: str, in_chains: bool = False) -> Made:
     rows = [*map(space_row, range(1, size.spaces), parents), *files_of(size, kind, verdict),
             *(member_row(number, size, opens) for number in range(size.members))]
     return Made(HEAD + "".join(rows), RIGHTS[kind], verdict)
+
+
+def saved_root(size: Size, kind: str) -> Made:
+    """Members with the saved user id 0, which gives them nothing: root's capabilities are off, for good, and the
+    bounding set is empty. So each plan whose first move becomes 0 is tried too."""
+    rows = [*(space_row(number, "init") for number in range(1, size.spaces)), *files_of(size, kind, "yes"),
+            *(row("process", pid=FIRST + number, parent=FIRST if number else None, space=space_of(number, size),
+                  uid=f"[{1000 + number}, {1000 + number}, 0, {1000 + number}]", gid=1000 + number, bounding=text("none"),
+                  securebits=3) for number in range(size.members))]
+    return Made(HEAD + "".join(rows), RIGHTS[kind], "yes")
 
 
 def chained(size: Size) -> Made:
@@ -180,7 +197,8 @@ def ended(words: list[str]) -> tuple[int, float]:
 def asked_of(size: Size) -> dict[str, Made]:
     """The worlds of that size, by what is asked of them."""
     every = {f"{kind}, {verdict}": world(size, kind, verdict) for kind in KINDS for verdict in STATUS}
-    return {**every, "cap, chains of 32 spaces": chained(size)}
+    saved = {f"{kind}, yes, saved user id 0": saved_root(size, kind) for kind in KINDS}
+    return {**every, **saved, "cap, chains of 32 spaces": chained(size)}
 
 
 def past(bar: float, measured: float) -> str:
