@@ -12,6 +12,8 @@ pub mod HeldLines
 pub mod RestLaws
 pub mod LineNumbers
 pub mod Counts
+pub mod ToldValues
+pub mod ToldCalls
 pub mod ToldEvents
 pub mod NamedSpaces
 pub mod ReadBack

@@ -19,7 +19,7 @@ use Rattle.model_cred.specs.Call as model
 use Rattle.model_cred.specs.Call.{Call, Event}
 use Rattle.model_cred.specs.IdMap.{Extent}
 use Rattle.model_cred.specs.World.{World}
-use Rattle.model_strace.proofs.ToldEvents.{ToldFits, call_told_fits, names_space}
+use Rattle.model_strace.proofs.ToldCalls.{ToldFits, call_told_fits, names_space}
 use Rattle.model_strace.specs.After.{After, Goes, Halts, preceded, and_then}
 use Rattle.model_strace.specs.Body.{Body, Silent, Ends, Superseded, Begun, Resumed, Whole, Row, Blank, TooLong, NoPid}
 use Rattle.model_strace.specs.Body.{Of, body_of, log_row}

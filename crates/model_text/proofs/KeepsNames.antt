@@ -1,5 +1,6 @@
 -- The spaces that a world's text declares have names that are names, and its files paths that are paths, each once.
-use Rattle.std.proofs.Common.{◌≡◌, ◌≢◌, ℕ, zero, suc, ◌<◌, ◌||◌, true, false, Bool, List, [], ◌∷◌, ◌++◌, length, map, get_or, cond, ◌+◌, Some, Ok}
+use Rattle.std.proofs.Common.{◌≡◌, ◌≢◌, ℕ, zero, suc, ◌<◌, ◌||◌, true, false, Bool, List, [], ◌∷◌}
+use Rattle.std.proofs.Common.{◌++◌, length, map, get_or, cond, ◌+◌, Some, Ok}
 use Rattle.std.proofs.Common.{IsTrue, codes, refl, sym, ap, ◌∙◌, subst, arith}
 use Rattle.std.proofs.lemmas.Bool.{false≢true, not-false, or_parts}
 use Rattle.std.proofs.lemmas.Iterator.Adapters.{position_from-zero}
@@ -26,7 +27,8 @@ use Rattle.toml.specs.Data.{Items, Members}
 
 -- ---- texts, each once
 -- a text that is none of these differs from each
-none_of : (texts : List (List ℕ)) (text : List ℕ) → is_one_of texts text ≡ false → (k : ℕ) (d : List ℕ) → k < length texts → get_or texts k d ≢ text
+none_of : (texts : List (List ℕ)) (text : List ℕ) → is_one_of texts text ≡ false → (k : ℕ) (d : List ℕ)
+    → k < length texts → get_or texts k d ≢ text
 none_of [] text none k d within same = omega arith
 none_of (first ∷ texts) text none zero d within same =
     let differs : bytes_eq first text ≡ false = (or_parts (bytes_eq first text) (is_one_of texts text) none).0 in

@@ -88,7 +88,8 @@ pub record Declares (bytes : List ℕ) (w : World) : Type 0 where
 pub declares : (bytes : List ℕ) (w : World) → world_text bytes ≡ Reads w → Declares bytes w
 declares bytes w is = by_utf8 (is_utf8 bytes) refl (text_read (read_text bytes) w is)
   where
-    by_document : is_utf8 bytes ≡ true → (document : Option Members) → parse_document bytes ≡ document → document_world document ≡ Ok w → Declares bytes w
+    by_document : is_utf8 bytes ≡ true → (document : Option Members) → parse_document bytes ≡ document
+        → document_world document ≡ Ok w → Declares bytes w
     by_document utf8 None same is = absurd (cc)
     by_document utf8 (Some top) same is = record { top = top; utf8 = utf8; document = same; made = table_made top w is }
 
@@ -125,7 +126,8 @@ pid_if (Some value) = pid_from value
 pid_is : (row : Members) → IsTrue (is_pid (pid_of row))
 pid_is row = or_default (λ n. IsTrue (is_pid n)) (number_of 1 last_pid (get_member (codes "pid") row)) 1 (pid_if (get_member (codes "pid") row)) refl
 
-processes_have_pids : (names : List (List ℕ)) (before : List Process) (row : Members) (all : List Process) → All (λ p. IsTrue (is_pid p.pid)) before → Unit {0}
+processes_have_pids : (names : List (List ℕ)) (before : List Process) (row : Members) (all : List Process)
+    → All (λ p. IsTrue (is_pid p.pid)) before → Unit {0}
     → process_row names before row ≡ Ok all → All (λ p. IsTrue (is_pid p.pid)) all
 processes_have_pids names before row all pids any is =
     let parts = process_read names before row all is in
