@@ -6,7 +6,7 @@
 The built program of crates/judge_bench finds the least closed bounds of WORLD (that in its file stdin), and then runs
 each of the two tests PASSES times (100). Its requests of the C library's allocator are counted (tools/refuse.c; needs
 cc) in a run with no passes. With the passes it must ask for as many; it must come to its end where each request past
-that number is refused, and stop for want of memory where the last one is too.
+that number is refused, and stop as out of memory where the last one is too.
 """
 import os
 import subprocess

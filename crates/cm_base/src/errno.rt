@@ -3,8 +3,8 @@ ghost use Rattle.std.specs.Prelude.{◌≡◌};
 ghost use Rattle.cm_base.specs.Names.{errno_name, errno_of};
 
 /// An error that a call in a log answers (errno(3)). EPERM and ENOSPC come by the rules of the calls alone; EINVAL, EACCES
-/// of execve and EAGAIN of births by the rules and from outside them; the other twelve from outside alone, as for want of
-/// memory or a file that can't be read.
+/// of execve and EAGAIN of births by the rules and from outside them; the other twelve from outside alone, as where
+/// memory runs out or a file can't be read.
 #[derive(Clone, Copy, Debug, PartialEq, Eq)]
 pub enum Errno {
     EPERM,

@@ -1,7 +1,7 @@
-// Want of memory, the one answer that any call which takes memory may give.
+// Out of memory: the one answer that any call which takes memory may give.
 use std::alloc::{AllocError, AllocFailed};
 
-/// The answer for want of memory. No clause ties it to memory that was refused; the call that answers it leaves its
+/// The answer where memory runs out. No clause ties it to memory that was refused; the call that answers it leaves its
 /// objects as they were.
 #[derive(Clone, Copy, Debug, PartialEq, Eq)]
 pub struct NoMemory;

@@ -25,7 +25,7 @@ pub enum Status {
     WriteFault,
     /// 9: a limit was exceeded.
     Limit,
-    /// 10: want of memory. No clause ties it to memory that was refused.
+    /// 10: out of memory. No clause ties it to memory that was refused.
     NoMemory,
     /// 11: a certificate or a run was refused.
     Refused,

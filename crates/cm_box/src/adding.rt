@@ -34,7 +34,7 @@ use cm_state::{Spaces, State};
 use std::alloc::Global;
 
 /// The bounds with what the rule adds to the row. The bounds have two rows for each space, the row is one of them, and
-/// fewer than 2^31 spaces stand. Its only error is want of memory.
+/// fewer than 2^31 spaces stand. It fails only where memory runs out.
 pub fn rule(
     alloc: Global,
     x: Rule,
@@ -57,7 +57,8 @@ pub fn rule(
 }
 
 /// The row as the rule would leave it, None exactly where it holds already what the rule adds to it. The bounds have
-/// two rows for each space, the row is one of them, and fewer than 2^31 spaces stand. Its only error is want of memory.
+/// two rows for each space, the row is one of them, and fewer than 2^31 spaces stand. It fails only where memory runs
+/// out.
 pub fn widened(
     alloc: Global,
     x: Rule,

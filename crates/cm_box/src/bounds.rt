@@ -78,7 +78,7 @@ impl Bounds {
         self.rows.list[y as usize] = row;
     }
 
-    // Bounds that hold the same. Its only error is want of memory.
+    // Bounds that hold the same. It fails only where memory runs out.
     pub(crate) fn copy(&self, alloc: Global) -> Result<Bounds, NoMemory>
         ensures count { OrNoMemory result (λ b. length b ≡ length self.now) }
         ensures same { OrNoMemory result

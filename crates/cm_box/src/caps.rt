@@ -173,7 +173,7 @@ fn meets_zero_of(space: &Space, ids: &IdSet, mapped: &IdSet) -> bool
     }
 }
 
-// The capabilities that the attributes of programs can bring. Its only error is want of memory.
+// The capabilities that the attributes of programs can bring. It fails only where memory runs out.
 pub(crate) fn caps_by_files(
     alloc: Global,
     files: &FileTable,
@@ -235,7 +235,7 @@ fn gives(alloc: Global, row: &BoxRow, f: &FileView) -> Result<CapSet, NoMemory>
     }
 }
 
-// What a program gives to root as root. Its only error is want of memory.
+// What a program gives to root as root. It fails only where memory runs out.
 pub(crate) fn caps_by_root(
     alloc: Global,
     spaces: &Spaces,

@@ -22,7 +22,7 @@ use cm_state::{Cred, FourIds, Space, State};
 use std::alloc::Global;
 
 /// The start bounds: what the members have, and the outside ids of the written maps of each standing space. They are
-/// the least bounds that cover the members now. Fewer than 2^31 spaces stand. Its only error is want of memory.
+/// the least bounds that cover the members now. Fewer than 2^31 spaces stand. It fails only where memory runs out.
 pub fn start_bounds(alloc: Global, st: &State, members: &[Pid]) -> Result<Bounds, NoMemory>
     requires { length st.now.spaces < 2 ^ 31 }
     ensures count { OrNoMemory result (λ b. length b ≡ 2 * length st.now.spaces) }

@@ -17,7 +17,7 @@ use cm_sets::{CapSet, Flag, SetLike};
 use cm_state::{Space, Spaces};
 use std::alloc::Global;
 
-/// What the members of a row bring with them as newcomers to a space. Its only error is want of memory.
+/// What the members of a row bring with them as newcomers to a space. It fails only where memory runs out.
 pub fn brought(alloc: Global, from: &BoxRow) -> Result<BoxRow, NoMemory>
     ensures { OrNoMemory result (λ row. AreSameRows (RowHolds row) (Brings (RowHolds from.now))) }
 {
@@ -32,7 +32,7 @@ pub fn brought(alloc: Global, from: &BoxRow) -> Result<BoxRow, NoMemory>
     Ok(row)
 }
 
-/// The ids that can come into the map of a standing space from its parent. Its only error is want of memory.
+/// The ids that can come into the map of a standing space from its parent. It fails only where memory runs out.
 pub fn new_ids(
     alloc: Global,
     kind: Kind,
@@ -101,7 +101,7 @@ fn gids_if(alloc: Global, can: bool, one: &IdSet, other: &IdSet) -> Result<IdSet
     one.meet(alloc, other)
 }
 
-/// The ids that can come into the maps of the later spaces below a standing one. Its only error is want of memory.
+/// The ids that can come into the maps of the later spaces below a standing one. It fails only where memory runs out.
 pub fn fresh_ids(alloc: Global, kind: Kind, row: &BoxRow, fresh: &BoxRow) -> Result<IdSet, NoMemory>
     ensures { OrNoMemory result
         (λ ids. AreSame (Held ids) (FreshIdBy kind (RowHolds row.now) (RowHolds fresh.now))) }

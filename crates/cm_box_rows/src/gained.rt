@@ -15,7 +15,7 @@ use cm_idset::IdSet;
 use cm_sets::{Flag, SetLike};
 use std::alloc::Global;
 
-/// New effective ids, with what becomes of them and of the old ones. Its only error is want of memory.
+/// New effective ids, with what becomes of them and of the old ones. It fails only where memory runs out.
 pub fn ids_gained(alloc: Global, kind: Kind, row: &BoxRow, new: IdSet) -> Result<BoxRow, NoMemory>
     ensures { OrNoMemory result (λ r. AreSameRows (RowHolds r) (SpreadsId kind (RowHolds row.now) (Held new))) }
 {
@@ -45,7 +45,7 @@ fn ids_alone(alloc: Global, kind: Kind, three: IdSet, effective: IdSet, fs: IdSe
     }
 }
 
-/// By setuid(2), setreuid(2) and setresuid(2), or the calls for group ids alike. Its only error is want of memory.
+/// By setuid(2), setreuid(2) and setresuid(2), or the calls for group ids alike. It fails only where memory runs out.
 pub fn set_ids_gained(alloc: Global, kind: Kind, row: &BoxRow) -> Result<BoxRow, NoMemory>
     ensures { OrNoMemory result (λ r. AreSameRows (RowHolds r)
         (SpreadsId kind (RowHolds row.now) (SettableId kind (RowHolds row.now)))) }
@@ -54,7 +54,7 @@ pub fn set_ids_gained(alloc: Global, kind: Kind, row: &BoxRow) -> Result<BoxRow,
     ids_gained(alloc, kind, row, new)
 }
 
-/// By setfsuid(2) or setfsgid(2). Its only error is want of memory.
+/// By setfsuid(2) or setfsgid(2). It fails only where memory runs out.
 pub fn set_fs_gained(alloc: Global, kind: Kind, row: &BoxRow) -> Result<BoxRow, NoMemory>
     ensures { OrNoMemory result (λ r. AreSameRows (RowHolds r) (GainsFsId kind (RowHolds row.now))) }
 {

@@ -63,7 +63,7 @@ fn file_within(
     has_given(effective_ids(kind, row), id)
 }
 
-/// The ids that programs give. Its only error is want of memory.
+/// The ids that programs give. It fails only where memory runs out.
 pub fn ids_given(
     alloc: Global,
     kind: Kind,
@@ -117,7 +117,7 @@ fn has_given(set: &IdSet, id: Option<u32>) -> bool
     }
 }
 
-// The ids with that one, if there is one. Its only error is want of memory.
+// The ids with that one, if there is one. It fails only where memory runs out.
 fn with_given(alloc: Global, ids: IdSet, id: Option<u32>) -> Result<IdSet, NoMemory>
     requires { IfSome id (λ id. id < id_count) }
     ensures { OrNoMemory result (λ more. (x : ℕ) → Held more x ↔ (Held ids x ⊎ (id ≡ Some x))) }

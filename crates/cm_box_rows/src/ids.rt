@@ -22,7 +22,7 @@ pub(crate) fn settable_within<S: SetLike>(old: &S, mapped: &S, privileged: bool,
     old.meet_within(mapped, bound)
 }
 
-// What a call can set. Its only error is want of memory.
+// What a call can set. It fails only where memory runs out.
 pub(crate) fn settable<S: SetLike>(
     alloc: Global,
     old: &S,

@@ -8,7 +8,7 @@ use cm_sets::SetLike;
 use std::alloc::Global;
 
 impl BoxRow {
-    /// What the one or the other holds. Its only error is want of memory.
+    /// What the one or the other holds. It fails only where memory runs out.
     pub fn joined(&self, alloc: Global, other: &BoxRow) -> Result<BoxRow, NoMemory>
         ensures { OrNoMemory result
             (λ row. AreSameRows (RowHolds row) (InEitherRow (RowHolds self.now) (RowHolds other.now))) }
@@ -47,7 +47,7 @@ impl BoxRow {
         })
     }
 
-    /// A row that holds the same. Its only error is want of memory.
+    /// A row that holds the same. It fails only where memory runs out.
     pub fn copy(&self, alloc: Global) -> Result<BoxRow, NoMemory>
         ensures { OrNoMemory result (λ row. AreSameRows (RowHolds row) (RowHolds self.now)) }
     {

@@ -92,7 +92,7 @@ impl Names {
         has_text(&self.list, name)
     }
 
-    /// One name more, of the next space. Its only error is want of memory, which leaves the names as they were.
+    /// One name more, of the next space. It fails only where memory runs out, and then leaves the names as they were.
     pub fn push(&mut self, alloc: Global, name: &str) -> Result<(), NoMemory>
         requires { length self.old + 1 < id_count }
         ensures pushed { OrNoMemory result (λ _. self.new ≡ self.old ++ name.now ∷ []) }

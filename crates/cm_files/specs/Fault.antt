@@ -42,7 +42,7 @@ first_fault mounts before (row ∷ rows) = option_or (row_fault mounts before ro
 abbrev pub files_fault : List Mount → List FileRow → Option BadFiles
 files_fault mounts rows = first_fault (length mounts) [] rows
 
--- The error diagnoses this fault; want of memory diagnoses nothing.
+-- The error diagnoses this fault; NoMemory diagnoses nothing.
 abbrev pub Diagnoses : BadFiles → Option BadFiles → Type 0
 Diagnoses NoMemory fault = Unit {0}
 Diagnoses (Twice n) fault = fault ≡ Some (Twice n)

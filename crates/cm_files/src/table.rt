@@ -40,7 +40,8 @@ impl Model for FileTable {
 impl FileTable {
     /// The table of these mounts and files, fewer than 2^32 of each. The first row with a fault is answered, of that row
     /// in this order (choice): `Twice` where its path is that of an earlier row, `NoMount` where its mount isn't there,
-    /// `NoInterpreter` where its interpreter isn't an earlier row without one. Beside these there is want of memory.
+    /// `NoInterpreter` where its interpreter isn't an earlier row without one. Beside these it fails only where memory
+    /// runs out.
     pub fn make(
         alloc: Global,
         mounts: Vec<Mount>,

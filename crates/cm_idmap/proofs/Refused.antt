@@ -7,7 +7,7 @@ use Rattle.cm_idmap.specs.declared.fault.BadMap.TheVariants as answer
 use Rattle.model_cred.specs.IdMap.{Extent}
 use Rattle.model_cred.specs.MapFault.{is_map, map_fault}
 
--- each refusal but want of memory tells a fault
+-- each refusal but NoMemory tells a fault
 fault_told : (e : BadMap) → (e ≡ answer.NoMemory → ⊥) → is_none (fault_of e) ≡ false
 fault_told answer.Empty other = refl
 fault_told answer.TooMany other = refl

@@ -4,7 +4,7 @@ use Rattle.cm_idmap.specs.declared.fault.BadMap.{BadMap}
 use Rattle.cm_idmap.specs.declared.fault.BadMap.TheVariants as answer
 use Rattle.model_cred.specs.MapFault.{MapFault, Empty, TooMany, ZeroLength, PastEnd, Overlap}
 
--- The fault of the list that an answer tells: none at want of memory, which comes only for a map.
+-- The fault of the list that an answer tells: NoMemory, which comes only for a map, tells none.
 abbrev pub fault_of : BadMap → Option MapFault
 fault_of answer.Empty = Some Empty
 fault_of answer.TooMany = Some TooMany

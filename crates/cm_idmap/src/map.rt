@@ -53,8 +53,8 @@ impl IdMap {
         }
     }
 
-    /// The map of the initial user namespace, `0 0 4294967295`: each id stands for itself (user_namespaces(7)). Its only
-    /// error is want of memory.
+    /// The map of the initial user namespace, `0 0 4294967295`: each id stands for itself (user_namespaces(7)). It
+    /// fails only where memory runs out.
     pub fn initial(alloc: Global) -> Result<IdMap, NoMemory>
         ensures { OrNoMemory result (λ m. m ≡ initial_map) }
     {
@@ -99,7 +99,7 @@ impl IdMap {
 
     /// The map with its outside ids, which are inside ids of another map, taken down through that one: its outside ids are then
     /// those of the other. None exactly where an outside range doesn't lie in one extent of the other, as where that isn't
-    /// written (user_namespaces(7)). Its only error is want of memory.
+    /// written (user_namespaces(7)). It fails only where memory runs out.
     pub fn under(&self, alloc: Global, other: Option<&IdMap>) -> Result<Option<IdMap>, NoMemory>
         ensures { OrNoMemory result (λ m. m ≡ model_list_down (extents_of (option_map (λ o. o.now) other.entry)) self.now) }
     {
@@ -121,7 +121,7 @@ impl IdMap {
         &self.list
     }
 
-    /// An equal map. Its only error is want of memory.
+    /// An equal map. It fails only where memory runs out.
     pub fn copy(&self, alloc: Global) -> Result<IdMap, NoMemory>
         ensures { OrNoMemory result (λ m. m ≡ self.now) }
     {

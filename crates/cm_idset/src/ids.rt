@@ -47,7 +47,7 @@ impl IdSet {
         }
     }
 
-    /// The set of one id. Its only error is want of memory.
+    /// The set of one id. It fails only where memory runs out.
     pub fn one(alloc: Global, id: u32) -> Result<IdSet, NoMemory>
         requires { id < id_count }
         ensures list { OrNoMemory result (λ s. s ≡ record { first = id; last = id } ∷ []) }
@@ -56,7 +56,7 @@ impl IdSet {
         IdSet::range(alloc, id, id)
     }
 
-    /// The set of the ids from the first to the last, both of them too. Its only error is want of memory.
+    /// The set of the ids from the first to the last, both of them too. It fails only where memory runs out.
     pub fn range(alloc: Global, first: u32, last: u32) -> Result<IdSet, NoMemory>
         requires full { first ≤ last }
         requires ids { last < id_count }
@@ -79,7 +79,8 @@ impl IdSet {
         }
     }
 
-    /// The ids to which `down` of the map takes those of the set (user_namespaces(7)). Its only error is want of memory.
+    /// The ids to which `down` of the map takes those of the set (user_namespaces(7)). It fails only where memory runs
+    /// out.
     pub fn image(&self, alloc: Global, m: &IdMap) -> Result<IdSet, NoMemory>
         ensures { OrNoMemory result (λ s. AreSame (Held s) (InImage m.now self.now)) }
     {

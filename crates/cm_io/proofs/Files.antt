@@ -58,7 +58,7 @@ files-append [] more (text ∷ texts) fits = absurd (omega arith)
 files-append (first ∷ names) more [] fits = refl
 files-append (first ∷ names) more (text ∷ texts) fits = ap (λ files. (first, text.items) ∷ files) (files-append names more texts (omega arith))
 
--- nor does a name that is noted, or isn't for want of memory
+-- nor does a name that is noted, or isn't where memory runs out
 pub files-if_noted : (names now : List (List ℕ)) (name : List ℕ) (texts : List (Vec ℕ Global)) (done : Bool) → length texts ≤ length names
     → now ≡ (if done then noted names name else names) → files_of now texts ≡ files_of names texts
 files-if_noted names now name texts false fits is = rw is

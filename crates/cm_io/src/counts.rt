@@ -31,7 +31,7 @@ impl Count {
     }
 
     // Counts a read by what came of it: the read itself, the bytes that it gave, and the fault where it failed.
-    // Want of memory counts nothing.
+    // Where memory runs out nothing is counted.
     fn count(&mut self, read: &Result<usize, Outside>)
         ensures counts { self.new ≡ with_read self.old read.now }
         ensures later { NoneFalls self.old self.new }
@@ -91,7 +91,7 @@ impl Counts {
         self.rows.len()
     }
 
-    /// Gives a name that has no counts yet counts of its own, after all others. Want of memory changes nothing.
+    /// Gives a name that has no counts yet counts of its own, after all others. Where memory runs out nothing changes.
     pub(crate) fn note(&mut self, alloc: Global, name: &str) -> Result<(), NoMemory>
         ensures { NotesName self.old self.new name.now (is_ok result) }
     {

@@ -38,7 +38,7 @@ impl Held {
         })
     }
 
-    /// Gives the name counts of its own, where it has none yet. Want of memory changes nothing.
+    /// Gives the name counts of its own, where it has none yet. Where memory runs out nothing changes.
     pub(crate) fn note(&mut self, name: &str) -> Result<(), NoMemory>
         ensures files { held_files self.new ≡ held_files self.old }
         ensures counts { NotesName self.old.counts self.new.counts name.now (is_ok result) }

@@ -26,8 +26,8 @@ impl MemShelf {
     ghost use Rattle.cm_io.specs.Memory.{shelf_turns, shelf_counts};
 
     /// A shelf that holds `texts` under `names`, of which the reads with the numbers `fail` fail. No
-    /// read was made yet, all counts are 0, and the held names are noted. `NoMemory` is want of memory for the
-    /// counts.
+    /// read was made yet, all counts are 0, and the held names are noted. `NoMemory` means that there was no memory for
+    /// the counts.
     pub fn new(
         alloc: Global,
         names: Vec<String>,
@@ -73,8 +73,8 @@ impl Shelf for MemShelf {
     /// Fails where this read is one of those that are to fail, and where no file has the name; else it
     /// gives as much as there is and fits. A failure changes nothing but the counts.
     ///
-    /// `NoMemory` is want of memory to note a name that is neither held nor was read before. Then the read wasn't
-    /// made, and nothing changed.
+    /// `NoMemory` means that there was no memory to note a name that is neither held nor was read before. Then the read
+    /// wasn't made, and nothing changed.
     fn read_at(&mut self, name: &str, at: u64, buf: &mut [u8]) -> Result<usize, Outside>
         ensures count { IfOk result (λ n. n ≤ length buf.new) }
         ensures read { ReadsHeld (⟦<MemShelf as Shelf>⟧.held self.old) name.now at buf.new result }
@@ -101,7 +101,7 @@ impl Shelf for MemShelf {
         ensures noted { result ≢ Err Outside.NoMemory →
             names_of (shelf_counts self.new) ≡ noted (names_of (shelf_counts self.old)) name.now }
 
-        // It wants memory for a name alone that has no counts yet, and then changes nothing: it takes no turn.
+        // It takes memory only for a name that has no counts yet, and then changes nothing: it takes no turn.
         ensures no_want { IsTrue (counts_name (shelf_counts self.old) name.now) → result ≢ Err Outside.NoMemory }
         ensures no_turn { result ≡ Err Outside.NoMemory → shelf_turns self.new ≡ shelf_turns self.old }
         ensures same { result ≡ Err Outside.NoMemory → SameCounts (shelf_counts self.old) (shelf_counts self.new) }
@@ -165,7 +165,7 @@ impl Sink for MemSink {
     ghost faults = { λ s. s.faults };
 
     /// Takes the whole piece, and fails where this write is one of those that are to fail: then nothing
-    /// more is written, and the write was counted. `NoMemory` is want of memory for the piece, and changes
+    /// more is written, and the write was counted. `NoMemory` means that there was no memory for the piece, and changes
     /// nothing: the write wasn't counted.
     fn write(&mut self, piece: &[u8]) -> Result<usize, Outside>
         ensures count { IfOk result (λ n. n ≤ length piece.now) }

@@ -25,7 +25,7 @@ impl<T: Drop> From<AllocFailed<T>> for NoMemory {
 pub enum Outside {
     /// The device failed, and a count of faults rose.
     Failed,
-    /// The object itself wanted memory and got none. No count of faults rose.
+    /// The object itself ran out of memory. No count of faults rose.
     NoMemory,
 }
 

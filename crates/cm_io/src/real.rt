@@ -79,7 +79,7 @@ impl<R: Files + Drop> RealShelf<R> {
     ghost use Rattle.cm_io.specs.Real.{real_tally};
 
     /// A shelf over these files, with counts for each of the names. All counts are 0, and no file is opened
-    /// yet. `NoMemory` is want of memory for the names and counts.
+    /// yet. `NoMemory` means that there was no memory for the names and counts.
     pub fn new(files: R, alloc: Global, names: &Vec<String>) -> Result<RealShelf<R>, NoMemory>
         ensures held { IfOk result (λ s. ⟦<RealShelf<R> as Shelf>⟧.held s ≡ None) }
         ensures names { IfOk result (λ s. names_of (real_tally s).counts ≡ map string_bytes names.now.items) }
@@ -127,7 +127,7 @@ impl<R: Files> Shelf for RealShelf<R> {
     ghost taken = { λ s name. taken_of s.tally.counts name };
 
     /// A read that a signal interrupts is tried again, up to a million times; after that it failed.
-    /// It never wants memory. After an error no file stays open.
+    /// It never runs out of memory. After an error no file stays open.
     fn read_at(&mut self, name: &str, at: u64, buf: &mut [u8]) -> Result<usize, Outside>
         ensures count { IfOk result (λ n. n ≤ length buf.new) }
         ensures read { ReadsHeld None name.now at buf.new result }
@@ -144,7 +144,7 @@ impl<R: Files> Shelf for RealShelf<R> {
             (⟦<RealShelf<R> as Shelf>⟧.taken self.new) name.now (bytes_given result) }
         ensures others { OtherTalliesStay (real_tally self.old) (real_tally self.new) name.now }
 
-        // It never wants memory, so each read of a name that it counts is counted, whatever came of it.
+        // It never runs out of memory, so each read of a name that it counts is counted, whatever came of it.
         ensures no_want { result ≢ Err Outside.NoMemory }
         ensures all_reads { CountsOn (⟦<RealShelf<R> as Shelf>⟧.counted self.old)
             (⟦<RealShelf<R> as Shelf>⟧.reads self.old) (⟦<RealShelf<R> as Shelf>⟧.reads self.new) name.now 1 }
@@ -255,7 +255,7 @@ impl<W: Write> Sink for RealSink<W> {
 
     /// Each error is a fault, and so is a write that takes nothing of a piece that isn't empty; no call
     /// is made for an empty piece. A write that a signal interrupts is tried again, up to a million
-    /// times. It never wants memory.
+    /// times. It never runs out of memory.
     fn write(&mut self, piece: &[u8]) -> Result<usize, Outside>
         ensures count { IfOk result (λ n. n ≤ length piece.now) }
         ensures some { IfOk result (λ n. n ≡ 0 → length piece.now ≡ 0) }

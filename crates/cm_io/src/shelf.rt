@@ -16,7 +16,7 @@ pub trait Shelf {
     /// at 0.
     ghost counted: { Self → List ℕ → Bool };
 
-    /// How often each name was read, whatever came of it but want of memory: that is no read. A count stays at
+    /// How often each name was read, whatever came of it but `NoMemory`: that is no read. A count stays at
     /// 2^64 - 1.
     ghost reads: { Self → List ℕ → ℕ };
 
@@ -29,8 +29,8 @@ pub trait Shelf {
     /// end of the file or for an empty `buf`, and a name that isn't held has no bytes.
     ///
     /// `Failed` comes only where the name's count of faults rose, and `NoMemory` where the shelf itself
-    /// wanted memory: then no count rose. A read of a name that is counted changes no other name's count of
-    /// faults. What is held stays the same. After an error `buf` may have any bytes, and none count as taken.
+    /// ran out of memory: then no count rose. A read of a name that is counted changes no other name's count of faults.
+    /// What is held stays the same. After an error `buf` may have any bytes, and none count as taken.
     fn read_at(&mut self, name: &str, at: u64, buf: &mut [u8]) -> Result<usize, Outside>
         ensures count { IfOk result (λ n. n ≤ length buf.new) }
         ensures read { ReadsHeld (held self.old) name.now at buf.new result }

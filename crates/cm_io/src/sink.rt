@@ -15,8 +15,8 @@ pub trait Sink {
     /// Writes the front of a piece, and gives how many bytes that were: at least one, unless the piece
     /// is empty.
     ///
-    /// `Failed` comes only where the count of faults rose, and `NoMemory` where the sink itself wanted
-    /// memory: then it didn't rise. After an error nothing of the piece is written.
+    /// `Failed` comes only where the count of faults rose, and `NoMemory` where the sink itself ran out of memory: then
+    /// it didn't rise. After an error nothing of the piece is written.
     fn write(&mut self, piece: &[u8]) -> Result<usize, Outside>
         ensures count { IfOk result (λ n. n ≤ length piece.now) }
         ensures some { IfOk result (λ n. n ≡ 0 → length piece.now ≡ 0) }

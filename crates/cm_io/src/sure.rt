@@ -60,8 +60,8 @@ impl Shelf for SureShelf {
 
     /// Gives as much as there is and fits, and 0 where no file has the name. It never fails.
     ///
-    /// `NoMemory` is want of memory to note a name that is neither held nor was read before. Then the read wasn't
-    /// made, and nothing changed.
+    /// `NoMemory` means that there was no memory to note a name that is neither held nor was read before. Then the read
+    /// wasn't made, and nothing changed.
     fn read_at(&mut self, name: &str, at: u64, buf: &mut [u8]) -> Result<usize, Outside>
         ensures sure { result ≢ Err Outside.Failed }
         ensures no_want { IsTrue (counts_name (sure_counts self.old) name.now) → result ≢ Err Outside.NoMemory }
@@ -94,7 +94,7 @@ impl Shelf for SureShelf {
     }
 }
 
-/// Keeps in memory what is written. It can only want memory.
+/// Keeps in memory what is written. It can only run out of memory.
 #[derive(Drop)]
 pub struct SureSink {
     bytes: Vec<u8>,
@@ -128,7 +128,7 @@ impl Sink for SureSink {
 
     ghost faults = { λ _. 0 };
 
-    /// Takes the whole piece, or wants memory for it.
+    /// Takes the whole piece, or runs out of memory for it.
     fn write(&mut self, piece: &[u8]) -> Result<usize, Outside>
         ensures count { IfOk result (λ n. n ≤ length piece.now) }
         ensures some { IfOk result (λ n. n ≡ 0 → length piece.now ≡ 0) }

@@ -16,7 +16,7 @@ pub enum WholeError {
     Read,
     /// The file has more bytes than the limit.
     TooMuch,
-    /// There is no memory for the bytes, or the shelf wanted memory.
+    /// There is no memory for the bytes, or the shelf ran out of memory.
     NoMemory,
 }
 

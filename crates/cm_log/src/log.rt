@@ -33,7 +33,7 @@ impl<'a> Log<'a> {
         Log::Script(ScriptLog::new(text))
     }
 
-    /// The whole of a log's text. Its only error is want of memory.
+    /// The whole of a log's text. It fails only where memory runs out.
     pub fn new(alloc: Global, w: &World, text: &'a [u8]) -> Result<Log<'a>, NoMemory>
         requires spaces { length w.now.start.spaces < 2 ^ 31 }
         requires text { length text.now < 2 ^ 31 }
@@ -50,8 +50,8 @@ impl<'a> Log<'a> {
         }
     }
 
-    /// Reads on to the next event, past lines that tell none; after an end it gives that end again. Its only error is want of
-    /// memory, after which what is left of the log isn't known.
+    /// Reads on to the next event, past lines that tell none; after an end it gives that end again. It fails only where
+    /// memory runs out, after which what is left of the log isn't known.
     pub fn next(&mut self, alloc: Global, w: &World) -> Result<Next, NoMemory>
         requires { CanGoOn self.old }
         ensures next { OrNoMemory result (λ next. IsNext next (left (world_of w.now) self.old) (left (world_of w.now) self.new)) }

@@ -38,7 +38,7 @@ impl<'a> ScriptLog<'a> {
         }
     }
 
-    /// Reads on to the next event, past lines that tell none. Its only error is want of memory.
+    /// Reads on to the next event, past lines that tell none. It fails only where memory runs out.
     pub(crate) fn next(&mut self, alloc: Global, w: &World) -> Result<Next, NoMemory>
         requires { self.old.number + length self.old.rest.now < 2 ^ 64 }
         ensures next { OrNoMemory result (λ next. IsNext next (script_left (world_of w.now) self.old) (script_left (world_of w.now) self.new)) }

@@ -34,7 +34,7 @@ pub struct StraceLog<'a> {
 }
 
 impl<'a> StraceLog<'a> {
-    /// The whole of a log's text. Its only error is want of memory.
+    /// The whole of a log's text. It fails only where memory runs out.
     pub(crate) fn new(alloc: Global, w: &World, text: &'a [u8]) -> Result<StraceLog<'a>, NoMemory>
         requires spaces { length w.now.start.spaces < 2 ^ 31 }
         requires text { length text.now < 2 ^ 31 }
@@ -50,7 +50,7 @@ impl<'a> StraceLog<'a> {
         })
     }
 
-    /// Reads on to the next event, past lines that tell none. Its only error is want of memory.
+    /// Reads on to the next event, past lines that tell none. It fails only where memory runs out.
     pub(crate) fn next(&mut self, alloc: Global, w: &World) -> Result<Next, NoMemory>
         requires { StraceCanGoOn self.old }
         ensures next { OrNoMemory result (λ next. IsNext next (strace_left (world_of w.now) self.old) (strace_left (world_of w.now) self.new)) }

@@ -386,7 +386,7 @@ module _ (w : World) (s : State) (call : Call) (child : Option ℕ) (at : ℕ) (
       (can_is w s old call (pid_number child) (same_put s at old up h is) (free_number s.processes child free) stand room))
   asked_can (Err why) free stand room answers change cred = tt
 
--- ---- what can want memory
+-- ---- what can take memory
 
 where_made : (P : Type 0) (r : Res) (to_make : Change) → (makes_new to_make ≡ true → P) → makes_new (where_done r to_make) ≡ true → P
 where_made P res.Done to_make old is = old is

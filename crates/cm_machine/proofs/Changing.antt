@@ -78,7 +78,7 @@ put_back [] at new p is = absurd (cc)
 put_back (q ∷ ps) zero new p is = let it : q ≡ p = cc in ap (λ (r : Process). r ∷ ps) (sym it)
 put_back (q ∷ ps) (suc at) new p is = ap (λ (l : List Process). q ∷ l) (put_back ps at new p is)
 
--- with one more process, or with the same for want of memory, they are in spaces that stand
+-- with one more process, or with the same where memory runs out, they are in spaces that stand
 pub insert_keeps : {T E : Type 0} (r : Result T E) (ps after : List Process) (n : ℕ) (child : Process) → AllStand n ps → child.space < n
     → IfOk r (λ _. after ≡ insert_process child ps) → OnErr r (after ≡ ps) → AllStand n after
 insert_keeps (Ok _) ps after n child stand there made same =
@@ -96,7 +96,7 @@ pub some_at : (ps : List Process) (at : ℕ) → at < length ps → (p : Process
 some_at [] at h = absurd (omega arith)
 some_at (p ∷ ps) at h = (get_or (p ∷ ps) at p, slice_get-get_or (p ∷ ps) at p h)
 
--- where a process made a space and came into it, or stayed for want of memory, the processes keep what a state keeps
+-- where a process made a space and came into it, or stayed where memory ran out, the processes keep what a state keeps
 pub enter_keeps : {T : Type 0} (r : Result T NoMemory) (ps : List Process) (at : ℕ) (old new : Process) (spaces after : Spaces) (made : Space)
     → Ascends ps → AllStand (length spaces) ps → at < length ps → old ≡ get_or ps at old → OrNoMemory r (λ _. new ≡ inside old (length spaces))
     → OrNoMemory r (λ _. after ≡ made ∷ spaces) → UnchangedOnErr r new old → UnchangedOnErr r after spaces
@@ -112,7 +112,7 @@ enter_keeps (Err why) ps at old new spaces after made up stand h is came grew st
     put_keeps ps at (length after) old new up (rw count stand) h is (ap (λ (p : Process). p.pid) still)
     (rw (place, count) (stands_at ps at (length spaces) old stand h is))
 
--- where one more process is in the newest space, or there is neither for want of memory, they are in spaces that stand
+-- where one more process is in the newest space, or neither is where memory runs out, they are in spaces that stand
 pub both_keep : {T : Type 0} (r : Result T NoMemory) (ps after : List Process) (child : Process) (spaces more : Spaces) (made : Space)
     → AllStand (length spaces) ps → child.space ≡ length spaces → OrNoMemory r (λ _. after ≡ insert_process child ps)
     → OrNoMemory r (λ _. more ≡ made ∷ spaces) → UnchangedOnErr r after ps → UnchangedOnErr r more spaces → AllStand (length more) after

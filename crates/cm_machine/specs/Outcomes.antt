@@ -28,7 +28,7 @@ pub record IsOwn (w : World) (s : State) (pid : ℕ) (call : Call) (answer : Res
   pub answers : answer ≡ (own w s caller call).res
   pub leads : after ≡ (own w s caller call).state
 
--- The call can want memory: it carries a list, or makes a process or a space. No other call takes any.
+-- The call can take memory: it carries a list, or makes a process or a space. No other call takes any.
 abbrev pub takes_memory : Call → Bool
 takes_memory (SetGroups ids) = true
 takes_memory Fork = true
@@ -38,7 +38,7 @@ takes_memory (WriteUidMap n given) = true
 takes_memory (WriteGidMap n given) = true
 takes_memory _ = false
 
--- the reason why a call isn't answered: no such process, no such space, or want of memory
+-- the reason why a call isn't answered: no such process, no such space, or out of memory
 abbrev pub IsNoAnswer : StepError → Type 0
 IsNoAnswer error.NoProcess = Unit {0}
 IsNoAnswer error.NoSpace = Unit {0}

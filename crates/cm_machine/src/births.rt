@@ -153,7 +153,7 @@ fn made_for(state: &State, at: usize) -> Space
     created_by(&state.spaces, p.space, &p.cred)
 }
 
-// One more process and one more space; for want of memory neither.
+// One more process and one more space; where memory runs out neither.
 fn add_both(
     procs: &mut Procs,
     spaces: &mut Spaces,

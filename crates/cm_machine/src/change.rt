@@ -43,7 +43,7 @@ pub(crate) enum Change {
 }
 
 /// Keeps what the process at this place has changed, and makes what is still to be made of it. Births and new spaces alone
-/// take memory; for want of it nothing has changed.
+/// take memory; where it runs out nothing has changed.
 #[inline]
 pub(crate) fn keep(
     alloc: Global,

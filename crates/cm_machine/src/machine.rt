@@ -29,7 +29,7 @@ pub struct Machine {
 
 impl Machine {
     /// The machine in a copy of the state that the world begins with (choice: a machine keeps its state beside the
-    /// world, which stays as it was declared). Its only error is want of memory.
+    /// world, which stays as it was declared). It fails only where memory runs out.
     pub fn new(alloc: Global, w: &World) -> Result<Machine, NoMemory>
         ensures { OrNoMemory result (λ m. m.state ≡ w.now.start) }
     {
@@ -91,9 +91,9 @@ impl Machine {
         Ok(res)
     }
 
-    /// The pids of the process and of all whose chain of forebears reaches it, ascending; none where it isn't alive. Its
-    /// only error is want of memory. A forebear is the nearest living ancestor, so that an exit takes no one else out of
-    /// the family (choice).
+    /// The pids of the process and of all whose chain of forebears reaches it, ascending; none where it isn't alive. It
+    /// fails only where memory runs out. A forebear is the nearest living ancestor, so that an exit takes no one else
+    /// out of the family (choice).
     pub fn family(&self, alloc: Global, root: Pid) -> Result<Vec<Pid>, NoMemory>
         ensures { OrNoMemory result (λ pids. pids.items ≡ family self.now.state root) }
     {

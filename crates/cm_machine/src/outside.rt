@@ -1,5 +1,5 @@
-// Errors that a call answers for causes outside the machine, as want of memory or a signal. The step changes nothing
-// then (choice; the calls' manual pages, "ERRORS").
+// Errors that a call answers for causes outside the machine, as memory that runs out, or a signal. The step changes
+// nothing then (choice; the calls' manual pages, "ERRORS").
 ghost use Rattle.std.specs.Prelude.{◌≡◌};
 ghost use Rattle.cm_base.specs.declared.res.FileRef.{FileRef};
 ghost use Rattle.cm_state.specs.Call.{call_of};

@@ -44,8 +44,8 @@ pub(crate) struct Asked {
     pub change: Change,
 }
 
-/// Asks the rules for the call of the process at this place, a birth with that pid for its child. Its only error is want
-/// of memory, of a call that can want it, which changes nothing.
+/// Asks the rules for the call of the process at this place, a birth with that pid for its child. It fails only where
+/// memory runs out, of a call that can take memory, and then changes nothing.
 #[inline]
 pub(crate) fn ask(
     alloc: Global,

@@ -32,7 +32,7 @@ pub struct Blamed {
 }
 
 /// What is blamed for a right that all closed covering bounds meet. Fewer than 2^31 spaces stand, and that of the right
-/// does. Its only error is want of memory.
+/// does. It fails only where memory runs out.
 pub fn blame(
     alloc: Global,
     st: &State,

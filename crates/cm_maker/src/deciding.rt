@@ -21,7 +21,8 @@ pub enum Bounded {
     Blames(Blamed),
 }
 
-/// Which of the two it is. Fewer than 2^31 spaces stand, and that of the right does. Its only error is want of memory.
+/// Which of the two it is. Fewer than 2^31 spaces stand, and that of the right does. It fails only where memory runs
+/// out.
 pub fn decide(
     alloc: Global,
     st: &State,

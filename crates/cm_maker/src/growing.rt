@@ -16,8 +16,8 @@ use cm_state::{State, see_state};
 use std::alloc::Global;
 
 /// The least bounds that are closed under the filter and cover the members now: they are within all others, of whatever
-/// form. Found by rounds, in place, from the start bounds on. Fewer than 2^31 spaces stand. Its only error is want of
-/// memory.
+/// form. Found by rounds, in place, from the start bounds on. Fewer than 2^31 spaces stand. It fails only where memory
+/// runs out.
 pub fn least(
     alloc: Global,
     st: &State,

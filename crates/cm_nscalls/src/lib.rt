@@ -1,6 +1,6 @@
 //! The calls of user namespaces, called spaces here (user_namespaces(7), unshare(2), setns(2)): a process makes or joins
-//! one, and writes its maps and its setgroups word. A refused call and want of memory leave all as it was. Each call is
-//! also given in its two parts: whether it is refused, which changes nothing, and the change.
+//! one, and writes its maps and its setgroups word. A call that is refused, or runs out of memory, leaves all as it
+//! was. Each call is also given in its two parts: whether it is refused, which changes nothing, and the change.
 #![tactic(auto)]
 
 mod file;

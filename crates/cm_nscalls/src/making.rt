@@ -32,7 +32,7 @@ pub fn may_make(c: &Cred, spaces: &Spaces, at: SpaceId) -> Result<(), Errno>
 }
 
 /// unshare(2) with CLONE_NEWUSER by a process in the space `at`: `Done`, and it has come into the new space, which is the
-/// last; or the refusal of `may_make`. A refusal and want of memory leave credential and spaces as they were.
+/// last; or the refusal of `may_make`. Where it is refused or memory runs out, credential and spaces are as they were.
 pub fn new_space(c: &mut Cred, spaces: &mut Spaces, at: SpaceId) -> Result<Res, NoMemory>
     requires stands { at.0 < length spaces.old }
     requires room { length spaces.old < greatest_number }

@@ -17,8 +17,8 @@ use cm_state::{Cred, Spaces};
 use std::alloc::Global;
 
 /// A process in the space `at` writes the uid_map of the target: `Done`; or `EPERM` where it may not write to it, `EINVAL`
-/// for a list that is no map, `EPERM` where it may not map these ids (the order is a choice). A refusal and want of memory
-/// leave the spaces as they were.
+/// for a list that is no map, `EPERM` where it may not map these ids (the order is a choice). Where it is refused or
+/// memory runs out, the spaces are as they were.
 pub fn write_uid_map(
     alloc: Global,
     c: &Cred,
@@ -88,7 +88,7 @@ fn write_map(
 }
 
 /// What the write of the list stores: the map; or `EPERM` where the process may not write to it, `EINVAL` for a list that
-/// is no map, `EPERM` where it may not map these ids (the order is a choice). Its only other error is want of memory.
+/// is no map, `EPERM` where it may not map these ids (the order is a choice). Else it fails only where memory runs out.
 pub fn map_to_store(
     alloc: Global,
     w: Write,

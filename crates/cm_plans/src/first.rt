@@ -35,7 +35,7 @@ impl Model for Found {
 }
 
 /// The run of the first plan of the list after which a member holds the right; None exactly where no plan ends so. A
-/// space that the right names need not stand. Its only error is want of memory.
+/// space that the right names need not stand. It fails only where memory runs out.
 pub fn first_run(
     alloc: Global,
     w: &World,
@@ -56,7 +56,7 @@ pub fn first_run(
 }
 
 /// The run of the first plan of the list after which a member holds the right, and the first such member; None exactly
-/// where no plan ends so. A space that the right names need not stand. Its only error is want of memory.
+/// where no plan ends so. A space that the right names need not stand. It fails only where memory runs out.
 pub fn first_found(
     alloc: Global,
     w: &World,

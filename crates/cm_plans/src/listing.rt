@@ -43,8 +43,8 @@ impl<'a> Plans<'a> {
     ghost use Rattle.cm_plans.specs.PlansLeft.{later, run_next};
     ghost use Rattle.model_cred.specs.Call.{Event};
 
-    /// The run of the next plan, which is then left out; None exactly where no plan is left. Its only error is want of
-    /// memory, which leaves the plans as they were, so that the next call tries the same plan again.
+    /// The run of the next plan, which is then left out; None exactly where no plan is left. It fails only where memory
+    /// runs out, and then leaves the plans as they were, so that the next call tries the same plan again.
     pub fn next_run(&mut self, alloc: Global) -> Result<Option<Vec<Event>>, NoMemory>
         ensures run { OrNoMemory result (λ run. option_map (λ (r : Vec Event Global). r.items) run
             ≡ run_next self.old.world self.old.state self.old.right self.old.left) }

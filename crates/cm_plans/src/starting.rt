@@ -16,7 +16,7 @@ use cm_state::Right;
 use std::alloc::Global;
 
 /// The whole list of plans that the members have in the machine's state, none of them given yet. A space that the right
-/// names need not stand. Its only error is want of memory.
+/// names need not stand. It fails only where memory runs out.
 pub fn plans<'a>(
     alloc: Global,
     w: &'a World,

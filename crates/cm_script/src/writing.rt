@@ -18,8 +18,8 @@ use cm_state::{Call, Event};
 use cm_tokens::{put, put_decimal, put_hex16, put_id};
 use std::alloc::Global;
 
-/// The event as a script line, without LF: a space by its name in the world, a file by its path there. Its only error is want
-/// of memory.
+/// The event as a script line, without LF: a space by its name in the world, a file by its path there. It fails only
+/// where memory runs out.
 pub fn write_line(alloc: Global, event: &Event, w: &World) -> Result<Vec<u8>, NoMemory>
     ensures { OrNoMemory result (λ text. text.items ≡ event_text (world_of w.now) event.now) }
 {
@@ -28,7 +28,7 @@ pub fn write_line(alloc: Global, event: &Event, w: &World) -> Result<Vec<u8>, No
     Ok(text)
 }
 
-/// The same at the end of a text. Its only error is want of memory.
+/// The same at the end of a text. It fails only where memory runs out.
 #[tactic(auto, unfolding(model_text::specs::Print::event_text))]
 pub fn put_line(text: &mut Vec<u8>, event: &Event, w: &World) -> Result<(), NoMemory>
     ensures { OrNoMemory result (λ _. text.new.items ≡ text.old.items ++ event_text (world_of w.now) event.now) }

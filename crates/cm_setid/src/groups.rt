@@ -18,7 +18,8 @@ const MOST_GROUPS: usize = 65_536;
 
 /// setgroups(2) in the caller's space: `Done`, and the groups are the set of what the ids are mapped to; or `EPERM`
 /// without CAP_SETGID, a written map of group ids and the word "allow"; or then `EINVAL` for more than 65,536 ids, or
-/// for one without a mapping (the order is a choice). A refusal and want of memory leave the credential as it was.
+/// for one without a mapping (the order is a choice). Where it is refused or memory runs out, the credential is as it
+/// was.
 pub fn set_groups(alloc: Global, c: &mut Cred, s: &Space, ids: &[u32]) -> Result<Res, NoMemory>
     ensures res { OrNoMemory result (λ r. r ≡ (setgroups s.now c.old ids.now).res) }
     ensures cred { OrNoMemory result (λ _. c.new ≡ (setgroups s.now c.old ids.now).cred) }

@@ -25,11 +25,11 @@ pub trait SetLike: Sized {
     fn holds(&self, x: &Self::Item) -> bool
         ensures { IsTrue result ↔ has self.now (number x.now) };
 
-    /// The union: what is in the one or in the other. Its only error is want of memory.
+    /// The union: what is in the one or in the other. It fails only where memory runs out.
     fn join(&self, alloc: Global, other: &Self) -> Result<Self, NoMemory>
         ensures { OrNoMemory result (λ s. AreSame (has s) (InEither (has self.now) (has other.now))) };
 
-    /// The intersection: what is in both. Its only error is want of memory.
+    /// The intersection: what is in both. It fails only where memory runs out.
     fn meet(&self, alloc: Global, other: &Self) -> Result<Self, NoMemory>
         ensures { OrNoMemory result (λ s. AreSame (has s) (InBoth (has self.now) (has other.now))) };
 

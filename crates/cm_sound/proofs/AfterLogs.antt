@@ -23,7 +23,7 @@ fit_after_log text w reads log s run =
     let state : KeepsState s = world_run_keeps w log s keeps run in
     record { state = fits_starts s (state_fits s state); files = run_fits w keeps log s run }
 
--- So it is at the log's begin.
+-- So it is at the log's beginning.
 pub mounts_at_start : (text : List ℕ) (w : World) (s : State) → world_text text ≡ Reads w → s ≡ w.start → MountsStand w s
 mounts_at_start text w s reads same = rw same (start_keeps text w reads).mounts
 

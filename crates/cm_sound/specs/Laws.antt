@@ -33,7 +33,7 @@ MountsStandAfterLog =
     (text : List ℕ) (w : World) → world_text text ≡ Reads w → (log : List Event) (s : State) → Run w w.start log s
     → MountsStand w s
 
--- Few enough spaces stand at the log's begin.
+-- Few enough spaces stand at the log's beginning.
 unfoldable pub FewAtStart : Type 0
 FewAtStart = (text : List ℕ) (w : World) → world_text text ≡ Reads w → length w.start.spaces < 2 ^ 31
 

@@ -19,7 +19,7 @@ pub fn mounts_stand_after_logs()
     ensures { MountsStandAfterLog }
 {}
 
-/// Few enough spaces stand at the begin of each log. (A replay goes no further than the limit of spaces.)
+/// Few enough spaces stand at the beginning of each log. (A replay goes no further than the limit of spaces.)
 #[tactic(auto, using(crate::proofs::AfterLogs::few_at_start))]
 pub fn read_worlds_have_few_spaces()
     ensures { FewAtStart }

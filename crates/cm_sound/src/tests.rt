@@ -62,7 +62,7 @@ fn bounds(alloc: Global, row: BoxRow) -> Result<Bounds, NoMemory>
     })
 }
 
-// The machine at the begin of a log, and its world.
+// The machine at the beginning of a log, and its world.
 #[derive(Drop)]
 pub(crate) struct Setup {
     pub(crate) w: World,

@@ -55,7 +55,7 @@ impl Cred {
     ghost use Rattle.cm_base.specs.Outcome.{OrNoMemory};
     ghost use Rattle.model_rules.specs.CapCalls.{without_keep_caps};
 
-    /// The same credentials. Its only error is want of memory.
+    /// The same credentials. It fails only where memory runs out.
     pub fn copy(&self, alloc: Global) -> Result<Cred, NoMemory>
         ensures { OrNoMemory result (λ c. c ≡ self.now) }
     {

@@ -54,8 +54,8 @@ impl Groups {
         }
     }
 
-    /// The set of just the ids of the list, in whatever order they stand there and however often. Its only error is
-    /// want of memory.
+    /// The set of just the ids of the list, in whatever order they stand there and however often. It fails only where
+    /// memory runs out.
     pub fn make(alloc: Global, list: &[Kgid]) -> Result<Groups, NoMemory>
         ensures { OrNoMemory result (λ g. g ≡ id_set list.now) }
     {
@@ -64,7 +64,7 @@ impl Groups {
         Ok(Groups { items })
     }
 
-    /// The same groups. Its only error is want of memory.
+    /// The same groups. It fails only where memory runs out.
     pub fn copy(&self, alloc: Global) -> Result<Groups, NoMemory>
         ensures { OrNoMemory result (λ g. g ≡ self.now) }
     {

@@ -26,7 +26,7 @@ impl Proc {
     ghost use Rattle.std.specs.Prelude.{◌≡◌};
     ghost use Rattle.cm_base.specs.Outcome.{OrNoMemory};
 
-    /// The same process. Its only error is want of memory.
+    /// The same process. It fails only where memory runs out.
     pub fn copy(&self, alloc: Global) -> Result<Proc, NoMemory>
         ensures { OrNoMemory result (λ p. p ≡ self.now) }
     {

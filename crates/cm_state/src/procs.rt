@@ -41,7 +41,7 @@ impl Procs {
         &self.list
     }
 
-    /// The same processes. Its only error is want of memory.
+    /// The same processes. It fails only where memory runs out.
     pub fn copy(&self, alloc: Global) -> Result<Procs, NoMemory>
         ensures { OrNoMemory result (λ procs. procs ≡ self.now) }
     {
@@ -64,8 +64,8 @@ impl Procs {
         }
     }
 
-    /// Puts one more process in its place, where the pids ascend and none is its own. Its only error is want of memory,
-    /// which leaves the processes as they were.
+    /// Puts one more process in its place, where the pids ascend and none is its own. It fails only where memory runs
+    /// out, and then leaves the processes as they were.
     pub fn insert(&mut self, p: Proc) -> Result<(), NoMemory>
         requires ascends { Ascends self.old }
         requires fresh { is_alive self.old p.pid ≡ false }

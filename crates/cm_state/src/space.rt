@@ -41,8 +41,8 @@ impl Model for Space {
 impl Space {
     ghost use Rattle.model_cred.specs.Space.{initial_space};
 
-    /// The initial space: no parent, owner 0, both maps taking each id to itself, setgroups allowed. Its only error is
-    /// want of memory.
+    /// The initial space: no parent, owner 0, both maps taking each id to itself, setgroups allowed. It fails only
+    /// where memory runs out.
     pub fn initial(alloc: Global) -> Result<Space, NoMemory>
         ensures { OrNoMemory result (λ s. s ≡ initial_space) }
     {
@@ -57,7 +57,7 @@ impl Space {
             creator_setfcap: false,
         })
     }
-    /// The same space. Its only error is want of memory.
+    /// The same space. It fails only where memory runs out.
     pub fn copy(&self, alloc: Global) -> Result<Space, NoMemory>
         ensures { OrNoMemory result (λ s. s ≡ self.now) }
     {

@@ -32,7 +32,7 @@ impl Model for Spaces {
 }
 
 impl Spaces {
-    /// The initial space alone. Its only error is want of memory.
+    /// The initial space alone. It fails only where memory runs out.
     pub fn first(alloc: Global) -> Result<Spaces, NoMemory>
         ensures { OrNoMemory result (λ spaces. spaces ≡ first_spaces) }
     {
@@ -78,8 +78,8 @@ impl Spaces {
         self.list.len() as u32
     }
 
-    /// Adds a space whose parent stands, and gives its number. Its only error is want of memory, which leaves the spaces
-    /// as they were.
+    /// Adds a space whose parent stands, and gives its number. It fails only where memory runs out, and then leaves the
+    /// spaces as they were.
     pub fn add(&mut self, s: Space) -> Result<SpaceId, NoMemory>
         requires parent { IsSomeAnd s.parent (λ p. p < length self.old) }
         requires room { length self.old < greatest_number }
@@ -133,7 +133,7 @@ impl Spaces {
         see_spaces(&self.list);
     }
 
-    /// The same spaces. Its only error is want of memory.
+    /// The same spaces. It fails only where memory runs out.
     pub fn copy(&self, alloc: Global) -> Result<Spaces, NoMemory>
         ensures { OrNoMemory result (λ spaces. spaces ≡ self.now) }
     {

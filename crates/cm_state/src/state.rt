@@ -29,7 +29,7 @@ impl Model for State {
 impl State {
     ghost use Rattle.cm_base.specs.Outcome.{OrNoMemory};
 
-    /// The same state. Its only error is want of memory.
+    /// The same state. It fails only where memory runs out.
     pub fn copy(&self, alloc: Global) -> Result<State, NoMemory>
         ensures { OrNoMemory result (λ s. s ≡ self.now) }
     {

@@ -278,7 +278,7 @@ pub resumed_turn : (pid : ℕ) (d : Deed) (told : Told) (new old : Parts) → de
 resumed_turn pid d told new old is =
     deed_without pid d new ∙ ap (changed (without_kept pid)) is ∙ sym (told_without pid pid told old)
 
--- the rest of a call whose begin is kept is the whole call
+-- the rest of a call whose beginning is kept is the whole call
 pub resumes_begun : (w : World) (pid : ℕ) (name rest : List ℕ) (kept : Option (List ℕ)) (text : List ℕ) (p : Parts)
     → begun_text name rest kept ≡ Some text
     → resumes w pid name rest kept p ≡ told_turn pid (call_told w pid text) (without_kept pid p)
@@ -292,7 +292,7 @@ resumes_begun w pid name rest (Some kept) text p is =
       | false ↦ λ h. absurd (cc)
     ]) is
 
--- one whose begin isn't kept is a fault
+-- one whose beginning isn't kept is a fault
 pub resumes_not_begun : (w : World) (pid : ℕ) (name rest : List ℕ) (kept : Option (List ℕ)) (p : Parts)
     → begun_text name rest kept ≡ None
     → resumes w pid name rest kept p ≡ Refused fault.Unfinished

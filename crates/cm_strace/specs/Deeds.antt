@@ -49,7 +49,7 @@ abbrev pub IsAct : Deed → Type 0
 IsAct (deed.Acts act) = Unit {0}
 IsAct _ = ⊥
 
--- the text of a call of that name whose begin is kept, with its rest
+-- the text of a call of that name whose beginning is kept, with its rest
 abbrev pub begun_text : List ℕ → List ℕ → Option (List ℕ) → Option (List ℕ)
 begun_text name rest None = None
 begun_text name rest (Some kept) = if bytes_eq (call_name kept) (without_32 name) then Some (kept ++ rest) else None

@@ -23,7 +23,8 @@ use cm_state::{Call, Event};
 use cm_strace_parts::Parts;
 use std::alloc::Global;
 
-/// A step is done. Its only error is want of memory, which comes with acts alone, and leaves the parts as they were.
+/// A step is done. It fails only where memory runs out, which can be with acts alone, and then leaves the parts as they
+/// were.
 pub(crate) fn conclude(
     alloc: Global,
     parts: &mut Parts,
@@ -117,7 +118,7 @@ fn has_too_many(parts: &Parts) -> bool
 }
 
 // What is known after a call: unshare and setns move the process to another user namespace, execve closes
-// descriptors. Its only error is want of memory, which leaves the parts as they were.
+// descriptors. It fails only where memory runs out, and then leaves the parts as they were.
 fn change(
     alloc: Global,
     parts: &mut Parts,
@@ -157,7 +158,7 @@ fn change_done(alloc: Global, parts: &mut Parts, pid: Pid, call: &Call) -> Resul
     }
 }
 
-// A birth. Its only error is want of memory, which leaves the parts as they were.
+// A birth. It fails only where memory runs out, and then leaves the parts as they were.
 fn bear(
     alloc: Global,
     parts: &mut Parts,

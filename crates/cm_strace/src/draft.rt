@@ -27,7 +27,8 @@ pub(crate) struct Draft<'a> {
 }
 
 impl<'a> Draft<'a> {
-    /// The step of a line is done, and after it the held lines of a child are read. Its only error is want of memory.
+    /// The step of a line is done, and after it the held lines of a child are read. It fails only where memory runs
+    /// out.
     pub(crate) fn read_on(
         &mut self,
         alloc: Global,

@@ -15,7 +15,7 @@ use cm_declared::World;
 use cm_strace_parts::Parts;
 use std::alloc::Global;
 
-/// What the log's end gives. Its only error is want of memory.
+/// What the log's end gives. It fails only where memory runs out.
 pub(crate) fn read_end(alloc: Global, w: &World, t: &Work) -> Result<Fed, NoMemory>
     requires { t.now.parts.spaces + length t.now.held ≤ greatest_number }
     ensures { OrNoMemory result (λ fed. fed ≡ work_end (world_of w.now) t.now) }

@@ -38,7 +38,7 @@ impl Model for Line {
 }
 
 impl Line {
-    // The line of that number. Its only error is want of memory.
+    // The line of that number. It fails only where memory runs out.
     pub(crate) fn new(alloc: Global, number: u64, pid: Pid, body: &[u8]) -> Result<Line, NoMemory>
         ensures { OrNoMemory result (λ l. l ≡ record { number = number; pid = pid; body = body.now }) }
     {
@@ -63,7 +63,7 @@ impl Line {
         }
     }
 
-    // The line is read. Its only error is want of memory.
+    // The line is read. It fails only where memory runs out.
     pub(crate) fn read(
         &self,
         alloc: Global,

@@ -20,7 +20,7 @@ use cm_strace_text::{Quote, read_quote};
 use cm_strace_values::{Named, file_at, relative_file};
 use std::alloc::Global;
 
-/// A path is opened as that descriptor. Its only error is want of memory, which leaves the parts as they were.
+/// A path is opened as that descriptor. It fails only where memory runs out, and then leaves the parts as they were.
 pub(crate) fn opens(
     alloc: Global,
     parts: &mut Parts,

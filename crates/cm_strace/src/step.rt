@@ -61,7 +61,7 @@ fn hear_whole(text: &[u8]) -> Heard<'_>
     }
 }
 
-/// What a line of a process does. Its only error is want of memory, which leaves the parts as they were.
+/// What a line of a process does. It fails only where memory runs out, and then leaves the parts as they were.
 pub(crate) fn read_step(
     alloc: Global,
     w: &World,
@@ -78,7 +78,7 @@ pub(crate) fn read_step(
     heard_step(alloc, w, parts, pid, hear(read_body(body)))
 }
 
-/// What a body of a process does. Its only error is want of memory, which leaves the parts as they were.
+/// What a body of a process does. It fails only where memory runs out, and then leaves the parts as they were.
 pub(crate) fn heard_step(
     alloc: Global,
     w: &World,
@@ -113,7 +113,7 @@ fn plain(deed: Deed) -> Step
     }
 }
 
-// A call whose begin is this text, unless another one of the process isn't finished.
+// A call whose beginning is this text, unless another one of the process isn't finished.
 fn begin(alloc: Global, parts: &mut Parts, pid: Pid, text: &[u8]) -> Result<Step, NoMemory>
     ensures turn { OrNoMemory result (λ step. step_is pid step parts.new
         ≡ begins pid text.now (kept_of pid parts.old) parts.old) }
@@ -148,7 +148,7 @@ fn whole(
     Ok(plain(deed))
 }
 
-// The rest of a call of that name, whose begin is kept.
+// The rest of a call of that name, whose beginning is kept.
 fn resume(
     alloc: Global,
     w: &World,
@@ -175,7 +175,7 @@ fn resume(
     }
 }
 
-// The call of that name whose begin is kept isn't read, whatever its rest is.
+// The call of that name whose beginning is kept isn't read, whatever its rest is.
 fn is_unread(parts: &Parts, pid: Pid, name: &[u8]) -> bool
     ensures { IsTrue result → (w : model.World) (rest : List ℕ) (p : known.Parts)
         → resumes w pid name.now rest (kept_of pid parts.now) p ≡ Quiet (without_kept pid p) }
@@ -186,7 +186,7 @@ fn is_unread(parts: &Parts, pid: Pid, name: &[u8]) -> bool
     }
 }
 
-// The same of that begin.
+// The same of that beginning.
 #[tactic(auto, using(crate::proofs::Quiet::unread_resumed))]
 fn begins_unread(kept: &[u8], name: &[u8]) -> bool
     ensures { IsTrue result → (w : model.World) (pid : ℕ) (rest : List ℕ) (p : known.Parts)
@@ -195,7 +195,7 @@ fn begins_unread(kept: &[u8], name: &[u8]) -> bool
     ends_name(kept) && named_call(kept).is_none() && call_name(kept) == without_32(name)
 }
 
-// The text of a call of that name whose begin is kept, with its rest.
+// The text of a call of that name whose beginning is kept, with its rest.
 fn begun(
     alloc: Global,
     parts: &Parts,
@@ -226,7 +226,7 @@ fn joined(alloc: Global, front: &[u8], back: &[u8]) -> Result<Vec<u8>, NoMemory>
     Ok(text)
 }
 
-// A whole call whose begin was kept, and is kept until its deed is done.
+// A whole call whose beginning was kept, and is kept until its deed is done.
 fn whole_resumed(
     alloc: Global,
     w: &World,

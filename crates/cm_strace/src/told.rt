@@ -20,7 +20,7 @@ use cm_strace_parts::{Descriptor, Parts};
 use cm_strace_values::{Outcome, has_flag};
 use std::alloc::Global;
 
-/// What a call that is told does. Its only error is want of memory, which leaves the parts as they were.
+/// What a call that is told does. It fails only where memory runs out, and then leaves the parts as they were.
 pub(crate) fn take(
     alloc: Global,
     parts: &mut Parts,
@@ -157,8 +157,8 @@ fn copies(parts: &Parts, pid: Pid, number: u32) -> Deed
     }
 }
 
-// A copy that takes the place of another descriptor. Its only error is want of memory, which leaves the parts as they
-// were.
+// A copy that takes the place of another descriptor. It fails only where memory runs out, and then leaves the parts as
+// they were.
 fn copies_to(
     alloc: Global,
     parts: &mut Parts,

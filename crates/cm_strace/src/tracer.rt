@@ -42,7 +42,7 @@ impl Model for Tracer {
 }
 
 impl Tracer {
-    /// The session of a world before any line. Its only error is want of memory.
+    /// The session of a world before any line. It fails only where memory runs out.
     pub fn new(alloc: Global, w: &World) -> Result<Tracer, NoMemory>
         requires { length w.now.start.spaces < 2 ^ 31 }
         ensures first { OrNoMemory result (λ t. t ≡ first_session (world_of w.now)) }
@@ -75,8 +75,8 @@ impl Tracer {
     }
 
     /// A line comes, without its LF: its events, those of the held lines that come after a birth, and the stop where
-    /// there is one. The events are all that the caller's list holds then. Its only error is want of memory, which
-    /// leaves the session as it was.
+    /// there is one. The events are all that the caller's list holds then. It fails only where memory runs out, and
+    /// then leaves the session as it was.
     pub fn feed_line(
         &mut self,
         alloc: Global,
@@ -107,8 +107,8 @@ impl Tracer {
         }
     }
 
-    /// The log ends: what the held lines still give. Its only error is want of memory, which leaves the session as
-    /// it was.
+    /// The log ends: what the held lines still give. It fails only where memory runs out, and then leaves the session
+    /// as it was.
     pub fn finish(&mut self, alloc: Global, w: &World) -> Result<Fed, NoMemory>
         ensures told { OrNoMemory result (λ fed. fed ≡ rest (world_of w.now) self.old []) }
         ensures after { OrNoMemory result (λ _. self.new ≡ after_finish (world_of w.now) self.old) }

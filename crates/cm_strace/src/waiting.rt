@@ -39,7 +39,7 @@ impl<'a> Model for Waiting<'a> {
 }
 
 impl<'a> Waiting<'a> {
-    /// All of these lines are left. Its only error is want of memory.
+    /// All of these lines are left. It fails only where memory runs out.
     pub(crate) fn new(alloc: Global, lines: &'a [Line]) -> Result<Waiting<'a>, NoMemory>
         ensures { OrNoMemory result (λ t. t ≡ record { all = lines.now; left = lines.now; pids = [] }) }
     {
@@ -51,7 +51,7 @@ impl<'a> Waiting<'a> {
         })
     }
 
-    /// The lines of a child that was born come before all others. Its only error is want of memory.
+    /// The lines of a child that was born come before all others. It fails only where memory runs out.
     pub(crate) fn put(&mut self, born: Option<Pid>) -> Result<(), NoMemory>
         ensures { OrNoMemory result (λ _. self.new ≡ record self.old { pids = born_is born ++ self.old.pids }) }
     {

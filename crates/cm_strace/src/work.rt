@@ -46,7 +46,7 @@ impl Model for Work {
 }
 
 impl Work {
-    /// The session of a world before any line. Its only error is want of memory.
+    /// The session of a world before any line. It fails only where memory runs out.
     pub(crate) fn first(alloc: Global, w: &World) -> Result<Work, NoMemory>
         ensures { OrNoMemory result (λ t. t ≡ first_work (world_of w.now)) }
     {
@@ -58,7 +58,7 @@ impl Work {
         })
     }
 
-    // The same, with its held lines where they stand. Its only error is want of memory.
+    // The same, with its held lines where they stand. It fails only where memory runs out.
     fn draft(&self, alloc: Global) -> Result<Draft<'_>, NoMemory>
         ensures same { OrNoMemory result (λ draft. work_of draft ≡ self.now) }
         ensures all { OrNoMemory result (λ draft. draft.waiting.all ≡ self.now.held) }
@@ -95,7 +95,7 @@ impl Work {
         self.count = count;
     }
 
-    /// A line comes. Its only error is want of memory, which leaves the session as it was.
+    /// A line comes. It fails only where memory runs out, and then leaves the session as it was.
     pub(crate) fn feed(
         &mut self,
         alloc: Global,
@@ -184,7 +184,7 @@ impl Work {
         self.count += 1;
     }
 
-    // What the line does to the parts. Its only error is want of memory, which leaves them as they were.
+    // What the line does to the parts. It fails only where memory runs out, and then leaves them as they were.
     fn step(
         &mut self,
         alloc: Global,

@@ -18,8 +18,8 @@ use cm_strace_text::{Quote, next_argument, read_quote};
 use cm_strace_values::{Followed, Outcome};
 use std::alloc::Global;
 
-/// A write to that descriptor, of the text that is the first of the arguments that are left. Its only error is want of
-/// memory.
+/// A write to that descriptor, of the text that is the first of the arguments that are left. It fails only where memory
+/// runs out.
 pub(crate) fn writes(
     alloc: Global,
     parts: &Parts,

@@ -85,7 +85,7 @@ impl Numbered for Fd {
     }
 }
 
-// The same descriptors. Its only error is want of memory.
+// The same descriptors. It fails only where memory runs out.
 pub(crate) fn copy_list(alloc: Global, list: &[Fd]) -> Result<Vec<Fd>, NoMemory>
     ensures { OrNoMemory result (λ made. made.items ≡ list.now) }
 {
@@ -110,7 +110,7 @@ pub(crate) fn any_until_exec(list: &[Fd]) -> bool
     list.iter().any(|fd| fd.until_exec)
 }
 
-// Copies of descriptors, each in its place. Its only error is want of memory.
+// Copies of descriptors, each in its place. It fails only where memory runs out.
 pub(crate) fn put_all(list: &mut Vec<Fd>, news: &[Fd]) -> Result<(), NoMemory>
     requires { Ascends fd_before list.old.items }
     ensures items { OrNoMemory result (λ _. list.new.items ≡ put_all fd_before news.now list.old.items) }

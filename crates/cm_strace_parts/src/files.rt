@@ -41,7 +41,7 @@ impl Model for Files {
 // ---- those of a process
 
 impl Files {
-    // One descriptor of a process. Its only error is want of memory.
+    // One descriptor of a process. It fails only where memory runs out.
     fn one(alloc: Global, pid: Pid, new: Fd) -> Result<Files, NoMemory>
         ensures { OrNoMemory result (λ f. f ≡ record { pid = pid; fds = new ∷ [] }) }
     {
@@ -59,7 +59,7 @@ impl Files {
         Files { pid, len, fds }
     }
 
-    // The same, with the same list. Its only error is want of memory.
+    // The same, with the same list. It fails only where memory runs out.
     fn copy(&self) -> Result<Files, NoMemory>
         ensures { OrNoMemory result (λ f. f ≡ self.now) }
     {
@@ -71,7 +71,7 @@ impl Files {
         })
     }
 
-    // The list, shared. Its only error is want of memory.
+    // The list, shared. It fails only where memory runs out.
     fn share(&self) -> Result<Rc<Vec<Fd>>, NoMemory>
         ensures { OrNoMemory result (λ fds. fds.value.items ≡ self.now.fds) }
     {
@@ -92,8 +92,8 @@ impl Files {
         &self.fds
     }
 
-    // The descriptor in its place, instead of that of its number. Its only error is want of memory, which leaves all
-    // as it was.
+    // The descriptor in its place, instead of that of its number. It fails only where memory runs out, and then leaves
+    // all as it was.
     fn put(&mut self, alloc: Global, new: Fd) -> Result<(), NoMemory>
         requires { Ascends fd_before self.old.fds }
         ensures items { OrNoMemory result (λ _. self.new ≡ record self.old { fds = put fd_before new self.old.fds }) }
@@ -111,8 +111,8 @@ impl Files {
         Ok(())
     }
 
-    // Copies of descriptors, each in its place: their list where there are no other ones. Its only error is want of
-    // memory, which leaves all as it was.
+    // Copies of descriptors, each in its place: their list where there are no other ones. It fails only where memory
+    // runs out, and then leaves all as it was.
     fn put_all(&mut self, alloc: Global, news: Rc<Vec<Fd>>) -> Result<(), NoMemory>
         requires ascends { Ascends fd_before self.old.fds }
         requires up { Ascends fd_before news.value.items }
@@ -133,7 +133,7 @@ impl Files {
         Ok(())
     }
 
-    // That descriptor isn't followed any more. Its only error is want of memory, which leaves all as it was.
+    // That descriptor isn't followed any more. It fails only where memory runs out, and then leaves all as it was.
     fn forget(&mut self, alloc: Global, number: u64) -> Result<(), NoMemory>
         requires { Ascends fd_before self.old.fds }
         ensures items { OrNoMemory result (λ _. self.new
@@ -155,7 +155,7 @@ impl Files {
         Ok(())
     }
 
-    // What an execve leaves. Its only error is want of memory, which leaves all as it was.
+    // What an execve leaves. It fails only where memory runs out, and then leaves all as it was.
     fn execute(&mut self, alloc: Global) -> Result<(), NoMemory>
         ensures items { OrNoMemory result (λ _. self.new
             ≡ record self.old { fds = filter (λ fd. not fd.until_exec) self.old.fds }) }
@@ -187,7 +187,7 @@ impl Numbered for Files {
 
 // ---- those of all processes
 
-// The same, with the same lists. Its only error is want of memory.
+// The same, with the same lists. It fails only where memory runs out.
 pub(crate) fn copy_list(alloc: Global, list: &[Files]) -> Result<Vec<Files>, NoMemory>
     ensures { OrNoMemory result (λ made. made.items ≡ list.now) }
 {
@@ -255,8 +255,8 @@ pub(crate) fn count(list: &[Files]) -> u128
     sum
 }
 
-// The descriptor is followed, in the place of any of its number. Its only error is want of memory, which leaves all
-// as it was.
+// The descriptor is followed, in the place of any of its number. It fails only where memory runs out, and then leaves
+// all as it was.
 pub(crate) fn follow(list: &mut Vec<Files>, alloc: Global, new: &Descriptor) -> Result<(), NoMemory>
     requires { ListsInOrder list.old.items }
     ensures items { OrNoMemory result (λ _. descriptors_in list.new.items
@@ -268,8 +268,8 @@ pub(crate) fn follow(list: &mut Vec<Files>, alloc: Global, new: &Descriptor) -> 
     Ok(())
 }
 
-// The descriptor in its place among those of the process. Its only error is want of memory, which leaves all as it
-// was.
+// The descriptor in its place among those of the process. It fails only where memory runs out, and then leaves all as
+// it was.
 fn put_fd(list: &mut Vec<Files>, alloc: Global, pid: Pid, new: Fd) -> Result<(), NoMemory>
     requires { ListsInOrder list.old.items }
     ensures items { OrNoMemory result (λ _. list.new.items ≡ put files_before
@@ -286,7 +286,7 @@ fn put_fd(list: &mut Vec<Files>, alloc: Global, pid: Pid, new: Fd) -> Result<(),
     Ok(())
 }
 
-// A child has copies of its parent's descriptors. Its only error is want of memory, which leaves all as it was.
+// A child has copies of its parent's descriptors. It fails only where memory runs out, and then leaves all as it was.
 pub(crate) fn bear(
     list: &mut Vec<Files>,
     alloc: Global,
@@ -332,8 +332,8 @@ pub(crate) fn bear_unless(
     bear(list, alloc, parent, child)
 }
 
-// Copies of descriptors in their places among those of the process. Its only error is want of memory, which leaves
-// all as it was.
+// Copies of descriptors in their places among those of the process. It fails only where memory runs out, and then
+// leaves all as it was.
 fn put_fds(
     list: &mut Vec<Files>,
     alloc: Global,
@@ -355,7 +355,7 @@ fn put_fds(
     Ok(())
 }
 
-// That descriptor isn't followed any more. Its only error is want of memory, which leaves all as it was.
+// That descriptor isn't followed any more. It fails only where memory runs out, and then leaves all as it was.
 pub(crate) fn forget(
     list: &mut Vec<Files>,
     alloc: Global,
@@ -376,7 +376,7 @@ pub(crate) fn forget(
     Ok(())
 }
 
-// What an execve of the process leaves. Its only error is want of memory, which leaves all as it was.
+// What an execve of the process leaves. It fails only where memory runs out, and then leaves all as it was.
 pub(crate) fn execute(list: &mut Vec<Files>, alloc: Global, pid: Pid) -> Result<(), NoMemory>
     requires { ListsInOrder list.old.items }
     ensures items { OrNoMemory result (λ _. descriptors_in list.new.items

@@ -1,4 +1,4 @@
-// The begins of calls that aren't finished, by ascending pids of their processes.
+// The beginnings of calls that aren't finished, by ascending pids of their processes.
 ghost use Rattle.std.specs.Prelude.{◌≡◌};
 ghost use Rattle.cm_base.specs.Outcome.{OrNoMemory};
 
@@ -8,7 +8,7 @@ use std::alloc::Global;
 use std::marker::Model;
 use std::rc::Rc;
 
-/// The begin of a call of a process that isn't finished. A copy shares its text.
+/// The beginning of a call of a process that isn't finished. A copy shares its text.
 #[derive(Debug, Drop)]
 pub struct Kept {
     pid: Pid,
@@ -24,7 +24,7 @@ impl Model for Kept {
 }
 
 impl Kept {
-    // The begin of a call of that process. Its only error is want of memory.
+    // The beginning of a call of that process. It fails only where memory runs out.
     pub(crate) fn new(alloc: Global, pid: Pid, text: &[u8]) -> Result<Kept, NoMemory>
         ensures { OrNoMemory result (λ kept. kept ≡ record { pid = pid; text = text.now }) }
     {
@@ -33,7 +33,7 @@ impl Kept {
         Ok(Kept { pid, text })
     }
 
-    // The same. Its only error is want of memory.
+    // The same. It fails only where memory runs out.
     fn copy(&self) -> Result<Kept, NoMemory>
         ensures { OrNoMemory result (λ kept. kept ≡ self.now) }
     {
@@ -60,7 +60,7 @@ impl Numbered for Kept {
     }
 }
 
-// The same begins of calls. Its only error is want of memory.
+// The same beginnings of calls. It fails only where memory runs out.
 pub(crate) fn copy_list(alloc: Global, list: &[Kept]) -> Result<Vec<Kept>, NoMemory>
     ensures { OrNoMemory result (λ made. made.items ≡ list.now) }
 {

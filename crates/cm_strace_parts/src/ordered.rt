@@ -67,8 +67,8 @@ pub(crate) fn get<T: Numbered, K: Numbered + Copy>(list: &[T], key: K) -> Option
     }
 }
 
-// The thing in its place, instead of any of its number. Its only error is want of memory, which leaves all as it was,
-// and doesn't come where there is room for one more.
+// The thing in its place, instead of any of its number. It fails only where memory runs out, and then leaves all as it
+// was; never where there is room for one more.
 pub(crate) fn put<T: Numbered + Drop>(list: &mut Vec<T>, new: T) -> Result<(), NoMemory>
     requires { Ascends (before_by T.number) list.old.items }
     ensures items { OrNoMemory result (λ _. list.new.items ≡ put (before_by T.number) new list.old.items) }

@@ -48,7 +48,7 @@ impl Model for Parts {
 // ---- what is known
 
 impl Parts {
-    /// What is known at the begin of a world's log. Its only error is want of memory.
+    /// What is known at the beginning of a world's log. It fails only where memory runs out.
     pub fn first(alloc: Global, w: &World) -> Result<Parts, NoMemory>
         ensures { OrNoMemory result (λ p. p ≡ first_parts (world_of w.now)) }
     {
@@ -62,7 +62,7 @@ impl Parts {
         })
     }
 
-    /// The same. Its only error is want of memory.
+    /// The same. It fails only where memory runs out.
     pub fn copy(&self, alloc: Global) -> Result<Parts, NoMemory>
         ensures { OrNoMemory result (λ p. p ≡ self.now) }
     {
@@ -196,7 +196,7 @@ impl Parts {
 // ---- changes that may take memory
 
 impl Parts {
-    /// That text of the process is kept too. Its only error is want of memory, which leaves all as it was.
+    /// That text of the process is kept too. It fails only where memory runs out, and then leaves all as it was.
     pub fn keep(&mut self, alloc: Global, pid: Pid, text: &[u8]) -> Result<(), NoMemory>
         ensures kept { OrNoMemory result (λ _. self.new ≡ keeping pid text.now self.old) }
         ensures unchanged { UnchangedOnErr result self.new self.old }
@@ -206,8 +206,8 @@ impl Parts {
         Ok(())
     }
 
-    /// The descriptor is followed, in the place of any of its number. Its only error is want of memory, which leaves
-    /// all as it was.
+    /// The descriptor is followed, in the place of any of its number. It fails only where memory runs out, and then
+    /// leaves all as it was.
     pub fn follow(&mut self, alloc: Global, new: Descriptor) -> Result<(), NoMemory>
         ensures followed { OrNoMemory result (λ _. self.new ≡ with_descriptor new self.old) }
         ensures unchanged { UnchangedOnErr result self.new self.old }
@@ -215,7 +215,7 @@ impl Parts {
         files::follow(&mut self.files, alloc, &new)
     }
 
-    /// The descriptor isn't followed any more. Its only error is want of memory, which leaves all as it was.
+    /// The descriptor isn't followed any more. It fails only where memory runs out, and then leaves all as it was.
     pub fn forget_descriptor(
         &mut self,
         alloc: Global,
@@ -228,8 +228,8 @@ impl Parts {
         files::forget(&mut self.files, alloc, pid, number)
     }
 
-    /// What an execve of the process leaves (execve(2), "Effect on process attributes"). Its only error is want of
-    /// memory, which leaves all as it was.
+    /// What an execve of the process leaves (execve(2), "Effect on process attributes"). It fails only where memory
+    /// runs out, and then leaves all as it was.
     pub fn execute(&mut self, alloc: Global, pid: Pid) -> Result<(), NoMemory>
         ensures executed { OrNoMemory result (λ _. self.new ≡ after_exec pid self.old) }
         ensures unchanged { UnchangedOnErr result self.new self.old }
@@ -238,7 +238,7 @@ impl Parts {
     }
 
     /// What a birth leaves: the child in that user namespace, with the parent's descriptors or with copies of them.
-    /// Its only error is want of memory, which leaves all as it was.
+    /// It fails only where memory runs out, and then leaves all as it was.
     pub fn bear(
         &mut self,
         alloc: Global,
@@ -261,8 +261,8 @@ impl Parts {
         Ok(())
     }
 
-    /// The same of a birth in a new user namespace, whose number there must be. Its only error is want of memory,
-    /// which leaves all as it was.
+    /// The same of a birth in a new user namespace, whose number there must be. It fails only where memory runs out,
+    /// and then leaves all as it was.
     pub fn bear_in_new(
         &mut self,
         alloc: Global,

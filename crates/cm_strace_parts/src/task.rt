@@ -39,7 +39,7 @@ impl Numbered for Task {
     }
 }
 
-// The processes of a world's start. Its only error is want of memory.
+// The processes of a world's start. It fails only where memory runs out.
 pub(crate) fn first_tasks(alloc: Global, list: &[Proc]) -> Result<Vec<Task>, NoMemory>
     ensures { OrNoMemory result (λ made. made.items ≡ map first_task list.now) }
 {
@@ -55,7 +55,7 @@ pub(crate) fn first_tasks(alloc: Global, list: &[Proc]) -> Result<Vec<Task>, NoM
     Ok(made)
 }
 
-// The same processes, with room for one more, since a birth comes next. Its only error is want of memory.
+// The same processes, with room for one more, since a birth comes next. It fails only where memory runs out.
 pub(crate) fn copy_list(alloc: Global, list: &[Task]) -> Result<Vec<Task>, NoMemory>
     ensures { OrNoMemory result (λ made. made.items ≡ list.now) }
 {

@@ -13,7 +13,7 @@ use cm_tokens::{next_line, next_token, read_number, read_word};
 use std::alloc::Global;
 
 /// The extents of a text that is written to a map file, one on each line. None exactly where a line isn't three
-/// numbers. Its only error is want of memory.
+/// numbers. It fails only where memory runs out.
 pub fn read_extents(alloc: Global, text: &[u8]) -> Result<Option<Extents>, NoMemory>
     ensures { OrNoMemory result (λ extents. extents ≡ written_extents text.now) }
 {

@@ -20,7 +20,7 @@ pub enum Body<'a> {
     Ends,
     /// A thread's execve took the place of this one.
     Superseded,
-    /// The begin of a call, without the mark that it isn't finished.
+    /// The beginning of a call, without the mark that it isn't finished.
     Begun(&'a [u8]),
     /// The rest of the call of that name.
     Resumed(&'a [u8], &'a [u8]),

@@ -1,4 +1,4 @@
-// Why a row is refused, and want of memory as one of these reasons.
+// Why a row is refused, and out of memory as one of these reasons.
 ghost use Rattle.std.specs.Prelude.{◌≡◌};
 ghost use Rattle.cm_values.specs.declared.error.RowError.TheVariants.{NoMemory};
 

@@ -19,7 +19,7 @@ const EMPTY: Extent = Extent {
     length: 0,
 };
 
-/// The list of extents at the key, where the row has it. Its only error is want of memory.
+/// The list of extents at the key, where the row has it. It fails only where memory runs out.
 pub fn extents_at(alloc: Global, row: &Table, key: &str) -> Result<Option<Vec<Extent>>, NoMemory>
     ensures { OrNoMemory result (λ list. option_map (λ (v : Vec Extent Global). v.items) list ≡ map_at key.now (table_view row.now)) }
 {

@@ -52,7 +52,7 @@ pub fn caps_of_row(alloc: Global, row: &Table) -> Result<Option<FileCaps>, RowEr
     }
 }
 
-/// The attribute whose bytes hexadecimal digits spell, if the text is one. Its only error is want of memory.
+/// The attribute whose bytes hexadecimal digits spell, if the text is one. It fails only where memory runs out.
 #[tactic(auto, unfolding(model_text::specs::FileText::attribute_of_text))]
 fn attribute_of_text(alloc: Global, text: &[u8]) -> Result<Option<FileCaps>, NoMemory>
     ensures { OrNoMemory result (λ caps. caps ≡ model.attribute_of_text text.now) }
@@ -63,7 +63,7 @@ fn attribute_of_text(alloc: Global, text: &[u8]) -> Result<Option<FileCaps>, NoM
     }
 }
 
-/// The bytes that hexadecimal digits spell, if the text is such digits. Its only error is want of memory.
+/// The bytes that hexadecimal digits spell, if the text is such digits. It fails only where memory runs out.
 fn bytes_of_hex(alloc: Global, text: &[u8]) -> Result<Option<Vec<u8>>, NoMemory>
     ensures { OrNoMemory result
         (λ bytes. option_map (λ (v : Vec ℕ Global). v.items) bytes ≡ result_ok (decode_of text.now)) }

@@ -41,7 +41,7 @@ fn four_of(ids: &[Value]) -> FourIds
     }
 }
 
-/// The set of the groups that a row declares. Its only error is want of memory.
+/// The set of the groups that a row declares. It fails only where memory runs out.
 pub fn groups_of(alloc: Global, row: &Table) -> Result<Groups, NoMemory>
     ensures { OrNoMemory result (λ groups.
         groups ≡ id_set (ids_listed (array_items (get_member (codes "groups") (table_view row.now))))) }
@@ -50,7 +50,7 @@ pub fn groups_of(alloc: Global, row: &Table) -> Result<Groups, NoMemory>
     Groups::make(alloc, &list)
 }
 
-/// The groups of an array, one by one. Its only error is want of memory.
+/// The groups of an array, one by one. It fails only where memory runs out.
 fn groups_listed(alloc: Global, values: &[Value]) -> Result<Vec<Kgid>, NoMemory>
     ensures { OrNoMemory result (λ list. list.items ≡ ids_listed (items_view values.now)) }
 {

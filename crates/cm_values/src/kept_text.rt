@@ -6,7 +6,7 @@ use cm_base::NoMemory;
 use cm_files::Text;
 use std::alloc::Global;
 
-/// The same text. Its only error is want of memory.
+/// The same text. It fails only where memory runs out.
 pub fn kept(alloc: Global, text: &str) -> Result<Text, NoMemory>
     ensures { OrNoMemory result (λ kept. kept ≡ text.now) }
 {

@@ -45,7 +45,7 @@ pub fn maps_of_row(alloc: Global, row: &Table) -> Result<MountMaps, RowError>
     })
 }
 
-/// The map, or that of the initial user namespace. Its only error is want of memory.
+/// The map, or that of the initial user namespace. It fails only where memory runs out.
 fn or_initial(alloc: Global, map: Option<IdMap>) -> Result<IdMap, NoMemory>
     ensures { OrNoMemory result (λ made. made ≡ unwrap_or map initial_map) }
 {

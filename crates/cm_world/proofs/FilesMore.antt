@@ -27,7 +27,7 @@ none_more mounts before (first ∷ rows) row is none =
     ∙ none_more mounts (before ++ first ∷ []) rows row parts.1 rest
 
 -- ---- the table
--- an answer that tells of no fault is want of memory
+-- an answer that tells of no fault is NoMemory
 pub tells_memory : (e : BadFiles) → Diagnoses e None → e ≡ NoMemory
 tells_memory NoMemory tells = refl
 tells_memory (Twice n) tells = absurd (cc)

@@ -7,7 +7,7 @@ use Rattle.cm_world.specs.declared.error.WorldError.TheVariants as code
 use Rattle.model_cred.specs.World.{World}
 use Rattle.model_text.specs.Refusal.{Refusal, At, Past}
 
--- the refusal that an error tells, none at want of memory
+-- the refusal that an error tells, none where memory ran out
 abbrev pub refusal_of : WorldError → Option Refusal
 refusal_of (code.Bad t row why) = Some (At t row why)
 refusal_of (code.Limit limit) = Some (Past limit)

@@ -1,4 +1,4 @@
-// Why a text gives no world, and want of memory as one of these reasons.
+// Why a text gives no world, and out of memory as one of these reasons.
 ghost use Rattle.std.specs.Prelude.{◌≡◌, option_map};
 ghost use Rattle.cm_values.specs.Answers.{cause_of};
 ghost use Rattle.cm_world.specs.Answers.{refusal_of};

@@ -86,7 +86,7 @@ impl Files {
         }
     }
 
-    /// One file more. Its only error is want of memory.
+    /// One file more. It fails only where memory runs out.
     fn with(self, made: FileRow) -> Result<Files, NoMemory>
         requires { length self + 1 < 2 ^ 32 }
         ensures { OrNoMemory result (λ files. files ≡ self ++ made ∷ []) }
@@ -121,7 +121,7 @@ pub(crate) fn read_files(
     }
 }
 
-/// The table of mounts and files without a fault. Its only error is want of memory.
+/// The table of mounts and files without a fault. It fails only where memory runs out.
 fn table_of(alloc: Global, mounts: Vec<Mount>, rows: Vec<FileRow>) -> Result<FileTable, NoMemory>
     requires mounts { length mounts.items < 2 ^ 32 }
     requires rows { length rows.items < 2 ^ 32 }
@@ -134,7 +134,7 @@ fn table_of(alloc: Global, mounts: Vec<Mount>, rows: Vec<FileRow>) -> Result<Fil
     }
 }
 
-/// Want of memory, which is all that refuses files without a fault.
+/// Out of memory, which is all that refuses files without a fault.
 fn no_fault(e: BadFiles) -> NoMemory
     requires { e ≡ bad_files.NoMemory }
 {

@@ -81,7 +81,7 @@ fn excluding_named(names: &[String]) -> Result<Filter, RowError>
     }
 }
 
-/// The texts among the values. Its only error is want of memory.
+/// The texts among the values. It fails only where memory runs out.
 fn texts_among(alloc: Global, values: &[Value]) -> Result<Vec<String>, NoMemory>
     ensures { OrNoMemory result (λ list. map string_bytes list.items ≡ texts_among (items_view values.now)) }
 {
@@ -93,7 +93,7 @@ fn texts_among(alloc: Global, values: &[Value]) -> Result<Vec<String>, NoMemory>
     Ok(texts)
 }
 
-/// The texts with the value, if it is one. Its only error is want of memory.
+/// The texts with the value, if it is one. It fails only where memory runs out.
 #[tactic(auto, using(crate::proofs::Texts::and_nothing))]
 fn with_value(alloc: Global, texts: Vec<String>, value: &Value) -> Result<Vec<String>, NoMemory>
     ensures { OrNoMemory result (λ list. map string_bytes list.items
@@ -105,7 +105,7 @@ fn with_value(alloc: Global, texts: Vec<String>, value: &Value) -> Result<Vec<St
     }
 }
 
-/// The texts with one more. Its only error is want of memory.
+/// The texts with one more. It fails only where memory runs out.
 fn with_text(alloc: Global, texts: Vec<String>, text: &str) -> Result<Vec<String>, NoMemory>
     ensures { OrNoMemory result (λ list. map string_bytes list.items
         ≡ map string_bytes texts.items ++ text.now ∷ []) }

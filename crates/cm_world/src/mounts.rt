@@ -64,7 +64,7 @@ fn mount_keys() -> &'static [Key]
 }
 
 impl Mounts {
-    /// The mount `root` alone. Its only error is want of memory.
+    /// The mount `root` alone. It fails only where memory runs out.
     fn root(alloc: Global) -> Result<Mounts, NoMemory>
         ensures { OrNoMemory result (λ mounts. mounts ≡ model.root_alone) }
     {
@@ -73,7 +73,7 @@ impl Mounts {
         Ok(Mounts { list })
     }
 
-    /// One mount more. Its only error is want of memory.
+    /// One mount more. It fails only where memory runs out.
     fn with(self, m: Mount) -> Result<Mounts, NoMemory>
         requires { length self + 1 < 2 ^ 32 }
         ensures { OrNoMemory result (λ mounts. mounts ≡ self ++ m ∷ []) }
@@ -118,7 +118,7 @@ impl Mounts {
     }
 }
 
-/// The mount `root`: of the initial space, without maps or flags (choice). Its only error is want of memory.
+/// The mount `root`: of the initial space, without maps or flags (choice). It fails only where memory runs out.
 fn root_mount(alloc: Global) -> Result<Mount, NoMemory>
     ensures { OrNoMemory result (λ m. m ≡ plain_mount (codes "root")) }
 {

@@ -182,7 +182,7 @@ fn with_own(
     }
 }
 
-/// The processes with one more. Its only error is want of memory.
+/// The processes with one more. It fails only where memory runs out.
 fn with_one(procs: Procs, p: Proc) -> Result<Procs, NoMemory>
     requires ordered { Ascends procs }
     requires fresh { is_alive procs p.pid ≡ false }
@@ -276,7 +276,7 @@ fn declared_space(declared: &Declared, row: &Table) -> Option<SpaceId>
     space_of_row(&declared.names, row)
 }
 
-/// The credential with these sets that a row declares. Its only error is want of memory.
+/// The credential with these sets that a row declares. It fails only where memory runs out.
 fn cred_with(alloc: Global, sets: &FiveSets, row: &Table) -> Result<Cred, NoMemory>
     requires { model.are_included sets.now ≡ true }
     ensures { OrNoMemory result (λ cred. cred ≡ model.credential_with sets.now (table_view row.now)) }

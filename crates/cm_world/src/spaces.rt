@@ -69,7 +69,7 @@ fn space_keys() -> &'static [Key]
 }
 
 impl Declared {
-    /// The initial space alone. Its only error is want of memory.
+    /// The initial space alone. It fails only where memory runs out.
     fn none(alloc: Global) -> Result<Declared, NoMemory>
         ensures { OrNoMemory result (λ d. d ≡ model.none_declared) }
     {
@@ -78,7 +78,7 @@ impl Declared {
         Ok(Declared { names, spaces })
     }
 
-    /// One space more. Its only error is want of memory.
+    /// One space more. It fails only where memory runs out.
     fn with(self, alloc: Global, name: &str, space: Space) -> Result<Declared, NoMemory>
         requires parent { IsSomeAnd space.parent (λ p. p < length self.spaces) }
         requires room { length self.names + 1 < limit_number limit.Spaces }

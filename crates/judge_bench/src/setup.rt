@@ -1,4 +1,4 @@
-// What is judged: a world, the machine at the begin of a log, and all processes as members.
+// What is judged: a world, the machine at the beginning of a log, and all processes as members.
 ghost use Rattle.std.specs.Prelude.{◌<◌, ◌^◌, length, IfOk};
 ghost use Rattle.cm_sound.specs.Never.{MountsStand};
 ghost use Rattle.cm_declared.specs.World.{world_of};

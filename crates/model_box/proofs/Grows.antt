@@ -121,7 +121,7 @@ files_stay files old new more fit = record {
   interpreters = fit.interpreters;
 }
 
--- What declared files keep at the log's begin they keep at its end.
+-- What declared files keep at the log's beginning they keep at its end.
 pub run_keeps_files : (w : World) (s : State) (es : List Event) (s' : State) → Run w s es s' → FilesFit w.files s.spaces → FilesFit w.files s'.spaces
 run_keeps_files w s [] s' same fit = rw same fit
 run_keeps_files w s (e ∷ es) s' (mid, step, rest) fit =

@@ -39,7 +39,7 @@ module _ (files : FileTable) (spaces : Spaces) (keeps : KeepsFiles files) (stand
     interpreters = interpreters;
   }
 
--- So are those of each world, at the log's begin and after each run.
+-- So are those of each world, at the log's beginning and after each run.
 pub run_fits : (w : World) → KeepsWorld w → (events : List Event) (later : State) → Run w w.start events later → FilesFit w.files later.spaces
 run_fits w keeps events later run =
     run_keeps_files w w.start events later run (files_fit w.files w.start.spaces keeps.files keeps.mounts)

@@ -136,7 +136,7 @@ KeptFilesFit =
     (files : FileTable) (spaces : Spaces) → KeepsFiles files → All (λ m. m.space < length spaces) files.mounts
     → FilesFit files spaces
 
--- So it does in each world, at the log's begin and after each run.
+-- So it does in each world, at the log's beginning and after each run.
 abbrev pub FilesOfWorldsFit : Type 0
 FilesOfWorldsFit = (w : World) → KeepsWorld w → (events : List Event) (later : State) → Run w w.start events later → FilesFit w.files later.spaces
 

@@ -77,7 +77,7 @@ pub fn kept_files_fit()
     ensures { KeptFilesFit }
 {}
 
-/// What the laws ask of declared files holds of each world, at the log's begin and after each run.
+/// What the laws ask of declared files holds of each world, at the log's beginning and after each run.
 #[tactic(auto, using(crate::proofs::Stated::files_of_worlds_fit))]
 pub fn files_of_worlds_fit()
     ensures { FilesOfWorldsFit }

@@ -9,8 +9,9 @@ pub data LogForm : Type 0 where
   Script : LogForm
   Strace : LogForm
 
--- The state at the log's begin, the names of the declared spaces (of space 1, of space 2, and so on), the mounts and
--- files, the filter that binds what comes after the log, and the form of the log. Names and paths are lists of bytes.
+-- The state at the log's beginning, the names of the declared spaces (of space 1, of space 2, and so on), the mounts
+-- and files, the filter that binds what comes after the log, and the form of the log. Names and paths are lists of
+-- bytes.
 pub record World : Type 0 where
   pub start : State
   pub names : List (List ℕ)

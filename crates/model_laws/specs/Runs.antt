@@ -22,6 +22,6 @@ unfoldable pub LaterKeeps : Type 0
 LaterKeeps = (permitted : CallKind → Bool) (w : World) (s : State) (members : List ℕ) (es : List Event) (s' : State) (members' : List ℕ)
     → KeepsFiles w.files → KeepsState s → Later permitted w s members es s' members' → KeepsState s'
 
--- Each state that a run reaches from the begin of a world keeps what a state keeps.
+-- Each state that a run reaches from the beginning of a world keeps what a state keeps.
 unfoldable pub WorldRunKeeps : Type 0
 WorldRunKeeps = (w : World) (es : List Event) (s' : State) → KeepsWorld w → Run w w.start es s' → KeepsState s'

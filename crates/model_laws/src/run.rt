@@ -19,7 +19,7 @@ pub fn later_keeps()
     ensures { LaterKeeps }
 {}
 
-/// So does each run from the begin of a world.
+/// So does each run from the beginning of a world.
 #[tactic(auto, using(crate::proofs::Keeping::world_run_keeps))]
 pub fn world_run_keeps()
     ensures { WorldRunKeeps }

@@ -131,7 +131,7 @@ pub setresuid_of_the_real_id_to_the_saved_one_is_done : Leads world (one (record
     (one (record (user 2) { uid = four 3 2 3 2 }))
 setresuid_of_the_real_id_to_the_saved_one_is_done = refl
 
--- an id without a mapping is refused as invalid before the want of privilege is
+-- an id without a mapping is refused as invalid before the lack of privilege is
 abbrev in_small : Credential → State
 in_small c = record { processes = in_space 1 100 c ∷ []; spaces = space 0 1000 (ids 1 100000 10 ∷ []) ∷ first_spaces }
 
@@ -203,7 +203,7 @@ groups_want_the_capability = record { refused = refl; done = refl }
 pub an_unmapped_group_is_invalid : IsRefused world (in_small (record (user 100000) { permitted = full; effective = full })) 100 (SetGroups (1 ∷ 11 ∷ [])) EINVAL
 an_unmapped_group_is_invalid = record { refused = refl; done = refl }
 
--- where the map of groups isn't written, want of privilege comes first
+-- where the map of groups isn't written, lack of privilege comes first
 pub without_a_group_map_groups_are_refused : IsRefused world
     (in_unmapped (record (user 1000) { permitted = full; effective = full })) 100 (SetGroups (1 ∷ [])) EPERM
 without_a_group_map_groups_are_refused = record { refused = refl; done = refl }

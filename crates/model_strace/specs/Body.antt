@@ -38,7 +38,7 @@ log_row line = if nat_lt (limit_number limit.Line) (length line) then TooLong el
 
 -- ---- the body
 -- What a body is: none that tells anything; the end of its process; the end of a thread whose place another one's execve
--- took; the begin of a call, without the mark that it isn't finished; the rest of the call of that name; a call.
+-- took; the beginning of a call, without the mark that it isn't finished; the rest of the call of that name; a call.
 pub data Body : Type 0 where
   Silent : Body
   Ends : Body

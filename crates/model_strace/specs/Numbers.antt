@@ -61,7 +61,7 @@ ends_with_comment (text ∷ texts) = unwrap_or (comment_end text) (ends_with_com
 abbrev pub capability_before : List ℕ → List (List ℕ) → Option ℕ
 capability_before text texts = if ends_with_comment texts then bare_capability (trimmed text) else None
 
--- the capability of a text, by what precedes and follows the begin of a comment, with the texts after it
+-- the capability of a text, by what precedes and follows the beginning of a comment, with the texts after it
 abbrev pub capability_cut : List ℕ → Option (List ℕ × List ℕ) → List (List ℕ) → Option ℕ
 capability_cut text None texts = bare_capability text
 capability_cut text (Some sides) texts = capability_before sides.0 (sides.1 ∷ texts)

@@ -17,7 +17,7 @@ pub record Task : Type 0 where
   pub space : ℕ
   pub shares : Bool
 
--- The begin of a call of a process that isn't finished.
+-- The beginning of a call of a process that isn't finished.
 pub record Kept : Type 0 where
   pub pid : ℕ
   pub text : List ℕ
@@ -51,12 +51,12 @@ abbrev pub put_all : {A : Type 0} → (A → A → Bool) → List A → List A �
 put_all before [] others = others
 put_all before (new ∷ more) others = put_all before more (put before new others)
 
--- ---- at the begin
+-- ---- at the beginning
 -- a process of the world
 abbrev pub first_task : Process → Task
 first_task p = record { pid = p.pid; space = p.space; shares = false }
 
--- what is known at the begin of a world's log
+-- what is known at the beginning of a world's log
 abbrev pub first_parts : World → Parts
 first_parts w = record {
   tasks = map first_task w.start.processes;

@@ -214,12 +214,12 @@ told_turn pid (Copies number) p = copies (descriptor_of pid number p) p
 told_turn pid (CopiesTo from number) p = copies_to pid (followed pid from p) number p
 told_turn pid (Writes number text outcome) p = writes pid (descriptor_of pid number p) text outcome p
 
--- a call whose begin is this text, unless another one of the process isn't finished
+-- a call whose beginning is this text, unless another one of the process isn't finished
 abbrev pub begins : ℕ → List ℕ → Option (List ℕ) → Parts → Turn
 begins pid text None p = Quiet (keeping pid text p)
 begins pid text (Some kept) p = Refused fault.Unfinished
 
--- the rest of a call of that name, whose begin is kept
+-- the rest of a call of that name, whose beginning is kept
 abbrev pub resumes : World → ℕ → List ℕ → List ℕ → Option (List ℕ) → Parts → Turn
 resumes w pid name rest None p = Refused fault.Unfinished
 resumes w pid name rest (Some kept) p =

@@ -62,7 +62,7 @@ row_more P all names follows before row now holds any is =
     subst (λ (ps : List Process). AreAmong all ps → HoldsOf P ps) parts.1
     (one_more P all follows new before parts.0.1.1.1.1.1.0 (not-false (has_parent before new.forebear) parts.0.1.1.1.1.1.1.0) holds)
 
--- it holds of each process that lives at the begin of the world of a text
+-- it holds of each process that lives at the beginning of the world of a text
 pub start_from_forebears : (P : ℕ → Type 0) (bytes : List ℕ) (w : World) → world_text bytes ≡ Reads w → FollowsForebear P w.start.processes
     → (pid : ℕ) → is_alive w.start.processes pid ≡ true → P pid
 start_from_forebears P bytes w is =

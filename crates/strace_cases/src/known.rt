@@ -36,7 +36,7 @@ impl Known {
         }
     }
 
-    // What is known at the begin of the world's log.
+    // What is known at the beginning of the world's log.
     fn begin(&mut self, alloc: Global, w: &World) -> Result<Vec<u8>, Stop> {
         self.now = Some(Parts::first(alloc, w)?);
         word(alloc, "made")
