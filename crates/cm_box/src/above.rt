@@ -15,13 +15,13 @@ use cm_sets::SetLike;
 use cm_state::{Space, Spaces};
 
 // The id may be inside 0 of the spaces of the row.
-fn zero_in(spaces: &Spaces, b: &Bounds, at: Place, id: u32) -> bool
-    requires rows { length b.now ≡ 2 * length spaces.now }
+fn zero_in(spaces: &Spaces, bounds: &Bounds, at: Place, id: u32) -> bool
+    requires rows { length bounds.now ≡ 2 * length spaces.now }
     requires few { length spaces.now < 2 ^ 31 }
     requires stands { space_under (row_of at) < length spaces.now }
-    ensures { IsTrue result ↔ ZeroIn spaces.now (RowsHold b.now) (row_of at) id }
+    ensures { IsTrue result ↔ ZeroIn spaces.now (RowsHold bounds.now) (row_of at) id }
 {
-    let row = b.row(at);
+    let row = bounds.row(at);
     match at {
         Place::Standing(n) => may_be_zero(spaces.standing(n), &row.mu, id),
         Place::Fresh(_) => row.mu.holds(&id),
@@ -39,16 +39,16 @@ fn may_be_zero(space: &Space, mapped: &IdSet, id: u32) -> bool
 }
 
 // The id may be inside 0 of the space or of one above it.
-pub(crate) fn zero_above(spaces: &Spaces, b: &Bounds, n: SpaceId, id: u32) -> bool
-    requires rows { length b.now ≡ 2 * length spaces.now }
+pub(crate) fn zero_above(spaces: &Spaces, bounds: &Bounds, n: SpaceId, id: u32) -> bool
+    requires rows { length bounds.now ≡ 2 * length spaces.now }
     requires few { length spaces.now < 2 ^ 31 }
     requires stands { n.0 < length spaces.now }
-    ensures { IsTrue result ↔ ZeroAbove spaces.now (RowsHold b.now) n.0 (Some id) }
+    ensures { IsTrue result ↔ ZeroAbove spaces.now (RowsHold bounds.now) n.0 (Some id) }
 {
     let mut at = n;
     loop {
         let parent = spaces.parent(at);
-        if zero_in(spaces, b, Place::Standing(at), id) {
+        if zero_in(spaces, bounds, Place::Standing(at), id) {
             return true;
         }
         match parent {
@@ -59,22 +59,22 @@ pub(crate) fn zero_above(spaces: &Spaces, b: &Bounds, n: SpaceId, id: u32) -> bo
 }
 
 // The id may be inside 0 of a space of the row or of one above it.
-pub(crate) fn root_can(spaces: &Spaces, b: &Bounds, at: Place, id: Option<u32>) -> bool
-    requires rows { length b.now ≡ 2 * length spaces.now }
+pub(crate) fn root_can(spaces: &Spaces, bounds: &Bounds, at: Place, id: Option<u32>) -> bool
+    requires rows { length bounds.now ≡ 2 * length spaces.now }
     requires few { length spaces.now < 2 ^ 31 }
     requires stands { space_under (row_of at) < length spaces.now }
-    ensures { IsTrue result ↔ RootCan spaces.now (RowsHold b.now) (row_of at) id }
+    ensures { IsTrue result ↔ RootCan spaces.now (RowsHold bounds.now) (row_of at) id }
 {
     let Some(id) = id else {
         return false;
     };
     match at {
-        Place::Standing(n) => zero_above(spaces, b, n, id),
+        Place::Standing(n) => zero_above(spaces, bounds, n, id),
         Place::Fresh(n) => {
-            if zero_in(spaces, b, at, id) {
+            if zero_in(spaces, bounds, at, id) {
                 return true;
             }
-            zero_above(spaces, b, n, id)
+            zero_above(spaces, bounds, n, id)
         }
     }
 }

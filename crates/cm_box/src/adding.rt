@@ -37,21 +37,21 @@ use std::alloc::Global;
 /// fewer than 2^31 spaces stand. It fails only where memory runs out.
 pub fn rule(
     alloc: Global,
-    x: Rule,
+    rule: Rule,
     row: u32,
-    s: &Setting<'_>,
-    b: &Bounds,
+    setting: &Setting<'_>,
+    bounds: &Bounds,
 ) -> Result<Bounds, NoMemory>
-    requires rows { length b.now ≡ 2 * length s.now.state.now.spaces }
-    requires few { length s.now.state.now.spaces < 2 ^ 31 }
-    requires there { row < length b.now }
-    ensures count { OrNoMemory result (λ new. length new ≡ length b.now) }
-    ensures joined { OrNoMemory result (λ new. IsJoinedAt row (RowsHold b.now)
-        (Adds (permits s.now.filter) s.now.files.now s.now.state.now.spaces (RowsHold b.now) (rule_of x)
-        (row_at row)) (RowsHold new)) }
+    requires rows { length bounds.now ≡ 2 * length setting.now.state.now.spaces }
+    requires few { length setting.now.state.now.spaces < 2 ^ 31 }
+    requires there { row < length bounds.now }
+    ensures count { OrNoMemory result (λ new. length new ≡ length bounds.now) }
+    ensures joined { OrNoMemory result (λ new. IsJoinedAt row (RowsHold bounds.now)
+        (Adds (permits setting.now.filter) setting.now.files.now setting.now.state.now.spaces (RowsHold bounds.now)
+        (rule_of rule) (row_at row)) (RowsHold new)) }
 {
-    let wider = with_added(alloc, x, row, s, b)?;
-    let mut new = b.copy(alloc)?;
+    let wider = with_added(alloc, rule, row, setting, bounds)?;
+    let mut new = bounds.copy(alloc)?;
     new.put(row, wider);
     Ok(new)
 }
@@ -61,70 +61,84 @@ pub fn rule(
 /// out.
 pub fn widened(
     alloc: Global,
-    x: Rule,
+    rule: Rule,
     row: u32,
-    s: &Setting<'_>,
-    b: &Bounds,
+    setting: &Setting<'_>,
+    bounds: &Bounds,
 ) -> Result<Option<BoxRow>, NoMemory>
-    requires rows { length b.now ≡ 2 * length s.now.state.now.spaces }
-    requires few { length s.now.state.now.spaces < 2 ^ 31 }
-    requires there { row < length b.now }
-    ensures closed { OrNoMemory result (λ o. IfNone o (ClosedAt (permits s.now.filter) s.now.files.now
-        s.now.state.now.spaces (RowsHold b.now) (rule_of x) (row_at row))) }
-    ensures open { OrNoMemory result (λ o. IfSome o (λ _. ClosedAt (permits s.now.filter) s.now.files.now
-        s.now.state.now.spaces (RowsHold b.now) (rule_of x) (row_at row) → ⊥)) }
-    ensures wider { OrNoMemory result (λ o. IfSome o (λ r. AreSameRows (RowHolds r) (WithAdded (permits s.now.filter)
-        s.now.files.now s.now.state.now.spaces (RowsHold b.now) (rule_of x) (row_at row)))) }
+    requires rows { length bounds.now ≡ 2 * length setting.now.state.now.spaces }
+    requires few { length setting.now.state.now.spaces < 2 ^ 31 }
+    requires there { row < length bounds.now }
+    ensures closed { OrNoMemory result (λ o. IfNone o (ClosedAt (permits setting.now.filter) setting.now.files.now
+        setting.now.state.now.spaces (RowsHold bounds.now) (rule_of rule) (row_at row))) }
+    ensures open { OrNoMemory result (λ o. IfSome o (λ _. ClosedAt (permits setting.now.filter) setting.now.files.now
+        setting.now.state.now.spaces (RowsHold bounds.now) (rule_of rule) (row_at row) → ⊥)) }
+    ensures wider { OrNoMemory result (λ o. IfSome o (λ r. AreSameRows (RowHolds r) (WithAdded
+        (permits setting.now.filter) setting.now.files.now setting.now.state.now.spaces (RowsHold bounds.now)
+        (rule_of rule) (row_at row)))) }
 {
-    if closed_at(s.state, s.files, s.filter, b, x, Place::of_number(row)) {
+    if closed_at(
+        setting.state,
+        setting.files,
+        setting.filter,
+        bounds,
+        rule,
+        Place::of_number(row),
+    ) {
         return Ok(None);
     }
-    let wider = with_added(alloc, x, row, s, b)?;
+    let wider = with_added(alloc, rule, row, setting, bounds)?;
     Ok(Some(wider))
 }
 
 // The row with what the rule adds to it.
 fn with_added(
     alloc: Global,
-    x: Rule,
+    rule: Rule,
     row: u32,
-    s: &Setting<'_>,
-    b: &Bounds,
+    setting: &Setting<'_>,
+    bounds: &Bounds,
 ) -> Result<BoxRow, NoMemory>
-    requires rows { length b.now ≡ 2 * length s.now.state.now.spaces }
-    requires few { length s.now.state.now.spaces < 2 ^ 31 }
-    requires there { row < length b.now }
-    ensures { OrNoMemory result (λ r. AreSameRows (RowHolds r) (WithAdded (permits s.now.filter)
-        s.now.files.now s.now.state.now.spaces (RowsHold b.now) (rule_of x) (row_at row))) }
+    requires rows { length bounds.now ≡ 2 * length setting.now.state.now.spaces }
+    requires few { length setting.now.state.now.spaces < 2 ^ 31 }
+    requires there { row < length bounds.now }
+    ensures { OrNoMemory result (λ r. AreSameRows (RowHolds r) (WithAdded (permits setting.now.filter)
+        setting.now.files.now setting.now.state.now.spaces (RowsHold bounds.now) (rule_of rule) (row_at row))) }
 {
     let at = Place::of_number(row);
-    let more = added(alloc, s, b, x, at)?;
-    let wider = b.row(at).joined(alloc, &more)?;
+    let more = added(alloc, setting, bounds, rule, at)?;
+    let wider = bounds.row(at).joined(alloc, &more)?;
     Ok(wider)
 }
 
 // What the rule adds to the row, as a row.
-fn added(alloc: Global, s: &Setting<'_>, b: &Bounds, x: Rule, at: Place) -> Result<BoxRow, NoMemory>
-    requires rows { length b.now ≡ 2 * length s.now.state.now.spaces }
-    requires few { length s.now.state.now.spaces < 2 ^ 31 }
-    requires stands { space_under (row_of at) < length s.now.state.now.spaces }
-    ensures { OrNoMemory result (λ row. AreSameRows (RowHolds row) (Adds (permits s.now.filter) s.now.files.now
-        s.now.state.now.spaces (RowsHold b.now) (rule_of x) (row_of at))) }
+fn added(
+    alloc: Global,
+    setting: &Setting<'_>,
+    bounds: &Bounds,
+    rule: Rule,
+    at: Place,
+) -> Result<BoxRow, NoMemory>
+    requires rows { length bounds.now ≡ 2 * length setting.now.state.now.spaces }
+    requires few { length setting.now.state.now.spaces < 2 ^ 31 }
+    requires stands { space_under (row_of at) < length setting.now.state.now.spaces }
+    ensures { OrNoMemory result (λ row. AreSameRows (RowHolds row) (Adds (permits setting.now.filter)
+        setting.now.files.now setting.now.state.now.spaces (RowsHold bounds.now) (rule_of rule) (row_of at))) }
 {
-    if !permits_rule(s.filter, x) {
+    if !permits_rule(setting.filter, rule) {
         return Ok(BoxRow::least(alloc));
     }
-    let st = s.state;
-    match x {
-        Rule::Create => made(alloc, &st.spaces, b, at),
-        Rule::Join => joined(alloc, &st.spaces, b, at),
-        Rule::Maps => written(alloc, s.filter, &st.spaces, b, at),
+    let st = setting.state;
+    match rule {
+        Rule::Create => made(alloc, &st.spaces, bounds, at),
+        Rule::Join => joined(alloc, &st.spaces, bounds, at),
+        Rule::Maps => written(alloc, setting.filter, &st.spaces, bounds, at),
         _ => {
-            let row = b.row(at);
+            let row = bounds.row(at);
             if row.eu.is_empty() {
                 return Ok(BoxRow::least(alloc));
             }
-            gained(alloc, st, s.files, b, x, at)
+            gained(alloc, st, setting.files, bounds, rule, at)
         }
     }
 }
@@ -134,19 +148,19 @@ fn gained(
     alloc: Global,
     st: &State,
     files: &FileTable,
-    b: &Bounds,
-    x: Rule,
+    bounds: &Bounds,
+    rule: Rule,
     at: Place,
 ) -> Result<BoxRow, NoMemory>
-    requires rows { length b.now ≡ 2 * length st.now.spaces }
+    requires rows { length bounds.now ≡ 2 * length st.now.spaces }
     requires few { length st.now.spaces < 2 ^ 31 }
     requires stands { space_under (row_of at) < length st.now.spaces }
     ensures { OrNoMemory result (λ row. AreSameRows (RowHolds row)
-        (Gains files.now st.now.spaces (RowsHold b.now) (rule_of x) (row_of at))) }
+        (Gains files.now st.now.spaces (RowsHold bounds.now) (rule_of rule) (row_of at))) }
 {
-    let row = b.row(at);
+    let row = bounds.row(at);
     let n = at.space();
-    match x {
+    match rule {
         Rule::SetUid => set_ids_gained(alloc, Kind::Users, row),
         Rule::SetFsUid => set_fs_gained(alloc, Kind::Users, row),
         Rule::SetGid => set_ids_gained(alloc, Kind::Groups, row),
@@ -156,8 +170,8 @@ fn gained(
         Rule::SecureBits => Ok(secure_bits_gained(alloc, row)),
         Rule::ExecUid => exec_ids_gained(alloc, Kind::Users, files, &st.spaces, n, row),
         Rule::ExecGid => exec_ids_gained(alloc, Kind::Groups, files, &st.spaces, n, row),
-        Rule::ExecCaps => exec_caps_gained(alloc, files, &st.spaces, b, at),
-        Rule::ExecRoot => exec_root_gained(alloc, &st.spaces, b, at),
+        Rule::ExecCaps => exec_caps_gained(alloc, files, &st.spaces, bounds, at),
+        Rule::ExecRoot => exec_root_gained(alloc, &st.spaces, bounds, at),
         _ => Ok(BoxRow::least(alloc)),
     }
 }
@@ -201,16 +215,16 @@ fn exec_caps_gained(
     alloc: Global,
     files: &FileTable,
     spaces: &Spaces,
-    b: &Bounds,
+    bounds: &Bounds,
     at: Place,
 ) -> Result<BoxRow, NoMemory>
-    requires rows { length b.now ≡ 2 * length spaces.now }
+    requires rows { length bounds.now ≡ 2 * length spaces.now }
     requires few { length spaces.now < 2 ^ 31 }
     requires stands { space_under (row_of at) < length spaces.now }
     ensures { OrNoMemory result (λ r. AreSameRows (RowHolds r)
-        (OnlyCaps (CapByFile files.now spaces.now (RowsHold b.now) (row_of at)))) }
+        (OnlyCaps (CapByFile files.now spaces.now (RowsHold bounds.now) (row_of at)))) }
 {
-    let p = caps_by_files(alloc, files, spaces, b, at)?;
+    let p = caps_by_files(alloc, files, spaces, bounds, at)?;
     Ok(BoxRow {
         p,
         ..BoxRow::least(alloc)
@@ -221,16 +235,16 @@ fn exec_caps_gained(
 fn exec_root_gained(
     alloc: Global,
     spaces: &Spaces,
-    b: &Bounds,
+    bounds: &Bounds,
     at: Place,
 ) -> Result<BoxRow, NoMemory>
-    requires rows { length b.now ≡ 2 * length spaces.now }
+    requires rows { length bounds.now ≡ 2 * length spaces.now }
     requires few { length spaces.now < 2 ^ 31 }
     requires stands { space_under (row_of at) < length spaces.now }
     ensures { OrNoMemory result (λ r. AreSameRows (RowHolds r)
-        (OnlyCaps (CapByRoot spaces.now (RowsHold b.now) (row_of at)))) }
+        (OnlyCaps (CapByRoot spaces.now (RowsHold bounds.now) (row_of at)))) }
 {
-    let p = caps_by_root(alloc, spaces, b, at)?;
+    let p = caps_by_root(alloc, spaces, bounds, at)?;
     Ok(BoxRow {
         p,
         ..BoxRow::least(alloc)
@@ -238,15 +252,16 @@ fn exec_root_gained(
 }
 
 // By making spaces: what the members of the standing row bring to the fresh one.
-fn made(alloc: Global, spaces: &Spaces, b: &Bounds, at: Place) -> Result<BoxRow, NoMemory>
-    requires rows { length b.now ≡ 2 * length spaces.now }
+fn made(alloc: Global, spaces: &Spaces, bounds: &Bounds, at: Place) -> Result<BoxRow, NoMemory>
+    requires rows { length bounds.now ≡ 2 * length spaces.now }
     requires few { length spaces.now < 2 ^ 31 }
     requires stands { space_under (row_of at) < length spaces.now }
-    ensures { OrNoMemory result (λ r. AreSameRows (RowHolds r) (ByMaking spaces.now (RowsHold b.now) (row_of at))) }
+    ensures { OrNoMemory result (λ r. AreSameRows (RowHolds r) (ByMaking spaces.now (RowsHold bounds.now)
+        (row_of at))) }
 {
     match at {
         Place::Standing(_) => Ok(BoxRow::least(alloc)),
-        Place::Fresh(n) => made_in(alloc, spaces, n, b.row(Place::Standing(n))),
+        Place::Fresh(n) => made_in(alloc, spaces, n, bounds.row(Place::Standing(n))),
     }
 }
 
@@ -262,14 +277,14 @@ fn made_in(alloc: Global, spaces: &Spaces, n: SpaceId, row: &BoxRow) -> Result<B
 }
 
 // By joining the space of a standing row.
-fn joined(alloc: Global, spaces: &Spaces, b: &Bounds, at: Place) -> Result<BoxRow, NoMemory>
-    requires rows { length b.now ≡ 2 * length spaces.now }
+fn joined(alloc: Global, spaces: &Spaces, bounds: &Bounds, at: Place) -> Result<BoxRow, NoMemory>
+    requires rows { length bounds.now ≡ 2 * length spaces.now }
     requires few { length spaces.now < 2 ^ 31 }
     requires stands { space_under (row_of at) < length spaces.now }
-    ensures { OrNoMemory result (λ r. AreSameRows (RowHolds r) (ByJoins spaces.now (RowsHold b.now) (row_of at))) }
+    ensures { OrNoMemory result (λ r. AreSameRows (RowHolds r) (ByJoins spaces.now (RowsHold bounds.now) (row_of at))) }
 {
     match at {
-        Place::Standing(n) => joins_gained(alloc, spaces, b, n),
+        Place::Standing(n) => joins_gained(alloc, spaces, bounds, n),
         Place::Fresh(_) => Ok(BoxRow::least(alloc)),
     }
 }
@@ -277,19 +292,19 @@ fn joined(alloc: Global, spaces: &Spaces, b: &Bounds, at: Place) -> Result<BoxRo
 // By writing maps.
 fn written(
     alloc: Global,
-    f: Filter,
+    filter: Filter,
     spaces: &Spaces,
-    b: &Bounds,
+    bounds: &Bounds,
     at: Place,
 ) -> Result<BoxRow, NoMemory>
-    requires rows { length b.now ≡ 2 * length spaces.now }
+    requires rows { length bounds.now ≡ 2 * length spaces.now }
     requires few { length spaces.now < 2 ^ 31 }
     requires stands { space_under (row_of at) < length spaces.now }
     ensures { OrNoMemory result (λ row. AreSameRows (RowHolds row)
-        (ByMaps (permits f) spaces.now (RowsHold b.now) (row_of at))) }
+        (ByMaps (permits filter) spaces.now (RowsHold bounds.now) (row_of at))) }
 {
-    let mu = ids_mapped(alloc, Kind::Users, f, spaces, b, at)?;
-    let mg = ids_mapped(alloc, Kind::Groups, f, spaces, b, at)?;
+    let mu = ids_mapped(alloc, Kind::Users, filter, spaces, bounds, at)?;
+    let mg = ids_mapped(alloc, Kind::Groups, filter, spaces, bounds, at)?;
     Ok(BoxRow {
         mu,
         mg,
@@ -301,28 +316,28 @@ fn written(
 fn ids_mapped(
     alloc: Global,
     kind: Kind,
-    f: Filter,
+    filter: Filter,
     spaces: &Spaces,
-    b: &Bounds,
+    bounds: &Bounds,
     at: Place,
 ) -> Result<IdSet, NoMemory>
-    requires rows { length b.now ≡ 2 * length spaces.now }
+    requires rows { length bounds.now ≡ 2 * length spaces.now }
     requires few { length spaces.now < 2 ^ 31 }
     requires stands { space_under (row_of at) < length spaces.now }
     ensures { OrNoMemory result (λ ids. AreSame (Held ids)
-        (ByMaps (permits f) spaces.now (RowsHold b.now) (row_of at) (mapped kind))) }
+        (ByMaps (permits filter) spaces.now (RowsHold bounds.now) (row_of at) (mapped kind))) }
 {
-    if !f.permits(map_call(kind)) {
+    if !filter.permits(map_call(kind)) {
         return Ok(IdSet::empty(alloc));
     }
     match at {
-        Place::Standing(n) => ids_written(alloc, kind, spaces, b, n),
+        Place::Standing(n) => ids_written(alloc, kind, spaces, bounds, n),
         Place::Fresh(n) => {
-            let fresh = b.row(at);
+            let fresh = bounds.row(at);
             if fresh.eu.is_empty() {
                 return Ok(IdSet::empty(alloc));
             }
-            fresh_ids(alloc, kind, b.row(Place::Standing(n)), fresh)
+            fresh_ids(alloc, kind, bounds.row(Place::Standing(n)), fresh)
         }
     }
 }
@@ -332,13 +347,13 @@ fn ids_written(
     alloc: Global,
     kind: Kind,
     spaces: &Spaces,
-    b: &Bounds,
+    bounds: &Bounds,
     n: SpaceId,
 ) -> Result<IdSet, NoMemory>
-    requires rows { length b.now ≡ 2 * length spaces.now }
+    requires rows { length bounds.now ≡ 2 * length spaces.now }
     requires few { length spaces.now < 2 ^ 31 }
     requires stands { n.0 < length spaces.now }
-    ensures { OrNoMemory result (λ ids. AreSame (Held ids) (IdsWritten kind spaces.now (RowsHold b.now) n.0)) }
+    ensures { OrNoMemory result (λ ids. AreSame (Held ids) (IdsWritten kind spaces.now (RowsHold bounds.now) n.0)) }
 {
     let space = spaces.standing(n);
     if is_written(kind, space) {
@@ -348,8 +363,8 @@ fn ids_written(
         Some(q) => new_ids(
             alloc,
             kind,
-            b.row(Place::Standing(n)),
-            b.row(Place::Standing(q)),
+            bounds.row(Place::Standing(n)),
+            bounds.row(Place::Standing(q)),
             space.owner,
         ),
         None => Ok(IdSet::empty(alloc)),

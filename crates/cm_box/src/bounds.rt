@@ -66,16 +66,16 @@ impl Bounds {
         requires there { row_number (row_of at) < length self.now }
         ensures { result.now ≡ row_in self.now (row_number (row_of at)) }
     {
-        let y = at.number() as usize;
-        &self.rows.list[y]
+        let number = at.number() as usize;
+        &self.rows.list[number]
     }
 
     /// Puts a row in the place of the one of that number. It takes no memory.
-    pub fn put(&mut self, y: u32, row: BoxRow)
-        requires { y < length self.old }
-        ensures { self.new ≡ slice_set self.old y row }
+    pub fn put(&mut self, number: u32, row: BoxRow)
+        requires { number < length self.old }
+        ensures { self.new ≡ slice_set self.old number row }
     {
-        self.rows.list[y as usize] = row;
+        self.rows.list[number as usize] = row;
     }
 
     // Bounds that hold the same. It fails only where memory runs out.

@@ -24,15 +24,20 @@ use cm_state::{Space, Spaces};
 use std::alloc::Global;
 
 // Each capability that a program's attribute can bring is in the row's permitted set.
-pub(crate) fn caps_by_files_held(files: &FileTable, spaces: &Spaces, b: &Bounds, at: Place) -> bool
-    requires rows { length b.now ≡ 2 * length spaces.now }
+pub(crate) fn caps_by_files_held(
+    files: &FileTable,
+    spaces: &Spaces,
+    bounds: &Bounds,
+    at: Place,
+) -> bool
+    requires rows { length bounds.now ≡ 2 * length spaces.now }
     requires few { length spaces.now < 2 ^ 31 }
     requires stands { space_under (row_of at) < length spaces.now }
-    ensures { IsTrue result ↔ ((x : ℕ) → CapByFile files.now spaces.now (RowsHold b.now) (row_of at) x
-        → RowsHold b.now (row_of at) PermittedCaps x) }
+    ensures { IsTrue result ↔ ((x : ℕ) → CapByFile files.now spaces.now (RowsHold bounds.now) (row_of at) x
+        → RowsHold bounds.now (row_of at) PermittedCaps x) }
 {
     for k in 0..files.rows().len() {
-        if !caps_by_file_held(files, k, spaces, b, at) {
+        if !caps_by_file_held(files, k, spaces, bounds, at) {
             return false;
         }
     }
@@ -41,66 +46,72 @@ pub(crate) fn caps_by_files_held(files: &FileTable, spaces: &Spaces, b: &Bounds,
 
 // The same of one file. Most files have no attribute, which is looked at first, since this is asked of each file for
 // each row.
-fn caps_by_file_held(files: &FileTable, k: usize, spaces: &Spaces, b: &Bounds, at: Place) -> bool
+fn caps_by_file_held(
+    files: &FileTable,
+    k: usize,
+    spaces: &Spaces,
+    bounds: &Bounds,
+    at: Place,
+) -> bool
     requires file { k < length files.now.rows }
-    requires rows { length b.now ≡ 2 * length spaces.now }
+    requires rows { length bounds.now ≡ 2 * length spaces.now }
     requires few { length spaces.now < 2 ^ 31 }
     requires stands { space_under (row_of at) < length spaces.now }
-    ensures { IsTrue result ↔ ((x : ℕ) → CapGiven files.now spaces.now (RowsHold b.now) (row_of at) k x
-        → RowsHold b.now (row_of at) PermittedCaps x) }
+    ensures { IsTrue result ↔ ((x : ℕ) → CapGiven files.now spaces.now (RowsHold bounds.now) (row_of at) k x
+        → RowsHold bounds.now (row_of at) PermittedCaps x) }
 {
-    let f = view_at(files, k);
-    if f.caps.is_none() {
+    let file = view_at(files, k);
+    if file.caps.is_none() {
         return true;
     }
-    if !attribute_can(files, k, spaces, b, at) {
+    if !attribute_can(files, k, spaces, bounds, at) {
         return true;
     }
-    gives_within(b.row(at), f)
+    gives_within(bounds.row(at), file)
 }
 
 // The file is a program that a member may run, and its attribute can take effect.
-fn attribute_can(files: &FileTable, k: usize, spaces: &Spaces, b: &Bounds, at: Place) -> bool
+fn attribute_can(files: &FileTable, k: usize, spaces: &Spaces, bounds: &Bounds, at: Place) -> bool
     requires file { k < length files.now.rows }
-    requires rows { length b.now ≡ 2 * length spaces.now }
+    requires rows { length bounds.now ≡ 2 * length spaces.now }
     requires few { length spaces.now < 2 ^ 31 }
     requires stands { space_under (row_of at) < length spaces.now }
-    ensures { IsTrue result ↔ AttributeCan files.now spaces.now (RowsHold b.now) (row_of at) k }
+    ensures { IsTrue result ↔ AttributeCan files.now spaces.now (RowsHold bounds.now) (row_of at) k }
 {
     if !is_program(files, k) {
         return false;
     }
-    let f = view_at(files, k);
-    if !takes_can(spaces, b, at, f) {
+    let file = view_at(files, k);
+    if !takes_can(spaces, bounds, at, file) {
         return false;
     }
-    can_run(b.row(at), f)
+    can_run(bounds.row(at), file)
 }
 
 // The file's attribute can take effect for a member in the row.
-fn takes_can(spaces: &Spaces, b: &Bounds, at: Place, f: &FileView) -> bool
-    requires rows { length b.now ≡ 2 * length spaces.now }
+fn takes_can(spaces: &Spaces, bounds: &Bounds, at: Place, file: &FileView) -> bool
+    requires rows { length bounds.now ≡ 2 * length spaces.now }
     requires few { length spaces.now < 2 ^ 31 }
     requires stands { space_under (row_of at) < length spaces.now }
-    ensures { IsTrue result ↔ TakesCan spaces.now (RowsHold b.now) (row_of at) f.now }
+    ensures { IsTrue result ↔ TakesCan spaces.now (RowsHold bounds.now) (row_of at) file.now }
 {
-    if f.caps.is_none() {
+    if file.caps.is_none() {
         return false;
     }
-    if !may_gain(b.row(at)) {
+    if !may_gain(bounds.row(at)) {
         return false;
     }
-    if !may_raise_in(spaces, at.space(), f) {
+    if !may_raise_in(spaces, at.space(), file) {
         return false;
     }
-    root_can(spaces, b, at, root_of(f))
+    root_can(spaces, bounds, at, root_of(file))
 }
 
 // What the file's own sets can bring is in the row's permitted set.
-fn gives_within(row: &BoxRow, f: &FileView) -> bool
-    ensures { IsTrue result ↔ ((x : ℕ) → FileGives (RowHolds row.now) f.now x → RowHolds row.now PermittedCaps x) }
+fn gives_within(row: &BoxRow, file: &FileView) -> bool
+    ensures { IsTrue result ↔ ((x : ℕ) → FileGives (RowHolds row.now) file.now x → RowHolds row.now PermittedCaps x) }
 {
-    match f.caps {
+    match file.caps {
         Some(caps) => {
             if !row.i.meet_within(&CapSet(caps.inheritable), &row.p) {
                 return false;
@@ -112,17 +123,17 @@ fn gives_within(row: &BoxRow, f: &FileView) -> bool
 }
 
 // What a program gives to root as root is in the row's permitted set.
-pub(crate) fn caps_by_root_held(spaces: &Spaces, b: &Bounds, at: Place) -> bool
-    requires rows { length b.now ≡ 2 * length spaces.now }
+pub(crate) fn caps_by_root_held(spaces: &Spaces, bounds: &Bounds, at: Place) -> bool
+    requires rows { length bounds.now ≡ 2 * length spaces.now }
     requires few { length spaces.now < 2 ^ 31 }
     requires stands { space_under (row_of at) < length spaces.now }
-    ensures { IsTrue result ↔ ((x : ℕ) → CapByRoot spaces.now (RowsHold b.now) (row_of at) x
-        → RowsHold b.now (row_of at) PermittedCaps x) }
+    ensures { IsTrue result ↔ ((x : ℕ) → CapByRoot spaces.now (RowsHold bounds.now) (row_of at) x
+        → RowsHold bounds.now (row_of at) PermittedCaps x) }
 {
-    if !root_runs(spaces, b, at) {
+    if !root_runs(spaces, bounds, at) {
         return true;
     }
-    let row = b.row(at);
+    let row = bounds.row(at);
     if !row.i.within(&row.p) {
         return false;
     }
@@ -130,30 +141,31 @@ pub(crate) fn caps_by_root_held(spaces: &Spaces, b: &Bounds, at: Place) -> bool
 }
 
 // A program can run as root for a member of the row.
-fn root_runs(spaces: &Spaces, b: &Bounds, at: Place) -> bool
-    requires rows { length b.now ≡ 2 * length spaces.now }
+fn root_runs(spaces: &Spaces, bounds: &Bounds, at: Place) -> bool
+    requires rows { length bounds.now ≡ 2 * length spaces.now }
     requires few { length spaces.now < 2 ^ 31 }
     requires stands { space_under (row_of at) < length spaces.now }
-    ensures { IsTrue result ↔ RootRuns spaces.now (RowsHold b.now) (row_of at) }
+    ensures { IsTrue result ↔ RootRuns spaces.now (RowsHold bounds.now) (row_of at) }
 {
-    let row = b.row(at);
+    let row = bounds.row(at);
     if !row.r.holds(&()) {
         return false;
     }
     if !may_gain(row) {
         return false;
     }
-    meets_zero(spaces, b, at)
+    meets_zero(spaces, bounds, at)
 }
 
 // A real, effective or saved user id can be inside 0 of the spaces of the row.
-fn meets_zero(spaces: &Spaces, b: &Bounds, at: Place) -> bool
-    requires rows { length b.now ≡ 2 * length spaces.now }
+fn meets_zero(spaces: &Spaces, bounds: &Bounds, at: Place) -> bool
+    requires rows { length bounds.now ≡ 2 * length spaces.now }
     requires few { length spaces.now < 2 ^ 31 }
     requires stands { space_under (row_of at) < length spaces.now }
-    ensures { IsTrue result ↔ Meet (RowsHold b.now (row_of at) Uids) (ZeroIn spaces.now (RowsHold b.now) (row_of at)) }
+    ensures { IsTrue result ↔ Meet (RowsHold bounds.now (row_of at) Uids) (ZeroIn spaces.now (RowsHold bounds.now)
+        (row_of at)) }
 {
-    let row = b.row(at);
+    let row = bounds.row(at);
     match at {
         Place::Standing(n) => meets_zero_of(spaces.standing(n), &row.u, &row.mu),
         Place::Fresh(_) => meet(&row.u, &row.mu),
@@ -178,18 +190,18 @@ pub(crate) fn caps_by_files(
     alloc: Global,
     files: &FileTable,
     spaces: &Spaces,
-    b: &Bounds,
+    bounds: &Bounds,
     at: Place,
 ) -> Result<CapSet, NoMemory>
-    requires rows { length b.now ≡ 2 * length spaces.now }
+    requires rows { length bounds.now ≡ 2 * length spaces.now }
     requires few { length spaces.now < 2 ^ 31 }
     requires stands { space_under (row_of at) < length spaces.now }
     ensures { OrNoMemory result (λ caps. (x : ℕ) → IsTrue (holds caps.0 x)
-        ↔ CapByFile files.now spaces.now (RowsHold b.now) (row_of at) x) }
+        ↔ CapByFile files.now spaces.now (RowsHold bounds.now) (row_of at) x) }
 {
     let mut caps = CapSet(CapWord::empty());
     for k in 0..files.rows().len() {
-        let more = caps_by_file(alloc, files, k, spaces, b, at)?;
+        let more = caps_by_file(alloc, files, k, spaces, bounds, at)?;
         caps = caps.join(alloc, &more)?;
     }
     Ok(caps)
@@ -201,31 +213,31 @@ fn caps_by_file(
     files: &FileTable,
     k: usize,
     spaces: &Spaces,
-    b: &Bounds,
+    bounds: &Bounds,
     at: Place,
 ) -> Result<CapSet, NoMemory>
     requires file { k < length files.now.rows }
-    requires rows { length b.now ≡ 2 * length spaces.now }
+    requires rows { length bounds.now ≡ 2 * length spaces.now }
     requires few { length spaces.now < 2 ^ 31 }
     requires stands { space_under (row_of at) < length spaces.now }
     ensures { OrNoMemory result (λ caps. (x : ℕ) → IsTrue (holds caps.0 x)
-        ↔ CapGiven files.now spaces.now (RowsHold b.now) (row_of at) k x) }
+        ↔ CapGiven files.now spaces.now (RowsHold bounds.now) (row_of at) k x) }
 {
-    let f = view_at(files, k);
-    if f.caps.is_none() {
+    let file = view_at(files, k);
+    if file.caps.is_none() {
         return Ok(CapSet(CapWord::empty()));
     }
-    if !attribute_can(files, k, spaces, b, at) {
+    if !attribute_can(files, k, spaces, bounds, at) {
         return Ok(CapSet(CapWord::empty()));
     }
-    gives(alloc, b.row(at), f)
+    gives(alloc, bounds.row(at), file)
 }
 
 // What the file's own sets can bring.
-fn gives(alloc: Global, row: &BoxRow, f: &FileView) -> Result<CapSet, NoMemory>
-    ensures { OrNoMemory result (λ caps. (x : ℕ) → IsTrue (holds caps.0 x) ↔ FileGives (RowHolds row.now) f.now x) }
+fn gives(alloc: Global, row: &BoxRow, file: &FileView) -> Result<CapSet, NoMemory>
+    ensures { OrNoMemory result (λ caps. (x : ℕ) → IsTrue (holds caps.0 x) ↔ FileGives (RowHolds row.now) file.now x) }
 {
-    match f.caps {
+    match file.caps {
         Some(caps) => {
             let inherited = row.i.meet(alloc, &CapSet(caps.inheritable))?;
             let permitted = row.b.meet(alloc, &CapSet(caps.permitted))?;
@@ -239,18 +251,18 @@ fn gives(alloc: Global, row: &BoxRow, f: &FileView) -> Result<CapSet, NoMemory>
 pub(crate) fn caps_by_root(
     alloc: Global,
     spaces: &Spaces,
-    b: &Bounds,
+    bounds: &Bounds,
     at: Place,
 ) -> Result<CapSet, NoMemory>
-    requires rows { length b.now ≡ 2 * length spaces.now }
+    requires rows { length bounds.now ≡ 2 * length spaces.now }
     requires few { length spaces.now < 2 ^ 31 }
     requires stands { space_under (row_of at) < length spaces.now }
     ensures { OrNoMemory result (λ caps. (x : ℕ) → IsTrue (holds caps.0 x)
-        ↔ CapByRoot spaces.now (RowsHold b.now) (row_of at) x) }
+        ↔ CapByRoot spaces.now (RowsHold bounds.now) (row_of at) x) }
 {
-    if !root_runs(spaces, b, at) {
+    if !root_runs(spaces, bounds, at) {
         return Ok(CapSet(CapWord::empty()));
     }
-    let row = b.row(at);
+    let row = bounds.row(at);
     row.i.join(alloc, &row.b)
 }

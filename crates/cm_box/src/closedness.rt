@@ -32,41 +32,42 @@ use cm_sets::SetLike;
 use cm_state::{Spaces, State};
 
 // A call is permitted on which the rule rests.
-pub(crate) fn permits_rule(f: Filter, x: Rule) -> bool
-    ensures { result ≡ is_permitted (permits f) (rule_of x) }
+pub(crate) fn permits_rule(filter: Filter, rule: Rule) -> bool
+    ensures { result ≡ is_permitted (permits filter) (rule_of rule) }
 {
-    match x {
-        Rule::SetUid => f.permits(CallKind::SetUid)
-            || f.permits(CallKind::SetReUid)
-            || f.permits(CallKind::SetResUid),
-        Rule::SetFsUid => f.permits(CallKind::SetFsUid),
-        Rule::SetGid => f.permits(CallKind::SetGid)
-            || f.permits(CallKind::SetReGid)
-            || f.permits(CallKind::SetResGid),
-        Rule::SetFsGid => f.permits(CallKind::SetFsGid),
-        Rule::SetGroups => f.permits(CallKind::SetGroups),
-        Rule::CapSet => f.permits(CallKind::CapSet),
-        Rule::SecureBits => f.permits(CallKind::SecureBits),
-        Rule::ExecUid => f.permits(CallKind::Exec),
-        Rule::ExecGid => f.permits(CallKind::Exec),
-        Rule::ExecCaps => f.permits(CallKind::Exec),
-        Rule::ExecRoot => f.permits(CallKind::Exec),
-        Rule::Create => f.permits(CallKind::Unshare) || f.permits(CallKind::CloneUser),
-        Rule::Join => f.permits(CallKind::SetNs),
-        Rule::Maps => f.permits(CallKind::WriteUidMap) || f.permits(CallKind::WriteGidMap),
+    match rule {
+        Rule::SetUid => filter.permits(CallKind::SetUid)
+            || filter.permits(CallKind::SetReUid)
+            || filter.permits(CallKind::SetResUid),
+        Rule::SetFsUid => filter.permits(CallKind::SetFsUid),
+        Rule::SetGid => filter.permits(CallKind::SetGid)
+            || filter.permits(CallKind::SetReGid)
+            || filter.permits(CallKind::SetResGid),
+        Rule::SetFsGid => filter.permits(CallKind::SetFsGid),
+        Rule::SetGroups => filter.permits(CallKind::SetGroups),
+        Rule::CapSet => filter.permits(CallKind::CapSet),
+        Rule::SecureBits => filter.permits(CallKind::SecureBits),
+        Rule::ExecUid => filter.permits(CallKind::Exec),
+        Rule::ExecGid => filter.permits(CallKind::Exec),
+        Rule::ExecCaps => filter.permits(CallKind::Exec),
+        Rule::ExecRoot => filter.permits(CallKind::Exec),
+        Rule::Create => filter.permits(CallKind::Unshare) || filter.permits(CallKind::CloneUser),
+        Rule::Join => filter.permits(CallKind::SetNs),
+        Rule::Maps => filter.permits(CallKind::WriteUidMap)
+            || filter.permits(CallKind::WriteGidMap),
     }
 }
 
 // The row holds what its members can gain by one of the first eleven rules.
-fn gains_held(st: &State, files: &FileTable, b: &Bounds, x: Rule, at: Place) -> bool
-    requires rows { length b.now ≡ 2 * length st.now.spaces }
+fn gains_held(st: &State, files: &FileTable, bounds: &Bounds, rule: Rule, at: Place) -> bool
+    requires rows { length bounds.now ≡ 2 * length st.now.spaces }
     requires few { length st.now.spaces < 2 ^ 31 }
     requires stands { space_under (row_of at) < length st.now.spaces }
-    ensures { IsTrue result ↔ HoldsAll (RowsHold b.now (row_of at))
-        (Gains files.now st.now.spaces (RowsHold b.now) (rule_of x) (row_of at)) }
+    ensures { IsTrue result ↔ HoldsAll (RowsHold bounds.now (row_of at))
+        (Gains files.now st.now.spaces (RowsHold bounds.now) (rule_of rule) (row_of at)) }
 {
-    let row = b.row(at);
-    match x {
+    let row = bounds.row(at);
+    match rule {
         Rule::SetUid => set_ids_held(Kind::Users, row),
         Rule::SetFsUid => set_fs_held(Kind::Users, row),
         Rule::SetGid => set_ids_held(Kind::Groups, row),
@@ -76,8 +77,8 @@ fn gains_held(st: &State, files: &FileTable, b: &Bounds, x: Rule, at: Place) -> 
         Rule::SecureBits => secure_bits_held(row),
         Rule::ExecUid => exec_ids_held(Kind::Users, files, &st.spaces, at.space(), row),
         Rule::ExecGid => exec_ids_held(Kind::Groups, files, &st.spaces, at.space(), row),
-        Rule::ExecCaps => caps_by_files_held(files, &st.spaces, b, at),
-        Rule::ExecRoot => caps_by_root_held(&st.spaces, b, at),
+        Rule::ExecCaps => caps_by_files_held(files, &st.spaces, bounds, at),
+        Rule::ExecRoot => caps_by_root_held(&st.spaces, bounds, at),
         Rule::Create => true,
         Rule::Join => true,
         Rule::Maps => true,
@@ -109,15 +110,15 @@ fn exec_ids_held(kind: Kind, files: &FileTable, spaces: &Spaces, n: SpaceId, row
 }
 
 // The fresh row of a space holds what its makers bring.
-fn create_held(spaces: &Spaces, b: &Bounds, at: Place) -> bool
-    requires rows { length b.now ≡ 2 * length spaces.now }
+fn create_held(spaces: &Spaces, bounds: &Bounds, at: Place) -> bool
+    requires rows { length bounds.now ≡ 2 * length spaces.now }
     requires few { length spaces.now < 2 ^ 31 }
     requires stands { space_under (row_of at) < length spaces.now }
-    ensures { IsTrue result ↔ CreateHeld spaces.now (RowsHold b.now) (row_of at) }
+    ensures { IsTrue result ↔ CreateHeld spaces.now (RowsHold bounds.now) (row_of at) }
 {
     match at {
         Place::Standing(_) => true,
-        Place::Fresh(n) => made_held(spaces, n, b.row(Place::Standing(n)), b.row(at)),
+        Place::Fresh(n) => made_held(spaces, n, bounds.row(Place::Standing(n)), bounds.row(at)),
     }
 }
 
@@ -134,62 +135,62 @@ fn made_held(spaces: &Spaces, n: SpaceId, row: &BoxRow, fresh: &BoxRow) -> bool
 }
 
 // The row of a standing space holds what those above it bring that can join it.
-fn join_held(spaces: &Spaces, b: &Bounds, at: Place) -> bool
-    requires rows { length b.now ≡ 2 * length spaces.now }
+fn join_held(spaces: &Spaces, bounds: &Bounds, at: Place) -> bool
+    requires rows { length bounds.now ≡ 2 * length spaces.now }
     requires few { length spaces.now < 2 ^ 31 }
     requires stands { space_under (row_of at) < length spaces.now }
-    ensures { IsTrue result ↔ JoinHeld spaces.now (RowsHold b.now) (row_of at) }
+    ensures { IsTrue result ↔ JoinHeld spaces.now (RowsHold bounds.now) (row_of at) }
 {
     match at {
-        Place::Standing(n) => joins_held(spaces, b, n, b.row(at)),
+        Place::Standing(n) => joins_held(spaces, bounds, n, bounds.row(at)),
         Place::Fresh(_) => true,
     }
 }
 
 // The row holds what can come into the maps that aren't written.
-fn maps_held(f: Filter, spaces: &Spaces, b: &Bounds, at: Place) -> bool
-    requires rows { length b.now ≡ 2 * length spaces.now }
+fn maps_held(filter: Filter, spaces: &Spaces, bounds: &Bounds, at: Place) -> bool
+    requires rows { length bounds.now ≡ 2 * length spaces.now }
     requires few { length spaces.now < 2 ^ 31 }
     requires stands { space_under (row_of at) < length spaces.now }
-    ensures { IsTrue result ↔ HoldsAll (RowsHold b.now (row_of at))
-        (ByMaps (permits f) spaces.now (RowsHold b.now) (row_of at)) }
+    ensures { IsTrue result ↔ HoldsAll (RowsHold bounds.now (row_of at))
+        (ByMaps (permits filter) spaces.now (RowsHold bounds.now) (row_of at)) }
 {
-    if !ids_mapped_held(Kind::Users, f, spaces, b, at) {
+    if !ids_mapped_held(Kind::Users, filter, spaces, bounds, at) {
         return false;
     }
-    ids_mapped_held(Kind::Groups, f, spaces, b, at)
+    ids_mapped_held(Kind::Groups, filter, spaces, bounds, at)
 }
 
 // The row maps the ids that can come into its maps of that kind.
-fn ids_mapped_held(kind: Kind, f: Filter, spaces: &Spaces, b: &Bounds, at: Place) -> bool
-    requires rows { length b.now ≡ 2 * length spaces.now }
+fn ids_mapped_held(kind: Kind, filter: Filter, spaces: &Spaces, bounds: &Bounds, at: Place) -> bool
+    requires rows { length bounds.now ≡ 2 * length spaces.now }
     requires few { length spaces.now < 2 ^ 31 }
     requires stands { space_under (row_of at) < length spaces.now }
-    ensures { IsTrue result ↔ IsWithin (ByMaps (permits f) spaces.now (RowsHold b.now) (row_of at) (mapped kind))
-        (RowsHold b.now (row_of at) (mapped kind)) }
+    ensures { IsTrue result ↔ IsWithin (ByMaps (permits filter) spaces.now (RowsHold bounds.now) (row_of at)
+        (mapped kind)) (RowsHold bounds.now (row_of at) (mapped kind)) }
 {
-    if !f.permits(map_call(kind)) {
+    if !filter.permits(map_call(kind)) {
         return true;
     }
     match at {
-        Place::Standing(n) => ids_written_held(kind, spaces, b, n),
+        Place::Standing(n) => ids_written_held(kind, spaces, bounds, n),
         Place::Fresh(n) => {
-            let fresh = b.row(at);
+            let fresh = bounds.row(at);
             if fresh.eu.is_empty() {
                 return true;
             }
-            fresh_ids_held(kind, b.row(Place::Standing(n)), fresh)
+            fresh_ids_held(kind, bounds.row(Place::Standing(n)), fresh)
         }
     }
 }
 
 // The row of a standing space maps the ids that can come into its map from its parent, where it isn't written.
-fn ids_written_held(kind: Kind, spaces: &Spaces, b: &Bounds, n: SpaceId) -> bool
-    requires rows { length b.now ≡ 2 * length spaces.now }
+fn ids_written_held(kind: Kind, spaces: &Spaces, bounds: &Bounds, n: SpaceId) -> bool
+    requires rows { length bounds.now ≡ 2 * length spaces.now }
     requires few { length spaces.now < 2 ^ 31 }
     requires stands { n.0 < length spaces.now }
-    ensures { IsTrue result ↔ IsWithin (IdsWritten kind spaces.now (RowsHold b.now) n.0)
-        (RowsHold b.now (Standing n.0) (mapped kind)) }
+    ensures { IsTrue result ↔ IsWithin (IdsWritten kind spaces.now (RowsHold bounds.now) n.0)
+        (RowsHold bounds.now (Standing n.0) (mapped kind)) }
 {
     let space = spaces.standing(n);
     if is_written(kind, space) {
@@ -198,8 +199,8 @@ fn ids_written_held(kind: Kind, spaces: &Spaces, b: &Bounds, n: SpaceId) -> bool
     match spaces.parent(n) {
         Some(q) => new_ids_held(
             kind,
-            b.row(Place::Standing(n)),
-            b.row(Place::Standing(q)),
+            bounds.row(Place::Standing(n)),
+            bounds.row(Place::Standing(q)),
             space.owner,
         ),
         None => true,
@@ -210,52 +211,61 @@ fn ids_written_held(kind: Kind, spaces: &Spaces, b: &Bounds, n: SpaceId) -> bool
 pub(crate) fn closed_at(
     st: &State,
     files: &FileTable,
-    f: Filter,
-    b: &Bounds,
-    x: Rule,
+    filter: Filter,
+    bounds: &Bounds,
+    rule: Rule,
     at: Place,
 ) -> bool
-    requires rows { length b.now ≡ 2 * length st.now.spaces }
+    requires rows { length bounds.now ≡ 2 * length st.now.spaces }
     requires few { length st.now.spaces < 2 ^ 31 }
     requires stands { space_under (row_of at) < length st.now.spaces }
-    ensures { IsTrue result ↔ ClosedAt (permits f) files.now st.now.spaces (RowsHold b.now) (rule_of x) (row_of at) }
+    ensures { IsTrue result ↔ ClosedAt (permits filter) files.now st.now.spaces (RowsHold bounds.now) (rule_of rule)
+        (row_of at) }
 {
-    if !permits_rule(f, x) {
+    if !permits_rule(filter, rule) {
         return true;
     }
-    match x {
-        Rule::Create => create_held(&st.spaces, b, at),
-        Rule::Join => join_held(&st.spaces, b, at),
-        Rule::Maps => maps_held(f, &st.spaces, b, at),
-        _ => members_gain_held(st, files, b, x, at),
+    match rule {
+        Rule::Create => create_held(&st.spaces, bounds, at),
+        Rule::Join => join_held(&st.spaces, bounds, at),
+        Rule::Maps => maps_held(filter, &st.spaces, bounds, at),
+        _ => members_gain_held(st, files, bounds, rule, at),
     }
 }
 
 // The row holds what its members can gain by one of the first eleven rules, if it has any.
-fn members_gain_held(st: &State, files: &FileTable, b: &Bounds, x: Rule, at: Place) -> bool
-    requires rows { length b.now ≡ 2 * length st.now.spaces }
+fn members_gain_held(st: &State, files: &FileTable, bounds: &Bounds, rule: Rule, at: Place) -> bool
+    requires rows { length bounds.now ≡ 2 * length st.now.spaces }
     requires few { length st.now.spaces < 2 ^ 31 }
     requires stands { space_under (row_of at) < length st.now.spaces }
-    ensures { IsTrue result ↔ (HasMembers (RowsHold b.now (row_of at)) → HoldsAll (RowsHold b.now (row_of at))
-        (Gains files.now st.now.spaces (RowsHold b.now) (rule_of x) (row_of at))) }
+    ensures { IsTrue result ↔ (HasMembers (RowsHold bounds.now (row_of at)) → HoldsAll (RowsHold bounds.now (row_of at))
+        (Gains files.now st.now.spaces (RowsHold bounds.now) (rule_of rule) (row_of at))) }
 {
-    let row = b.row(at);
+    let row = bounds.row(at);
     if row.eu.is_empty() {
         return true;
     }
-    gains_held(st, files, b, x, at)
+    gains_held(st, files, bounds, rule, at)
 }
 
 // The first row at which the rule isn't closed.
-fn open_row(st: &State, files: &FileTable, f: Filter, b: &Bounds, x: Rule) -> Option<u32>
-    requires rows { length b.now ≡ 2 * length st.now.spaces }
+fn open_row(
+    st: &State,
+    files: &FileTable,
+    filter: Filter,
+    bounds: &Bounds,
+    rule: Rule,
+) -> Option<u32>
+    requires rows { length bounds.now ≡ 2 * length st.now.spaces }
     requires few { length st.now.spaces < 2 ^ 31 }
-    ensures none { IfNone result (ClosedIn (permits f) files.now st.now.spaces (RowsHold b.now) (rule_of x)) }
-    ensures first { IfSome result (IsFirstOpenRow (permits f) files.now st.now.spaces (RowsHold b.now) (rule_of x)) }
+    ensures none { IfNone result (ClosedIn (permits filter) files.now st.now.spaces (RowsHold bounds.now)
+        (rule_of rule)) }
+    ensures first { IfSome result (IsFirstOpenRow (permits filter) files.now st.now.spaces (RowsHold bounds.now)
+        (rule_of rule)) }
 {
-    for y in 0..2 * st.spaces.count() {
-        if !closed_at(st, files, f, b, x, Place::of_number(y)) {
-            return Some(y);
+    for row in 0..2 * st.spaces.count() {
+        if !closed_at(st, files, filter, bounds, rule, Place::of_number(row)) {
+            return Some(row);
         }
     }
     None
@@ -264,17 +274,17 @@ fn open_row(st: &State, files: &FileTable, f: Filter, b: &Bounds, x: Rule) -> Op
 /// The first rule and row at which the bounds aren't closed under the filter, by rule and then by row; None exactly
 /// where they are closed. The bounds have two rows for each space, and fewer than 2^31 spaces stand. It takes no
 /// memory.
-pub fn closed(st: &State, files: &FileTable, f: Filter, b: &Bounds) -> Option<(Rule, u32)>
-    requires rows { length b.now ≡ 2 * length st.now.spaces }
+pub fn closed(st: &State, files: &FileTable, filter: Filter, bounds: &Bounds) -> Option<(Rule, u32)>
+    requires rows { length bounds.now ≡ 2 * length st.now.spaces }
     requires few { length st.now.spaces < 2 ^ 31 }
-    ensures none { IfNone result (Closed (permits f) files.now st.now.spaces (RowsHold b.now)) }
-    ensures first { IfSome result (λ found. IsFirstOpen (permits f) files.now st.now.spaces (RowsHold b.now)
+    ensures none { IfNone result (Closed (permits filter) files.now st.now.spaces (RowsHold bounds.now)) }
+    ensures first { IfSome result (λ found. IsFirstOpen (permits filter) files.now st.now.spaces (RowsHold bounds.now)
         (rule_of found.0) found.1) }
 {
     for k in 0..RULES {
-        let x = Rule::of_number(k);
-        if let Some(y) = open_row(st, files, f, b, x) {
-            return Some((x, y));
+        let rule = Rule::of_number(k);
+        if let Some(row) = open_row(st, files, filter, bounds, rule) {
+            return Some((rule, row));
         }
     }
     None

@@ -16,32 +16,32 @@ use cm_state::{Space, State};
 /// The first row that lacks what the start bounds hold, None exactly where they are within the bounds, and so exactly
 /// where these cover the members now. The bounds have two rows for each space, and fewer than 2^31 spaces stand. It
 /// takes no memory.
-pub fn covers_start(st: &State, members: &[Pid], b: &Bounds) -> Option<u32>
-    requires rows { length b.now ≡ 2 * length st.now.spaces }
+pub fn covers_start(st: &State, members: &[Pid], bounds: &Bounds) -> Option<u32>
+    requires rows { length bounds.now ≡ 2 * length st.now.spaces }
     requires few { length st.now.spaces < 2 ^ 31 }
-    ensures none { IfNone result (HoldsStart st.now members.now (RowsHold b.now)) }
-    ensures first { IfSome result (IsFirstLacking st.now members.now (RowsHold b.now)) }
-    ensures covers { IfNone result (Covers st.now st.now members.now (RowsHold b.now)) }
-    ensures lacks { IfSome result (λ _. Covers st.now st.now members.now (RowsHold b.now) → ⊥) }
+    ensures none { IfNone result (HoldsStart st.now members.now (RowsHold bounds.now)) }
+    ensures first { IfSome result (IsFirstLacking st.now members.now (RowsHold bounds.now)) }
+    ensures covers { IfNone result (Covers st.now st.now members.now (RowsHold bounds.now)) }
+    ensures lacks { IfSome result (λ _. Covers st.now st.now members.now (RowsHold bounds.now) → ⊥) }
 {
-    for y in 0..2 * st.spaces.count() {
-        if !start_held(st, members, b, Place::of_number(y)) {
-            return Some(y);
+    for row in 0..2 * st.spaces.count() {
+        if !start_held(st, members, bounds, Place::of_number(row)) {
+            return Some(row);
         }
     }
     None
 }
 
 // The row holds what the start bounds hold there.
-fn start_held(st: &State, members: &[Pid], b: &Bounds, at: Place) -> bool
-    requires rows { length b.now ≡ 2 * length st.now.spaces }
+fn start_held(st: &State, members: &[Pid], bounds: &Bounds, at: Place) -> bool
+    requires rows { length bounds.now ≡ 2 * length st.now.spaces }
     requires few { length st.now.spaces < 2 ^ 31 }
     requires stands { space_under (row_of at) < length st.now.spaces }
-    ensures { IsTrue result ↔ HoldsStartAt st.now members.now (RowsHold b.now) (row_of at) }
+    ensures { IsTrue result ↔ HoldsStartAt st.now members.now (RowsHold bounds.now) (row_of at) }
 {
     match at {
         Place::Standing(n) => {
-            let row = b.row(at);
+            let row = bounds.row(at);
             if !maps_held(st.spaces.standing(n), row) {
                 return false;
             }

@@ -12,17 +12,21 @@ use cm_state::{Space, Spaces};
 use std::alloc::Global;
 
 // The row of a standing space holds what the members of all rows above it bring that can join it.
-pub(crate) fn joins_held(spaces: &Spaces, b: &Bounds, n: SpaceId, row: &BoxRow) -> bool
-    requires rows { length b.now ≡ 2 * length spaces.now }
+pub(crate) fn joins_held(spaces: &Spaces, bounds: &Bounds, n: SpaceId, row: &BoxRow) -> bool
+    requires rows { length bounds.now ≡ 2 * length spaces.now }
     requires few { length spaces.now < 2 ^ 31 }
     requires stands { n.0 < length spaces.now }
-    ensures { IsTrue result ↔ JoinsHeld spaces.now (RowsHold b.now) (RowHolds row.now) n.0 }
+    ensures { IsTrue result ↔ JoinsHeld spaces.now (RowsHold bounds.now) (RowHolds row.now) n.0 }
 {
     let mut at = n;
     loop {
         match spaces.parent(at) {
             Some(parent) => {
-                if !joined_held(b.row(Place::Standing(parent)), spaces.standing(at), row) {
+                if !joined_held(
+                    bounds.row(Place::Standing(parent)),
+                    spaces.standing(at),
+                    row,
+                ) {
                     return false;
                 }
                 at = parent;
@@ -36,13 +40,13 @@ pub(crate) fn joins_held(spaces: &Spaces, b: &Bounds, n: SpaceId, row: &BoxRow) 
 pub(crate) fn joins_gained(
     alloc: Global,
     spaces: &Spaces,
-    b: &Bounds,
+    bounds: &Bounds,
     n: SpaceId,
 ) -> Result<BoxRow, NoMemory>
-    requires rows { length b.now ≡ 2 * length spaces.now }
+    requires rows { length bounds.now ≡ 2 * length spaces.now }
     requires few { length spaces.now < 2 ^ 31 }
     requires stands { n.0 < length spaces.now }
-    ensures { OrNoMemory result (λ row. AreSameRows (RowHolds row) (ByJoiningTo spaces.now (RowsHold b.now) n.0)) }
+    ensures { OrNoMemory result (λ row. AreSameRows (RowHolds row) (ByJoiningTo spaces.now (RowsHold bounds.now) n.0)) }
 {
     let mut row = BoxRow::least(alloc);
     let mut at = n;
@@ -52,7 +56,7 @@ pub(crate) fn joins_gained(
                 row = with_joined(
                     alloc,
                     row,
-                    b.row(Place::Standing(parent)),
+                    bounds.row(Place::Standing(parent)),
                     spaces.standing(at),
                 )?;
                 at = parent;

@@ -15,13 +15,13 @@ pub(crate) enum Place {
 
 impl Place {
     // The row of that number.
-    pub(crate) fn of_number(y: u32) -> Place
-        ensures { row_of result ≡ row_at y }
+    pub(crate) fn of_number(number: u32) -> Place
+        ensures { row_of result ≡ row_at number }
     {
-        if y % 2 == 0 {
-            Place::Standing(SpaceId(y / 2))
+        if number % 2 == 0 {
+            Place::Standing(SpaceId(number / 2))
         } else {
-            Place::Fresh(SpaceId(y / 2))
+            Place::Fresh(SpaceId(number / 2))
         }
     }
 

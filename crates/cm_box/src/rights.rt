@@ -16,38 +16,39 @@ use cm_state::{Right, Space, Spaces, State};
 
 /// The first row by which the bounds meet the right, None exactly where they don't. The bounds have two rows for each
 /// space, the space that the right names stands, and fewer than 2^31 spaces stand. It takes no memory.
-pub fn meets(st: &State, b: &Bounds, right: &Right) -> Option<u32>
-    requires rows { length b.now ≡ 2 * length st.now.spaces }
+pub fn meets(st: &State, bounds: &Bounds, right: &Right) -> Option<u32>
+    requires rows { length bounds.now ≡ 2 * length st.now.spaces }
     requires few { length st.now.spaces < 2 ^ 31 }
     requires named { IsOverStanding st.now.spaces (right_of right.now) }
-    ensures none { IfNone result (Meets st.now.spaces (RowsHold b.now) (right_of right.now) → ⊥) }
-    ensures first { IfSome result (λ y. IsFirstMet st.now.spaces (RowsHold b.now) (right_of right.now) (row_at y)) }
+    ensures none { IfNone result (Meets st.now.spaces (RowsHold bounds.now) (right_of right.now) → ⊥) }
+    ensures first { IfSome result (λ row. IsFirstMet st.now.spaces (RowsHold bounds.now) (right_of right.now)
+        (row_at row)) }
 {
-    for y in 0..2 * st.spaces.count() {
-        if meets_at(&st.spaces, b, right, Place::of_number(y)) {
-            return Some(y);
+    for row in 0..2 * st.spaces.count() {
+        if meets_at(&st.spaces, bounds, right, Place::of_number(row)) {
+            return Some(row);
         }
     }
     None
 }
 
 // The bounds meet the right by the row.
-fn meets_at(spaces: &Spaces, b: &Bounds, right: &Right, at: Place) -> bool
-    requires rows { length b.now ≡ 2 * length spaces.now }
+fn meets_at(spaces: &Spaces, bounds: &Bounds, right: &Right, at: Place) -> bool
+    requires rows { length bounds.now ≡ 2 * length spaces.now }
     requires few { length spaces.now < 2 ^ 31 }
     requires named { IsOverStanding spaces.now (right_of right.now) }
     requires stands { space_under (row_of at) < length spaces.now }
-    ensures { IsTrue result ↔ MeetsAt spaces.now (RowsHold b.now) (right_of right.now) (row_of at) }
+    ensures { IsTrue result ↔ MeetsAt spaces.now (RowsHold bounds.now) (right_of right.now) (row_of at) }
 {
-    row_meets(spaces, b.row(at), right, at)
+    row_meets(spaces, bounds.row(at), right, at)
 }
 
 /// A row in the place of that number would meet the right. The space that the right names stands. It takes no memory.
-pub fn meets_by(st: &State, row: &BoxRow, right: &Right, y: u32) -> bool
+pub fn meets_by(st: &State, row: &BoxRow, right: &Right, number: u32) -> bool
     requires named { IsOverStanding st.now.spaces (right_of right.now) }
-    ensures { IsTrue result ↔ RowMeets st.now.spaces (RowHolds row.now) (right_of right.now) (row_at y) }
+    ensures { IsTrue result ↔ RowMeets st.now.spaces (RowHolds row.now) (right_of right.now) (row_at number) }
 {
-    row_meets(&st.spaces, row, right, Place::of_number(y))
+    row_meets(&st.spaces, row, right, Place::of_number(number))
 }
 
 // A row in that place would meet the right.
@@ -72,9 +73,9 @@ fn row_meets(spaces: &Spaces, row: &BoxRow, right: &Right, at: Place) -> bool
 
 // A member of the row of a standing space can have the capability over a space: by its own set, or as the owner of the
 // next space on the chain.
-fn cap_met(spaces: &Spaces, row: &BoxRow, c: Cap, a: SpaceId, n: SpaceId) -> bool
+fn cap_met(spaces: &Spaces, row: &BoxRow, cap: Cap, a: SpaceId, n: SpaceId) -> bool
     requires { n.0 < length spaces.now }
-    ensures { IsTrue result ↔ CapMetAt spaces.now (RowHolds row.now) c a.0 n.0 }
+    ensures { IsTrue result ↔ CapMetAt spaces.now (RowHolds row.now) cap a.0 n.0 }
 {
     if next_met(spaces, row, a, n) {
         return true;
@@ -82,7 +83,7 @@ fn cap_met(spaces: &Spaces, row: &BoxRow, c: Cap, a: SpaceId, n: SpaceId) -> boo
     if row.eu.is_empty() {
         return false;
     }
-    if !row.p.holds(&c) {
+    if !row.p.holds(&cap) {
         return false;
     }
     spaces.ancestor(a, n)

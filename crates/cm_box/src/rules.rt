@@ -28,11 +28,11 @@ pub const RULES: u32 = 14;
 
 impl Rule {
     /// The rule at that place of their order, from 0 on. It takes no memory.
-    pub fn of_number(k: u32) -> Rule
-        requires { k < 14 }
-        ensures { rule_number (rule_of result) ≡ k }
+    pub fn of_number(number: u32) -> Rule
+        requires { number < 14 }
+        ensures { rule_number (rule_of result) ≡ number }
     {
-        match k {
+        match number {
             0 => Rule::SetUid,
             1 => Rule::SetFsUid,
             2 => Rule::SetGid,

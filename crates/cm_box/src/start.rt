@@ -92,16 +92,16 @@ fn with_member(
 }
 
 // What a credential puts into the row of its space.
-fn cred_row(alloc: Global, c: &Cred) -> Result<BoxRow, NoMemory>
-    ensures { OrNoMemory result (λ row. AreSameRows (RowHolds row) (CredHas c.now)) }
+fn cred_row(alloc: Global, cred: &Cred) -> Result<BoxRow, NoMemory>
+    ensures { OrNoMemory result (λ row. AreSameRows (RowHolds row) (CredHas cred.now)) }
 {
-    let u = three_ids(alloc, c.user_ids())?;
-    let eu = IdSet::one(alloc, c.euid.number())?;
-    let fu = IdSet::one(alloc, c.fsuid.number())?;
-    let g = three_ids(alloc, c.group_ids())?;
-    let eg = IdSet::one(alloc, c.egid.number())?;
-    let fg = IdSet::one(alloc, c.fsgid.number())?;
-    let s = group_ids(alloc, c.groups.items())?;
+    let u = three_ids(alloc, cred.user_ids())?;
+    let eu = IdSet::one(alloc, cred.euid.number())?;
+    let fu = IdSet::one(alloc, cred.fsuid.number())?;
+    let g = three_ids(alloc, cred.group_ids())?;
+    let eg = IdSet::one(alloc, cred.egid.number())?;
+    let fg = IdSet::one(alloc, cred.fsgid.number())?;
+    let s = group_ids(alloc, cred.groups.items())?;
     Ok(BoxRow {
         u,
         eu,
@@ -112,12 +112,12 @@ fn cred_row(alloc: Global, c: &Cred) -> Result<BoxRow, NoMemory>
         s,
         mu: IdSet::empty(alloc),
         mg: IdSet::empty(alloc),
-        p: CapSet(c.prm),
-        i: CapSet(c.inh),
-        b: CapSet(c.bnd),
-        n: RevFlag(c.nnp),
-        r: Flag(!c.sec.has(SecBits::NOROOT)),
-        k: Flag(!c.sec.has(SecBits::NOROOT << 1)),
+        p: CapSet(cred.prm),
+        i: CapSet(cred.inh),
+        b: CapSet(cred.bnd),
+        n: RevFlag(cred.nnp),
+        r: Flag(!cred.sec.has(SecBits::NOROOT)),
+        k: Flag(!cred.sec.has(SecBits::NOROOT << 1)),
     })
 }
 
@@ -165,20 +165,20 @@ fn outsides(alloc: Global, list: &[Extent]) -> Result<IdSet, NoMemory>
     ensures { OrNoMemory result (λ s. AreSame (Held s) (λ x. IsTrue (is_outside list.now x))) }
 {
     let mut ids = IdSet::empty(alloc);
-    for e in list {
-        let more = outside_range(alloc, e)?;
+    for extent in list {
+        let more = outside_range(alloc, extent)?;
         ids = ids.join(alloc, &more)?;
     }
     Ok(ids)
 }
 
 // The outside ids of one line.
-fn outside_range(alloc: Global, e: &Extent) -> Result<IdSet, NoMemory>
-    requires { e.now.outside + e.now.length ≤ id_count }
-    ensures { OrNoMemory result (λ s. AreSame (Held s) (λ x. IsTrue (lies_in e.now.outside e.now.length x))) }
+fn outside_range(alloc: Global, extent: &Extent) -> Result<IdSet, NoMemory>
+    requires { extent.now.outside + extent.now.length ≤ id_count }
+    ensures { OrNoMemory result (λ s. AreSame (Held s) (λ x. IsTrue (lies_in extent.now.outside extent.now.length x))) }
 {
-    if e.length == 0 {
+    if extent.length == 0 {
         return Ok(IdSet::empty(alloc));
     }
-    IdSet::range(alloc, e.outside, e.outside + (e.length - 1))
+    IdSet::range(alloc, extent.outside, extent.outside + (extent.length - 1))
 }

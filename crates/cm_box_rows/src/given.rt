@@ -133,42 +133,42 @@ fn with_given(alloc: Global, ids: IdSet, id: Option<u32>) -> Result<IdSet, NoMem
 }
 
 // The id that a file gives to those who may run it.
-fn given(kind: Kind, spaces: &Spaces, n: SpaceId, row: &BoxRow, f: &FileView) -> Option<u32>
+fn given(kind: Kind, spaces: &Spaces, n: SpaceId, row: &BoxRow, file: &FileView) -> Option<u32>
     requires { n.0 < length spaces.now }
     ensures is_id { IfSome result (λ id. id < id_count) }
-    ensures given { (x : ℕ) → (result ≡ Some x) ↔ Given kind spaces.now n.0 (RowHolds row.now) f.now x }
+    ensures given { (x : ℕ) → (result ≡ Some x) ↔ Given kind spaces.now n.0 (RowHolds row.now) file.now x }
 {
-    let id = id_by_bit(kind, f)?;
-    if !set_id_can(spaces, n, row, f) {
+    let id = id_by_bit(kind, file)?;
+    if !set_id_can(spaces, n, row, file) {
         return None;
     }
-    if !can_run(row, f) {
+    if !can_run(row, file) {
         return None;
     }
     Some(id)
 }
 
 // The id that its set-id bit stands for.
-fn id_by_bit(kind: Kind, f: &FileView) -> Option<u32>
+fn id_by_bit(kind: Kind, file: &FileView) -> Option<u32>
     ensures is_id { IfSome result (λ id. id < id_count) }
-    ensures id { (x : ℕ) → (result ≡ Some x) ↔ StandsFor kind f.now x }
+    ensures id { (x : ℕ) → (result ≡ Some x) ↔ StandsFor kind file.now x }
 {
-    if !has_id_bit(kind, f) {
+    if !has_id_bit(kind, file) {
         return None;
     }
     match kind {
-        Kind::Users => owner_of(f),
-        Kind::Groups => group_of(f),
+        Kind::Users => owner_of(file),
+        Kind::Groups => group_of(file),
     }
 }
 
 // The file has the set-id bit of the kind, that of groups with the group execute bit alone (choice).
-fn has_id_bit(kind: Kind, f: &FileView) -> bool
-    ensures { result ≡ model_has_id_bit kind f.now }
+fn has_id_bit(kind: Kind, file: &FileView) -> bool
+    ensures { result ≡ model_has_id_bit kind file.now }
 {
     match kind {
-        Kind::Users => f.has_bit(0o4000),
-        Kind::Groups => f.has_bit(0o2000) && f.has_bit(0o010),
+        Kind::Users => file.has_bit(0o4000),
+        Kind::Groups => file.has_bit(0o2000) && file.has_bit(0o010),
     }
 }
 

@@ -46,22 +46,22 @@ fn member_held(st: &State, n: SpaceId, pid: Pid, row: &BoxRow) -> bool
 }
 
 // The row holds what the credentials put into it.
-fn cred_held(c: &Cred, row: &BoxRow) -> bool
-    ensures { IsTrue result ↔ HoldsAll (RowHolds row.now) (CredHas c.now) }
+fn cred_held(cred: &Cred, row: &BoxRow) -> bool
+    ensures { IsTrue result ↔ HoldsAll (RowHolds row.now) (CredHas cred.now) }
 {
-    if !four_held(c.user_ids(), &row.u, &row.eu, &row.fu) {
+    if !four_held(cred.user_ids(), &row.u, &row.eu, &row.fu) {
         return false;
     }
-    if !four_held(c.group_ids(), &row.g, &row.eg, &row.fg) {
+    if !four_held(cred.group_ids(), &row.g, &row.eg, &row.fg) {
         return false;
     }
-    if !groups_held(c.groups.items(), &row.s) {
+    if !groups_held(cred.groups.items(), &row.s) {
         return false;
     }
-    if !sets_held(c, row) {
+    if !sets_held(cred, row) {
         return false;
     }
-    flags_held(c, row)
+    flags_held(cred, row)
 }
 
 // The sets hold the four ids.
@@ -96,29 +96,29 @@ fn groups_held(groups: &[Kgid], set: &IdSet) -> bool
 }
 
 // The row holds the permitted, inheritable and bounding sets.
-fn sets_held(c: &Cred, row: &BoxRow) -> bool
-    ensures { IsTrue result ↔ SetsHeld (RowHolds row.now) c.now }
+fn sets_held(cred: &Cred, row: &BoxRow) -> bool
+    ensures { IsTrue result ↔ SetsHeld (RowHolds row.now) cred.now }
 {
-    if !CapSet(c.prm).within(&row.p) {
+    if !CapSet(cred.prm).within(&row.p) {
         return false;
     }
-    if !CapSet(c.inh).within(&row.i) {
+    if !CapSet(cred.inh).within(&row.i) {
         return false;
     }
-    CapSet(c.bnd).within(&row.b)
+    CapSet(cred.bnd).within(&row.b)
 }
 
 // The row holds the flags.
-fn flags_held(c: &Cred, row: &BoxRow) -> bool
-    ensures { IsTrue result ↔ FlagsHeld (RowHolds row.now) c.now }
+fn flags_held(cred: &Cred, row: &BoxRow) -> bool
+    ensures { IsTrue result ↔ FlagsHeld (RowHolds row.now) cred.now }
 {
-    if !c.nnp && !row.n.holds(&()) {
+    if !cred.nnp && !row.n.holds(&()) {
         return false;
     }
-    if !c.sec.has(SecBits::NOROOT) && !row.r.holds(&()) {
+    if !cred.sec.has(SecBits::NOROOT) && !row.r.holds(&()) {
         return false;
     }
-    c.sec.has(SecBits::NOROOT << 1) || row.k.holds(&())
+    cred.sec.has(SecBits::NOROOT << 1) || row.k.holds(&())
 }
 
 /// The set holds the outside ids of the map, where it is written.
@@ -136,8 +136,8 @@ fn extents_held(list: &[Extent], set: &IdSet) -> bool
     requires { IsMap list.now }
     ensures { IsTrue result ↔ MapHeld list.now (Held set.now) }
 {
-    for e in list {
-        if !extent_held(e, set) {
+    for extent in list {
+        if !extent_held(extent, set) {
             return false;
         }
     }
@@ -145,12 +145,12 @@ fn extents_held(list: &[Extent], set: &IdSet) -> bool
 }
 
 // The set holds the outside ids of one line.
-fn extent_held(e: &Extent, set: &IdSet) -> bool
-    requires { e.now.outside + e.now.length ≤ id_count }
-    ensures { IsTrue result ↔ ((x : ℕ) → IsTrue (lies_in e.now.outside e.now.length x) → Held set.now x) }
+fn extent_held(extent: &Extent, set: &IdSet) -> bool
+    requires { extent.now.outside + extent.now.length ≤ id_count }
+    ensures { IsTrue result ↔ ((x : ℕ) → IsTrue (lies_in extent.now.outside extent.now.length x) → Held set.now x) }
 {
-    if e.length == 0 {
+    if extent.length == 0 {
         return true;
     }
-    set.holds_range(e.outside, e.outside + (e.length - 1))
+    set.holds_range(extent.outside, extent.outside + (extent.length - 1))
 }

@@ -17,94 +17,94 @@ use cm_sets::SetLike;
 use cm_state::Spaces;
 
 /// A member may run the file.
-pub fn can_run(row: &BoxRow, f: &FileView) -> bool
-    ensures { IsTrue result ↔ CanRun (RowHolds row.now) f.now }
+pub fn can_run(row: &BoxRow, file: &FileView) -> bool
+    ensures { IsTrue result ↔ CanRun (RowHolds row.now) file.now }
 {
-    if f.noexec {
+    if file.noexec {
         return false;
     }
-    if runs_as_owner(row, f) {
+    if runs_as_owner(row, file) {
         return true;
     }
-    if runs_as_group(row, f) {
+    if runs_as_group(row, file) {
         return true;
     }
-    if runs_as_other(row, f) {
+    if runs_as_other(row, file) {
         return true;
     }
-    runs_by_override(row, f)
+    runs_by_override(row, file)
 }
 
 // The owner's bit can be the one that counts.
-fn runs_as_owner(row: &BoxRow, f: &FileView) -> bool
-    ensures { IsTrue result ↔ AsOwner (RowHolds row.now) f.now }
+fn runs_as_owner(row: &BoxRow, file: &FileView) -> bool
+    ensures { IsTrue result ↔ AsOwner (RowHolds row.now) file.now }
 {
-    if !f.has_bit(0o100) {
+    if !file.has_bit(0o100) {
         return false;
     }
-    has_id(&row.fu, owner_of(f))
+    has_id(&row.fu, owner_of(file))
 }
 
 // The group's bit can be.
-fn runs_as_group(row: &BoxRow, f: &FileView) -> bool
-    ensures { IsTrue result ↔ AsGroup (RowHolds row.now) f.now }
+fn runs_as_group(row: &BoxRow, file: &FileView) -> bool
+    ensures { IsTrue result ↔ AsGroup (RowHolds row.now) file.now }
 {
-    if !f.has_bit(0o010) {
+    if !file.has_bit(0o010) {
         return false;
     }
-    if !has_other(&row.fu, owner_of(f)) {
+    if !has_other(&row.fu, owner_of(file)) {
         return false;
     }
-    if has_id(&row.fg, group_of(f)) {
+    if has_id(&row.fg, group_of(file)) {
         return true;
     }
-    has_id(&row.s, group_of(f))
+    has_id(&row.s, group_of(file))
 }
 
 // The bit of the others can be.
-fn runs_as_other(row: &BoxRow, f: &FileView) -> bool
-    ensures { IsTrue result ↔ AsOther (RowHolds row.now) f.now }
+fn runs_as_other(row: &BoxRow, file: &FileView) -> bool
+    ensures { IsTrue result ↔ AsOther (RowHolds row.now) file.now }
 {
-    if !f.has_bit(0o001) {
+    if !file.has_bit(0o001) {
         return false;
     }
-    if !has_other(&row.fu, owner_of(f)) {
+    if !has_other(&row.fu, owner_of(file)) {
         return false;
     }
-    has_other(&row.fg, group_of(f))
+    has_other(&row.fg, group_of(file))
 }
 
 // CAP_DAC_OVERRIDE allows it.
-fn runs_by_override(row: &BoxRow, f: &FileView) -> bool
-    ensures { IsTrue result ↔ ByOverride (RowHolds row.now) f.now }
+fn runs_by_override(row: &BoxRow, file: &FileView) -> bool
+    ensures { IsTrue result ↔ ByOverride (RowHolds row.now) file.now }
 {
-    if !f.has_bit(0o111) {
+    if !file.has_bit(0o111) {
         return false;
     }
     if !row.p.holds(&Cap::DAC_OVERRIDE) {
         return false;
     }
-    if !has_id(&row.mu, owner_of(f)) {
+    if !has_id(&row.mu, owner_of(file)) {
         return false;
     }
-    has_id(&row.mg, group_of(f))
+    has_id(&row.mg, group_of(file))
 }
 
 // The file's set-id bits can count for a member in the row of that standing space.
-pub(crate) fn set_id_can(spaces: &Spaces, n: SpaceId, row: &BoxRow, f: &FileView) -> bool
+pub(crate) fn set_id_can(spaces: &Spaces, n: SpaceId, row: &BoxRow, file: &FileView) -> bool
     requires { n.0 < length spaces.now }
-    ensures { IsTrue result ↔ SetIdCan spaces.now n.0 (RowHolds row.now) f.now }
+    ensures { IsTrue result ↔ SetIdCan spaces.now n.0 (RowHolds row.now) file.now }
 {
     if !may_gain(row) {
         return false;
     }
-    if !may_raise_in(spaces, n, f) {
+    if !may_raise_in(spaces, n, file) {
         return false;
     }
-    if !has_id(&row.mu, owner_of(f)) {
+    if !has_id(&row.mu, owner_of(file)) {
         return false;
     }
-    has_id(&row.mg, group_of(f))
+    has_id(&row.mg, group_of(file))
 }
 
 /// A member may lack no_new_privs.
@@ -116,41 +116,41 @@ pub fn may_gain(row: &BoxRow) -> bool
 
 /// Programs of the file's mount may raise privilege in the space: the mount isn't nosuid, and the space is the mount's
 /// or below it (choice).
-pub fn may_raise_in(spaces: &Spaces, n: SpaceId, f: &FileView) -> bool
+pub fn may_raise_in(spaces: &Spaces, n: SpaceId, file: &FileView) -> bool
     requires { n.0 < length spaces.now }
-    ensures { result ≡ model_may_raise_in spaces.now n.0 f.now }
+    ensures { result ≡ model_may_raise_in spaces.now n.0 file.now }
 {
-    !f.nosuid && spaces.ancestor(f.space, n)
+    !file.nosuid && spaces.ancestor(file.space, n)
 }
 
 // The number of the file's owner, where it has one.
-pub(crate) fn owner_of(f: &FileView) -> Option<u32>
-    ensures value { result ≡ f.now.owner }
+pub(crate) fn owner_of(file: &FileView) -> Option<u32>
+    ensures value { result ≡ file.now.owner }
     ensures is_id { IfSome result (λ id. id < id_count) }
 {
-    match f.owner {
+    match file.owner {
         Some(id) => Some(id.number()),
         None => None,
     }
 }
 
 // The number of the file's group, where it has one.
-pub(crate) fn group_of(f: &FileView) -> Option<u32>
-    ensures value { result ≡ f.now.group }
+pub(crate) fn group_of(file: &FileView) -> Option<u32>
+    ensures value { result ≡ file.now.group }
     ensures is_id { IfSome result (λ id. id < id_count) }
 {
-    match f.group {
+    match file.group {
         Some(id) => Some(id.number()),
         None => None,
     }
 }
 
 /// The root id of the file's attribute, where it has one.
-pub fn root_of(f: &FileView) -> Option<u32>
-    ensures value { result ≡ f.now.root }
+pub fn root_of(file: &FileView) -> Option<u32>
+    ensures value { result ≡ file.now.root }
     ensures is_id { IfSome result (λ id. id < id_count) }
 {
-    match f.root {
+    match file.root {
         Some(id) => Some(id.number()),
         None => None,
     }

@@ -144,13 +144,13 @@ fn new_uids_held(row: &BoxRow, parent: &BoxRow, owner: Kuid) -> bool
 }
 
 // A member of the row can be the owner, and can have the capability.
-pub(crate) fn is_owner_with(row: &BoxRow, owner: Kuid, c: Cap) -> bool
-    ensures { IsTrue result ↔ (RowHolds row.now EffectiveUids owner × RowHolds row.now PermittedCaps c) }
+pub(crate) fn is_owner_with(row: &BoxRow, owner: Kuid, cap: Cap) -> bool
+    ensures { IsTrue result ↔ (RowHolds row.now EffectiveUids owner × RowHolds row.now PermittedCaps cap) }
 {
     if !row.eu.holds(&owner.number()) {
         return false;
     }
-    row.p.holds(&c)
+    row.p.holds(&cap)
 }
 
 // The group ids are.

@@ -22,8 +22,8 @@ use cm_filter::Filter;
 use cm_state::{Right, State, see_state};
 use std::alloc::Global;
 
-/// What is blamed: the rule and the row after which the sweep first meets a right; no rule where the start bounds meet it,
-/// by that row first. And the bounds just before.
+/// What is blamed: the rule and the row after which the sweep first meets a right; no rule where the start bounds meet
+/// it, by that row first. And the bounds just before.
 #[derive(Debug, Drop)]
 pub struct Blamed {
     pub rule: Option<Rule>,
@@ -37,44 +37,44 @@ pub fn blame(
     alloc: Global,
     st: &State,
     files: &FileTable,
-    f: Filter,
+    filter: Filter,
     members: &[Pid],
     right: &Right,
 ) -> Result<Blamed, NoMemory>
     requires few { length st.now.spaces < 2 ^ 31 }
     requires named { IsOverStanding st.now.spaces (right_of right.now) }
-    requires met { AllMeet (permits f) files.now st.now members.now (right_of right.now) }
-    ensures blamed { OrNoMemory result (λ x. IsBlame (permits f) files.now st.now members.now (right_of right.now)
-        (blame_told x.rule x.row) (bounds_hold x.below)) }
-    ensures count { OrNoMemory result (λ x. length x.below ≡ 2 * length st.now.spaces) }
-    ensures written { OrNoMemory result (λ x. All IsRow x.below) }
+    requires met { AllMeet (permits filter) files.now st.now members.now (right_of right.now) }
+    ensures blamed { OrNoMemory result (λ blamed. IsBlame (permits filter) files.now st.now members.now
+        (right_of right.now) (blame_told blamed.rule blamed.row) (bounds_hold blamed.below)) }
+    ensures count { OrNoMemory result (λ blamed. length blamed.below ≡ 2 * length st.now.spaces) }
+    ensures written { OrNoMemory result (λ blamed. All IsRow blamed.below) }
 {
     see_state(st);
-    let s = Setting {
+    let setting = Setting {
         state: st,
         files,
-        filter: f,
+        filter,
     };
-    let mut b = start_bounds(alloc, st, members)?;
-    match meets(st, &b, right) {
+    let mut bounds = start_bounds(alloc, st, members)?;
+    match meets(st, &bounds, right) {
         Some(row) => {
-            see_rows(b.rows.items());
+            see_rows(bounds.rows.items());
             return Ok(Blamed {
                 rule: None,
                 row,
-                below: b,
+                below: bounds,
             });
         }
         None => {}
     }
     loop {
-        match try_round(alloc, &s, right, &mut b)? {
-            Some((x, row)) => {
-                see_rows(b.rows.items());
+        match try_round(alloc, &setting, right, &mut bounds)? {
+            Some((rule, row)) => {
+                see_rows(bounds.rows.items());
                 return Ok(Blamed {
-                    rule: Some(x),
+                    rule: Some(rule),
                     row,
-                    below: b,
+                    below: bounds,
                 });
             }
             None => {}
@@ -85,25 +85,29 @@ pub fn blame(
 // A round, up to the turn after which the right is met; the bounds are then those before it.
 fn try_round(
     alloc: Global,
-    s: &Setting<'_>,
+    setting: &Setting<'_>,
     right: &Right,
-    b: &mut Bounds,
+    bounds: &mut Bounds,
 ) -> Result<Option<(Rule, u32)>, NoMemory>
-    requires rows { length b.old ≡ row_count s.now.state.now.spaces }
-    requires few { length s.now.state.now.spaces < 2 ^ 31 }
-    requires named { IsOverStanding s.now.state.now.spaces (right_of right.now) }
-    ensures count { length b.new ≡ length b.old }
-    ensures apart { OrNoMemory result (λ _. KeepsApart s.now.state.now.spaces (right_of right.now) b.old b.new) }
-    ensures none { OrNoMemory result (λ o. IfNone o ((round : ℕ) → Sweeps (permits s.now.filter) s.now.files.now
-        s.now.state.now (14 * round * row_count s.now.state.now.spaces) (14 * suc round * row_count s.now.state.now.spaces) b.old b.new)) }
-    ensures some { OrNoMemory result (λ o. IfSome o (λ t. (t.1 < row_count s.now.state.now.spaces) × ((round : ℕ) →
-        Stopped (permits s.now.filter) s.now.files.now s.now.state.now (right_of right.now) (14 * round * row_count s.now.state.now.spaces)
-        ((14 * round + rule_number (rule_of t.0)) * row_count s.now.state.now.spaces + t.1) b.old b.new))) }
+    requires rows { length bounds.old ≡ row_count setting.now.state.now.spaces }
+    requires few { length setting.now.state.now.spaces < 2 ^ 31 }
+    requires named { IsOverStanding setting.now.state.now.spaces (right_of right.now) }
+    ensures count { length bounds.new ≡ length bounds.old }
+    ensures apart { OrNoMemory result (λ _. KeepsApart setting.now.state.now.spaces
+        (right_of right.now) bounds.old bounds.new) }
+    ensures none { OrNoMemory result (λ o. IfNone o ((round : ℕ) → Sweeps (permits setting.now.filter)
+        setting.now.files.now setting.now.state.now (14 * round * row_count setting.now.state.now.spaces)
+        (14 * suc round * row_count setting.now.state.now.spaces) bounds.old bounds.new)) }
+    ensures some { OrNoMemory result (λ o. IfSome o (λ t. (t.1 < row_count setting.now.state.now.spaces) ×
+        ((round : ℕ) → Stopped (permits setting.now.filter) setting.now.files.now setting.now.state.now
+        (right_of right.now) (14 * round * row_count setting.now.state.now.spaces)
+        ((14 * round + rule_number (rule_of t.0)) * row_count setting.now.state.now.spaces + t.1) bounds.old
+        bounds.new))) }
 {
     for k in 0..RULES {
-        let x = Rule::of_number(k);
-        match try_rows(alloc, s, right, x, b)? {
-            Some(y) => return Ok(Some((x, y))),
+        let rule = Rule::of_number(k);
+        match try_rows(alloc, setting, right, rule, bounds)? {
+            Some(row) => return Ok(Some((rule, row))),
             None => {}
         }
     }
@@ -113,28 +117,31 @@ fn try_round(
 // A rule at each row, up to the one after which the right is met.
 fn try_rows(
     alloc: Global,
-    s: &Setting<'_>,
+    setting: &Setting<'_>,
     right: &Right,
-    x: Rule,
-    b: &mut Bounds,
+    rule: Rule,
+    bounds: &mut Bounds,
 ) -> Result<Option<u32>, NoMemory>
-    requires rows { length b.old ≡ row_count s.now.state.now.spaces }
-    requires few { length s.now.state.now.spaces < 2 ^ 31 }
-    requires named { IsOverStanding s.now.state.now.spaces (right_of right.now) }
-    ensures count { length b.new ≡ length b.old }
-    ensures apart { OrNoMemory result (λ _. KeepsApart s.now.state.now.spaces (right_of right.now) b.old b.new) }
-    ensures none { OrNoMemory result (λ o. IfNone o ((round : ℕ) → Sweeps (permits s.now.filter) s.now.files.now
-        s.now.state.now ((14 * round + rule_number (rule_of x)) * row_count s.now.state.now.spaces)
-        ((14 * round + suc (rule_number (rule_of x))) * row_count s.now.state.now.spaces) b.old b.new)) }
-    ensures some { OrNoMemory result (λ o. IfSome o (λ y. (y < row_count s.now.state.now.spaces) × ((round : ℕ) →
-        Stopped (permits s.now.filter) s.now.files.now s.now.state.now (right_of right.now)
-        ((14 * round + rule_number (rule_of x)) * row_count s.now.state.now.spaces)
-        ((14 * round + rule_number (rule_of x)) * row_count s.now.state.now.spaces + y) b.old b.new))) }
+    requires rows { length bounds.old ≡ row_count setting.now.state.now.spaces }
+    requires few { length setting.now.state.now.spaces < 2 ^ 31 }
+    requires named { IsOverStanding setting.now.state.now.spaces (right_of right.now) }
+    ensures count { length bounds.new ≡ length bounds.old }
+    ensures apart { OrNoMemory result (λ _. KeepsApart setting.now.state.now.spaces
+        (right_of right.now) bounds.old bounds.new) }
+    ensures none { OrNoMemory result (λ o. IfNone o ((round : ℕ) → Sweeps (permits setting.now.filter)
+        setting.now.files.now setting.now.state.now ((14 * round + rule_number (rule_of rule)) * row_count
+        setting.now.state.now.spaces) ((14 * round + suc (rule_number (rule_of rule))) * row_count
+        setting.now.state.now.spaces) bounds.old bounds.new)) }
+    ensures some { OrNoMemory result (λ o. IfSome o (λ row. (row < row_count setting.now.state.now.spaces) ×
+        ((round : ℕ) → Stopped (permits setting.now.filter) setting.now.files.now setting.now.state.now
+        (right_of right.now) ((14 * round + rule_number (rule_of rule)) * row_count setting.now.state.now.spaces)
+        ((14 * round + rule_number (rule_of rule)) * row_count setting.now.state.now.spaces + row) bounds.old
+        bounds.new))) }
 {
-    let st = s.state;
-    for y in 0..2 * st.spaces.count() {
-        if try_turn(alloc, s, right, x, y, b)? {
-            return Ok(Some(y));
+    let st = setting.state;
+    for row in 0..2 * st.spaces.count() {
+        if try_turn(alloc, setting, right, rule, row, bounds)? {
+            return Ok(Some(row));
         }
     }
     Ok(None)
@@ -143,32 +150,35 @@ fn try_rows(
 // A rule at one row, which stays as it was where it would meet the right afterwards.
 fn try_turn(
     alloc: Global,
-    s: &Setting<'_>,
+    setting: &Setting<'_>,
     right: &Right,
-    x: Rule,
-    y: u32,
-    b: &mut Bounds,
+    rule: Rule,
+    row: u32,
+    bounds: &mut Bounds,
 ) -> Result<bool, NoMemory>
-    requires rows { length b.old ≡ row_count s.now.state.now.spaces }
-    requires few { length s.now.state.now.spaces < 2 ^ 31 }
-    requires named { IsOverStanding s.now.state.now.spaces (right_of right.now) }
-    requires there { y < row_count s.now.state.now.spaces }
-    ensures count { length b.new ≡ length b.old }
-    ensures apart { OrNoMemory result (λ _. KeepsApart s.now.state.now.spaces (right_of right.now) b.old b.new) }
-    ensures goes { OrNoMemory result (λ met. met ≡ false → (round : ℕ) → Sweeps (permits s.now.filter) s.now.files.now
-        s.now.state.now ((14 * round + rule_number (rule_of x)) * row_count s.now.state.now.spaces + y)
-        (suc ((14 * round + rule_number (rule_of x)) * row_count s.now.state.now.spaces + y)) b.old b.new) }
-    ensures stops { OrNoMemory result (λ met. met ≡ true → (b.new ≡ b.old) × ((round : ℕ) → StopsAt (permits s.now.filter) s.now.files.now
-        s.now.state.now (right_of right.now)
-        ((14 * round + rule_number (rule_of x)) * row_count s.now.state.now.spaces + y) b.old)) }
+    requires rows { length bounds.old ≡ row_count setting.now.state.now.spaces }
+    requires few { length setting.now.state.now.spaces < 2 ^ 31 }
+    requires named { IsOverStanding setting.now.state.now.spaces (right_of right.now) }
+    requires there { row < row_count setting.now.state.now.spaces }
+    ensures count { length bounds.new ≡ length bounds.old }
+    ensures apart { OrNoMemory result (λ _. KeepsApart setting.now.state.now.spaces
+        (right_of right.now) bounds.old bounds.new) }
+    ensures goes { OrNoMemory result (λ met. met ≡ false → (round : ℕ) → Sweeps
+        (permits setting.now.filter) setting.now.files.now setting.now.state.now ((14 * round + rule_number
+        (rule_of rule)) * row_count setting.now.state.now.spaces + row)
+        (suc ((14 * round + rule_number (rule_of rule)) * row_count setting.now.state.now.spaces + row)) bounds.old
+        bounds.new) }
+    ensures stops { OrNoMemory result (λ met. met ≡ true → (bounds.new ≡ bounds.old) × ((round : ℕ) → StopsAt
+        (permits setting.now.filter) setting.now.files.now setting.now.state.now (right_of right.now)
+        ((14 * round + rule_number (rule_of rule)) * row_count setting.now.state.now.spaces + row) bounds.old)) }
 {
-    match widened(alloc, x, y, s, b)? {
+    match widened(alloc, rule, row, setting, bounds)? {
         None => Ok(false),
-        Some(row) => {
-            if meets_by(s.state, &row, right, y) {
+        Some(wider) => {
+            if meets_by(setting.state, &wider, right, row) {
                 return Ok(true);
             }
-            b.put(y, row);
+            bounds.put(row, wider);
             Ok(false)
         }
     }

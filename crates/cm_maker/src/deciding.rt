@@ -27,20 +27,20 @@ pub fn decide(
     alloc: Global,
     st: &State,
     files: &FileTable,
-    f: Filter,
+    filter: Filter,
     members: &[Pid],
     right: &Right,
 ) -> Result<Bounded, NoMemory>
     requires few { length st.now.spaces < 2 ^ 31 }
     requires named { IsOverStanding st.now.spaces (right_of right.now) }
-    ensures decided { OrNoMemory result (IsBounded (permits f) files.now st.now members.now (right_of right.now)) }
+    ensures decided { OrNoMemory result (IsBounded (permits filter) files.now st.now members.now (right_of right.now)) }
     ensures written { OrNoMemory result (IsWritten st.now.spaces) }
 {
-    let b = least(alloc, st, files, f, members)?;
-    match meets(st, &b, right) {
-        None => Ok(Bounded::Excludes(b)),
+    let bounds = least(alloc, st, files, filter, members)?;
+    match meets(st, &bounds, right) {
+        None => Ok(Bounded::Excludes(bounds)),
         Some(_) => {
-            let x = blame(alloc, st, files, f, members, right)?;
+            let x = blame(alloc, st, files, filter, members, right)?;
             Ok(Bounded::Blames(x))
         }
     }

@@ -22,27 +22,28 @@ pub fn least(
     alloc: Global,
     st: &State,
     files: &FileTable,
-    f: Filter,
+    filter: Filter,
     members: &[Pid],
 ) -> Result<Bounds, NoMemory>
     requires few { length st.now.spaces < 2 ^ 31 }
-    ensures count { OrNoMemory result (λ b. length b ≡ 2 * length st.now.spaces) }
-    ensures least { OrNoMemory result (λ b. IsLeast (permits f) files.now st.now members.now (bounds_hold b)) }
-    ensures written { OrNoMemory result (λ b. All IsRow b) }
+    ensures count { OrNoMemory result (λ bounds. length bounds ≡ 2 * length st.now.spaces) }
+    ensures least { OrNoMemory result (λ bounds. IsLeast (permits filter) files.now st.now members.now
+        (bounds_hold bounds)) }
+    ensures written { OrNoMemory result (λ bounds. All IsRow bounds) }
 {
     see_state(st);
-    let s = Setting {
+    let setting = Setting {
         state: st,
         files,
-        filter: f,
+        filter,
     };
-    let mut b = start_bounds(alloc, st, members)?;
+    let mut bounds = start_bounds(alloc, st, members)?;
     loop {
-        match closed(st, files, f, &b) {
-            Some(_) => round(alloc, &s, &mut b)?,
+        match closed(st, files, filter, &bounds) {
+            Some(_) => round(alloc, &setting, &mut bounds)?,
             None => {
-                see_rows(b.rows.items());
-                return Ok(b);
+                see_rows(bounds.rows.items());
+                return Ok(bounds);
             }
         }
     }

@@ -12,47 +12,65 @@ use cm_box::{Bounds, RULES, Rule, Setting, widened};
 use std::alloc::Global;
 
 // A round: each rule at each row.
-pub(crate) fn round(alloc: Global, s: &Setting<'_>, b: &mut Bounds) -> Result<(), NoMemory>
-    requires rows { length b.old ≡ row_count s.now.state.now.spaces }
-    requires few { length s.now.state.now.spaces < 2 ^ 31 }
-    ensures count { length b.new ≡ length b.old }
-    ensures swept { OrNoMemory result (λ _. (round : ℕ) → Sweeps (permits s.now.filter) s.now.files.now s.now.state.now
-        (14 * round * row_count s.now.state.now.spaces) (14 * suc round * row_count s.now.state.now.spaces) b.old b.new) }
+pub(crate) fn round(
+    alloc: Global,
+    setting: &Setting<'_>,
+    bounds: &mut Bounds,
+) -> Result<(), NoMemory>
+    requires rows { length bounds.old ≡ row_count setting.now.state.now.spaces }
+    requires few { length setting.now.state.now.spaces < 2 ^ 31 }
+    ensures count { length bounds.new ≡ length bounds.old }
+    ensures swept { OrNoMemory result (λ _. (round : ℕ) → Sweeps (permits setting.now.filter) setting.now.files.now
+        setting.now.state.now (14 * round * row_count setting.now.state.now.spaces)
+        (14 * suc round * row_count setting.now.state.now.spaces) bounds.old bounds.new) }
 {
     for k in 0..RULES {
-        over_rows(alloc, s, Rule::of_number(k), b)?;
+        over_rows(alloc, setting, Rule::of_number(k), bounds)?;
     }
     Ok(())
 }
 
 // A rule at each row.
-fn over_rows(alloc: Global, s: &Setting<'_>, x: Rule, b: &mut Bounds) -> Result<(), NoMemory>
-    requires rows { length b.old ≡ row_count s.now.state.now.spaces }
-    requires few { length s.now.state.now.spaces < 2 ^ 31 }
-    ensures count { length b.new ≡ length b.old }
-    ensures swept { OrNoMemory result (λ _. (round : ℕ) → Sweeps (permits s.now.filter) s.now.files.now s.now.state.now
-        ((14 * round + rule_number (rule_of x)) * row_count s.now.state.now.spaces)
-        ((14 * round + suc (rule_number (rule_of x))) * row_count s.now.state.now.spaces) b.old b.new) }
+fn over_rows(
+    alloc: Global,
+    setting: &Setting<'_>,
+    rule: Rule,
+    bounds: &mut Bounds,
+) -> Result<(), NoMemory>
+    requires rows { length bounds.old ≡ row_count setting.now.state.now.spaces }
+    requires few { length setting.now.state.now.spaces < 2 ^ 31 }
+    ensures count { length bounds.new ≡ length bounds.old }
+    ensures swept { OrNoMemory result (λ _. (round : ℕ) → Sweeps (permits setting.now.filter) setting.now.files.now
+        setting.now.state.now ((14 * round + rule_number (rule_of rule)) * row_count setting.now.state.now.spaces)
+        ((14 * round + suc (rule_number (rule_of rule))) * row_count setting.now.state.now.spaces) bounds.old
+        bounds.new) }
 {
-    let st = s.state;
-    for y in 0..2 * st.spaces.count() {
-        turn(alloc, s, x, y, b)?;
+    let st = setting.state;
+    for row in 0..2 * st.spaces.count() {
+        turn(alloc, setting, rule, row, bounds)?;
     }
     Ok(())
 }
 
 // A rule at one row.
-fn turn(alloc: Global, s: &Setting<'_>, x: Rule, y: u32, b: &mut Bounds) -> Result<(), NoMemory>
-    requires rows { length b.old ≡ row_count s.now.state.now.spaces }
-    requires few { length s.now.state.now.spaces < 2 ^ 31 }
-    requires there { y < row_count s.now.state.now.spaces }
-    ensures count { length b.new ≡ length b.old }
-    ensures swept { OrNoMemory result (λ _. (round : ℕ) → Sweeps (permits s.now.filter) s.now.files.now s.now.state.now
-        ((14 * round + rule_number (rule_of x)) * row_count s.now.state.now.spaces + y)
-        (suc ((14 * round + rule_number (rule_of x)) * row_count s.now.state.now.spaces + y)) b.old b.new) }
+fn turn(
+    alloc: Global,
+    setting: &Setting<'_>,
+    rule: Rule,
+    row: u32,
+    bounds: &mut Bounds,
+) -> Result<(), NoMemory>
+    requires rows { length bounds.old ≡ row_count setting.now.state.now.spaces }
+    requires few { length setting.now.state.now.spaces < 2 ^ 31 }
+    requires there { row < row_count setting.now.state.now.spaces }
+    ensures count { length bounds.new ≡ length bounds.old }
+    ensures swept { OrNoMemory result (λ _. (round : ℕ) → Sweeps (permits setting.now.filter) setting.now.files.now
+        setting.now.state.now ((14 * round + rule_number (rule_of rule)) * row_count setting.now.state.now.spaces + row)
+        (suc ((14 * round + rule_number (rule_of rule)) * row_count setting.now.state.now.spaces + row)) bounds.old
+        bounds.new) }
 {
-    match widened(alloc, x, y, s, b)? {
-        Some(row) => b.put(y, row),
+    match widened(alloc, rule, row, setting, bounds)? {
+        Some(wider) => bounds.put(row, wider),
         None => {}
     }
     Ok(())

@@ -11,7 +11,7 @@ use Rattle.model_box.specs.Row.{Standing}
 pub returns-then-zero_in : goal.returns-then-zero_in
 returns-then-zero_in c =
     let spaces = c.args.spaces.now in
-    let Zero = λ (a : ℕ). ZeroIn spaces (RowsHold c.args.b.now) (Standing a) c.args.id in
+    let Zero = λ (a : ℕ). ZeroIn spaces (RowsHold c.args.bounds.now) (Standing a) c.args.id in
     let parent = option_map (λ (p : SpaceId). p.0) c.parent-parent.result in
     let zero = c.zero_in.ensures.0 c.if-zero_in.true in
     let some = some_here spaces Zero c.loop-parent.at.0 parent c.parent-parent.ensures.chain zero in
@@ -20,7 +20,7 @@ returns-then-zero_in c =
 pub returns-in-None : goal.returns-in-None
 returns-in-None c =
     let spaces = c.args.spaces.now in
-    let Zero = λ (a : ℕ). ZeroIn spaces (RowsHold c.args.b.now) (Standing a) c.args.id in
+    let Zero = λ (a : ℕ). ZeroIn spaces (RowsHold c.args.bounds.now) (Standing a) c.args.id in
     let last = some_end spaces Zero c.loop-parent.at.0 c.in-None.ensures.chain in (
       λ wrong. absurd (cc),
       λ some.

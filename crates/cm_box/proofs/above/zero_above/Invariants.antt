@@ -7,7 +7,7 @@ use Rattle.model_box.specs.Files.{ZeroAbove}
 abbrev pub invariant-loop-parent : goal.invariant-loop-parent
 invariant-loop-parent l = record {
   stands : l.at.0 < length l.spaces;
-  same : ZeroAbove l.spaces (RowsHold l.b) l.at.0 (Some l.id) ↔ ZeroAbove l.spaces (RowsHold l.b) l.fn.n.0 (Some l.id);
+  same : ZeroAbove l.spaces (RowsHold l.bounds) l.at.0 (Some l.id) ↔ ZeroAbove l.spaces (RowsHold l.bounds) l.fn.n.0 (Some l.id);
 }
 
 abbrev pub decreases-loop-parent : goal.decreases-loop-parent

@@ -14,7 +14,7 @@ use Rattle.cm_box.proofs.adding.gained.Goals as goal
 pub returns-in-ExecUid : goal.returns-in-ExecUid
 returns-in-ExecUid c =
     let spaces = ap (λ (s : State). s.spaces) c.st.view_is in
-    let row = RowsHold c.args.b.now (row_of c.args.at) in
+    let row = RowsHold c.args.bounds.now (row_of c.args.at) in
     let by = GivenByFile Users c.args.files.now c.args.st.now.spaces (space_under (row_of c.args.at)) row in
     let as_named = by_file c.args.files.now c.args.st.now.spaces (space_under (row_of c.args.at)) row Users in
     rw c.in-ExecUid.is (or_more c.exec_ids_gained.result _ _
@@ -24,7 +24,7 @@ returns-in-ExecUid c =
 pub returns-in-ExecGid : goal.returns-in-ExecGid
 returns-in-ExecGid c =
     let spaces = ap (λ (s : State). s.spaces) c.st.view_is in
-    let row = RowsHold c.args.b.now (row_of c.args.at) in
+    let row = RowsHold c.args.bounds.now (row_of c.args.at) in
     let by = GivenByFile kinds.Groups c.args.files.now c.args.st.now.spaces (space_under (row_of c.args.at)) row in
     let as_named = by_file c.args.files.now c.args.st.now.spaces (space_under (row_of c.args.at)) row kinds.Groups in
     rw c.in-ExecGid.is (or_more c.exec_ids_gained-in-ExecGid.result _ _

@@ -13,7 +13,7 @@ returns-then-not-permits c =
     let out = rw c.map_call.ensures at c.if-not-permits.ensures in
     rw c.empty.ensures (λ x. (
       λ held. absurd (false≢true held),
-      λ by. absurd (none_called (permits c.args.f) c.args.spaces.now (RowsHold c.args.b.now) c.args.kind
+      λ by. absurd (none_called (permits c.args.filter) c.args.spaces.now (RowsHold c.args.bounds.now) c.args.kind
           (row_of c.args.at) out x by),
     ))
 
@@ -21,14 +21,14 @@ pub returns-in-Standing : goal.returns-in-Standing
 returns-in-Standing c =
     let can = sym (rw c.map_call.ensures at c.if-not-permits.ensures) in
     rw c.in-Standing.is (or_more c.ids_written.result _ _ c.ids_written.ensures (λ ids is. same_on is
-    (comes_standing (permits c.args.f) c.args.spaces.now (RowsHold c.args.b.now) c.args.kind c.in-Standing.n.0 can)))
+    (comes_standing (permits c.args.filter) c.args.spaces.now (RowsHold c.args.bounds.now) c.args.kind c.in-Standing.n.0 can)))
 
 pub returns-then-is_empty : goal.returns-then-is_empty
 returns-then-is_empty c =
     let none = none_read _ _ (c.fresh.view_is ∙ c.row-fresh.ensures) (c.if-is_empty.ensures.yes refl) in
     rw (c.in-Fresh.is, c.empty-then-is_empty.ensures) (λ x. (
       λ held. absurd (false≢true held),
-      λ by. absurd (none_there (permits c.args.f) c.args.spaces.now (RowsHold c.args.b.now) c.args.kind
+      λ by. absurd (none_there (permits c.args.filter) c.args.spaces.now (RowsHold c.args.bounds.now) c.args.kind
           c.in-Fresh.n.0 none x by),
     ))
 
@@ -38,4 +38,4 @@ returns-else-is_empty c =
     let some = members_read _ _ (c.fresh.view_is ∙ c.row-fresh.ensures) (c.if-is_empty.ensures.no refl) in
     rw c.in-Fresh.is (or_more c.fresh_ids.result _ _ (rw (c.row.ensures, c.row-fresh.ensures) at c.fresh_ids.ensures)
     (λ ids is. same_on is
-    (comes_fresh (permits c.args.f) c.args.spaces.now (RowsHold c.args.b.now) c.args.kind c.in-Fresh.n.0 can some)))
+    (comes_fresh (permits c.args.filter) c.args.spaces.now (RowsHold c.args.bounds.now) c.args.kind c.in-Fresh.n.0 can some)))

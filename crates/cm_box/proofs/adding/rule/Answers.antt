@@ -8,7 +8,7 @@ use Rattle.cm_box.proofs.adding.rule.Goals as goal
 
 pub returns-clause-joined : goal.returns-clause-joined
 returns-clause-joined c =
-    rw c.put.ensures (widened_at c.args.b.now c.in_ok-new.new c.args.row c.in_ok-wider.wider
-    (Adds (permits c.args.s.now.filter) c.args.s.now.files.now c.args.s.now.state.now.spaces (RowsHold c.args.b.now)
-    (rule_of c.args.x) (row_at c.args.row)) c.in_ok-new.ensures.same
+    rw c.put.ensures (widened_at c.args.bounds.now c.in_ok-new.new c.args.row c.in_ok-wider.wider
+    (Adds (permits c.args.setting.now.filter) c.args.setting.now.files.now c.args.setting.now.state.now.spaces (RowsHold c.args.bounds.now)
+    (rule_of c.args.rule) (row_at c.args.row)) c.in_ok-new.ensures.same
     (rw c.in_ok-new.ensures.count c.requires.there) c.in_ok-wider.ensures)

@@ -11,10 +11,10 @@ use Rattle.cm_box.proofs.adding.with_added.Goals as goal
 
 pub returns : goal.returns
 returns c =
-    let row_is : c.row.result.now ≡ row_in c.args.b.now c.args.row =
-    c.row.ensures ∙ ap (λ (r : Row). row_in c.args.b.now (row_number r)) c.of_number-at.ensures
-    ∙ ap (row_in c.args.b.now) (number_back c.args.row) in
-    added_to c.args.b.now c.args.row c.in_ok-more.more c.in_ok-wider.wider
-    (Adds (permits c.args.s.now.filter) c.args.s.now.files.now c.args.s.now.state.now.spaces (RowsHold c.args.b.now)
-    (rule_of c.args.x) (row_at c.args.row)) (rw c.of_number-at.ensures at c.in_ok-more.ensures)
+    let row_is : c.row.result.now ≡ row_in c.args.bounds.now c.args.row =
+    c.row.ensures ∙ ap (λ (r : Row). row_in c.args.bounds.now (row_number r)) c.of_number-at.ensures
+    ∙ ap (row_in c.args.bounds.now) (number_back c.args.row) in
+    added_to c.args.bounds.now c.args.row c.in_ok-more.more c.in_ok-wider.wider
+    (Adds (permits c.args.setting.now.filter) c.args.setting.now.files.now c.args.setting.now.state.now.spaces (RowsHold c.args.bounds.now)
+    (rule_of c.args.rule) (row_at c.args.row)) (rw c.of_number-at.ensures at c.in_ok-more.ensures)
     (rw row_is at c.in_ok-wider.ensures)

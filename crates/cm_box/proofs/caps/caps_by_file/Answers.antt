@@ -15,9 +15,9 @@ Holds Set caps = (x : ℕ) → IsTrue (holds caps.0 x) ↔ Set x
 pub returns : goal.returns
 returns c =
     let can = c.attribute_can.ensures.0 c.if-not-attribute_can.false in
-    let here = cap_here c.args.b.now (row_of c.args.at) c.row.result.now c.row.ensures c.args.files.now c.args.k
-    c.view_at-f.result.now c.view_at-f.ensures c.args.spaces.now can in
-    IfOk-weaker c.gives.result (Holds (FileGives (RowHolds c.row.result.now) c.view_at-f.result.now))
-    (Holds (CapGiven c.args.files.now c.args.spaces.now (RowsHold c.args.b.now) (row_of c.args.at) c.args.k))
+    let here = cap_here c.args.bounds.now (row_of c.args.at) c.row.result.now c.row.ensures c.args.files.now c.args.k
+    c.view_at-file.result.now c.view_at-file.ensures c.args.spaces.now can in
+    IfOk-weaker c.gives.result (Holds (FileGives (RowHolds c.row.result.now) c.view_at-file.result.now))
+    (Holds (CapGiven c.args.files.now c.args.spaces.now (RowsHold c.args.bounds.now) (row_of c.args.at) c.args.k))
     (λ caps held x. (λ has. (here x).0 ((held x).0 has), λ given. (held x).1 ((here x).1 given)))
     c.gives.ensures

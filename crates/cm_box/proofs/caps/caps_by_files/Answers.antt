@@ -14,11 +14,11 @@ In caps x = IsTrue (holds caps.0 x)
 
 pub loop-k-preserved : goal.loop-k-preserved
 loop-k-preserved c =
-    gathered_join (CapGiven c.args.files.now c.args.spaces.now (RowsHold c.args.b.now) (row_of c.args.at))
+    gathered_join (CapGiven c.args.files.now c.args.spaces.now (RowsHold c.args.bounds.now) (row_of c.args.at))
     (In c.loop-k.caps) (In c.in_ok-more.more) (In c.in_ok-caps.caps) c.loop-k.k c.loop-k.invariant
     c.in_ok-more.ensures c.in_ok-caps.ensures
 
 pub returns : goal.returns
 returns c =
-    all_caps c.args.files.now c.args.spaces.now (RowsHold c.args.b.now) (row_of c.args.at) (In c.loop-k.caps) c.loop-k.k
+    all_caps c.args.files.now c.args.spaces.now (RowsHold c.args.bounds.now) (row_of c.args.at) (In c.loop-k.caps) c.loop-k.k
     (omega (arith, ap length c.rows-k-end.ensures.value)) c.loop-k.invariant

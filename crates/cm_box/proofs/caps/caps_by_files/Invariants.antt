@@ -9,4 +9,4 @@ use Rattle.cm_box_rows.specs.Rows.{RowsHold}
 
 abbrev pub invariant-loop-k : goal.invariant-loop-k
 invariant-loop-k l =
-    (x : ℕ) → IsTrue (holds l.caps.0 x) ↔ GivenBelow (CapGiven l.files l.spaces (RowsHold l.b) (row_of l.at)) l.k x
+    (x : ℕ) → IsTrue (holds l.caps.0 x) ↔ GivenBelow (CapGiven l.files l.spaces (RowsHold l.bounds) (row_of l.at)) l.k x

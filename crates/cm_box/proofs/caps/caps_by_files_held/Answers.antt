@@ -10,7 +10,7 @@ use Rattle.model_box.specs.Row.{PermittedCaps}
 
 pub loop-k-preserved : goal.loop-k-preserved
 loop-k-preserved c =
-    let bounds = RowsHold c.args.b.now in
+    let bounds = RowsHold c.args.bounds.now in
     let row = row_of c.args.at in
     let Gives = CapGiven c.args.files.now c.args.spaces.now bounds row in
     each_more (λ (k : ℕ). IsWithin (Gives k) (bounds row PermittedCaps)) c.loop-k.k c.loop-k.invariant
@@ -18,7 +18,7 @@ loop-k-preserved c =
 
 pub returns : goal.returns
 returns c =
-    let bounds = RowsHold c.args.b.now in
+    let bounds = RowsHold c.args.bounds.now in
     let row = row_of c.args.at in (
       λ _. each_cap c.args.files.now c.args.spaces.now bounds row (bounds row PermittedCaps) c.loop-k.k
           (omega (arith, ap length c.rows-k-end.ensures.value)) c.loop-k.invariant,

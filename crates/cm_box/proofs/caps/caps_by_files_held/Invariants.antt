@@ -7,5 +7,5 @@ use Rattle.model_box.specs.Row.{PermittedCaps}
 
 abbrev pub invariant-loop-k : goal.invariant-loop-k
 invariant-loop-k l =
-    (k : ℕ) → k < l.k → (x : ℕ) → CapGiven l.files l.spaces (RowsHold l.b) (row_of l.at) k x
-    → RowsHold l.b (row_of l.at) PermittedCaps x
+    (k : ℕ) → k < l.k → (x : ℕ) → CapGiven l.files l.spaces (RowsHold l.bounds) (row_of l.at) k x
+    → RowsHold l.bounds (row_of l.at) PermittedCaps x

@@ -6,4 +6,4 @@ use Rattle.cm_filter.specs.Filters.{permits}
 use Rattle.model_box.specs.Rule.{Rule, rule_number}
 
 abbrev pub invariant-loop-k : goal.invariant-loop-k
-invariant-loop-k l = (rule : Rule) → rule_number rule < l.k → ClosedIn (permits l.f) l.files l.st.spaces (RowsHold l.b) rule
+invariant-loop-k l = (rule : Rule) → rule_number rule < l.k → ClosedIn (permits l.filter) l.files l.st.spaces (RowsHold l.bounds) rule

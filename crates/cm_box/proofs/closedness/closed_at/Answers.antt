@@ -13,17 +13,18 @@ returns-in-Create c =
     let spaces = ap (λ (s : State). s.spaces) c.st.view_is in
     let can = rw c.in-Create.is at (sym c.if-not-permits_rule.ensures) in
     rw c.in-Create.is (on (rw spaces at c.create_held.ensures)
-    (create_closed (permits c.args.f) c.args.files.now c.args.st.now.spaces (RowsHold c.args.b.now) can (row_of c.args.at)))
+    (create_closed (permits c.args.filter) c.args.files.now c.args.st.now.spaces (RowsHold c.args.bounds.now) can (row_of c.args.at)))
 
 pub returns-in-Join : goal.returns-in-Join
 returns-in-Join c =
     let spaces = ap (λ (s : State). s.spaces) c.st.view_is in
     let can = rw c.in-Join.is at (sym c.if-not-permits_rule.ensures) in
     rw c.in-Join.is (on (rw spaces at c.join_held.ensures)
-    (join_closed (permits c.args.f) c.args.files.now c.args.st.now.spaces (RowsHold c.args.b.now) can (row_of c.args.at)))
+    (join_closed (permits c.args.filter) c.args.files.now c.args.st.now.spaces (RowsHold c.args.bounds.now) can (row_of c.args.at)))
 
 pub returns-in_default : goal.returns-in_default
 returns-in_default c =
     on c.members_gain_held.ensures
-    (gains_closed (permits c.args.f) c.args.files.now c.args.st.now.spaces (RowsHold c.args.b.now) (rule_of c.args.x)
-    (of_members c.args.x c.in_default.not-Create c.in_default.not-Join c.in_default.not-Maps) (sym c.if-not-permits_rule.ensures) (row_of c.args.at))
+    (gains_closed (permits c.args.filter) c.args.files.now c.args.st.now.spaces (RowsHold c.args.bounds.now) (rule_of c.args.rule)
+    (of_members c.args.rule c.in_default.not-Create c.in_default.not-Join c.in_default.not-Maps) (sym c.if-not-permits_rule.ensures)
+    (row_of c.args.at))

@@ -13,7 +13,7 @@ returns-then-not-ids_mapped_held c = no _ (λ all. refused _ c.if-not-ids_mapped
 pub returns : goal.returns
 returns c =
     let uids = granted _ c.if-not-ids_mapped_held.ensures in (
-      λ is. both_maps (permits c.args.f) c.args.spaces.now (RowsHold c.args.b.now) (row_of c.args.at) uids
+      λ is. both_maps (permits c.args.filter) c.args.spaces.now (RowsHold c.args.bounds.now) (row_of c.args.at) uids
           (c.ids_mapped_held-2.ensures.0 is),
       λ all. c.ids_mapped_held-2.ensures.1 (all MappedGids),
     )

@@ -6,5 +6,5 @@ use Rattle.cm_filter.specs.Filters.{permits}
 use Rattle.model_box.specs.Closed.{ClosedAt}
 use Rattle.model_box.specs.Row.{row_at}
 
-abbrev pub invariant-loop-y : goal.invariant-loop-y
-invariant-loop-y l = (z : ℕ) → z < l.y → ClosedAt (permits l.f) l.files l.st.spaces (RowsHold l.b) (rule_of l.x) (row_at z)
+abbrev pub invariant-loop-row : goal.invariant-loop-row
+invariant-loop-row l = (z : ℕ) → z < l.row → ClosedAt (permits l.filter) l.files l.st.spaces (RowsHold l.bounds) (rule_of l.rule) (row_at z)

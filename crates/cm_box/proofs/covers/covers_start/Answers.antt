@@ -14,20 +14,20 @@ pub returns-clause-none : goal.returns-clause-none
 returns-clause-none c =
     let same : length c.st.inside.spaces ≡ length c.args.st.now.spaces = ap (λ (s : State). length s.spaces)
     c.st.view_is in
-    all_start c.args.st.now c.args.members.now (RowsHold c.args.b.now) c.loop-y.y
-    (omega (arith, c.count-y-end.ensures, c.loop-y-test.false)) c.loop-y.invariant
+    all_start c.args.st.now c.args.members.now (RowsHold c.args.bounds.now) c.loop-row.row
+    (omega (arith, c.count-row-end.ensures, c.loop-row-test.false)) c.loop-row.invariant
 
 pub returns-clause-covers : goal.returns-clause-covers
 returns-clause-covers c =
-    covers_standing c.args.st.now c.args.members.now (RowsHold c.args.b.now) (standing c.st.view_is c.st.invariant.1)
+    covers_standing c.args.st.now c.args.members.now (RowsHold c.args.bounds.now) (standing c.st.view_is c.st.invariant.1)
     (returns-clause-none c)
 
 pub returns-then-not-start_held-clause-lacks : goal.returns-then-not-start_held-clause-lacks
 returns-then-not-start_held-clause-lacks c =
     let same : length c.st.inside.spaces ≡ length c.args.st.now.spaces = ap (λ (s : State). length s.spaces)
     c.st.view_is in
-    let low : c.loop-y.y < 2 * length c.args.st.now.spaces = omega (arith, c.count-y-end.ensures, c.loop-y-test.true) in
-    let under = under_low c.loop-y.y (length c.args.st.now.spaces) low in
-    lacks_cover c.args.st.now c.args.members.now (RowsHold c.args.b.now) (row_of c.of_number.result)
+    let low : c.loop-row.row < 2 * length c.args.st.now.spaces = omega (arith, c.count-row-end.ensures, c.loop-row-test.true) in
+    let under = under_low c.loop-row.row (length c.args.st.now.spaces) low in
+    lacks_cover c.args.st.now c.args.members.now (RowsHold c.args.bounds.now) (row_of c.of_number.result)
     (subst (λ (row : Row). space_under row < length c.args.st.now.spaces) (sym c.of_number.ensures) under)
     (λ held. false≢true (sym c.if-not-start_held.true ∙ c.start_held.ensures.1 held))

@@ -4,5 +4,5 @@ use Rattle.cm_box_rows.specs.Rows.{RowsHold}
 use Rattle.model_box.specs.Row.{row_at}
 use Rattle.model_box.specs.Start.{HoldsStartAt}
 
-abbrev pub invariant-loop-y : goal.invariant-loop-y
-invariant-loop-y l = (z : ℕ) → z < l.y → HoldsStartAt l.st l.members (RowsHold l.b) (row_at z)
+abbrev pub invariant-loop-row : goal.invariant-loop-row
+invariant-loop-row l = (z : ℕ) → z < l.row → HoldsStartAt l.st l.members (RowsHold l.bounds) (row_at z)

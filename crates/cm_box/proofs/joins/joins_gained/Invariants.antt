@@ -6,7 +6,8 @@ use Rattle.cm_box_rows.specs.Spread.{ByJoiningTo}
 abbrev pub invariant-loop-parent : goal.invariant-loop-parent
 invariant-loop-parent l = record {
   stands : l.at.0 < length l.spaces;
-  same : AreSameRows (InEitherRow (RowHolds l.row) (ByJoiningTo l.spaces (RowsHold l.b) l.at.0)) (ByJoiningTo l.spaces (RowsHold l.b) l.fn.n.0);
+  same : AreSameRows (InEitherRow (RowHolds l.row) (ByJoiningTo l.spaces (RowsHold l.bounds) l.at.0))
+      (ByJoiningTo l.spaces (RowsHold l.bounds) l.fn.n.0);
 }
 
 abbrev pub decreases-loop-parent : goal.decreases-loop-parent

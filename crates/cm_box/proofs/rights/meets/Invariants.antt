@@ -5,5 +5,5 @@ use Rattle.cm_state.specs.Right.{right_of}
 use Rattle.model_box.specs.Meets.{MeetsAt}
 use Rattle.model_box.specs.Row.{row_at}
 
-abbrev pub invariant-loop-y : goal.invariant-loop-y
-invariant-loop-y l = (z : ℕ) → z < l.y → MeetsAt l.st.spaces (RowsHold l.b) (right_of l.right) (row_at z) → ⊥
+abbrev pub invariant-loop-row : goal.invariant-loop-row
+invariant-loop-row l = (z : ℕ) → z < l.row → MeetsAt l.st.spaces (RowsHold l.bounds) (right_of l.right) (row_at z) → ⊥

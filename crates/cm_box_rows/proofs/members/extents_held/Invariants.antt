@@ -3,5 +3,5 @@ use Rattle.cm_box_rows.proofs.members.extents_held.Given as goal
 use Rattle.cm_box_rows.specs.Members.{MapHeld}
 use Rattle.cm_idset.specs.Held.{Held}
 
-abbrev pub invariant-loop-e : goal.invariant-loop-e
-invariant-loop-e l = MapHeld (take l.e-index l.list) (Held l.set)
+abbrev pub invariant-loop-extent : goal.invariant-loop-extent
+invariant-loop-extent l = MapHeld (take l.extent-index l.list) (Held l.set)

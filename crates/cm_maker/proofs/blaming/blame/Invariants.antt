@@ -9,12 +9,12 @@ use Rattle.model_box.specs.Meets.{Meets}
 use Rattle.model_verdict.specs.Sweep.{row_count, turns_before}
 use Rattle.model_verdict.proofs.Lacking.{lacking}
 
-abbrev pub invariant-loop-b : goal.invariant-loop-b
-invariant-loop-b l = record {
-  count : length l.b ≡ row_count l.fn.st.spaces;
-  swept : (round : ℕ) × IsSweptTo (permits l.fn.f) l.fn.files l.fn.st l.fn.members (turns_before l.fn.st.spaces round) l.b;
-  apart : Meets l.fn.st.spaces (RowsHold l.b) (right_of l.right) → ⊥;
+abbrev pub invariant-loop-bounds : goal.invariant-loop-bounds
+invariant-loop-bounds l = record {
+  count : length l.bounds ≡ row_count l.fn.st.spaces;
+  swept : (round : ℕ) × IsSweptTo (permits l.fn.filter) l.fn.files l.fn.st l.fn.members (turns_before l.fn.st.spaces round) l.bounds;
+  apart : Meets l.fn.st.spaces (RowsHold l.bounds) (right_of l.right) → ⊥;
 }
 
-abbrev pub decreases-loop-b : goal.decreases-loop-b
-decreases-loop-b l = lacking (row_count l.fn.st.spaces) (bounds_hold l.b)
+abbrev pub decreases-loop-bounds : goal.decreases-loop-bounds
+decreases-loop-bounds l = lacking (row_count l.fn.st.spaces) (bounds_hold l.bounds)

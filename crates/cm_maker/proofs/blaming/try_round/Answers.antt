@@ -10,31 +10,33 @@ use Rattle.model_verdict.specs.Sweep.{row_count}
 
 pub returns-in-Some-clause-some : goal.returns-in-Some-clause-some
 returns-in-Some-clause-some c =
-    let it = rw c.in-Some.is at c.in_ok-y.ensures.some in (
+    let it = rw c.in-Some.is at c.in_ok-row.ensures.some in (
       it.0,
       λ round.
-          let rows : ℕ = row_count c.args.s.now.state.now.spaces in
-          let n : ℕ = rule_number (rule_of c.of_number-x.result) in
-          then_stopped (permits c.args.s.now.filter) c.args.s.now.files.now c.args.s.now.state.now (right_of c.args.right.now) (14 * round * rows)
-          ((14 * round + n) * rows) ((14 * round + n) * rows + c.in-Some.y) c.args.b.now c.loop-k.b c.try_rows.new.b
-          (c.loop-k.invariant.swept round ((14 * round + n) * rows) (ap (λ (m : ℕ). (14 * round + m) * rows) c.of_number-x.ensures)) (it.1 round),
+          let rows : ℕ = row_count c.args.setting.now.state.now.spaces in
+          let n : ℕ = rule_number (rule_of c.of_number-rule.result) in
+          then_stopped (permits c.args.setting.now.filter) c.args.setting.now.files.now c.args.setting.now.state.now
+          (right_of c.args.right.now) (14 * round * rows)
+          ((14 * round + n) * rows) ((14 * round + n) * rows + c.in-Some.row) c.args.bounds.now c.loop-k.bounds c.try_rows.new.bounds
+          (c.loop-k.invariant.swept round ((14 * round + n) * rows) (ap (λ (m : ℕ). (14 * round + m) * rows) c.of_number-rule.ensures)) (it.1 round),
     )
 
 pub loop-k-preserved : goal.loop-k-preserved
 loop-k-preserved c = record {
-  count = c.in_ok-y.ensures.count ∙ c.loop-k.invariant.count;
-  apart = λ apart. c.in_ok-y.ensures.apart (c.loop-k.invariant.apart apart);
+  count = c.in_ok-row.ensures.count ∙ c.loop-k.invariant.count;
+  apart = λ apart. c.in_ok-row.ensures.apart (c.loop-k.invariant.apart apart);
   swept = λ round k is.
-      let rows : ℕ = row_count c.args.s.now.state.now.spaces in
-      let went = rw c.in-None.is at c.in_ok-y.ensures.none in
-      then_sweep (permits c.args.s.now.filter) c.args.s.now.files.now c.args.s.now.state.now (14 * round * rows) ((14 * round + c.loop-k.k) * rows)
+      let rows : ℕ = row_count c.args.setting.now.state.now.spaces in
+      let went = rw c.in-None.is at c.in_ok-row.ensures.none in
+      then_sweep (permits c.args.setting.now.filter) c.args.setting.now.files.now c.args.setting.now.state.now (14 * round * rows)
+      ((14 * round + c.loop-k.k) * rows)
       ((14 * round + suc c.loop-k.k) * rows) k
-      c.args.b.now c.loop-k.b c.try_rows.new.b (c.loop-k.invariant.swept round ((14 * round + c.loop-k.k) * rows) refl)
-      (rw c.of_number-x.ensures at went round)
+      c.args.bounds.now c.loop-k.bounds c.try_rows.new.bounds (c.loop-k.invariant.swept round ((14 * round + c.loop-k.k) * rows) refl)
+      (rw c.of_number-rule.ensures at went round)
       (let next : c.loop-k.k + 1 ≡ suc c.loop-k.k = omega arith in is ∙ ap (λ (m : ℕ). (14 * round + m) * rows) next);
 }
 
 pub returns-clause-none : goal.returns-clause-none
 returns-clause-none c round =
-    c.loop-k.invariant.swept round (14 * suc round * row_count c.args.s.now.state.now.spaces)
-    (round_end round c.loop-k.k (row_count c.args.s.now.state.now.spaces) (omega arith))
+    c.loop-k.invariant.swept round (14 * suc round * row_count c.args.setting.now.state.now.spaces)
+    (round_end round c.loop-k.k (row_count c.args.setting.now.state.now.spaces) (omega arith))

@@ -7,8 +7,9 @@ use Rattle.model_verdict.specs.Sweep.{row_count}
 
 abbrev pub invariant-loop-k : goal.invariant-loop-k
 invariant-loop-k l = record {
-  count : length l.b ≡ length l.fn.b;
-  apart : KeepsApart l.s.state.now.spaces (right_of l.right) l.fn.b l.b;
-  swept : (round k : ℕ) → k ≡ (14 * round + l.k) * row_count l.s.state.now.spaces
-      → Sweeps (permits l.s.filter) l.s.files.now l.s.state.now (14 * round * row_count l.s.state.now.spaces) k l.fn.b l.b;
+  count : length l.bounds ≡ length l.fn.bounds;
+  apart : KeepsApart l.setting.state.now.spaces (right_of l.right) l.fn.bounds l.bounds;
+  swept : (round k : ℕ) → k ≡ (14 * round + l.k) * row_count l.setting.state.now.spaces
+      → Sweeps (permits l.setting.filter) l.setting.files.now l.setting.state.now (14 * round * row_count l.setting.state.now.spaces) k
+      l.fn.bounds l.bounds;
 }

@@ -15,25 +15,28 @@ returns-then-branch-clause-some c =
     let it = c.in_ok-try_turn.ensures.stops c.if-branch.true in (
       omega (arith, count),
       λ round.
-          let from : ℕ = (14 * round + rule_number (rule_of c.args.x)) * row_count c.args.s.now.state.now.spaces in
-          stopped_same (permits c.args.s.now.filter) c.args.s.now.files.now c.args.s.now.state.now (right_of c.args.right.now) from
-          (from + c.loop-y.y) c.args.b.now c.loop-y.b c.try_turn.new.b (c.loop-y.invariant.swept round (from + c.loop-y.y) refl) it.0 (it.1 round),
+          let from : ℕ = (14 * round + rule_number (rule_of c.args.rule)) * row_count c.args.setting.now.state.now.spaces in
+          stopped_same (permits c.args.setting.now.filter) c.args.setting.now.files.now c.args.setting.now.state.now (right_of c.args.right.now) from
+          (from + c.loop-row.row) c.args.bounds.now c.loop-row.bounds c.try_turn.new.bounds
+          (c.loop-row.invariant.swept round (from + c.loop-row.row) refl) it.0 (it.1 round),
     )
 
-pub loop-y-preserved : goal.loop-y-preserved
-loop-y-preserved c = record {
-  count = c.in_ok-try_turn.ensures.count ∙ c.loop-y.invariant.count;
-  apart = λ apart. c.in_ok-try_turn.ensures.apart (c.loop-y.invariant.apart apart);
+pub loop-row-preserved : goal.loop-row-preserved
+loop-row-preserved c = record {
+  count = c.in_ok-try_turn.ensures.count ∙ c.loop-row.invariant.count;
+  apart = λ apart. c.in_ok-try_turn.ensures.apart (c.loop-row.invariant.apart apart);
   swept = λ round k is.
-      let from : ℕ = (14 * round + rule_number (rule_of c.args.x)) * row_count c.args.s.now.state.now.spaces in
-      then_sweep (permits c.args.s.now.filter) c.args.s.now.files.now c.args.s.now.state.now from (from + c.loop-y.y) (suc (from + c.loop-y.y)) k
-      c.args.b.now c.loop-y.b c.try_turn.new.b (c.loop-y.invariant.swept round (from + c.loop-y.y) refl) (c.in_ok-try_turn.ensures.goes c.if-branch.false round)
+      let from : ℕ = (14 * round + rule_number (rule_of c.args.rule)) * row_count c.args.setting.now.state.now.spaces in
+      then_sweep (permits c.args.setting.now.filter) c.args.setting.now.files.now c.args.setting.now.state.now from (from + c.loop-row.row)
+      (suc (from + c.loop-row.row)) k
+      c.args.bounds.now c.loop-row.bounds c.try_turn.new.bounds (c.loop-row.invariant.swept round (from + c.loop-row.row) refl)
+      (c.in_ok-try_turn.ensures.goes c.if-branch.false round)
       (omega (arith, is));
 }
 
 pub returns-clause-none : goal.returns-clause-none
 returns-clause-none c round =
     let count = ap (λ (s : State). length s.spaces) c.st.view_is in
-    let n = rule_number (rule_of c.args.x) in
-    c.loop-y.invariant.swept round ((14 * round + suc n) * row_count c.args.s.now.state.now.spaces)
-    (rule_end round n (row_count c.args.s.now.state.now.spaces) c.loop-y.y (omega (arith, count)))
+    let n = rule_number (rule_of c.args.rule) in
+    c.loop-row.invariant.swept round ((14 * round + suc n) * row_count c.args.setting.now.state.now.spaces)
+    (rule_end round n (row_count c.args.setting.now.state.now.spaces) c.loop-row.row (omega (arith, count)))

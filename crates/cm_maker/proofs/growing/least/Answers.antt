@@ -9,30 +9,35 @@ use Rattle.cm_maker.proofs.growing.least.Goals as goal
 use Rattle.model_verdict.specs.Sweep.{turns_before}
 use Rattle.model_verdict.proofs.Rounds.{says_least}
 
-pub loop-s-init : goal.loop-s-init
-loop-s-init c = record {
-  count = c.in_ok-b.ensures.count;
-  swept = (0, start_swept (permits c.args.f) c.args.files.now c.args.st.now c.args.members.now c.in_ok-b.b c.in_ok-b.ensures.holds);
+pub loop-setting-init : goal.loop-setting-init
+loop-setting-init c = record {
+  count = c.in_ok-bounds.ensures.count;
+  swept = (
+    0,
+    start_swept (permits c.args.filter) c.args.files.now c.args.st.now c.args.members.now c.in_ok-bounds.bounds
+        c.in_ok-bounds.ensures.holds,
+  );
 }
 
-pub loop-s-smaller : goal.loop-s-smaller
-loop-s-smaller c =
-    let swept = c.loop-s.invariant.swept in
-    round_lacks_less (permits c.args.f) c.args.files.now c.args.st.now c.args.members.now c.see_state.ensures swept.0 (bounds_hold c.loop-s.b)
-    (bounds_hold c.round.new.b)
+pub loop-setting-smaller : goal.loop-setting-smaller
+loop-setting-smaller c =
+    let swept = c.loop-setting.invariant.swept in
+    round_lacks_less (permits c.args.filter) c.args.files.now c.args.st.now c.args.members.now c.see_state.ensures swept.0
+    (bounds_hold c.loop-setting.bounds)
+    (bounds_hold c.round.new.bounds)
     swept.1 (c.in_ok-round-in-Some.ensures.swept swept.0 c.args.members.now swept.1)
-    (first_open (permits c.args.f) c.args.files.now c.args.st.now.spaces (RowsHold c.loop-s.b) _ _ c.in-Some.ensures.first)
+    (first_open (permits c.args.filter) c.args.files.now c.args.st.now.spaces (RowsHold c.loop-setting.bounds) _ _ c.in-Some.ensures.first)
 
-pub loop-s-preserved : goal.loop-s-preserved
-loop-s-preserved c =
-    let swept = c.loop-s.invariant.swept in
+pub loop-setting-preserved : goal.loop-setting-preserved
+loop-setting-preserved c =
+    let swept = c.loop-setting.invariant.swept in
     record {
-      count = c.in_ok-round-in-Some.ensures.count ∙ c.loop-s.invariant.count;
+      count = c.in_ok-round-in-Some.ensures.count ∙ c.loop-setting.invariant.count;
       swept = (suc swept.0, c.in_ok-round-in-Some.ensures.swept swept.0 c.args.members.now swept.1);
     }
 
 pub returns-in-None-clause-least : goal.returns-in-None-clause-least
 returns-in-None-clause-least c =
-    let swept = c.loop-s.invariant.swept in
-    says_least (permits c.args.f) c.args.files.now c.args.st.now c.args.members.now (state_fits c.args.st.now c.see_state.ensures)
-    (bounds_hold c.loop-s.b) (turns_before c.args.st.now.spaces swept.0) swept.1 c.in-None.ensures.none
+    let swept = c.loop-setting.invariant.swept in
+    says_least (permits c.args.filter) c.args.files.now c.args.st.now c.args.members.now (state_fits c.args.st.now c.see_state.ensures)
+    (bounds_hold c.loop-setting.bounds) (turns_before c.args.st.now.spaces swept.0) swept.1 c.in-None.ensures.none

@@ -6,11 +6,11 @@ use Rattle.model_box.specs.Bounds.{bounds_hold}
 use Rattle.model_verdict.specs.Sweep.{row_count, turns_before}
 use Rattle.model_verdict.proofs.Lacking.{lacking}
 
-abbrev pub invariant-loop-s : goal.invariant-loop-s
-invariant-loop-s l = record {
-  count : length l.b ≡ row_count l.st.spaces;
-  swept : (round : ℕ) × IsSweptTo (permits l.f) l.files l.st l.members (turns_before l.st.spaces round) l.b;
+abbrev pub invariant-loop-setting : goal.invariant-loop-setting
+invariant-loop-setting l = record {
+  count : length l.bounds ≡ row_count l.st.spaces;
+  swept : (round : ℕ) × IsSweptTo (permits l.filter) l.files l.st l.members (turns_before l.st.spaces round) l.bounds;
 }
 
-abbrev pub decreases-loop-s : goal.decreases-loop-s
-decreases-loop-s l = lacking (row_count l.st.spaces) (bounds_hold l.b)
+abbrev pub decreases-loop-setting : goal.decreases-loop-setting
+decreases-loop-setting l = lacking (row_count l.st.spaces) (bounds_hold l.bounds)

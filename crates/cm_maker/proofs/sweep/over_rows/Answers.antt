@@ -7,19 +7,21 @@ use Rattle.model_box.specs.Rule.{rule_number}
 use Rattle.model_cred.specs.Process.{State}
 use Rattle.model_verdict.specs.Sweep.{row_count}
 
-pub loop-y-preserved : goal.loop-y-preserved
-loop-y-preserved c = record {
-  count = c.in_ok-turn.ensures.count ∙ c.loop-y.invariant.count;
+pub loop-row-preserved : goal.loop-row-preserved
+loop-row-preserved c = record {
+  count = c.in_ok-turn.ensures.count ∙ c.loop-row.invariant.count;
   swept = λ round k is.
-      let from : ℕ = (14 * round + rule_number (rule_of c.args.x)) * row_count c.args.s.now.state.now.spaces in
-      then_sweep (permits c.args.s.now.filter) c.args.s.now.files.now c.args.s.now.state.now from (from + c.loop-y.y) (suc (from + c.loop-y.y)) k
-      c.args.b.now c.loop-y.b c.turn.new.b (c.loop-y.invariant.swept round (from + c.loop-y.y) refl) (c.in_ok-turn.ensures.swept round)
+      let from : ℕ = (14 * round + rule_number (rule_of c.args.rule)) * row_count c.args.setting.now.state.now.spaces in
+      then_sweep (permits c.args.setting.now.filter) c.args.setting.now.files.now c.args.setting.now.state.now from (from + c.loop-row.row)
+      (suc (from + c.loop-row.row)) k
+      c.args.bounds.now c.loop-row.bounds c.turn.new.bounds (c.loop-row.invariant.swept round (from + c.loop-row.row) refl)
+      (c.in_ok-turn.ensures.swept round)
       (omega (arith, is));
 }
 
 pub returns-clause-swept : goal.returns-clause-swept
 returns-clause-swept c round =
     let count = ap (λ (s : State). length s.spaces) c.st.view_is in
-    let n = rule_number (rule_of c.args.x) in
-    c.loop-y.invariant.swept round ((14 * round + suc n) * row_count c.args.s.now.state.now.spaces)
-    (rule_end round n (row_count c.args.s.now.state.now.spaces) c.loop-y.y (omega (arith, count)))
+    let n = rule_number (rule_of c.args.rule) in
+    c.loop-row.invariant.swept round ((14 * round + suc n) * row_count c.args.setting.now.state.now.spaces)
+    (rule_end round n (row_count c.args.setting.now.state.now.spaces) c.loop-row.row (omega (arith, count)))

@@ -6,10 +6,10 @@ use Rattle.cm_maker.proofs.sweep.over_rows.Given as goal
 use Rattle.model_box.specs.Rule.{rule_number}
 use Rattle.model_verdict.specs.Sweep.{row_count}
 
-abbrev pub invariant-loop-y : goal.invariant-loop-y
-invariant-loop-y l = record {
-  count : length l.b ≡ length l.fn.b;
-  swept : (round k : ℕ) → k ≡ (14 * round + rule_number (rule_of l.x)) * row_count l.s.state.now.spaces + l.y
-      → Sweeps (permits l.s.filter) l.s.files.now l.s.state.now
-      ((14 * round + rule_number (rule_of l.x)) * row_count l.s.state.now.spaces) k l.fn.b l.b;
+abbrev pub invariant-loop-row : goal.invariant-loop-row
+invariant-loop-row l = record {
+  count : length l.bounds ≡ length l.fn.bounds;
+  swept : (round k : ℕ) → k ≡ (14 * round + rule_number (rule_of l.rule)) * row_count l.setting.state.now.spaces + l.row
+      → Sweeps (permits l.setting.filter) l.setting.files.now l.setting.state.now
+      ((14 * round + rule_number (rule_of l.rule)) * row_count l.setting.state.now.spaces) k l.fn.bounds l.bounds;
 }

@@ -6,10 +6,12 @@ use Rattle.cm_maker.proofs.sweep.turn.Goals as goal
 
 pub returns-in-Some-clause-swept : goal.returns-in-Some-clause-swept
 returns-in-Some-clause-swept c =
-    rw c.put.ensures (wider_sweeps (permits c.args.s.now.filter) c.args.s.now.files.now c.args.s.now.state.now (rule_of c.args.x) c.args.y
-    c.args.b.now c.in-Some.row (omega (arith, c.requires.there, c.requires.rows)) c.requires.there (rw c.in-Some.is at c.in_ok-row.ensures.wider))
+    rw c.put.ensures (wider_sweeps (permits c.args.setting.now.filter) c.args.setting.now.files.now c.args.setting.now.state.now
+    (rule_of c.args.rule) c.args.row
+    c.args.bounds.now c.in-Some.wider (omega (arith, c.requires.there, c.requires.rows)) c.requires.there
+    (rw c.in-Some.is at c.in_ok-wider.ensures.wider))
 
 pub returns-in-None-clause-swept : goal.returns-in-None-clause-swept
 returns-in-None-clause-swept c =
-    closed_sweeps (permits c.args.s.now.filter) c.args.s.now.files.now c.args.s.now.state.now (rule_of c.args.x) c.args.y
-    c.args.b.now c.requires.there (rw c.in-None.is at c.in_ok-row.ensures.closed)
+    closed_sweeps (permits c.args.setting.now.filter) c.args.setting.now.files.now c.args.setting.now.state.now (rule_of c.args.rule) c.args.row
+    c.args.bounds.now c.requires.there (rw c.in-None.is at c.in_ok-wider.ensures.closed)
