@@ -1,6 +1,7 @@
 // The credential line of a process, as text.
 ghost use Rattle.std.specs.Prelude.{◌≡◌, ◌++◌, ◌∷◌, None, codes, decimal, flat_map};
 ghost use Rattle.cm_base.specs.Outcome.{OrNoMemory};
+ghost use Rattle.cm_tokens.specs.Pieces.{Appends};
 ghost use Rattle.model_text.specs.Print.{credential_line, ids_text, groups_text, all_ids_text, sets_text, bounds_text, flags_text};
 ghost use Rattle.model_text.specs.SpaceToken.{space_token};
 
@@ -19,7 +20,8 @@ pub fn credentials(
     space: SpaceId,
     w: &World,
 ) -> Result<Vec<u8>, NoMemory>
-    ensures { OrNoMemory result (λ text. text.items ≡ credential_line w.now.names (record { pid = pid; forebear = None; space = space.0; cred = cred.now })) }
+    ensures { OrNoMemory result (λ text. text.items ≡ credential_line w.now.names
+        (record { pid = pid; forebear = None; space = space.0; cred = cred.now })) }
 {
     let mut text = Vec::new(alloc);
     put_credentials(&mut text, cred, pid, space, w)?;
@@ -35,8 +37,8 @@ pub fn put_credentials(
     space: SpaceId,
     w: &World,
 ) -> Result<(), NoMemory>
-    ensures { OrNoMemory result (λ _. text.new.items ≡ text.old.items
-        ++ credential_line w.now.names (record { pid = pid; forebear = None; space = space.0; cred = cred.now })) }
+    ensures { OrNoMemory result (λ _. Appends text.old.items text.new.items
+        (credential_line w.now.names (record { pid = pid; forebear = None; space = space.0; cred = cred.now }))) }
 {
     put_place(text, pid, space, w)?;
     put_all_ids(text, cred)?;
@@ -48,7 +50,8 @@ pub fn put_credentials(
 // The pid and the token of the space.
 #[inline]
 fn put_place(text: &mut Vec<u8>, pid: Pid, space: SpaceId, w: &World) -> Result<(), NoMemory>
-    ensures { OrNoMemory result (λ _. text.new.items ≡ text.old.items ++ (codes "> " ++ decimal pid ++ codes " " ++ space_token w.now.names space.0)) }
+    ensures { OrNoMemory result (λ _. Appends text.old.items text.new.items (codes "> " ++ decimal pid ++ codes " " ++
+        space_token w.now.names space.0)) }
 {
     put(text, b"> ")?;
     put_decimal(text, pid.number() as u64)?;
@@ -59,7 +62,7 @@ fn put_place(text: &mut Vec<u8>, pid: Pid, space: SpaceId, w: &World) -> Result<
 #[inline]
 #[tactic(auto, unfolding(model_text::specs::Print::all_ids_text))]
 fn put_all_ids(text: &mut Vec<u8>, cred: &Cred) -> Result<(), NoMemory>
-    ensures { OrNoMemory result (λ _. text.new.items ≡ text.old.items ++ all_ids_text cred.now) }
+    ensures { OrNoMemory result (λ _. Appends text.old.items text.new.items (all_ids_text cred.now)) }
 {
     put(text, b" uid=")?;
     put_ids(text, cred.user_ids())?;
@@ -72,7 +75,7 @@ fn put_all_ids(text: &mut Vec<u8>, cred: &Cred) -> Result<(), NoMemory>
 #[inline]
 #[tactic(auto, unfolding(model_text::specs::Print::ids_text))]
 fn put_ids(text: &mut Vec<u8>, ids: FourIds) -> Result<(), NoMemory>
-    ensures { OrNoMemory result (λ _. text.new.items ≡ text.old.items ++ ids_text ids) }
+    ensures { OrNoMemory result (λ _. Appends text.old.items text.new.items (ids_text ids)) }
 {
     put_decimal(text, ids.real as u64)?;
     put_after_comma(text, ids.effective)?;
@@ -82,7 +85,7 @@ fn put_ids(text: &mut Vec<u8>, ids: FourIds) -> Result<(), NoMemory>
 
 #[inline]
 fn put_after_comma(text: &mut Vec<u8>, id: u32) -> Result<(), NoMemory>
-    ensures { OrNoMemory result (λ _. text.new.items ≡ text.old.items ++ 44 ∷ decimal id) }
+    ensures { OrNoMemory result (λ _. Appends text.old.items text.new.items (44 ∷ decimal id)) }
 {
     put(text, b",")?;
     put_decimal(text, id as u64)
@@ -91,7 +94,7 @@ fn put_after_comma(text: &mut Vec<u8>, id: u32) -> Result<(), NoMemory>
 // The groups joined by commas, `-` where there is none.
 #[inline]
 fn put_groups(text: &mut Vec<u8>, groups: &[Kgid]) -> Result<(), NoMemory>
-    ensures { OrNoMemory result (λ _. text.new.items ≡ text.old.items ++ groups_text groups.now) }
+    ensures { OrNoMemory result (λ _. Appends text.old.items text.new.items (groups_text groups.now)) }
 {
     match groups {
         [] => put(text, b"-"),
@@ -103,7 +106,8 @@ fn put_groups(text: &mut Vec<u8>, groups: &[Kgid]) -> Result<(), NoMemory>
 }
 
 fn put_rest(text: &mut Vec<u8>, groups: &[Kgid]) -> Result<(), NoMemory>
-    ensures { OrNoMemory result (λ _. text.new.items ≡ text.old.items ++ flat_map (λ g. 44 ∷ decimal g) groups.now) }
+    ensures { OrNoMemory result (λ _. Appends text.old.items text.new.items (flat_map
+        (λ g. 44 ∷ decimal g) groups.now)) }
 {
     for group in groups {
         put_after_comma(text, group.number())?;
@@ -114,7 +118,7 @@ fn put_rest(text: &mut Vec<u8>, groups: &[Kgid]) -> Result<(), NoMemory>
 #[inline]
 #[tactic(auto, unfolding(model_text::specs::Print::sets_text))]
 fn put_sets(text: &mut Vec<u8>, cred: &Cred) -> Result<(), NoMemory>
-    ensures { OrNoMemory result (λ _. text.new.items ≡ text.old.items ++ sets_text cred.now) }
+    ensures { OrNoMemory result (λ _. Appends text.old.items text.new.items (sets_text cred.now)) }
 {
     put(text, b" inh=")?;
     put_hex16(text, cred.inh.bits())?;
@@ -127,7 +131,7 @@ fn put_sets(text: &mut Vec<u8>, cred: &Cred) -> Result<(), NoMemory>
 #[inline]
 #[tactic(auto, unfolding(model_text::specs::Print::bounds_text))]
 fn put_bounds(text: &mut Vec<u8>, cred: &Cred) -> Result<(), NoMemory>
-    ensures { OrNoMemory result (λ _. text.new.items ≡ text.old.items ++ bounds_text cred.now) }
+    ensures { OrNoMemory result (λ _. Appends text.old.items text.new.items (bounds_text cred.now)) }
 {
     put(text, b" bnd=")?;
     put_hex16(text, cred.bnd.bits())?;
@@ -138,7 +142,7 @@ fn put_bounds(text: &mut Vec<u8>, cred: &Cred) -> Result<(), NoMemory>
 #[inline]
 #[tactic(auto, unfolding(model_text::specs::Print::flags_text))]
 fn put_flags(text: &mut Vec<u8>, cred: &Cred) -> Result<(), NoMemory>
-    ensures { OrNoMemory result (λ _. text.new.items ≡ text.old.items ++ flags_text cred.now) }
+    ensures { OrNoMemory result (λ _. Appends text.old.items text.new.items (flags_text cred.now)) }
 {
     put(text, b" sec=")?;
     put_hex2(text, cred.sec.bits())?;

@@ -1,8 +1,9 @@
 // The names of the declared user namespaces, called spaces here, and the tokens that stand for spaces (choice).
-ghost use Rattle.std.specs.Prelude.{◌≡◌, ◌<◌, ◌≤◌, ◌+◌, ◌++◌, ◌∷◌, ℕ, List, map, option_map, position, bytes_eq, length, slice_get, [], IfSome};
+ghost use Rattle.std.specs.Prelude.{◌≡◌, ◌<◌, ◌≤◌, ◌+◌, ◌∷◌, ℕ, List, map, option_map, position, bytes_eq, length, slice_get, [], IfSome};
 ghost use Rattle.cm_base.specs.Limits.{id_count};
 ghost use Rattle.std.specs.String.{string_bytes};
 ghost use Rattle.cm_base.specs.Outcome.{OrNoMemory, UnchangedOnErr};
+ghost use Rattle.cm_tokens.specs.Pieces.{Appends};
 ghost use Rattle.model_text.specs.NameText.{is_one_of};
 ghost use Rattle.model_text.specs.SpaceText.{space_named};
 ghost use Rattle.model_text.specs.SpaceToken.{space_of_token, name_of_space, number_named, hash_number};
@@ -95,7 +96,7 @@ impl Names {
     /// One name more, of the next space. It fails only where memory runs out, and then leaves the names as they were.
     pub fn push(&mut self, alloc: Global, name: &str) -> Result<(), NoMemory>
         requires { length self.old + 1 < id_count }
-        ensures pushed { OrNoMemory result (λ _. self.new ≡ self.old ++ name.now ∷ []) }
+        ensures pushed { OrNoMemory result (λ _. Appends self.old self.new (name.now ∷ [])) }
         ensures unchanged { UnchangedOnErr result self.new self.old }
     {
         let name = String::from_str(alloc, name)?;

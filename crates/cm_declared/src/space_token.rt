@@ -1,6 +1,6 @@
 // The token of a user namespace, written at the end of a buffer.
-ghost use Rattle.std.specs.Prelude.{◌≡◌, ◌++◌};
 ghost use Rattle.cm_base.specs.Outcome.{OrNoMemory};
+ghost use Rattle.cm_tokens.specs.Pieces.{Appends};
 ghost use Rattle.model_text.specs.SpaceToken.{space_token};
 
 use crate::Names;
@@ -11,7 +11,7 @@ use cm_tokens::{put, put_decimal};
 /// buffer holds isn't said.
 #[inline]
 pub fn put_space(text: &mut Vec<u8>, space: SpaceId, names: &Names) -> Result<(), NoMemory>
-    ensures { OrNoMemory result (λ _. text.new.items ≡ text.old.items ++ space_token names.now space.0) }
+    ensures { OrNoMemory result (λ _. Appends text.old.items text.new.items (space_token names.now space.0)) }
 {
     match names.name(space) {
         Some(name) => put(text, name.as_bytes()),

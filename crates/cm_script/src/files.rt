@@ -1,6 +1,7 @@
 // Files in script lines: a path, or `-` for the plain file.
-ghost use Rattle.std.specs.Prelude.{◌≡◌, ◌++◌, option_map, slice_get};
+ghost use Rattle.std.specs.Prelude.{◌≡◌, option_map, slice_get};
 ghost use Rattle.cm_base.specs.Outcome.{OrNoMemory};
+ghost use Rattle.cm_tokens.specs.Pieces.{Appends};
 ghost use Rattle.cm_script.specs.Paths.{declared_path};
 ghost use Rattle.model_text.specs.Token.{file_text, file_token};
 
@@ -25,7 +26,7 @@ pub(crate) fn read_file(token: &[u8], files: &FileTable) -> Option<FileRef>
 
 /// The path of a file; `-` for the plain one, and for a row that the table doesn't have.
 pub(crate) fn put_file(text: &mut Vec<u8>, file: FileRef, files: &FileTable) -> Result<(), NoMemory>
-    ensures { OrNoMemory result (λ _. text.new.items ≡ text.old.items ++ file_text files.now file) }
+    ensures { OrNoMemory result (λ _. Appends text.old.items text.new.items (file_text files.now file)) }
 {
     match path_of(files, file) {
         Some(path) => put(text, path),

@@ -1,6 +1,7 @@
 // An event as a script line, written at the end of a buffer; where there is no memory, what the buffer holds isn't said.
-ghost use Rattle.std.specs.Prelude.{◌≡◌, ◌<◌, ◌∷◌, ◌++◌, [], SomeIff, decimal, flat_map, map};
+ghost use Rattle.std.specs.Prelude.{◌≡◌, ◌<◌, ◌∷◌, [], SomeIff, decimal, flat_map, map};
 ghost use Rattle.cm_base.specs.Outcome.{OrNoMemory};
+ghost use Rattle.cm_tokens.specs.Pieces.{Appends};
 ghost use Rattle.cm_state.specs.Call.{call_of};
 ghost use Rattle.cm_declared.specs.World.{world_of};
 ghost use Rattle.model_text.specs.Arguments.{Id, arguments_of, spaced_texts, triple_of};
@@ -31,7 +32,7 @@ pub fn write_line(alloc: Global, event: &Event, w: &World) -> Result<Vec<u8>, No
 /// The same at the end of a text. It fails only where memory runs out.
 #[tactic(auto, unfolding(model_text::specs::Print::event_text))]
 pub fn put_line(text: &mut Vec<u8>, event: &Event, w: &World) -> Result<(), NoMemory>
-    ensures { OrNoMemory result (λ _. text.new.items ≡ text.old.items ++ event_text (world_of w.now) event.now) }
+    ensures { OrNoMemory result (λ _. Appends text.old.items text.new.items (event_text (world_of w.now) event.now)) }
 {
     put_decimal(text, event.pid.number() as u64)?;
     put_call(text, &event.call, w)?;
@@ -42,7 +43,8 @@ pub fn put_line(text: &mut Vec<u8>, event: &Event, w: &World) -> Result<(), NoMe
 // A call after a space: its name and its arguments.
 #[inline]
 fn put_call(text: &mut Vec<u8>, call: &Call, w: &World) -> Result<(), NoMemory>
-    ensures { OrNoMemory result (λ _. text.new.items ≡ text.old.items ++ call_text (world_of w.now) (call_of call.now)) }
+    ensures { OrNoMemory result (λ _. Appends text.old.items text.new.items (call_text (world_of w.now)
+        (call_of call.now))) }
 {
     put(text, b" ")?;
     put(text, call.kind().name().as_bytes())?;
@@ -52,7 +54,8 @@ fn put_call(text: &mut Vec<u8>, call: &Call, w: &World) -> Result<(), NoMemory>
 // The arguments of a call, each after a space.
 #[inline]
 fn put_arguments(text: &mut Vec<u8>, call: &Call, w: &World) -> Result<(), NoMemory>
-    ensures { OrNoMemory result (λ _. text.new.items ≡ text.old.items ++ spaced_texts (world_of w.now) (arguments_of (call_of call.now))) }
+    ensures { OrNoMemory result (λ _. Appends text.old.items text.new.items (spaced_texts (world_of w.now)
+        (arguments_of (call_of call.now)))) }
 {
     match call {
         Call::SetUid(id) | Call::SetFsUid(id) | Call::SetGid(id) | Call::SetFsGid(id) => {
@@ -90,7 +93,7 @@ fn put_arguments(text: &mut Vec<u8>, call: &Call, w: &World) -> Result<(), NoMem
 }
 
 fn put_set(text: &mut Vec<u8>, set: CapWord) -> Result<(), NoMemory>
-    ensures { OrNoMemory result (λ _. text.new.items ≡ text.old.items ++ 32 ∷ hex_set set) }
+    ensures { OrNoMemory result (λ _. Appends text.old.items text.new.items (32 ∷ hex_set set)) }
 {
     put(text, b" ")?;
     put_hex16(text, set.bits())
@@ -98,7 +101,7 @@ fn put_set(text: &mut Vec<u8>, set: CapWord) -> Result<(), NoMemory>
 
 // A capability by its name, or by its number where there is none.
 fn put_cap(text: &mut Vec<u8>, cap: u32) -> Result<(), NoMemory>
-    ensures { OrNoMemory result (λ _. text.new.items ≡ text.old.items ++ 32 ∷ cap_name_or_number cap) }
+    ensures { OrNoMemory result (λ _. Appends text.old.items text.new.items (32 ∷ cap_name_or_number cap)) }
 {
     match named_cap(cap) {
         Some(named) => {
@@ -121,14 +124,15 @@ fn named_cap(n: u32) -> Option<Cap>
 }
 
 fn put_number(text: &mut Vec<u8>, n: u32) -> Result<(), NoMemory>
-    ensures { OrNoMemory result (λ _. text.new.items ≡ text.old.items ++ 32 ∷ decimal n) }
+    ensures { OrNoMemory result (λ _. Appends text.old.items text.new.items (32 ∷ decimal n)) }
 {
     put(text, b" ")?;
     put_decimal(text, n as u64)
 }
 
 fn put_all(text: &mut Vec<u8>, ids: &[u32], w: &World) -> Result<(), NoMemory>
-    ensures { OrNoMemory result (λ _. text.new.items ≡ text.old.items ++ spaced_texts (world_of w.now) (map Id ids.now)) }
+    ensures { OrNoMemory result (λ _. Appends text.old.items text.new.items (spaced_texts (world_of w.now)
+        (map Id ids.now))) }
 {
     for id in ids {
         put_argument(text, *id)?;
@@ -138,7 +142,7 @@ fn put_all(text: &mut Vec<u8>, ids: &[u32], w: &World) -> Result<(), NoMemory>
 
 #[inline]
 fn put_argument(text: &mut Vec<u8>, id: u32) -> Result<(), NoMemory>
-    ensures { OrNoMemory result (λ _. text.new.items ≡ text.old.items ++ 32 ∷ id_text id) }
+    ensures { OrNoMemory result (λ _. Appends text.old.items text.new.items (32 ∷ id_text id)) }
 {
     put(text, b" ")?;
     put_id(text, id)
@@ -146,14 +150,15 @@ fn put_argument(text: &mut Vec<u8>, id: u32) -> Result<(), NoMemory>
 
 // The token of a user namespace.
 fn put_spaced(text: &mut Vec<u8>, space: SpaceId, names: &Names) -> Result<(), NoMemory>
-    ensures { OrNoMemory result (λ _. text.new.items ≡ text.old.items ++ 32 ∷ space_token names.now space.0) }
+    ensures { OrNoMemory result (λ _. Appends text.old.items text.new.items (32 ∷ space_token names.now space.0)) }
 {
     put(text, b" ")?;
     put_space(text, space, names)
 }
 
 fn put_extents(text: &mut Vec<u8>, list: &[Extent], w: &World) -> Result<(), NoMemory>
-    ensures { OrNoMemory result (λ _. text.new.items ≡ text.old.items ++ spaced_texts (world_of w.now) (flat_map triple_of list.now)) }
+    ensures { OrNoMemory result (λ _. Appends text.old.items text.new.items (spaced_texts (world_of w.now)
+        (flat_map triple_of list.now))) }
 {
     for extent in list {
         put_triple(text, *extent, w)?;
@@ -162,7 +167,8 @@ fn put_extents(text: &mut Vec<u8>, list: &[Extent], w: &World) -> Result<(), NoM
 }
 
 fn put_triple(text: &mut Vec<u8>, extent: Extent, w: &World) -> Result<(), NoMemory>
-    ensures { OrNoMemory result (λ _. text.new.items ≡ text.old.items ++ spaced_texts (world_of w.now) (triple_of extent)) }
+    ensures { OrNoMemory result (λ _. Appends text.old.items text.new.items (spaced_texts (world_of w.now)
+        (triple_of extent))) }
 {
     put_number(text, extent.inside)?;
     put_number(text, extent.outside)?;
@@ -171,7 +177,7 @@ fn put_triple(text: &mut Vec<u8>, extent: Extent, w: &World) -> Result<(), NoMem
 
 // The word of a setgroups file.
 fn put_word(text: &mut Vec<u8>, deny: bool) -> Result<(), NoMemory>
-    ensures { OrNoMemory result (λ _. text.new.items ≡ text.old.items ++ 32 ∷ word_text deny) }
+    ensures { OrNoMemory result (λ _. Appends text.old.items text.new.items (32 ∷ word_text deny)) }
 {
     if deny {
         put(text, b" deny")
@@ -181,7 +187,7 @@ fn put_word(text: &mut Vec<u8>, deny: bool) -> Result<(), NoMemory>
 }
 
 fn put_path(text: &mut Vec<u8>, file: FileRef, files: &FileTable) -> Result<(), NoMemory>
-    ensures { OrNoMemory result (λ _. text.new.items ≡ text.old.items ++ 32 ∷ file_text files.now file) }
+    ensures { OrNoMemory result (λ _. Appends text.old.items text.new.items (32 ∷ file_text files.now file)) }
 {
     put(text, b" ")?;
     put_file(text, file, files)
@@ -190,7 +196,7 @@ fn put_path(text: &mut Vec<u8>, file: FileRef, files: &FileTable) -> Result<(), 
 /// What a call answered, as the last token of a script line.
 #[inline]
 pub fn put_res(text: &mut Vec<u8>, res: &Res) -> Result<(), NoMemory>
-    ensures { OrNoMemory result (λ _. text.new.items ≡ text.old.items ++ res_text res.now) }
+    ensures { OrNoMemory result (λ _. Appends text.old.items text.new.items (res_text res.now)) }
 {
     match res {
         Res::Done => put(text, b"0"),

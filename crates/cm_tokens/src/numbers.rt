@@ -1,7 +1,8 @@
 // Pieces of text and numbers, written at the end of a buffer: decimal, hexadecimal, and the ids of calls. Each function
 // promises the text of the definitions; where there is no memory, what the buffer holds isn't said.
-ghost use Rattle.std.specs.Prelude.{◌≡◌, ◌<◌, ◌++◌, decimal};
+ghost use Rattle.std.specs.Prelude.{◌≡◌, ◌<◌, decimal};
 ghost use Rattle.cm_base.specs.Outcome.{OrNoMemory};
+ghost use Rattle.cm_tokens.specs.Pieces.{Appends};
 ghost use Rattle.model_text.specs.Hex.{hex_digit, hex_set, hex_bits};
 ghost use Rattle.model_text.specs.Token.{id_text};
 
@@ -13,7 +14,7 @@ const DIGITS: [u8; 16] = *b"0123456789abcdef";
 /// The piece as it is.
 #[inline]
 pub fn put(text: &mut Vec<u8>, piece: &[u8]) -> Result<(), NoMemory>
-    ensures { OrNoMemory result (λ _. text.new.items ≡ text.old.items ++ piece.now) }
+    ensures { OrNoMemory result (λ _. Appends text.old.items text.new.items piece.now) }
 {
     text.extend_from_slice(piece)?;
     Ok(())
@@ -23,7 +24,7 @@ pub fn put(text: &mut Vec<u8>, piece: &[u8]) -> Result<(), NoMemory>
 #[inline]
 #[tactic(auto, using(std::proofs::lemmas::Fmt::decimal_digit))]
 pub fn put_decimal(text: &mut Vec<u8>, n: u64) -> Result<(), NoMemory>
-    ensures { OrNoMemory result (λ _. text.new.items ≡ text.old.items ++ decimal n) }
+    ensures { OrNoMemory result (λ _. Appends text.old.items text.new.items (decimal n)) }
 {
     if n < 10 {
         text.push(b'0' + n as u8)?;
@@ -35,7 +36,7 @@ pub fn put_decimal(text: &mut Vec<u8>, n: u64) -> Result<(), NoMemory>
 /// An id of a call: `-1` for 4294967295, which stands for none.
 #[inline]
 pub fn put_id(text: &mut Vec<u8>, id: u32) -> Result<(), NoMemory>
-    ensures { OrNoMemory result (λ _. text.new.items ≡ text.old.items ++ id_text id) }
+    ensures { OrNoMemory result (λ _. Appends text.old.items text.new.items (id_text id)) }
 {
     if id == MINUS_ONE {
         put(text, b"-1")
@@ -48,7 +49,7 @@ pub fn put_id(text: &mut Vec<u8>, id: u32) -> Result<(), NoMemory>
 #[inline]
 #[tactic(auto, using(crate::proofs::HexDigits::hex_set_none, crate::proofs::HexDigits::hex_set_full))]
 pub fn put_hex16(text: &mut Vec<u8>, n: u64) -> Result<(), NoMemory>
-    ensures { OrNoMemory result (λ _. text.new.items ≡ text.old.items ++ hex_set n) }
+    ensures { OrNoMemory result (λ _. Appends text.old.items text.new.items (hex_set n)) }
 {
     match n {
         0 => put(text, b"0000000000000000"),
@@ -61,7 +62,7 @@ pub fn put_hex16(text: &mut Vec<u8>, n: u64) -> Result<(), NoMemory>
 #[inline]
 #[tactic(auto, unfolding(model_text::specs::Hex::hex_bits))]
 pub fn put_hex2(text: &mut Vec<u8>, n: u8) -> Result<(), NoMemory>
-    ensures { OrNoMemory result (λ _. text.new.items ≡ text.old.items ++ hex_bits n) }
+    ensures { OrNoMemory result (λ _. Appends text.old.items text.new.items (hex_bits n)) }
 {
     put(text, &[digit(n / 16 % 16), digit(n % 16)])
 }

@@ -1,0 +1,2 @@
+-- The word for what writers do to a text.
+pub mod Pieces
