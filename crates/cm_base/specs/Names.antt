@@ -1,5 +1,5 @@
 -- The names of errors (errno(3)) and of capabilities (capabilities(7)), each one table.
-use Rattle.std.specs.Prelude.{ℕ, codes, List, [], ◌∷◌, Option, bytes_eq, find, position, slice_get}
+use Rattle.std.specs.Prelude.{ℕ, codes, List, [], ◌∷◌, Option, bytes_eq, find, position, slice_get, unwrap_or}
 use Rattle.cm_base.specs.declared.errno.Errno.{Errno}
 use Rattle.cm_base.specs.declared.errno.Errno.TheVariants.{EPERM, EINVAL, ENOSPC, ENOMEM, EAGAIN, EINTR, EFAULT, EIO}
 use Rattle.cm_base.specs.declared.errno.Errno.TheVariants.{ENOENT, EACCES, ENOTDIR, ELOOP, ENAMETOOLONG, E2BIG, ENOEXEC}
@@ -53,6 +53,10 @@ cap_names =
 -- the name of a capability
 abbrev pub cap_name : ℕ → Option (List ℕ)
 cap_name cap = slice_get cap_names cap
+
+-- the name of a number, empty where it is no capability's
+abbrev pub cap_name_or : ℕ → List ℕ
+cap_name_or cap = unwrap_or (cap_name cap) []
 
 -- the capability of that name
 abbrev pub cap_of : List ℕ → Option ℕ

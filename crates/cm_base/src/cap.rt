@@ -1,7 +1,8 @@
 // A capability and its name (capabilities(7)).
-ghost use Rattle.std.specs.Prelude.{◌≡◌, ◌<◌, SomeIff, IfSome, position, bytes_eq, length, map, slice_get};
+ghost use Rattle.std.specs.Prelude.{◌≡◌, ◌==◌, ◌<◌, All, SomeIff, bytes_eq, filter, find, length, map, slice_get};
+ghost use Rattle.std.specs.List.{range_with_len};
 ghost use Rattle.cm_base.specs.CapSet.{cap_count};
-ghost use Rattle.cm_base.specs.Names.{cap_name, cap_of};
+ghost use Rattle.cm_base.specs.Names.{cap_name, cap_name_or, cap_of};
 
 use crate::limits::CAP_COUNT;
 use std::marker::Model;
@@ -92,8 +93,7 @@ impl Cap {
     pub fn from_name(name: &[u8]) -> Option<Cap>
         ensures { result ≡ cap_of name.now }
     {
-        let place = place_of(name, &NAMES)?;
-        Some(Cap(place as u8))
+        named(of_length(name.len()), name)
     }
 
     /// Its name, as `CAP_CHOWN`.
@@ -119,12 +119,49 @@ impl Cap {
     }
 }
 
-// The first place of a name in a table.
-fn place_of(name: &[u8], table: &[&str]) -> Option<usize>
-    ensures first { result ≡ position (λ known. bytes_eq known.now name.now) table.now }
-    ensures within { IfSome result (λ place. place < length table.now) }
+// The numbers of the capabilities whose names have so many bytes, in their order, so that a name is held against few.
+fn of_length(size: usize) -> &'static [u8]
+    ensures within { All (λ cap. cap < cap_count) result.now }
+    ensures numbers { result.now ≡ filter (λ cap. length (cap_name_or cap) == size) (range_with_len 0 cap_count) }
 {
-    table.iter().position(|known| known.as_bytes() == name)
+    match size {
+        7 => &[39],
+        8 => &[5],
+        9 => &[0, 27, 28],
+        10 => &[3, 4, 6, 7, 34],
+        11 => &[8, 13, 31, 38],
+        12 => &[14, 22, 23, 25],
+        13 => &[12, 15, 17, 20, 21, 33],
+        14 => &[16, 18, 19, 35, 37],
+        15 => &[29],
+        16 => &[1, 24, 32],
+        17 => &[11, 30, 36],
+        18 => &[26],
+        19 => &[2, 9],
+        20 => &[10],
+        22 => &[40],
+        _ => &[],
+    }
+}
+
+// The first of the capabilities of these numbers that has the name.
+fn named(numbers: &[u8], name: &[u8]) -> Option<Cap>
+    requires { All (λ cap. cap < cap_count) numbers.now }
+    ensures { result ≡ find (λ cap. bytes_eq (cap_name_or cap) name.now) numbers.now }
+{
+    for number in numbers {
+        if has_name(Cap(*number), name) {
+            return Some(Cap(*number));
+        }
+    }
+    None
+}
+
+// The capability has the name.
+fn has_name(cap: Cap, name: &[u8]) -> bool
+    ensures { result ≡ bytes_eq (cap_name_or cap) name.now }
+{
+    cap.name().as_bytes() == name
 }
 
 // The name at a place of a table.

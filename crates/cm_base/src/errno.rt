@@ -1,6 +1,6 @@
 // The errors that a call in a log may answer, and their names (errno(3)).
-ghost use Rattle.std.specs.Prelude.{◌≡◌};
-ghost use Rattle.cm_base.specs.Names.{errno_name, errno_of};
+ghost use Rattle.std.specs.Prelude.{◌≡◌, ◌==◌, bytes_eq, filter, find, length};
+ghost use Rattle.cm_base.specs.Names.{errno_name, errno_of, errnos};
 
 /// An error that a call in a log answers (errno(3)). EPERM and ENOSPC come by the rules of the calls alone; EINVAL, EACCES
 /// of execve and EAGAIN of births by the rules and from outside them; the other twelve from outside alone, as where
@@ -27,26 +27,6 @@ pub enum Errno {
 }
 
 impl Errno {
-    const ALL: [Errno; 17] = [
-        Errno::EPERM,
-        Errno::EINVAL,
-        Errno::ENOSPC,
-        Errno::ENOMEM,
-        Errno::EAGAIN,
-        Errno::EINTR,
-        Errno::EFAULT,
-        Errno::EIO,
-        Errno::ENOENT,
-        Errno::EACCES,
-        Errno::ENOTDIR,
-        Errno::ELOOP,
-        Errno::ENAMETOOLONG,
-        Errno::E2BIG,
-        Errno::ENOEXEC,
-        Errno::ETXTBSY,
-        Errno::ELIBBAD,
-    ];
-
     /// Its name, in capitals, as `EPERM`.
     pub fn name(self) -> &'static str
         ensures { result.now ≡ errno_name self }
@@ -76,9 +56,43 @@ impl Errno {
     pub fn from_name(name: &[u8]) -> Option<Errno>
         ensures { result ≡ errno_of name.now }
     {
-        Errno::ALL
-            .iter()
-            .copied()
-            .find(|e| e.name().as_bytes() == name)
+        named(of_length(name.len()), name)
+    }
+}
+
+/// The first of these errors that has the name.
+fn named(errors: &[Errno], name: &[u8]) -> Option<Errno>
+    ensures { result ≡ find (λ e. bytes_eq (errno_name e) name.now) errors.now }
+{
+    errors
+        .iter()
+        .copied()
+        .find(|e| e.name().as_bytes() == name)
+}
+
+/// The errors whose names have so many bytes, in their order, so that a name is held against few.
+fn of_length(size: usize) -> &'static [Errno]
+    ensures { result.now ≡ filter (λ e. length (errno_name e) == size) errnos }
+{
+    match size {
+        3 => &[Errno::EIO],
+        5 => &[Errno::EPERM, Errno::EINTR, Errno::ELOOP, Errno::E2BIG],
+        6 => &[
+            Errno::EINVAL,
+            Errno::ENOSPC,
+            Errno::ENOMEM,
+            Errno::EAGAIN,
+            Errno::EFAULT,
+            Errno::ENOENT,
+            Errno::EACCES,
+        ],
+        7 => &[
+            Errno::ENOTDIR,
+            Errno::ENOEXEC,
+            Errno::ETXTBSY,
+            Errno::ELIBBAD,
+        ],
+        12 => &[Errno::ENAMETOOLONG],
+        _ => &[],
     }
 }

@@ -40,7 +40,7 @@ impl Filter {
     pub fn permits(self, k: CallKind) -> bool
         ensures { result ≡ permits self k }
     {
-        self.0 >> number(k) & 1 != 1
+        self.0 >> k.number() & 1 != 1
     }
 
     /// The filter that excludes the calls of these names, repeats included. NoSuchCall of the place of the first that is
@@ -60,7 +60,7 @@ impl Filter {
     fn excluding(self, k: CallKind) -> Filter
         ensures { result ≡ excluding self k }
     {
-        Filter(self.0 | 1 << number(k))
+        Filter(self.0 | 1 << k.number())
     }
 }
 
@@ -91,40 +91,5 @@ fn excluding_named(filter: Filter, name: &[u8]) -> Filter
     match CallKind::from_name(name) {
         Some(kind) => filter.excluding(kind),
         None => filter,
-    }
-}
-
-/// The number of a kind, its place among the kinds.
-fn number(k: CallKind) -> u32
-    ensures place { result ≡ kind_number k }
-    ensures range { result < 26 }
-{
-    match k {
-        CallKind::SetUid => 0,
-        CallKind::SetReUid => 1,
-        CallKind::SetResUid => 2,
-        CallKind::SetFsUid => 3,
-        CallKind::SetGid => 4,
-        CallKind::SetReGid => 5,
-        CallKind::SetResGid => 6,
-        CallKind::SetFsGid => 7,
-        CallKind::SetGroups => 8,
-        CallKind::CapSet => 9,
-        CallKind::BsetDrop => 10,
-        CallKind::AmbRaise => 11,
-        CallKind::AmbLower => 12,
-        CallKind::AmbClear => 13,
-        CallKind::SecureBits => 14,
-        CallKind::KeepCaps => 15,
-        CallKind::NoNewPrivs => 16,
-        CallKind::Fork => 17,
-        CallKind::CloneUser => 18,
-        CallKind::Unshare => 19,
-        CallKind::SetNs => 20,
-        CallKind::WriteUidMap => 21,
-        CallKind::WriteGidMap => 22,
-        CallKind::WriteSetgroups => 23,
-        CallKind::Exec => 24,
-        CallKind::Exit => 25,
     }
 }

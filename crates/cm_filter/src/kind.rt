@@ -1,6 +1,6 @@
 // The kinds of calls and their names in script lines, one table.
-ghost use Rattle.std.specs.Prelude.{◌≡◌};
-ghost use Rattle.cm_filter.specs.Kinds.{call_name, kind_named};
+ghost use Rattle.std.specs.Prelude.{◌≡◌, ◌==◌, ◌<◌, filter, find, length};
+ghost use Rattle.cm_filter.specs.Kinds.{call_kinds, call_name, has_name, kind_named, kind_number};
 
 /// A kind of call: the call without its arguments. Their order is that of the table.
 #[derive(Clone, Copy, Debug, PartialEq, Eq)]
@@ -34,35 +34,6 @@ pub enum CallKind {
 }
 
 impl CallKind {
-    const ALL: [CallKind; 26] = [
-        CallKind::SetUid,
-        CallKind::SetReUid,
-        CallKind::SetResUid,
-        CallKind::SetFsUid,
-        CallKind::SetGid,
-        CallKind::SetReGid,
-        CallKind::SetResGid,
-        CallKind::SetFsGid,
-        CallKind::SetGroups,
-        CallKind::CapSet,
-        CallKind::BsetDrop,
-        CallKind::AmbRaise,
-        CallKind::AmbLower,
-        CallKind::AmbClear,
-        CallKind::SecureBits,
-        CallKind::KeepCaps,
-        CallKind::NoNewPrivs,
-        CallKind::Fork,
-        CallKind::CloneUser,
-        CallKind::Unshare,
-        CallKind::SetNs,
-        CallKind::WriteUidMap,
-        CallKind::WriteGidMap,
-        CallKind::WriteSetgroups,
-        CallKind::Exec,
-        CallKind::Exit,
-    ];
-
     /// Its name, as `setresuid`.
     pub fn name(self) -> &'static str
         ensures { result.now ≡ call_name self }
@@ -97,13 +68,66 @@ impl CallKind {
         }
     }
 
+    /// Its number, from 0 on: its place in the order of the kinds.
+    pub(crate) fn number(self) -> u32
+        ensures place { result ≡ kind_number self }
+        ensures range { result < 26 }
+    {
+        self as u32
+    }
+
     /// The kind of that name. None exactly where it is none of the 26 names.
     pub fn from_name(name: &[u8]) -> Option<CallKind>
         ensures { result ≡ kind_named name.now }
     {
-        CallKind::ALL
-            .iter()
-            .copied()
-            .find(|kind| kind.name().as_bytes() == name)
+        named(of_length(name.len()), name)
+    }
+}
+
+/// The first of these kinds that has the name.
+fn named(kinds: &[CallKind], name: &[u8]) -> Option<CallKind>
+    ensures { result ≡ find (has_name name.now) kinds.now }
+{
+    kinds
+        .iter()
+        .copied()
+        .find(|kind| kind.name().as_bytes() == name)
+}
+
+/// The kinds whose names have so many bytes, in their order, so that a name is held against few.
+fn of_length(size: usize) -> &'static [CallKind]
+    ensures { result.now ≡ filter (λ kind. length (call_name kind) == size) call_kinds }
+{
+    match size {
+        4 => &[CallKind::Fork, CallKind::Exit],
+        5 => &[CallKind::SetNs],
+        6 => &[
+            CallKind::SetUid,
+            CallKind::SetGid,
+            CallKind::CapSet,
+            CallKind::Exec,
+        ],
+        7 => &[CallKind::Unshare],
+        8 => &[
+            CallKind::SetReUid,
+            CallKind::SetFsUid,
+            CallKind::SetReGid,
+            CallKind::SetFsGid,
+            CallKind::KeepCaps,
+        ],
+        9 => &[
+            CallKind::SetResUid,
+            CallKind::SetResGid,
+            CallKind::SetGroups,
+            CallKind::BsetDrop,
+            CallKind::AmbRaise,
+            CallKind::AmbLower,
+            CallKind::AmbClear,
+        ],
+        10 => &[CallKind::SecureBits, CallKind::CloneUser],
+        12 => &[CallKind::NoNewPrivs],
+        13 => &[CallKind::WriteUidMap, CallKind::WriteGidMap],
+        15 => &[CallKind::WriteSetgroups],
+        _ => &[],
     }
 }
