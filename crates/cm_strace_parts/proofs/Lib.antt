@@ -5,3 +5,4 @@ pub mod Orders
 pub mod Among
 pub mod Lists
 pub mod ListOrders
+pub mod Counts

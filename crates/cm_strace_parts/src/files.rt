@@ -1,6 +1,6 @@
 // The descriptors that are followed, in a list for each process that has some, by ascending pids. A copy shares the
 // lists, and so does a child that has copies of its parent's: each is copied once it is changed.
-ghost use Rattle.std.specs.Prelude.{◌≡◌, ◌==◌, ◌∷◌, [], find, filter, map, not, length, IfSome, IfNone};
+ghost use Rattle.std.specs.Prelude.{◌≡◌, ◌==◌, ◌+◌, ◌∷◌, [], find, filter, map, not, length, IfSome, IfNone};
 ghost use Rattle.std.specs.Prelude.{if◌then◌else◌, option_map};
 ghost use Rattle.std.specs.List.{list_any};
 ghost use Rattle.cm_base.specs.Outcome.{OrNoMemory, UnchangedOnErr};
@@ -244,8 +244,8 @@ pub(crate) fn has_any(list: &[Files], pid: Pid) -> bool
     }
 }
 
-// How many descriptors are followed.
-pub(crate) fn count(list: &[Files]) -> u128
+// How many descriptors are followed, summed up.
+fn count(list: &[Files]) -> u128
     ensures { result ≡ length (descriptors_in list.now) }
 {
     let mut sum = 0;
@@ -253,6 +253,30 @@ pub(crate) fn count(list: &[Files]) -> u128
         sum += files.len() as u128;
     }
     sum
+}
+
+// How many descriptors of the process are followed.
+pub(crate) fn count_of(list: &[Files], pid: Pid) -> u128
+    requires { ListsInOrder list.now }
+    ensures { result ≡ length (filter (is_of pid) (descriptors_in list.now)) }
+{
+    match of_process(list, pid) {
+        Some(files) => files.len() as u128,
+        None => 0,
+    }
+}
+
+// How many descriptors are followed, where those of one process alone have changed, of so many in all and of its own
+// before. A sum that passes its type's end is made anew.
+pub(crate) fn count_after(list: &[Files], pid: Pid, all: u128, own: u128) -> u128
+    requires ordered { ListsInOrder list.now }
+    requires changed { length (descriptors_in list.now) + own ≡ all + length (filter (is_of pid) (descriptors_in list.now)) }
+    ensures { result ≡ length (descriptors_in list.now) }
+{
+    match all.checked_add(count_of(list, pid)) {
+        Some(sum) => sum - own,
+        None => count(list),
+    }
 }
 
 // The descriptor is followed, in the place of any of its number. It fails only where memory runs out, and then leaves

@@ -25,6 +25,8 @@ pub struct Parts {
     tasks: Vec<Task>,
     kept: Vec<Kept>,
     files: Vec<Files>,
+    // How many descriptors there are in the lists.
+    followed: u128,
     spaces: u32,
 }
 
@@ -42,7 +44,7 @@ impl Model for Parts {
       spaces = p.spaces;
     } };
 
-    ghost invariant = { λ p. InOrder p.tasks.items p.kept.items p.files.items };
+    ghost invariant = { λ p. InOrder p.tasks.items p.kept.items p.files.items p.followed };
 }
 
 // ---- what is known
@@ -58,6 +60,7 @@ impl Parts {
             tasks,
             kept: Vec::new(alloc),
             files: Vec::new(alloc),
+            followed: 0,
             spaces: start.spaces.count(),
         })
     }
@@ -73,6 +76,7 @@ impl Parts {
             tasks,
             kept,
             files,
+            followed: self.followed,
             spaces: self.spaces,
         })
     }
@@ -146,7 +150,7 @@ impl Parts {
     pub fn descriptor_count(&self) -> u128
         ensures { result ≡ length self.now.descriptors }
     {
-        files::count(&self.files)
+        self.followed
     }
 }
 
@@ -189,7 +193,9 @@ impl Parts {
     {
         ordered::remove(&mut self.tasks, pid);
         ordered::remove(&mut self.kept, pid);
+        let own = files::count_of(&self.files, pid);
         files::remove(&mut self.files, pid);
+        self.followed = files::count_after(&self.files, pid, self.followed, own);
     }
 }
 
@@ -212,7 +218,10 @@ impl Parts {
         ensures followed { OrNoMemory result (λ _. self.new ≡ with_descriptor new self.old) }
         ensures unchanged { UnchangedOnErr result self.new self.old }
     {
-        files::follow(&mut self.files, alloc, &new)
+        let own = files::count_of(&self.files, new.pid);
+        files::follow(&mut self.files, alloc, &new)?;
+        self.followed = files::count_after(&self.files, new.pid, self.followed, own);
+        Ok(())
     }
 
     /// The descriptor isn't followed any more. It fails only where memory runs out, and then leaves all as it was.
@@ -225,7 +234,10 @@ impl Parts {
         ensures forgotten { OrNoMemory result (λ _. self.new ≡ without_descriptor pid number self.old) }
         ensures unchanged { UnchangedOnErr result self.new self.old }
     {
-        files::forget(&mut self.files, alloc, pid, number)
+        let own = files::count_of(&self.files, pid);
+        files::forget(&mut self.files, alloc, pid, number)?;
+        self.followed = files::count_after(&self.files, pid, self.followed, own);
+        Ok(())
     }
 
     /// What an execve of the process leaves (execve(2), "Effect on process attributes"). It fails only where memory
@@ -234,7 +246,10 @@ impl Parts {
         ensures executed { OrNoMemory result (λ _. self.new ≡ after_exec pid self.old) }
         ensures unchanged { UnchangedOnErr result self.new self.old }
     {
-        files::execute(&mut self.files, alloc, pid)
+        let own = files::count_of(&self.files, pid);
+        files::execute(&mut self.files, alloc, pid)?;
+        self.followed = files::count_after(&self.files, pid, self.followed, own);
+        Ok(())
     }
 
     /// What a birth leaves: the child in that user namespace, with the parent's descriptors or with copies of them.
@@ -251,7 +266,9 @@ impl Parts {
         ensures unchanged { UnchangedOnErr result self.new self.old }
     {
         self.tasks.reserve(1)?;
+        let own = files::count_of(&self.files, child);
         files::bear_unless(&mut self.files, alloc, parent, child, shares)?;
+        self.followed = files::count_after(&self.files, child, self.followed, own);
         let born = Task {
             pid: child,
             space,
