@@ -64,10 +64,7 @@ impl Errno {
 fn named(errors: &[Errno], name: &[u8]) -> Option<Errno>
     ensures { result ≡ find (λ e. bytes_eq (errno_name e) name.now) errors.now }
 {
-    errors
-        .iter()
-        .copied()
-        .find(|e| e.name().as_bytes() == name)
+    errors.iter().copied().find(|e| e.name().as_bytes() == name)
 }
 
 /// The errors whose names have so many bytes, in their order, so that a name is held against few.
