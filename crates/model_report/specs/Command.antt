@@ -11,10 +11,12 @@ pub data Command : Type 0 where
   Later : Command
   NoForm : Command
 
+-- the words after `replay`
 abbrev pub replay_words : List (List ℕ) → Command
 replay_words (world ∷ log ∷ []) = Replay world log
 replay_words _ = NoForm
 
+-- the words after `audit`
 abbrev pub audit_words : List (List ℕ) → Command
 audit_words (world ∷ log ∷ pid ∷ right ∷ []) = Audit world log pid right
 audit_words _ = NoForm
@@ -28,6 +30,7 @@ abbrev pub is_drill_number : Option ℕ → Bool
 is_drill_number None = false
 is_drill_number (Some n) = nat_le n 100000
 
+-- the words after `drill`
 abbrev pub drill_words : List (List ℕ) → Command
 drill_words (n ∷ []) = if is_drill_number (number_token n) then Later else NoForm
 drill_words _ = NoForm

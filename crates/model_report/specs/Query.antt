@@ -8,6 +8,7 @@ use Rattle.model_cred.specs.Right.{Right, Cap, Uid, Gid}
 use Rattle.model_text.specs.SpaceToken.{space_of_token}
 use Rattle.model_text.specs.Token.{number_token, pid_token}
 
+-- What is asked: the text of a pid, and the text of a right.
 pub record Query : Type 0 where
   pub pid : List ℕ
   pub right : List ℕ
@@ -34,6 +35,7 @@ abbrev pub cap_parts : List (List ℕ) → Option ℕ → List ℕ → Option Ri
 cap_parts names None text = None
 cap_parts names (Some at) text = cap_right (cap_of (take at text)) (space_of_token names (drop (at + 1) text))
 
+-- the right that such a text is, parted at its first `@`
 abbrev pub cap_text : List (List ℕ) → List ℕ → Option Right
 cap_text names text = cap_parts names (position (λ byte. byte == 64) text) text
 

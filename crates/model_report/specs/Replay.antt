@@ -25,6 +25,7 @@ pub data ReportLine : Type 0 where
   Told : World → Placed → ReportLine
   Plain : List ℕ → ReportLine
 
+-- A report: its status, and its lines.
 pub record Report : Type 0 where
   pub status : Status
   pub lines : List ReportLine
@@ -157,6 +158,7 @@ abbrev pub state_or : State → Outcome → State
 state_or s (Goes s') = s'
 state_or s _ = s
 
+-- The state that events lead to, one after another.
 abbrev pub state_after : World → State → List Event → State
 state_after w s [] = s
 state_after w s (e ∷ es) = state_after w (state_or s (outcome w s e)) es

@@ -122,10 +122,12 @@ abbrev pub with_id : (ℕ → Call) → List Argument → Option Call
 with_id make (Id a ∷ []) = Some (make a)
 with_id make _ = None
 
+-- the call that two ids make; none of anything else
 abbrev pub with_two_ids : (ℕ → ℕ → Call) → List Argument → Option Call
 with_two_ids make (Id a ∷ Id b ∷ []) = Some (make a b)
 with_two_ids make _ = None
 
+-- the call that three ids make
 abbrev pub with_three_ids : (ℕ → ℕ → ℕ → Call) → List Argument → Option Call
 with_three_ids make (Id a ∷ Id b ∷ Id c ∷ []) = Some (make a b c)
 with_three_ids make _ = None
@@ -144,14 +146,17 @@ abbrev pub with_cap : (ℕ → Call) → List Argument → Option Call
 with_cap make (Cap a ∷ []) = Some (make a)
 with_cap make _ = None
 
+-- the call that a number makes
 abbrev pub with_number : (ℕ → Call) → List Argument → Option Call
 with_number make (Number a ∷ []) = Some (make a)
 with_number make _ = None
 
+-- the call that a space makes
 abbrev pub with_space : (ℕ → Call) → List Argument → Option Call
 with_space make (Space a ∷ []) = Some (make a)
 with_space make _ = None
 
+-- the call that a file makes
 abbrev pub with_file : (FileRef → Call) → List Argument → Option Call
 with_file make (File a ∷ []) = Some (make a)
 with_file make _ = None

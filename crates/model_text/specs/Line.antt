@@ -24,6 +24,7 @@ pub data Line : Type 0 where
   Faulty : LineFault → Line
   Exceeds : Limited → Line
 
+-- the tokens of a line, each its bytes
 abbrev pub Tokens : Type 0
 Tokens = List (List ℕ)
 

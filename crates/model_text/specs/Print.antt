@@ -29,15 +29,19 @@ groups_text (g ∷ groups) = comma_list (g ∷ groups)
 unfoldable pub place_text : List (List ℕ) → Process → List ℕ
 place_text names p = codes "> " ++ decimal p.pid ++ codes " " ++ space_token names p.space
 
+-- the ids of a credential: of the user, of the group, and the supplementary groups
 unfoldable pub all_ids_text : Credential → List ℕ
 all_ids_text c = codes " uid=" ++ ids_text c.uid ++ codes " gid=" ++ ids_text c.gid ++ codes " groups=" ++ groups_text c.groups
 
+-- its inheritable, permitted and effective sets
 unfoldable pub sets_text : Credential → List ℕ
 sets_text c = codes " inh=" ++ hex_set c.inheritable ++ codes " prm=" ++ hex_set c.permitted ++ codes " eff=" ++ hex_set c.effective
 
+-- its bounding and its ambient set
 unfoldable pub bounds_text : Credential → List ℕ
 bounds_text c = codes " bnd=" ++ hex_set c.bounding ++ codes " amb=" ++ hex_set c.ambient
 
+-- its securebits, and no_new_privs
 unfoldable pub flags_text : Credential → List ℕ
 flags_text c = codes " sec=" ++ hex_bits c.securebits ++ codes " nnp=" ++ (if c.no_new_privs then codes "1" else codes "0")
 

@@ -25,6 +25,7 @@ pub data End : Type 0 where
   AtEnd : End
   Stops : Stop → End
 
+-- What a log reads as: its events, each with the number of its line, and how the reading ends.
 pub record Reading : Type 0 where
   pub events : List Placed
   pub ending : End

@@ -45,6 +45,7 @@ cap_name_or_number cap = unwrap_or (cap_name cap) (decimal cap)
 abbrev pub word_token : List ℕ → Option Bool
 word_token text = if bytes_eq text (codes "allow") then Some false else if bytes_eq text (codes "deny") then Some true else None
 
+-- the word of a space's setgroups file, as it is written
 abbrev pub word_text : Bool → List ℕ
 word_text deny = if deny then codes "deny" else codes "allow"
 
