@@ -11,5 +11,6 @@ pub mod Covers
 pub mod Encloses
 pub mod Meets
 pub mod Start
+pub mod Firsts
 pub mod Laws
 pub mod Example

@@ -50,7 +50,7 @@ put_pids new (q ∷ processes) =
           ∙ ap (λ (ns : List ℕ). q.pid ∷ ns) (put_pids new processes)
     ]
 
-put_length : (new : Process) (processes : List Process) → length (put_process new processes) ≡ length processes
+pub put_length : (new : Process) (processes : List Process) → length (put_process new processes) ≡ length processes
 put_length new processes =
     sym (length-map (put_process new processes) (λ p. p.pid)) ∙ ap length (put_pids new processes) ∙ length-map processes (λ p. p.pid)
 

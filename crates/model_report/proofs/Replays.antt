@@ -7,7 +7,7 @@ use Rattle.model_cred.specs.Process.{State}
 use Rattle.model_cred.specs.World.{World}
 use Rattle.model_run.specs.Step.{Outcome, Goes, Step, Run, outcome}
 use Rattle.model_report.proofs.StepFacts.{goes_or_not}
-use Rattle.model_report.specs.Causes.{RunWithin}
+use Rattle.model_run.specs.Within.{RunWithin}
 use Rattle.model_report.specs.Replay.{Report, ReportLine, replayed, by_outcome, after, impossible, limit_hit, step_lines, state_or, state_after}
 use Rattle.model_report.specs.Replay.{exceeded, IsWithin, unless_exceeded}
 use Rattle.model_text.specs.Reading.{Placed, End, events_of}

@@ -1,10 +1,9 @@
 -- The lines of a report, and the replay: what placed events, one after another from a state on, come to as lines of a report.
 -- Which form of log they were read from has no part in it.
-use Rattle.std.specs.Prelude.{◌≡◌, ℕ, codes, decimal, ◌+◌, nat_lt, length, List, [], ◌∷◌, ◌++◌, Option, Some, None, flat_map, if◌then◌else◌}
+use Rattle.std.specs.Prelude.{ℕ, codes, decimal, ◌+◌, List, [], ◌∷◌, ◌++◌, Option, Some, None, flat_map}
 use Rattle.cm_base.specs.declared.faults.LineFault.{LineFault}
 use Rattle.cm_base.specs.declared.faults.LineFault.TheVariants as fault
 use Rattle.cm_base.specs.declared.limited.Limited.{Limited}
-use Rattle.cm_base.specs.declared.limited.Limited.TheVariants as limit
 use Rattle.cm_base.specs.declared.status.Status.{Status}
 use Rattle.cm_base.specs.declared.status.Status.TheVariants as status
 use Rattle.cm_base.specs.declared.res.Res.{Res}
@@ -15,6 +14,7 @@ use Rattle.model_cred.specs.Call.{Event}
 use Rattle.model_cred.specs.Process.{Process, State, process_at}
 use Rattle.model_cred.specs.World.{World}
 use Rattle.model_run.specs.Step.{Outcome, Goes, NoProcess, NoSpace, PidInUse, Wrong, outcome}
+pub use Rattle.model_run.specs.Within.{exceeded, IsWithin}
 use Rattle.model_text.specs.Print.{credential_line, event_line, res_text}
 use Rattle.model_text.specs.Reading.{Placed, Stop, Fault, Limit, End, AtEnd, Stops}
 
@@ -82,10 +82,6 @@ bad_log_text number why = at_line (codes "bad log line ") number ++ codes ": " +
 abbrev pub bad_log : ℕ → LineFault → Report
 bad_log number why = says status.BadLog (bad_log_text number why)
 
--- what is asked for isn't built
-abbrev pub not_built : Report
-not_built = says status.NotBuilt (codes "not built")
-
 -- the line of a limit, with its name and its number
 abbrev pub limit_text : Limited → List ℕ
 limit_text l = codes "limit " ++ limit_name l ++ codes " " ++ decimal (limit_number l)
@@ -109,17 +105,6 @@ by_end count AtEnd = ended count
 by_end count (Stops stop) = stopped stop
 
 -- ---- the limits of a state
--- the limit that a state exceeds, where it does: that of live processes, else that of spaces
-abbrev pub exceeded : State → Option Limited
-exceeded s =
-    if nat_lt (limit_number limit.Processes) (length s.processes) then Some limit.Processes
-    else if nat_lt (limit_number limit.Spaces) (length s.spaces) then Some limit.Spaces
-    else None
-
--- The state is within the limits of live processes and of spaces.
-abbrev pub IsWithin : State → Type 0
-IsWithin s = exceeded s ≡ None
-
 -- the rest, unless a limit is exceeded
 abbrev pub unless_exceeded : Option Limited → Report → Report
 unless_exceeded None rest = rest
@@ -151,6 +136,23 @@ by_outcome w e rest become = impossible e.line become
 abbrev pub replayed : World → State → ℕ → List Placed → End → Report
 replayed w s count [] ending = by_end count ending
 replayed w s count (e ∷ events) ending = by_outcome w e (λ s'. replayed w s' (count + 1) events ending) (outcome w s e.event)
+
+-- ---- a replay that isn't shown
+-- the lines of plain text among them
+abbrev pub plain_lines : List ReportLine → List ReportLine
+plain_lines [] = []
+plain_lines (Plain text ∷ lines) = Plain text ∷ plain_lines lines
+plain_lines (Credentials w p ∷ lines) = plain_lines lines
+plain_lines (Told w e ∷ lines) = plain_lines lines
+
+-- What is left of the lines of a replay with this status: nothing where it is accepted, else the line that says why not.
+abbrev pub silenced : Status → List ReportLine → List ReportLine
+silenced status.Accepted lines = []
+silenced _ lines = plain_lines lines
+
+-- a replay that isn't shown
+abbrev pub silent : Report → Report
+silent r = record { status = r.status; lines = silenced r.status r.lines }
 
 -- ---- the state after events
 -- The state that events lead to. (An event that is no step changes nothing; after an accepted log there is none.)

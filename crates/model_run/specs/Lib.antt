@@ -5,5 +5,6 @@ pub mod Ruling
 pub mod Step
 pub mod Family
 pub mod Later
+pub mod Within
 pub mod Holds
 pub mod Never

@@ -7,7 +7,7 @@ use Rattle.cm_base.specs.Limited.{limit_number}
 use Rattle.model_cred.specs.World.{World}
 use Rattle.model_strace.proofs.HeldLines.{next_found}
 use Rattle.model_strace.specs.After.{After, Goes, Halts, preceded, and_then}
-use Rattle.model_strace.specs.Body.{Row, Blank, TooLong, NoPid, Of, row_of}
+use Rattle.model_strace.specs.Body.{PidLine, Blank, TooLong, NoPid, Of, row_of}
 use Rattle.model_strace.specs.Counts.{EventsWithinLines, LinesAreCounted, EndsAreNotCounted}
 use Rattle.model_strace.specs.Lines.{Line, Read, Next, is_line_of, given_at, read_line, next_line, at_end, at_end_turn, ended}
 use Rattle.model_strace.specs.Parts.{Parts, is_known, without_any_kept}
@@ -127,13 +127,13 @@ line_within w l t =
       | false ↦ hold_within l t
     ]
 
-row_within : (w : World) (row : Row) (t : Work) → Within holds (1 + length t.held) (row_fed w row t)
+row_within : (w : World) (row : PidLine) (t : Work) → Within holds (1 + length t.held) (row_fed w row t)
 row_within w Blank t = omega arith
 row_within w TooLong t = omega arith
 row_within w NoPid t = omega arith
 row_within w (Of pid body) t = line_within w (record { number = t.count; pid = pid; body = body }) t
 
-all_within : (cut : List ℕ → Row) (w : World) (lines : List (List ℕ)) (t : Work) → Within holds (length t.held + length lines) (all_fed cut w lines t)
+all_within : (cut : List ℕ → PidLine) (w : World) (lines : List (List ℕ)) (t : Work) → Within holds (length t.held + length lines) (all_fed cut w lines t)
 all_within cut w [] t = omega arith
 all_within cut w (line ∷ lines) t =
     within_more holds ((1 + length t.held) + length lines) (length t.held + suc (length lines))
@@ -212,7 +212,7 @@ line_counted w l t =
       | false ↦ hold_counted l t
     ]
 
-row_counted : (w : World) (row : Row) (t : Work) → Counted t.count (row_fed w row t)
+row_counted : (w : World) (row : PidLine) (t : Work) → Counted t.count (row_fed w row t)
 row_counted w Blank t = refl
 row_counted w TooLong t = tt
 row_counted w NoPid t = tt

@@ -16,4 +16,5 @@ pub mod ToldValues
 pub mod ToldCalls
 pub mod ToldEvents
 pub mod NamedSpaces
+pub mod Few
 pub mod ReadBack

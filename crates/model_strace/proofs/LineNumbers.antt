@@ -9,7 +9,7 @@ use Rattle.cm_base.specs.Limited.{limit_number}
 use Rattle.model_cred.specs.World.{World}
 use Rattle.model_strace.proofs.HeldLines.{next_found}
 use Rattle.model_strace.specs.After.{After, Goes, Halts, preceded, and_then}
-use Rattle.model_strace.specs.Body.{Row, Blank, TooLong, NoPid, Of, log_row}
+use Rattle.model_strace.specs.Body.{PidLine, Blank, TooLong, NoPid, Of, log_row}
 use Rattle.model_strace.specs.LineNumbers.{StandsFor, NumbersAreLines, told_by, row_told}
 use Rattle.model_strace.specs.Lines.{Line, Read, Moment, Next, Progress, is_among, held, is_line_of, given_at, read_line}
 use Rattle.model_strace.specs.Lines.{next_line, moment_after, then_rest, read_born, read_now, hold, arrives, line_read}
@@ -129,10 +129,10 @@ module _ (w : World) (all : List (List ℕ)) where
       (arrives_stands (lines ++ l ∷ []) l m is with_l) (λ n _. (All-nil (λ e. StandsFor w all e.line (text.Tells e.event)), with_l))
 
   -- whatever is known, the line of that number tells what its row then tells
-  abbrev IsRow : ℕ → Row → Type 0
+  abbrev IsRow : ℕ → PidLine → Type 0
   IsRow number row = (p : Parts) → StandsFor w all number (row_told w p row)
 
-  row_stands : (number : ℕ) (row : Row) (at : Progress) → IsRow number row → AreLines at → Stands AreLines (row_read w number row at)
+  row_stands : (number : ℕ) (row : PidLine) (at : Progress) → IsRow number row → AreLines at → Stands AreLines (row_read w number row at)
   row_stands number Blank at is each = (All-nil (λ e. StandsFor w all e.line (text.Tells e.event)), each)
   row_stands number TooLong at is each = (All-nil (λ e. StandsFor w all e.line (text.Tells e.event)), tt)
   row_stands number NoPid at is each = (All-nil (λ e. StandsFor w all e.line (text.Tells e.event)), is at.now.parts)

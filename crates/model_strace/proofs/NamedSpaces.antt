@@ -21,7 +21,7 @@ use Rattle.model_cred.specs.IdMap.{Extent}
 use Rattle.model_cred.specs.World.{World}
 use Rattle.model_strace.proofs.ToldCalls.{ToldFits, call_told_fits, names_space}
 use Rattle.model_strace.specs.After.{After, Goes, Halts, preceded, and_then}
-use Rattle.model_strace.specs.Body.{Body, Silent, Ends, Superseded, Begun, Resumed, Whole, Row, Blank, TooLong, NoPid}
+use Rattle.model_strace.specs.Body.{Body, Silent, Ends, Superseded, Begun, Resumed, Whole, PidLine, Blank, TooLong, NoPid}
 use Rattle.model_strace.specs.Body.{Of, body_of, log_row}
 use Rattle.model_strace.specs.Calls as calls
 use Rattle.model_strace.specs.Calls.{Told, Nothing, Faulty, Does, Bears, Joins, Opens, Closes, Copies, CopiesTo, Writes}
@@ -585,7 +585,7 @@ module _ (w : World) (few : AreFew w) where
       (λ m. Goes [] (record { lines = lines ++ l ∷ []; now = m })) (arrives_within most (lines ++ l ∷ []) l m knows)
       (λ n m its. still_within (λ (at : Progress). at.now.parts) n (record { lines = lines ++ l ∷ []; now = m }) its)
 
-  row_within : (most number : ℕ) (row : Row) (at : Progress) → KnowsWithin most at.now.parts
+  row_within : (most number : ℕ) (row : PidLine) (at : Progress) → KnowsWithin most at.now.parts
       → AfterWithin (λ at. at.now.parts) most (row_read w number row at)
   row_within most number Blank at knows = still_within (λ (at : Progress). at.now.parts) most at knows
   row_within most number TooLong at knows = All-nil (PlacedWithin (most + 0))

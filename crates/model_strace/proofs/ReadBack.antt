@@ -1,31 +1,26 @@
 -- Each event that a log of strace tells is writable, and what is written of it is read again as it.
-use Rattle.std.proofs.Common.{◌≡◌, ℕ, suc, ◌+◌, ◌≤◌, ◌==◌, Bool, true, false, cond, List, [], ◌∷◌, length, ap, arith}
-use Rattle.std.proofs.Common.{All}
+use Rattle.std.proofs.Common.{◌≡◌, ℕ, ◌+◌, ◌≤◌, List, [], ◌∷◌, length, arith, All}
 use Rattle.std.proofs.lemmas.List.Elements.{All-nil, All-cons, All-head, All-tail, All-weaker}
 use Rattle.cm_base.specs.Limited.{limit_number}
 use Rattle.cm_base.specs.Limits.{greatest_number}
 use Rattle.cm_base.specs.declared.limited.Limited.TheVariants as limit
 use Rattle.model_cred.specs.World.{World}
-use Rattle.model_strace.proofs.Counts.{events_within_lines}
+use Rattle.model_strace.proofs.Few.{strace_few}
 use Rattle.model_strace.proofs.LineNumbers.{numbers_are_lines}
 use Rattle.model_strace.proofs.NamedSpaces.{EventWithin, log_within, spaces_more}
-use Rattle.model_strace.proofs.RestLaws.{begins_with_reading_by}
 use Rattle.model_strace.proofs.ToldEvents.{line_can_write}
-use Rattle.model_strace.specs.Body.{log_row}
-use Rattle.model_strace.specs.Counts.{EventsWithinLines}
 use Rattle.model_strace.specs.LineNumbers.{NumbersAreLines, StandsFor}
 use Rattle.model_strace.specs.Lines.{strace_reading}
 use Rattle.model_strace.specs.ReadBack.{ToldAreWritable, ToldReadBack}
-use Rattle.model_strace.specs.Rest.{BeginsWithReadingBy, first_session, rest_by}
 use Rattle.model_text.proofs.Keeping.{start_keeps}
 use Rattle.model_text.proofs.ReadBack.{lines_read_back}
 use Rattle.model_text.proofs.Starts.{start_spaces}
 use Rattle.model_text.proofs.ToldEvents.{AreFew, few_names}
 use Rattle.model_text.specs.Arguments.{arguments_of}
-use Rattle.model_text.specs.Cut.{grown, lines_of}
+use Rattle.model_text.specs.Cut.{lines_of}
 use Rattle.model_text.specs.Line.{Tells, script_line}
 use Rattle.model_text.specs.Print.{event_text}
-use Rattle.model_text.specs.Reading.{Placed, Reading}
+use Rattle.model_text.specs.Reading.{Placed}
 use Rattle.model_text.specs.Written.{IsWritable, LinesReadBack}
 
 -- what holds of each by two things that hold of each
@@ -36,32 +31,6 @@ all_both P Q R both (x ∷ xs) first second =
     All-cons R x xs (both x (All-head P x xs first) (All-head Q x xs second))
     (all_both P Q R both xs (All-tail P x xs first) (All-tail Q x xs second))
 
--- ---- no more events than bytes
-grown_few : (byte : ℕ) (pieces : List (List ℕ)) → length (grown byte pieces) ≤ suc (length pieces)
-grown_few byte [] = omega arith
-grown_few byte (piece ∷ pieces) = omega arith
-
-lines_few : (text : List ℕ) → length (lines_of text) ≤ length text
-lines_few [] = omega arith
-lines_few (byte ∷ text) =
-    let rest : length (lines_of text) ≤ length text = lines_few text in
-    elim (byte == 10)
-    as (λ (b : Bool). length (cond b ([] ∷ lines_of text) (grown byte (lines_of text))) ≤ suc (length text)) [
-      | true ↦ omega (arith, rest)
-      | false ↦ omega (arith, grown_few byte (lines_of text), rest)
-    ]
-
-events_few : (w : World) (text : List ℕ) → length (strace_reading w text).events ≤ length text
-unfolding BeginsWithReadingBy EventsWithinLines
-events_few w text =
-    let lines : length (lines_of text) ≤ length text = lines_few text in
-    let within : length (rest_by log_row w (first_session w) (lines_of text)).events ≤ 0 + length (lines_of text) =
-    events_within_lines log_row w (first_session w) (lines_of text) in
-    let same : length (rest_by log_row w (first_session w) (lines_of text)).events ≡ length
-    (strace_reading w text).events =
-    ap (λ (r : Reading). length r.events) (begins_with_reading_by log_row w (lines_of text)) in
-    omega (arith, lines, within, same)
-
 -- ---- the events of a log
 pub told_are_writable : ToldAreWritable
 unfolding ToldAreWritable NumbersAreLines
@@ -70,7 +39,7 @@ told_are_writable bytes w text reads size =
     let events : List Placed = (strace_reading w text).events in
     let most : ℕ = length w.start.spaces + length events in
     let spaces : length w.start.spaces ≤ limit_number limit.Spaces = start_spaces bytes w reads in
-    let count : length events ≤ length text = events_few w text in
+    let count : length events ≤ length text = strace_few w text in
     let low : most ≤ greatest_number = omega (arith, spaces, count, size) in
     all_both (λ (e : Placed). StandsFor w (lines_of text) e.line (Tells e.event)) (λ e. EventWithin most e.event)
     (λ e. IsWritable w e.event)

@@ -9,7 +9,7 @@ use Rattle.model_cred.specs.World.{World}
 use Rattle.model_strace.proofs.HeldLines.{Rise, Below, rise_more, rise_later, below_more, later_not_among, held_more}
 use Rattle.model_strace.proofs.HeldLines.{held_as_read, found_within, held_without, next_found}
 use Rattle.model_strace.specs.After.{After, Goes, Halts, preceded, and_then}
-use Rattle.model_strace.specs.Body.{Row, Blank, TooLong, NoPid, Of, row_of}
+use Rattle.model_strace.specs.Body.{PidLine, Blank, TooLong, NoPid, Of, row_of}
 use Rattle.model_strace.specs.Lines.{Line, Read, Moment, Next, Progress, is_among, held, is_line_of, read_line}
 use Rattle.model_strace.specs.Lines.{next_line, moment_after, then_rest, read_born, read_now, hold, arrives}
 use Rattle.model_strace.specs.Lines.{row_read, rows_read, beginning, ended, log_end, reading_by}
@@ -160,7 +160,7 @@ same_made related later make (Halts es s) (Goes fs t) same made = absurd same
 same_made related later make (Halts es s) (Halts fs t) same made = same
 
 -- a row of the next number comes alike
-row_alike : (w : World) (count : ℕ) (row : Row) (at : Progress) → Rise 1 (count + 1) at.lines → Below (count + 1) at.now.read
+row_alike : (w : World) (count : ℕ) (row : PidLine) (at : Progress) → Rise 1 (count + 1) at.lines → Below (count + 1) at.now.read
     → Same (Together (count + 1)) (row_read w (count + 1) row at) (row_fed w row (work_at (count + 1) at.lines at.now))
 row_alike w count Blank at rise below =
     (refl, record { work = refl; rise = rise_later 1 (count + 1) at.lines rise; below = below_more (count + 1) at.now.read below })
@@ -178,7 +178,7 @@ abbrev Alike : Progress → Work → Type 0
 Alike at t = (count : ℕ) × (t ≡ work_at count at.lines at.now)
 
 -- lines come alike
-rows_alike : (cut : List ℕ → Row) (w : World) (count : ℕ) (lines : List (List ℕ)) (at : Progress) → Rise 1 (count + 1) at.lines → Below (count + 1) at.now.read
+rows_alike : (cut : List ℕ → PidLine) (w : World) (count : ℕ) (lines : List (List ℕ)) (at : Progress) → Rise 1 (count + 1) at.lines → Below (count + 1) at.now.read
     → Same Alike (rows_read w cut (count + 1) lines at) (all_fed cut w lines (work_at count at.lines at.now))
 rows_alike cut w count [] at rise below = (refl, (count, refl))
 rows_alike cut w count (line ∷ lines) at rise below =
@@ -199,7 +199,7 @@ ends_alike w (Halts es stop) (Halts fs other) same =
     sym (ap₂ (λ (events : List Placed) (s : Stop). ended (work_end w) (Halts events s)) same.0 same.1)
 
 -- a session that has just begun gives the reading
-begins_alike : (cut : List ℕ → Row) (w : World) (lines : List (List ℕ)) → rest_by cut w (first_session w) lines ≡ reading_by cut w lines
+begins_alike : (cut : List ℕ → PidLine) (w : World) (lines : List (List ℕ)) → rest_by cut w (first_session w) lines ≡ reading_by cut w lines
 begins_alike cut w lines =
     ends_alike w (rows_read w cut 1 lines (beginning w)) (all_fed cut w lines (first_work w)) (rows_alike cut w 0 lines (beginning w) (omega arith) tt)
 
@@ -215,7 +215,7 @@ begins_with_reading w lines = begins_alike row_of w lines
 
 -- ---- one line
 -- what a line gave, and then what later ones give
-goes_on : (cut : List ℕ → Row) (w : World) (count : ℕ) (a : After Work) (lines : List (List ℕ))
+goes_on : (cut : List ℕ → PidLine) (w : World) (count : ℕ) (a : After Work) (lines : List (List ℕ))
     → ended (work_end w) (and_then a (λ t. all_fed cut w lines t)) ≡ answered_then (answer_of a) (rest_by cut w (session_of count a) lines)
 goes_on cut w count (Goes es t) lines = after_events (all_fed cut w lines t)
   where
@@ -230,7 +230,7 @@ goes_on cut w count (Halts es stop) lines = refl
 pub lines_go_on_by : LinesGoOnBy
 unfolding LinesGoOnBy
 lines_go_on_by cut w (Going t) line lines same =
-    ap (λ (row : Row). ended (work_end w) (and_then (row_fed w row (record t { count = t.count + 1 })) (λ t'. all_fed cut w lines t'))) same
+    ap (λ (row : PidLine). ended (work_end w) (and_then (row_fed w row (record t { count = t.count + 1 })) (λ t'. all_fed cut w lines t'))) same
     ∙ goes_on cut w (t.count + 1) (fed_by row_of w line t) lines
 lines_go_on_by cut w (Stopped count stop) line lines same = refl
 lines_go_on_by cut w (Finished count) line lines same = refl

@@ -18,7 +18,7 @@ use Rattle.model_cred.specs.Call.{Call, Event, kind_of}
 use Rattle.model_cred.specs.IdMap.{Extent}
 use Rattle.model_cred.specs.Process.{is_pid}
 use Rattle.model_cred.specs.World.{World}
-use Rattle.model_strace.specs.Body.{Body, Silent, Ends, Superseded, Begun, Resumed, Whole, Row, Blank, TooLong, NoPid}
+use Rattle.model_strace.specs.Body.{Body, Silent, Ends, Superseded, Begun, Resumed, Whole, PidLine, Blank, TooLong, NoPid}
 use Rattle.model_strace.specs.Body.{Of, body_of, log_row, pid_row, row_cut, row_of}
 use Rattle.model_strace.specs.Calls as calls
 use Rattle.model_strace.specs.Calls.{Listed, SetsIds, SetsGroups, SetsCaps, Prctl, Birth, Unshare, SetNs, Execve}
@@ -287,7 +287,7 @@ module _ (w : World) (pid : ℕ) (is : IsTrue (is_pid pid)) where
 
 -- ---- lines
 -- the pid of a line is one
-abbrev RowFits : Row → Type 0
+abbrev RowFits : PidLine → Type 0
 RowFits (Of pid body) = IsTrue (is_pid pid)
 RowFits _ = Unit {0}
 
@@ -312,7 +312,7 @@ turn_tells w (Gives p other born) e fits is = let same : other ≡ e = cc in sub
 turn_tells w (Refused why) e fits is = absurd (cc)
 turn_tells w (Exceeds l) e fits is = absurd (cc)
 
-row_tells : (w : World) (p : Parts) (row : Row) (e : Event) → AreFew w → RowFits row → row_told w p row ≡ Tells e
+row_tells : (w : World) (p : Parts) (row : PidLine) (e : Event) → AreFew w → RowFits row → row_told w p row ≡ Tells e
     → CanWrite w e
 row_tells w p Blank e few fits is = absurd (cc)
 row_tells w p TooLong e few fits is = absurd (cc)

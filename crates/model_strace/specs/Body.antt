@@ -12,28 +12,28 @@ use Rattle.model_text.specs.Token.{pid_token}
 
 -- ---- the line
 -- A line of blanks alone; one with more bytes than lines may have; one that doesn't begin with a pid; a pid and its body.
-pub data Row : Type 0 where
-  Blank : Row
-  TooLong : Row
-  NoPid : Row
-  Of : ℕ → List ℕ → Row
+pub data PidLine : Type 0 where
+  Blank : PidLine
+  TooLong : PidLine
+  NoPid : PidLine
+  Of : ℕ → List ℕ → PidLine
 
 -- the row of a pid, where there is one, and of a body
-abbrev pub pid_row : Option ℕ → List ℕ → Row
+abbrev pub pid_row : Option ℕ → List ℕ → PidLine
 pid_row None body = NoPid
 pid_row (Some pid) body = Of pid body
 
 -- the row of a line without blanks at its end: the pid stands before the first blank, and nothing before the pid
-abbrev pub row_cut : List ℕ → Row
+abbrev pub row_cut : List ℕ → PidLine
 row_cut [] = Blank
 row_cut (byte ∷ text) = pid_row (pid_token (first_word (byte ∷ text))) (after_first_word (byte ∷ text))
 
 -- the row of a line
-abbrev pub row_of : List ℕ → Row
+abbrev pub row_of : List ℕ → PidLine
 row_of line = row_cut (without_end line)
 
 -- the row of a line of a log, in which lines have a limit
-abbrev pub log_row : List ℕ → Row
+abbrev pub log_row : List ℕ → PidLine
 log_row line = if nat_lt (limit_number limit.Line) (length line) then TooLong else row_of line
 
 -- ---- the body

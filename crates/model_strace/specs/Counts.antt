@@ -2,7 +2,7 @@
 -- has lines; and how many lines and user namespaces it counts.
 use Rattle.std.specs.Prelude.{◌≡◌, ◌≤◌, ℕ, ◌+◌, length, List}
 use Rattle.model_cred.specs.World.{World}
-use Rattle.model_strace.specs.Body.{Row}
+use Rattle.model_strace.specs.Body.{PidLine}
 use Rattle.model_strace.specs.Rest.{Session, Going, Stopped, Finished, lines_fed, after_line, after_finish, rest_by}
 
 -- how many lines a session holds
@@ -19,7 +19,7 @@ spaces_counted (Stopped count stop) = 0
 spaces_counted (Finished count) = 0
 
 unfoldable pub EventsWithinLines : Type 0
-EventsWithinLines = (cut : List ℕ → Row) (w : World) (session : Session) (lines : List (List ℕ))
+EventsWithinLines = (cut : List ℕ → PidLine) (w : World) (session : Session) (lines : List (List ℕ))
     → length (rest_by cut w session lines).events ≤ held_count session + length lines
 
 -- Each line is counted once while the session goes on, and after that none is.

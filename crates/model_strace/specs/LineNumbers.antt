@@ -4,7 +4,7 @@ use Rattle.cm_base.specs.declared.faults.LineFault.{LineFault}
 use Rattle.cm_base.specs.declared.faults.LineFault.TheVariants as fault
 use Rattle.cm_base.specs.declared.limited.Limited.TheVariants as limit
 use Rattle.model_cred.specs.World.{World}
-use Rattle.model_strace.specs.Body.{Row, Blank, TooLong, NoPid, Of, log_row}
+use Rattle.model_strace.specs.Body.{PidLine, Blank, TooLong, NoPid, Of, log_row}
 use Rattle.model_strace.specs.Lines.{strace_reading}
 use Rattle.model_strace.specs.Parts.{Parts}
 use Rattle.model_strace.specs.Turn.{Turn, Quiet, Gives, Refused, Exceeds, turn}
@@ -21,7 +21,7 @@ told_by (Refused why) = Faulty why
 told_by (Exceeds l) = text.Exceeds l
 
 -- what a line tells, where so much is known
-abbrev pub row_told : World → Parts → Row → Line
+abbrev pub row_told : World → Parts → PidLine → Line
 row_told w p Blank = NoEvent
 row_told w p TooLong = text.Exceeds limit.Line
 row_told w p NoPid = Faulty fault.Pid

@@ -10,7 +10,7 @@ use Rattle.cm_base.specs.declared.faults.LineFault.TheVariants as fault
 use Rattle.cm_base.specs.declared.limited.Limited.TheVariants as limit
 use Rattle.model_cred.specs.World.{World}
 use Rattle.model_strace.specs.After.{After, Goes, Halts, and_then}
-use Rattle.model_strace.specs.Body.{Row, Blank, TooLong, NoPid, Of, row_of, log_row}
+use Rattle.model_strace.specs.Body.{PidLine, Blank, TooLong, NoPid, Of, row_of, log_row}
 use Rattle.model_strace.specs.Parts.{Parts, first_parts, is_known, without_any_kept}
 use Rattle.model_strace.specs.Turn.{Turn, Quiet, Gives, Refused, Exceeds, turn}
 use Rattle.model_text.specs.Cut.{lines_of}
@@ -120,14 +120,14 @@ abbrev pub line_read : World → List Line → Line → Moment → After Progres
 line_read w lines l m = progress_after (lines ++ l ∷ []) (arrives w (lines ++ l ∷ []) l m)
 
 -- the line of that number comes
-abbrev pub row_read : World → ℕ → Row → Progress → After Progress
+abbrev pub row_read : World → ℕ → PidLine → Progress → After Progress
 row_read w number Blank at = Goes [] at
 row_read w number TooLong at = Halts [] (Limit limit.Line)
 row_read w number NoPid at = Halts [] (Fault number fault.Pid)
 row_read w number (Of pid body) at = line_read w at.lines (record { number = number; pid = pid; body = body }) at.now
 
 -- lines come, each cut so, the first with that number
-abbrev pub rows_read : World → (List ℕ → Row) → ℕ → List (List ℕ) → Progress → After Progress
+abbrev pub rows_read : World → (List ℕ → PidLine) → ℕ → List (List ℕ) → Progress → After Progress
 rows_read w cut number [] at = Goes [] at
 rows_read w cut number (line ∷ lines) at =
     and_then (row_read w number (cut line) at) (λ at'. rows_read w cut (number + 1) lines at')
@@ -160,7 +160,7 @@ log_end w at = at_end w (held at.lines at.now.read) (without_any_kept at.now.par
 
 -- ---- the reading
 -- the reading of lines, each cut so
-abbrev pub reading_by : (List ℕ → Row) → World → List (List ℕ) → Reading
+abbrev pub reading_by : (List ℕ → PidLine) → World → List (List ℕ) → Reading
 reading_by cut w lines = ended (log_end w) (rows_read w cut 1 lines (beginning w))
 
 -- the reading of lines

@@ -8,7 +8,7 @@ use Rattle.cm_base.specs.declared.faults.LineFault.TheVariants as fault
 use Rattle.cm_base.specs.declared.limited.Limited.TheVariants as limit
 use Rattle.model_cred.specs.World.{World}
 use Rattle.model_strace.specs.After.{After, Goes, Halts, and_then}
-use Rattle.model_strace.specs.Body.{Row, Blank, TooLong, NoPid, Of, row_of}
+use Rattle.model_strace.specs.Body.{PidLine, Blank, TooLong, NoPid, Of, row_of}
 use Rattle.model_strace.specs.Lines.{Line, Next, read_line, next_line, at_end, ended, reading, reading_by}
 use Rattle.model_strace.specs.Parts.{Parts, first_parts, is_known, without_any_kept}
 use Rattle.model_text.specs.Reading.{Placed, Stop, Fault, Limit, End, AtEnd, Stops, Reading, ends_at}
@@ -73,18 +73,18 @@ abbrev pub line_fed : World → Line → Work → After Work
 line_fed w l t = if is_known l.pid t.parts then read_fed w l t else held_fed l t
 
 -- a line comes, which is counted already
-abbrev pub row_fed : World → Row → Work → After Work
+abbrev pub row_fed : World → PidLine → Work → After Work
 row_fed w Blank t = Goes [] t
 row_fed w TooLong t = Halts [] (Limit limit.Line)
 row_fed w NoPid t = Halts [] (Fault t.count fault.Pid)
 row_fed w (Of pid body) t = line_fed w (record { number = t.count; pid = pid; body = body }) t
 
 -- a line comes, cut so
-abbrev pub fed_by : (List ℕ → Row) → World → List ℕ → Work → After Work
+abbrev pub fed_by : (List ℕ → PidLine) → World → List ℕ → Work → After Work
 fed_by cut w line t = row_fed w (cut line) (record t { count = t.count + 1 })
 
 -- lines come, each cut so
-abbrev pub all_fed : (List ℕ → Row) → World → List (List ℕ) → Work → After Work
+abbrev pub all_fed : (List ℕ → PidLine) → World → List (List ℕ) → Work → After Work
 all_fed cut w [] t = Goes [] t
 all_fed cut w (line ∷ lines) t = and_then (fed_by cut w line t) (λ t'. all_fed cut w lines t')
 
@@ -94,7 +94,7 @@ work_end w t = at_end w t.held (without_any_kept t.parts)
 
 -- ---- what a session gives
 -- what a session still gives for lines, each cut so, and the log's end: after a stop that stop, after the log's end nothing
-abbrev pub rest_by : (List ℕ → Row) → World → Session → List (List ℕ) → Reading
+abbrev pub rest_by : (List ℕ → PidLine) → World → Session → List (List ℕ) → Reading
 rest_by cut w (Going t) lines = ended (work_end w) (all_fed cut w lines t)
 rest_by cut w (Stopped count stop) lines = ends_at (Stops stop)
 rest_by cut w (Finished count) lines = ends_at AtEnd
@@ -154,7 +154,7 @@ BeginsWithReading = (w : World) (lines : List (List ℕ)) → rest w (first_sess
 -- The same of lines that are cut otherwise.
 unfoldable pub BeginsWithReadingBy : Type 0
 BeginsWithReadingBy =
-    (cut : List ℕ → Row) (w : World) (lines : List (List ℕ)) → rest_by cut w (first_session w) lines ≡ reading_by cut w lines
+    (cut : List ℕ → PidLine) (w : World) (lines : List (List ℕ)) → rest_by cut w (first_session w) lines ≡ reading_by cut w lines
 
 -- What a line answers, and then what the session after it still gives, is what the session gave before.
 unfoldable pub LinesGoOn : Type 0
@@ -163,7 +163,7 @@ LinesGoOn = (w : World) (session : Session) (line : List ℕ) (lines : List (Lis
 
 -- The same of lines that are cut otherwise, where that line is cut as it is.
 unfoldable pub LinesGoOnBy : Type 0
-LinesGoOnBy = (cut : List ℕ → Row) (w : World) (session : Session) (line : List ℕ) (lines : List (List ℕ)) → cut line ≡ row_of line
+LinesGoOnBy = (cut : List ℕ → PidLine) (w : World) (session : Session) (line : List ℕ) (lines : List (List ℕ)) → cut line ≡ row_of line
     → rest_by cut w session (line ∷ lines) ≡ answered_then (line_answer w session line) (rest_by cut w (after_line w session line) lines)
 
 -- After the log's end a session gives nothing more, and ends as it ended.

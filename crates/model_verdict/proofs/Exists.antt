@@ -78,7 +78,7 @@ space_decided space MappedUids x = tested_so (is_outside (extents_of space.uids)
 space_decided space MappedGids x = tested_so (is_outside (extents_of space.gids) x)
 space_decided space _ x = never
 
-start_decided : (s : State) (members : List ℕ) (row : Row) (part : Part) (x : ℕ) → Decided (StartHas s members row part x)
+pub start_decided : (s : State) (members : List ℕ) (row : Row) (part : Part) (x : ℕ) → Decided (StartHas s members row part x)
 start_decided s members (Standing n) part x = either (member_decided s members n part x) (space_decided (space_of s.spaces n) part x)
 start_decided s members (Fresh n) part x = never
 

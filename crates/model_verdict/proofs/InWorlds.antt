@@ -1,5 +1,5 @@
 -- What verdicts in a world say.
-use Rattle.std.proofs.Common.{◌≡◌, ℕ, suc, List, [], ◌∷◌, ◌++◌, Some, sym, subst, refl, All, inl, inr, ◌⊎◌, arith}
+use Rattle.std.proofs.Common.{◌≡◌, ℕ, suc, List, [], ◌∷◌, ◌++◌, sym, subst, All, inl, inr, arith}
 use Rattle.std.proofs.lemmas.List.Elements.{All-head, All-tail}
 use Rattle.cm_filter.specs.Filters.{permits}
 use Rattle.model_cred.specs.Call.{Event}
@@ -7,11 +7,9 @@ use Rattle.model_cred.specs.Process.{State}
 use Rattle.model_cred.specs.Right.{Right}
 use Rattle.model_cred.specs.World.{World}
 use Rattle.model_run.specs.Later.{LaterRun}
-use Rattle.model_box.specs.Closed.{Adds}
-use Rattle.model_box.specs.Covers.{StateFits}
 use Rattle.model_box.specs.Laws.{tested}
-use Rattle.model_box.specs.Meets.{Meets, MeetsAt, IsFirstMet}
-use Rattle.model_box.specs.Row.{Part, Row, IsWithin, row_number}
+use Rattle.model_box.specs.Meets.{Meets}
+use Rattle.model_box.specs.Row.{Part, Row, IsWithin}
 use Rattle.model_box.specs.Start.{StartHas}
 use Rattle.model_box.proofs.Monotone.{adds_more, meets_at_more, meets_more}
 use Rattle.model_plans.proofs.Finds.{found_is_first}
@@ -24,7 +22,7 @@ use Rattle.model_plans.specs.PlanRun.{Found, plan_run}
 use Rattle.model_verdict.proofs.Blames.{blame_is_within}
 use Rattle.model_verdict.specs.Blame.{Blame, AtStart, ByTurn, BlameIsWithin}
 use Rattle.model_verdict.specs.InWorld.{each_may, end_in, NoIsFirstRun, BlameIn, BringsRight, BlameIsBelow}
-use Rattle.model_verdict.specs.Least.{Test, Says}
+use Rattle.model_verdict.specs.Least.{Test}
 use Rattle.model_verdict.specs.Sweep.{Turn, swept, turn_at, widened}
 use Rattle.model_verdict.specs.Verdict.{MayCallWithin}
 

@@ -20,9 +20,12 @@ pub mod Lacking
 pub mod Ends
 pub mod Exists
 pub mod RowMeanings
+pub mod RowsOf
 pub mod Cases
 pub mod BlameCase
 pub mod Verdicts
 pub mod InWorlds
 pub mod MapsStay
 pub mod BlamedRules
+pub mod RowLimits
+pub mod Firsts

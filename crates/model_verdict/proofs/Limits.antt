@@ -1,5 +1,5 @@
--- What the sweep ever gives is below a limit.
-use Rattle.std.proofs.Common.{◌≡◌, ℕ, suc, ◌+◌, ◌<◌, ◌≤◌, ◌==◌, ◌||◌, Bool, true, List, [], ◌∷◌, Option, Some, sym, ◌∙◌, inl, inr, subst, arith}
+-- What the sweep ever gives is below the limit of its part.
+use Rattle.std.proofs.Common.{refl, ◌≡◌, ℕ, suc, ◌+◌, ◌<◌, ◌≤◌, ◌==◌, ◌||◌, Bool, true, List, [], ◌∷◌, Option, Some, sym, ◌∙◌, inl, inr, subst, arith}
 use Rattle.std.specs.Prelude.{IsTrue, nat_le, nat_lt}
 use Rattle.std.specs.List.{list_any}
 use Rattle.std.proofs.lemmas.Bool.{cases_Bool, cond-false, and_parts, or_cases, eqb-true, ltb-true}
@@ -25,18 +25,38 @@ use Rattle.model_box.specs.Gains.{SettableUid, SettableGid, SpreadsUid, SpreadsG
 use Rattle.model_box.specs.Spread.{Brings}
 use Rattle.model_box.specs.Start.{StartHas, SpaceMaps}
 use Rattle.model_box.proofs.Excludes.{all_named}
+use Rattle.model_verdict.specs.Rows.{part_limit}
 
 -- ---- what rules add
-module _ (row : Part → ℕ → Type 0) (limit : ℕ) (low : (part : Part) (x : ℕ) → row part x → x < limit) (caps : cap_count ≤ limit) where
-  settable_uid_low : (x : ℕ) → SettableUid row x → x < limit
+-- a limit of ids, one of capabilities, and one of flags
+abbrev pub part_bar : (ids caps flag : ℕ) → Part → ℕ
+part_bar ids caps flag Uids = ids
+part_bar ids caps flag EffectiveUids = ids
+part_bar ids caps flag FsUids = ids
+part_bar ids caps flag Gids = ids
+part_bar ids caps flag EffectiveGids = ids
+part_bar ids caps flag FsGids = ids
+part_bar ids caps flag Groups = ids
+part_bar ids caps flag MappedUids = ids
+part_bar ids caps flag MappedGids = ids
+part_bar ids caps flag PermittedCaps = caps
+part_bar ids caps flag InheritableCaps = caps
+part_bar ids caps flag BoundingCaps = caps
+part_bar ids caps flag NewPrivs = flag
+part_bar ids caps flag RootCounts = flag
+part_bar ids caps flag LockClear = flag
+
+module _ (ids caps flag : ℕ) (row : Part → ℕ → Type 0) (low : (part : Part) (x : ℕ) → row part x → x < part_bar ids caps flag part)
+    (all_caps : cap_count ≤ caps) (zero_flag : 0 < flag) where
+  settable_uid_low : (x : ℕ) → SettableUid row x → x < ids
   settable_uid_low x (inl (own, mapped)) = low MappedUids x mapped
   settable_uid_low x (inr (cap, mapped)) = low MappedUids x mapped
 
-  settable_gid_low : (x : ℕ) → SettableGid row x → x < limit
+  settable_gid_low : (x : ℕ) → SettableGid row x → x < ids
   settable_gid_low x (inl (own, mapped)) = low MappedGids x mapped
   settable_gid_low x (inr (cap, mapped)) = low MappedGids x mapped
 
-  spreads_uid_low : (New : ℕ → Type 0) → ((x : ℕ) → New x → x < limit) → (part : Part) (x : ℕ) → SpreadsUid row New part x → x < limit
+  spreads_uid_low : (New : ℕ → Type 0) → ((x : ℕ) → New x → x < ids) → (part : Part) (x : ℕ) → SpreadsUid row New part x → x < part_bar ids caps flag part
   spreads_uid_low New new EffectiveUids x is = new x is
   spreads_uid_low New new Uids x (inl is) = low EffectiveUids x is
   spreads_uid_low New new Uids x (inr is) = new x is
@@ -44,7 +64,7 @@ module _ (row : Part → ℕ → Type 0) (limit : ℕ) (low : (part : Part) (x :
   spreads_uid_low New new FsUids x (inr is) = new x is
   spreads_uid_low New new _ x wrong = absurd wrong
 
-  spreads_gid_low : (New : ℕ → Type 0) → ((x : ℕ) → New x → x < limit) → (part : Part) (x : ℕ) → SpreadsGid row New part x → x < limit
+  spreads_gid_low : (New : ℕ → Type 0) → ((x : ℕ) → New x → x < ids) → (part : Part) (x : ℕ) → SpreadsGid row New part x → x < part_bar ids caps flag part
   spreads_gid_low New new EffectiveGids x is = new x is
   spreads_gid_low New new Gids x (inl is) = low EffectiveGids x is
   spreads_gid_low New new Gids x (inr is) = new x is
@@ -52,34 +72,34 @@ module _ (row : Part → ℕ → Type 0) (limit : ℕ) (low : (part : Part) (x :
   spreads_gid_low New new FsGids x (inr is) = new x is
   spreads_gid_low New new _ x wrong = absurd wrong
 
-  fs_uid_low : (part : Part) (x : ℕ) → GainsFsUid row part x → x < limit
+  fs_uid_low : (part : Part) (x : ℕ) → GainsFsUid row part x → x < part_bar ids caps flag part
   fs_uid_low FsUids x is = settable_uid_low x is
   fs_uid_low _ x wrong = absurd wrong
 
-  fs_gid_low : (part : Part) (x : ℕ) → GainsFsGid row part x → x < limit
+  fs_gid_low : (part : Part) (x : ℕ) → GainsFsGid row part x → x < part_bar ids caps flag part
   fs_gid_low FsGids x is = settable_gid_low x is
   fs_gid_low _ x wrong = absurd wrong
 
-  groups_low : (part : Part) (x : ℕ) → GainsGroups row part x → x < limit
+  groups_low : (part : Part) (x : ℕ) → GainsGroups row part x → x < part_bar ids caps flag part
   groups_low Groups x (cap, mapped) = low MappedGids x mapped
   groups_low _ x wrong = absurd wrong
 
-  inheritable_low : (part : Part) (x : ℕ) → GainsInheritable row part x → x < limit
+  inheritable_low : (part : Part) (x : ℕ) → GainsInheritable row part x → x < part_bar ids caps flag part
   inheritable_low InheritableCaps x (inl (permitted, bounding)) = low BoundingCaps x bounding
   inheritable_low InheritableCaps x (inr (cap, bounding)) = low BoundingCaps x bounding
   inheritable_low _ x wrong = absurd wrong
 
-  zero_low : (x : ℕ) → x ≡ 0 → x < limit
-  zero_low x is = omega (arith, is, caps)
+  zero_low : (x : ℕ) → x ≡ 0 → x < flag
+  zero_low x is = omega (arith, is, zero_flag)
 
-  root_low : (part : Part) (x : ℕ) → GainsRoot row part x → x < limit
+  root_low : (part : Part) (x : ℕ) → GainsRoot row part x → x < part_bar ids caps flag part
   root_low RootCounts x (is, cap, lock) = zero_low x is
   root_low _ x wrong = absurd wrong
 
-  full_low : (x : ℕ) → IsTrue (holds full x) → x < limit
-  full_low x held = let low : x < cap_count = ltb-true x cap_count (sym (holds_full x) ∙ held) in omega (arith, caps, low)
+  full_low : (x : ℕ) → IsTrue (holds full x) → x < caps
+  full_low x held = let low : x < cap_count = ltb-true x cap_count (sym (holds_full x) ∙ held) in omega (arith, low, all_caps)
 
-  brings_low : (part : Part) (x : ℕ) → Brings row part x → x < limit
+  brings_low : (part : Part) (x : ℕ) → Brings row part x → x < part_bar ids caps flag part
   brings_low Uids x is = low Uids x is
   brings_low EffectiveUids x is = low EffectiveUids x is
   brings_low FsUids x is = low FsUids x is
@@ -96,20 +116,21 @@ module _ (row : Part → ℕ → Type 0) (limit : ℕ) (low : (part : Part) (x :
   brings_low RootCounts x is = zero_low x is
   brings_low LockClear x is = zero_low x is
 
-  in_part : (id : Option ℕ) (part : Part) (x : ℕ) → id ≡ Some x → IdIn id (row part) → x < limit
+  in_part : (id : Option ℕ) (part : Part) (x : ℕ) → id ≡ Some x → IdIn id (row part) → x < part_bar ids caps flag part
   in_part id part x is held = low part x (subst (λ (o : Option ℕ). IdIn o (row part)) is held)
 
-module _ (permitted : CallKind → Bool) (files : FileTable) (spaces : Spaces) (bounds : Row → Part → ℕ → Type 0) (limit : ℕ)
-    (low : (row : Row) (part : Part) (x : ℕ) → bounds row part x → x < limit) (caps : cap_count ≤ limit) where
-  owner_file_low : (n : ℕ) (row : Row) (x : ℕ) → OwnerByFile files spaces n (bounds row) x → x < limit
+module _ (ids caps flag : ℕ) (permitted : CallKind → Bool) (files : FileTable) (spaces : Spaces) (bounds : Row → Part → ℕ → Type 0)
+    (low : (row : Row) (part : Part) (x : ℕ) → bounds row part x → x < part_bar ids caps flag part)
+    (all_caps : cap_count ≤ caps) (zero_flag : 0 < flag) where
+  owner_file_low : (n : ℕ) (row : Row) (x : ℕ) → OwnerByFile files spaces n (bounds row) x → x < ids
   owner_file_low n row x (k, program, runs, (free, raises, owner, group), bit, is) =
-      in_part (bounds row) limit (low row) caps (view files k).owner MappedUids x is owner
+      in_part ids caps flag (bounds row) (low row) all_caps zero_flag (view files k).owner MappedUids x is owner
 
-  group_file_low : (n : ℕ) (row : Row) (x : ℕ) → GroupByFile files spaces n (bounds row) x → x < limit
+  group_file_low : (n : ℕ) (row : Row) (x : ℕ) → GroupByFile files spaces n (bounds row) x → x < ids
   group_file_low n row x (k, program, runs, (free, raises, owner, group), bit, both, is) =
-      in_part (bounds row) limit (low row) caps (view files k).group MappedGids x is group
+      in_part ids caps flag (bounds row) (low row) all_caps zero_flag (view files k).group MappedGids x is group
 
-  maps_low : (row : Row) (part : Part) (x : ℕ) → ByMaps permitted spaces bounds row part x → x < limit
+  maps_low : (row : Row) (part : Part) (x : ℕ) → ByMaps permitted spaces bounds row part x → x < part_bar ids caps flag part
   maps_low (Standing n) MappedUids x (may, none, (q, parent, (mapped, cause))) = low (Standing q) MappedUids x mapped
   maps_low (Standing n) MappedGids x (may, none, (q, parent, (mapped, cause))) = low (Standing q) MappedGids x mapped
   maps_low (Fresh n) MappedUids x (may, has, (mapped, cause)) = low (Standing n) MappedUids x mapped
@@ -117,21 +138,21 @@ module _ (permitted : CallKind → Bool) (files : FileTable) (spaces : Spaces) (
   maps_low (Standing n) _ x wrong = absurd wrong
   maps_low (Fresh n) _ x wrong = absurd wrong
 
-  pub adds_low : (rule : Rule) (row : Row) (part : Part) (x : ℕ) → Adds permitted files spaces bounds rule row part x → x < limit
+  pub adds_low : (rule : Rule) (row : Row) (part : Part) (x : ℕ) → Adds permitted files spaces bounds rule row part x → x < part_bar ids caps flag part
   adds_low SetUid row part x (may, has, is) =
-      spreads_uid_low (bounds row) limit (low row) caps (SettableUid (bounds row)) (settable_uid_low (bounds row) limit (low row) caps) part x is
-  adds_low SetFsUid row part x (may, has, is) = fs_uid_low (bounds row) limit (low row) caps part x is
+      spreads_uid_low ids caps flag (bounds row) (low row) all_caps zero_flag (SettableUid (bounds row)) (settable_uid_low ids caps flag (bounds row) (low row) all_caps zero_flag) part x is
+  adds_low SetFsUid row part x (may, has, is) = fs_uid_low ids caps flag (bounds row) (low row) all_caps zero_flag part x is
   adds_low SetGid row part x (may, has, is) =
-      spreads_gid_low (bounds row) limit (low row) caps (SettableGid (bounds row)) (settable_gid_low (bounds row) limit (low row) caps) part x is
-  adds_low SetFsGid row part x (may, has, is) = fs_gid_low (bounds row) limit (low row) caps part x is
-  adds_low SetGroups row part x (may, has, word, is) = groups_low (bounds row) limit (low row) caps part x is
-  adds_low CapSet row part x (may, has, is) = inheritable_low (bounds row) limit (low row) caps part x is
-  adds_low SecureBits row part x (may, has, is) = root_low (bounds row) limit (low row) caps part x is
+      spreads_gid_low ids caps flag (bounds row) (low row) all_caps zero_flag (SettableGid (bounds row)) (settable_gid_low ids caps flag (bounds row) (low row) all_caps zero_flag) part x is
+  adds_low SetFsGid row part x (may, has, is) = fs_gid_low ids caps flag (bounds row) (low row) all_caps zero_flag part x is
+  adds_low SetGroups row part x (may, has, word, is) = groups_low ids caps flag (bounds row) (low row) all_caps zero_flag part x is
+  adds_low CapSet row part x (may, has, is) = inheritable_low ids caps flag (bounds row) (low row) all_caps zero_flag part x is
+  adds_low SecureBits row part x (may, has, is) = root_low ids caps flag (bounds row) (low row) all_caps zero_flag part x is
   adds_low ExecUid row part x (may, has, is) =
-      spreads_uid_low (bounds row) limit (low row) caps (OwnerByFile files spaces (space_under row) (bounds row))
+      spreads_uid_low ids caps flag (bounds row) (low row) all_caps zero_flag (OwnerByFile files spaces (space_under row) (bounds row))
       (owner_file_low (space_under row) row) part x is
   adds_low ExecGid row part x (may, has, is) =
-      spreads_gid_low (bounds row) limit (low row) caps (GroupByFile files spaces (space_under row) (bounds row))
+      spreads_gid_low ids caps flag (bounds row) (low row) all_caps zero_flag (GroupByFile files spaces (space_under row) (bounds row))
       (group_file_low (space_under row) row) part x is
   adds_low ExecCaps row PermittedCaps x (may, has, (k, program, runs, takes, inl (inheritable, held))) = low row InheritableCaps x inheritable
   adds_low ExecCaps row PermittedCaps x (may, has, (k, program, runs, takes, inr (held, bounding))) = low row BoundingCaps x bounding
@@ -140,8 +161,8 @@ module _ (permitted : CallKind → Bool) (files : FileTable) (spaces : Spaces) (
   adds_low ExecRoot row PermittedCaps x (may, has, (counts, free, zero_in, inr bounding)) = low row BoundingCaps x bounding
   adds_low ExecRoot row _ x (may, has, wrong) = absurd wrong
   adds_low Create (Standing n) part x wrong = absurd wrong
-  adds_low Create (Fresh n) part x (may, makes, is) = brings_low (bounds (Standing n)) limit (low (Standing n)) caps part x is
-  adds_low Join (Standing n) part x (may, (a, joins, is)) = brings_low (bounds (Standing a)) limit (low (Standing a)) caps part x is
+  adds_low Create (Fresh n) part x (may, makes, is) = brings_low ids caps flag (bounds (Standing n)) (low (Standing n)) all_caps zero_flag part x is
+  adds_low Join (Standing n) part x (may, (a, joins, is)) = brings_low ids caps flag (bounds (Standing a)) (low (Standing a)) all_caps zero_flag part x is
   adds_low Join (Fresh n) part x wrong = absurd wrong
   adds_low Maps row part x is = maps_low row part x is
 
@@ -162,15 +183,13 @@ group_low from (group ∷ groups) x (low, is, rest) held = elim (or_cases (group
   | inr later ↦ group_low (group + 1) groups x rest later
 ]
 
-cap_low : (set x : ℕ) → IsCapSet set → holds set x ≡ true → x < id_count
-cap_low set x is held =
-    let low : x < cap_count = ltb-true x cap_count (sym (holds_full x) ∙ member_of_wider set full (within_full set is) x held) in
-    omega (arith, low)
+cap_low : (set x : ℕ) → IsCapSet set → holds set x ≡ true → x < cap_count
+cap_low set x is held = ltb-true x cap_count (sym (holds_full x) ∙ member_of_wider set full (within_full set is) x held)
 
-flag_low : (x : ℕ) → x ≡ 0 → x < id_count
+flag_low : (x : ℕ) → x ≡ 0 → x < 1
 flag_low x is = omega (arith, is)
 
-cred_low : (c : Credential) → Keeps c → (part : Part) (x : ℕ) → CredHas c part x → x < id_count
+cred_low : (c : Credential) → Keeps c → (part : Part) (x : ℕ) → CredHas c part x → x < part_limit part
 cred_low c keeps Uids x has = three_low c.uid x keeps.uid has
 cred_low c keeps EffectiveUids x has = subst (λ (k : ℕ). k < id_count) (sym has) keeps.uid.effective
 cred_low c keeps FsUids x has = subst (λ (k : ℕ). k < id_count) (sym has) keeps.uid.fs
@@ -199,14 +218,68 @@ outside_low (e ∷ map) x ids held = elim (cases_Bool (lies_in e.outside e.lengt
       (sym (cond-false (lies_in e.outside e.length x) true (is_outside map x) later) ∙ held)
 ]
 
-space_low : (space : Space) → KeepsSpace space → (part : Part) (x : ℕ) → SpaceMaps space part x → x < id_count
+space_low : (space : Space) → KeepsSpace space → (part : Part) (x : ℕ) → SpaceMaps space part x → x < part_limit part
 space_low space keeps MappedUids x held = outside_low (extents_of space.uids) x keeps.uids held
 space_low space keeps MappedGids x held = outside_low (extents_of space.gids) x keeps.gids held
 space_low space keeps _ x wrong = absurd wrong
 
-pub start_low : (s : State) (members : List ℕ) → KeepsState s → (row : Row) (part : Part) (x : ℕ) → StartHas s members row part x → x < id_count
+pub start_low : (s : State) (members : List ℕ) → KeepsState s → (row : Row) (part : Part) (x : ℕ) → StartHas s members row part x → x < part_limit part
 start_low s members keeps (Standing n) part x (inl (pid, p, member, at, space, has)) =
     cred_low p.cred (all_named (λ (q : Process). Keeps q.cred) s.processes keeps.credentials pid p at) part x has
 start_low s members keeps (Standing n) part x (inr maps) =
     space_low (space_of s.spaces n) (keeps_space_of s.spaces n keeps.spaces) part x maps
 start_low s members keeps (Fresh n) part x wrong = absurd wrong
+
+-- the limits of the parts are such
+pub limit_is : (part : Part) → part_limit part ≡ part_bar id_count cap_count 1 part
+limit_is Uids = refl
+limit_is EffectiveUids = refl
+limit_is FsUids = refl
+limit_is Gids = refl
+limit_is EffectiveGids = refl
+limit_is FsGids = refl
+limit_is Groups = refl
+limit_is MappedUids = refl
+limit_is MappedGids = refl
+limit_is PermittedCaps = refl
+limit_is InheritableCaps = refl
+limit_is BoundingCaps = refl
+limit_is NewPrivs = refl
+limit_is RootCounts = refl
+limit_is LockClear = refl
+
+-- and so is one limit for all
+pub one_bar : (limit : ℕ) (part : Part) → part_bar limit limit limit part ≡ limit
+one_bar limit Uids = refl
+one_bar limit EffectiveUids = refl
+one_bar limit FsUids = refl
+one_bar limit Gids = refl
+one_bar limit EffectiveGids = refl
+one_bar limit FsGids = refl
+one_bar limit Groups = refl
+one_bar limit MappedUids = refl
+one_bar limit MappedGids = refl
+one_bar limit PermittedCaps = refl
+one_bar limit InheritableCaps = refl
+one_bar limit BoundingCaps = refl
+one_bar limit NewPrivs = refl
+one_bar limit RootCounts = refl
+one_bar limit LockClear = refl
+
+-- each limit of a part is at most that of ids
+pub limit_low : (part : Part) → part_limit part ≤ id_count
+limit_low Uids = omega arith
+limit_low EffectiveUids = omega arith
+limit_low FsUids = omega arith
+limit_low Gids = omega arith
+limit_low EffectiveGids = omega arith
+limit_low FsGids = omega arith
+limit_low Groups = omega arith
+limit_low MappedUids = omega arith
+limit_low MappedGids = omega arith
+limit_low PermittedCaps = omega arith
+limit_low InheritableCaps = omega arith
+limit_low BoundingCaps = omega arith
+limit_low NewPrivs = omega arith
+limit_low RootCounts = omega arith
+limit_low LockClear = omega arith

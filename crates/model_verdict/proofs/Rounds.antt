@@ -21,7 +21,9 @@ use Rattle.model_verdict.specs.Least.{Test, Says, IsLeast}
 use Rattle.model_verdict.specs.Sweep.{Turn, row_count, turn_at, swept, turns_before, AddsNothing, TurnsGoByRounds}
 use Rattle.model_verdict.specs.Sweep.{IdleRoundsBeginClosed, ClosedTurnsAreLeast}
 use Rattle.model_verdict.proofs.Sweeps.{turn_stands, start_stands, grows, stays_within, turns_go_by_rounds}
-use Rattle.model_verdict.proofs.Limits.{adds_low, start_low}
+use Rattle.cm_base.specs.CapSet.{cap_count}
+use Rattle.model_verdict.proofs.Limits.{adds_low, start_low, limit_low, limit_is, part_bar}
+use Rattle.model_verdict.specs.Rows.{part_limit}
 
 -- the rows of standing spaces are those below the count
 pub standing_low : (spaces : Spaces) (row : Row) → IsTrue (stands spaces (space_under row)) → row_number row < row_count spaces
@@ -39,12 +41,18 @@ module _ (permitted : CallKind → Bool) (files : FileTable) (s : State) (member
   swept_stands fits (suc k) row part x (inr (same, added)) =
       subst (λ (r : Row). IsTrue (stands s.spaces (space_under r))) (sym same) (turn_stands s.spaces k fits.tree)
 
+  pub swept_fits : KeepsState s → (k : ℕ) (row : Row) (part : Part) (x : ℕ) → swept permitted files s members k row part x → x < part_limit part
+  swept_fits keeps zero row part x held = start_low s members keeps row part x held
+  swept_fits keeps (suc k) row part x (inl held) = swept_fits keeps k row part x held
+  swept_fits keeps (suc k) row part x (inr (same, added)) =
+      let low : x < part_bar id_count cap_count 1 part
+      = adds_low id_count cap_count 1 permitted files s.spaces (swept permitted files s members k)
+      (λ row part x held. subst (λ (n : ℕ). x < n) (limit_is part) (swept_fits keeps k row part x held)) (omega arith) (omega arith)
+      (turn_at s.spaces k).rule (turn_at s.spaces k).row part x added in
+      subst (λ (n : ℕ). x < n) (sym (limit_is part)) low
+
   pub swept_low : KeepsState s → (k : ℕ) (row : Row) (part : Part) (x : ℕ) → swept permitted files s members k row part x → x < id_count
-  swept_low keeps zero row part x held = start_low s members keeps row part x held
-  swept_low keeps (suc k) row part x (inl held) = swept_low keeps k row part x held
-  swept_low keeps (suc k) row part x (inr (same, added)) =
-      adds_low permitted files s.spaces (swept permitted files s members k) id_count (swept_low keeps k) (omega arith)
-      (turn_at s.spaces k).rule (turn_at s.spaces k).row part x added
+  swept_low keeps k row part x held = omega (arith, swept_fits keeps k row part x held, limit_low part)
 
   -- ---- a round that adds nothing
   module _ (round : ℕ) (idle : AddsNothing permitted files s members round) where

@@ -23,7 +23,7 @@ use Rattle.model_box.proofs.Stated.{rules_by_number}
 use Rattle.model_verdict.specs.Sweep.{Turn, row_count, rule_at, turn_at, swept, TurnsGoByRounds, SweepGrows, SweepStaysWithin}
 
 -- ---- turns
-rule_back : (rule : Rule) → rule_at (rule_number rule) ≡ rule
+pub rule_back : (rule : Rule) → rule_at (rule_number rule) ≡ rule
 rule_back rule = ap (λ (o : Option Rule). unwrap_or o Maps) (rules_by_number rule)
 
 place_back : (round n : ℕ) → n < 14 → (14 * round + n) % 14 ≡ n

@@ -1,0 +1,9 @@
+pub mod Sets
+pub mod Rows
+pub mod Ascii
+pub mod Utf8
+pub mod Ends
+pub mod Texts
+pub mod Floats
+pub mod Counts
+pub mod Stated

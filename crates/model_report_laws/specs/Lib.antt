@@ -1,0 +1,3 @@
+-- What is proved of the report.
+pub mod Laws
+pub mod Answers
