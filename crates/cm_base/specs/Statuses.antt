@@ -3,7 +3,7 @@ use Rattle.std.specs.Prelude.{ℕ}
 use Rattle.cm_base.specs.declared.status.Status.{Status}
 use Rattle.cm_base.specs.declared.status.Status.TheVariants.{Accepted, No, Undecided, Impossible, BadWorld, BadLog}
 use Rattle.cm_base.specs.declared.status.Status.TheVariants.{Usage, ReadFault, WriteFault, Limit, NoMemory, Refused}
-use Rattle.cm_base.specs.declared.status.Status.TheVariants.{BadQuery, NotBuilt}
+use Rattle.cm_base.specs.declared.status.Status.TheVariants.{BadQuery}
 
 -- the exit status of the program
 abbrev pub status_number : Status → ℕ
@@ -20,4 +20,3 @@ status_number Limit = 9
 status_number NoMemory = 10
 status_number Refused = 11
 status_number BadQuery = 12
-status_number NotBuilt = 13

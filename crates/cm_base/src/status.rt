@@ -31,12 +31,10 @@ pub enum Status {
     Refused,
     /// 12: the query names no live process, no right or no space.
     BadQuery,
-    /// 13: a part that isn't built yet was asked for.
-    NotBuilt,
 }
 
 impl Status {
-    /// Its number, 0 to 13.
+    /// Its number, 0 to 12.
     pub fn number(&self) -> u8
         ensures { result ≡ status_number self.now }
     {
@@ -54,7 +52,6 @@ impl Status {
             Status::NoMemory => 10,
             Status::Refused => 11,
             Status::BadQuery => 12,
-            Status::NotBuilt => 13,
         }
     }
 }

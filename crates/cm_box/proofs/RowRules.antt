@@ -7,9 +7,9 @@ use Rattle.model_cred.specs.Files.{FileTable}
 use Rattle.model_cred.specs.Space.{Spaces}
 use Rattle.model_box.specs.Closed.{OwnerByFile, GroupByFile, OnlyCaps}
 use Rattle.model_box.specs.Row.{Part, PermittedCaps}
-use Rattle.cm_box_rows.specs.declared.kind.Kind.{Kind}
-use Rattle.cm_box_rows.specs.declared.kind.Kind.TheVariants.{Users}
-use Rattle.cm_box_rows.specs.declared.kind.Kind.TheVariants as kinds
+use Rattle.cm_box_rows.specs.declared.kind.IdKind.{IdKind}
+use Rattle.cm_box_rows.specs.declared.kind.IdKind.TheVariants.{Users}
+use Rattle.cm_box_rows.specs.declared.kind.IdKind.TheVariants as kinds
 use Rattle.cm_box_rows.specs.Kinds.{SpreadsId}
 use Rattle.cm_box_rows.specs.Programs.{GivenByFile}
 use Rattle.cm_box_rows.specs.Rows.{HoldsAll}
@@ -17,11 +17,11 @@ use Rattle.cm_box_rows.proofs.IdKinds.{spread_same}
 
 module _ (files : FileTable) (spaces : Spaces) (n : ℕ) (row : Part → ℕ → Type 0) where
   -- the ids of one kind that programs give, as the definitions name them
-  abbrev pub ByFile : Kind → ℕ → Type 0
+  abbrev pub ByFile : IdKind → ℕ → Type 0
   ByFile Users = OwnerByFile files spaces n row
   ByFile kinds.Groups = GroupByFile files spaces n row
 
-  pub by_file : (kind : Kind) → AreSame (GivenByFile kind files spaces n row) (ByFile kind)
+  pub by_file : (kind : IdKind) → AreSame (GivenByFile kind files spaces n row) (ByFile kind)
   by_file Users x = (
     λ given. (given.0, given.1.0, given.1.1.0, given.1.1.1, given.1.1.2.0, given.1.1.2.1),
     λ by. (by.0, (by.1, (by.2, by.3, (by.4, by.5)))),
@@ -33,7 +33,7 @@ module _ (files : FileTable) (spaces : Spaces) (n : ℕ) (row : Part → ℕ →
   )
 
   -- a test of what they add
-  pub by_file_told : (kind : Kind) (b : Bool)
+  pub by_file_told : (kind : IdKind) (b : Bool)
       → IsTrue b ↔ HoldsAll row (SpreadsId kind row (GivenByFile kind files spaces n row))
       → IsTrue b ↔ HoldsAll row (SpreadsId kind row (ByFile kind))
   by_file_told kind b told = (

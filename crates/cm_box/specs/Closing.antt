@@ -1,18 +1,18 @@
 -- The rules, each told by what it adds where a call is permitted and the row has members; and the first that is open.
-use Rattle.std.specs.Prelude.{◌≢◌, ◌↔◌, ◌⊎◌, ℕ, ◌<◌, Bool, not, IsTrue}
+use Rattle.std.specs.Prelude.{◌≢◌, ◌↔◌, ◌⊎◌, ℕ, Bool, not, IsTrue}
 use Rattle.cm_filter.specs.declared.kind.CallKind.{CallKind}
 use Rattle.model_cred.specs.Files.{FileTable}
-use Rattle.model_cred.specs.Space.{Spaces, space_of, stands}
-use Rattle.model_box.specs.Closed.{OwnerByFile, GroupByFile, CapByFile, CapByRoot, OnlyCaps, Adds, ClosedAt}
+use Rattle.model_cred.specs.Space.{Spaces, space_of}
+use Rattle.model_box.specs.Closed.{OwnerByFile, GroupByFile, CapByFile, CapByRoot, OnlyCaps, Adds}
 use Rattle.model_box.specs.Gains.{SettableUid, SettableGid, SpreadsUid, SpreadsGid, GainsFsUid, GainsFsGid}
 use Rattle.model_box.specs.Gains.{GainsGroups, GainsInheritable, GainsRoot}
 use Rattle.model_box.specs.Files.{ZeroIn}
+pub use Rattle.model_box.specs.Firsts.{ClosedIn, IsFirstOpenRow, IsFirstOpen}
 use Rattle.model_box.specs.Row.{Part, Uids, NewPrivs, RootCounts, Row, Standing, Fresh, row_at, row_number, space_under}
 use Rattle.model_box.specs.Spread.{Brings, Meet}
 use Rattle.cm_box_rows.specs.Rows.{HoldsAll, InEitherRow}
 use Rattle.cm_box_rows.specs.Spread.{CanMakeIn, MadeIn, JoinsHeld, ByJoiningTo}
 use Rattle.model_box.specs.Rule as model
-use Rattle.model_box.specs.Rule.{rule_number}
 
 -- what setgroups(2) adds, where the word of the space isn't "deny"
 abbrev pub GroupsAllowed : Spaces → ℕ → (Part → ℕ → Type 0) → Part → ℕ → Type 0
@@ -52,25 +52,6 @@ ByMaking spaces bounds (Fresh n) part x = MadeIn spaces n (bounds (Standing n)) 
 abbrev pub ByJoins : Spaces → (Row → Part → ℕ → Type 0) → Row → Part → ℕ → Type 0
 ByJoins spaces bounds (Standing n) part x = ByJoiningTo spaces bounds n part x
 ByJoins spaces bounds (Fresh n) part x = ⊥
-
--- The rule is closed at each row of a standing space.
-abbrev pub ClosedIn : (CallKind → Bool) → FileTable → Spaces → (Row → Part → ℕ → Type 0) → model.Rule → Type 0
-ClosedIn permitted files spaces bounds rule =
-    (row : Row) → IsTrue (stands spaces (space_under row)) → ClosedAt permitted files spaces bounds rule row
-
--- The rule is open at the row of that number, which is of a standing space, and closed at each earlier one.
-pub record IsFirstOpenRow (permitted : CallKind → Bool) (files : FileTable) (spaces : Spaces)
-    (bounds : Row → Part → ℕ → Type 0) (rule : model.Rule) (y : ℕ) : Type 0 where
-  pub stands : IsTrue (stands spaces (space_under (row_at y)))
-  pub unmet : ClosedAt permitted files spaces bounds rule (row_at y) → ⊥
-  pub earlier : (z : ℕ) → z < y → ClosedAt permitted files spaces bounds rule (row_at z)
-
--- So it is, and each earlier rule is closed.
-pub record IsFirstOpen (permitted : CallKind → Bool) (files : FileTable) (spaces : Spaces)
-    (bounds : Row → Part → ℕ → Type 0) (rule : model.Rule) (y : ℕ) : Type 0 where
-  pub row : IsFirstOpenRow permitted files spaces bounds rule y
-  pub earlier : (other : model.Rule) → rule_number other < rule_number rule
-      → ClosedIn permitted files spaces bounds other
 
 -- The row holds what the makers of later spaces bring.
 abbrev pub CreateHeld : Spaces → (Row → Part → ℕ → Type 0) → Row → Type 0

@@ -23,7 +23,7 @@ use crate::place::Place;
 use crate::{Bounds, BoxRow, Rule, Setting};
 use cm_base::{NoMemory, SpaceId};
 use cm_box_rows::{
-    Kind, brought, can_make, cap_set_gained, fresh_ids, ids_gained, ids_given, new_ids,
+    IdKind, brought, can_make, cap_set_gained, fresh_ids, ids_gained, ids_given, new_ids,
     secure_bits_gained, set_fs_gained, set_groups_gained, set_ids_gained,
 };
 use cm_files::FileTable;
@@ -161,15 +161,15 @@ fn gained(
     let row = bounds.row(at);
     let n = at.space();
     match rule {
-        Rule::SetUid => set_ids_gained(alloc, Kind::Users, row),
-        Rule::SetFsUid => set_fs_gained(alloc, Kind::Users, row),
-        Rule::SetGid => set_ids_gained(alloc, Kind::Groups, row),
-        Rule::SetFsGid => set_fs_gained(alloc, Kind::Groups, row),
+        Rule::SetUid => set_ids_gained(alloc, IdKind::Users, row),
+        Rule::SetFsUid => set_fs_gained(alloc, IdKind::Users, row),
+        Rule::SetGid => set_ids_gained(alloc, IdKind::Groups, row),
+        Rule::SetFsGid => set_fs_gained(alloc, IdKind::Groups, row),
         Rule::SetGroups => groups_gained(alloc, &st.spaces, n, row),
         Rule::CapSet => cap_set_gained(alloc, row),
         Rule::SecureBits => Ok(secure_bits_gained(alloc, row)),
-        Rule::ExecUid => exec_ids_gained(alloc, Kind::Users, files, &st.spaces, n, row),
-        Rule::ExecGid => exec_ids_gained(alloc, Kind::Groups, files, &st.spaces, n, row),
+        Rule::ExecUid => exec_ids_gained(alloc, IdKind::Users, files, &st.spaces, n, row),
+        Rule::ExecGid => exec_ids_gained(alloc, IdKind::Groups, files, &st.spaces, n, row),
         Rule::ExecCaps => exec_caps_gained(alloc, files, &st.spaces, bounds, at),
         Rule::ExecRoot => exec_root_gained(alloc, &st.spaces, bounds, at),
         _ => Ok(BoxRow::least(alloc)),
@@ -196,7 +196,7 @@ fn groups_gained(
 // By set-user-ID or set-group-ID programs, with what becomes of the effective ids.
 fn exec_ids_gained(
     alloc: Global,
-    kind: Kind,
+    kind: IdKind,
     files: &FileTable,
     spaces: &Spaces,
     n: SpaceId,
@@ -303,8 +303,8 @@ fn written(
     ensures { OrNoMemory result (λ row. AreSameRows (RowHolds row)
         (ByMaps (permits filter) spaces.now (RowsHold bounds.now) (row_of at))) }
 {
-    let mu = ids_mapped(alloc, Kind::Users, filter, spaces, bounds, at)?;
-    let mg = ids_mapped(alloc, Kind::Groups, filter, spaces, bounds, at)?;
+    let mu = ids_mapped(alloc, IdKind::Users, filter, spaces, bounds, at)?;
+    let mg = ids_mapped(alloc, IdKind::Groups, filter, spaces, bounds, at)?;
     Ok(BoxRow {
         mu,
         mg,
@@ -315,7 +315,7 @@ fn written(
 // The ids that can come into the maps of the row.
 fn ids_mapped(
     alloc: Global,
-    kind: Kind,
+    kind: IdKind,
     filter: Filter,
     spaces: &Spaces,
     bounds: &Bounds,
@@ -345,7 +345,7 @@ fn ids_mapped(
 // The ids that can come into the map of a standing space, if it isn't written.
 fn ids_written(
     alloc: Global,
-    kind: Kind,
+    kind: IdKind,
     spaces: &Spaces,
     bounds: &Bounds,
     n: SpaceId,

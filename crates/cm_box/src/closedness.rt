@@ -23,7 +23,7 @@ use crate::rules::RULES;
 use crate::{Bounds, BoxRow, Rule};
 use cm_base::SpaceId;
 use cm_box_rows::{
-    Kind, brings_held, can_make, cap_set_held, fresh_ids_held, given_within, new_ids_held,
+    IdKind, brings_held, can_make, cap_set_held, fresh_ids_held, given_within, new_ids_held,
     secure_bits_held, set_fs_held, set_groups_held, set_ids_held, spread_held,
 };
 use cm_files::FileTable;
@@ -68,15 +68,15 @@ fn gains_held(st: &State, files: &FileTable, bounds: &Bounds, rule: Rule, at: Pl
 {
     let row = bounds.row(at);
     match rule {
-        Rule::SetUid => set_ids_held(Kind::Users, row),
-        Rule::SetFsUid => set_fs_held(Kind::Users, row),
-        Rule::SetGid => set_ids_held(Kind::Groups, row),
-        Rule::SetFsGid => set_fs_held(Kind::Groups, row),
+        Rule::SetUid => set_ids_held(IdKind::Users, row),
+        Rule::SetFsUid => set_fs_held(IdKind::Users, row),
+        Rule::SetGid => set_ids_held(IdKind::Groups, row),
+        Rule::SetFsGid => set_fs_held(IdKind::Groups, row),
         Rule::SetGroups => groups_held(&st.spaces, at.space(), row),
         Rule::CapSet => cap_set_held(row),
         Rule::SecureBits => secure_bits_held(row),
-        Rule::ExecUid => exec_ids_held(Kind::Users, files, &st.spaces, at.space(), row),
-        Rule::ExecGid => exec_ids_held(Kind::Groups, files, &st.spaces, at.space(), row),
+        Rule::ExecUid => exec_ids_held(IdKind::Users, files, &st.spaces, at.space(), row),
+        Rule::ExecGid => exec_ids_held(IdKind::Groups, files, &st.spaces, at.space(), row),
         Rule::ExecCaps => caps_by_files_held(files, &st.spaces, bounds, at),
         Rule::ExecRoot => caps_by_root_held(&st.spaces, bounds, at),
         Rule::Create => true,
@@ -98,7 +98,7 @@ fn groups_held(spaces: &Spaces, n: SpaceId, row: &BoxRow) -> bool
 }
 
 // The row holds the owners or groups that programs give, and the effective ids are among the real, saved and fs ids.
-fn exec_ids_held(kind: Kind, files: &FileTable, spaces: &Spaces, n: SpaceId, row: &BoxRow) -> bool
+fn exec_ids_held(kind: IdKind, files: &FileTable, spaces: &Spaces, n: SpaceId, row: &BoxRow) -> bool
     requires { n.0 < length spaces.now }
     ensures { IsTrue result ↔ HoldsAll (RowHolds row.now)
         (SpreadsId kind (RowHolds row.now) (GivenByFile kind files.now spaces.now n.0 (RowHolds row.now))) }
@@ -155,14 +155,20 @@ fn maps_held(filter: Filter, spaces: &Spaces, bounds: &Bounds, at: Place) -> boo
     ensures { IsTrue result ↔ HoldsAll (RowsHold bounds.now (row_of at))
         (ByMaps (permits filter) spaces.now (RowsHold bounds.now) (row_of at)) }
 {
-    if !ids_mapped_held(Kind::Users, filter, spaces, bounds, at) {
+    if !ids_mapped_held(IdKind::Users, filter, spaces, bounds, at) {
         return false;
     }
-    ids_mapped_held(Kind::Groups, filter, spaces, bounds, at)
+    ids_mapped_held(IdKind::Groups, filter, spaces, bounds, at)
 }
 
 // The row maps the ids that can come into its maps of that kind.
-fn ids_mapped_held(kind: Kind, filter: Filter, spaces: &Spaces, bounds: &Bounds, at: Place) -> bool
+fn ids_mapped_held(
+    kind: IdKind,
+    filter: Filter,
+    spaces: &Spaces,
+    bounds: &Bounds,
+    at: Place,
+) -> bool
     requires rows { length bounds.now ≡ 2 * length spaces.now }
     requires few { length spaces.now < 2 ^ 31 }
     requires stands { space_under (row_of at) < length spaces.now }
@@ -185,7 +191,7 @@ fn ids_mapped_held(kind: Kind, filter: Filter, spaces: &Spaces, bounds: &Bounds,
 }
 
 // The row of a standing space maps the ids that can come into its map from its parent, where it isn't written.
-fn ids_written_held(kind: Kind, spaces: &Spaces, bounds: &Bounds, n: SpaceId) -> bool
+fn ids_written_held(kind: IdKind, spaces: &Spaces, bounds: &Bounds, n: SpaceId) -> bool
     requires rows { length bounds.now ≡ 2 * length spaces.now }
     requires few { length spaces.now < 2 ^ 31 }
     requires stands { n.0 < length spaces.now }

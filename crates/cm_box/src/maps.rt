@@ -2,26 +2,26 @@
 ghost use Rattle.std.specs.Prelude.{◌≡◌, is_some};
 ghost use Rattle.cm_box.specs.Mapping.{call_for, map_of};
 
-use cm_box_rows::Kind;
+use cm_box_rows::IdKind;
 use cm_filter::CallKind;
 use cm_state::Space;
 
 // The call that writes the map of these ids.
-pub(crate) fn map_call(kind: Kind) -> CallKind
+pub(crate) fn map_call(kind: IdKind) -> CallKind
     ensures { result ≡ call_for kind }
 {
     match kind {
-        Kind::Users => CallKind::WriteUidMap,
-        Kind::Groups => CallKind::WriteGidMap,
+        IdKind::Users => CallKind::WriteUidMap,
+        IdKind::Groups => CallKind::WriteGidMap,
     }
 }
 
 // The map of these ids is written.
-pub(crate) fn is_written(kind: Kind, space: &Space) -> bool
+pub(crate) fn is_written(kind: IdKind, space: &Space) -> bool
     ensures { result ≡ is_some (map_of kind space.now) }
 {
     match kind {
-        Kind::Users => space.uids.is_some(),
-        Kind::Groups => space.gids.is_some(),
+        IdKind::Users => space.uids.is_some(),
+        IdKind::Groups => space.gids.is_some(),
     }
 }

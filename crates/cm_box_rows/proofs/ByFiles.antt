@@ -11,25 +11,25 @@ use Rattle.model_box.specs.Bounds.{BoxRow, row_in}
 use Rattle.model_box.specs.Files.{FileGives, TakesCan}
 use Rattle.model_box.specs.Row.{Part, Row, PermittedCaps, row_number}
 use Rattle.model_box.proofs.Views.{view_past}
-use Rattle.cm_box_rows.specs.declared.kind.Kind.{Kind}
-use Rattle.cm_box_rows.specs.declared.kind.Kind.TheVariants.{Users}
-use Rattle.cm_box_rows.specs.declared.kind.Kind.TheVariants as kinds
+use Rattle.cm_box_rows.specs.declared.kind.IdKind.{IdKind}
+use Rattle.cm_box_rows.specs.declared.kind.IdKind.TheVariants.{Users}
+use Rattle.cm_box_rows.specs.declared.kind.IdKind.TheVariants as kinds
 use Rattle.cm_box_rows.specs.Programs.{has_id_bit, StandsFor, Given, IdGiven, GivenByFile, AttributeCan, CapGiven}
 use Rattle.cm_box_rows.specs.Rows.{RowHolds, RowsHold}
 use Rattle.cm_box_rows.proofs.Gathered.{GivenBelow, gathered_all}
 
 -- a set-id bit stands for an id only where it is set
-pub id_bit_set : (kind : Kind) (f : FileView) (x : ℕ) → StandsFor kind f x → IsTrue (has_id_bit kind f)
+pub id_bit_set : (kind : IdKind) (f : FileView) (x : ℕ) → StandsFor kind f x → IsTrue (has_id_bit kind f)
 id_bit_set Users f x stands = stands.0
 id_bit_set kinds.Groups f x stands = stands.0
 
 -- a plain file gives no id
-none_given : (kind : Kind) (spaces : Spaces) (n : ℕ) (row : Part → ℕ → Type 0) (x : ℕ)
+none_given : (kind : IdKind) (spaces : Spaces) (n : ℕ) (row : Part → ℕ → Type 0) (x : ℕ)
     → Given kind spaces n row plain_view x → ⊥
 none_given Users spaces n row x given = given.1.2
 none_given kinds.Groups spaces n row x given = given.1.2
 
-module _ (kind : Kind) (files : FileTable) (spaces : Spaces) (n : ℕ) (row : Part → ℕ → Type 0) where
+module _ (kind : IdKind) (files : FileTable) (spaces : Spaces) (n : ℕ) (row : Part → ℕ → Type 0) where
   no_id : (k x : ℕ) → length files.rows ≤ k → IdGiven kind files spaces n row k x → ⊥
   no_id k x past given = none_given kind spaces n row x (rw (view_past files k past) at given.1)
 

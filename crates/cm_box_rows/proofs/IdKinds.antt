@@ -5,9 +5,9 @@ use Rattle.cm_sets.specs.Sets.{AreSame, IsWithin, InEither}
 use Rattle.cm_idset.specs.Held.{Held}
 use Rattle.model_cred.specs.Intervals.{Interval}
 use Rattle.model_box.specs.Row.{Part, Uids, EffectiveUids, FsUids, Gids, EffectiveGids, FsGids}
-use Rattle.cm_box_rows.specs.declared.kind.Kind.{Kind}
-use Rattle.cm_box_rows.specs.declared.kind.Kind.TheVariants.{Users}
-use Rattle.cm_box_rows.specs.declared.kind.Kind.TheVariants as kinds
+use Rattle.cm_box_rows.specs.declared.kind.IdKind.{IdKind}
+use Rattle.cm_box_rows.specs.declared.kind.IdKind.TheVariants.{Users}
+use Rattle.cm_box_rows.specs.declared.kind.IdKind.TheVariants as kinds
 use Rattle.cm_box_rows.specs.Kinds.{three, effective, fs, SettableId, SpreadsId, GainsFsId, id_row}
 use Rattle.cm_box_rows.specs.Rows.{RowHolds, HoldsAll, AreSameRows}
 use Rattle.cm_box_rows.proofs.RowParts.{nothing}
@@ -15,19 +15,19 @@ use Rattle.cm_box_rows.proofs.Tests.{no}
 
 -- new ids come to three parts, and to no other
 module _ (row : Part → ℕ → Type 0) (New : ℕ → Type 0) where
-  to_effective : (kind : Kind) (x : ℕ) → New x → SpreadsId kind row New (effective kind) x
+  to_effective : (kind : IdKind) (x : ℕ) → New x → SpreadsId kind row New (effective kind) x
   to_effective Users x new = new
   to_effective kinds.Groups x new = new
 
-  to_three : (kind : Kind) (x : ℕ) → row (effective kind) x ⊎ New x → SpreadsId kind row New (three kind) x
+  to_three : (kind : IdKind) (x : ℕ) → row (effective kind) x ⊎ New x → SpreadsId kind row New (three kind) x
   to_three Users x has = has
   to_three kinds.Groups x has = has
 
-  to_fs : (kind : Kind) (x : ℕ) → row (effective kind) x ⊎ New x → SpreadsId kind row New (fs kind) x
+  to_fs : (kind : IdKind) (x : ℕ) → row (effective kind) x ⊎ New x → SpreadsId kind row New (fs kind) x
   to_fs Users x has = has
   to_fs kinds.Groups x has = has
 
-  to_three_parts : (kind : Kind) (Goal : Part → ℕ → Type 0) → IsWithin New (Goal (effective kind))
+  to_three_parts : (kind : IdKind) (Goal : Part → ℕ → Type 0) → IsWithin New (Goal (effective kind))
       → IsWithin (InEither (row (effective kind)) New) (Goal (three kind))
       → IsWithin (InEither (row (effective kind)) New) (Goal (fs kind))
       → (part : Part) (x : ℕ) → SpreadsId kind row New part x → Goal part x
@@ -40,7 +40,7 @@ module _ (row : Part → ℕ → Type 0) (New : ℕ → Type 0) where
   to_three_parts kinds.Groups Goal one two last FsGids x has = last x has
   to_three_parts kinds.Groups Goal one two last _ x none = absurd none
 
-module _ (row : Part → ℕ → Type 0) (kind : Kind) where
+module _ (row : Part → ℕ → Type 0) (kind : IdKind) where
   -- the effective ids are among the other ones
   abbrev pub AreSpread : Type 0
   AreSpread = IsWithin (row (effective kind)) (row (three kind)) × IsWithin (row (effective kind)) (row (fs kind))
@@ -89,7 +89,7 @@ module _ (row : Part → ℕ → Type 0) (kind : Kind) where
 
 module _ (row : Part → ℕ → Type 0) where
   -- what comes to the fs ids alone is held where they hold it
-  pub fs_held : (kind : Kind) → IsWithin (SettableId kind row) (row (fs kind)) ↔ HoldsAll row (GainsFsId kind row)
+  pub fs_held : (kind : IdKind) → IsWithin (SettableId kind row) (row (fs kind)) ↔ HoldsAll row (GainsFsId kind row)
   fs_held Users = (to, λ all x new. all FsUids x new) where
     to : IsWithin (SettableId Users row) (row FsUids) → HoldsAll row (GainsFsId Users row)
     to held FsUids x new = held x new
@@ -100,7 +100,7 @@ module _ (row : Part → ℕ → Type 0) where
     to held _ x none = absurd none
 
   -- a row of three sets of ids, of the new effective ids and those besides
-  pub spread_row : (kind : Kind) (ids now last : List Interval) (New : ℕ → Type 0)
+  pub spread_row : (kind : IdKind) (ids now last : List Interval) (New : ℕ → Type 0)
       → AreSame (Held ids) (InEither (row (effective kind)) New) → AreSame (Held now) New
       → AreSame (Held last) (InEither (row (effective kind)) New)
       → AreSameRows (RowHolds (id_row kind ids now last)) (SpreadsId kind row New)
@@ -114,7 +114,7 @@ module _ (row : Part → ℕ → Type 0) where
   spread_row kinds.Groups ids now last New two one other part x = nothing part x
 
   -- a row of fs ids alone
-  pub fs_row : (kind : Kind) (last : List Interval) → AreSame (Held last) (SettableId kind row)
+  pub fs_row : (kind : IdKind) (last : List Interval) → AreSame (Held last) (SettableId kind row)
       → AreSameRows (RowHolds (id_row kind [] [] last)) (GainsFsId kind row)
   fs_row Users last same FsUids x = same x
   fs_row Users last same part x = nothing part x

@@ -1,17 +1,16 @@
 -- What a row holds of a member, part by part.
-use Rattle.std.specs.Prelude.{◌≡◌, ℕ, ◌<◌, Bool, false, IsTrue, List, Some}
+use Rattle.std.specs.Prelude.{◌≡◌, ℕ, Bool, false, IsTrue, List, Some}
 use Rattle.model_cred.specs.Credential.{Credential, FourIds}
 use Rattle.model_cred.specs.IdMap.{Extent, is_outside}
 use Rattle.model_cred.specs.Process.{Process, State, process_at}
 use Rattle.cm_base.specs.CapSet.{holds}
 use Rattle.model_rules.specs.Securebits.{has_flag, lock_of, noroot}
 use Rattle.model_box.specs.Row.{Part, PermittedCaps, InheritableCaps, BoundingCaps, NewPrivs, RootCounts, LockClear}
-use Rattle.model_box.specs.Row.{CredHas, Row, row_at, space_under}
+use Rattle.model_box.specs.Row.{CredHas, Row}
 use Rattle.model_box.specs.Row.{IsWithin}
 use Rattle.model_box.specs.Covers.{Covers}
 use Rattle.model_box.specs.Laws.{tested}
-use Rattle.model_box.specs.Start.{HoldsStartAt}
-use Rattle.model_cred.specs.Space.{stands}
+pub use Rattle.model_box.specs.Firsts.{IsFirstLacking}
 use Rattle.cm_box_rows.specs.Rows.{HoldsAll}
 
 -- The sets hold the four ids of a process.
@@ -42,13 +41,6 @@ MemberHeld s n row pid =
 -- The set holds the outside ids of the map.
 abbrev pub MapHeld : List Extent → (ℕ → Type 0) → Type 0
 MapHeld map Set = (x : ℕ) → IsTrue (is_outside map x) → Set x
-
--- The row of that number, which is of a standing space, lacks what the start bounds hold there, and no earlier one
--- does.
-pub record IsFirstLacking (s : State) (members : List ℕ) (bounds : Row → Part → ℕ → Type 0) (y : ℕ) : Type 0 where
-  pub stands : IsTrue (stands s.spaces (space_under (row_at y)))
-  pub lacks : HoldsStartAt s members bounds (row_at y) → ⊥
-  pub earlier : (z : ℕ) → z < y → HoldsStartAt s members bounds (row_at z)
 
 -- what one member gives to the row of the space, if it is alive and stands there
 abbrev pub MemberGives : State → ℕ → ℕ → Part → ℕ → Type 0

@@ -1,8 +1,8 @@
 -- What the members of a row can do with one file, one by one.
 use Rattle.std.specs.Prelude.{◌≡◌, ◌⊎◌, ℕ, ◌&&◌, Bool, IsTrue, Some}
-use Rattle.cm_box_rows.specs.declared.kind.Kind.{Kind}
-use Rattle.cm_box_rows.specs.declared.kind.Kind.TheVariants.{Users}
-use Rattle.cm_box_rows.specs.declared.kind.Kind.TheVariants as kinds
+use Rattle.cm_box_rows.specs.declared.kind.IdKind.{IdKind}
+use Rattle.cm_box_rows.specs.declared.kind.IdKind.TheVariants.{Users}
+use Rattle.cm_box_rows.specs.declared.kind.IdKind.TheVariants as kinds
 use Rattle.model_cred.specs.Files.{FileTable}
 use Rattle.model_cred.specs.Space.{Spaces}
 use Rattle.model_rules.specs.Caps.{cap_dac_override}
@@ -30,25 +30,25 @@ ByOverride row f =
     × IsTrue (has_bit f 0o111)
 
 -- The file has the set-id bit of the kind: the set-user-ID bit, or the set-group-ID bit with the group execute bit.
-abbrev pub has_id_bit : Kind → FileView → Bool
+abbrev pub has_id_bit : IdKind → FileView → Bool
 has_id_bit Users f = has_bit f 0o4000
 has_id_bit kinds.Groups f = has_bit f 0o2000 && has_bit f 0o010
 
 -- The file's set-id bit stands for the id: for its owner or its group.
-abbrev pub StandsFor : Kind → FileView → ℕ → Type 0
+abbrev pub StandsFor : IdKind → FileView → ℕ → Type 0
 StandsFor Users f x = IsTrue (has_id_bit Users f) × (f.owner ≡ Some x)
 StandsFor kinds.Groups f x = IsTrue (has_id_bit kinds.Groups f) × (f.group ≡ Some x)
 
 -- The file gives the id to a member of the row: one may run it, and its set-id bit can count.
-abbrev pub Given : Kind → Spaces → ℕ → (Part → ℕ → Type 0) → FileView → ℕ → Type 0
+abbrev pub Given : IdKind → Spaces → ℕ → (Part → ℕ → Type 0) → FileView → ℕ → Type 0
 Given kind spaces n row f x = CanRun row f × SetIdCan spaces n row f × StandsFor kind f x
 
 -- The file of the table is a program, and gives the id.
-abbrev pub IdGiven : Kind → FileTable → Spaces → ℕ → (Part → ℕ → Type 0) → ℕ → ℕ → Type 0
+abbrev pub IdGiven : IdKind → FileTable → Spaces → ℕ → (Part → ℕ → Type 0) → ℕ → ℕ → Type 0
 IdGiven kind files spaces n row k x = IsTrue (is_program files k) × Given kind spaces n row (view files k) x
 
 -- A program gives the id.
-abbrev pub GivenByFile : Kind → FileTable → Spaces → ℕ → (Part → ℕ → Type 0) → ℕ → Type 0
+abbrev pub GivenByFile : IdKind → FileTable → Spaces → ℕ → (Part → ℕ → Type 0) → ℕ → Type 0
 GivenByFile kind files spaces n row x = (k : ℕ) × IdGiven kind files spaces n row k x
 
 -- The file of the table is a program that a member of the row may run, and its attribute can take effect.

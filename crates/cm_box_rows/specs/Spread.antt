@@ -1,9 +1,9 @@
 -- What comes to a row from another, with the rows given by themselves.
 use Rattle.std.specs.Prelude.{◌≡◌, ◌⊎◌, ℕ, nat_lt, IsTrue}
 use Rattle.cm_base.specs.CapSet.{holds, full}
-use Rattle.cm_box_rows.specs.declared.kind.Kind.{Kind}
-use Rattle.cm_box_rows.specs.declared.kind.Kind.TheVariants.{Users}
-use Rattle.cm_box_rows.specs.declared.kind.Kind.TheVariants as kinds
+use Rattle.cm_box_rows.specs.declared.kind.IdKind.{IdKind}
+use Rattle.cm_box_rows.specs.declared.kind.IdKind.TheVariants.{Users}
+use Rattle.cm_box_rows.specs.declared.kind.IdKind.TheVariants as kinds
 use Rattle.model_cred.specs.Space.{Space, Spaces, level, space_of}
 use Rattle.model_rules.specs.Caps.{cap_setuid, cap_setgid, cap_sys_admin}
 use Rattle.model_rules.specs.Namespaces.{deepest}
@@ -74,12 +74,12 @@ abbrev pub FreshGidBy : (Part → ℕ → Type 0) → (Part → ℕ → Type 0) 
 FreshGidBy row fresh x = row MappedGids x × (row EffectiveGids x ⊎ fresh EffectiveGids x ⊎ row PermittedCaps cap_setgid)
 
 -- the ids of one kind that can come into the map of a standing space from its parent
-abbrev pub NewIdBy : Kind → (Part → ℕ → Type 0) → (Part → ℕ → Type 0) → ℕ → ℕ → Type 0
+abbrev pub NewIdBy : IdKind → (Part → ℕ → Type 0) → (Part → ℕ → Type 0) → ℕ → ℕ → Type 0
 NewIdBy Users = NewUidBy
 NewIdBy kinds.Groups = NewGidBy
 
 -- those that can come into the maps of the later spaces below it
-abbrev pub FreshIdBy : Kind → (Part → ℕ → Type 0) → (Part → ℕ → Type 0) → ℕ → Type 0
+abbrev pub FreshIdBy : IdKind → (Part → ℕ → Type 0) → (Part → ℕ → Type 0) → ℕ → Type 0
 FreshIdBy Users row fresh = FreshUidBy row
 FreshIdBy kinds.Groups row fresh = FreshGidBy row fresh
 

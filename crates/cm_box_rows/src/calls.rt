@@ -9,13 +9,13 @@ ghost use Rattle.model_box.specs.Gains.{GainsGroups, GainsInheritable, GainsRoot
 
 use crate::BoxRow;
 use crate::ids::settable_within;
-use crate::kind::{Kind, effective_ids, fs_ids};
+use crate::kind::{IdKind, effective_ids, fs_ids};
 use cm_base::Cap;
 use cm_idset::IdSet;
 use cm_sets::SetLike;
 
 /// setuid(2), setreuid(2) and setresuid(2), or the calls for group ids alike.
-pub fn set_ids_held(kind: Kind, row: &BoxRow) -> bool
+pub fn set_ids_held(kind: IdKind, row: &BoxRow) -> bool
     ensures { IsTrue result ↔ HoldsAll (RowHolds row.now)
         (SpreadsId kind (RowHolds row.now) (SettableId kind (RowHolds row.now))) }
 {
@@ -26,19 +26,19 @@ pub fn set_ids_held(kind: Kind, row: &BoxRow) -> bool
 }
 
 /// setfsuid(2) or setfsgid(2).
-pub fn set_fs_held(kind: Kind, row: &BoxRow) -> bool
+pub fn set_fs_held(kind: IdKind, row: &BoxRow) -> bool
     ensures { IsTrue result ↔ HoldsAll (RowHolds row.now) (GainsFsId kind (RowHolds row.now)) }
 {
     settable_held(kind, row, fs_ids(kind, row))
 }
 
 // The ids that members can set are in the bound.
-fn settable_held(kind: Kind, row: &BoxRow, bound: &IdSet) -> bool
+fn settable_held(kind: IdKind, row: &BoxRow, bound: &IdSet) -> bool
     ensures { IsTrue result ↔ IsWithin (SettableId kind (RowHolds row.now)) (Held bound.now) }
 {
     match kind {
-        Kind::Users => settable_within(&row.u, &row.mu, row.p.holds(&Cap::SETUID), bound),
-        Kind::Groups => settable_within(&row.g, &row.mg, row.p.holds(&Cap::SETGID), bound),
+        IdKind::Users => settable_within(&row.u, &row.mu, row.p.holds(&Cap::SETUID), bound),
+        IdKind::Groups => settable_within(&row.g, &row.mg, row.p.holds(&Cap::SETGID), bound),
     }
 }
 
@@ -73,13 +73,13 @@ pub fn secure_bits_held(row: &BoxRow) -> bool
 }
 
 /// The effective ids are among the real and saved ones, and among the fs ones, as calls make them.
-pub fn spread_held(kind: Kind, row: &BoxRow) -> bool
+pub fn spread_held(kind: IdKind, row: &BoxRow) -> bool
     ensures { IsTrue result ↔ (IsWithin (RowHolds row.now (effective kind)) (RowHolds row.now (three kind))
         × IsWithin (RowHolds row.now (effective kind)) (RowHolds row.now (fs kind))) }
 {
     match kind {
-        Kind::Users => within_both(&row.eu, &row.u, &row.fu),
-        Kind::Groups => within_both(&row.eg, &row.g, &row.fg),
+        IdKind::Users => within_both(&row.eu, &row.u, &row.fu),
+        IdKind::Groups => within_both(&row.eg, &row.g, &row.fg),
     }
 }
 

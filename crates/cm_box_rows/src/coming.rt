@@ -9,7 +9,7 @@ ghost use Rattle.model_box.specs.Spread.{Brings};
 
 use crate::BoxRow;
 use crate::ids::settable;
-use crate::kind::Kind;
+use crate::kind::IdKind;
 use crate::spread::{can_join_by, is_owner_with};
 use cm_base::{Cap, CapWord, Kuid, NoMemory, SpaceId};
 use cm_idset::IdSet;
@@ -35,7 +35,7 @@ pub fn brought(alloc: Global, from: &BoxRow) -> Result<BoxRow, NoMemory>
 /// The ids that can come into the map of a standing space from its parent. It fails only where memory runs out.
 pub fn new_ids(
     alloc: Global,
-    kind: Kind,
+    kind: IdKind,
     row: &BoxRow,
     parent: &BoxRow,
     owner: Kuid,
@@ -44,8 +44,8 @@ pub fn new_ids(
         (λ ids. AreSame (Held ids) (NewIdBy kind (RowHolds row.now) (RowHolds parent.now) owner)) }
 {
     match kind {
-        Kind::Users => new_uids(alloc, row, parent, owner),
-        Kind::Groups => new_gids(alloc, row, parent, owner),
+        IdKind::Users => new_uids(alloc, row, parent, owner),
+        IdKind::Groups => new_gids(alloc, row, parent, owner),
     }
 }
 
@@ -102,13 +102,18 @@ fn gids_if(alloc: Global, can: bool, one: &IdSet, other: &IdSet) -> Result<IdSet
 }
 
 /// The ids that can come into the maps of the later spaces below a standing one. It fails only where memory runs out.
-pub fn fresh_ids(alloc: Global, kind: Kind, row: &BoxRow, fresh: &BoxRow) -> Result<IdSet, NoMemory>
+pub fn fresh_ids(
+    alloc: Global,
+    kind: IdKind,
+    row: &BoxRow,
+    fresh: &BoxRow,
+) -> Result<IdSet, NoMemory>
     ensures { OrNoMemory result
         (λ ids. AreSame (Held ids) (FreshIdBy kind (RowHolds row.now) (RowHolds fresh.now))) }
 {
     match kind {
-        Kind::Users => fresh_uids(alloc, row),
-        Kind::Groups => fresh_gids(alloc, row, fresh),
+        IdKind::Users => fresh_uids(alloc, row),
+        IdKind::Groups => fresh_gids(alloc, row, fresh),
     }
 }
 

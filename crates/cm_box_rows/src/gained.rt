@@ -9,14 +9,14 @@ ghost use Rattle.model_box.specs.Gains.{GainsGroups, GainsInheritable, GainsRoot
 
 use crate::BoxRow;
 use crate::ids::settable;
-use crate::kind::{Kind, effective_ids};
+use crate::kind::{IdKind, effective_ids};
 use cm_base::{Cap, NoMemory};
 use cm_idset::IdSet;
 use cm_sets::{Flag, SetLike};
 use std::alloc::Global;
 
 /// New effective ids, with what becomes of them and of the old ones. It fails only where memory runs out.
-pub fn ids_gained(alloc: Global, kind: Kind, row: &BoxRow, new: IdSet) -> Result<BoxRow, NoMemory>
+pub fn ids_gained(alloc: Global, kind: IdKind, row: &BoxRow, new: IdSet) -> Result<BoxRow, NoMemory>
     ensures { OrNoMemory result (λ r. AreSameRows (RowHolds r) (SpreadsId kind (RowHolds row.now) (Held new))) }
 {
     let old = effective_ids(kind, row);
@@ -26,17 +26,17 @@ pub fn ids_gained(alloc: Global, kind: Kind, row: &BoxRow, new: IdSet) -> Result
 }
 
 // A row that holds ids of one kind alone.
-fn ids_alone(alloc: Global, kind: Kind, three: IdSet, effective: IdSet, fs: IdSet) -> BoxRow
+fn ids_alone(alloc: Global, kind: IdKind, three: IdSet, effective: IdSet, fs: IdSet) -> BoxRow
     ensures { result ≡ id_row kind three effective fs }
 {
     match kind {
-        Kind::Users => BoxRow {
+        IdKind::Users => BoxRow {
             u: three,
             eu: effective,
             fu: fs,
             ..BoxRow::least(alloc)
         },
-        Kind::Groups => BoxRow {
+        IdKind::Groups => BoxRow {
             g: three,
             eg: effective,
             fg: fs,
@@ -46,7 +46,7 @@ fn ids_alone(alloc: Global, kind: Kind, three: IdSet, effective: IdSet, fs: IdSe
 }
 
 /// By setuid(2), setreuid(2) and setresuid(2), or the calls for group ids alike. It fails only where memory runs out.
-pub fn set_ids_gained(alloc: Global, kind: Kind, row: &BoxRow) -> Result<BoxRow, NoMemory>
+pub fn set_ids_gained(alloc: Global, kind: IdKind, row: &BoxRow) -> Result<BoxRow, NoMemory>
     ensures { OrNoMemory result (λ r. AreSameRows (RowHolds r)
         (SpreadsId kind (RowHolds row.now) (SettableId kind (RowHolds row.now)))) }
 {
@@ -55,7 +55,7 @@ pub fn set_ids_gained(alloc: Global, kind: Kind, row: &BoxRow) -> Result<BoxRow,
 }
 
 /// By setfsuid(2) or setfsgid(2). It fails only where memory runs out.
-pub fn set_fs_gained(alloc: Global, kind: Kind, row: &BoxRow) -> Result<BoxRow, NoMemory>
+pub fn set_fs_gained(alloc: Global, kind: IdKind, row: &BoxRow) -> Result<BoxRow, NoMemory>
     ensures { OrNoMemory result (λ r. AreSameRows (RowHolds r) (GainsFsId kind (RowHolds row.now))) }
 {
     let fs = settable_ids(alloc, kind, row)?;
@@ -64,12 +64,12 @@ pub fn set_fs_gained(alloc: Global, kind: Kind, row: &BoxRow) -> Result<BoxRow, 
 }
 
 // The ids that members can set.
-fn settable_ids(alloc: Global, kind: Kind, row: &BoxRow) -> Result<IdSet, NoMemory>
+fn settable_ids(alloc: Global, kind: IdKind, row: &BoxRow) -> Result<IdSet, NoMemory>
     ensures { OrNoMemory result (λ ids. AreSame (Held ids) (SettableId kind (RowHolds row.now))) }
 {
     match kind {
-        Kind::Users => settable(alloc, &row.u, &row.mu, row.p.holds(&Cap::SETUID)),
-        Kind::Groups => settable(alloc, &row.g, &row.mg, row.p.holds(&Cap::SETGID)),
+        IdKind::Users => settable(alloc, &row.u, &row.mu, row.p.holds(&Cap::SETUID)),
+        IdKind::Groups => settable(alloc, &row.g, &row.mg, row.p.holds(&Cap::SETGID)),
     }
 }
 

@@ -12,7 +12,7 @@ ghost use Rattle.model_box.specs.Files.{is_program as model_is_program};
 ghost use Rattle.model_rules.specs.FileView.{view};
 
 use crate::BoxRow;
-use crate::kind::{Kind, effective_ids};
+use crate::kind::{IdKind, effective_ids};
 use crate::programs::{can_run, group_of, owner_of, set_id_can};
 use cm_base::{NoMemory, SpaceId};
 use cm_files::{FileTable, FileView};
@@ -23,7 +23,7 @@ use std::alloc::Global;
 
 /// Each id that a program gives is among the effective ones of the row.
 pub fn given_within(
-    kind: Kind,
+    kind: IdKind,
     files: &FileTable,
     spaces: &Spaces,
     n: SpaceId,
@@ -44,7 +44,7 @@ pub fn given_within(
 // The same of one file. Most files have no set-id bit, which is looked at first, since this is asked of each file for
 // each row.
 fn file_within(
-    kind: Kind,
+    kind: IdKind,
     files: &FileTable,
     k: usize,
     spaces: &Spaces,
@@ -66,7 +66,7 @@ fn file_within(
 /// The ids that programs give. It fails only where memory runs out.
 pub fn ids_given(
     alloc: Global,
-    kind: Kind,
+    kind: IdKind,
     files: &FileTable,
     spaces: &Spaces,
     n: SpaceId,
@@ -88,7 +88,7 @@ pub fn ids_given(
 
 // The id that a file of the table gives, if it is a program and gives one.
 fn given_at(
-    kind: Kind,
+    kind: IdKind,
     files: &FileTable,
     k: usize,
     spaces: &Spaces,
@@ -133,7 +133,7 @@ fn with_given(alloc: Global, ids: IdSet, id: Option<u32>) -> Result<IdSet, NoMem
 }
 
 // The id that a file gives to those who may run it.
-fn given(kind: Kind, spaces: &Spaces, n: SpaceId, row: &BoxRow, file: &FileView) -> Option<u32>
+fn given(kind: IdKind, spaces: &Spaces, n: SpaceId, row: &BoxRow, file: &FileView) -> Option<u32>
     requires { n.0 < length spaces.now }
     ensures is_id { IfSome result (λ id. id < id_count) }
     ensures given { (x : ℕ) → (result ≡ Some x) ↔ Given kind spaces.now n.0 (RowHolds row.now) file.now x }
@@ -149,7 +149,7 @@ fn given(kind: Kind, spaces: &Spaces, n: SpaceId, row: &BoxRow, file: &FileView)
 }
 
 // The id that its set-id bit stands for.
-fn id_by_bit(kind: Kind, file: &FileView) -> Option<u32>
+fn id_by_bit(kind: IdKind, file: &FileView) -> Option<u32>
     ensures is_id { IfSome result (λ id. id < id_count) }
     ensures id { (x : ℕ) → (result ≡ Some x) ↔ StandsFor kind file.now x }
 {
@@ -157,18 +157,18 @@ fn id_by_bit(kind: Kind, file: &FileView) -> Option<u32>
         return None;
     }
     match kind {
-        Kind::Users => owner_of(file),
-        Kind::Groups => group_of(file),
+        IdKind::Users => owner_of(file),
+        IdKind::Groups => group_of(file),
     }
 }
 
 // The file has the set-id bit of the kind, that of groups with the group execute bit alone (choice).
-fn has_id_bit(kind: Kind, file: &FileView) -> bool
+fn has_id_bit(kind: IdKind, file: &FileView) -> bool
     ensures { result ≡ model_has_id_bit kind file.now }
 {
     match kind {
-        Kind::Users => file.has_bit(0o4000),
-        Kind::Groups => file.has_bit(0o2000) && file.has_bit(0o010),
+        IdKind::Users => file.has_bit(0o4000),
+        IdKind::Groups => file.has_bit(0o2000) && file.has_bit(0o010),
     }
 }
 

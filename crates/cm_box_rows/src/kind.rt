@@ -9,27 +9,27 @@ use cm_idset::IdSet;
 
 /// Ids of users and of groups, where one piece of code serves both.
 #[derive(Clone, Copy, Debug, PartialEq, Eq)]
-pub enum Kind {
+pub enum IdKind {
     Users,
     Groups,
 }
 
 // The effective ids of the kind.
-pub(crate) fn effective_ids(kind: Kind, row: &BoxRow) -> &IdSet
+pub(crate) fn effective_ids(kind: IdKind, row: &BoxRow) -> &IdSet
     ensures { AreSame (Held result.now) (RowHolds row.now (effective kind)) }
 {
     match kind {
-        Kind::Users => &row.eu,
-        Kind::Groups => &row.eg,
+        IdKind::Users => &row.eu,
+        IdKind::Groups => &row.eg,
     }
 }
 
 // The fs ids of the kind.
-pub(crate) fn fs_ids(kind: Kind, row: &BoxRow) -> &IdSet
+pub(crate) fn fs_ids(kind: IdKind, row: &BoxRow) -> &IdSet
     ensures { AreSame (Held result.now) (RowHolds row.now (fs kind)) }
 {
     match kind {
-        Kind::Users => &row.fu,
-        Kind::Groups => &row.fg,
+        IdKind::Users => &row.fu,
+        IdKind::Groups => &row.fg,
     }
 }

@@ -25,7 +25,7 @@ pub use gained::{
 };
 pub use given::{given_within, ids_given, is_program, view_at};
 pub use ids::meet;
-pub use kind::Kind;
+pub use kind::IdKind;
 pub use members::{map_held, members_held};
 pub use programs::{can_run, has_id, may_gain, may_raise_in, root_of};
 pub use row::BoxRow;

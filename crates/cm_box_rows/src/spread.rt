@@ -10,7 +10,7 @@ ghost use Rattle.model_box.specs.Row.{EffectiveUids, EffectiveGids, MappedUids, 
 
 use crate::BoxRow;
 use crate::ids::{meet, settable_within};
-use crate::kind::Kind;
+use crate::kind::IdKind;
 use cm_base::{Cap, CapWord, Kuid, SpaceId};
 use cm_sets::{CapSet, SetLike};
 use cm_state::{Space, Spaces};
@@ -112,13 +112,13 @@ pub fn joined_held(parent: &BoxRow, child: &Space, row: &BoxRow) -> bool
 }
 
 /// The ids that can come into the map of a standing space, of which its parent's row is given, are mapped in its row.
-pub fn new_ids_held(kind: Kind, row: &BoxRow, parent: &BoxRow, owner: Kuid) -> bool
+pub fn new_ids_held(kind: IdKind, row: &BoxRow, parent: &BoxRow, owner: Kuid) -> bool
     ensures { IsTrue result ↔ ((x : ℕ) → NewIdBy kind (RowHolds row.now) (RowHolds parent.now) owner x
         → RowHolds row.now (mapped kind) x) }
 {
     match kind {
-        Kind::Users => new_uids_held(row, parent, owner),
-        Kind::Groups => new_gids_held(row, parent, owner),
+        IdKind::Users => new_uids_held(row, parent, owner),
+        IdKind::Groups => new_gids_held(row, parent, owner),
     }
 }
 
@@ -182,13 +182,13 @@ fn gids_of_owner_held(row: &BoxRow, parent: &BoxRow, owner: Kuid) -> bool
 }
 
 /// The ids that can come into the maps of later spaces are mapped in the fresh row.
-pub fn fresh_ids_held(kind: Kind, row: &BoxRow, fresh: &BoxRow) -> bool
+pub fn fresh_ids_held(kind: IdKind, row: &BoxRow, fresh: &BoxRow) -> bool
     ensures { IsTrue result ↔ ((x : ℕ) → FreshIdBy kind (RowHolds row.now) (RowHolds fresh.now) x
         → RowHolds fresh.now (mapped kind) x) }
 {
     match kind {
-        Kind::Users => fresh_uids_held(row, fresh),
-        Kind::Groups => fresh_gids_held(row, fresh),
+        IdKind::Users => fresh_uids_held(row, fresh),
+        IdKind::Groups => fresh_gids_held(row, fresh),
     }
 }
 

@@ -16,18 +16,18 @@ use cm_state::{Cred, Spaces};
 
 /// Whether the set-user-ID bit counts, the set-group-ID bit counts, and the attribute takes effect.
 #[derive(Clone, Copy)]
-pub(crate) struct Counts {
+pub(crate) struct FilePrivilege {
     pub setuid: bool,
     pub setgid: bool,
     pub attribute: bool,
 }
 
 // What counts for a caller in the space `at`.
-pub(crate) fn counts_of(spaces: &Spaces, at: SpaceId, c: &Cred, file: &FileView) -> Counts
+pub(crate) fn counts_of(spaces: &Spaces, at: SpaceId, c: &Cred, file: &FileView) -> FilePrivilege
     requires { at.0 < length spaces.now }
     ensures { AreCounts spaces.now at.0 c.now file.now result }
 {
-    Counts {
+    FilePrivilege {
         setuid: setuid_counts(spaces, at, c, file),
         setgid: setgid_counts(spaces, at, c, file),
         attribute: attribute_counts(spaces, at, c, file),
@@ -60,7 +60,7 @@ fn attribute_counts(spaces: &Spaces, at: SpaceId, c: &Cred, file: &FileView) -> 
 
 // The file is privileged: its attribute takes effect, or a set-id bit counts (that bits which don't count don't matter is a
 // choice).
-pub(crate) fn is_privileged(counts: Counts) -> bool
+pub(crate) fn is_privileged(counts: FilePrivilege) -> bool
     ensures { (spaces : ModelSpaces) (at : ℕ) (c : Credential) (file : model.FileView) → AreCounts spaces at c file counts
         → result ≡ exec.is_privileged spaces at c file }
 {

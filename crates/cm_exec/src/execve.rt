@@ -6,7 +6,7 @@ ghost use Rattle.cm_exec.specs.Counts.{AreCounts};
 ghost use Rattle.model_cred.specs.Space.{Spaces as ModelSpaces, space_of};
 ghost use Rattle.model_rules.specs.Exec as model;
 
-use crate::counts::{Counts, counts_of, is_privileged};
+use crate::counts::{FilePrivilege, counts_of, is_privileged};
 use crate::ids::{gids_after, uids_after};
 use crate::permission::may_exec;
 use crate::program::run_file;
@@ -40,7 +40,7 @@ pub fn exec(c: &mut Cred, spaces: &Spaces, at: SpaceId, files: &FileTable, f: Fi
 }
 
 // The credential after execve: the ids, the sets, and SECBIT_KEEP_CAPS cleared.
-fn leave(c: &mut Cred, s: &Space, file: &FileView, counts: Counts, own: FileSets)
+fn leave(c: &mut Cred, s: &Space, file: &FileView, counts: FilePrivilege, own: FileSets)
     ensures { (spaces : ModelSpaces) (at : ℕ) → s.now ≡ space_of spaces at → AreCounts spaces at c.old file.now counts
         → own ≡ model.own_sets spaces at c.old file.now → c.new ≡ model.cred_after spaces at c.old file.now }
 {

@@ -6,12 +6,12 @@ ghost use Rattle.cm_exec.specs.Counts.{AreCounts};
 ghost use Rattle.model_cred.specs.Space.{Spaces};
 ghost use Rattle.model_rules.specs.Exec as model;
 
-use crate::counts::Counts;
+use crate::counts::FilePrivilege;
 use cm_files::FileView;
 use cm_state::{Cred, FourIds};
 
 // The user ids: the effective one becomes the file's owner where the set-user-ID bit counts.
-pub(crate) fn uids_after(c: &Cred, file: &FileView, counts: Counts) -> FourIds
+pub(crate) fn uids_after(c: &Cred, file: &FileView, counts: FilePrivilege) -> FourIds
     ensures { (spaces : Spaces) (at : ℕ) → AreCounts spaces at c.now file.now counts → result ≡ model.uids_after spaces at c.now file.now }
 {
     let effective = match file.owner {
@@ -22,7 +22,7 @@ pub(crate) fn uids_after(c: &Cred, file: &FileView, counts: Counts) -> FourIds
 }
 
 // The group ids: the effective one becomes the file's group where the set-group-ID bit counts.
-pub(crate) fn gids_after(c: &Cred, file: &FileView, counts: Counts) -> FourIds
+pub(crate) fn gids_after(c: &Cred, file: &FileView, counts: FilePrivilege) -> FourIds
     ensures { (spaces : Spaces) (at : ℕ) → AreCounts spaces at c.now file.now counts → result ≡ model.gids_after spaces at c.now file.now }
 {
     let effective = match file.group {

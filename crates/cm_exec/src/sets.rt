@@ -8,7 +8,7 @@ ghost use Rattle.model_cred.specs.Space.{Spaces as ModelSpaces, space_of};
 ghost use Rattle.model_rules.specs.FileView.{FileView};
 ghost use Rattle.model_rules.specs.Exec as model;
 
-use crate::counts::Counts;
+use crate::counts::FilePrivilege;
 use cm_base::{CapWord, SecBits};
 use cm_files::FileView;
 use cm_state::{Cred, FourIds, Space};
@@ -33,7 +33,7 @@ impl Model for FileSets {
 }
 
 // The file's own sets: those of its attribute where that takes effect, else none.
-pub(crate) fn own_sets(file: &FileView, counts: Counts) -> FileSets
+pub(crate) fn own_sets(file: &FileView, counts: FilePrivilege) -> FileSets
     ensures { (spaces : ModelSpaces) (at : ℕ) (c : Credential) → AreCounts spaces at c file.now counts → result ≡ model.own_sets spaces at c file.now }
 {
     match file.caps {
@@ -64,7 +64,13 @@ pub(crate) fn would_lack(c: &Cred, sets: FileSets) -> bool
 
 // The file's sets that count, by the user ids after their change: its own under SECBIT_NOROOT or by the exception, else
 // those that root gets.
-pub(crate) fn sets_for(s: &Space, c: &Cred, ids: FourIds, own: FileSets, counts: Counts) -> FileSets
+pub(crate) fn sets_for(
+    s: &Space,
+    c: &Cred,
+    ids: FourIds,
+    own: FileSets,
+    counts: FilePrivilege,
+) -> FileSets
     ensures { (spaces : ModelSpaces) (at : ℕ) (file : FileView) → s.now ≡ space_of spaces at → AreCounts spaces at c.now file counts
         → ids ≡ model.uids_after spaces at c.now file → own ≡ model.own_sets spaces at c.now file → result ≡ model.sets_for spaces at c.now file }
 {

@@ -1,6 +1,7 @@
 -- What an index of rows finds, and an index with one row more.
 use Rattle.std.proofs.Common.{◌≡◌, ◌≢◌, ℕ, ◌+◌, ◌<◌, ◌≤◌, ◌==◌, ◌||◌, Bool, true, false, length, take, drop}
-use Rattle.std.proofs.Common.{◌-◌, ◌∷◌, List, Some, None, refl, sym, ap, subst, ◌∙◌, inl, inr, arith, get_or}
+use Rattle.std.proofs.Common.{◌-◌, ◌∷◌, ◌++◌, List, length-append, Some, None, refl, sym, ap, subst, ◌∙◌, inl, inr, arith, get_or}
+use Rattle.std.proofs.Math.ListN.{get_or-append}
 use Rattle.std.specs.Prelude.{IsTrue, bytes_eq, slice_index, nat_lt}
 use Rattle.std.specs.List.{insert, list_any, position_or_len}
 use Rattle.std.proofs.lemmas.Bool.{cases_Bool, cases_eq, cases_order, cond-true, cond-false, eqb-true, eq-eqb}
@@ -145,6 +146,22 @@ any_inserted order at n m within =
 -- what holds of two paths holds of those that equal them
 alike : {a b c d : List ℕ} → a ≡ c → b ≡ d → IsTrue (is_before c d) → IsTrue (is_before a b)
 alike {a} {b} {c} {d} first second less = subst (λ p. IsTrue (is_before p b)) (sym first) (subst (λ p. IsTrue (is_before c p)) (sym second) less)
+
+-- the index of the first rows, where more come after them
+pub index_longer : (rows more : List FileRow) (count : ℕ) (order : List ℕ) → IsIndex rows count order → IsIndex (rows ++ more) count order
+index_longer rows more count order index = record {
+  ascend = record {
+    numbers = λ i within. omega (arith, length-append rows more, index.first i within, index.counted);
+    paths = λ i j less within. alike (same i (omega arith)) (same j within) (index.ascend.paths i j less within);
+  };
+  counted = omega (arith, length-append rows more, index.counted);
+  first = index.first;
+  whole = index.whole;
+} where
+  same : (i : ℕ) → i < length order → path_at (rows ++ more) order i ≡ path_at rows order i
+  same i within =
+      ap (λ (r : FileRow). r.path)
+      (get_or-append rows more no_row (slice_index order i) (omega (arith, index.first i within, index.counted)))
 
 module _ (rows : List FileRow) (n : ℕ) (order path : List ℕ) (at : ℕ) (index : IsIndex rows n order) (place : IsPlace rows order path at)
     (apart : at < length order → path_at rows order at ≢ path) (there : n < length rows) (is : (get_or rows n no_row).path ≡ path) where

@@ -1,5 +1,5 @@
 //! Declared mounts and files: a table of them, in which a path finds its row by halves, and each row as its mount shows it
-//! (mount_setattr(2), capabilities(7)). Contracts see the table as the record of the definitions in model_cred;
+//! (mount_setattr(2), capabilities(7)); `FileRows` are files as they are declared. Contracts see the table as the record of the definitions in model_cred;
 //! `see_files` hands out what each table keeps.
 #![tactic(auto)]
 
@@ -8,6 +8,7 @@ mod filling;
 mod index;
 mod mount;
 mod row;
+mod rows;
 mod seeing;
 mod table;
 mod text;
@@ -16,6 +17,7 @@ mod view;
 pub use fault::BadFiles;
 pub use mount::{MapPair, Mount};
 pub use row::FileRow;
+pub use rows::FileRows;
 pub use seeing::see_files;
 pub use table::FileTable;
 pub use text::Text;

@@ -27,7 +27,7 @@ const TRIES: u32 = 1_000_000;
 pub struct RealShelf<R: Files> {
     files: R,
     tally: Tally,
-    kept: Option<Kept<R::File>>,
+    kept: Option<OpenFile<R::File>>,
 }
 
 // Counts for some names, and one count of the faults of all others.
@@ -67,7 +67,7 @@ impl Tally {
 
 // An open file, where its name's own counts stand, and the place in it that the next read is from.
 #[derive(Drop)]
-struct Kept<F> {
+struct OpenFile<F> {
     own: usize,
     place: u64,
     file: F,
@@ -182,8 +182,8 @@ fn read_from<R: Files>(
 }
 
 // A file that stays open where its name has counts of its own.
-fn keep<F: Drop>(own: Option<usize>, place: u64, file: F) -> Option<Kept<F>> {
-    Some(Kept {
+fn keep<F: Drop>(own: Option<usize>, place: u64, file: F) -> Option<OpenFile<F>> {
+    Some(OpenFile {
         own: own?,
         place,
         file,
@@ -191,7 +191,7 @@ fn keep<F: Drop>(own: Option<usize>, place: u64, file: F) -> Option<Kept<F>> {
 }
 
 // The kept file where it has this name and stands at this place, which isn't the front.
-fn kept_at<F: Drop>(kept: Option<Kept<F>>, own: Option<usize>, at: u64) -> Option<F> {
+fn kept_at<F: Drop>(kept: Option<OpenFile<F>>, own: Option<usize>, at: u64) -> Option<F> {
     let kept = kept?;
     if at != 0 && kept.place == at && own == Some(kept.own) {
         Some(kept.file)

@@ -4,18 +4,19 @@ use Rattle.std.proofs.Common.{refl, sym, ap, ap₂, ◌∙◌, append-nil, subst
 use Rattle.cm_base.specs.Limited.{limit_number}
 use Rattle.cm_base.specs.Limits.{greatest_number}
 use Rattle.cm_base.specs.declared.limited.Limited.TheVariants as limit
-use Rattle.cm_log.specs.Left.{IsOpen, StraceCanGoOn, phase_by, strace_later, strace_left}
-use Rattle.cm_log.specs.declared.strace.Phase.{Phase}
-use Rattle.cm_log.specs.declared.strace.Phase.TheVariants as phase
+use Rattle.cm_log.specs.Left.{IsOpen, StraceCanGoOn, strace_later, strace_left}
 use Rattle.cm_log.specs.declared.strace.StraceLog.{StraceLog}
 use Rattle.cm_strace.specs.Answers.{ending_is}
+use Rattle.cm_strace.specs.Stages.{stage_after}
 use Rattle.cm_strace.specs.declared.placed.Stop.{Stop}
 use Rattle.cm_strace.specs.declared.placed.Stop.TheVariants as stops
+use Rattle.cm_strace.specs.declared.stage.Stage.{Stage}
+use Rattle.cm_strace.specs.declared.stage.Stage.TheVariants as stage
 use Rattle.model_cred.specs.World.{World}
 use Rattle.model_strace.proofs.Counts.{lines_are_counted}
 use Rattle.model_strace.proofs.RestLaws.{lines_go_on_by}
 use Rattle.model_strace.specs.After.{After, Goes, Halts, and_then}
-use Rattle.model_strace.specs.Body.{Row, TooLong, log_row, row_of}
+use Rattle.model_strace.specs.Body.{PidLine, TooLong, log_row, row_of}
 use Rattle.model_strace.specs.Counts.{LinesAreCounted, spaces_counted}
 use Rattle.model_strace.specs.Lines.{ended}
 use Rattle.model_strace.specs.Rest.{LinesGoOnBy, Session, Going, Stopped, Finished, Work, all_fed, answer_of, answered_then, after_line, fed_by}
@@ -25,18 +26,12 @@ use Rattle.model_text.specs.Reading.{Placed, Limit, Stops, Reading, ends_at}
 
 -- ---- rows
 -- a line within the limit is cut as every line
-short_row : (line : List ℕ) → length line ≤ limit_number limit.Line → log_row line ≡ row_of line
-short_row line short = rw (not_longer (limit_number limit.Line) (length line) short) refl
-  where
-    not_longer : (most size : ℕ) → size ≤ most → nat_lt most size ≡ false
-    not_longer most size within = grind (arith, within)
+short_row : (line : List ℕ) → nat_lt (limit_number limit.Line) (length line) ≡ false → log_row line ≡ row_of line
+short_row line short = rw short refl
 
 -- one past the limit is too long
-long_row : (line : List ℕ) → limit_number limit.Line < length line → log_row line ≡ TooLong
-long_row line long = rw (is_longer (limit_number limit.Line) (length line) long) refl
-  where
-    is_longer : (most size : ℕ) → most < size → nat_lt most size ≡ true
-    is_longer most size over = grind (arith, over)
+long_row : (line : List ℕ) → nat_lt (limit_number limit.Line) (length line) ≡ true → log_row line ≡ TooLong
+long_row line long = rw long refl
 
 -- ---- a line
 -- the events that wait, with what comes after them, by how the reading of a line ended
@@ -61,32 +56,32 @@ line_left w session line lines events stop cut answer =
     ∙ sym (lines_go_on_by log_row w session line lines cut)
 
 -- a line that is too long ends what a session that goes on gives
-long_left : (w : World) (session : Session) (line : List ℕ) (lines : List (List ℕ)) → IsOpen phase.Reads session → log_row line ≡ TooLong
+long_left : (w : World) (session : Session) (line : List ℕ) (lines : List (List ℕ)) → IsOpen stage.Going session → log_row line ≡ TooLong
     → ends_at (Stops (Limit limit.Line)) ≡ rest_by log_row w session (line ∷ lines)
 long_left w (Going t) line lines going long =
-    sym (ap (λ (row : Row). ended (work_end w) (and_then (row_fed w row (record t { count = t.count + 1 })) (λ t'. all_fed log_row w lines t'))) long)
+    sym (ap (λ (row : PidLine). ended (work_end w) (and_then (row_fed w row (record t { count = t.count + 1 })) (λ t'. all_fed log_row w lines t'))) long)
 long_left w (Stopped count stop) line lines going long = absurd going
 long_left w (Finished count) line lines going long = absurd going
 
 -- ---- what is left of a log
--- of one of which these events wait, and which is in that phase
-abbrev left_by : World → StraceLog → List Placed → Phase → Reading
-left_by w log events phase = record { events = events ++ (strace_later w log phase).events; ending = (strace_later w log phase).ending }
+-- of one of which these events wait, and which is at that stage
+abbrev left_by : World → StraceLog → List Placed → Stage → Reading
+left_by w log events at = record { events = events ++ (strace_later w log at).events; ending = (strace_later w log at).ending }
 
-left_is : (w : World) (log : StraceLog) (events : List Placed) (stop : Option Stop) → reverse log.waiting.items ≡ events → log.phase ≡ phase_by stop
+left_is : (w : World) (log : StraceLog) (events : List Placed) (stop : Option Stop) → reverse log.waiting.items ≡ events → log.stage ≡ stage_after stop
     → strace_left w log ≡ then_left events stop (rest_by log_row w log.tracer (lines_of log.rest.now))
-left_is w log events None waits is = ap₂ (λ (es : List Placed) (p : Phase). left_by w log es p) waits is
-left_is w log events (Some stop) waits is = ap₂ (λ (es : List Placed) (p : Phase). left_by w log es p) waits is
+left_is w log events None waits is = ap₂ (λ (es : List Placed) (at : Stage). left_by w log es at) waits is
+left_is w log events (Some stop) waits is = ap₂ (λ (es : List Placed) (at : Stage). left_by w log es at) waits is
 
 -- where no event waits, it is what the session gives
-pub none_waits : (w : World) (log : StraceLog) → log.waiting.items ≡ [] → log.phase ≡ phase.Reads
+pub none_waits : (w : World) (log : StraceLog) → log.waiting.items ≡ [] → log.stage ≡ stage.Going
     → strace_left w log ≡ rest_by log_row w log.tracer (lines_of log.rest.now)
-none_waits w log none reads = ap₂ (λ (es : List Placed) (p : Phase). left_by w log (reverse es) p) none reads
+none_waits w log none reads = ap₂ (λ (es : List Placed) (at : Stage). left_by w log (reverse es) at) none reads
 
 -- What is left after a line is what was left before it.
 pub after_line_left : (w : World) (old new : StraceLog) (line after : List ℕ) (events : List Placed) (stop : Option Stop)
-    → old.waiting.items ≡ [] → old.phase ≡ phase.Reads → lines_of old.rest.now ≡ line ∷ lines_of after → length line ≤ limit_number limit.Line
-    → new.tracer ≡ after_line w old.tracer line → new.rest.now ≡ after → reverse new.waiting.items ≡ events → new.phase ≡ phase_by stop
+    → old.waiting.items ≡ [] → old.stage ≡ stage.Going → lines_of old.rest.now ≡ line ∷ lines_of after → nat_lt (limit_number limit.Line) (length line) ≡ false
+    → new.tracer ≡ after_line w old.tracer line → new.rest.now ≡ after → reverse new.waiting.items ≡ events → new.stage ≡ stage_after stop
     → record { events = events; ending = ending_is stop } ≡ line_answer w old.tracer line → strace_left w new ≡ strace_left w old
 after_line_left w old new line after events stop none reads cut short tracer rest waits is answer =
     left_is w new events stop waits is
@@ -96,31 +91,31 @@ after_line_left w old new line after events stop none reads cut short tracer res
     ∙ sym (none_waits w old none reads)
 
 -- What is left where a line is too long.
-pub long_line_left : (w : World) (old : StraceLog) (line after : List ℕ) → old.waiting.items ≡ [] → old.phase ≡ phase.Reads
-    → IsOpen old.phase old.tracer → lines_of old.rest.now ≡ line ∷ lines_of after → limit_number limit.Line < length line
-    → left_by w old (reverse old.waiting.items) (phase.Ended (Some (stops.Limit limit.Line))) ≡ strace_left w old
+pub long_line_left : (w : World) (old : StraceLog) (line after : List ℕ) → old.waiting.items ≡ [] → old.stage ≡ stage.Going
+    → IsOpen old.stage old.tracer → lines_of old.rest.now ≡ line ∷ lines_of after → nat_lt (limit_number limit.Line) (length line) ≡ true
+    → left_by w old (reverse old.waiting.items) (stage.Stopped (stops.Limit limit.Line)) ≡ strace_left w old
 long_line_left w old line after none reads going cut long =
-    ap (λ (es : List Placed). left_by w old (reverse es) (phase.Ended (Some (stops.Limit limit.Line)))) none
-    ∙ long_left w old.tracer line (lines_of after) (subst (λ (p : Phase). IsOpen p old.tracer) reads going) (long_row line long)
+    ap (λ (es : List Placed). left_by w old (reverse es) (stage.Stopped (stops.Limit limit.Line))) none
+    ∙ long_left w old.tracer line (lines_of after) (subst (λ (at : Stage). IsOpen at old.tracer) reads going) (long_row line long)
     ∙ ap (λ (ls : List (List ℕ)). rest_by log_row w old.tracer ls) (sym cut)
     ∙ sym (none_waits w old none reads)
 
 -- ---- it can be read on
-open_after : (count : ℕ) (stop : Option Stop) (a : After Work) → ending_is stop ≡ (answer_of a).ending → IsOpen (phase_by stop) (session_of count a)
+open_after : (count : ℕ) (stop : Option Stop) (a : After Work) → ending_is stop ≡ (answer_of a).ending → IsOpen (stage_after stop) (session_of count a)
 open_after count None (Goes events t) is = tt
 open_after count None (Halts events stop) is = absurd (cc)
 open_after count (Some stop) a is = tt
 
-open_after_line : (w : World) (session : Session) (line : List ℕ) (stop : Option Stop) → IsOpen phase.Reads session
-    → ending_is stop ≡ (line_answer w session line).ending → IsOpen (phase_by stop) (after_line w session line)
+open_after_line : (w : World) (session : Session) (line : List ℕ) (stop : Option Stop) → IsOpen stage.Going session
+    → ending_is stop ≡ (line_answer w session line).ending → IsOpen (stage_after stop) (after_line w session line)
 open_after_line w (Going t) line stop going is = open_after (t.count + 1) stop (fed_by row_of w line t) is
 open_after_line w (Stopped count halt) line stop going is = absurd going
 open_after_line w (Finished count) line stop going is = absurd going
 
 -- After a line that it was read to.
 pub after_line_goes_on : (w : World) (old new : StraceLog) (line after : List ℕ) (events : List Placed) (stop : Option Stop)
-    → StraceCanGoOn old → old.phase ≡ phase.Reads → length after < length old.rest.now
-    → new.tracer ≡ after_line w old.tracer line → new.rest.now ≡ after → new.phase ≡ phase_by stop
+    → StraceCanGoOn old → old.stage ≡ stage.Going → length after < length old.rest.now
+    → new.tracer ≡ after_line w old.tracer line → new.rest.now ≡ after → new.stage ≡ stage_after stop
     → record { events = events; ending = ending_is stop } ≡ line_answer w old.tracer line
     → spaces_counted new.tracer ≤ spaces_counted old.tracer + 1 → StraceCanGoOn new
 unfolding LinesAreCounted
@@ -128,13 +123,13 @@ after_line_goes_on w old new line after events stop can reads shorter tracer res
     let counted : lines_fed (after_line w old.tracer line) ≤ lines_fed old.tracer + 1 = lines_are_counted w old.tracer line in
     let room : lines_fed old.tracer + length old.rest.now < 2 ^ 31 = can.room in
     let less : lines_fed (after_line w old.tracer line) + length after < 2 ^ 31 = omega (arith, counted, room, shorter) in
-    let going : IsOpen (phase_by stop) (after_line w old.tracer line) =
-    open_after_line w old.tracer line stop (subst (λ (p : Phase). IsOpen p old.tracer) reads can.open_session) (ap (λ (r : Reading). r.ending) answer) in
+    let going : IsOpen (stage_after stop) (after_line w old.tracer line) =
+    open_after_line w old.tracer line stop (subst (λ (at : Stage). IsOpen at old.tracer) reads can.open_session) (ap (λ (r : Reading). r.ending) answer) in
     let spaces : spaces_counted old.tracer + length old.rest.now < greatest_number = can.spaces in
     let fewer : spaces_counted new.tracer + length after < greatest_number = omega (arith, one_more, spaces, shorter) in
     record {
       room = subst (λ (s : Session). lines_fed s + length new.rest.now < 2 ^ 31) (sym tracer)
           (subst (λ (t : List ℕ). lines_fed (after_line w old.tracer line) + length t < 2 ^ 31) (sym rest) less);
       spaces = subst (λ (t : List ℕ). spaces_counted new.tracer + length t < greatest_number) (sym rest) fewer;
-      open_session = subst (λ (p : Phase). IsOpen p new.tracer) (sym is) (subst (λ (s : Session). IsOpen (phase_by stop) s) (sym tracer) going);
+      open_session = subst (λ (at : Stage). IsOpen at new.tracer) (sym is) (subst (λ (s : Session). IsOpen (stage_after stop) s) (sym tracer) going);
     }

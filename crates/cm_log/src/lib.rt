@@ -2,12 +2,13 @@
 //! and in model_strace/specs (Lines, Logs).
 #![tactic(auto)]
 
-mod limits;
+mod limit;
 mod log;
 mod next;
 mod script;
 mod strace;
 
-pub use cm_strace::{Placed, Stop};
+pub use cm_declared::Placed;
+pub use cm_strace::Stop;
 pub use log::Log;
 pub use next::Next;

@@ -1,5 +1,6 @@
 // What is read next of a log.
-use cm_strace::{Placed, Stop};
+use cm_declared::Placed;
+use cm_strace::Stop;
 
 /// What is read next: an event; or how the reading ends, at a stop or at the log's end.
 #[derive(Debug, Drop)]

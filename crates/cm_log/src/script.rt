@@ -8,13 +8,13 @@ ghost use Rattle.cm_declared.specs.World.{world_of};
 ghost use Rattle.model_cred.specs.World as model;
 ghost use Rattle.model_text.specs.Reading.{script_reading, log_line};
 
-use crate::limits::LINE_LIMIT;
+use crate::limit::is_too_long;
 use crate::next::Next;
 use cm_base::{Limited, NoMemory};
-use cm_declared::World;
+use cm_declared::{Placed, World};
 use cm_script::{LineError, read_line};
 use cm_state::Event;
-use cm_strace::{Placed, Stop};
+use cm_strace::Stop;
 use cm_tokens::next_line;
 use std::alloc::Global;
 
@@ -79,7 +79,7 @@ impl<'a> ScriptLog<'a> {
 fn read_log_line(alloc: Global, line: &[u8], w: &World) -> Result<Option<Event>, LineError>
     ensures { IsRead result (log_line (world_of w.now) line.now) }
 {
-    if line.len() > LINE_LIMIT {
+    if is_too_long(line) {
         return Err(LineError::Limit(Limited::Line));
     }
     read_line(alloc, line, w)

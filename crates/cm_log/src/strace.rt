@@ -1,27 +1,20 @@
 // The reading of a log of strace(1), line by line, as its session gives it.
 ghost use Rattle.std.specs.Prelude.{◌≡◌, ◌<◌, ◌^◌, [], ◌∷◌, length, reverse};
 ghost use Rattle.cm_base.specs.Outcome.{OrNoMemory};
-ghost use Rattle.cm_log.specs.Left.{StraceCanGoOn, phase_by, strace_left, steps_left};
+ghost use Rattle.cm_log.specs.Left.{StraceCanGoOn, strace_left, steps_left};
 ghost use Rattle.cm_log.specs.Next.{IsNext, EndsAgain};
 ghost use Rattle.cm_declared.specs.World.{world_of};
 ghost use Rattle.model_strace.specs.Lines.{strace_reading};
 ghost use Rattle.model_strace.specs.Rest.{first_session};
 ghost use Rattle.model_text.specs.Cut.{lines_of};
 
-use crate::limits::LINE_LIMIT;
+use crate::limit::is_too_long;
 use crate::next::Next;
 use cm_base::{Limited, NoMemory};
-use cm_declared::World;
-use cm_strace::{Placed, Stop, Tracer};
+use cm_declared::{Placed, World};
+use cm_strace::{Stage, Stop, Tracer};
 use cm_tokens::next_line;
 use std::alloc::Global;
-
-/// Whether a log is still read, or how its reading ended.
-#[derive(Clone, Copy, Debug)]
-pub(crate) enum Phase {
-    Reads,
-    Ended(Option<Stop>),
-}
 
 /// What is left of a log of strace: the session, the text from a line on, the events that the session gave and that weren't
 /// taken yet, the last one first, and whether it is still read.
@@ -30,7 +23,7 @@ pub struct StraceLog<'a> {
     tracer: Tracer,
     rest: &'a [u8],
     waiting: Vec<Placed>,
-    phase: Phase,
+    stage: Stage,
 }
 
 impl<'a> StraceLog<'a> {
@@ -46,7 +39,7 @@ impl<'a> StraceLog<'a> {
             tracer,
             rest: text,
             waiting: Vec::new(alloc),
-            phase: Phase::Reads,
+            stage: Stage::Going,
         })
     }
 
@@ -61,9 +54,10 @@ impl<'a> StraceLog<'a> {
             if let Some(event) = self.waiting.pop() {
                 return Ok(Next::Event(event));
             }
-            match self.phase {
-                Phase::Ended(stop) => return Ok(Next::Ends(stop)),
-                Phase::Reads => self.read_on(alloc, w)?,
+            match self.stage {
+                Stage::Going => self.read_on(alloc, w)?,
+                Stage::Stopped(stop) => return Ok(Next::Ends(Some(stop))),
+                Stage::Finished => return Ok(Next::Ends(None)),
             }
         }
     }
@@ -71,7 +65,7 @@ impl<'a> StraceLog<'a> {
     // Reads a line more, or the log's end, where no event waits.
     fn read_on(&mut self, alloc: Global, w: &World) -> Result<(), NoMemory>
         requires none { self.old.waiting.items ≡ [] }
-        requires reads { self.old.phase ≡ Phase.Reads }
+        requires reads { self.old.stage ≡ Stage.Going }
         requires room { StraceCanGoOn self.old }
         ensures left { OrNoMemory result (λ _. strace_left (world_of w.now) self.new ≡ strace_left (world_of w.now) self.old) }
         ensures shorter { OrNoMemory result (λ _. steps_left self.new < steps_left self.old) }
@@ -92,7 +86,7 @@ impl<'a> StraceLog<'a> {
         after: &'a [u8],
     ) -> Result<(), NoMemory>
         requires none { self.old.waiting.items ≡ [] }
-        requires reads { self.old.phase ≡ Phase.Reads }
+        requires reads { self.old.stage ≡ Stage.Going }
         requires room { StraceCanGoOn self.old }
         requires line { lines_of self.old.rest.now ≡ line.now ∷ lines_of after.now }
         requires shorter { length after.now < length self.old.rest.now }
@@ -100,21 +94,21 @@ impl<'a> StraceLog<'a> {
         ensures shorter { OrNoMemory result (λ _. steps_left self.new < steps_left self.old) }
         ensures room { OrNoMemory result (λ _. StraceCanGoOn self.new) }
     {
-        if line.len() > LINE_LIMIT {
-            self.phase = Phase::Ended(Some(Stop::Limit(Limited::Line)));
+        if is_too_long(line) {
+            self.stage = Stage::Stopped(Stop::Limit(Limited::Line));
             return Ok(());
         }
         let stop = self.tracer.feed_line(alloc, w, line, &mut self.waiting)?;
         self.rest = after;
         self.turn_waiting();
-        self.phase = phase_after(stop);
+        self.stage = Stage::after(stop);
         Ok(())
     }
 
     // Reads the log's end.
     fn read_end(&mut self, alloc: Global, w: &World) -> Result<(), NoMemory>
         requires none { self.old.waiting.items ≡ [] }
-        requires reads { self.old.phase ≡ Phase.Reads }
+        requires reads { self.old.stage ≡ Stage.Going }
         requires room { StraceCanGoOn self.old }
         requires empty { lines_of self.old.rest.now ≡ [] }
         ensures left { OrNoMemory result (λ _. strace_left (world_of w.now) self.new ≡ strace_left (world_of w.now) self.old) }
@@ -124,7 +118,7 @@ impl<'a> StraceLog<'a> {
         let fed = self.tracer.finish(alloc, w)?;
         self.waiting = fed.events;
         self.turn_waiting();
-        self.phase = Phase::Ended(fed.stop);
+        self.stage = Stage::at_end(fed.stop);
         Ok(())
     }
 
@@ -134,18 +128,8 @@ impl<'a> StraceLog<'a> {
         ensures events { reverse self.new.waiting.items ≡ self.old.waiting.items }
         ensures tracer { self.new.tracer ≡ self.old.tracer }
         ensures rest { self.new.rest ≡ self.old.rest }
-        ensures phase { self.new.phase ≡ self.old.phase }
+        ensures stage { self.new.stage ≡ self.old.stage }
     {
         self.waiting.reverse();
-    }
-}
-
-// Whether a log is still read after a line that told of a stop, or of none.
-fn phase_after(stop: Option<Stop>) -> Phase
-    ensures { result ≡ phase_by stop }
-{
-    match stop {
-        Some(stop) => Phase::Ended(Some(stop)),
-        None => Phase::Reads,
     }
 }

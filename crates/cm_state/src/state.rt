@@ -2,9 +2,10 @@
 ghost use Rattle.std.specs.Prelude.{◌≡◌};
 ghost use Rattle.cm_state.specs.Right.{right_of};
 ghost use Rattle.model_run.specs.Holds.{holds_right as model_holds_right, process_holds};
+ghost use Rattle.model_run.specs.Within as within;
 
 use crate::{Proc, Procs, Right, Spaces};
-use cm_base::{NoMemory, Pid};
+use cm_base::{Limited, NoMemory, Pid};
 use std::alloc::Global;
 use std::marker::Model;
 
@@ -45,6 +46,20 @@ impl State {
         match self.procs.find(pid) {
             Some(at) => holds_right(&self.spaces, &self.procs.list[at], right),
             None => false,
+        }
+    }
+
+    /// The limit that the state exceeds: that of live processes, else that of user namespaces. None exactly where it
+    /// exceeds neither. It takes no memory.
+    pub fn exceeded(&self) -> Option<Limited>
+        ensures { result ≡ within.exceeded self.now }
+    {
+        if self.procs.items().len() as u64 > Limited::Processes.number() {
+            Some(Limited::Processes)
+        } else if u64::from(self.spaces.count()) > Limited::Spaces.number() {
+            Some(Limited::Spaces)
+        } else {
+            None
         }
     }
 }

@@ -8,3 +8,4 @@ pub mod Taken
 pub mod Retained
 pub mod Dues
 pub mod Elsewhere
+pub mod Sessions

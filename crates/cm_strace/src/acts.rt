@@ -16,9 +16,10 @@ ghost use Rattle.model_strace.specs.Parts.{without_kept};
 ghost use Rattle.model_strace.specs.Turn.{after_call, with_child};
 
 use crate::deed::{Act, Birth, Deed, Given, Origin, Step};
-use crate::placed::{Placed, Stop};
+use crate::placed::Stop;
 use crate::told::birth_call;
 use cm_base::{Limited, NoMemory, Pid, Res};
+use cm_declared::Placed;
 use cm_state::{Call, Event};
 use cm_strace_parts::Parts;
 use std::alloc::Global;

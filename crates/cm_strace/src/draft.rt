@@ -1,5 +1,5 @@
 // A session while a line is read whose child has held lines. The session itself stays as it was, until all of it is done.
-ghost use Rattle.std.specs.Prelude.{◌≡◌, [], ◌+◌, ◌<◌, ◌≤◌, ◌^◌, length, IfNone};
+ghost use Rattle.std.specs.Prelude.{◌≡◌, [], ◌+◌, ◌<◌, ◌≤◌, ◌^◌, length};
 ghost use Rattle.cm_base.specs.Limits.{greatest_number};
 ghost use Rattle.cm_base.specs.Outcome.{OrNoMemory};
 ghost use Rattle.cm_strace.specs.Drafts.{work_of};
@@ -11,10 +11,10 @@ ghost use Rattle.model_strace.specs.Rest.{released};
 
 use crate::acts::conclude;
 use crate::deed::{Given, Origin, Step};
-use crate::placed::{Placed, Stop};
+use crate::placed::Stop;
 use crate::waiting::Waiting;
 use cm_base::{NoMemory, Pid};
-use cm_declared::World;
+use cm_declared::{Placed, World};
 use cm_strace_parts::Parts;
 use std::alloc::Global;
 
@@ -44,13 +44,14 @@ impl<'a> Draft<'a> {
             ≡ preceded events.old.items (concluded (world_of w.now) pid step (work_of self.old))) }
         ensures all { OrNoMemory result (λ _. self.new.waiting.all ≡ self.old.waiting.all) }
         ensures uses { OrNoMemory result (λ _. uses (work_of self.new) ≤ uses (work_of self.old) + 1) }
-        ensures counted { OrNoMemory result (λ stop. IfNone stop (self.new.count ≡ self.old.count + 1)) }
+        ensures counted { OrNoMemory result (λ _. self.new.count ≡ self.old.count + 1) }
     {
         let number = self.count + 1;
         let origin = Origin { line: number, pid };
-        match conclude(alloc, &mut self.parts, origin, step, events)? {
+        let given = conclude(alloc, &mut self.parts, origin, step, events)?;
+        self.count = number;
+        match given {
             Given::On(born) => {
-                self.count = number;
                 self.waiting.put(born)?;
                 self.release(alloc, w, events)
             }

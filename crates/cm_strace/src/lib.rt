@@ -18,5 +18,6 @@ mod waiting;
 mod work;
 mod writes;
 
-pub use placed::{Fed, Placed, Stop};
+pub use placed::{Fed, Stop};
+pub use stage::Stage;
 pub use tracer::Tracer;

@@ -13,10 +13,9 @@ ghost use Rattle.model_strace.specs.Rest.{without_first};
 
 use crate::acts::conclude;
 use crate::deed::{Given, Origin};
-use crate::placed::Placed;
 use crate::step::read_step;
 use cm_base::{NoMemory, Pid};
-use cm_declared::World;
+use cm_declared::{Placed, World};
 use cm_strace_parts::Parts;
 use std::alloc::Global;
 use std::marker::Model;

@@ -1,22 +1,7 @@
 // What a session answers: events with the numbers of their lines, and a stop.
 use cm_base::{Limited, LineFault};
-use cm_state::Event;
+use cm_declared::Placed;
 use std::marker::Model;
-
-/// An event, and the number of the line that tells it.
-#[derive(Debug, Drop)]
-pub struct Placed {
-    pub line: u64,
-    pub event: Event,
-}
-
-impl Model for Placed {
-    ghost use Rattle.model_text.specs.Reading as reading;
-
-    ghost Value = { reading.Placed };
-
-    ghost view = { λ placed. record { line = placed.line; event = placed.event } };
-}
 
 /// What stops a reading before the log's end: the fault of the line of that number, or a limit that is exceeded.
 #[derive(Clone, Copy, Debug)]

@@ -1,10 +1,35 @@
-// Whether a session goes on.
+// Whether a session, or the reading of a log, goes on.
+ghost use Rattle.std.specs.Prelude.{◌≡◌};
+ghost use Rattle.cm_strace.specs.Stages.{stage_after, stage_ended};
+
 use crate::placed::Stop;
 
 /// It goes on; it was stopped; the log has ended.
 #[derive(Clone, Copy, Debug)]
-pub(crate) enum Stage {
+pub enum Stage {
     Going,
     Stopped(Stop),
     Finished,
+}
+
+impl Stage {
+    /// The stage after a line that told of this stop, or of none.
+    pub fn after(stop: Option<Stop>) -> Stage
+        ensures { result ≡ stage_after stop }
+    {
+        match stop {
+            Some(stop) => Stage::Stopped(stop),
+            None => Stage::Going,
+        }
+    }
+
+    /// The stage after the log's end, which told of this stop, or of none.
+    pub fn at_end(stop: Option<Stop>) -> Stage
+        ensures { result ≡ stage_ended stop }
+    {
+        match stop {
+            Some(stop) => Stage::Stopped(stop),
+            None => Stage::Finished,
+        }
+    }
 }

@@ -3,7 +3,7 @@ ghost use Rattle.std.specs.Prelude.{◌≡◌, ℕ, ◌∷◌, [], ◌+◌, ◌<
 ghost use Rattle.cm_base.specs.Limits.{greatest_number};
 ghost use Rattle.cm_base.specs.Outcome.{OrNoMemory, UnchangedOnErr};
 ghost use Rattle.cm_strace.specs.Answers.{stop_is, reading_is};
-ghost use Rattle.cm_strace.specs.Stages.{session_is, stage_after, stage_ended};
+ghost use Rattle.cm_strace.specs.Stages.{session_is, stage_after};
 ghost use Rattle.cm_strace.specs.Works.{uses};
 ghost use Rattle.cm_declared.specs.World.{world_of};
 ghost use Rattle.model_strace.specs.Body.{row_of};
@@ -14,11 +14,11 @@ ghost use Rattle.model_strace.specs.Rest.{after_finish, answered_then, session_o
 ghost use Rattle.model_text.specs.Reading.{AtEnd, Stops, ends_at};
 
 use crate::ending::read_end;
-use crate::placed::{Fed, Placed, Stop};
+use crate::placed::{Fed, Stop};
 use crate::stage::Stage;
 use crate::work::Work;
 use cm_base::NoMemory;
-use cm_declared::World;
+use cm_declared::{Placed, World};
 use std::alloc::Global;
 use std::marker::Model;
 
@@ -99,7 +99,7 @@ impl Tracer {
         match self.stage {
             Stage::Going => {
                 let stop = feed_work(alloc, w, &mut self.work, line, events)?;
-                self.stage = stage_after(stop);
+                self.stage = Stage::after(stop);
                 Ok(stop)
             }
             Stage::Stopped(stop) => Ok(Some(stop)),
@@ -117,7 +117,7 @@ impl Tracer {
         match self.stage {
             Stage::Going => {
                 let fed = read_end(alloc, w, &self.work)?;
-                self.stage = stage_ended(fed.stop);
+                self.stage = Stage::at_end(fed.stop);
                 Ok(fed)
             }
             Stage::Stopped(stop) => Ok(stopped(alloc, stop)),
@@ -146,26 +146,6 @@ fn stopped(alloc: Global, stop: Stop) -> Fed
     }
 }
 
-// The stage after a line.
-fn stage_after(stop: Option<Stop>) -> Stage
-    ensures { result ≡ stage_after stop }
-{
-    match stop {
-        Some(stop) => Stage::Stopped(stop),
-        None => Stage::Going,
-    }
-}
-
-// The stage after the log's end.
-fn stage_ended(stop: Option<Stop>) -> Stage
-    ensures { result ≡ stage_ended stop }
-{
-    match stop {
-        Some(stop) => Stage::Stopped(stop),
-        None => Stage::Finished,
-    }
-}
-
 // A line comes in a session that goes on.
 fn feed_work(
     alloc: Global,
@@ -185,8 +165,5 @@ fn feed_work(
     ensures uses { uses t.new ≤ uses t.old + 1 }
     ensures count { OrNoMemory result (λ _. t.new.count ≡ t.old.count + 1) }
 {
-    let count = t.count() + 1;
-    let stop = t.feed(alloc, w, line, events)?;
-    t.set_count(count);
-    Ok(stop)
+    t.feed(alloc, w, line, events)
 }

@@ -1,7 +1,7 @@
 // A session that goes on: what is known, the held lines, and how many lines came (model_strace/specs, Rest). A line
 // that bears a child with held lines is read on a copy of what is known, and so are these after it, which are read
 // where they stand and go out at the end; all other lines are read in place.
-ghost use Rattle.std.specs.Prelude.{◌≡◌, [], ◌+◌, ◌<◌, ◌≤◌, ◌^◌, true, false, length, OnErr, IfNone};
+ghost use Rattle.std.specs.Prelude.{◌≡◌, [], ◌+◌, ◌<◌, ◌≤◌, ◌^◌, true, false, length, OnErr};
 ghost use Rattle.cm_base.specs.Limits.{greatest_number};
 ghost use Rattle.cm_base.specs.Outcome.{OrNoMemory, UnchangedOnErr};
 ghost use Rattle.cm_strace.specs.Deeds.{IsAct, Waits, step_is};
@@ -19,13 +19,13 @@ use crate::acts::conclude;
 use crate::deed::{Act, Deed, Given, Origin, Step};
 use crate::draft::Draft;
 use crate::line::{Line, has_line, remove_taken};
-use crate::placed::{Placed, Stop};
+use crate::placed::Stop;
 use crate::step::{Heard, hear, heard_step};
 use crate::waiting::Waiting;
 use cm_base::{Limited, LineFault, NoMemory, Pid};
-use cm_declared::World;
+use cm_declared::{Placed, World};
 use cm_strace_parts::Parts;
-use cm_strace_text::{Row, read_body, read_row};
+use cm_strace_text::{PidLine, read_body, read_row};
 use std::alloc::Global;
 use std::marker::Model;
 
@@ -88,13 +88,6 @@ impl Work {
         self.parts.spaces() + self.held.len() as u32
     }
 
-    /// So many lines came.
-    pub(crate) fn set_count(&mut self, count: u64)
-        ensures { self.new ≡ record self.old { count = count } }
-    {
-        self.count = count;
-    }
-
     /// A line comes. It fails only where memory runs out, and then leaves the session as it was.
     pub(crate) fn feed(
         &mut self,
@@ -109,15 +102,18 @@ impl Work {
             ≡ preceded events.old.items (fed_by row_of (world_of w.now) line.now self.old)) }
         ensures unchanged { UnchangedOnErr result self.new self.old }
         ensures uses { uses self.new ≤ uses self.old + 1 }
-        ensures counted { OrNoMemory result (λ stop. IfNone stop (self.new.count ≡ self.old.count + 1)) }
+        ensures counted { OrNoMemory result (λ _. self.new.count ≡ self.old.count + 1) }
     {
         match read_row(line) {
-            Row::Blank => {
-                self.count += 1;
+            PidLine::Blank => {
+                self.pass();
                 Ok(None)
             }
-            Row::NoPid => Ok(Some(Stop::Fault(self.count + 1, LineFault::Pid))),
-            Row::Of(pid, body) => if self.parts.is_known(pid) {
+            PidLine::NoPid => {
+                self.pass();
+                Ok(Some(Stop::Fault(self.count, LineFault::Pid)))
+            }
+            PidLine::Of(pid, body) => if self.parts.is_known(pid) {
                 self.read(alloc, w, pid, body, events)
             } else {
                 self.hold(alloc, pid, body)
@@ -133,15 +129,16 @@ impl Work {
             (record self.old { count = self.old.count + 1 })) }
         ensures unchanged { UnchangedOnErr result self.new self.old }
         ensures uses { uses self.new ≤ uses self.old + 1 }
-        ensures counted { OrNoMemory result (λ stop. IfNone stop (self.new.count ≡ self.old.count + 1)) }
+        ensures counted { OrNoMemory result (λ _. self.new.count ≡ self.old.count + 1) }
     {
         if self.held.len() as u64 >= Limited::Held.number() {
+            self.pass();
             return Ok(Some(Stop::Limit(Limited::Held)));
         }
         let number = self.count + 1;
         let l = Line::new(alloc, number, pid, body)?;
         self.held.push(l)?;
-        self.count = number;
+        self.pass();
         Ok(None)
     }
 
@@ -161,7 +158,7 @@ impl Work {
             (record self.old { count = self.old.count + 1 }))) }
         ensures unchanged { UnchangedOnErr result self.new self.old }
         ensures uses { uses self.new ≤ uses self.old + 1 }
-        ensures counted { OrNoMemory result (λ stop. IfNone stop (self.new.count ≡ self.old.count + 1)) }
+        ensures counted { OrNoMemory result (λ _. self.new.count ≡ self.old.count + 1) }
     {
         let told = hear(read_body(body));
         if let Heard::Nothing = told {
@@ -218,15 +215,14 @@ impl Work {
         ensures unchanged { UnchangedOnErr result self.new self.old }
         ensures acts { OnErr result (IsAct step.deed) }
         ensures uses { uses self.new ≤ uses self.old + 1 }
-        ensures counted { OrNoMemory result (λ stop. IfNone stop (self.new.count ≡ self.old.count + 1)) }
+        ensures counted { OrNoMemory result (λ _. self.new.count ≡ self.old.count + 1) }
     {
         let number = self.count + 1;
         let origin = Origin { line: number, pid };
-        match conclude(alloc, &mut self.parts, origin, step, events)? {
-            Given::On(_) => {
-                self.count = number;
-                Ok(None)
-            }
+        let given = conclude(alloc, &mut self.parts, origin, step, events)?;
+        self.pass();
+        match given {
+            Given::On(_) => Ok(None),
             Given::Halts(stop) => Ok(Some(stop)),
         }
     }
@@ -247,7 +243,7 @@ impl Work {
             ≡ preceded events.old.items (concluded (world_of w.now) pid step self.old)) }
         ensures unchanged { UnchangedOnErr result self.new self.old }
         ensures uses { uses self.new ≤ uses self.old + 1 }
-        ensures counted { OrNoMemory result (λ stop. IfNone stop (self.new.count ≡ self.old.count + 1)) }
+        ensures counted { OrNoMemory result (λ _. self.new.count ≡ self.old.count + 1) }
     {
         let mut draft = self.draft(alloc)?;
         let stop = draft.read_on(alloc, w, pid, step, events)?;

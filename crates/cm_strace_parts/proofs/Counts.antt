@@ -2,7 +2,7 @@
 use Rattle.std.proofs.Common.{◌≡◌, ℕ, ◌+◌, Bool, true, false, cond, not, List, [], ◌∷◌, filter, length, map, refl, sym, ◌∙◌, ap, arith, eq-eqb}
 use Rattle.std.proofs.lemmas.List.{length-map}
 use Rattle.cm_strace_parts.proofs.Lists.{own_in}
-use Rattle.cm_strace_parts.specs.Lists.{Files, descriptors_in, fds_of, files_before, of_process}
+use Rattle.cm_strace_parts.specs.Lists.{FdList, descriptors_in, fds_of, files_before, of_process}
 use Rattle.cm_strace_parts.specs.Order.{Ascends}
 use Rattle.model_strace.specs.Parts.{Descriptor, copied_to, descriptor_before, is_closed_at_exec, is_descriptor, is_of, put, put_all}
 
@@ -85,7 +85,7 @@ pub asks_count : (pid : ℕ) (old new made : List Descriptor) (all own : ℕ) �
 asks_count pid old new made all own is whole part law = rw (is, whole, part) law
 
 -- those of a process are as many as its list has
-pub own_count : (pid : ℕ) (fs : List Files) → Ascends files_before fs
+pub own_count : (pid : ℕ) (fs : List FdList) → Ascends files_before fs
     → length (filter (is_of pid) (descriptors_in fs)) ≡ length (fds_of pid fs)
 own_count pid fs up =
     ap (λ (ds : List Descriptor). length ds) (own_in pid fs up) ∙ length-map (fds_of pid fs) (of_process pid)

@@ -3,7 +3,7 @@ use Rattle.std.proofs.Common.{◌≡◌, ℕ, zero, suc, Bool, true, false, cond
 use Rattle.std.proofs.Common.{refl, sym, ◌∙◌, ap, arith, get_or, slice_set, subst}
 use Rattle.std.specs.List.{insert, remove}
 use Rattle.std.proofs.lemmas.Bool.{cond-true, cond-false}
-use Rattle.cm_strace_parts.specs.Lists.{Fd, Files, fd_before, is_files, files_before, files_below, fds_of, EachAscends}
+use Rattle.cm_strace_parts.specs.Lists.{Fd, FdList, fd_before, is_files, files_before, files_below, fds_of, EachAscends}
 use Rattle.cm_strace_parts.specs.Lists.{ListsInOrder}
 use Rattle.cm_strace_parts.specs.Order.{AllSay, Ascends, IsCut, StandsAt, is_at}
 use Rattle.cm_strace_parts.proofs.Lists.{none_of}
@@ -13,7 +13,7 @@ use Rattle.model_strace.specs.Parts.{put}
 
 -- ---- the orders
 -- the descriptors of a process ascend
-pub own_ascends : (pid : ℕ) (fs : List Files) → EachAscends fs → Ascends fd_before (fds_of pid fs)
+pub own_ascends : (pid : ℕ) (fs : List FdList) → EachAscends fs → Ascends fd_before (fds_of pid fs)
 own_ascends pid [] each = tt
 own_ascends pid (f ∷ fs) each =
     elim (is_files pid f) as (λ b. Ascends fd_before (cond b f.fds (fds_of pid fs))) [
@@ -21,7 +21,7 @@ own_ascends pid (f ∷ fs) each =
       | false ↦ own_ascends pid fs each.1
     ]
 
-each_put : (new : Files) (fs : List Files) → Ascends fd_before new.fds → EachAscends fs
+each_put : (new : FdList) (fs : List FdList) → Ascends fd_before new.fds → EachAscends fs
     → EachAscends (put files_before new fs)
 each_put new [] up each = (up, tt)
 each_put new (f ∷ fs) up each =
@@ -34,7 +34,7 @@ each_put new (f ∷ fs) up each =
       ]
     ]
 
-each_left : (keeps : Files → Bool) (fs : List Files) → EachAscends fs → EachAscends (filter keeps fs)
+each_left : (keeps : FdList → Bool) (fs : List FdList) → EachAscends fs → EachAscends (filter keeps fs)
 each_left keeps [] each = tt
 each_left keeps (f ∷ fs) each =
     elim (keeps f) as (λ b. EachAscends (cond b (f ∷ filter keeps fs) (filter keeps fs))) [
@@ -43,7 +43,7 @@ each_left keeps (f ∷ fs) each =
     ]
 
 -- with a list put in its place they stand in their orders
-pub put_ordered : (new : Files) (fs : List Files) → Ascends fd_before new.fds → ListsInOrder fs
+pub put_ordered : (new : FdList) (fs : List FdList) → Ascends fd_before new.fds → ListsInOrder fs
     → ListsInOrder (put files_before new fs)
 put_ordered new fs up order = record {
   processes = put_ascends files_before new fs files_order order.processes;
@@ -51,14 +51,14 @@ put_ordered new fs up order = record {
 }
 
 -- and so do those that a filter leaves
-pub left_ordered : (keeps : Files → Bool) (fs : List Files) → ListsInOrder fs → ListsInOrder (filter keeps fs)
+pub left_ordered : (keeps : FdList → Bool) (fs : List FdList) → ListsInOrder fs → ListsInOrder (filter keeps fs)
 left_ordered keeps fs order = record {
   processes = filter_ascends files_before keeps fs order.processes;
   each = each_left keeps fs order.each;
 }
 
 -- ---- the places
-abbrev pub files_with : ℕ → List Fd → Files
+abbrev pub files_with : ℕ → List Fd → FdList
 files_with pid fds = record { pid = pid; fds = fds }
 
 -- the same descriptors of the same process
@@ -66,11 +66,11 @@ pub same_files : (pid other : ℕ) (xs ys : List Fd) → pid ≡ other → xs �
 same_files pid other xs ys same alike = ap (λ p. files_with p xs) same ∙ ap (λ l. files_with other l) alike
 
 -- the list at its place has the descriptors of the process
-pub fds_at : (pid : ℕ) (fs : List Files) (at : ℕ) (f : Files) → StandsAt (is_files pid) fs at → f ≡ get_or fs at f
+pub fds_at : (pid : ℕ) (fs : List FdList) (at : ℕ) (f : FdList) → StandsAt (is_files pid) fs at → f ≡ get_or fs at f
     → fds_of pid fs ≡ f.fds
 fds_at pid [] at f here is = absurd here
 fds_at pid (g ∷ fs) zero f here is = cond-true (is_files pid g) g.fds (fds_of pid fs) here.0
-    ∙ ap (λ (f : Files). f.fds) (sym is)
+    ∙ ap (λ (f : FdList). f.fds) (sym is)
 fds_at pid (g ∷ fs) (suc at) f here is = cond-false (is_files pid g) g.fds (fds_of pid fs) here.0
     ∙ fds_at pid fs at f here.1 is
 
@@ -87,7 +87,7 @@ set_same (y ∷ xs) zero x is = ap (λ z. z ∷ xs) is
 set_same (y ∷ xs) (suc at) x is = ap (λ l. y ∷ l) (set_same xs at x is)
 
 -- the list is changed at its place
-pub changed_at : (pid : ℕ) (ys : List Fd) (fs : List Files) (at : ℕ) (f : Files) → Ascends files_before fs
+pub changed_at : (pid : ℕ) (ys : List Fd) (fs : List FdList) (at : ℕ) (f : FdList) → Ascends files_before fs
     → IsCut (files_below pid) fs at → is_at (is_files pid) fs at ≡ true → f ≡ get_or fs at f
     → slice_set fs at (record f { fds = ys }) ≡ put files_before (record { pid = pid; fds = ys }) fs
 changed_at pid ys fs at f up cut here is =
@@ -99,19 +99,19 @@ changed_at pid ys fs at f up cut here is =
     (files_place_of (record { pid = pid; fds = ys }) pid refl) cut here
 
 -- the descriptors at its place are those of the process
-pub own_at : (pid : ℕ) (fs : List Files) (at : ℕ) (f : Files) → Ascends files_before fs
+pub own_at : (pid : ℕ) (fs : List FdList) (at : ℕ) (f : FdList) → Ascends files_before fs
     → IsCut (files_below pid) fs at → is_at (is_files pid) fs at ≡ true → f ≡ get_or fs at f → fds_of pid fs ≡ f.fds
 own_at pid fs at f up cut here is =
     fds_at pid fs at f (stands files_before (files_below pid) (is_files pid) fs at (files_place pid) up cut here) is
 
 -- they ascend
-pub ascends_at : (pid : ℕ) (fs : List Files) (at : ℕ) (f : Files) → ListsInOrder fs
+pub ascends_at : (pid : ℕ) (fs : List FdList) (at : ℕ) (f : FdList) → ListsInOrder fs
     → IsCut (files_below pid) fs at → is_at (is_files pid) fs at ≡ true → f ≡ get_or fs at f → Ascends fd_before f.fds
 ascends_at pid fs at f order cut here is =
     subst (λ l. Ascends fd_before l) (own_at pid fs at f order.processes cut here is) (own_ascends pid fs order.each)
 
 -- the list is changed at its place
-pub changed_here : (change : List Fd → List Fd) (pid : ℕ) (fs : List Files) (at : ℕ) (f g : Files)
+pub changed_here : (change : List Fd → List Fd) (pid : ℕ) (fs : List FdList) (at : ℕ) (f g : FdList)
     → Ascends files_before fs → IsCut (files_below pid) fs at → is_at (is_files pid) fs at ≡ true
     → f ≡ get_or fs at f → g ≡ record f { fds = change f.fds }
     → slice_set fs at g ≡ put files_before (record { pid = pid; fds = change (fds_of pid fs) }) fs
@@ -120,13 +120,13 @@ changed_here change pid fs at f g up cut here is changed =
     ∙ ap (λ l. put files_before (record { pid = pid; fds = change l }) fs) (sym (own_at pid fs at f up cut here is))
 
 -- no list stands at its place: the process has no descriptors
-pub none_at : (pid : ℕ) (fs : List Files) (at : ℕ) → Ascends files_before fs
+pub none_at : (pid : ℕ) (fs : List FdList) (at : ℕ) → Ascends files_before fs
     → IsCut (files_below pid) fs at → is_at (is_files pid) fs at ≡ false → AllSay (is_files pid) false fs
 none_at pid fs at up cut isnt =
     stands_nowhere files_before (files_below pid) (is_files pid) fs at (files_place pid) up cut isnt
 
 -- a list is made at its place
-pub inserted_here : (change : List Fd → List Fd) (pid : ℕ) (fs : List Files) (at : ℕ) (g : Files)
+pub inserted_here : (change : List Fd → List Fd) (pid : ℕ) (fs : List FdList) (at : ℕ) (g : FdList)
     → Ascends files_before fs → IsCut (files_below pid) fs at → is_at (is_files pid) fs at ≡ false
     → g ≡ record { pid = pid; fds = change [] }
     → insert fs at g ≡ put files_before (record { pid = pid; fds = change (fds_of pid fs) }) fs
@@ -155,14 +155,14 @@ removed_ascends before (x ∷ xs) (suc at) up = (
   removed_ascends before xs at up.1,
 )
 
-each_removed : (fs : List Files) (at : ℕ) → EachAscends fs → EachAscends (remove fs at)
+each_removed : (fs : List FdList) (at : ℕ) → EachAscends fs → EachAscends (remove fs at)
 each_removed [] zero each = tt
 each_removed [] (suc at) each = tt
 each_removed (f ∷ fs) zero each = each.1
 each_removed (f ∷ fs) (suc at) each = (each.0, each_removed fs at each.1)
 
 -- with one list less they stand in their orders
-pub removed_ordered : (fs : List Files) (at : ℕ) → ListsInOrder fs → ListsInOrder (remove fs at)
+pub removed_ordered : (fs : List FdList) (at : ℕ) → ListsInOrder fs → ListsInOrder (remove fs at)
 removed_ordered fs at order = record {
   processes = removed_ascends files_before fs at order.processes;
   each = each_removed fs at order.each;

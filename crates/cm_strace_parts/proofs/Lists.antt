@@ -6,7 +6,7 @@ use Rattle.std.specs.Prelude.{option_map}
 use Rattle.std.specs.List.{list_any, remove}
 use Rattle.std.proofs.lemmas.List.{take_more, length-append, length-map}
 use Rattle.std.proofs.lemmas.Bool.{cond-true, cond-false}
-use Rattle.cm_strace_parts.specs.Lists.{Fd, Files, of_process, descriptors_in, is_fd, fd_before, is_files, files_before}
+use Rattle.cm_strace_parts.specs.Lists.{Fd, FdList, of_process, descriptors_in, is_fd, fd_before, is_files, files_before}
 use Rattle.cm_strace_parts.specs.Lists.{fds_of}
 use Rattle.cm_strace_parts.specs.Order.{AllSay, Ascends, is_at}
 use Rattle.cm_strace_parts.proofs.Among.{all_append, all_changed, filter_among, filter_only, filter_changed, find_past}
@@ -19,7 +19,7 @@ use Rattle.model_strace.specs.Parts.{put, put_all}
 -- ---- where they stand
 -- How the descriptors of a process stand: after those of lower pids, and before those of higher ones. Other ones of the
 -- process stand in their place.
-pub record Stand (pid : ℕ) (fs : List Files) : Type 0 where
+pub record Stand (pid : ℕ) (fs : List FdList) : Type 0 where
   pub front : List Descriptor
   pub back : List Descriptor
   pub lower : AllSay (λ d. nat_lt d.pid pid) true front
@@ -28,18 +28,18 @@ pub record Stand (pid : ℕ) (fs : List Files) : Type 0 where
   pub changed : (ys : List Fd) → descriptors_in (put files_before (record { pid = pid; fds = ys }) fs)
       ≡ front ++ (map (of_process pid) ys ++ back)
 
-higher_in : (pid : ℕ) (fs : List Files) → AllSay (λ f. nat_lt pid f.pid) true fs
+higher_in : (pid : ℕ) (fs : List FdList) → AllSay (λ f. nat_lt pid f.pid) true fs
     → AllSay (λ d. nat_lt pid d.pid) true (descriptors_in fs)
 higher_in pid [] all = tt
 higher_in pid (f ∷ fs) all = all_append (λ d. nat_lt pid d.pid) true (map (of_process f.pid) f.fds) (descriptors_in fs)
     (all_changed (λ d. nat_lt pid d.pid) true (of_process f.pid) f.fds (λ fd. all.0)) (higher_in pid fs all.1)
 
 -- a process without a list has no descriptors
-pub none_of : (pid : ℕ) (fs : List Files) → AllSay (is_files pid) false fs → fds_of pid fs ≡ []
+pub none_of : (pid : ℕ) (fs : List FdList) → AllSay (is_files pid) false fs → fds_of pid fs ≡ []
 none_of pid [] none = refl
 none_of pid (f ∷ fs) none = cond-false (is_files pid f) f.fds (fds_of pid fs) none.0 ∙ none_of pid fs none.1
 
-stand_first : (pid : ℕ) (f : Files) (fs : List Files) → nat_lt pid f.pid ≡ true → AllSay (files_before f) true fs
+stand_first : (pid : ℕ) (f : FdList) (fs : List FdList) → nat_lt pid f.pid ≡ true → AllSay (files_before f) true fs
     → Stand pid (f ∷ fs)
 stand_first pid f fs first later =
     let above : AllSay (λ g. nat_lt pid g.pid) true (f ∷ fs) = (
@@ -57,7 +57,7 @@ stand_first pid f fs first later =
       changed = λ ys. ap descriptors_in (cond-true (nat_lt pid f.pid) _ _ first);
     }
 
-stand_later : (pid : ℕ) (f : Files) (fs : List Files) → nat_lt f.pid pid ≡ true → Stand pid fs → Stand pid (f ∷ fs)
+stand_later : (pid : ℕ) (f : FdList) (fs : List FdList) → nat_lt f.pid pid ≡ true → Stand pid fs → Stand pid (f ∷ fs)
 stand_later pid f fs lower rest =
     let own : List Descriptor = map (of_process f.pid) f.fds in
     let apart : is_files pid f ≡ false = grind (arith, lower) in
@@ -75,7 +75,7 @@ stand_later pid f fs lower rest =
           ∙ ap (λ l. own ++ l) (rest.changed ys) ∙ sym (append_assoc own rest.front _);
     }
 
-stand_here : (pid : ℕ) (f : Files) (fs : List Files) → nat_lt pid f.pid ≡ false → nat_lt f.pid pid ≡ false
+stand_here : (pid : ℕ) (f : FdList) (fs : List FdList) → nat_lt pid f.pid ≡ false → nat_lt f.pid pid ≡ false
     → AllSay (files_before f) true fs → Stand pid (f ∷ fs)
 stand_here pid f fs later lower after =
     let same : f.pid ≡ pid = grind (arith, later, lower) in
@@ -93,7 +93,7 @@ stand_here pid f fs later lower after =
     }
 
 -- the descriptors of each process stand so
-pub stand : (pid : ℕ) (fs : List Files) → Ascends files_before fs → Stand pid fs
+pub stand : (pid : ℕ) (fs : List FdList) → Ascends files_before fs → Stand pid fs
 stand pid [] up = record {
   front = [];
   back = [];
@@ -113,7 +113,7 @@ stand pid (f ∷ fs) up =
 
 -- ---- what is known of a process's
 -- the descriptor of a number
-pub found_in : (pid number : ℕ) (fs : List Files) → Ascends files_before fs
+pub found_in : (pid number : ℕ) (fs : List FdList) → Ascends files_before fs
     → find (is_descriptor pid number) (descriptors_in fs) ≡ option_map (of_process pid) (find (is_fd number)
     (fds_of pid fs))
 found_in pid number fs up =
@@ -132,7 +132,7 @@ any_own pid [] back none = any_none (is_of pid) back none
 any_own pid (fd ∷ fds) back none = grind arith
 
 -- whether there is one
-pub any_in : (pid : ℕ) (fs : List Files) → Ascends files_before fs
+pub any_in : (pid : ℕ) (fs : List FdList) → Ascends files_before fs
     → list_any (is_of pid) (descriptors_in fs) ≡ not (length (fds_of pid fs) == 0)
 any_in pid fs up =
     let s = stand pid fs up in
@@ -143,7 +143,7 @@ any_in pid fs up =
     (all_along (λ d. nat_lt pid d.pid) (is_of pid) true false s.back (λ d h. grind (arith, h)) s.higher)
 
 -- all of them
-pub own_in : (pid : ℕ) (fs : List Files) → Ascends files_before fs
+pub own_in : (pid : ℕ) (fs : List FdList) → Ascends files_before fs
     → filter (is_of pid) (descriptors_in fs) ≡ map (of_process pid) (fds_of pid fs)
 own_in pid fs up =
     let s = stand pid fs up in
@@ -155,7 +155,7 @@ own_in pid fs up =
 
 -- ---- changes
 -- what is left of all descriptors, where those of other processes are
-pub left_in : (pid : ℕ) (keeps : Fd → Bool) (left : Descriptor → Bool) (fs : List Files) → Ascends files_before fs
+pub left_in : (pid : ℕ) (keeps : Fd → Bool) (left : Descriptor → Bool) (fs : List FdList) → Ascends files_before fs
     → ((fd : Fd) → left (of_process pid fd) ≡ keeps fd)
     → ((d : Descriptor) → is_of pid d ≡ false → left d ≡ true)
     → descriptors_in (put files_before (record { pid = pid; fds = filter keeps (fds_of pid fs) }) fs)
@@ -170,7 +170,7 @@ left_in pid keeps left fs up own others =
     ∙ ap (filter left) (sym s.whole)
 
 -- and where the process has none
-pub none_left_in : (pid : ℕ) (left : Descriptor → Bool) (fs : List Files) → Ascends files_before fs
+pub none_left_in : (pid : ℕ) (left : Descriptor → Bool) (fs : List FdList) → Ascends files_before fs
     → fds_of pid fs ≡ [] → ((d : Descriptor) → is_of pid d ≡ false → left d ≡ true)
     → descriptors_in fs ≡ filter left (descriptors_in fs)
 none_left_in pid left fs up none others =
@@ -184,7 +184,7 @@ none_left_in pid left fs up none others =
     ∙ ap (filter left) (sym whole)
 
 -- one is put in its place
-pub put_in : (pid : ℕ) (new : Fd) (fs : List Files) → Ascends files_before fs
+pub put_in : (pid : ℕ) (new : Fd) (fs : List FdList) → Ascends files_before fs
     → descriptors_in (put files_before (record { pid = pid; fds = put fd_before new (fds_of pid fs) }) fs)
     ≡ put descriptor_before (of_process pid new) (descriptors_in fs)
 put_in pid new fs up =
@@ -200,7 +200,7 @@ put_in pid new fs up =
     ∙ ap (put descriptor_before d) (sym s.whole)
 
 -- copies are put in their places
-pub put_all_in : (pid : ℕ) (news : List Fd) (fs : List Files) → Ascends files_before fs
+pub put_all_in : (pid : ℕ) (news : List Fd) (fs : List FdList) → Ascends files_before fs
     → descriptors_in (put files_before (record { pid = pid; fds = put_all fd_before news (fds_of pid fs) }) fs)
     ≡ put_all descriptor_before (map (of_process pid) news) (descriptors_in fs)
 put_all_in pid news fs up =
@@ -223,13 +223,13 @@ copied parent child [] = refl
 copied parent child (fd ∷ fds) = ap (λ l. of_process child fd ∷ l) (copied parent child fds)
 
 -- the copies of a process's descriptors as its child's
-pub copies_in : (parent child : ℕ) (fs : List Files) → Ascends files_before fs
+pub copies_in : (parent child : ℕ) (fs : List FdList) → Ascends files_before fs
     → map (copied_to child) (filter (is_of parent) (descriptors_in fs)) ≡ map (of_process child) (fds_of parent fs)
 copies_in parent child fs up = ap (map (copied_to child)) (own_in parent fs up) ∙ copied parent child (fds_of parent fs)
 
 -- ---- the end of a process
 -- the lists of the others have all descriptors but the process's
-pub others_in : (pid : ℕ) (fs : List Files)
+pub others_in : (pid : ℕ) (fs : List FdList)
     → descriptors_in (filter (λ f. not (is_files pid f)) fs) ≡ filter (λ d. not (is_of pid d)) (descriptors_in fs)
 others_in pid [] = refl
 others_in pid (f ∷ fs) =
@@ -250,20 +250,20 @@ empty_adds pid [] ds empty = refl
 empty_adds pid (fd ∷ fds) ds empty = grind (arith, empty)
 
 -- a list without descriptors can go
-pub without_empty : (fs : List Files) (at : ℕ) → is_at (λ f. length f.fds == 0) fs at ≡ true
+pub without_empty : (fs : List FdList) (at : ℕ) → is_at (λ f. length f.fds == 0) fs at ≡ true
     → descriptors_in (remove fs at) ≡ descriptors_in fs
 without_empty [] at empty = absurd (cc)
 without_empty (f ∷ fs) zero empty = empty_adds f.pid f.fds (descriptors_in fs) empty
 without_empty (f ∷ fs) (suc at) empty = ap (λ l. map (of_process f.pid) f.fds ++ l) (without_empty fs at empty)
 
 -- ---- how many there are
-in_both : (fs gs : List Files) → descriptors_in (fs ++ gs) ≡ descriptors_in fs ++ descriptors_in gs
+in_both : (fs gs : List FdList) → descriptors_in (fs ++ gs) ≡ descriptors_in fs ++ descriptors_in gs
 in_both [] gs = refl
 in_both (f ∷ fs) gs = ap (λ l. map (of_process f.pid) f.fds ++ l) (in_both fs gs)
     ∙ sym (append_assoc (map (of_process f.pid) f.fds) (descriptors_in fs) (descriptors_in gs))
 
 -- those of one process more
-pub count_more : (fs : List Files) (at : ℕ) (f : Files) → at < length fs → f ≡ get_or fs at f
+pub count_more : (fs : List FdList) (at : ℕ) (f : FdList) → at < length fs → f ≡ get_or fs at f
     → length (descriptors_in (take (at + 1) fs)) ≡ length (descriptors_in (take at fs)) + length f.fds
 count_more fs at f within is =
     let more : take (at + 1) fs ≡ take at fs ++ f ∷ [] =

@@ -1,7 +1,7 @@
 -- The orders of processes, descriptors and their lists, and the places in them.
 use Rattle.std.proofs.Common.{◌≡◌, ℕ, Bool, true, false, List, [], ◌∷◌, map, slice_set, arith}
 use Rattle.std.specs.List.{insert}
-use Rattle.cm_strace_parts.specs.Lists.{Fd, Files, fd_before, is_files, files_before, files_below}
+use Rattle.cm_strace_parts.specs.Lists.{Fd, FdList, fd_before, is_files, files_before, files_below}
 use Rattle.cm_strace_parts.specs.Order.{AllSay, Ascends, IsCut, is_at, IsOrder, HasPlace, IsPlaceOf}
 use Rattle.cm_strace_parts.specs.Order.{before_by, below_by, has_number}
 use Rattle.cm_strace_parts.proofs.Order.{all_along, put_instead, put_between, put_ascends}
@@ -93,11 +93,11 @@ pub fd_apart : (x y : Fd) → fd_before x y ≡ true → fd_before y x ≡ false
 fd_apart x y h = grind (arith, h)
 
 pub files_order : IsOrder files_before
-files_order = by_order (λ (f : Files). f.pid)
+files_order = by_order (λ (f : FdList). f.pid)
 
 pub files_place : (pid : ℕ) → HasPlace files_before (files_below pid) (is_files pid)
-files_place = by_place (λ (f : Files). f.pid)
+files_place = by_place (λ (f : FdList). f.pid)
 
-pub files_place_of : (new : Files) (pid : ℕ) → pid ≡ new.pid
+pub files_place_of : (new : FdList) (pid : ℕ) → pid ≡ new.pid
     → IsPlaceOf files_before (files_below pid) (is_files pid) new
-files_place_of = by_place_of (λ (f : Files). f.pid)
+files_place_of = by_place_of (λ (f : FdList). f.pid)

@@ -1,11 +1,11 @@
 -- The orders of what is known, and the count of descriptors.
 use Rattle.std.specs.Prelude.{◌≡◌, ℕ, length, List}
-use Rattle.cm_strace_parts.specs.Lists.{Files, ListsInOrder, descriptors_in}
+use Rattle.cm_strace_parts.specs.Lists.{FdList, ListsInOrder, descriptors_in}
 use Rattle.cm_strace_parts.specs.Order.{Ascends}
 use Rattle.model_strace.specs.Parts.{Task, Kept, task_before, kept_before}
 
 -- What is known stands in its orders, and so many descriptors are followed.
-pub record InOrder (ts : List Task) (ks : List Kept) (fs : List Files) (followed : ℕ) : Type 0 where
+pub record InOrder (ts : List Task) (ks : List Kept) (fs : List FdList) (followed : ℕ) : Type 0 where
   pub tasks : Ascends task_before ts
   pub kept : Ascends kept_before ks
   pub files : ListsInOrder fs

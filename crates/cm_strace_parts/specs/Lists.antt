@@ -13,7 +13,7 @@ pub record Fd : Type 0 where
   pub until_exec : Bool
 
 -- The descriptors of the process of that pid.
-pub record Files : Type 0 where
+pub record FdList : Type 0 where
   pub pid : ℕ
   pub fds : List Fd
 
@@ -33,7 +33,7 @@ abbrev pub fd_of : Descriptor → Fd
 fd_of d = record { number = d.number; file = d.file; space = d.space; until_exec = d.until_exec }
 
 -- the descriptors of all processes
-abbrev pub descriptors_in : List Files → List Descriptor
+abbrev pub descriptors_in : List FdList → List Descriptor
 descriptors_in [] = []
 descriptors_in (f ∷ fs) = map (of_process f.pid) f.fds ++ descriptors_in fs
 
@@ -47,28 +47,28 @@ abbrev pub fd_before : Fd → Fd → Bool
 fd_before fd other = nat_lt fd.number other.number
 
 -- they are those of that process
-abbrev pub is_files : ℕ → Files → Bool
+abbrev pub is_files : ℕ → FdList → Bool
 is_files pid f = f.pid == pid
 
 -- the process comes before the other one
-abbrev pub files_before : Files → Files → Bool
+abbrev pub files_before : FdList → FdList → Bool
 files_before f other = nat_lt f.pid other.pid
 
 -- the process has a lower pid
-abbrev pub files_below : ℕ → Files → Bool
+abbrev pub files_below : ℕ → FdList → Bool
 files_below pid f = nat_lt f.pid pid
 
 -- the descriptors of that process
-abbrev pub fds_of : ℕ → List Files → List Fd
+abbrev pub fds_of : ℕ → List FdList → List Fd
 fds_of pid [] = []
 fds_of pid (f ∷ fs) = if is_files pid f then f.fds else fds_of pid fs
 
 -- the descriptors of each process ascend
-abbrev pub EachAscends : List Files → Type 0
+abbrev pub EachAscends : List FdList → Type 0
 EachAscends [] = Unit {0}
 EachAscends (f ∷ fs) = Ascends fd_before f.fds × EachAscends fs
 
 -- The lists stand in their orders.
-pub record ListsInOrder (fs : List Files) : Type 0 where
+pub record ListsInOrder (fs : List FdList) : Type 0 where
   pub processes : Ascends files_before fs
   pub each : EachAscends fs

@@ -21,17 +21,17 @@ use std::rc::Rc;
 
 /// The descriptors of a process, and how many there are.
 #[derive(Debug, Drop)]
-pub struct Files {
+pub struct FdList {
     pid: Pid,
     len: usize,
     fds: Rc<Vec<Fd>>,
 }
 
-impl Model for Files {
+impl Model for FdList {
     ghost use Rattle.std.specs.Prelude.{◌≡◌, length};
     ghost use Rattle.cm_strace_parts.specs.Lists as lists;
 
-    ghost Value = { lists.Files };
+    ghost Value = { lists.FdList };
 
     ghost view = { λ f. record { pid = f.pid; fds = f.fds.value.items } };
 
@@ -40,31 +40,31 @@ impl Model for Files {
 
 // ---- those of a process
 
-impl Files {
+impl FdList {
     // One descriptor of a process. It fails only where memory runs out.
-    fn one(alloc: Global, pid: Pid, new: Fd) -> Result<Files, NoMemory>
+    fn one(alloc: Global, pid: Pid, new: Fd) -> Result<FdList, NoMemory>
         ensures { OrNoMemory result (λ f. f ≡ record { pid = pid; fds = new ∷ [] }) }
     {
         let mut list = Vec::new(alloc);
         list.push(new)?;
         let fds = Rc::new(alloc, list)?;
-        Ok(Files::of(pid, fds))
+        Ok(FdList::of(pid, fds))
     }
 
     // That list of a process.
-    fn of(pid: Pid, fds: Rc<Vec<Fd>>) -> Files
+    fn of(pid: Pid, fds: Rc<Vec<Fd>>) -> FdList
         ensures { result ≡ record { pid = pid; fds = fds.value.items } }
     {
         let len = fd::count(&fds);
-        Files { pid, len, fds }
+        FdList { pid, len, fds }
     }
 
     // The same, with the same list. It fails only where memory runs out.
-    fn copy(&self) -> Result<Files, NoMemory>
+    fn copy(&self) -> Result<FdList, NoMemory>
         ensures { OrNoMemory result (λ f. f ≡ self.now) }
     {
         let fds = self.fds.clone()?;
-        Ok(Files {
+        Ok(FdList {
             pid: self.pid,
             len: self.len,
             fds,
@@ -177,7 +177,7 @@ impl Files {
     }
 }
 
-impl Numbered for Files {
+impl Numbered for FdList {
     ghost number = { λ files. files.pid };
 
     fn number(&self) -> u64 {
@@ -188,7 +188,7 @@ impl Numbered for Files {
 // ---- those of all processes
 
 // The same, with the same lists. It fails only where memory runs out.
-pub(crate) fn copy_list(alloc: Global, list: &[Files]) -> Result<Vec<Files>, NoMemory>
+pub(crate) fn copy_list(alloc: Global, list: &[FdList]) -> Result<Vec<FdList>, NoMemory>
     ensures { OrNoMemory result (λ made. made.items ≡ list.now) }
 {
     let mut made = Vec::with_capacity(alloc, list.len())?;
@@ -200,7 +200,7 @@ pub(crate) fn copy_list(alloc: Global, list: &[Files]) -> Result<Vec<Files>, NoM
 }
 
 // The descriptors of a process, where it has a list.
-fn of_process(list: &[Files], pid: Pid) -> Option<&Files>
+fn of_process(list: &[FdList], pid: Pid) -> Option<&FdList>
     requires { Ascends files_before list.now }
     ensures some { IfSome result (λ f. f.now.fds ≡ fds_of pid list.now) }
     ensures none { IfNone result (fds_of pid list.now ≡ []) }
@@ -212,7 +212,7 @@ fn of_process(list: &[Files], pid: Pid) -> Option<&Files>
 }
 
 // The descriptor of that number of a process, where it is followed, without the process.
-fn fd_of(list: &[Files], pid: Pid, number: u64) -> Option<&Fd>
+fn fd_of(list: &[FdList], pid: Pid, number: u64) -> Option<&Fd>
     requires { ListsInOrder list.now }
     ensures { option_map (λ fd. fd.now) result ≡ find (is_fd number) (fds_of pid list.now) }
 {
@@ -223,7 +223,7 @@ fn fd_of(list: &[Files], pid: Pid, number: u64) -> Option<&Fd>
 }
 
 // The descriptor of that number of a process, where it is followed.
-pub(crate) fn descriptor_of(list: &[Files], pid: Pid, number: u64) -> Option<Descriptor>
+pub(crate) fn descriptor_of(list: &[FdList], pid: Pid, number: u64) -> Option<Descriptor>
     requires { ListsInOrder list.now }
     ensures { result ≡ find (is_descriptor pid number) (descriptors_in list.now) }
 {
@@ -234,7 +234,7 @@ pub(crate) fn descriptor_of(list: &[Files], pid: Pid, number: u64) -> Option<Des
 }
 
 // A descriptor of the process is followed.
-pub(crate) fn has_any(list: &[Files], pid: Pid) -> bool
+pub(crate) fn has_any(list: &[FdList], pid: Pid) -> bool
     requires { ListsInOrder list.now }
     ensures { result ≡ list_any (is_of pid) (descriptors_in list.now) }
 {
@@ -245,7 +245,7 @@ pub(crate) fn has_any(list: &[Files], pid: Pid) -> bool
 }
 
 // How many descriptors are followed, summed up.
-fn count(list: &[Files]) -> u128
+fn count(list: &[FdList]) -> u128
     ensures { result ≡ length (descriptors_in list.now) }
 {
     let mut sum = 0;
@@ -256,7 +256,7 @@ fn count(list: &[Files]) -> u128
 }
 
 // How many descriptors of the process are followed.
-pub(crate) fn count_of(list: &[Files], pid: Pid) -> u128
+pub(crate) fn count_of(list: &[FdList], pid: Pid) -> u128
     requires { ListsInOrder list.now }
     ensures { result ≡ length (filter (is_of pid) (descriptors_in list.now)) }
 {
@@ -268,7 +268,7 @@ pub(crate) fn count_of(list: &[Files], pid: Pid) -> u128
 
 // How many descriptors are followed, where those of one process alone have changed, of so many in all and of its own
 // before. A sum that passes its type's end is made anew.
-pub(crate) fn count_after(list: &[Files], pid: Pid, all: u128, own: u128) -> u128
+pub(crate) fn count_after(list: &[FdList], pid: Pid, all: u128, own: u128) -> u128
     requires ordered { ListsInOrder list.now }
     requires changed { length (descriptors_in list.now) + own ≡ all + length (filter (is_of pid) (descriptors_in list.now)) }
     ensures { result ≡ length (descriptors_in list.now) }
@@ -281,7 +281,11 @@ pub(crate) fn count_after(list: &[Files], pid: Pid, all: u128, own: u128) -> u12
 
 // The descriptor is followed, in the place of any of its number. It fails only where memory runs out, and then leaves
 // all as it was.
-pub(crate) fn follow(list: &mut Vec<Files>, alloc: Global, new: &Descriptor) -> Result<(), NoMemory>
+pub(crate) fn follow(
+    list: &mut Vec<FdList>,
+    alloc: Global,
+    new: &Descriptor,
+) -> Result<(), NoMemory>
     requires { ListsInOrder list.old.items }
     ensures items { OrNoMemory result (λ _. descriptors_in list.new.items
         ≡ put descriptor_before new.now (descriptors_in list.old.items)) }
@@ -294,7 +298,7 @@ pub(crate) fn follow(list: &mut Vec<Files>, alloc: Global, new: &Descriptor) -> 
 
 // The descriptor in its place among those of the process. It fails only where memory runs out, and then leaves all as
 // it was.
-fn put_fd(list: &mut Vec<Files>, alloc: Global, pid: Pid, new: Fd) -> Result<(), NoMemory>
+fn put_fd(list: &mut Vec<FdList>, alloc: Global, pid: Pid, new: Fd) -> Result<(), NoMemory>
     requires { ListsInOrder list.old.items }
     ensures items { OrNoMemory result (λ _. list.new.items ≡ put files_before
         (record { pid = pid; fds = put fd_before new (fds_of pid list.old.items) }) list.old.items) }
@@ -304,7 +308,7 @@ fn put_fd(list: &mut Vec<Files>, alloc: Global, pid: Pid, new: Fd) -> Result<(),
     if ordered::is_at(list, at, pid) {
         list[at].put(alloc, new)?;
     } else {
-        let files = Files::one(alloc, pid, new)?;
+        let files = FdList::one(alloc, pid, new)?;
         list.insert(at, files)?;
     }
     Ok(())
@@ -312,7 +316,7 @@ fn put_fd(list: &mut Vec<Files>, alloc: Global, pid: Pid, new: Fd) -> Result<(),
 
 // A child has copies of its parent's descriptors. It fails only where memory runs out, and then leaves all as it was.
 pub(crate) fn bear(
-    list: &mut Vec<Files>,
+    list: &mut Vec<FdList>,
     alloc: Global,
     parent: Pid,
     child: Pid,
@@ -336,7 +340,7 @@ pub(crate) fn bear(
 
 // The same, unless the child shares them.
 pub(crate) fn bear_unless(
-    list: &mut Vec<Files>,
+    list: &mut Vec<FdList>,
     alloc: Global,
     parent: Pid,
     child: Pid,
@@ -359,7 +363,7 @@ pub(crate) fn bear_unless(
 // Copies of descriptors in their places among those of the process. It fails only where memory runs out, and then
 // leaves all as it was.
 fn put_fds(
-    list: &mut Vec<Files>,
+    list: &mut Vec<FdList>,
     alloc: Global,
     pid: Pid,
     news: Rc<Vec<Fd>>,
@@ -374,14 +378,14 @@ fn put_fds(
     if ordered::is_at(list, at, pid) {
         list[at].put_all(alloc, news)?;
     } else {
-        list.insert(at, Files::of(pid, news))?;
+        list.insert(at, FdList::of(pid, news))?;
     }
     Ok(())
 }
 
 // That descriptor isn't followed any more. It fails only where memory runs out, and then leaves all as it was.
 pub(crate) fn forget(
-    list: &mut Vec<Files>,
+    list: &mut Vec<FdList>,
     alloc: Global,
     pid: Pid,
     number: u64,
@@ -401,7 +405,7 @@ pub(crate) fn forget(
 }
 
 // What an execve of the process leaves. It fails only where memory runs out, and then leaves all as it was.
-pub(crate) fn execute(list: &mut Vec<Files>, alloc: Global, pid: Pid) -> Result<(), NoMemory>
+pub(crate) fn execute(list: &mut Vec<FdList>, alloc: Global, pid: Pid) -> Result<(), NoMemory>
     requires { ListsInOrder list.old.items }
     ensures items { OrNoMemory result (λ _. descriptors_in list.new.items
         ≡ filter (λ d. not (is_closed_at_exec pid d)) (descriptors_in list.old.items)) }
@@ -417,7 +421,7 @@ pub(crate) fn execute(list: &mut Vec<Files>, alloc: Global, pid: Pid) -> Result<
 }
 
 // There are no descriptors in the list at the place.
-fn is_empty_at(list: &[Files], at: usize) -> bool
+fn is_empty_at(list: &[FdList], at: usize) -> bool
     ensures { result ≡ is_at (λ f. length f.fds == 0) list.now at }
 {
     match list.get(at) {
@@ -427,7 +431,7 @@ fn is_empty_at(list: &[Files], at: usize) -> bool
 }
 
 // The list at the place goes if it has no descriptors.
-fn drop_empty(list: &mut Vec<Files>, at: usize)
+fn drop_empty(list: &mut Vec<FdList>, at: usize)
     requires { ListsInOrder list.old.items }
     ensures items { descriptors_in list.new.items ≡ descriptors_in list.old.items }
     ensures ordered { ListsInOrder list.new.items }
@@ -438,7 +442,7 @@ fn drop_empty(list: &mut Vec<Files>, at: usize)
 }
 
 // None of the process is followed any more.
-pub(crate) fn remove(list: &mut Vec<Files>, pid: Pid)
+pub(crate) fn remove(list: &mut Vec<FdList>, pid: Pid)
     requires { ListsInOrder list.old.items }
     ensures items { descriptors_in list.new.items ≡ filter (λ d. not (is_of pid d)) (descriptors_in list.old.items) }
     ensures ordered { ListsInOrder list.new.items }

@@ -9,7 +9,7 @@ ghost use Rattle.model_strace.specs.Parts.{descriptor_of, has_descriptor, withou
 ghost use Rattle.model_strace.specs.Parts.{after_exec, after_birth, after_user_birth, after_end};
 
 use crate::descriptor::Descriptor;
-use crate::files::Files;
+use crate::files::FdList;
 use crate::kept::Kept;
 use crate::task::Task;
 use crate::{files, kept, ordered, task};
@@ -24,7 +24,7 @@ use std::marker::Model;
 pub struct Parts {
     tasks: Vec<Task>,
     kept: Vec<Kept>,
-    files: Vec<Files>,
+    files: Vec<FdList>,
     // How many descriptors there are in the lists.
     followed: u128,
     spaces: u32,

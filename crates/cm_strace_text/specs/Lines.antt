@@ -1,12 +1,12 @@
 -- The code's rows, bodies and parts of calls as those of the definitions.
 use Rattle.cm_strace_text.specs.declared.body.Body.{Body}
 use Rattle.cm_strace_text.specs.declared.body.Body.TheVariants as code
-use Rattle.cm_strace_text.specs.declared.row.Row.{Row}
-use Rattle.cm_strace_text.specs.declared.row.Row.TheVariants as row
+use Rattle.cm_strace_text.specs.declared.row.PidLine.{PidLine}
+use Rattle.cm_strace_text.specs.declared.row.PidLine.TheVariants as row
 use Rattle.model_strace.specs.Body as model
 
 -- the row of the definitions
-abbrev pub row_is : Row → model.Row
+abbrev pub row_is : PidLine → model.PidLine
 row_is row.Blank = model.Blank
 row_is row.NoPid = model.NoPid
 row_is (row.Of pid body) = model.Of pid body.now

@@ -20,5 +20,5 @@ pub use marks::{after_mark, before_mark, cut_at};
 pub use members::{bracketed, bracketed_whole, value_of};
 pub use names::{call_name, cut_name, ends_name, without_32};
 pub use quoted::{Quote, read_quote};
-pub use row::{Row, read_row};
+pub use row::{PidLine, read_row};
 pub use written::{Written, read_written};

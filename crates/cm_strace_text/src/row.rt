@@ -11,7 +11,7 @@ use cm_tokens::read_pid;
 
 /// What a line is.
 #[derive(Clone, Copy, Debug)]
-pub enum Row<'a> {
+pub enum PidLine<'a> {
     /// A line of blanks alone.
     Blank,
     /// One that doesn't begin with a pid.
@@ -21,29 +21,29 @@ pub enum Row<'a> {
 }
 
 /// What a line is: its pid stands before the first blank, and nothing before the pid.
-pub fn read_row(line: &[u8]) -> Row<'_>
+pub fn read_row(line: &[u8]) -> PidLine<'_>
     ensures { row_is result ≡ row_of line.now }
 {
     cut_row(without_end(line))
 }
 
 // The same of a line without blanks at its end.
-fn cut_row(text: &[u8]) -> Row<'_>
+fn cut_row(text: &[u8]) -> PidLine<'_>
     ensures { row_is result ≡ row_cut text.now }
 {
     match text {
-        [] => Row::Blank,
+        [] => PidLine::Blank,
         [_, ..] => begun_row(text),
     }
 }
 
 // The same of a line that isn't empty.
-fn begun_row(text: &[u8]) -> Row<'_>
+fn begun_row(text: &[u8]) -> PidLine<'_>
     ensures { row_is result ≡ pid_row (pid_token (first_word text.now)) (after_first_word text.now) }
 {
     let (word, body) = cut_word(text);
     match read_pid(word) {
-        Some(pid) => Row::Of(pid, body),
-        None => Row::NoPid,
+        Some(pid) => PidLine::Of(pid, body),
+        None => PidLine::NoPid,
     }
 }

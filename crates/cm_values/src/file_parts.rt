@@ -1,6 +1,6 @@
 // The parts of a file's row: its mode (chmod(1)), its attribute security.capability (capabilities(7), "File
 // capabilities"), and its interpreter (execve(2), "Interpreter scripts").
-ghost use Rattle.std.specs.Prelude.{◌≡◌, ◌<◌, ◌^◌, ℕ, Vec, bytes_eq, codes, true, length, slice_get};
+ghost use Rattle.std.specs.Prelude.{◌≡◌, ◌<◌, ℕ, Vec, codes, true, length, slice_get};
 ghost use Rattle.std.specs.Prelude.{◌≢◌, Err, Some, IfErr, IfOk, IfSome, is_none, is_some, option_map};
 ghost use Rattle.std.specs.Result.{result_ok};
 ghost use Rattle.cm_base.specs.Outcome.{OrNoMemory};
@@ -18,7 +18,7 @@ ghost use Rattle.toml.specs.View.{table_view};
 
 use crate::{RowError, text_at};
 use cm_base::{NoMemory, WorldFault, read_octal};
-use cm_files::FileRow;
+use cm_files::{FileRow, FileRows};
 use cm_vfscap::{FileCaps, read};
 use hex::{FromHexError, decode};
 use std::alloc::Global;
@@ -89,8 +89,7 @@ fn caps_of_bytes(bytes: &[u8]) -> Option<FileCaps>
 
 /// The interpreter that a row names, where it names one. NoInterpreter where that is no earlier file without one. It takes
 /// no memory.
-pub fn interpreter_of_row(rows: &[FileRow], row: &Table) -> Result<Option<u32>, RowError>
-    requires { length rows.now < 2 ^ 32 }
+pub fn interpreter_of_row(rows: &FileRows, row: &Table) -> Result<Option<u32>, RowError>
     ensures named { IfOk result
         (λ n. model.interpreter_of rows.now (text_of (get_member (codes "interpreter") (table_view row.now))) ≡ Some n) }
     ensures fits { IfOk result (λ n. fits_interpreter rows.now n ≡ true) }
@@ -107,15 +106,14 @@ pub fn interpreter_of_row(rows: &[FileRow], row: &Table) -> Result<Option<u32>, 
     }
 }
 
-/// The place of the file of that path, where that has no interpreter itself.
-fn program_at(rows: &[FileRow], path: &[u8]) -> Option<u32>
-    requires { length rows.now < 2 ^ 32 }
+/// The number of the file of that path, where that has no interpreter itself.
+fn program_at(rows: &FileRows, path: &[u8]) -> Option<u32>
     ensures place { result ≡ model.program_at rows.now path.now }
     ensures program { IfSome result (λ n. model_is_program (slice_get rows.now n) ≡ true) }
 {
-    let n = place_of(rows, path)?;
-    if is_program(rows, n) {
-        Some(n as u32)
+    let n = rows.find(path)?;
+    if is_program(rows.items(), n as usize) {
+        Some(n)
     } else {
         None
     }
@@ -132,41 +130,9 @@ fn is_program(rows: &[FileRow], n: usize) -> bool
 }
 
 /// One of the rows has that path.
-pub fn has_path(rows: &[FileRow], path: &[u8]) -> bool
+pub fn has_path(rows: &FileRows, path: &[u8]) -> bool
     ensures named { result ≡ is_some (row_named rows.now path.now) }
     ensures path { result ≡ model_has_path path.now rows.now }
 {
-    match place_of(rows, path) {
-        Some(_) => true,
-        None => false,
-    }
-}
-
-/// The place of the first of the rows of that path.
-fn place_of(rows: &[FileRow], path: &[u8]) -> Option<usize>
-    ensures first { result ≡ row_named rows.now path.now }
-    ensures within { IfSome result (λ n. n < length rows.now) }
-{
-    rows.iter().position(|row| is_at(row, path))
-}
-
-/// The row has that path.
-fn is_at(row: &FileRow, path: &[u8]) -> bool
-    ensures { result ≡ bytes_eq row.now.path path.now }
-{
-    are_same(row.path.items(), path)
-}
-
-/// The two paths are the same. Their last bytes are looked at before the others: in a folder, paths mostly begin alike.
-fn are_same(path: &[u8], other: &[u8]) -> bool
-    ensures { result ≡ bytes_eq path.now other.now }
-{
-    let n = path.len();
-    if n != other.len() {
-        return false;
-    }
-    if n > 0 && path[n - 1] != other[n - 1] {
-        return false;
-    }
-    path == other
+    rows.find(path).is_some()
 }

@@ -18,32 +18,14 @@ use crate::WorldError;
 use crate::error::in_row;
 use crate::mounts::Mounts;
 use cm_base::{Kgid, Kuid, Limited, NoMemory, Table as TableName, WorldFault};
-use cm_files::{BadFiles, FileRow, FileTable, Mount};
+use cm_files::{BadFiles, FileRow, FileRows, FileTable, Mount};
 use cm_tokens::is_path;
 use cm_values::{
     Key, Kind, LAST_ID, Need, RowError, caps_of_row, check_keys, has_path, interpreter_of_row,
     kept, mode_of_text, number_or, text_or,
 };
 use std::alloc::Global;
-use std::marker::Model;
 use toml::{Table, Value};
-
-/// The declared files, each named by its place, from 0 on.
-#[derive(Drop)]
-struct Files {
-    list: Vec<FileRow>,
-}
-
-impl Model for Files {
-    ghost use Rattle.std.specs.Prelude.{List, ◌<◌, ◌^◌, length};
-    ghost use Rattle.model_cred.specs.Files as model;
-
-    ghost Value = { List model.FileRow };
-
-    ghost view = { λ files. files.list.items };
-
-    ghost invariant = { λ files. length files.list.items < 2 ^ 32 };
-}
 
 static KEYS: [Key; 7] = [
     Key("path", Kind::Text, Need::Required),
@@ -76,36 +58,6 @@ fn file_keys() -> &'static [Key]
     &KEYS
 }
 
-impl Files {
-    /// No files.
-    fn none(alloc: Global) -> Files
-        ensures { result ≡ [] }
-    {
-        Files {
-            list: Vec::new(alloc),
-        }
-    }
-
-    /// One file more. It fails only where memory runs out.
-    fn with(self, made: FileRow) -> Result<Files, NoMemory>
-        requires { length self + 1 < 2 ^ 32 }
-        ensures { OrNoMemory result (λ files. files ≡ self ++ made ∷ []) }
-    {
-        let Files { mut list } = self;
-        list.push(made)?;
-        Ok(Files { list })
-    }
-
-    /// The same, as a list of its own.
-    fn into_rows(self) -> Vec<FileRow>
-        ensures rows { result.items ≡ self }
-        ensures few { length result.items < 2 ^ 32 }
-    {
-        let Files { list } = self;
-        list
-    }
-}
-
 /// The table of the declared mounts and of the files of the rows of a text, or the first refusal.
 pub(crate) fn read_files(
     alloc: Global,
@@ -116,7 +68,7 @@ pub(crate) fn read_files(
         (then_read (read_rows table.File limit.Files 0 (model.file_row mounts) [] (items_view rows.now)) (table_with mounts)) }
 {
     match files_of_rows(alloc, &mounts, rows) {
-        Ok(files) => Ok(table_of(alloc, mounts.into_vec(), files.into_rows())?),
+        Ok(files) => Ok(table_of(alloc, mounts.into_vec(), files.into_vec())?),
         Err(e) => Err(e),
     }
 }
@@ -147,7 +99,7 @@ fn no_fault(e: BadFiles) -> NoMemory
 }
 
 /// The files of the rows of a text, or the first refusal.
-fn files_of_rows(alloc: Global, mounts: &Mounts, rows: &[Value]) -> Result<Files, WorldError>
+fn files_of_rows(alloc: Global, mounts: &Mounts, rows: &[Value]) -> Result<FileRows, WorldError>
     ensures answers { Answers result
         (read_rows table.File limit.Files 0 (model.file_row mounts.now) [] (items_view rows.now)) }
     ensures fine { IfOk result (λ files. first_fault (length mounts.now) [] files ≡ None) }
@@ -155,7 +107,7 @@ fn files_of_rows(alloc: Global, mounts: &Mounts, rows: &[Value]) -> Result<Files
     if rows.len() as u64 > Limited::Files.number() {
         return Err(WorldError::Limit(Limited::Files));
     }
-    let mut files = Files::none(alloc);
+    let mut files = FileRows::none(alloc);
     for (i, row) in rows.iter().enumerate() {
         match with_row(alloc, mounts, files, row) {
             Ok(more) => files = more,
@@ -166,7 +118,12 @@ fn files_of_rows(alloc: Global, mounts: &Mounts, rows: &[Value]) -> Result<Files
 }
 
 /// The files with that of one row more, which is a table.
-fn with_row(alloc: Global, mounts: &Mounts, files: Files, row: &Value) -> Result<Files, RowError>
+fn with_row(
+    alloc: Global,
+    mounts: &Mounts,
+    files: FileRows,
+    row: &Value,
+) -> Result<FileRows, RowError>
     requires few { length files < limit_number limit.Files }
     requires fine { first_fault (length mounts.now) [] files ≡ None }
     ensures gives { Gives result (row_of (model.file_row mounts.now files) (view row.now)) }
@@ -180,7 +137,12 @@ fn with_row(alloc: Global, mounts: &Mounts, files: Files, row: &Value) -> Result
 }
 
 /// The files with that of one row more.
-fn with_file(alloc: Global, mounts: &Mounts, files: Files, row: &Table) -> Result<Files, RowError>
+fn with_file(
+    alloc: Global,
+    mounts: &Mounts,
+    files: FileRows,
+    row: &Table,
+) -> Result<FileRows, RowError>
     requires few { length files < limit_number limit.Files }
     requires fine { first_fault (length mounts.now) [] files ≡ None }
     ensures gives { Gives result (model.file_row mounts.now files (table_view row.now)) }
@@ -194,7 +156,12 @@ fn with_file(alloc: Global, mounts: &Mounts, files: Files, row: &Table) -> Resul
 }
 
 /// The same, where the faults of the row's keys don't stand.
-fn with_own(alloc: Global, mounts: &Mounts, files: Files, row: &Table) -> Result<Files, RowError>
+fn with_own(
+    alloc: Global,
+    mounts: &Mounts,
+    files: FileRows,
+    row: &Table,
+) -> Result<FileRows, RowError>
     requires few { length files < limit_number limit.Files }
     requires fine { first_fault (length mounts.now) [] files ≡ None }
     ensures gives { Gives result (unless (first_standing (model.file_checks mounts.now files (table_view row.now)))
@@ -212,7 +179,7 @@ fn with_own(alloc: Global, mounts: &Mounts, files: Files, row: &Table) -> Result
 fn file_of_row(
     alloc: Global,
     mounts: &Mounts,
-    before: &Files,
+    before: &FileRows,
     row: &Table,
 ) -> Result<FileRow, RowError>
     ensures gives { Gives result (unless (first_standing (model.file_checks mounts.now before.now (table_view row.now)))
@@ -223,13 +190,13 @@ fn file_of_row(
     if !is_path(path.as_bytes()) {
         return Err(RowError::Fault(WorldFault::BadName));
     }
-    if has_path(&before.list, path.as_bytes()) {
+    if has_path(before, path.as_bytes()) {
         return Err(RowError::Fault(WorldFault::TwiceNamed));
     }
     let Some(mount) = mounts.named(text_or(row, "mount", "root").as_bytes()) else {
         return Err(RowError::Fault(WorldFault::NoSuchMount));
     };
-    let interpreter = interpreter_of_row(&before.list, row)?;
+    let interpreter = interpreter_of_row(before, row)?;
     let Some(mode) = mode_of_text(text_or(row, "mode", "").as_bytes()) else {
         return Err(RowError::Fault(WorldFault::BadMode));
     };

@@ -2,8 +2,8 @@ use Rattle.std.proofs.Common.{ap}
 use Rattle.model_cred.specs.Process.{State}
 use Rattle.model_box.specs.Row.{space_under}
 use Rattle.cm_box.specs.Places.{row_of}
-use Rattle.cm_box_rows.specs.declared.kind.Kind.TheVariants.{Users}
-use Rattle.cm_box_rows.specs.declared.kind.Kind.TheVariants as kinds
+use Rattle.cm_box_rows.specs.declared.kind.IdKind.TheVariants.{Users}
+use Rattle.cm_box_rows.specs.declared.kind.IdKind.TheVariants as kinds
 use Rattle.cm_box_rows.specs.Programs.{GivenByFile}
 use Rattle.cm_box_rows.specs.Rows.{RowHolds, RowsHold}
 use Rattle.cm_box_rows.proofs.GainedRows.{or_more}

@@ -3,8 +3,8 @@ use Rattle.model_cred.specs.Process.{State}
 use Rattle.model_box.specs.Closed.{CapByFile, CapByRoot}
 use Rattle.model_box.specs.Row.{space_under}
 use Rattle.cm_box.specs.Places.{row_of}
-use Rattle.cm_box_rows.specs.declared.kind.Kind.TheVariants.{Users}
-use Rattle.cm_box_rows.specs.declared.kind.Kind.TheVariants as kinds
+use Rattle.cm_box_rows.specs.declared.kind.IdKind.TheVariants.{Users}
+use Rattle.cm_box_rows.specs.declared.kind.IdKind.TheVariants as kinds
 use Rattle.cm_box_rows.specs.Rows.{RowsHold}
 use Rattle.cm_box.proofs.RowRules.{only_caps_held, by_file_told}
 use Rattle.cm_box.proofs.closedness.gains_held.Goals as goal

@@ -12,8 +12,8 @@ use Rattle.cm_world.proofs.files.read_files.Goals as goal
 pub returns-in_ok-table_of-in-Ok : goal.returns-in_ok-table_of-in-Ok
 returns-in_ok-table_of-in-Ok c =
     table_read c.args.mounts c.in-Ok.files (read_rows table.File limit.Files 0 (file_row c.args.mounts) [] (items_view c.args.rows.now))
-    c.into_vec.result.items c.into_rows.result.items c.in_ok-table_of-in-Ok.field-0
-    c.in-Ok.ensures.answers c.into_vec.ensures.mounts c.into_rows.ensures.rows c.in_ok-table_of-in-Ok.ensures
+    c.into_vec.result.items c.into_vec-in-Ok.result.items c.in_ok-table_of-in-Ok.field-0
+    c.in-Ok.ensures.answers c.into_vec.ensures.mounts c.into_vec-in-Ok.ensures.rows c.in_ok-table_of-in-Ok.ensures
 
 pub returns-in-Err : goal.returns-in-Err
 returns-in-Err c =

@@ -1,7 +1,7 @@
 use Rattle.std.proofs.Common.{◌≤◌, length, subst, sym}
-use Rattle.cm_log.proofs.Few.{strace_few}
 use Rattle.cm_log.proofs.log.Log.new.Goals as goal
 use Rattle.cm_declared.specs.World.{world_of}
+use Rattle.model_strace.proofs.Few.{strace_few}
 use Rattle.model_text.specs.Reading.{Reading}
 
 pub returns-in_ok-log-in-Strace-clause-few : goal.returns-in_ok-log-in-Strace-clause-few

@@ -5,10 +5,10 @@ use Rattle.cm_declared.specs.World.{world_of}
 use Rattle.model_strace.specs.Counts.{spaces_counted}
 use Rattle.model_strace.specs.Rest.{Session}
 
-pub returns-then-line-gt-LINE_LIMIT-clause-left : goal.returns-then-line-gt-LINE_LIMIT-clause-left
-returns-then-line-gt-LINE_LIMIT-clause-left c =
+pub returns-then-is_too_long-clause-left : goal.returns-then-is_too_long-clause-left
+returns-then-is_too_long-clause-left c =
     long_line_left (world_of c.args.w.now) c.args.self.now c.args.line.now c.args.after.now c.requires.none c.requires.reads
-    c.requires.room.open_session c.requires.line (omega (arith, c.if-line-gt-LINE_LIMIT.true))
+    c.requires.room.open_session c.requires.line (sym c.is_too_long.ensures ∙ c.if-is_too_long.true)
 
 pub returns-clause-left : goal.returns-clause-left
 returns-clause-left c =
@@ -17,12 +17,12 @@ returns-clause-left c =
       tracer = c.turn_waiting.new.self.tracer;
       rest = c.turn_waiting.new.self.rest;
       waiting = c.turn_waiting.new.self.waiting;
-      phase = c.phase_after-self.result;
+      stage = c.after-self.result;
     })
     c.args.line.now c.args.after.now c.feed_line.new.events.items c.in_ok-stop.stop
-    c.requires.none c.requires.reads c.requires.line (omega (arith, c.if-line-gt-LINE_LIMIT.false))
+    c.requires.none c.requires.reads c.requires.line (sym c.is_too_long.ensures ∙ c.if-is_too_long.false)
     (c.turn_waiting.ensures.tracer ∙ c.in_ok-stop.ensures.after) (ap (λ r. r.now) c.turn_waiting.ensures.rest)
-    c.turn_waiting.ensures.events c.phase_after-self.ensures
+    c.turn_waiting.ensures.events c.after-self.ensures
     c.in_ok-stop.ensures.given
 
 pub returns-clause-room : goal.returns-clause-room
@@ -32,11 +32,11 @@ returns-clause-room c =
       tracer = c.turn_waiting.new.self.tracer;
       rest = c.turn_waiting.new.self.rest;
       waiting = c.turn_waiting.new.self.waiting;
-      phase = c.phase_after-self.result;
+      stage = c.after-self.result;
     })
     c.args.line.now c.args.after.now c.feed_line.new.events.items c.in_ok-stop.stop
     c.requires.room c.requires.reads c.requires.shorter
-    (c.turn_waiting.ensures.tracer ∙ c.in_ok-stop.ensures.after) (ap (λ r. r.now) c.turn_waiting.ensures.rest) c.phase_after-self.ensures
+    (c.turn_waiting.ensures.tracer ∙ c.in_ok-stop.ensures.after) (ap (λ r. r.now) c.turn_waiting.ensures.rest) c.after-self.ensures
     c.in_ok-stop.ensures.given
     (subst (λ (t : Session). spaces_counted t ≤ spaces_counted c.args.self.now.tracer + 1) (sym c.turn_waiting.ensures.tracer)
     c.in_ok-stop.ensures.spaces)

@@ -17,5 +17,5 @@ returns-in_ok-stop-in-Going-clause-told c lines =
     ∙ lines_go_on w (Going t) line lines
     ∙ ap (λ a. answered_then a (rest w (after_line w (Going t) line) lines)) (sym c.in_ok-stop-in-Going.ensures.given)
     ∙ ap (λ s. answered_then fed (rest w s lines))
-    (sym (ap (λ s. session_is s c.feed_work.new.t) c.stage_after-self-inside.ensures ∙
+    (sym (ap (λ s. session_is s c.feed_work.new.t) c.after-self-inside.ensures ∙
     c.in_ok-stop-in-Going.ensures.after))

@@ -1,7 +1,7 @@
 use Rattle.std.proofs.Common.{rules}
 use Rattle.cm_strace_parts.specs.Lists.{fd_before}
 use Rattle.cm_strace_parts.specs.Order.{Ascends}
-use Rattle.cm_strace_parts.proofs.files.Files.put.Goals as goal
+use Rattle.cm_strace_parts.proofs.files.FdList.put.Goals as goal
 
 pub put-requires : goal.put-requires
 put-requires c = let up : Ascends fd_before c.in-Some.list.now.items = search rules in up
