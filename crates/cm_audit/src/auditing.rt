@@ -96,8 +96,8 @@ pub fn audit(
     Ok(v)
 }
 
-// The space that the right names, where it names one, stands.
-fn is_over_standing(spaces: &Spaces, right: &Right) -> bool
+/// The space that the right names, where it names one, stands. It takes no memory.
+pub fn is_over_standing(spaces: &Spaces, right: &Right) -> bool
     ensures yes { result ≡ true → IsOverStanding spaces.now (right_of right.now) }
     ensures no { result ≡ false → IsOverStanding spaces.now (right_of right.now) → ⊥ }
 {

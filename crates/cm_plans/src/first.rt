@@ -67,7 +67,7 @@ pub fn first_found(
     ensures { OrNoMemory result (λ found. found ≡ found_first w.now m.now.state members.now right.now) }
 {
     let st = &m.state;
-    match holder(st, members, right) {
+    match first_holder(st, members, right) {
         Some(pid) => Ok(Some(Found {
             run: Vec::new(alloc),
             holder: pid,
@@ -80,8 +80,8 @@ pub fn first_found(
     }
 }
 
-// The first member who holds the right.
-fn holder(st: &State, members: &[Pid], right: &Right) -> Option<Pid>
+/// The first of the members who holds the right; None where none does.
+pub fn first_holder(st: &State, members: &[Pid], right: &Right) -> Option<Pid>
     ensures { result ≡ model_holder st.now members.now (right_of right.now) }
 {
     for pid in members {

@@ -25,6 +25,6 @@ mod turn;
 mod walk;
 mod ways;
 
-pub use first::{Found, first_found, first_run};
+pub use first::{Found, first_found, first_holder, first_run};
 pub use listing::Plans;
 pub use starting::plans;

@@ -33,7 +33,8 @@ pub record Stands (w : World) (first : Replay) (whole : Reading) (begun : Outgoi
 pub record Goes_on (w : World) (from to : Replay) (e : Placed) (text text' : List ℕ) : Type 0 where
   pub turn : IsTurn w e turn.Goes (outcome w from.machine.state e.event) to.machine.state
   pub events : to.events ≡ from.events + 1
-  pub lines : text' ≡ text ++ text_of (event_lines w e (outcome w from.machine.state e.event))
+  pub shows : to.shows ≡ from.shows
+  pub lines : text' ≡ text ++ text_of (event_lines from.shows w e (outcome w from.machine.state e.event))
 
 -- There it stands after the event and after what waited was sent, or waits on.
 pub stands_on : (w : World) (first : Replay) (whole : Reading) (begun : Outgoing) (from to : Replay) (reading rest : Reading) (e : Placed)
@@ -41,9 +42,9 @@ pub stands_on : (w : World) (first : Replay) (whole : Reading) (begun : Outgoing
     → Goes_on w from to e out.waits text → IsSent out.written next.written next.waits text → next.faults ≡ out.faults
     → Stands w first whole begun to rest next
 stands_on w first whole begun from to reading rest e out text next is stands goes sent faults = record {
-  status = sym (next_status w from to reading rest e is goes.turn goes.events) ∙ stands.status;
+  status = sym (next_status w from to reading rest e is goes.turn goes.events goes.shows) ∙ stands.status;
   sent =
-      sent_on (waits_as _ _ (next_waits w from to reading rest e is goes.turn goes.events out.waits text goes.lines) stands.sent)
+      sent_on (waits_as _ _ (next_waits w from to reading rest e is goes.turn goes.events goes.shows out.waits text goes.lines) stands.sent)
       (more_waits sent (text_of (report_from w to rest).lines));
   faults = faults ∙ stands.faults;
   reached = λ s run. stands.reached s (run_on w from to reading rest e is goes.turn s run);

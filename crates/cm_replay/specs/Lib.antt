@@ -1,2 +1,3 @@
 -- What the contracts on the replay of a log cite beside the definitions.
+pub mod Shown
 pub mod Replay

@@ -41,7 +41,7 @@ wrote_on first next = record {
   no_memory = λ is. cc;
 }
 
--- want of memory where the sink's count stood still
+-- out of memory where the sink's count stood still
 pub wants_memory : {f f' : ℕ} → f' ≡ f → WriteFaults {T = Unit {0}} f f' (Err outside.NoMemory)
 wants_memory same = record { later = le_of_eq (sym same); ok = tt; failed = λ is. cc; no_memory = λ _. same }
 

@@ -5,7 +5,7 @@ use Rattle.cm_machine.specs.declared.error.StepError.TheVariants as error
 use Rattle.model_run.specs.Step.{NoProcess, NoSpace, PidInUse, Wrong}
 use Rattle.model_report.specs.Replay.{reason}
 
--- the machine's reason why an event is impossible, as text (want of memory is none)
+-- the machine's reason why an event is impossible, as text (out of memory is none)
 abbrev pub reason_of : StepError → List ℕ
 reason_of error.NoProcess = reason NoProcess
 reason_of error.NoSpace = reason NoSpace

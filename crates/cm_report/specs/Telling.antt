@@ -9,10 +9,10 @@ use Rattle.cm_io.specs.Sink.{then_written}
 use Rattle.cm_report.specs.Sent.{IsFront}
 use Rattle.cm_report.specs.declared.short.Short.{Short}
 use Rattle.cm_report.specs.declared.short.Short.TheVariants as short
-use Rattle.model_report.specs.Replay.{Report, text_of, says, limit_hit, not_built}
+use Rattle.model_report.specs.Replay.{Report, text_of, says, limit_hit}
 use Rattle.model_report.specs.Report.{usage, bad_world_text}
 
--- The status is that of a report: neither a fault of reading or writing, nor want of memory.
+-- The status is that of a report: neither a fault of reading or writing, nor out of memory.
 pub record IsOfReport (answer : Status) : Type 0 where
   pub not_read_fault : answer ≢ answers.ReadFault
   pub not_write_fault : answer ≢ answers.WriteFault
@@ -35,7 +35,6 @@ pub record TellsReport (r : Report) (answer : Status) (written written' : Option
 -- the reports of one piece
 abbrev pub short_report : Short → Report
 short_report short.Usage = usage
-short_report short.NotBuilt = not_built
 short_report (short.BadWorld table row why) = says answers.BadWorld (bad_world_text table row why)
 short_report (short.Limit limit) = limit_hit limit
 

@@ -6,7 +6,7 @@ ghost use Rattle.cm_report.specs.Telling.{TellsReport, short_report, stopped_by}
 ghost use Rattle.model_report.specs.Replay.{text_of};
 
 use crate::sending::send;
-use crate::verdicts::{put_bad_world, put_limit, put_not_built, put_usage};
+use crate::verdicts::{put_bad_world, put_limit, put_usage};
 use cm_base::{Limited, NoMemory, Status, Table, WorldFault};
 use cm_io::{Outside, Sink};
 use std::alloc::Global;
@@ -15,7 +15,6 @@ use std::alloc::Global;
 #[derive(Clone, Copy, Debug)]
 pub enum Short {
     Usage,
-    NotBuilt,
     BadWorld(Table, u32, WorldFault),
     Limit(Limited),
 }
@@ -40,7 +39,6 @@ fn put_short(text: &mut Vec<u8>, short: Short) -> Result<(), NoMemory>
 {
     match short {
         Short::Usage => put_usage(text),
-        Short::NotBuilt => put_not_built(text),
         Short::BadWorld(table, row, why) => put_bad_world(text, table, row, why),
         Short::Limit(limit) => put_limit(text, limit),
     }
@@ -51,7 +49,6 @@ fn status_of(short: Short) -> Status
 {
     match short {
         Short::Usage => Status::Usage,
-        Short::NotBuilt => Status::NotBuilt,
         Short::BadWorld(_, _, _) => Status::BadWorld,
         Short::Limit(_) => Status::Limit,
     }

@@ -7,8 +7,7 @@ ghost use Rattle.model_report.specs.Replay.{text_of, step_lines, child_lines, cr
 
 use cm_base::{NoMemory, Pid, Res};
 use cm_credentials::put_credentials;
-use cm_declared::World;
-use cm_log::Placed;
+use cm_declared::{Placed, World};
 use cm_script::put_line;
 use cm_state::{Proc, State};
 use cm_tokens::{put, put_decimal};

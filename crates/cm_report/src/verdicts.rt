@@ -2,7 +2,7 @@
 ghost use Rattle.std.specs.Prelude.{◌≡◌, ◌≢◌, ◌++◌, [], ◌∷◌, codes};
 ghost use Rattle.cm_base.specs.Outcome.{OrNoMemory};
 ghost use Rattle.cm_report.specs.Reason.{reason_of};
-ghost use Rattle.model_report.specs.Replay.{text_of, reason, Plain, ended, impossible_text, bad_log, fault_text, not_built, limit_hit};
+ghost use Rattle.model_report.specs.Replay.{text_of, reason, Plain, ended, impossible_text, bad_log, fault_text, limit_hit};
 ghost use Rattle.model_report.specs.Report.{bad_world_text, usage};
 ghost use Rattle.model_run.specs.Step.{Wrong};
 
@@ -27,7 +27,7 @@ pub fn put_end(text: &mut Vec<u8>, count: u64) -> Result<(), NoMemory>
     put(text, b"\n")
 }
 
-/// The event of that line is impossible, for this reason; want of memory is none, and is handed on.
+/// The event of that line is impossible, for this reason; out of memory is none, and is handed on.
 pub fn put_impossible(text: &mut Vec<u8>, number: u64, why: &StepError) -> Result<(), NoMemory>
     ensures line { OrNoMemory result (λ _. text.new.items ≡ text.old.items
         ++ text_of (Plain (impossible_text number (reason_of why.now)) ∷ [])) }
@@ -83,13 +83,6 @@ fn put_line_fault(text: &mut Vec<u8>, why: LineFault) -> Result<(), NoMemory>
         }
         _ => Ok(()),
     }
-}
-
-/// What was asked for isn't built.
-pub fn put_not_built(text: &mut Vec<u8>) -> Result<(), NoMemory>
-    ensures { OrNoMemory result (λ _. text.new.items ≡ text.old.items ++ text_of not_built.lines) }
-{
-    put(text, b"not built\n")
 }
 
 /// That row of a table of the world has this fault; the whole text and the filter have the row 0.

@@ -14,7 +14,7 @@ returns-in-Err-send_full-clause-stopped g c =
     let turn = rw c.in-Ok-Goes.field-0-is at c.in-Ok-Goes.ensures.turn in
     let events = (rw c.in-Ok-Goes.field-0-is at c.in-Ok-Goes.ensures.events) refl in
     let waits = next_waits w c.loop-event.replay c.take_event.new.replay (left w c.loop-event.log) (left w c.next.new.self)
-    c.in-Ok-Event.event is turn events c.loop-event.text.items c.take_event.new.text.items c.in-Ok-Goes.ensures.lines in
+    c.in-Ok-Event.event is turn events c.take_event.ensures.shows c.loop-event.text.items c.take_event.new.text.items c.in-Ok-Goes.ensures.lines in
     front_on (waits_as _ _ waits c.loop-event.invariant.stands.sent) (front_of_more c.in-Err-send_full.ensures.front _)
 
 pub loop-event-preserved : goal.loop-event-preserved
@@ -26,6 +26,7 @@ loop-event-preserved g c =
     = record {
       turn = rw c.in-Ok-Goes.field-0-is at c.in-Ok-Goes.ensures.turn;
       events = (rw c.in-Ok-Goes.field-0-is at c.in-Ok-Goes.ensures.events) refl;
+      shows = c.take_event.ensures.shows;
       lines = c.in-Ok-Goes.ensures.lines;
     } in
     record {

@@ -31,5 +31,5 @@ returns-in_ok-put_impossible-in-Err-clause-lines c =
     (λ same. says.pid_in_use (ap Err same)) (λ res same. says.wrong res (ap Err same)) in
     let lines = subst (λ (p : Placed).
     Plain (impossible_text c.event.inside.line (reason_of c.in-Err.why)) ∷ []
-    ≡ event_lines w p (outcome w c.args.replay.now.machine.state p.event)) c.event.view_is is.lines in
+    ≡ event_lines c.args.replay.now.shows w p (outcome w c.args.replay.now.machine.state p.event)) c.event.view_is (is.lines c.args.replay.now.shows) in
     c.in_ok-put_impossible-in-Err.ensures.line ∙ ap (λ (ls : List ReportLine). c.args.text.now.items ++ text_of ls) lines

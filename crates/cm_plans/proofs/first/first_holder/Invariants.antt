@@ -1,5 +1,5 @@
 use Rattle.std.proofs.Common.{◌≡◌, drop}
-use Rattle.cm_plans.proofs.first.holder.Given as goal
+use Rattle.cm_plans.proofs.first.first_holder.Given as goal
 use Rattle.cm_state.specs.Right.{right_of}
 use Rattle.model_plans.specs.PlanRun.{holder}
 

@@ -1,0 +1,2 @@
+-- What the readers of certificates answer.
+pub mod Answers

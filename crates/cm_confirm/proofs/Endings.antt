@@ -1,0 +1,34 @@
+-- Where a run stands: an event is taken, or it is over.
+use Rattle.std.proofs.Common.{◌≡◌, ℕ, Bool, true, false, List, Option, None, Some}
+use Rattle.std.proofs.Common.{if◌then◌else◌, refl, sym, ◌∙◌, ap}
+use Rattle.cm_confirm.proofs.Sames.{run_same}
+use Rattle.cm_confirm.specs.Confirmed.{GoesOn}
+use Rattle.cm_confirm.specs.Members.{SameMembers}
+use Rattle.model_confirm.proofs.Passing.{taken}
+use Rattle.model_confirm.specs.Confirm.{Confirmed, by_outcome, confirm_of, events_confirm}
+use Rattle.model_cred.specs.Process.{State}
+use Rattle.model_cred.specs.Right.{Right}
+use Rattle.model_cred.specs.World.{World}
+use Rattle.model_run.specs.Later.{members_after}
+use Rattle.model_run.specs.Step.{outcome}
+use Rattle.model_text.specs.Reading.{Placed, Reading, reads_on}
+
+module _ (w : World) (s : State) (members : List ℕ) (right : Right) (reading rest : Reading) (e : Placed) (is : reading ≡ reads_on e rest) where
+  abbrev next : State → Confirmed
+  next s' = events_confirm w s' (members_after members e.event.pid e.event.call e.event.res) right rest.events rest.ending
+
+  -- by what becomes of the event
+  pub by_event : confirm_of w s members right reading ≡ by_outcome w members e next (outcome w s e.event)
+  by_event = ap (λ (r : Reading). confirm_of w s members right r) is
+
+  -- the run goes on with it
+  pub goes_on : (after : State) (members_then : List ℕ) → GoesOn w members e (outcome w s e.event) after members_then
+      → confirm_of w s members right reading ≡ confirm_of w after members_then right rest
+  goes_on after members_then goes =
+      by_event ∙ taken w members e next (outcome w s e.event) after goes.step goes.within goes.member
+      ∙ sym (run_same w right rest.events rest.ending after members_then (members_after members e.event.pid e.event.call e.event.res) goes.they)
+
+  -- this is what it comes to
+  pub ends_with : (c : Confirmed) → ((rest : State → Confirmed) → by_outcome w members e rest (outcome w s e.event) ≡ c)
+      → confirm_of w s members right reading ≡ c
+  ends_with c ends = by_event ∙ ends next

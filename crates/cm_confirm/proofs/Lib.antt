@@ -1,0 +1,4 @@
+-- Lemmas of this crate, by topic.
+pub mod Ascending
+pub mod Sames
+pub mod Endings

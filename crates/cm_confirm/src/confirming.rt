@@ -1,0 +1,121 @@
+// The run, line by line: each of its events is made a step of the machine, and is held against the limits, the members and
+// the world's filter.
+ghost use Rattle.std.specs.Prelude.{◌≡◌, ◌<◌, ◌^◌, length};
+ghost use Rattle.cm_base.specs.Outcome.{OrNoMemory};
+ghost use Rattle.cm_confirm.specs.Confirmed.{confirmed_of, IsTurn};
+ghost use Rattle.cm_declared.specs.World.{world_of};
+ghost use Rattle.cm_state.specs.Right.{right_of};
+ghost use Rattle.cm_strace.specs.Answers.{ending_is};
+ghost use Rattle.model_confirm.specs.Confirm.{by_ending, confirm_of, is_for_members};
+ghost use Rattle.model_plans.specs.Firsts.{PidsAscend};
+ghost use Rattle.model_run.specs.Step.{outcome};
+ghost use Rattle.model_run.specs.Within.{IsWithin};
+ghost use Rattle.model_text.specs.Reading.{script_reading};
+
+use crate::confirmed::Confirmed;
+use crate::members::Members;
+use cm_base::{NoMemory, Pid};
+use cm_declared::World;
+use cm_log::{Log, Next, Placed, Stop};
+use cm_machine::{Machine, StepError};
+use cm_state::{Event, Right, State};
+use std::alloc::Global;
+
+/// What the lines of a run come to, from where the machine is, by these members, whose pids ascend. They are read as a script,
+/// whatever form of log the world declares. For each event the limits come first, then whether it is a member's, whether the
+/// world's filter permits it, and whether it is a step. Its only error is out of memory.
+pub fn confirm(
+    alloc: Global,
+    w: &World,
+    machine: Machine,
+    members: Vec<Pid>,
+    right: &Right,
+    text: &[u8],
+) -> Result<Confirmed, NoMemory>
+    requires within { IsWithin machine.state }
+    requires ascends { PidsAscend members.items }
+    requires text { length text.now < 2 ^ 31 }
+    ensures { OrNoMemory result (λ confirmed. confirmed_of confirmed
+        ≡ confirm_of (world_of w.now) machine.state members.items (right_of right.now) (script_reading (world_of w.now) text.now)) }
+{
+    let mut machine = machine;
+    let mut members = Members::new(members);
+    let mut run = Log::of_script(text);
+    loop {
+        match run.next(alloc, w) {
+            Ok(Next::Event(event)) => {
+                match take_event(alloc, w, &mut machine, &mut members, &event) {
+                    Ok(Turn::Goes) => let_go(event),
+                    Ok(Turn::Ends(confirmed)) => return Ok(confirmed),
+                    Err(NoMemory) => return Err(NoMemory),
+                }
+            }
+            Ok(Next::Ends(stop)) => return Ok(end_run(&machine.state, &members, right, stop)),
+            Err(NoMemory) => return Err(NoMemory),
+        }
+    }
+}
+
+// Lets go of an event, whatever its call holds.
+fn let_go(_: Placed) {}
+
+// What an event is to the run: it goes on, or comes to this.
+#[derive(Clone, Copy, Debug)]
+enum Turn {
+    Goes,
+    Ends(Confirmed),
+}
+
+// One event of the run. Where it is a step the machine makes it, whoever's it is; the machine isn't used any more after an end.
+fn take_event(
+    alloc: Global,
+    w: &World,
+    machine: &mut Machine,
+    members: &mut Members,
+    event: &Placed,
+) -> Result<Turn, NoMemory>
+    requires within { IsWithin machine.old.state }
+    ensures { OrNoMemory result (λ turn. IsTurn (world_of w.now) members.old event.now turn
+        (outcome (world_of w.now) machine.old.state event.now.event) machine.new.state members.new) }
+{
+    match machine.step(alloc, w, &event.event) {
+        Ok(()) => {
+            if let Some(limit) = machine.state.exceeded() {
+                return Ok(Turn::Ends(Confirmed::PastLimit(limit)));
+            }
+            if !is_for_members(w, members, &event.event) {
+                return Ok(Turn::Ends(Confirmed::RefusesLine(event.line)));
+            }
+            members.follow(&event.event)?;
+            Ok(Turn::Goes)
+        }
+        Err(StepError::NoMemory) => Err(NoMemory),
+        Err(
+            StepError::NoProcess
+            | StepError::NoSpace
+            | StepError::PidInUse
+            | StepError::Wrong { .. },
+        ) => Ok(Turn::Ends(Confirmed::RefusesLine(event.line))),
+    }
+}
+
+// The event is a member's, and the world's filter permits its call.
+fn is_for_members(w: &World, members: &Members, e: &Event) -> bool
+    ensures { result ≡ is_for_members (world_of w.now) members.now e.now }
+{
+    members.has(e.pid) && w.filter.permits(e.call.kind())
+}
+
+// What the run comes to at its end, or at the line that stops its reading.
+fn end_run(state: &State, members: &Members, right: &Right, stop: Option<Stop>) -> Confirmed
+    ensures { confirmed_of result ≡ by_ending state.now members.now (right_of right.now) (ending_is stop) }
+{
+    match stop {
+        None => match members.holder(state, right) {
+            Some(pid) => Confirmed::Confirms(pid),
+            None => Confirmed::RefusesEnd,
+        },
+        Some(Stop::Fault(number, _)) => Confirmed::RefusesLine(number),
+        Some(Stop::Limit(limit)) => Confirmed::PastLimit(limit),
+    }
+}

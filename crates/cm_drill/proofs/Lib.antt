@@ -1,0 +1,4 @@
+-- Lemmas of the drill's code.
+pub mod Turning
+pub mod Counting
+pub mod Ending
