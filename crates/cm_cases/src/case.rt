@@ -21,10 +21,22 @@ pub(crate) fn shelf(
     log: &[u8],
     fail: &[u64],
 ) -> Result<MemShelf, Fail> {
-    let names = strings(alloc, &["world", "log"])?;
+    shelf_of(rt, alloc, &[("world", world), ("log", log)], fail)
+}
+
+/// A shelf with these files, of which the reads with these numbers fail.
+pub(crate) fn shelf_of(
+    rt: &impl Abort,
+    alloc: Global,
+    files: &[(&str, &[u8])],
+    fail: &[u64],
+) -> Result<MemShelf, Fail> {
+    let mut names = Vec::new(alloc);
     let mut texts = Vec::new(alloc);
-    texts.push(world.to_vec(alloc)?)?;
-    texts.push(log.to_vec(alloc)?)?;
+    for (name, text) in files {
+        names.push(String::from_str(alloc, name)?)?;
+        texts.push(text.to_vec(alloc)?)?;
+    }
     assert!(rt; are_distinct(&names));
     assert_eq!(rt; texts.len(), names.len());
     Ok(MemShelf::new(alloc, names, texts, fail.to_vec(alloc)?)?)

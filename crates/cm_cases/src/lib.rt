@@ -5,6 +5,10 @@
 #[cfg(test)]
 mod case;
 #[cfg(test)]
+mod drill;
+#[cfg(test)]
+mod judged;
+#[cfg(test)]
 mod limits;
 #[cfg(test)]
 mod lines;

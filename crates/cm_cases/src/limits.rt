@@ -247,3 +247,34 @@ fn families_have_a_limit(rt: HostRuntime) -> Result<(), Fail> {
     let end = b"\nend 0\nno 0\nholder 1\n";
     check_family(&rt, alloc, 255, Status::No, end)
 }
+
+// A claim over this world and this log, of process 1 and user id 0, is past a limit, and the line that says so stands alone.
+fn check_alone(
+    rt: &impl Abort,
+    alloc: Global,
+    command: &str,
+    world: &[u8],
+    log: &[u8],
+    report: &[u8],
+) -> Result<(), Fail> {
+    let words = strings(alloc, &[command, "world", "log", "1", "uid:0", "third"])?;
+    let mut shelf = shelf(rt, alloc, world, log, &[])?;
+    let (got, text) = answer(alloc, &words, &mut shelf, &[])?;
+    assert_eq!(rt; got, Status::Limit);
+    assert!(rt; text.as_slice() == report);
+    Ok(())
+}
+
+#[test]
+fn limits_stand_alone_where_no_replay_is_shown(rt: HostRuntime) -> Result<(), Fail> {
+    let alloc = rt.alloc();
+    let row = "\"\nparent = \"init\"\nowner = 0";
+    let spaces = with_rows(alloc, SCRIPT, 256, "[[space]]\nname = \"s", row)?;
+    check_alone(&rt, alloc, "check", &spaces, b"", b"limit spaces 256\n")?;
+    let line = vec![in alloc; b';'; 1_048_577]?;
+    let report = b"limit line 1048576\n";
+    check_alone(&rt, alloc, "confirm", SCRIPT.as_bytes(), &line, report)?;
+    let processes = with_rows(alloc, SCRIPT, 4096, "[[process]]\npid = ", "")?;
+    let report = b"limit processes 4096\n";
+    check_alone(&rt, alloc, "check", &processes, b"1 fork = 5000\n", report)
+}

@@ -1,8 +1,9 @@
 // Reads and writes that fail in turn, and a shelf and a sink that never fail.
-use crate::case::{answer, shelf, strings};
+use crate::case::{answer, shelf, shelf_of, strings};
 use cm_cli::{Status, run_surely};
 use cm_io::{SureShelf, SureSink, are_distinct};
 use std::alloc::{AllocError, Global};
+use std::process::Abort;
 use std::test::Fail;
 
 const WORLD: &[u8] = b"log = \"script\"\n[[process]]\npid = 100\n";
@@ -62,6 +63,42 @@ fn writes_fail_in_turn(rt: HostRuntime) -> Result<(), Fail> {
     }
     assert!(rt; met > 2);
     Ok(())
+}
+
+// These words answer and write so over that third file; and where the one write fails, they answer that, and write nothing.
+fn check_write(
+    rt: &impl Abort,
+    alloc: Global,
+    words: &[&str],
+    third: &[u8],
+    (status, report): (Status, &[u8]),
+) -> Result<(), Fail> {
+    let words = strings(alloc, words)?;
+    let files: [(&str, &[u8]); 3] = [("world", WORLD), ("log", b""), ("third", third)];
+    let mut shelf = shelf_of(rt, alloc, &files, &[])?;
+    let (got, text) = answer(alloc, &words, &mut shelf, &[])?;
+    assert_eq!(rt; got, status);
+    assert!(rt; text.as_slice() == report);
+    let (got, text) = answer(alloc, &words, &mut shelf, &[1])?;
+    assert_eq!(rt; got, Status::WriteFault);
+    assert!(rt; text.is_empty());
+    Ok(())
+}
+
+#[test]
+fn the_write_of_a_judgement_and_of_a_drill_fails(rt: HostRuntime) -> Result<(), Fail> {
+    let alloc = rt.alloc();
+    let check = ["check", "world", "log", "100", "uid:0", "third"];
+    let told: (Status, &[u8]) = (Status::Refused, b"refused json\n");
+    check_write(&rt, alloc, &check, b"{", told)?;
+    let confirm = ["confirm", "world", "log", "100", "uid:0", "third"];
+    let told: (Status, &[u8]) = (Status::Accepted, b"confirmed 100\n");
+    check_write(&rt, alloc, &confirm, b"", told)?;
+    let told: (Status, &[u8]) = (
+        Status::Accepted,
+        b"events 0\nrefused 0\nlive 1\nspaces 1\nverdict no\n",
+    );
+    check_write(&rt, alloc, &["drill", "0"], b"", told)
 }
 
 #[test]

@@ -10,6 +10,14 @@ usage: credaudit confirm WORLD LOG PID RIGHT RUN
 usage: credaudit drill N
 ";
 
+// The report of a drill without events.
+const DRILL: &str = "events 0
+refused 0
+live 1
+spaces 1
+verdict no
+";
+
 // Words, and what they answer and write where each read would fail.
 static WORDS: [(&[&str], Status, &str); 19] = [
     (&[], Status::Usage, USAGE),
@@ -29,19 +37,11 @@ static WORDS: [(&[&str], Status, &str); 19] = [
     (&["drill", "100001"], Status::Usage, USAGE),
     (&["drill", "-1"], Status::Usage, USAGE),
     (&["drill", "0", "0"], Status::Usage, USAGE),
-    (&["drill", "0"], Status::NotBuilt, "not built\n"),
-    (&["drill", "00100000"], Status::NotBuilt, "not built\n"),
+    (&["drill", "0"], Status::Accepted, DRILL),
+    (&["drill", "00000000"], Status::Accepted, DRILL),
     (&["audit", "", "", "", ""], Status::ReadFault, ""),
-    (
-        &["check", "", "", "", "", ""],
-        Status::NotBuilt,
-        "not built\n",
-    ),
-    (
-        &["confirm", "", "", "", "", ""],
-        Status::NotBuilt,
-        "not built\n",
-    ),
+    (&["check", "", "", "", "", ""], Status::ReadFault, ""),
+    (&["confirm", "", "", "", "", ""], Status::ReadFault, ""),
     (&["replay", "none", "log"], Status::ReadFault, ""),
 ];
 

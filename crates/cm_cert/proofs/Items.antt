@@ -9,8 +9,6 @@ use Rattle.model_cert.specs.Fault.{Shape}
 use Rattle.model_cert.specs.Row.{rows_shape}
 use Rattle.model_cert.specs.Sets.{two_ends, interval_of, intervals_of}
 use Rattle.model_cred.specs.Intervals.{Interval}
-use Rattle.serde_json.specs.Data.{Data}
-use Rattle.serde_json.specs.Find.{as_array}
 use Rattle.serde_json.proofs.Views.{items_len-items_view}
 use Rattle.serde_json.specs.Events.{items_len}
 use Rattle.serde_json.specs.View.{view, items_view}

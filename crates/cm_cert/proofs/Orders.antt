@@ -1,5 +1,5 @@
 -- A row whose sets are known to ascend, three by three.
-use Rattle.std.proofs.Common.{◌≡◌, ◌&&◌, List, Bool, true, false, Option, Some, None, refl}
+use Rattle.std.proofs.Common.{◌≡◌, ◌&&◌, List, Bool, true, false, Option, Some, None}
 use Rattle.std.specs.Prelude.{if◌then◌else◌}
 use Rattle.model_box.specs.Bounds.{BoxRow}
 use Rattle.model_cert.specs.Row.{three_ascend, sets_ascend}

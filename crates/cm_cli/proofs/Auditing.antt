@@ -1,34 +1,47 @@
--- What is answered to a query after an accepted log, by the verdict that the audit tells, or why it tells none.
-use Rattle.std.proofs.Common.{◌≡◌, ℕ, ◌<◌, ◌≤◌, Bool, true, false, length, List, Option, Some, None, refl, sym, ◌∙◌, ap, subst, is_some, Result, slice_get, inl, inr, arith}
+-- What is answered to a query after an accepted log, by what is judged, or why it is refused.
+use Rattle.std.proofs.Common.{◌≡◌, ℕ, ◌<◌, ◌≤◌, Bool, true, false, cond, length, List, Option, Some, None, refl, sym}
+use Rattle.std.proofs.Common.{◌∙◌, ap, subst}
+use Rattle.std.proofs.Common.{[], ◌∷◌, ◌++◌, append_assoc, is_some, Result, Ok, slice_get, inl, inr, arith}
 use Rattle.std.proofs.lemmas.Option.{slice_get_cases}
-use Rattle.std.specs.Prelude.{codes, IsSomeAnd}
-use Rattle.cm_audit.specs.Told.{Told, IsVerdictOn, verdict_in}
+use Rattle.std.specs.Prelude.{codes, IfOk, IsSomeAnd}
 use Rattle.cm_base.specs.declared.limited.Limited.TheVariants as limit
 use Rattle.cm_base.specs.Limited.{limit_number}
-use Rattle.cm_base.specs.Outcome.{OrNoMemory}
 use Rattle.cm_base.specs.declared.status.Status.{Status}
-use Rattle.cm_cli.specs.LogReport.{IsPut}
-use Rattle.cm_filter.specs.Filters.{permits}
+use Rattle.cm_cli.specs.Put.{IsPut}
+use Rattle.cm_cli.specs.Query.{task_by}
+use Rattle.cm_cli.specs.declared.query.ClaimKind.{ClaimKind}
+use Rattle.cm_cli.specs.declared.query.ClaimKind.TheVariants as kind
+use Rattle.cm_report.proofs.ReportText.{text_of_cons}
+use Rattle.model_box.specs.Bounds.{BoxRow}
 use Rattle.model_box.specs.Meets.{IsOverStanding}
+use Rattle.model_cert.specs.Document.{certificate}
+use Rattle.model_confirm.specs.Confirm.{confirm_of}
 use Rattle.model_cred.proofs.Lookups.{pid_of_found}
 use Rattle.model_cred.specs.Process.{Process, State, is_alive, process_at}
 use Rattle.model_cred.specs.Right.{Right}
 use Rattle.model_cred.specs.Space.{Spaces}
 use Rattle.model_cred.specs.World.{World}
-use Rattle.model_report.proofs.Verdicts.{is_not, stands_or_not, not_standing, one_report, of_asked, of_large, of_no_process, of_no_right, of_no_space}
-use Rattle.model_report.specs.Answer.{answer, bad_query, is_over_standing, verdict_report}
+use Rattle.model_report.proofs.Answers.{is_not, stands_or_not, not_standing, of_asked, of_large, of_no_space}
+use Rattle.model_report.proofs.Replayed.{is_above, not_above}
+use Rattle.model_report.specs.Answer.{answer, bad_query, certificate_line, certificate_report, undecided_text}
+use Rattle.model_report.specs.Answer.{confirmed_report, is_over_standing, query_answer, task_report, verdict_report}
 use Rattle.model_report.specs.Causes.{Asks, AsksVerdict}
+use Rattle.model_report.specs.Checked.{IsChecked}
 use Rattle.model_report.specs.Given.{StateGives}
+use Rattle.model_report.specs.Judged.{Judged}
 use Rattle.model_report.specs.Query.{Query, asked_process, process_of, right_token}
-use Rattle.model_report.specs.Replay.{Report, limit_hit}
+use Rattle.model_report.specs.Replay.{Plain, Report, limit_hit, text_of}
+use Rattle.model_report.specs.Task.{Task, ToJudge, ToCheck, ToConfirm}
+use Rattle.model_report.specs.Told.{Told, IsVerdictOn}
 use Rattle.model_run.specs.Family.{family}
+use Rattle.model_report_laws.proofs.Judging.{told_once}
+use Rattle.model_text.specs.Reading.{script_reading}
 use Rattle.model_text.specs.Token.{pid_token}
-use Rattle.model_verdict.proofs.Verdicts.{one_verdict}
-use Rattle.model_verdict.specs.InWorld.{each_may}
-use Rattle.model_verdict.specs.Verdict.{Verdict, OneVerdict}
+use Rattle.model_verdict.specs.Blame.{Blame}
 
 -- a space that doesn't fail to stand stands
-pub standing_if : (spaces : Spaces) (right : Right) → ((IsOverStanding spaces right → ⊥) → ⊥) → IsOverStanding spaces right
+pub standing_if : (spaces : Spaces) (right : Right) → ((IsOverStanding spaces right → ⊥) → ⊥)
+    → IsOverStanding spaces right
 standing_if spaces right not = by (is_over_standing spaces right) refl
   where
     by : (b : Bool) → is_over_standing spaces right ≡ b → IsOverStanding spaces right
@@ -46,10 +59,12 @@ found_named ps at pid (low, is) = elim ((slice_get_cases ps at).1) [
 ]
 
 -- the process of a token is alive
-alive_of : (s : State) (token : Option ℕ) (p : Process) → process_of s token ≡ Some p → is_alive s.processes p.pid ≡ true
+alive_of : (s : State) (token : Option ℕ) (p : Process) → process_of s token ≡ Some p
+    → is_alive s.processes p.pid ≡ true
 alive_of s None p is = absurd (cc)
 alive_of s (Some pid) p is =
-    subst (λ (n : ℕ). is_alive s.processes n ≡ true) (sym (pid_of_found s.processes pid p is)) (ap (λ (o : Option Process). is_some o) is)
+    subst (λ (n : ℕ). is_alive s.processes n ≡ true) (sym (pid_of_found s.processes pid p is))
+    (ap (λ (o : Option Process). is_some o) is)
 
 module _ (q : Query) (w : World) (s : State) where
   -- the query names the live process with this pid
@@ -67,51 +82,125 @@ module _ (q : Query) (w : World) (s : State) where
   -- the query asks for a right of the family of that process
   asks_right : (pid : ℕ) (right : Right) → Names pid → right_token w.names q.right ≡ Some right
       → (p : Process) × Asks q w s p right × (p.pid ≡ pid)
-  asks_right pid right some token = let there = named pid some in (there.0, record { process = there.1; asked = token }, there.2)
+  asks_right pid right some token = let there = named pid some in
+      (there.0, record { process = there.1; asked = token }, there.2)
 
   pub alive : (pid : ℕ) → Names pid → is_alive s.processes pid ≡ true
   alive pid some =
       let there = named pid some in
       subst (λ (n : ℕ). is_alive s.processes n ≡ true) there.2 (alive_of s (pid_token q.pid) there.0 there.1)
 
-  -- ---- refusals
-  pub no_pid : (v : Verdict) → asked_process s q.pid ≡ None → answer v w s q ≡ bad_query (codes "pid")
-  no_pid v none = of_no_process q w s v none
+  -- ---- refusals, whatever is asked and judged
+  module _ (task : Task) (j : Judged) where
+    pub no_space : (pid : ℕ) (right : Right) → Names pid → right_token w.names q.right ≡ Some right
+        → (IsOverStanding s.spaces right → ⊥) → query_answer task j w s q ≡ bad_query (codes "space")
+    no_space pid right some token none =
+        let there = asks_right pid right some token in
+        of_no_space q w s task j there.0 right there.1 (is_not s.spaces right _ refl none)
 
-  pub no_right : (v : Verdict) (pid : ℕ) → Names pid → right_token w.names q.right ≡ None → answer v w s q ≡ bad_query (codes "right")
-  no_right v pid some none = let there = named pid some in of_no_right q w s v there.0 there.1 none
+    pub too_large : (pid : ℕ) (right : Right) → Names pid → right_token w.names q.right ≡ Some right
+        → IsOverStanding s.spaces right → limit_number limit.Family < length (family s pid)
+        → query_answer task j w s q ≡ limit_hit limit.Family
+    too_large pid right some token standing over =
+        let there = asks_right pid right some token in
+        of_large q w s task j there.0 right there.1 standing
+        (subst (λ (n : ℕ). limit_number limit.Family < length (family s n)) (sym there.2) over)
 
-  pub no_space : (v : Verdict) (pid : ℕ) (right : Right) → Names pid → right_token w.names q.right ≡ Some right
-      → (IsOverStanding s.spaces right → ⊥) → answer v w s q ≡ bad_query (codes "space")
-  no_space v pid right some token none =
-      let there = asks_right pid right some token in
-      of_no_space q w s v there.0 right there.1 (is_not s.spaces right _ refl none)
+  -- ---- a query that stands
+  pub query_stands : (pid : ℕ) (right : Right) → Names pid → right_token w.names q.right ≡ Some right
+      → IsOverStanding s.spaces right
+      → length (family s pid) ≤ limit_number limit.Family → (p : Process) × AsksVerdict q w s p right × (p.pid ≡ pid)
+  query_stands pid right some token standing size =
+      let there = asks_right pid right some token in (
+        there.0,
+        record {
+          asks = there.1;
+          standing = standing;
+          size = subst (λ (n : ℕ). length (family s n) ≤ limit_number limit.Family) (sym there.2) size;
+        },
+        there.2,
+      )
 
-  pub too_large : (v : Verdict) (pid : ℕ) (right : Right) → Names pid → right_token w.names q.right ≡ Some right
-      → IsOverStanding s.spaces right → limit_number limit.Family < length (family s pid) → answer v w s q ≡ limit_hit limit.Family
-  too_large v pid right some token standing over =
-      let there = asks_right pid right some token in
-      of_large q w s v there.0 right there.1 standing
-      (subst (λ (n : ℕ). limit_number limit.Family < length (family s n)) (sym there.2) over)
+  -- the verdict
+  pub told_verdict : (j : Judged) (pid : ℕ) (right : Right) (x : Told) → Names pid
+      → right_token w.names q.right ≡ Some right
+      → IsOverStanding s.spaces right → length (family s pid) ≤ limit_number limit.Family
+      → IsVerdictOn w s (family s pid) right x
+      → StateGives (ToJudge q) w s j → query_answer (ToJudge q) j w s q ≡ verdict_report w s.spaces x
+  told_verdict j pid right x some token standing size is gives =
+      let there = query_stands pid right some token standing size in
+      let on : IsVerdictOn w s (family s there.0.pid) right x = subst (λ (n : ℕ). IsVerdictOn w s (family s n) right x)
+      (sym there.2) is in
+      of_asked q w s (ToJudge q) j there.0 right there.1
+      ∙ ap (λ (t : Told). verdict_report w s.spaces t)
+      (told_once w s (family s there.0.pid) right j.verdict x (gives there.0 right there.1) on)
 
-  -- ---- the verdict
-  pub told_verdict : (v : Verdict) (pid : ℕ) (right : Right) (x : Told) → Names pid → right_token w.names q.right ≡ Some right
-      → IsOverStanding s.spaces right → length (family s pid) ≤ limit_number limit.Family → IsVerdictOn w s (family s pid) right x
-      → StateGives (Some q) w s v → answer v w s q ≡ verdict_report w s.spaces (verdict_in x)
-  unfolding OneVerdict
-  told_verdict v pid right x some token standing size is gives =
-      let there = asks_right pid right some token in
-      let asked : AsksVerdict q w s there.0 right = record {
-        asks = there.1;
-        standing = standing;
-        size = subst (λ (n : ℕ). length (family s n) ≤ limit_number limit.Family) (sym there.2) size;
-      } in
-      let on : IsVerdictOn w s (family s there.0.pid) right x = subst (λ (n : ℕ). IsVerdictOn w s (family s n) right x) (sym there.2) is in
-      of_asked q w s v there.0 right asked
-      ∙ one_report w s.spaces v (verdict_in x)
-      (one_verdict (each_may w) (permits w.filter) w s (family s there.0.pid) right v (verdict_in x) (gives there.0 right asked) on.verdict)
+  -- ---- a claim
+  module _ (p : Process) (right : Right) (asked : AsksVerdict q w s p right) (members : List ℕ)
+      (same : members ≡ family s p.pid) where
+    -- the answer is that on the right and the members
+    pub claim_answer : (task : Task) (j : Judged) → query_answer task j w s q ≡ task_report task j w s members right
+    claim_answer task j =
+        of_asked q w s task j p right asked ∙ ap (λ (ms : List ℕ). task_report task j w s ms right) (sym same)
 
+    -- a certificate within its limit: what its rows are found to be, and the report
+    pub certificate_given : (text : List ℕ) (j : Judged) → length text ≤ limit_number limit.Certificate
+        → StateGives (ToCheck q text) w s j
+        → (rows : List BoxRow) → certificate (length s.spaces) text ≡ Ok rows
+        → IsChecked w s members right rows j.checked
+    certificate_given text j size gives rows reads =
+        subst (λ (ms : List ℕ). IsChecked w s ms right rows j.checked) (sym same)
+        (gives p right rows asked (record { size = size; reads = reads }))
+
+    pub certificate_told : (text : List ℕ) (j : Judged) → length text ≤ limit_number limit.Certificate
+        → task_report (ToCheck q text) j w s members right ≡ certificate_report w s.spaces j.checked
+        (certificate (length s.spaces) text)
+    certificate_told text j size =
+        ap (λ (b : Bool). cond b (limit_hit limit.Certificate)
+        (certificate_report w s.spaces j.checked (certificate (length s.spaces) text)))
+        (not_above (limit_number limit.Certificate) (length text) size)
+
+    pub certificate_past : (text : List ℕ) (j : Judged) → limit_number limit.Certificate < length text
+        → task_report (ToCheck q text) j w s members right ≡ limit_hit limit.Certificate
+    certificate_past text j over =
+        ap (λ (b : Bool). cond b (limit_hit limit.Certificate)
+        (certificate_report w s.spaces j.checked (certificate (length s.spaces) text)))
+        (is_above (limit_number limit.Certificate) (length text) over)
+
+    pub run_past : (text : List ℕ) (j : Judged) → limit_number limit.Run < length text
+        → task_report (ToConfirm q text) j w s members right ≡ limit_hit limit.Run
+    run_past text j over =
+        ap (λ (b : Bool). cond b (limit_hit limit.Run)
+        (confirmed_report (confirm_of w s members right (script_reading w text))))
+        (is_above (limit_number limit.Run) (length text) over)
+
+-- ---- what is put
 -- what is put as one report is put as one that is equal
-pub put_as : {E : Type 0} (res : Result Status E) (old new : List ℕ) (r r' : Report) → r' ≡ r → OrNoMemory res (λ st. IsPut r old new st)
-    → OrNoMemory res (λ st. IsPut r' old new st)
-put_as res old new r r' same put = subst (λ (x : Report). OrNoMemory res (λ st. IsPut x old new st)) (sym same) put
+pub put_as : {E : Type 0} (res : Result Status E) (old new : List ℕ) (r r' : Report) → r' ≡ r
+    → IfOk res (λ st. IsPut r old new st)
+    → IfOk res (λ st. IsPut r' old new st)
+put_as res old new r r' same put = subst (λ (x : Report). IfOk res (λ st. IsPut x old new st)) (sym same) put
+
+-- the answer to a claim is that to its query
+claim_is : (k : ClaimKind) (q : Query) (text : List ℕ) (j : Judged) (w : World) (s : State)
+    → answer (task_by k q text) j w s ≡ query_answer (task_by k q text) j w s q
+claim_is kind.Certificate q text j w s = refl
+claim_is kind.Run q text j w s = refl
+
+pub claim_put : {E : Type 0} (k : ClaimKind) (q : Query) (text : List ℕ) (j : Judged) (w : World) (s : State)
+    (res : Result Status E)
+    (old new : List ℕ) → IfOk res (λ st. IsPut (query_answer (task_by k q text) j w s q) old new st)
+    → IfOk res (λ st. IsPut (answer (task_by k q text) j w s) old new st)
+claim_put k q text j w s res old new put = put_as res old new _ _ (claim_is k q text j w s) put
+
+-- what is blamed, and then the certificate
+pub undecided_put : (w : World) (spaces : Spaces) (blame : Blame) (rows : List BoxRow) (old one new : List ℕ)
+    → one ≡ old ++ text_of (Plain (undecided_text w.names spaces blame) ∷ [])
+    → new ≡ one ++ text_of (certificate_line rows ∷ [])
+    → new ≡ old ++ text_of (Plain (undecided_text w.names spaces blame) ∷ certificate_line rows ∷ [])
+undecided_put w spaces blame rows old one new first second =
+    second ∙ ap (λ (t : List ℕ). t ++ text_of (certificate_line rows ∷ [])) first
+    ∙ append_assoc old (text_of (Plain (undecided_text w.names spaces blame) ∷ []))
+    (text_of (certificate_line rows ∷ []))
+    ∙ ap (λ (t : List ℕ). old ++ t) (sym (text_of_cons (Plain (undecided_text w.names spaces blame))
+    (certificate_line rows ∷ [])))

@@ -1,145 +1,175 @@
--- That valid input without faults is accepted or answered, or memory ran out; and what an audit says.
-use Rattle.std.proofs.Common.{◌≡◌, ◌≢◌, ◌⊎◌, ℕ, List, Option, None, Some, inl, inr, refl, sym, subst, ◌∙◌}
+-- That valid input without faults is answered as asked, or memory ran out; and what the answers say.
+use Rattle.std.proofs.Common.{◌≡◌, ◌≢◌, ◌⊎◌, ℕ, List, [], ◌∷◌, inl, inr, refl, sym, subst, ◌∙◌}
+use Rattle.cm_base.specs.declared.limited.Limited.{Limited}
 use Rattle.cm_base.specs.declared.status.Status.{Status}
 use Rattle.cm_base.specs.declared.status.Status.TheVariants as answers
-use Rattle.cm_cli.specs.Answers.{report_over, ComesByCause, IsValid, IsCompleted, IsDecided, AsksOfSettled, NoneRose, NamesFault}
-use Rattle.cm_cli.specs.Answers.{SaysYes, SaysNo, SaysUndecided}
+use Rattle.cm_cli.specs.Answers.{report_over, AsksOfSettled, ComesByCause, IsCompleted, IsDecided, IsValid, NoneRose}
+use Rattle.cm_cli.specs.Headline.{Judgement, Meaning, ReplaysAll, ReplaysUpTo, SaysNo, SaysUndecided, SaysYes}
+use Rattle.cm_cli.specs.Reading.{AnyRose}
 use Rattle.cm_io.specs.Shelf.{Files, bytes_at, Rose}
 use Rattle.cm_report.proofs.Told.{of_report}
 use Rattle.cm_report.specs.Telling.{IsOfReport}
-use Rattle.model_report.proofs.Audits.{yes_is_never, no_is_run, undecided_is_open, settled_is_decided}
-use Rattle.model_report.proofs.Given.{verdict_is_given}
-use Rattle.model_report.proofs.Statuses.{each_by_its_cause}
-use Rattle.model_report.specs.Causes.{Cause, AfterLog, IsNo, IsUndecided}
-use Rattle.model_report.specs.Command.{command_of, query_of}
-use Rattle.model_report.specs.Given.{GivesVerdict}
+use Rattle.model_cred.specs.Process.{State}
+use Rattle.model_report.specs.Causes.{IsDrill}
+use Rattle.model_report.specs.Command.{Audit, Command, command_of, files_of, task_of}
+use Rattle.model_report.specs.Given.{Gives}
+use Rattle.model_report.specs.Judged.{Judged}
 use Rattle.model_report.specs.Query.{Query}
-use Rattle.model_report.specs.Laws.{EachByItsCause, VerdictIsGiven, YesIsNever, NoIsRun, UndecidedIsOpen}
-use Rattle.model_verdict.specs.Verdict.{Verdict}
+use Rattle.model_report.specs.Replay.{Report}
+use Rattle.model_report.specs.Task.{ToJudge}
+use Rattle.model_report_laws.proofs.Audits.{confirmed_is_run, no_is_run, settled_is_decided, undecided_is_open}
+use Rattle.model_report_laws.proofs.Audits.{yes_is_never, yes_prints_least}
+use Rattle.model_report_laws.proofs.Endings.{accepted_is_run, impossible_is_no_step}
+use Rattle.model_report_laws.proofs.Given.{judged_is_given, report_is_one}
+use Rattle.model_report_laws.proofs.Complete.{valid_is_answered}
+use Rattle.model_report_laws.proofs.Statuses.{each_by_its_cause}
+use Rattle.model_report_laws.specs.Answers.{ConfirmedIsRun, NoIsRun, SettledIsDecided, UndecidedIsOpen, YesIsNever}
+use Rattle.model_report_laws.specs.Answers.{YesPrintsLeast}
+use Rattle.model_report_laws.specs.Laws.{AcceptedIsRun, EachByItsCause, ImpossibleIsNoStep, IsAsAsked, JudgedIsGiven}
+use Rattle.model_report_laws.specs.Laws.{ReportIsOne, Shows, ValidIsAnswered}
 
--- The answer is the report's status, with each verdict that is given, where it is that of a report.
+-- The answer is the report's status, with whatever is given to be judged, where it is that of a report.
 abbrev pub IsReported : List (List ℕ) → Files → Status → Type 0
 IsReported words files answer =
-    (v : Verdict) → GivesVerdict words (bytes_at files) v → IsOfReport answer → answer ≡ (report_over words files v).status
+    (j : Judged) → Gives words (bytes_at files) j → IsOfReport answer → answer ≡ (report_over words files j).status
 
-module _ (words : List (List ℕ)) (files : Files) where
-  given : (v : Verdict) × GivesVerdict words (bytes_at files) v
-  unfolding VerdictIsGiven
-  given = verdict_is_given words (bytes_at files)
-
-  -- the answer's cause, from its being the report's status
-  pub by_cause : (answer : Status) → IsReported words files answer → IsOfReport answer → ComesByCause words files answer
-  unfolding EachByItsCause
-  by_cause answer is tells st = rw (is given.0 given.1 tells) (each_by_its_cause words (bytes_at files) given.0 st given.1)
-
-T : Status → Type 0
-T st = (st ≢ answers.ReadFault) × (st ≢ answers.WriteFault) × (st ≢ answers.NoMemory)
-
--- the cause of the answer, where it is a status of a report
-cause_of : (words : List (List ℕ)) (files : Files) (answer : Status) → (IsOfReport answer → ComesByCause words files answer)
-    → T answer → Cause words (bytes_at files) answer
-unfolding T
-cause_of words files answer by (a, b, c) = (by (of_report answer a b c) answer).0 refl
-
--- a replay that asks nothing has no answer to an audit
-asks_nothing : (words : List (List ℕ)) (bytes : List ℕ → List ℕ) (Holds : _) → query_of (command_of words) ≡ None → ¬ AfterLog words bytes Holds
-asks_nothing words bytes Holds none (is, q, asked, h) = absurd (let never : None ≡ Some q = sym none ∙ asked in cc)
-
--- what a status of a report stands for in valid input
-valid_by : (words : List (List ℕ)) (files : Files) (query : Option Query) (answer : Status) → query_of (command_of words) ≡ query
-    → IsValid words files → Cause words (bytes_at files) answer → IsCompleted query answer
-valid_by words files None answers.Accepted asked valid h = inl refl
-valid_by words files (Some q) answers.Accepted asked valid h = inl refl
-valid_by words files None answers.No asked valid h = absurd (asks_nothing words (bytes_at files) IsNo asked h)
-valid_by words files (Some q) answers.No asked valid h = inr (inl refl)
-valid_by words files None answers.Undecided asked valid h = absurd (asks_nothing words (bytes_at files) IsUndecided asked h)
-valid_by words files (Some q) answers.Undecided asked valid h = inr (inr (inl refl))
-valid_by words files query answers.NotBuilt asked valid h = absurd (valid.not_built h)
-valid_by words files query answers.Impossible asked valid h = absurd (valid.impossible h)
-valid_by words files query answers.BadWorld asked valid h = absurd (valid.bad_world h)
-valid_by words files query answers.BadLog asked valid h = absurd (valid.bad_log h)
-valid_by words files query answers.Usage asked valid h = absurd (valid.usage h)
-valid_by words files query answers.Limit asked valid h = absurd (valid.limit h)
-valid_by words files query answers.BadQuery asked valid h = absurd (valid.bad_query h)
-valid_by words files query _ asked valid h = absurd h
-
--- and where an audit asks of a settled family
-decided_by : (words : List (List ℕ)) (files : Files) (answer : Status) → IsValid words files → AsksOfSettled words files
-    → Cause words (bytes_at files) answer → IsDecided answer
-decided_by words files answers.Accepted valid asks h = inl refl
-decided_by words files answers.No valid asks h = inr (inl refl)
-decided_by words files answers.Undecided valid asks h =
-    absurd (settled_is_decided words (bytes_at files) asks.audits asks.settled h)
-decided_by words files answers.NotBuilt valid asks h = absurd (valid.not_built h)
-decided_by words files answers.Impossible valid asks h = absurd (valid.impossible h)
-decided_by words files answers.BadWorld valid asks h = absurd (valid.bad_world h)
-decided_by words files answers.BadLog valid asks h = absurd (valid.bad_log h)
-decided_by words files answers.Usage valid asks h = absurd (valid.usage h)
-decided_by words files answers.Limit valid asks h = absurd (valid.limit h)
-decided_by words files answers.BadQuery valid asks h = absurd (valid.bad_query h)
-decided_by words files _ valid asks h = absurd h
-
-no_memory : (query : Option Query) → IsCompleted query answers.NoMemory
-no_memory None = inr refl
-no_memory (Some q) = inr (inr (inr refl))
+-- a file whose count rose
+rose_of : (files : List (List ℕ × Limited)) (before now : List ℕ → ℕ) → AnyRose files before now
+    → ((n : List ℕ) → Rose (before n) (now n) → ⊥) → ⊥
+rose_of [] before now rose none = rose
+rose_of (file ∷ files) before now (inl rose) none = none file.0 rose
+rose_of (file ∷ files) before now (inr rose) none = rose_of files before now rose none
 
 wants_memory : (answer : Status) → (answer ≡ answers.NoMemory) ⊎ (answer ≢ answers.NoMemory)
 wants_memory answers.NoMemory = inl refl
 wants_memory _ = inr (λ e. cc)
 
+-- an audit that is answered as asked, and not left open, is decided
+audit_decided : (command : Command) (bytes : List ℕ → List ℕ) (q : Query) (answer : Status)
+    → task_of command bytes ≡ ToJudge q
+    → IsAsAsked command answer → answer ≢ answers.Undecided → IsDecided answer
+audit_decided (Audit world log pid right) bytes q answer is (inl first) open_ = inl first
+audit_decided (Audit world log pid right) bytes q answer is (inr (inl second)) open_ = inr (inl second)
+audit_decided (Audit world log pid right) bytes q answer is (inr (inr third)) open_ = absurd (open_ third)
+audit_decided _ bytes q answer is asked open_ = absurd (cc)
+
+module _ (words : List (List ℕ)) (files : Files) where
+  given : Judgement words files
+  unfolding JudgedIsGiven
+  given = judged_is_given words (bytes_at files)
+
+  -- the answer's cause, from its being the report's status
+  pub by_cause : (answer : Status) → IsReported words files answer → IsOfReport answer → ComesByCause words files answer
+  unfolding EachByItsCause
+  by_cause answer is tells st = rw (is given.0 given.1 tells)
+      (each_by_its_cause words (bytes_at files) given.0 st given.1)
+
+  -- valid input is answered as asked
+  as_asked : (answer : Status) → IsReported words files answer → IsOfReport answer → IsValid words (bytes_at files)
+      → IsAsAsked (command_of words) answer
+  unfolding ValidIsAnswered
+  as_asked answer is tells valid =
+      subst (IsAsAsked (command_of words)) (sym (is given.0 given.1 tells))
+      (valid_is_answered words (bytes_at files) given.0 given.1 valid)
+
 module _ (words : List (List ℕ)) (files : Files) (answer : Status) (reads reads' : List ℕ → ℕ) (writes writes' : ℕ)
     (is : IsReported words files answer)
-    (read : answer ≡ answers.ReadFault → NamesFault (command_of words) reads reads') (write : answer ≡ answers.WriteFault → Rose writes writes')
-    (valid : IsValid words files) (none : NoneRose reads reads' writes writes') where
-  no_read : answer ≢ answers.ReadFault
-  no_read fault = let named = read fault in elim named.rose [
-    | inl world ↦ none.reads_same named.world world
-    | inr log ↦ none.reads_same named.log log
-  ]
-
-  cause : answer ≢ answers.NoMemory → Cause words (bytes_at files) answer
-  unfolding T
-  cause not =
-      cause_of words files answer (λ tells. by_cause words files answer is tells) (no_read, λ fault. none.writes_same (write fault), not)
+    (read : answer ≡ answers.ReadFault → AnyRose (files_of (command_of words)) reads reads')
+    (write : answer ≡ answers.WriteFault → Rose writes writes')
+    (valid : IsValid words (bytes_at files)) (none : NoneRose reads reads' writes writes') where
+  tells : answer ≢ answers.NoMemory → IsOfReport answer
+  tells not =
+      of_report answer (λ fault. rose_of (files_of (command_of words)) reads reads' (read fault) none.reads_same)
+      (λ fault. none.writes_same (write fault)) not
 
   -- valid input where no fault was counted is completed
-  pub completed : IsCompleted (query_of (command_of words)) answer
+  pub completed : IsCompleted (command_of words) answer
   completed = elim (wants_memory answer) [
-    | inl same ↦ rw same (no_memory (query_of (command_of words)))
-    | inr not ↦ valid_by words files (query_of (command_of words)) answer refl valid (cause not)
+    | inl same ↦ inr same
+    | inr not ↦ inl (as_asked words files answer is (tells not) valid)
   ]
 
   -- and decided, of a settled family
   pub decided : AsksOfSettled words files → IsDecided answer
+  unfolding SettledIsDecided
   decided asks = elim (wants_memory answer) [
     | inl same ↦ inr (inr same)
-    | inr not ↦ decided_by words files answer valid asks (cause not)
+    | inr not ↦
+        audit_decided (command_of words) (bytes_at files) asks.asking.query answer asks.audits
+        (as_asked words files answer is (tells not) valid)
+        (λ left. settled_is_decided words (bytes_at files) (given words files).0 asks.asking
+        (given words files).1 asks.settled
+        (sym (is (given words files).0 (given words files).1 (tells not)) ∙ left))
   ]
 
--- ---- what an audit says, where the answer is the report's status
+-- ---- what an answer says, where it is the report's status
 module _ (words : List (List ℕ)) (files : Files) (answer : Status) (is : IsReported words files answer) where
-  said : (st : Status) → IsOfReport st → answer ≡ st → (v : Verdict) → GivesVerdict words (bytes_at files) v → (report_over words files v).status ≡ st
-  said st tells same v gives = sym (is v gives (subst IsOfReport (sym same) tells)) ∙ same
+  said : (st : Status) → IsOfReport st → answer ≡ st → (j : Judged) → Gives words (bytes_at files) j
+      → (report_over words files j).status ≡ st
+  said st tells same j gives = sym (is j gives (subst IsOfReport (sym same) tells)) ∙ same
+
+  accepted : answer ≡ answers.Accepted → (j : Judged) → Gives words (bytes_at files) j
+      → (report_over words files j).status ≡ answers.Accepted
+  accepted same j gives = said answers.Accepted (of_report answers.Accepted (λ e. cc) (λ e. cc) (λ e. cc)) same j gives
 
   pub says_yes : answer ≡ answers.Accepted → SaysYes words files
-  unfolding YesIsNever
-  says_yes same q asked =
-      yes_is_never words (bytes_at files) (given words files).0 q (given words files).1 asked
-      (said answers.Accepted (of_report answers.Accepted (λ e. cc) (λ e. cc) (λ e. cc)) same (given words files).0 (given words files).1)
+  unfolding YesIsNever YesPrintsLeast ConfirmedIsRun
+  says_yes same = record {
+    never = λ asks.
+        yes_is_never words (bytes_at files) (given words files).0 (given words files).1 asks
+        (accepted same (given words files).0 (given words files).1);
+    given = given words files;
+    least = λ q asked j gives. yes_prints_least words (bytes_at files) j q gives asked (accepted same j gives);
+    confirmed = λ q text asked j gives. confirmed_is_run words (bytes_at files) j q text gives asked
+        (accepted same j gives);
+  }
 
   pub says_no : answer ≡ answers.No → SaysNo words files
   unfolding NoIsRun
   says_no same = record {
     given = given words files;
-    shows = λ v gives.
-        no_is_run words (bytes_at files) v gives (said answers.No (of_report answers.No (λ e. cc) (λ e. cc) (λ e. cc)) same v gives);
+    shows = λ j gives.
+        no_is_run words (bytes_at files) j gives
+        (said answers.No (of_report answers.No (λ e. cc) (λ e. cc) (λ e. cc)) same j gives);
   }
 
   pub says_undecided : answer ≡ answers.Undecided → SaysUndecided words files
   unfolding UndecidedIsOpen
   says_undecided same = record {
     given = given words files;
-    shows = λ v gives.
-        undecided_is_open words (bytes_at files) v gives
-        (said answers.Undecided (of_report answers.Undecided (λ e. cc) (λ e. cc) (λ e. cc)) same v gives);
+    shows = λ j gives.
+        undecided_is_open words (bytes_at files) j gives
+        (said answers.Undecided (of_report answers.Undecided (λ e. cc) (λ e. cc) (λ e. cc)) same j gives);
+  }
+
+  -- what is shown of one report is shown of each
+  shown_by_all : (s : State) → Shows (report_over words files (given words files).0).lines s
+      → (j : Judged) → Gives words (bytes_at files) j → Shows (report_over words files j).lines s
+  unfolding ReportIsOne
+  shown_by_all s shows j gives =
+      subst (λ (r : Report). Shows r.lines s)
+      (report_is_one words (bytes_at files) (given words files).0 j (given words files).1 gives) shows
+
+  replays : answer ≡ answers.Accepted → ¬ IsDrill words → ReplaysAll words files
+  unfolding AcceptedIsRun
+  replays same drill =
+      let all = accepted_is_run words (bytes_at files) (given words files).0 (given words files).1 drill
+      (accepted same (given words files).0 (given words files).1) in
+      record { is = all.0; run = all.1; shows = λ shown j gives. shown_by_all all.0.state (all.2 shown) j gives }
+
+  replays_up_to : answer ≡ answers.Impossible → ReplaysUpTo words files
+  unfolding ImpossibleIsNoStep
+  replays_up_to same =
+      let up = impossible_is_no_step words (bytes_at files) (given words files).0 (given words files).1
+      (said answers.Impossible (of_report answers.Impossible (λ e. cc) (λ e. cc) (λ e. cc)) same (given words files).0
+      (given words files).1) in
+      record { is = up.0; run = up.1; shows = λ shown j gives. shown_by_all up.0.state (up.2 shown) j gives }
+
+  pub meaning : Meaning words files answer
+  meaning = record {
+    replays = replays;
+    impossible = replays_up_to;
+    yes = says_yes;
+    no = says_no;
+    undecided = says_undecided;
   }

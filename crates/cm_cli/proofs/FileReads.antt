@@ -1,48 +1,160 @@
--- How often the files of a command are read.
-use Rattle.std.proofs.Common.{◌≡◌, ◌≢◌, ◌≤◌, ◌∙◌, ℕ, List, Some, true, false}
-use Rattle.std.proofs.Common.{arith, bytes_eq, inl, inr, refl, subst, sym}
+-- How often files are read, what is taken of them, and which counts of faults rise: of one file, and of some after
+-- others.
+use Rattle.std.proofs.Common.{◌≡◌, ◌≢◌, ◌<◌, ◌≤◌, ◌+◌, ◌∙◌, ℕ, Bool, List, [], ◌∷◌, ◌++◌, true, false, not}
+use Rattle.std.proofs.Common.{arith, bytes_eq, inl, inr, refl, subst, sym, ap}
 use Rattle.std.proofs.lemmas.Bool.{cases_Bool}
 use Rattle.std.proofs.lemmas.Slice.Eq.{bytes_eq-Decides}
-use Rattle.cm_cli.specs.Reading.{IsFileOf, ReadsFor, under}
+use Rattle.cm_base.specs.declared.limited.Limited.{Limited}
+use Rattle.cm_cli.specs.Files.{AnyRose, ApartFor, FilesFaults, IsFileOf, ReadsFor, TakesFor, for_files, one_past, under}
 use Rattle.cm_io.proofs.ReadCounts.{each_then}
-use Rattle.cm_io.specs.Shelf.{EachGives, ReadsByBytes, TakesAtMost}
+use Rattle.cm_io.specs.Shelf.{CountsApart, EachGives, ReadsByBytes, Rose, TakesAtMost}
+
+-- ---- some files and then others
+count_both : (one more : List (List ℕ × Limited)) (many : Limited → ℕ) (n : List ℕ)
+    → for_files (one ++ more) many n ≡ for_files one many n + for_files more many n
+count_both [] more many n = omega arith
+count_both (file ∷ one) more many n =
+    let rest : for_files (one ++ more) many n ≡ for_files one many n + for_files more many n = count_both one more many
+    n in
+    omega (arith, rest)
+
+in_first : (one more : List (List ℕ × Limited)) (n : List ℕ) → IsFileOf one n → IsFileOf (one ++ more) n
+in_first [] more n is = absurd is
+in_first (file ∷ one) more n (inl same) = inl same
+in_first (file ∷ one) more n (inr is) = inr (in_first one more n is)
+
+in_later : (one more : List (List ℕ × Limited)) (n : List ℕ) → IsFileOf more n → IsFileOf (one ++ more) n
+in_later [] more n is = is
+in_later (file ∷ one) more n is = inr (in_later one more n is)
+
+-- ---- what is taken
+pub takes_none : (taken : List ℕ → ℕ) → TakesFor [] taken taken
+takes_none taken n = omega arith
+
+pub takes_then : (one more : List (List ℕ × Limited)) (taken taken' taken'' : List ℕ → ℕ) → TakesFor one taken taken'
+    → TakesFor more taken' taken'' → TakesFor (one ++ more) taken taken''
+takes_then one more taken taken' taken'' first second n =
+    let a = first n in
+    let b = second n in
+    let both = count_both one more one_past n in
+    omega (arith, a, b, both)
+
+-- ---- how often they are read
+pub reads_none : (reads taken : List ℕ → ℕ) → ReadsFor [] reads reads taken taken
+reads_none reads taken = record { later = λ n. omega arith; others = λ n isnt. refl; each = λ n. inl (omega arith) }
 
 -- the reads of any name, where one was read
 record OneRead (reads reads' taken taken' idle : ℕ) : Type 0 where
   later : taken ≤ taken'
   each : EachGives reads reads' taken taken' idle
 
-one_read : (reads reads' taken taken' : List ℕ → ℕ) (name : List ℕ) (most : ℕ) → ReadsByBytes reads reads' taken taken' name 1
-    → TakesAtMost taken taken' name most → (n : List ℕ) → OneRead (reads n) (reads' n) (taken n) (taken' n) (under name 1 n)
+one_read : (reads reads' taken taken' : List ℕ → ℕ) (name : List ℕ) (most : ℕ)
+    → ReadsByBytes reads reads' taken taken' name 1
+    → TakesAtMost taken taken' name most → (n : List ℕ)
+    → OneRead (reads n) (reads' n) (taken n) (taken' n) (under name 1 n + 0)
 one_read reads reads' taken taken' name most gives takes n = elim (cases_Bool (bytes_eq n name)) [
   | inl is ↦
       let same : n ≡ name = (bytes_eq-Decides n name).0 is in
-      subst (λ (m : List ℕ). OneRead (reads m) (reads' m) (taken m) (taken' m) (under name 1 n)) (sym same)
+      subst (λ (m : List ℕ). OneRead (reads m) (reads' m) (taken m) (taken' m) (under name 1 n + 0)) (sym same)
       (rw is (record { later = gives.later; each = gives.here }))
   | inr isnt ↦
-      let other : n ≢ name = λ e. let is = (bytes_eq-Decides n name).1 e in let never : true ≡ false = sym is ∙ isnt in cc in
+      let other : n ≢ name = λ e. let is = (bytes_eq-Decides n name).1 e in let never : true ≡ false = sym is ∙ isnt in
+      cc in
       let reads_same = gives.others n other in
       let taken_same = takes.others n other in
       rw isnt (record { later = omega (arith, taken_same); each = inl (omega (arith, reads_same, taken_same)) })
 ]
 
--- a name that is neither file's
-not_world : (world log n : List ℕ) → ¬ IsFileOf (Some (world, log)) n → n ≢ world
-not_world world log n isnt = λ e. isnt (record { world = world; log = log; names = refl; is = inl e })
-
-not_log : (world log n : List ℕ) → ¬ IsFileOf (Some (world, log)) n → n ≢ log
-not_log world log n isnt = λ e. isnt (record { world = world; log = log; names = refl; is = inr e })
-
--- the world, and then the log
-pub both_read : (world log : List ℕ) (reads reads' reads'' taken taken' taken'' : List ℕ → ℕ) (most most' : ℕ)
-    → ReadsByBytes reads reads' taken taken' world 1 → TakesAtMost taken taken' world most
-    → ReadsByBytes reads' reads'' taken' taken'' log 1 → TakesAtMost taken' taken'' log most'
-    → ReadsFor (Some (world, log)) reads reads'' taken taken''
-both_read world log reads reads' reads'' taken taken' taken'' most most' first takes second takes' = record {
-  others = λ n isnt. second.others n (not_log world log n isnt) ∙ first.others n (not_world world log n isnt);
-  each = λ n.
-      let of_world = one_read reads reads' taken taken' world most first takes n in
-      let of_log = one_read reads' reads'' taken' taken'' log most' second takes' n in
-      each_then (reads n) (reads' n) (reads'' n) (taken n) (taken' n) (taken'' n) (under world 1 n) (under log 1 n)
-      of_log.later of_world.each of_log.each;
+pub reads_one : (reads reads' taken taken' : List ℕ → ℕ) (name : List ℕ) (l : Limited) (most : ℕ)
+    → ReadsByBytes reads reads' taken taken' name 1 → TakesAtMost taken taken' name most
+    → ReadsFor ((name, l) ∷ []) reads reads' taken taken'
+reads_one reads reads' taken taken' name l most gives takes = record {
+  later = λ n. (one_read reads reads' taken taken' name most gives takes n).later;
+  others = λ n isnt. gives.others n (λ same. isnt (inl same));
+  each = λ n. (one_read reads reads' taken taken' name most gives takes n).each;
 }
+
+pub reads_then : (one more : List (List ℕ × Limited)) (reads reads' reads'' taken taken' taken'' : List ℕ → ℕ)
+    → ReadsFor one reads reads' taken taken' → ReadsFor more reads' reads'' taken' taken''
+    → ReadsFor (one ++ more) reads reads'' taken taken''
+reads_then one more reads reads' reads'' taken taken' taken'' first second = record {
+  later = λ n. let a = first.later n in let b = second.later n in omega (arith, a, b);
+  others = λ n isnt.
+      second.others n (λ is. isnt (in_later one more n is)) ∙ first.others n (λ is. isnt (in_first one more n is));
+  each = λ n.
+      subst (EachGives (reads n) (reads'' n) (taken n) (taken'' n)) (sym (count_both one more (λ l. 1) n))
+      (each_then (reads n) (reads' n) (reads'' n) (taken n) (taken' n) (taken'' n) (for_files one (λ l. 1) n)
+      (for_files more (λ l. 1) n)
+      (second.later n) (first.each n) (second.each n));
+}
+
+-- files that aren't read
+pub reads_more : (one more : List (List ℕ × Limited)) (reads reads' taken taken' : List ℕ → ℕ)
+    → ReadsFor one reads reads' taken taken'
+    → ReadsFor (one ++ more) reads reads' taken taken'
+reads_more one more reads reads' taken taken' first = record {
+  later = first.later;
+  others = λ n isnt. first.others n (λ is. isnt (in_first one more n is));
+  each = λ n.
+      let both = count_both one more (λ l. 1) n in
+      elim (first.each n) [
+        | inl gives ↦ inl (omega (arith, gives, both))
+        | inr last ↦ inr last
+      ];
+}
+
+pub takes_more : (one more : List (List ℕ × Limited)) (taken taken' : List ℕ → ℕ) → TakesFor one taken taken'
+    → TakesFor (one ++ more) taken taken'
+takes_more one more taken taken' first n = let a = first n in let both = count_both one more one_past n in
+    omega (arith, a, both)
+
+-- ---- faults
+pub rose_first : (one more : List (List ℕ × Limited)) (before now : List ℕ → ℕ) → AnyRose one before now
+    → AnyRose (one ++ more) before now
+rose_first [] more before now rose = absurd rose
+rose_first (file ∷ one) more before now (inl rose) = inl rose
+rose_first (file ∷ one) more before now (inr rose) = inr (rose_first one more before now rose)
+
+-- a count that rose after one that stayed
+pub rose_since : (before mid now : List ℕ → ℕ) (n : List ℕ) → mid n ≡ before n → Rose (mid n) (now n)
+    → Rose (before n) (now n)
+rose_since before mid now n same (inl less) = inl (omega (arith, same, less))
+rose_since before mid now n same (inr last) = inr last
+
+pub rose_later : (one more : List (List ℕ × Limited)) (before mid now : List ℕ → ℕ) → ((n : List ℕ) → mid n ≡ before n)
+    → AnyRose more mid now → AnyRose (one ++ more) before now
+rose_later [] [] before mid now same rose = absurd rose
+rose_later [] (file ∷ more) before mid now same (inl rose) = inl (rose_since before mid now file.0 (same file.0) rose)
+rose_later [] (file ∷ more) before mid now same (inr rose) = inr (rose_later [] more before mid now same rose)
+rose_later (file ∷ one) more before mid now same rose = inr (rose_later one more before mid now same rose)
+
+-- A file whose reads are apart, after others that raised no count: where the count of another name rose, it wasn't
+-- read.
+pub unread_apart : (counted : List ℕ → Bool) (faults faults' reads reads' : List ℕ → ℕ) (name other : List ℕ)
+    → CountsApart counted faults faults' reads reads' name → other ≢ name → faults other < faults' other
+    → reads' name ≡ reads name
+unread_apart counted faults faults' reads reads' name other apart not_it rose =
+    elim (cases_Bool (counted name)) [
+      | inl is ↦ let same = apart.faults_stay is other not_it in absurd (omega (arith, same, rose))
+      | inr isnt ↦ apart.reads_stay (ap not isnt)
+    ]
+
+-- files of which none was read
+pub takes_still : (files : List (List ℕ × Limited)) (taken : List ℕ → ℕ) → TakesFor files taken taken
+takes_still files taken = takes_more [] files taken taken (takes_none taken)
+
+pub reads_still : (files : List (List ℕ × Limited)) (reads taken : List ℕ → ℕ) → ReadsFor files reads reads taken taken
+reads_still files reads taken = reads_more [] files reads reads taken taken (reads_none reads taken)
+
+pub faults_still : {failed : Type 0} (files : List (List ℕ × Limited)) (before : List ℕ → ℕ) → (failed → ⊥)
+    → FilesFaults before before files failed
+faults_still files before never = record {
+  later = λ n. omega arith;
+  fault = λ is. absurd (never is);
+  others = λ none n. refl;
+}
+
+pub apart_still : (files : List (List ℕ × Limited)) (counted : List ℕ → Bool) (faults reads : List ℕ → ℕ)
+    → ApartFor files counted faults faults reads reads
+apart_still [] counted faults reads = tt
+apart_still (file ∷ files) counted faults reads = record { faults_stay = λ _ n other. refl; reads_stay = λ _. refl }

@@ -1,33 +1,33 @@
 -- The report of a log, and what comes after its replay.
-use Rattle.std.specs.Prelude.{◌≡◌, ℕ, List, [], ◌++◌, Option, Some}
+use Rattle.std.specs.Prelude.{◌≡◌, ℕ, List, Option}
 use Rattle.cm_base.specs.declared.status.Status.{Status}
-use Rattle.cm_base.specs.declared.status.Status.TheVariants as answers
+pub use Rattle.cm_cli.specs.Put.{IsPut}
 use Rattle.cm_declared.specs.World.{world_of}
 use Rattle.cm_declared.specs.declared.world.World.{World}
-use Rattle.model_cred.specs.Process.{State}
-use Rattle.model_cred.specs.World as model
-use Rattle.model_report.specs.Answer.{answer}
+use Rattle.cm_io.specs.Sink.{then_written}
+use Rattle.cm_report.specs.Sent.{IsFront}
+use Rattle.cm_report.specs.Telling.{IsOfReport}
 use Rattle.model_report.specs.Given.{LogGives}
-use Rattle.model_report.specs.Query.{Query}
+use Rattle.model_report.specs.Judged.{Judged}
 use Rattle.model_report.specs.Replay.{Report, text_of}
 use Rattle.model_report.specs.Report as whole
+use Rattle.model_report.specs.Task.{Task}
 use Rattle.model_strace.specs.Logs.{log_reading}
-use Rattle.model_verdict.specs.Verdict.{Verdict}
 
 -- the report of a log in the world, with what is asked after it
-abbrev pub log_report : Option Query → Verdict → World → List ℕ → Report
-log_report query v w log = whole.log_report query v (world_of w) (log_reading (world_of w) log)
+abbrev pub log_report : Task → Judged → World → List ℕ → Report
+log_report task j w log = whole.log_report task j (world_of w) (log_reading (world_of w) log)
 
--- the log in the world gives the verdict
-abbrev pub WorldGives : Option Query → World → List ℕ → Verdict → Type 0
-WorldGives query w log v = LogGives query (world_of w) (log_reading (world_of w) log) v
+-- the log in the world gives what is judged
+abbrev pub WorldGives : Task → World → List ℕ → Judged → Type 0
+WorldGives task w log j = LogGives task (world_of w) (log_reading (world_of w) log) j
 
--- what comes after the replay of a log that ends so, in the state that it leads to: the status, and more lines
-abbrev pub answer_to : Option Query → Verdict → model.World → Status → State → Report
-answer_to (Some q) v w answers.Accepted s = answer v w s q
-answer_to _ v w st s = record { status = st; lines = [] }
+-- With the status of a report all of its text is written, with any other a front of it.
+pub record WritesReport (r : Report) (answer : Status) (written written' : Option (List ℕ)) : Type 0 where
+  pub whole : IsOfReport answer → written' ≡ then_written written (text_of r.lines)
+  pub front : IsFront written written' (text_of r.lines)
 
--- The status is that of the report, and its text is put at the end of what was there.
-pub record IsPut (r : Report) (old new : List ℕ) (st : Status) : Type 0 where
-  pub status : st ≡ r.status
-  pub text : new ≡ old ++ text_of r.lines
+-- The answer tells the report, if it is that of a report at all.
+pub record TellsLog (r : Report) (answer : Status) (written written' : Option (List ℕ)) : Type 0 where
+  pub status : IsOfReport answer → answer ≡ r.status
+  pub text : WritesReport r answer written written'

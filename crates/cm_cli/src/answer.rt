@@ -1,125 +1,128 @@
-// The answer to an audit, after an accepted log: why the query is refused, or the verdict.
-ghost use Rattle.std.specs.Prelude.{◌≡◌, ◌<◌, ◌^◌, IfSome, IfNone, IsSomeAnd, None, length};
-ghost use Rattle.cm_audit.specs.Told.{told, verdict_in};
+// The answer to what is asked after an accepted log: why the query is refused, the verdict, or what comes of a claim.
+ghost use Rattle.std.specs.Prelude.{◌≡◌, ◌≢◌, ℕ, List, Err, IfOk, IfSome};
+ghost use Rattle.cm_audit.specs.Told.{told};
 ghost use Rattle.cm_base.specs.Outcome.{OrNoMemory};
-ghost use Rattle.cm_cli.specs.LogReport.{answer_to, IsPut};
-ghost use Rattle.cm_cli.specs.Query.{query_view, query_if};
+ghost use Rattle.cm_cli.specs.Claims.{ClaimStands, IsLogAnswer};
+ghost use Rattle.cm_cli.specs.LogReport.{IsPut};
+ghost use Rattle.cm_cli.specs.Query.{file_of, query_view, task_view};
+ghost use Rattle.cm_cli.specs.Reading.{ApartFor, FilesFaults, ReadsFor, TakesFor};
 ghost use Rattle.cm_declared.specs.World.{world_of};
-ghost use Rattle.model_report.specs.Answer.{answer, verdict_report};
+ghost use Rattle.cm_io.specs.Shelf.{bytes_at};
+ghost use Rattle.model_report.specs.Answer.{answer, query_answer, verdict_report};
 ghost use Rattle.model_report.specs.Given.{StateGives};
-ghost use Rattle.model_report.specs.Query.{asked_process};
+ghost use Rattle.model_report.specs.Judged.{Judged};
 ghost use Rattle.model_report.specs.Replay.{IsWithin};
+ghost use Rattle.model_report.specs.Task.{ToJudge};
 ghost use Rattle.model_run.specs.Never.{MountsStand};
-ghost use Rattle.model_verdict.specs.Verdict.{Verdict as ModelVerdict};
 
-use crate::answers::{put_bad_query, put_run, put_undecided, put_yes};
-use crate::query::{Query, read_right};
+use crate::answers::{put_certificate, put_run, put_undecided, put_yes};
+use crate::asking::{Refusal, put_refusal, read_query};
+use crate::claims::put_claim;
+use crate::query::{Query, Task};
+use crate::untold::Untold;
 use cm_audit::{AuditRefusal, Verdict, audit};
-use cm_base::{Limited, NoMemory, Pid, Status};
+use cm_base::{NoMemory, Status};
 use cm_declared::World;
+use cm_io::Shelf;
 use cm_machine::Machine;
-use cm_report::put_limit;
-use cm_script::read_pid;
 use cm_state::{Spaces, State};
 use std::alloc::Global;
 
-/// Where an audit is asked: the machine after the log, in its world.
-#[derive(Clone, Copy, Debug)]
-pub(crate) struct Asked<'a> {
-    pub world: &'a World,
-    pub machine: &'a Machine,
-}
-
-/// Answers what is asked after a replay that ended with this status, and says the status of the whole: with whatever
-/// verdict the state gives.
-pub(crate) fn put_answer(
+/// Answers what is asked after an accepted log, and says the status of the whole: with whatever is judged so in the
+/// state.
+pub(crate) fn put_answer<H: Shelf>(
     alloc: Global,
-    asked: Asked<'_>,
-    query: Option<Query<'_>>,
-    replayed: Status,
+    w: &World,
+    machine: Machine,
+    task: Task<'_>,
+    shelf: &mut H,
     text: &mut Vec<u8>,
-) -> Result<Status, NoMemory>
-    requires within { replayed ≡ Status.Accepted → IsWithin asked.machine.now.state }
-    requires mounts { replayed ≡ Status.Accepted → MountsStand (world_of asked.world.now) asked.machine.now.state }
-    ensures { (v : ModelVerdict) →
-        (replayed ≡ Status.Accepted → StateGives (query_if query.entry) (world_of asked.entry.world.now) asked.entry.machine.now.state v) →
-        OrNoMemory result (λ status. IsPut (answer_to (query_if query.entry) v (world_of asked.entry.world.now) replayed
-        asked.entry.machine.now.state) text.old.items text.new.items status) }
+) -> Result<Status, Untold>
+    requires within { IsWithin machine.state }
+    requires mounts { MountsStand (world_of w.now) machine.state }
+    ensures report { IfSome (H.held shelf.old) (λ files. (j : Judged) →
+        StateGives (task_view task.entry (bytes_at files)) (world_of w.now) machine.state j →
+        IfOk result (λ status. IsPut (answer (task_view task.entry (bytes_at files)) j (world_of w.now) machine.state)
+        text.old.items text.new.items status)) }
+    ensures answers { IfOk result IsLogAnswer }
+    ensures not_write_fault { result ≢ Err Untold.WriteFault }
+    // The file of a claim is read only where its query stands.
+    ensures stands { result ≡ Err Untold.ReadFault → ClaimStands task.entry (world_of w.now) machine.state }
+    ensures waits { (ClaimStands task.entry (world_of w.now) machine.state → ⊥) → (n : List ℕ)
+        → H.reads shelf.new n ≡ H.reads shelf.old n }
+    ensures held { H.held shelf.new ≡ H.held shelf.old }
+    ensures faults { FilesFaults (H.faults shelf.old) (H.faults shelf.new) (file_of task.entry)
+        (result ≡ Err Untold.ReadFault) }
+    ensures takes { TakesFor (file_of task.entry) (H.taken shelf.old) (H.taken shelf.new) }
+    ensures reads { ReadsFor (file_of task.entry) (H.reads shelf.old) (H.reads shelf.new) (H.taken shelf.old)
+        (H.taken shelf.new) }
+    ensures apart { ApartFor (file_of task.entry) (H.counted shelf.old) (H.faults shelf.old) (H.faults shelf.new)
+        (H.reads shelf.old) (H.reads shelf.new) }
 {
-    match (query, replayed) {
-        (Some(query), Status::Accepted) => put_verdict(alloc, asked, query, text),
-        _ => Ok(replayed),
+    match task {
+        Task::Nothing => Ok(Status::Accepted),
+        Task::Judge(query) => {
+            let status = put_verdict(alloc, w, &machine, query, text)?;
+            Ok(status)
+        }
+        Task::Claims(claim) => put_claim(alloc, w, machine, claim, shelf, text),
     }
 }
 
-// Answers a query after an accepted log.
+// Answers an audit.
 fn put_verdict(
     alloc: Global,
-    asked: Asked<'_>,
+    w: &World,
+    m: &Machine,
     query: Query<'_>,
     text: &mut Vec<u8>,
 ) -> Result<Status, NoMemory>
-    requires within { IsWithin asked.machine.now.state }
-    requires mounts { MountsStand (world_of asked.world.now) asked.machine.now.state }
-    ensures { (v : ModelVerdict) →
-        StateGives (Some (query_view query.entry)) (world_of asked.entry.world.now) asked.entry.machine.now.state v →
-        OrNoMemory result (λ status. IsPut (answer v (world_of asked.entry.world.now) asked.entry.machine.now.state
+    requires within { IsWithin m.now.state }
+    requires mounts { MountsStand (world_of w.now) m.now.state }
+    ensures report { (j : Judged) → StateGives (ToJudge (query_view query.entry)) (world_of w.now) m.now.state j →
+        OrNoMemory result (λ status. IsPut
+        (query_answer (ToJudge (query_view query.entry)) j (world_of w.now) m.now.state
         (query_view query.entry)) text.old.items text.new.items status) }
+    ensures answers { IfOk result IsLogAnswer }
 {
-    let m: &Machine = asked.machine;
     let st: &State = &m.state;
-    let Some(root) = asked_pid(st, query.pid.as_bytes()) else {
-        return put_bad_query(text, b"pid");
+    let (root, right) = match read_query(w, st, query) {
+        Ok(asked) => asked,
+        Err(why) => return put_refusal(text, why),
     };
-    let Some(right) = read_right(&asked.world.names, query.right.as_bytes()) else {
-        return put_bad_query(text, b"right");
-    };
-    match audit(alloc, asked.world, m, root, &right) {
-        Ok(verdict) => put_told(text, asked.world, &st.spaces, &verdict),
-        Err(AuditRefusal::NoProcess) => put_bad_query(text, b"pid"),
-        Err(AuditRefusal::NoSpace) => put_bad_query(text, b"space"),
-        Err(AuditRefusal::FamilyTooLarge(_)) => {
-            put_limit(text, Limited::Family)?;
-            Ok(Status::Limit)
-        }
+    match audit(alloc, w, m, root, &right) {
+        Ok(verdict) => put_told(alloc, text, w, &st.spaces, &verdict),
+        Err(AuditRefusal::NoProcess) => put_refusal(text, Refusal::Pid),
+        Err(AuditRefusal::NoSpace) => put_refusal(text, Refusal::Space),
+        Err(AuditRefusal::FamilyTooLarge(_)) => put_refusal(text, Refusal::Family),
         Err(AuditRefusal::NoMemory) => Err(NoMemory),
-    }
-}
-
-// The pid that the text is, where it is that of a live process.
-#[tactic(auto, using(crate::proofs::Auditing::found_named))]
-fn asked_pid(state: &State, text: &[u8]) -> Option<Pid>
-    ensures found { IfSome result (λ pid. IsSomeAnd (asked_process state.now text.now) (λ p. p.pid ≡ pid)) }
-    ensures none { IfNone result (asked_process state.now text.now ≡ None) }
-{
-    let pid = read_pid(text)?;
-    match state.procs.find(pid) {
-        Some(_) => Some(pid),
-        None => None,
     }
 }
 
 // What a verdict says, and its status.
 fn put_told(
+    alloc: Global,
     text: &mut Vec<u8>,
     w: &World,
     spaces: &Spaces,
     verdict: &Verdict,
 ) -> Result<Status, NoMemory>
-    ensures { OrNoMemory result (λ status. IsPut (verdict_report (world_of w.now) spaces.now (verdict_in (told verdict.now)))
+    ensures report { OrNoMemory result (λ status. IsPut (verdict_report (world_of w.now) spaces.now (told verdict.now))
         text.old.items text.new.items status) }
+    ensures answers { IfOk result IsLogAnswer }
 {
     match verdict {
-        Verdict::Yes(_) => {
-            put_yes(text)?;
+        Verdict::Yes(bounds) => {
+            put_yes(alloc, text, bounds)?;
             Ok(Status::Accepted)
         }
         Verdict::No { run, holder } => {
             put_run(text, w, *holder, run)?;
             Ok(Status::No)
         }
-        Verdict::Undecided { rule, row, .. } => {
+        Verdict::Undecided { rule, row, below } => {
             put_undecided(text, &w.names, spaces, *rule, *row)?;
+            put_certificate(alloc, text, below)?;
             Ok(Status::Undecided)
         }
     }

@@ -1,9 +1,11 @@
-// What an audit asks: the texts of a pid and of a right (choice).
+// What is asked after a log: the texts of a pid and of a right (choice), and a certificate or a run that is put
+// forward.
 ghost use Rattle.std.specs.Prelude.{◌≡◌, ◌<◌, ◌==◌, length, position, option_map, IfSome, MatchOption, None, Some};
+ghost use Rattle.cm_cli.specs.Query.{limit_of, shows_of};
 ghost use Rattle.cm_state.specs.Right.{right_of};
 ghost use Rattle.model_report.specs.Query.{rest_after, id_number, cap_text, right_token};
 
-use cm_base::{Cap, Kgid, Kuid, read_u32};
+use cm_base::{Cap, Kgid, Kuid, Limited, read_u32};
 use cm_declared::Names;
 use cm_state::Right;
 
@@ -12,6 +14,55 @@ use cm_state::Right;
 pub(crate) struct Query<'a> {
     pub pid: &'a str,
     pub right: &'a str,
+}
+
+/// What is put forward about a query: a certificate, that no member ever holds the right; or a run, after which one
+/// does.
+#[derive(Clone, Copy, Debug, PartialEq, Eq)]
+pub(crate) enum ClaimKind {
+    Certificate,
+    Run,
+}
+
+/// A certificate or a run, in the file of that name, about what a query asks.
+#[derive(Clone, Copy, Debug)]
+pub(crate) struct Claim<'a> {
+    pub kind: ClaimKind,
+    pub query: Query<'a>,
+    pub file: &'a str,
+}
+
+/// What is asked after the replay of a log: nothing, a verdict on what a query asks, or whether a claim stands.
+#[derive(Clone, Copy, Debug)]
+pub(crate) enum Task<'a> {
+    Nothing,
+    Judge(Query<'a>),
+    Claims(Claim<'a>),
+}
+
+impl ClaimKind {
+    /// The limit of the file's size.
+    pub(crate) fn limit(self) -> Limited
+        ensures { result ≡ limit_of self }
+    {
+        match self {
+            ClaimKind::Certificate => Limited::Certificate,
+            ClaimKind::Run => Limited::Run,
+        }
+    }
+}
+
+impl Task<'_> {
+    /// The replay is shown: before a claim it isn't.
+    pub(crate) fn shows(&self) -> bool
+        ensures { result ≡ shows_of self.now }
+    {
+        match self {
+            Task::Nothing => true,
+            Task::Judge(_) => true,
+            Task::Claims(_) => false,
+        }
+    }
 }
 
 /// The right that a text is: `uid:K`, `gid:K` or `cap:NAME@SPACE`.
@@ -68,7 +119,8 @@ fn place_of_at(text: &[u8]) -> Option<usize>
 
 // What stands after these bytes, where the text begins with them.
 fn rest_after<'a>(front: &[u8], text: &'a [u8]) -> Option<&'a [u8]>
-    ensures { MatchOption result (rest_after front.now text.now ≡ None) (λ rest. rest_after front.now text.now ≡ Some rest.now) }
+    ensures { MatchOption result (rest_after front.now text.now ≡ None)
+        (λ rest. rest_after front.now text.now ≡ Some rest.now) }
 {
     text.strip_prefix(front)
 }

@@ -1,19 +1,24 @@
 // The words of the command line, and which command they name (choice).
-ghost use Rattle.std.specs.Prelude.{◌≡◌, ◌∷◌};
+ghost use Rattle.std.specs.Prelude.{◌≡◌, ◌∷◌, string_bytes};
+ghost use Rattle.cm_cli.specs.Query.{query_view};
 ghost use Rattle.cm_cli.specs.Words.{command_view, command_in, bytes_of};
-ghost use Rattle.model_report.specs.Command.{command_of, replay_words, audit_words, later_words, drill_words, is_drill_number};
+ghost use Rattle.model_report.specs.Command.{command_of, replay_words, audit_words, check_words, confirm_words};
+ghost use Rattle.model_report.specs.Command.{drill_words, drill_of, query};
 ghost use Rattle.model_text.specs.Token.{number_token};
 
-use crate::query::Query;
+use crate::query::{Claim, ClaimKind, Query, Task};
 use cm_base::read_u32;
 
-/// What the words ask for: the replay of a log in a world, an audit after it, one of the forms that aren't built, or
+/// What the words ask for: the replay of a log in a world, with what is asked after it; a drill of so many events; or
 /// none of the forms.
 #[derive(Clone, Copy, Debug)]
 pub(crate) enum Command<'a> {
-    Replay(&'a str, &'a str),
-    Audit(&'a str, &'a str, Query<'a>),
-    Later,
+    Log {
+        world: &'a str,
+        log: &'a str,
+        task: Task<'a>,
+    },
+    Drill(u32),
     NoForm,
 }
 
@@ -34,8 +39,10 @@ fn read_named<'a>(name: &str, words: &'a [String]) -> Command<'a>
         read_replay(words)
     } else if name == "audit" {
         read_audit(words)
-    } else if name == "check" || name == "confirm" {
-        read_later(5, words)
+    } else if name == "check" {
+        read_check(words)
+    } else if name == "confirm" {
+        read_confirm(words)
     } else if name == "drill" {
         read_drill(words)
     } else {
@@ -47,7 +54,11 @@ fn read_replay(words: &[String]) -> Command<'_>
     ensures { command_view result ≡ replay_words (bytes_of words.now) }
 {
     match words {
-        [world, log] => Command::Replay(world.as_str(), log.as_str()),
+        [world, log] => Command::Log {
+            world: world.as_str(),
+            log: log.as_str(),
+            task: Task::Nothing,
+        },
         _ => Command::NoForm,
     }
 }
@@ -56,24 +67,56 @@ fn read_audit(words: &[String]) -> Command<'_>
     ensures { command_view result ≡ audit_words (bytes_of words.now) }
 {
     match words {
-        [world, log, pid, right] => {
-            let query = Query {
-                pid: pid.as_str(),
-                right: right.as_str(),
-            };
-            Command::Audit(world.as_str(), log.as_str(), query)
-        }
+        [world, log, pid, right] => Command::Log {
+            world: world.as_str(),
+            log: log.as_str(),
+            task: Task::Judge(query(pid, right)),
+        },
         _ => Command::NoForm,
     }
 }
 
-fn read_later(count: usize, words: &[String]) -> Command<'_>
-    ensures { command_view result ≡ later_words count (bytes_of words.now) }
+fn read_check(words: &[String]) -> Command<'_>
+    ensures { command_view result ≡ check_words (bytes_of words.now) }
 {
-    if words.len() == count {
-        Command::Later
-    } else {
-        Command::NoForm
+    match words {
+        [world, log, pid, right, certificate] => Command::Log {
+            world: world.as_str(),
+            log: log.as_str(),
+            task: Task::Claims(Claim {
+                kind: ClaimKind::Certificate,
+                query: query(pid, right),
+                file: certificate.as_str(),
+            }),
+        },
+        _ => Command::NoForm,
+    }
+}
+
+fn read_confirm(words: &[String]) -> Command<'_>
+    ensures { command_view result ≡ confirm_words (bytes_of words.now) }
+{
+    match words {
+        [world, log, pid, right, run] => Command::Log {
+            world: world.as_str(),
+            log: log.as_str(),
+            task: Task::Claims(Claim {
+                kind: ClaimKind::Run,
+                query: query(pid, right),
+                file: run.as_str(),
+            }),
+        },
+        _ => Command::NoForm,
+    }
+}
+
+// The query of two words.
+fn query<'a>(pid: &'a String, right: &'a String) -> Query<'a>
+    ensures { query_view result ≡ query (string_bytes pid.now) (string_bytes right.now) }
+{
+    Query {
+        pid: pid.as_str(),
+        right: right.as_str(),
     }
 }
 
@@ -81,23 +124,17 @@ fn read_drill(words: &[String]) -> Command<'_>
     ensures { command_view result ≡ drill_words (bytes_of words.now) }
 {
     match words {
-        [n] => {
-            if counts_drill(n.as_bytes()) {
-                Command::Later
-            } else {
-                Command::NoForm
-            }
-        }
+        [n] => drill_of(n.as_bytes()),
         _ => Command::NoForm,
     }
 }
 
-// The number of events of a drill: at most 100000.
-fn counts_drill(text: &[u8]) -> bool
-    ensures { result ≡ is_drill_number (number_token text.now) }
+// The drill of a number of events: at most 100000.
+fn drill_of<'a>(text: &[u8]) -> Command<'a>
+    ensures { command_view result ≡ drill_of (number_token text.now) }
 {
     match read_u32(text) {
-        Ok(n) => n <= 100_000,
-        Err(_) => false,
+        Ok(n) if n <= 100_000 => Command::Drill(n),
+        _ => Command::NoForm,
     }
 }

@@ -1,8 +1,8 @@
 // The number that each answer ends the program with.
 use super::*;
 
-// As docs/FORMATS.md tells them, with those that no command built so far answers.
-const NUMBERS: [(Status, u8); 14] = [
+// As docs/FORMATS.md tells them.
+const NUMBERS: [(Status, u8); 13] = [
     (Status::Accepted, 0),
     (Status::No, 1),
     (Status::Undecided, 2),
@@ -16,7 +16,6 @@ const NUMBERS: [(Status, u8); 14] = [
     (Status::NoMemory, 10),
     (Status::Refused, 11),
     (Status::BadQuery, 12),
-    (Status::NotBuilt, 13),
 ];
 
 #[test]

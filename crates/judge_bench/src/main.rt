@@ -3,37 +3,68 @@
 //! runs, and how often `check`, which is asked of the user id 4294967294.
 //!
 //! It prints a line on the bounds, then one after all runs of `closed`, and one after all of `check`.
+//!
+//! With the word `json`, or the word `certificate` and a number of spaces, standard input is a certificate's text, which
+//! is read by serde_json alone, or as bounds; it prints whether it is.
 #![tactic(auto)]
 
 mod passes;
 mod setup;
 mod stop;
 mod sums;
+mod texts;
 
 use crate::passes::{times_closed, times_judged};
 use crate::setup::start;
 use crate::stop::Stop;
 use crate::sums::sums_of;
+use crate::texts::{Text, as_bounds, as_value};
 use cm_maker::least;
+use std::alloc::Global;
 use std::{env, io};
 
 fn main(rt: HostRuntime) -> Result<(), Stop> {
     let alloc = rt.alloc();
     let mut words = env::args(&rt)?.skip(1);
-    let closed_runs = count_of(words.next());
-    let check_runs = count_of(words.next());
+    let first = words.next();
+    let second = words.next();
     let text = io::read_to_string(alloc, rt.stdin())?;
+    if let Some(read) = read_as(alloc, &first, &second, text.as_bytes())? {
+        println!(rt; "{:?}", read)?;
+        return Ok(());
+    }
     let s = start(alloc, text.as_bytes())?;
     let b = least(alloc, &s.m.state, &s.w.files, s.w.filter, &s.members)?;
     println!(rt; "least {}", sums_of(&b))?;
-    println!(rt; "closed {}", times_closed(&s, &b, closed_runs))?;
-    let (holds, meets) = times_judged(&s, &b, check_runs);
+    println!(rt; "closed {}", times_closed(&s, &b, number_of(&first)))?;
+    let (holds, meets) = times_judged(&s, &b, number_of(&second));
     println!(rt; "check {holds} {meets}")?;
     Ok(())
 }
 
-// The number that a word writes, 0 where it is none.
-fn count_of(word: Option<String>) -> u32 {
+// Whether the text is read, where the words ask for that.
+fn read_as(
+    alloc: Global,
+    first: &Option<String>,
+    second: &Option<String>,
+    text: &[u8],
+) -> Result<Option<Text>, Stop> {
+    let Some(word) = first else {
+        return Ok(None);
+    };
+    if word.as_str() == "json" {
+        let read = as_value(alloc, text)?;
+        return Ok(Some(read));
+    }
+    if word.as_str() == "certificate" {
+        let read = as_bounds(alloc, text, number_of(second) % 65_536)?;
+        return Ok(Some(read));
+    }
+    Ok(None)
+}
+
+// The number that a word writes, 0 where there is none.
+fn number_of(word: &Option<String>) -> u32 {
     match word {
         Some(word) => word.parse::<u32>().unwrap_or(0),
         None => 0,

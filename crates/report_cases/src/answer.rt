@@ -1,4 +1,4 @@
-// What a command answers and writes over two files in memory, `world` and `log`.
+// What a command answers and writes over four files in memory, `world`, `log`, `certificate` and `calls`.
 ghost use Rattle.std.specs.Prelude.{[], Some, IfOk};
 ghost use Rattle.cm_cli.specs.Answers.{AnswersReport};
 ghost use Rattle.cm_cli.specs.Words.{command_in};
@@ -14,15 +14,19 @@ pub(crate) struct Answer {
     pub(crate) report: Vec<u8>,
 }
 
+/// The texts of the four files.
+#[derive(Drop)]
+pub(crate) struct Texts {
+    pub(crate) world: Vec<u8>,
+    pub(crate) log: Vec<u8>,
+    pub(crate) certificate: Vec<u8>,
+    pub(crate) calls: Vec<u8>,
+}
+
 /// What these words answer and write.
-pub(crate) fn answered(
-    alloc: Global,
-    words: &[&str],
-    world: &[u8],
-    log: &[u8],
-) -> Result<Answer, Stop> {
+pub(crate) fn answered(alloc: Global, words: &[&str], texts: &Texts) -> Result<Answer, Stop> {
     let words = strings(alloc, words)?;
-    let mut shelf = shelf(alloc, world, log)?;
+    let mut shelf = shelf(alloc, texts)?;
     over(alloc, &words, &mut shelf)
 }
 
@@ -46,14 +50,15 @@ fn strings(alloc: Global, words: &[&str]) -> Result<Vec<String>, AllocError> {
     Ok(strings)
 }
 
-// A shelf that holds a world and a log, of which no read fails.
-fn shelf(alloc: Global, world: &[u8], log: &[u8]) -> Result<MemShelf, Stop> {
-    let names = strings(alloc, &["world", "log"])?;
-    let mut texts = Vec::new(alloc);
-    texts.push(world.to_vec(alloc)?)?;
-    texts.push(log.to_vec(alloc)?)?;
-    if !are_distinct(&names) || texts.len() != names.len() {
+// A shelf that holds the files, of which no read fails.
+fn shelf(alloc: Global, texts: &Texts) -> Result<MemShelf, Stop> {
+    let names = strings(alloc, &["world", "log", "certificate", "calls"])?;
+    let mut held = Vec::new(alloc);
+    for text in [&texts.world, &texts.log, &texts.certificate, &texts.calls] {
+        held.push(text.to_vec(alloc)?)?;
+    }
+    if !are_distinct(&names) || held.len() != names.len() {
         return Err(Stop::NoShelf);
     }
-    Ok(MemShelf::new(alloc, names, texts, Vec::new(alloc))?)
+    Ok(MemShelf::new(alloc, names, held, Vec::new(alloc))?)
 }

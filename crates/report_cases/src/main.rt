@@ -1,6 +1,6 @@
-//! Worked cases of the program: what `cm_cli::run` answers and writes to the words of a command, over a world and a log in
-//! memory. The cases are standard input, line by line (docs/TESTING.md tells their form); each case is printed by its name,
-//! with its report and its status.
+//! Worked cases of the program: what `cm_cli::run` answers and writes to the words of a command, over files in memory: a
+//! world, a log, a certificate and the calls of a run. The cases are standard input, line by line (docs/TESTING.md tells
+//! their form); each case is printed by its name, with its report and its status.
 #![tactic(auto)]
 
 mod answer;

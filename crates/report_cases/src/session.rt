@@ -1,22 +1,23 @@
 // The lines of cases, one after the other, and what is told of them.
 ghost use Rattle.std.specs.Prelude.{◌≡◌, ◌++◌, OnOk, [], ◌∷◌};
 
-use crate::answer::answered;
+use crate::answer::{Texts, answered};
 use crate::stop::Stop;
 use std::alloc::{AllocError, Global};
 
-// One of the two files.
+// One of the files.
 #[derive(Clone, Copy)]
 enum File {
     World,
     Log,
+    Certificate,
+    Calls,
 }
 
-// What is read so far: the texts of the two files; the file whose lines come now, if any; what is told.
+// What is read so far: the texts of the files; the file whose lines come now, if any; what is told.
 #[derive(Drop)]
 struct Session {
-    world: Vec<u8>,
-    log: Vec<u8>,
+    texts: Texts,
     open: Option<File>,
     told: Vec<u8>,
 }
@@ -24,8 +25,12 @@ struct Session {
 // What the lines of a text tell: each case's name, and each report with its status.
 pub(crate) fn told(alloc: Global, text: &str) -> Result<Vec<u8>, Stop> {
     let mut s = Session {
-        world: Vec::new(alloc),
-        log: Vec::new(alloc),
+        texts: Texts {
+            world: Vec::new(alloc),
+            log: Vec::new(alloc),
+            certificate: Vec::new(alloc),
+            calls: Vec::new(alloc),
+        },
         open: None,
         told: Vec::new(alloc),
     };
@@ -35,6 +40,17 @@ pub(crate) fn told(alloc: Global, text: &str) -> Result<Vec<u8>, Stop> {
     match s.open {
         None => Ok(s.told),
         Some(_) => Err(Stop::Open),
+    }
+}
+
+impl Texts {
+    fn of(&mut self, file: File) -> &mut Vec<u8> {
+        match file {
+            File::World => &mut self.world,
+            File::Log => &mut self.log,
+            File::Certificate => &mut self.certificate,
+            File::Calls => &mut self.calls,
+        }
     }
 }
 
@@ -48,10 +64,7 @@ impl Session {
 
     // A line of a file's text, or one that ends it.
     fn text_line(&mut self, file: File, line: &str) -> Result<(), Stop> {
-        let text = match file {
-            File::World => &mut self.world,
-            File::Log => &mut self.log,
-        };
+        let text = self.texts.of(file);
         match line {
             "end" => self.open = None,
             "end without LF" => {
@@ -70,6 +83,8 @@ impl Session {
             [] | ["#", ..] => {}
             ["world"] => self.begin(File::World),
             ["log"] => self.begin(File::Log),
+            ["certificate"] => self.begin(File::Certificate),
+            ["calls"] => self.begin(File::Calls),
             ["case", ..] => put_line(&mut self.told, line)?,
             ["run", words @ ..] => self.run(alloc, words)?,
             _ => self.refuse(line)?,
@@ -79,16 +94,13 @@ impl Session {
 
     // The text of a file begins anew.
     fn begin(&mut self, file: File) {
-        match file {
-            File::World => self.world.clear(),
-            File::Log => self.log.clear(),
-        }
+        self.texts.of(file).clear();
         self.open = Some(file);
     }
 
     // Tells the report and the status of a command.
     fn run(&mut self, alloc: Global, words: &[&str]) -> Result<(), Stop> {
-        let answer = answered(alloc, words, &self.world, &self.log)?;
+        let answer = answered(alloc, words, &self.texts)?;
         let status = format!(in alloc; "status {}", answer.status.number())?;
         self.told.extend_from_slice(&answer.report)?;
         put_line(&mut self.told, status.as_str())?;

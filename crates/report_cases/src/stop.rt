@@ -5,7 +5,7 @@ use std::io;
 
 #[derive(Debug, Drop)]
 pub(crate) enum Stop {
-    /// The text ends within a world or a log.
+    /// The text ends within the text of a file.
     Open,
     /// Two files have one name, or a name has no text.
     NoShelf,

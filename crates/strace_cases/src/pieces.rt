@@ -5,7 +5,7 @@ use crate::stop::Stop;
 use crate::values::word;
 use cm_base::Pid;
 use cm_strace_text::{
-    Body, Quote, Row, after_mark, before_mark, bracketed, bracketed_whole, call_name, cut_at,
+    Body, PidLine, Quote, after_mark, before_mark, bracketed, bracketed_whole, call_name, cut_at,
     cut_name, ends_name, next_argument, read_arguments, read_body, read_quote, read_row,
     read_written, trimmed, value_of, without_32, without_front,
 };
@@ -63,9 +63,9 @@ pub(crate) fn marked_answer(alloc: Global, line: &str) -> Result<Vec<u8>, Stop> 
 
 fn row_shown(alloc: Global, line: &[u8]) -> Result<Vec<u8>, Stop> {
     match read_row(line) {
-        Row::Blank => word(alloc, "Blank"),
-        Row::NoPid => word(alloc, "NoPid"),
-        Row::Of(pid, body) => of_pid(alloc, pid, body),
+        PidLine::Blank => word(alloc, "Blank"),
+        PidLine::NoPid => word(alloc, "NoPid"),
+        PidLine::Of(pid, body) => of_pid(alloc, pid, body),
     }
 }
 

@@ -1,4 +1,4 @@
-use Rattle.std.proofs.Common.{◌≡◌, ◌*◌, length, arith}
+use Rattle.std.proofs.Common.{arith}
 use Rattle.cm_cert.proofs.document.bounds_of.Goals as goal
 use Rattle.model_cert.proofs.Counts.{document_has_rows}
 use Rattle.serde_json.specs.View.{view}

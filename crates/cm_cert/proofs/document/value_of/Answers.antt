@@ -1,4 +1,4 @@
-use Rattle.std.proofs.Common.{◌≡◌, ap}
+use Rattle.std.proofs.Common.{ap}
 use Rattle.cm_cert.proofs.Texts.{json_read, no_json}
 use Rattle.cm_cert.proofs.document.value_of.Goals as goal
 use Rattle.model_cert.specs.Document.{value_in}

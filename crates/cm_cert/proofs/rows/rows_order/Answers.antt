@@ -1,4 +1,4 @@
-use Rattle.std.proofs.Common.{◌≡◌, ◌+◌, ◌∙◌, length, ap, sym, arith}
+use Rattle.std.proofs.Common.{◌+◌, ◌∙◌, length, ap, sym, arith}
 use Rattle.std.specs.Vec.Iter.{into_iter_items}
 use Rattle.cm_cert.proofs.RowLists.{rows_before, row_ordered}
 use Rattle.cm_cert.proofs.rows.rows_order.Goals as goal

@@ -1,4 +1,4 @@
-use Rattle.std.proofs.Common.{◌≡◌, ◌+◌, ◌∙◌, drop, ap, arith}
+use Rattle.std.proofs.Common.{◌+◌, ◌∙◌, drop, ap, arith}
 use Rattle.cm_cert.proofs.RowLists.{rows_before, row_shaped}
 use Rattle.cm_cert.proofs.rows.rows_shape.Goals as goal
 use Rattle.model_cert.specs.Row.{rows_shape}

@@ -5,6 +5,7 @@ use Rattle.cm_declared.specs.World.{world_of}
 
 pub loop-event-preserved : goal.loop-event-preserved
 loop-event-preserved c =
-    sym (call_step (world_of c.args.w.now) c.args.run.now c.loop-event.event-index c.event-item.result c.loop-event.text.items
+    sym (call_step (world_of c.args.w.now) c.args.run.now c.loop-event.event-index c.event-item.result
+    c.loop-event.text.items
     c.put_call_line.new.text.items c.loop-event-test.true c.event-item.is c.in_ok-put_call_line.ensures)
     ∙ c.loop-event.invariant

@@ -6,6 +6,8 @@ use Rattle.model_report.specs.Answer.{undecided_text}
 
 pub returns : goal.returns
 returns c =
-    plain _ _ _ _ (undecided_text c.args.names.now c.args.spaces.now (blame_told c.args.rule c.args.row)) c.put-3.ensures
-    (undecided_pieces c.args.names.now c.args.spaces.now c.args.rule c.args.row _ _ _ _ _ c.in_ok-put.ensures c.in_ok-put_rule.ensures
+    plain _ _ _ _ (undecided_text c.args.names.now c.args.spaces.now
+    (blame_told c.args.rule c.args.row)) c.put-3.ensures
+    (undecided_pieces c.args.names.now c.args.spaces.now c.args.rule c.args.row _ _ _ _ _ c.in_ok-put.ensures
+    c.in_ok-put_rule.ensures
     c.in_ok-put-2.ensures c.in_ok-put_row.ensures)

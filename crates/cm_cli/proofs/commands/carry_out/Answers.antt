@@ -1,18 +1,36 @@
-use Rattle.std.proofs.Common.{sym, ap, subst}
+use Rattle.cm_cli.proofs.FileReads.{reads_still, takes_still}
+use Rattle.cm_cli.proofs.Drills.{drill_answers, nothing_read}
+use Rattle.cm_cli.proofs.Replaying.{usage_answers}
 use Rattle.cm_cli.proofs.commands.carry_out.Goals as goal
-use Rattle.cm_cli.specs.Answers.{AnswersReport, CountsReads}
-use Rattle.cm_cli.specs.Words.{command_view}
-use Rattle.model_report.specs.Command.{Command}
+use Rattle.std.proofs.Common.{[], refl}
+use Rattle.model_report.specs.Command.{Drill, NoForm}
 
-pub returns-in-Replay-clause-report : goal.returns-in-Replay-clause-report
-returns-in-Replay-clause-report g c =
-    subst (λ (command : Command). AnswersReport (g.H.Shelf.held c.args.shelf.now) command c.run_log.result (g.K.Sink.written c.args.out.now)
-    (g.K.Sink.written c.run_log.new.out)) (sym (ap command_view c.in-Replay.is)) c.run_log.ensures.report
+-- words of no form
+pub returns-in-NoForm : goal.returns-in-NoForm
+returns-in-NoForm g c =
+    rw c.in-NoForm.is (record {
+      report = usage_answers (g.H.Shelf.held c.args.shelf.now) _ _ _ _ _ c.tell_short.ensures;
+      read_faults = nothing_read (g.H.Shelf.held c.args.shelf.now) NoForm _ _ c.tell_short.ensures.never_read_fault;
+      write_faults = c.tell_short.ensures.counts;
+      takes = takes_still [] (g.H.Shelf.taken c.args.shelf.now);
+      reads = reads_still _ _ _;
+      waits = tt;
+      held = refl;
+    })
 
-pub returns-in-Replay-clause-read_faults : goal.returns-in-Replay-clause-read_faults
-returns-in-Replay-clause-read_faults g c =
-    subst (λ (command : Command). CountsReads (g.H.Shelf.held c.args.shelf.now) command c.run_log.result (g.H.Shelf.faults c.args.shelf.now)
-    (g.H.Shelf.faults c.run_log.new.shelf)) (sym (ap command_view c.in-Replay.is)) c.run_log.ensures.read_faults
+pub returns-in-Drill : goal.returns-in-Drill
+returns-in-Drill g c =
+    rw c.in-Drill.is (record {
+      report = drill_answers (g.H.Shelf.held c.args.shelf.now) c.in-Drill.n _ _ _ _ _ c.tell_drill.ensures.report
+          c.tell_drill.ensures.not_usage c.tell_drill.ensures.not_read_fault;
+      read_faults = nothing_read (g.H.Shelf.held c.args.shelf.now)
+          (Drill c.in-Drill.n) _ _ c.tell_drill.ensures.not_read_fault;
+      write_faults = c.tell_drill.ensures.counts;
+      takes = takes_still [] (g.H.Shelf.taken c.args.shelf.now);
+      reads = reads_still _ _ _;
+      waits = tt;
+      held = refl;
+    })
 
-pub returns-in-Replay-clause-write_faults : goal.returns-in-Replay-clause-write_faults
-returns-in-Replay-clause-write_faults g c = c.run_log.ensures.write_faults
+pub returns-in-Log : goal.returns-in-Log
+returns-in-Log g c = rw c.in-Log.is c.run_log.ensures

@@ -1,5 +1,8 @@
 use Rattle.std.proofs.Common.{rules}
 use Rattle.cm_cli.proofs.commands.run_surely.Goals as goal
 
+pub returns-clause-complete : goal.returns-clause-complete
+returns-clause-complete c valid = c.run.ensures.complete valid (search rules)
+
 pub returns-clause-settled : goal.returns-clause-settled
 returns-clause-settled c valid asks = c.run.ensures.settled valid (search rules) asks

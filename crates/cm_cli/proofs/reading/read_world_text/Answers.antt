@@ -9,4 +9,5 @@ returns-in-Ok-clause-keeps c = start_keeps _ (world_of c.in-Ok.w) c.in-Ok.ensure
 
 pub returns-in-Ok-clause-within : goal.returns-in-Ok-clause-within
 returns-in-Ok-clause-within c =
-    within_limits c.in-Ok.w.start (start_processes _ (world_of c.in-Ok.w) c.in-Ok.ensures.read) (start_spaces _ (world_of c.in-Ok.w) c.in-Ok.ensures.read)
+    within_limits c.in-Ok.w.start (start_processes _ (world_of c.in-Ok.w) c.in-Ok.ensures.read)
+    (start_spaces _ (world_of c.in-Ok.w) c.in-Ok.ensures.read)

@@ -1,4 +1,3 @@
-use Rattle.std.proofs.Common.{◌≡◌}
 use Rattle.cm_cert.proofs.Orders.{Three, row_kept}
 use Rattle.cm_cert.proofs.plain.PlainRow.ordered.Goals as goal
 use Rattle.cm_cert.specs.contracts.plain.PlainRow.{the_view}

@@ -1,0 +1,53 @@
+use Rattle.std.proofs.Common.{◌∙◌, Err, IfSome, subst}
+use Rattle.std.proofs.lemmas.Option.{IfSome_then}
+use Rattle.cm_base.specs.declared.limited.Limited.{Limited}
+use Rattle.cm_cli.proofs.Claiming.{claim_past, claim_put, unread_put}
+use Rattle.cm_cli.proofs.FileReads.{reads_one}
+use Rattle.cm_cli.proofs.claims.put_claim.Goals as goal
+use Rattle.cm_cli.specs.Query.{limit_of, query_view, task_by}
+use Rattle.cm_cli.specs.Reading.{IsFileRead}
+use Rattle.cm_declared.specs.World.{world_of}
+use Rattle.cm_io.specs.Shelf.{bytes_at}
+use Rattle.model_report.specs.Answer.{query_answer}
+
+pub returns-in-Err-clause-report : goal.returns-in-Err-clause-report
+returns-in-Err-clause-report g c =
+    let q = query_view c.args.claim.query in
+    let w = world_of c.args.w.now in
+    let s = c.args.machine.state in
+    let read = subst (λ (l : Limited). IfSome (g.H.Shelf.held c.args.shelf.now)
+    (λ files. IsFileRead l (Err c.in-Err.why) (bytes_at files c.args.claim.file.now)))
+    c.limit.ensures c.in-Err.ensures.read in
+    IfSome_then (g.H.Shelf.held c.args.shelf.now) read (λ files why j gives.
+    unread_put c.put_unread.result c.in-Err.why (limit_of c.args.claim.kind)
+    (bytes_at files c.args.claim.file.now) c.args.text.now.items
+    c.put_unread.new.text.items (query_answer
+    (task_by c.args.claim.kind q (bytes_at files c.args.claim.file.now)) j w s q)
+    c.put_unread.ensures.past c.put_unread.ensures.told why
+    (claim_past q w s c.in-Ok.question c.in-Ok.ensures.asked c.args.claim.kind
+    (bytes_at files c.args.claim.file.now) j))
+
+pub returns-in-Err-clause-reads : goal.returns-in-Err-clause-reads
+returns-in-Err-clause-reads g c =
+    reads_one _ _ _ _ c.args.claim.file.now
+    (limit_of c.args.claim.kind) _ c.read_file.ensures.reads c.read_file.ensures.takes
+
+pub returns-in_err-status-in-Ok-clause-reads : goal.returns-in_err-status-in-Ok-clause-reads
+returns-in_err-status-in-Ok-clause-reads g c =
+    reads_one _ _ _ _ c.args.claim.file.now
+    (limit_of c.args.claim.kind) _ c.read_file.ensures.reads c.read_file.ensures.takes
+
+pub returns-in-Ok-clause-reads : goal.returns-in-Ok-clause-reads
+returns-in-Ok-clause-reads g c =
+    reads_one _ _ _ _ c.args.claim.file.now
+    (limit_of c.args.claim.kind) _ c.read_file.ensures.reads c.read_file.ensures.takes
+
+pub returns-in-Ok-clause-report : goal.returns-in-Ok-clause-report
+returns-in-Ok-clause-report g c =
+    let q = query_view c.args.claim.query in
+    IfSome_then (g.H.Shelf.held c.args.shelf.now) c.in-Ok-read_file.ensures.read (λ files read j gives.
+    claim_put q (world_of c.args.w.now) c.args.machine.state c.in-Ok.question c.in-Ok.ensures.asked c.args.claim.kind
+    c.deref.result.now
+    (bytes_at files c.args.claim.file.now) j c.args.text.now.items c.put_claimed.new.text.items
+    c.in_ok-status-in-Ok.status
+    (c.deref.ensures.value ∙ read.1) gives (c.in_ok-status-in-Ok.ensures.report q c.in-Ok.ensures.asked j))

@@ -1,0 +1,64 @@
+-- The files of a command, each by its name and the limit of its size: the counts of their faults, and what is taken of
+-- them.
+use Rattle.std.specs.Prelude.{◌≡◌, ◌⊎◌, ◌≤◌, ◌+◌, ℕ, Bool, bytes_eq, if◌then◌else◌, List, [], ◌∷◌}
+use Rattle.cm_base.specs.Limited.{limit_number}
+use Rattle.cm_base.specs.declared.limited.Limited.{Limited}
+use Rattle.cm_io.specs.Shelf.{CountsApart, EachGives, Rose}
+
+-- ---- faults
+-- the counts of faults before and after a file was read: only a read that failed raises one, and it raises that of its
+-- name
+pub record FileFaults (before now : List ℕ → ℕ) (name : List ℕ) (failed : Type 0) : Type 0 where
+  pub later : (n : List ℕ) → before n ≤ now n
+  pub fault : failed → Rose (before name) (now name)
+  pub others : (failed → ⊥) → (n : List ℕ) → now n ≡ before n
+
+-- the count of one of these files rose
+abbrev pub AnyRose : List (List ℕ × Limited) → (before now : List ℕ → ℕ) → Type 0
+AnyRose [] before now = ⊥
+AnyRose (file ∷ files) before now = Rose (before file.0) (now file.0) ⊎ AnyRose files before now
+
+-- the counts of faults before and after some of these files were read
+pub record FilesFaults (before now : List ℕ → ℕ) (files : List (List ℕ × Limited)) (failed : Type 0) : Type 0 where
+  pub later : (n : List ℕ) → before n ≤ now n
+  pub fault : failed → AnyRose files before now
+  pub others : (failed → ⊥) → (n : List ℕ) → now n ≡ before n
+
+-- ---- what is taken and read
+-- so many at this name, and none at another
+abbrev pub under : List ℕ → ℕ → List ℕ → ℕ
+under name most n = if bytes_eq n name then most else 0
+
+-- so many under a name for each of the files that has it
+abbrev pub for_files : List (List ℕ × Limited) → (Limited → ℕ) → List ℕ → ℕ
+for_files [] many n = 0
+for_files (file ∷ files) many n = under file.0 (many file.1) n + for_files files many n
+
+-- the limit and one more
+abbrev pub one_past : Limited → ℕ
+one_past l = limit_number l + 1
+
+-- the most bytes that are taken under a name for the files: the limit and one byte of each that has the name
+abbrev pub most_for : List (List ℕ × Limited) → List ℕ → ℕ
+most_for files n = for_files files one_past n
+
+-- no more than that is taken under any name
+abbrev pub TakesFor : List (List ℕ × Limited) → (taken taken' : List ℕ → ℕ) → Type 0
+TakesFor files taken taken' = (n : List ℕ) → taken' n ≤ taken n + most_for files n
+
+-- the name is that of one of the files
+abbrev pub IsFileOf : List (List ℕ × Limited) → List ℕ → Type 0
+IsFileOf [] n = ⊥
+IsFileOf (file ∷ files) n = (n ≡ file.0) ⊎ IsFileOf files n
+
+-- No other name is read, and each file at most once for each byte that is taken of it, and once more.
+pub record ReadsFor (files : List (List ℕ × Limited)) (reads reads' taken taken' : List ℕ → ℕ) : Type 0 where
+  pub later : (n : List ℕ) → taken n ≤ taken' n
+  pub others : (n : List ℕ) → ¬ IsFileOf files n → reads' n ≡ reads n
+  pub each : (n : List ℕ) → EachGives (reads n) (reads' n) (taken n) (taken' n) (for_files files (λ l. 1) n)
+
+-- The counts of faults and of reads, before and after at most one file was read, are apart: those of other names stay.
+abbrev pub ApartFor : List (List ℕ × Limited) → (counted : List ℕ → Bool) (faults faults' reads reads' : List ℕ → ℕ)
+    → Type 0
+ApartFor [] counted faults faults' reads reads' = Unit {0}
+ApartFor (file ∷ files) counted faults faults' reads reads' = CountsApart counted faults faults' reads reads' file.0
