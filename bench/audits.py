@@ -131,8 +131,8 @@ def saved_root(size: Size, kind: str) -> Made:
     bounding set is empty. So each plan whose first move becomes 0 is tried too."""
     rows = [*(space_row(number, "init") for number in range(1, size.spaces)), *files_of(size, kind, "yes"),
             *(row("process", pid=FIRST + number, parent=FIRST if number else None, space=space_of(number, size),
-                  uid=f"[{1000 + number}, {1000 + number}, 0, {1000 + number}]", gid=1000 + number, bounding=text("none"),
-                  securebits=3) for number in range(size.members))]
+                  uid=f"[{1000 + number}, {1000 + number}, 0, {1000 + number}]", gid=1000 + number,
+                  bounding=text("none"), securebits=3) for number in range(size.members))]
     return Made(HEAD + "".join(rows), RIGHTS[kind], "yes")
 
 

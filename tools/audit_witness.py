@@ -6,14 +6,15 @@ of which nothing is proved) tries the calls of a family, breadth first, at least
 calls and more, where there are as many, births and calls on spaces always among them (tools/witness/search). Nothing
 that the audit answers is known to it. Then the audit is asked. Wrong is
 
-- a `yes` whose right the search reaches,
-- a `no` whose run, put after the log, `replay` doesn't take, or that leaves its holder without the right,
+- a `yes` whose right the search reaches, or whose certificate `check` refuses,
+- a `no` whose run `confirm` doesn't confirm with the same holder; or that, put after the log, `replay` doesn't take, or
+  that leaves its holder without the right,
 - a report that is none (docs/FORMATS.md), an answer that takes more than a minute, `undecided` for a settled family.
 
 Tells how many states were met and calls tried, and of each verdict how many; ends with status 1 where something is
 wrong, and where less than a fifth of the worlds are a `yes` for a family that isn't settled. `--selftest` needs no
-audit: it must report an audit that always says yes, and one that tells a run whose holder hasn't the right. Needs
-rustc.
+audit: it must report an audit that always says yes, one that tells a run whose holder hasn't the right, one whose
+certificates don't hold, and one whose runs are confirmed with another holder. Needs rustc.
 """
 import sys
 import time
@@ -22,7 +23,7 @@ from dataclasses import replace
 from pathlib import Path
 
 from witness import trials
-from witness.audits import NO, UNDECIDED, YES
+from witness.audits import UNDECIDED, YES
 from witness.draws import small
 from witness.settled import is_settled
 from witness.trials import Asked, Outcome, Searches
@@ -60,7 +61,7 @@ def search(asked: Asked) -> tuple[Counter[str], int]:
 def selftest(asked: Asked) -> list[str]:
     """What is wrong with this witness: it must report each of the stand-ins that are wrong."""
     faults = []
-    for kind in ("always_yes", "idle_no"):
+    for kind in ("always_yes", "idle_no", "unsound", "unconfirmed"):
         audit = [sys.executable, str(STAND_IN), kind]
         _, wrong = search(replace(asked, audit=audit, replay=audit, tells=False))
         print(f"{kind}: {wrong} of {asked.count} reported")

@@ -20,6 +20,7 @@ import tempfile
 from collections.abc import Callable, Sequence
 from typing import BinaryIO, NamedTuple
 
+import plain_bounds
 from credaudit_tools.program import BUILT
 from recordings import program_of
 
@@ -44,6 +45,12 @@ def of_crate(name: str) -> str:
         return file.read()
 
 
+def verdict(world: str, log: str, right: str) -> str:
+    """The lines of an audit of the process 100 by its bounds, worked out by plain Python."""
+    lines = plain_bounds.answer("audit", world.encode(), log.encode(), b"100", right.encode()).lines
+    return "".join(f"{line}\n" for line in lines)
+
+
 def files(world: str, log: str) -> dict[str, str]:
     """The files of the runs: the stored world and log, and others."""
     return {
@@ -61,6 +68,7 @@ def files(world: str, log: str) -> dict[str, str]:
         "a world": world,
         "-log\n": log,
         "large": "#" + "\n" * LARGE,
+        "certificate": verdict(world, log, "uid:0").splitlines()[1],
     }
 
 
@@ -69,6 +77,7 @@ HELD = ("> 100 init uid=1000,1000,1000,1000 gid=0,0,0,0 groups=- inh=00000000000
 
 
 AUDIT = ("world", "log", "100", "uid:1000")
+DRILL = "events 100000\nrefused 58478\nlive 11\nspaces 2\nverdict yes\n"     # by plain_drill.py
 
 
 def ordered(report: str, world: str, log: str, pid: str, right: str) -> tuple[int, str]:
@@ -80,15 +89,21 @@ def ordered(report: str, world: str, log: str, pid: str, right: str) -> tuple[in
     return (1, report + "no 0\nholder 100\n") if pid == "100" else (12, report + "bad query: pid\n")
 
 
-def rows(report: str) -> list[Row]:
-    """The runs; the stored run's report ends with a line `end 1`."""
+def rows(report: str, made: dict[str, str]) -> list[Row]:
+    """The runs over these files; the stored run's report ends with a line `end 1`."""
     front = report[:report.index("end 1\n")]
-    later = ("world", "log", "100", "uid:1000", "log")
+    query, later = ("world", "log", "100", "uid:0"), ("world", "log", "100", "uid:1000", "log")
+    least = verdict(made["world"], made["log"], "uid:0")
+    below = verdict(made["held"], made["empty"], "cap:CAP_KILL@init")
+    assert least.startswith("yes\n") and below.startswith("undecided start init\n")
     return [
         Row(("replay", "world", "log"), 0, report),
-        Row(("audit", "world", "log", "100", "uid:0"), 0, report + "yes\n"),
+        Row(("audit", *query), 0, report + least),
+        Row(("check", *query, "certificate"), 0, "holds\n"),
+        Row(("confirm", *later), 0, "confirmed 100\n"),
+        Row(("drill", "1"), 0, "events 1\nrefused 0\nlive 1\nspaces 1\nverdict no\n"),
         Row(("audit", "world", "log", "100", "uid:1000"), 1, report + "no 0\nholder 100\n"),
-        Row(("audit", "held", "empty", "100", "cap:CAP_KILL@init"), 2, HELD + "undecided start init\n"),
+        Row(("audit", "held", "empty", "100", "cap:CAP_KILL@init"), 2, HELD + below),
         Row(("replay", "world", "impossible"), 3, front + "impossible line 2: the rules give EPERM\n"),
         Row(("replay", "bad", "log"), 4, "bad world process 1: UnknownKey\n"),
         Row(("replay", "world", "faulty"), 5, front + "bad log line 2: shape\n"),
@@ -96,9 +111,17 @@ def rows(report: str) -> list[Row]:
         Row(("replay", "world"), 6, USAGE),
         Row(("replay", "missing", "log"), 7, ""),
         Row(("replay", "world", "missing"), 7, ""),
+        *[Row((name, *query, "missing"), 7, "") for name in ("check", "confirm")],
         Row(("replay", "long", "log"), 9, "limit world 1048576\n"),
         Row(("audit", "world", "log", "7", "uid:0"), 12, report + "bad query: pid\n"),
-        Row(("drill", "1"), 13, "not built\n"),
+        Row(("check", *later), 11, "refused json\n"),
+        Row(("check", *later[:4], "certificate"), 11, "refused meets init\n"),
+        Row(("confirm", *query, "empty"), 11, "refused end\n"),
+        # Without an accepted log and a query that stands the last file isn't read.
+        *[Row((name, "world", "log", "7", "uid:0", "missing"), 12, "bad query: pid\n")
+          for name in ("check", "confirm")],
+        *[Row((name, "world", "faulty", "100", "uid:0", "missing"), 5, "bad log line 2: shape\n")
+          for name in ("check", "confirm")],
         # Each word counts, the empty one and the last one too, and their order does.
         *[Row(("audit", *words), *ordered(report, *words)) for words in itertools.permutations(AUDIT)],
         Row(("replay", "a world", "-log\n"), 0, report),
@@ -111,9 +134,8 @@ def rows(report: str) -> list[Row]:
         Row(("replay", "world", "log\udcff"), 6, USAGE),
         Row(("audit", *AUDIT[:3]), 6, USAGE),
         Row(("audit", *AUDIT, "log"), 6, USAGE),
-        *[Row((name, *later), 13, "not built\n") for name in ("check", "confirm")],
         *[Row((name, *words), 6, USAGE) for name in ("check", "confirm") for words in (later[:4], (*later, "log"))],
-        Row(("drill", "100000"), 13, "not built\n"),
+        Row(("drill", "100000"), 0, DRILL),
         Row(("drill", "100001"), 6, USAGE),
         Row(("drill", "1", "1"), 6, USAGE),
     ]
@@ -142,9 +164,10 @@ def main() -> None:
     """Compares all runs."""
     ask = argparse.ArgumentParser(usage="exit_status.py [PROGRAM]")
     ask.add_argument("program", nargs="?", default=BUILT)
-    program, table, wrong = program_of(ask.parse_args()).path, rows(of_crate("stdout")), 0
+    made, wrong = files(of_crate("data/world.toml"), of_crate("data/setresuid.log")), 0
+    program, table = program_of(ask.parse_args()).path, rows(of_crate("stdout"), made)
     with tempfile.TemporaryDirectory() as work, open("/dev/full", "wb") as full:
-        for name, text in files(of_crate("data/world.toml"), of_crate("data/setresuid.log")).items():
+        for name, text in made.items():
             with open(os.path.join(work, name), "w") as file:
                 file.write(text)
         for words, status, text in table:

@@ -45,8 +45,7 @@ WORD, NUMBER = rb"[A-Za-z]+", rb"[0-9]+"
 ERROR = rb"E[A-Z0-9]+"
 USAGE = b"".join(b"usage: credaudit %s\n" % form for form in (
     b"replay WORLD LOG", b"audit WORLD LOG PID RIGHT", b"check WORLD LOG PID RIGHT CERT",
-    b"confirm WORLD LOG PID RIGHT RUN",
-    b"drill N"))
+    b"confirm WORLD LOG PID RIGHT RUN", b"drill N"))
 # How standard output ends at each status: of a replay, and of an audit besides.
 ENDS = {
     0: rb"end %s\n" % NUMBER,
@@ -55,17 +54,17 @@ ENDS = {
     5: rb"bad log line %s: (?:pid|call|shape|count|argument %s|result|superseded|unfinished|descriptor)\n"
        % (NUMBER, NUMBER),
     9: rb"limit [a-z]+ %s\n" % NUMBER,
-    13: rb"not built\n",
 }
+BOUNDS = rb'\{"format":1,"rows":\[.*\]\}\n'
 AUDIT_ENDS = {
     **ENDS,
-    0: rb"yes\n(?:\{.*\}\n)?",
+    0: rb"yes\n" + BOUNDS,
     1: rb"no %s\n(?:%s [a-z_]+ .*\n)*holder %s\n" % (NUMBER, NUMBER, NUMBER),
-    2: rb"undecided [a-z_]+ .*\n(?:\{.*\}\n)?",
+    2: rb"undecided [a-z_]+ .*\n" + BOUNDS,
     6: re.escape(USAGE),
     12: rb"bad query: (?:pid|right|space)\n",
 }
-REFUSAL = re.compile(rb"(?:impossible line \d+: .*|bad world .*|bad log line .*|limit .*|bad query.*|not built)\n\Z")
+REFUSAL = re.compile(rb"(?:impossible line \d+: .*|bad world .*|bad log line .*|limit .*|bad query.*)\n\Z")
 
 
 # ---- one case ------------------------------------------------------------------------------------------------------

@@ -1,13 +1,14 @@
 #!/usr/bin/env python3
 """Shows that passes of `closed` and of `check` allocate nothing.
 
-  no_allocation.py [PASSES] [WORLD]
+  no_allocation.py [--judge PROGRAM] [PASSES] [WORLD]
 
-The built program of crates/judge_bench finds the least closed bounds of WORLD (that in its file stdin), and then runs
-each of the two tests PASSES times (100). Its requests of the C library's allocator are counted (tools/refuse.c; needs
-cc) in a run with no passes. With the passes it must ask for as many; it must come to its end where each request past
-that number is refused, and stop as out of memory where the last one is too.
+The built program of crates/judge_bench, or PROGRAM, finds the least closed bounds of WORLD (that in its file stdin),
+and then runs each of the two tests PASSES times (100). Its requests of the C library's allocator are counted
+(tools/refuse.c; needs cc) in a run with no passes. With the passes it must ask for as many; it must come to its end
+where each request past that number is refused, and stop as out of memory where the last one is too.
 """
+import argparse
 import os
 import subprocess
 import sys
@@ -28,11 +29,11 @@ class Answer(NamedTuple):
     asked: int
 
 
-def run(shim: str, world: str, passes: int, most: int | None = None) -> Answer:
+def run(shim: str, words: argparse.Namespace, passes: int, most: int | None = None) -> Answer:
     """A run with so many passes of each test, where all allocations past the most are refused. Ends the script where
     none were counted."""
-    with open(world) as text:
-        child = subprocess.run([PROGRAM, str(passes), str(passes)], stdin=text, capture_output=True,
+    with open(words.world) as text:
+        child = subprocess.run([words.judge, str(passes), str(passes)], stdin=text, capture_output=True,
                                env=environment(shim, MOST=most))
     asked = asked_in(child.stderr)
     if asked is None:
@@ -47,19 +48,23 @@ def is_whole(answer: Answer, passes: int) -> bool:
 
 def main() -> None:
     """Shows it of the world that the words name."""
-    passes = int(sys.argv[1]) if len(sys.argv) > 1 else 100
-    world = sys.argv[2] if len(sys.argv) > 2 else os.path.join(CRATE, "stdin")
-    if not os.access(PROGRAM, os.X_OK):
+    parser = argparse.ArgumentParser(usage="no_allocation.py [--judge PROGRAM] [PASSES] [WORLD]")
+    parser.add_argument("--judge", default=PROGRAM)
+    parser.add_argument("passes", nargs="?", type=int, default=100)
+    parser.add_argument("world", nargs="?", default=os.path.join(CRATE, "stdin"))
+    words = parser.parse_args()
+    passes, words.judge = words.passes, os.path.abspath(words.judge)
+    if not os.access(words.judge, os.X_OK):
         sys.exit("no_allocation.py: the program isn't built: `rt run < stdin` in crates/judge_bench builds it")
     with tempfile.TemporaryDirectory() as work:
         shim = shim_in(work)
-        without, with_ = run(shim, world, 0), run(shim, world, passes)
+        without, with_ = run(shim, words, 0), run(shim, words, passes)
         count = without.asked
         seen = {
             "with no passes the run comes to its end": is_whole(without, 0),
             f"with {passes} passes of each test it asks for as many": is_whole(with_, passes) and with_.asked == count,
-            "it comes to its end where all later ones are refused": is_whole(run(shim, world, passes, count), passes),
-            "it stops where the last one is refused too": run(shim, world, passes, count - 1).status != 0,
+            "it comes to its end where all later ones are refused": is_whole(run(shim, words, passes, count), passes),
+            "it stops where the last one is refused too": run(shim, words, passes, count - 1).status != 0,
         }
     print(f"{count} allocations")
     for what, so in seen.items():

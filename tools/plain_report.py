@@ -70,6 +70,18 @@ def next_state(rules: Rules, state: State, event: Event) -> State:
     return after
 
 
+def own_event(rules: Rules, world: World, state: State, pid: int, call: str) -> tuple[Event, State]:
+    """The event of a call of a process, written without its result, as the rules answer it; and the state after it."""
+    child = least_free(state)
+    born = call.encode().split()[0] in BIRTHS
+    asked = read_line(f"{pid} {call} = {child if born else 0}".encode(), world)
+    assert asked is not None
+    result, after = rules.answer(state, pid, asked.call, child)
+    event = read_line(f"{pid} {call} = {result}".encode(), world)
+    assert event is not None
+    return event, after
+
+
 def credential_line(world: World, state: State, pid: int) -> bytes:
     """The line that a report has for a process."""
     number, cred = state.processes[pid]

@@ -1,24 +1,33 @@
 #!/usr/bin/env python3
-"""Runs two examples again and again, with one thing refused each time or with pipes for files, and counts what the
-program answers.
+"""Runs examples again and again, with one thing refused each time or with pipes for files, and counts what the program
+answers.
 
-  refusals.py [--only allocations|calls|pipes] [--form script|strace]
+  refusals.py [--only allocations|calls|pipes] [--form script|strace] [--command COMMAND] [PROGRAM]
 
-The examples are the program's stored one, of a script log, and tools/data/strace_run, of a log of strace with a birth,
-held lines, an unfinished call and a map; its report is that of plain_report.py. --form takes one of them.
+PROGRAM is credaudit; left out, the one that was built in this repository. The examples are, of both forms of log,
 
-allocations   Each of the allocations that the built program asks for is refused, one a run (tools/refuse.c, preloaded;
-              needs cc).
-calls         Each opening, read and write that the built program makes of its files and of standard output ends in an
-              error, one a run, by the fault injection of strace (needed for this part alone); then each is
-              interrupted once (EINTR), which mustn't be seen.
-pipes         Both files are pipes, and then FIFOs, which can be read once and from their front alone; what they have
+  replay                  the program's stored run, of a script log, and tools/data/strace_run, of a log of strace with
+                          a birth, held lines, an unfinished call and a map
+  audit, check, confirm   a yes, a no and an undecided, after a birth and an exit or that log of strace, and some calls:
+                          what the audit answers, what `check` answers to its bounds (of a no to those before the
+                          blame), and `confirm` to a run
+
+and two drills, a yes and a no, which read no file. What each is to answer is worked out by plain_report.py,
+plain_bounds.py and plain_drill.py; the run of the no is written by hand. --form takes the examples of one form,
+--command those of one command.
+
+allocations   Each of the allocations that the program asks for is refused, one a run (tools/refuse.c, preloaded; needs
+              cc, and a program with the C library's allocator).
+calls         Each opening, read and write that the program makes of its files and of standard output ends in an error,
+              one a run, by the fault injection of strace (needed for this part alone); then each is interrupted once
+              (EINTR), which mustn't be seen.
+pipes         All files are pipes, and then FIFOs, which can be read once and from their front alone; what they have
               comes byte by byte, in larger pieces, and at once. Then each second call on a FIFO is interrupted
               (strace). Last, standard output is a pipe that nobody reads.
 
 Right answers are: status 10 (no memory), 7 (a read failed) or 8 (a write failed) with a front of the report, 7 with
 nothing of it; or the whole report with its own status; with pipes the whole report, and where nobody reads status 8.
-Any other one is printed, and the script ends with status 1.
+Any other one is printed, and the script ends with status 1. The last line tells how many runs there were.
 """
 import argparse
 import os
@@ -27,33 +36,47 @@ import sys
 import tempfile
 import threading
 from collections import Counter
-from collections.abc import Sequence, Set
+from collections.abc import Iterator, Sequence, Set
 
+import plain_bounds
+import plain_drill
 from allocations import asked_in, environment, shim_in
 from credaudit_tools import lines
-from credaudit_tools.program import BUILT as PROGRAM
+from credaudit_tools.program import BUILT
 from plain_report import report
+from recordings import program_of
 
 HERE = os.path.dirname(os.path.abspath(__file__))
 CRATE = os.path.abspath(os.path.join(HERE, "..", "crates", "credaudit"))
 STRACE_RUN = os.path.join(HERE, "data", "strace_run")
 OPEN, READ, WRITE = ("openat", "open"), ("read", "pread64", "readv"), ("write", "writev")
+COMMANDS = ("replay", "audit", "check", "confirm", "drill")
+PID, NO_CAPSET = "100", b'[filter]\nexclude = ["capset"]\n'
+# A yes, a no and an undecided: what the process 100 does, which is root before, as a script has it; its right; what is
+# behind the world; and a run. It keeps nothing; or its saved user id, with which it comes back by the two calls of a
+# plan (docs/PLANS.md); or its permitted set, which it may not raise.
+LEAVES, KEEPS_ID, KEEPS_CAPS = ("setresuid 1000 1000 1000",), ("setresuid 1000 1000 0",), (
+    "keepcaps 1", "setresuid 1000 1000 1000")
+BACK = b"100 capset 000001ffffffffff 000001ffffffffff 0000000000000000 = 0\n100 setresuid -1 0 -1 = 0\n"
+REFUSED = b"100 fork = 102\n102 setresuid -1 0 -1 = EPERM\n"
+VERDICTS = {"yes": (LEAVES, "uid:0", b"", REFUSED), "no": (KEEPS_ID, "uid:0", b"", BACK),
+            "undecided": (KEEPS_CAPS, "cap:CAP_KILL@init", NO_CAPSET, REFUSED)}
+DRILLS = {"no": 1, "yes": 100}       # none of the first 120 is undecided
+RUNS = Counter[str]()       # of each part
 
 
-def of_crate(name: str, otherwise: bytes | None = None) -> bytes:
-    """The bytes of a file of the program's crate, or others where it isn't there."""
-    path = os.path.join(CRATE, name)
-    if otherwise is not None and not os.path.exists(path):
-        return otherwise
-    with open(path, "rb") as file:
+def of_file(*names: str) -> bytes:
+    """The bytes of a file."""
+    with open(os.path.join(*names), "rb") as file:
         return file.read()
 
 
 class Example:
-    """A run: its words, the folder of its files, and what it is to answer."""
+    """A run of the program: its words, the folder of its files, and what it is to answer."""
 
-    def __init__(self, form: str, folder: str, words: list[str], answer: bytes, status: int) -> None:
-        self.form, self.folder, self.words = form, folder, words
+    def __init__(self, program: str, form: str, title: str, folder: str, words: Sequence[str], answer: bytes,
+                 status: int) -> None:
+        self.program, self.form, self.title, self.folder, self.words = program, form, title, folder, list(words)
         self.files = [word for word in words if os.path.exists(os.path.join(folder, word))]
         self.report, self.status = answer, status
 
@@ -66,31 +89,95 @@ class Example:
         return f"status {status}, " + ("nothing written" if not text else "a front of the report")
 
 
-def stored() -> Example:
-    """The program's stored run."""
-    return Example("script", os.path.join(CRATE, "data"), of_crate("args").decode().split("\n")[:-1],
-                   of_crate("stdout"),
-                   int(of_crate("status", b"0")))
+def spelt(form: str, call: str) -> bytes:
+    """The line of a call that is done, in that form of log."""
+    name, *arguments = call.split()
+    if form == "script":
+        return f"{PID} {call} = 0\n".encode()
+    inner = ", ".join(["PR_SET_KEEPCAPS", *arguments] if name == "keepcaps" else arguments)
+    return f"{PID} {'prctl' if name == 'keepcaps' else name}({inner}) = 0\n".encode()
 
 
-def of_strace() -> Example:
-    """That of a log of strace."""
-    words, texts = ["replay", "world.toml", "log"], []
-    for name in words[1:]:
-        with open(os.path.join(STRACE_RUN, name), "rb") as file:
-            texts.append(file.read())
-    seen = report(*texts)
-    return Example("strace", STRACE_RUN, words, seen.text, seen.status)
+def stored(form: str) -> tuple[bytes, bytes]:
+    """The world and the log of the stored run in that form."""
+    if form == "script":
+        return of_file(CRATE, "data", "world.toml"), of_file(CRATE, "data", "setresuid.log")
+    return of_file(STRACE_RUN, "world.toml"), of_file(STRACE_RUN, "log")
 
 
-EXAMPLES = {"script": stored, "strace": of_strace}
+def begun(form: str) -> bytes:
+    """The log after which the process 100 is root still: of strace the stored one, a birth and an end as a script."""
+    return b"100 fork = 101\n101 exit = 0\n" if form == "script" else stored(form)[1]
+
+
+def text_of(told: Sequence[str]) -> bytes:
+    """Lines as a report has them."""
+    return "".join(f"{line}\n" for line in told).encode()
+
+
+class Maker:
+    """Makes examples, each with a folder for its files."""
+
+    def __init__(self, program: str, work: str) -> None:
+        self.program, self.work = program, work
+
+    def made(self, form: str, title: str, words: Sequence[str], files: Sequence[bytes], answer: bytes,
+             status: int) -> Example:
+        """An example whose first words, after the command, name these files."""
+        folder = tempfile.mkdtemp(dir=self.work)
+        names = ("world.toml", "log", "third")[:len(files)]
+        for name, data in zip(names, files):
+            with open(os.path.join(folder, name), "wb") as file:
+                file.write(data)
+        command, *others = words
+        all_words = [command, *names[:2], *others, *names[2:]]
+        return Example(self.program, form, title, folder, all_words, answer, status)
+
+    def replay(self, form: str) -> Example:
+        """The stored run."""
+        world, log = stored(form)
+        seen = report(world, log)
+        return self.made(form, f"{form}, replay", ["replay"], [world, log], seen.text, seen.status)
+
+    def of_query(self, form: str, verdict: str) -> Iterator[Example]:
+        """The audit of that verdict, the check of its bounds, and the confirmation of its run."""
+        calls, right, behind, run = VERDICTS[verdict]
+        world = stored(form)[0] + behind
+        log = begun(form) + b"".join(spelt(form, call) for call in calls)
+        query = (world, log, PID.encode(), right.encode())
+        ends = plain_bounds.answer("audit", *query)
+        told, status = ends.lines, ends.status
+        if verdict == "no":     # plain_bounds.py tries no plans
+            told, status = ("no 2", *run.decode().split("\n")[:-1], f"holder {PID}"), 1
+        front, title = report(world, log).text, f"{form}, {{}}, {verdict}"
+        yield self.made(form, title.format("audit"), ["audit", PID, right], query[:2], front + text_of(told), status)
+        for command, third in (("check", ends.lines[-1].encode() + b"\n"), ("confirm", run)):
+            judged = plain_bounds.answer(command, *query, third)
+            yield self.made(form, title.format(command), [command, PID, right], [*query[:2], third],
+                            text_of(judged.lines), judged.status)
+
+    def drill(self, verdict: str) -> Example:
+        """A drill of that verdict, by the plain one."""
+        number = DRILLS[verdict]
+        told = plain_drill.drill(number).report()
+        if told[-1] != f"verdict {verdict}":
+            sys.exit(f"refusals.py: the drill {number} is no {verdict}")
+        return self.made("", f"drill {number}, {verdict}", ["drill", str(number)], [], text_of(told), 0)
+
+    def examples(self, forms: Sequence[str], command: str | None, drills: bool) -> Iterator[Example]:
+        """All examples of these forms, of one command or of all."""
+        for form in forms:
+            every = [self.replay(form), *(one for verdict in VERDICTS for one in self.of_query(form, verdict))]
+            yield from (one for one in every if command in (None, one.words[0]))
+        if drills and command in (None, "drill"):
+            yield from map(self.drill, DRILLS)
 
 
 def with_allocations(example: Example, shim: str, refused: int | None = None) -> tuple[int, bytes, int]:
     """The status, what was written, and how many allocations were asked for, where the one of that number is
     refused."""
-    run = subprocess.run([PROGRAM, *example.words], cwd=example.folder, stdin=subprocess.DEVNULL, capture_output=True,
-                         env=environment(shim, ONE=refused))
+    run = subprocess.run([example.program, *example.words], cwd=example.folder, stdin=subprocess.DEVNULL,
+                         capture_output=True, env=environment(shim, ONE=refused))
     asked = asked_in(run.stderr)
     if asked is None:
         sys.exit("refusals.py: the program's allocations weren't counted: " + run.stderr.decode(errors="replace"))
@@ -104,7 +191,9 @@ def allocations(example: Example) -> bool:
         shim = shim_in(work)
         status, text, most = with_allocations(example, shim)
         if (status, text) != (example.status, example.report):
-            sys.exit(f"refusals.py: the built program doesn't answer the {example.form} example")
+            sys.exit(f"refusals.py: the program doesn't answer this example: {example.title}: {status} {text!r}")
+        if not most:
+            sys.exit("refusals.py: the program asks the C library for no memory, so none of its allocations is refused")
         for number in range(1, most + 1):
             status, text, _ = with_allocations(example, shim, number)
             answer = example.answer(status, text, {10})
@@ -113,7 +202,7 @@ def allocations(example: Example) -> bool:
                 good = False
             spared += [str(number)] if answer == "whole report" else []
             counts[answer or "wrong"] += 1
-    show(f"{example.form}, allocations: {most} refused, one a run", counts)
+    show("allocations", f"{example.title}, allocations: {most} refused, one a run", counts)
     if spared:
         print("  (the whole report came where these were refused: " + ", ".join(spared) + ")")
     return good
@@ -123,27 +212,32 @@ def calls_of(example: Example, work: str) -> list[tuple[str, int]]:
     """The calls on files and standard output that the program makes, after what the loader does before it: the name of
     each, and how many of that name there are up to it."""
     trace = os.path.join(work, "trace")
-    run = subprocess.run(["strace", "-o", trace, "-e", "trace=" + ",".join(OPEN + READ + WRITE), PROGRAM,
+    run = subprocess.run(["strace", "-o", trace, "-e", "trace=" + ",".join(OPEN + READ + WRITE), example.program,
                           *example.words],
                          cwd=example.folder, stdout=subprocess.PIPE)
     if (run.returncode, run.stdout) != (example.status, example.report):
-        sys.exit(f"refusals.py: the built program doesn't answer the {example.form} example under strace")
+        sys.exit(f"refusals.py: the program doesn't answer this example under strace: {example.title}: {run.returncode}"
+                 f" {run.stdout!r}")
     seen, own, calls = Counter[str](), False, list[tuple[str, int]]()
+    of_none = WRITE if not example.files else ()        # a run without files has its first call at its first write
     with open(trace, "rb") as log:
         for line in log:
             name = lines.name_of(line).decode()
             if name:
                 seen[name] += 1
-                own = own or (name in OPEN and any(b'"%s"' % os.fsencode(file) in line for file in example.files))
+                own = own or name in of_none or (
+                    name in OPEN and any(b'"%s"' % os.fsencode(file) in line for file in example.files))
                 if own:
                     calls.append((name, seen[name]))
+    if not calls:
+        sys.exit(f"refusals.py: no call of the program is seen in this example: {example.title}")
     return calls
 
 
 def refused_call(example: Example, name: str, number: int, error: str) -> tuple[int, bytes]:
     """The status, and what was written, where the call of that name and number ends in an error."""
     words = ["strace", "-o", "/dev/null", "-e", f"trace={name}", "-e", f"inject={name}:error={error}:when={number}"]
-    run = subprocess.run([*words, PROGRAM, *example.words], cwd=example.folder, stdout=subprocess.PIPE)
+    run = subprocess.run([*words, example.program, *example.words], cwd=example.folder, stdout=subprocess.PIPE)
     return run.returncode, run.stdout
 
 
@@ -164,7 +258,7 @@ def calls(example: Example) -> bool:
             counts[answer or "wrong"] += 1
         kinds = [sum(name in kind for name, _ in made) for kind in (OPEN, READ, WRITE)]
         calls_made = "{} openings, {} reads and {} writes".format(*kinds)
-        show(f"{example.form}, calls: {calls_made} ended in {error}, one a run", counts)
+        show("calls", f"{example.title}, calls: {calls_made} ended in {error}, one a run", counts)
     return good
 
 
@@ -189,7 +283,7 @@ class Pipe:
 
 
 def of_pipes(example: Example, piece: int, fifos: bool, *before: str) -> tuple[int, bytes]:
-    """The status and what was written where both files are pipes, or FIFOs, filled so many bytes at once; -1 where it
+    """The status and what was written where all files are pipes, or FIFOs, filled so many bytes at once; -1 where it
     didn't end."""
     with tempfile.TemporaryDirectory() as work:
         pipes = {}
@@ -199,7 +293,7 @@ def of_pipes(example: Example, piece: int, fifos: bool, *before: str) -> tuple[i
         words = [pipes[word].word if word in pipes else word for word in example.words]
         fds = [pipe.ends[0] for pipe in pipes.values() if pipe.ends]
         try:
-            run = subprocess.run([*before, PROGRAM, *words], stdin=subprocess.DEVNULL, stdout=subprocess.PIPE,
+            run = subprocess.run([*before, example.program, *words], stdin=subprocess.DEVNULL, stdout=subprocess.PIPE,
                                  pass_fds=fds, timeout=60)
         except subprocess.TimeoutExpired:
             return -1, b""
@@ -214,7 +308,8 @@ def unread(example: Example) -> int:
     ends = os.pipe()
     os.close(ends[0])
     with open(ends[1], "wb") as out:
-        run = subprocess.run([PROGRAM, *example.words], cwd=example.folder, stdin=subprocess.DEVNULL, stdout=out)
+        run = subprocess.run([example.program, *example.words], cwd=example.folder, stdin=subprocess.DEVNULL,
+                             stdout=out)
     return run.returncode
 
 
@@ -245,14 +340,16 @@ def pipes(example: Example) -> bool:
             print(f"{kind}, {piece} bytes at once: status {status}, {len(text)} bytes that are no right answer")
             good = False
         counts[answer or "wrong"] += 1
-    show(f"{example.form}, files that are pipes and FIFOs, the last ones with interruptions", counts)
+    show("pipes", f"{example.title}, files that are pipes and FIFOs, the last ones with interruptions", counts)
     status = unread(example)
-    print(f"{example.form}, nobody reads: status {status}")
+    RUNS["pipes"] += 1
+    print(f"{example.title}, nobody reads: status {status}")
     return good and status == 8
 
 
-def show(title: str, counts: Counter[str]) -> None:
-    """Writes how often each answer came."""
+def show(part: str, title: str, counts: Counter[str]) -> None:
+    """Writes how often each answer came in a part."""
+    RUNS[part] += counts.total()
     print(title)
     for answer, count in sorted(counts.items()):
         if count:
@@ -263,16 +360,22 @@ def show(title: str, counts: Counter[str]) -> None:
 def main() -> None:
     """Refuses what the words ask for."""
     parts = {"calls": calls, "allocations": allocations, "pipes": pipes}
-    ask = argparse.ArgumentParser(usage="refusals.py [--only allocations|calls|pipes] [--form script|strace]")
+    forms = ("script", "strace")
+    ask = argparse.ArgumentParser(usage="refusals.py [--only allocations|calls|pipes] [--form script|strace]"
+                                        " [--command COMMAND] [PROGRAM]")
     ask.add_argument("--only", choices=sorted(parts))
-    ask.add_argument("--form", choices=EXAMPLES)
+    ask.add_argument("--form", choices=forms)
+    ask.add_argument("--command", choices=COMMANDS)
+    ask.add_argument("program", nargs="?", default=BUILT)
     asked, good = ask.parse_args(), True
-    if not os.access(PROGRAM, os.X_OK):
-        sys.exit("refusals.py: the program isn't built: run make first")
-    examples = [EXAMPLES[form]() for form in ([asked.form] if asked.form else EXAMPLES)]
-    for part in [parts[asked.only]] if asked.only else parts.values():
-        for example in examples:
-            good = part(example) and good
+    with tempfile.TemporaryDirectory() as work:
+        maker = Maker(program_of(asked).path, work)
+        examples = list(maker.examples([asked.form] if asked.form else forms, asked.command, not asked.form))
+        for part in [parts[asked.only]] if asked.only else parts.values():
+            for example in examples:
+                good = part(example) and good
+    print(f"{len(examples)} examples; runs: " + ", ".join(f"{part} {count}" for part, count in sorted(RUNS.items()))
+          + ("; none wrong" if good else "; some are wrong"))
     sys.exit(0 if good else 1)
 
 

@@ -45,7 +45,7 @@ def leave_out(folders: list[str]) -> None:
             name = (lines.name_of(body) or body.split(b" ")[0]).decode("ascii", "replace").replace("+++", "exit")
             fewer = replace(kept, log=b"".join(log[:place] + log[place + 1:]))
             count[name] += 1
-            noticed[name] += bool(verify(fewer, by_plain_rules(fewer)).differences)
+            noticed[name] += bool(verify(fewer, by_plain_rules(fewer)).faults())
     for name in sorted(count):
         print(f"{name:12} {count[name]:4} lines, {noticed[name]:4} noticed")
     print(f"{count.total()} lines, {noticed.total()} noticed")
@@ -56,10 +56,10 @@ def compared(folder: str, program: Program | None) -> tuple[Verdict, list[str], 
     kept = recording.read(folder)
     told = by_plain_rules(kept)
     verdict = verify(kept, told)
-    wrong = list(verdict.differences)
+    wrong = verdict.faults()
     if program is not None:
         own = program.replay(os.path.join(folder, recording.WORLD), os.path.join(folder, recording.LOG))
-        wrong += [f"{os.path.basename(program.path)}: {one}" for one in verify(kept, own).differences]
+        wrong = [*wrong, *(f"{os.path.basename(program.path)}: {one}" for one in verify(kept, own).faults())]
     return verdict, wrong, len(told.events)
 
 

@@ -3,8 +3,9 @@
 
 The four alternatives of the third sentence (docs/VERDICT.md, "Settled families": no_new_privs; no member with an id
 inside 0, all with SECBIT_NOROOT, or all with an empty bounding set, where no program serves a member) take turns; each
-family keeps one of them and no other. Of `no` the run is replayed. Ends with status 1 where an answer is `undecided` or
-wrong, or where less than a tenth of the families are of an alternative, a `yes`, or a `no`.
+family keeps one of them and no other. Of `yes` the certificate is checked, of `no` the run confirmed and replayed. Ends
+with status 1 where an answer is `undecided` or wrong, or where less than a tenth of the families are of an alternative,
+a `yes`, or a `no`.
 """
 from collections import Counter
 from pathlib import Path

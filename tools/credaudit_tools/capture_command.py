@@ -26,6 +26,13 @@ AFTER = """Exit status: 0 the world is written; 1 it is written, but something t
 couldn't be looked at (each is told); 2 the words are wrong; 3 nothing is written."""
 
 
+def place_word(word: str) -> bytes:
+    """A path from the root, of the words."""
+    if not word.startswith("/"):
+        raise argparse.ArgumentTypeError(f"{word!r} is no path from the root")
+    return b"/" + os.path.normpath(os.fsencode(word)).lstrip(b"/")
+
+
 def words_of(words: Sequence[str]) -> argparse.Namespace:
     """The words of the command."""
     ask = command.parser(NAME, SAYS, AFTER)
@@ -37,7 +44,8 @@ def words_of(words: Sequence[str]) -> argparse.Namespace:
     ask.add_argument("--patience", metavar="SECONDS", type=command.seconds, default=10.0,
                      help="how long it is read again until two readings agree (10)")
     ask.add_argument("--no-files", action="store_true", help="declare no files")
-    ask.add_argument("--skip", metavar="POINT", action="append", default=[], help="a mount point that isn't looked at")
+    ask.add_argument("--skip", metavar="PATH", type=place_word, action="append", default=[],
+                     help="a directory below which no file is looked at; may be given again")
     ask.add_argument("--own-spaces", action="store_true", help="declare the user namespaces of the family alone")
     ask.add_argument("--merge", action="store_true", help="declare equal members and equal programs once")
     return ask.parse_args(words)
@@ -102,7 +110,7 @@ def capture(kernel: Kernel, asked: argparse.Namespace) -> int:
     read = read_family(kernel, asked, progress.at)
     settled = time.monotonic()
     wishes = Wishes(not asked.no_files, asked.merge, asked.own_spaces,
-                    tuple(os.fsencode(point) for point in asked.skip))
+                    tuple(dict.fromkeys(asked.skip)))
     made = captured(kernel, read, wishes, progress.at)
     data = worlds.written(made.world)
     tried(data)

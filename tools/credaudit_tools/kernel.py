@@ -54,9 +54,17 @@ class Kernel(Protocol):
     def mount_table(self, key: int) -> bytes:
         """The text of mountinfo (proc(5)) of a mount namespace, from its own root."""
 
-    def walk(self, key: int, start: bytes, mount: int) -> Iterator[Program | Trouble | int]:
+    def walk(self, key: int, start: bytes, mount: int, skip: frozenset[bytes]) -> Iterator[Program | Trouble | int]:
         """All files with set-id bits or the attribute on one mount, from a directory or file on, by their paths from
-        the root of the namespace; now and then the count of files that were looked at so far."""
+        the root of the namespace; now and then the count of files that were looked at so far. What lies in a directory
+        of `skip` is left out."""
+
+    def inodes(self, key: int, path: bytes) -> int:
+        """How many inodes the filesystem of a place has in use, its directories and links too; 0 where it isn't
+        known."""
+
+    def is_directory(self, key: int, path: bytes) -> bool:
+        """Whether a path leads to a directory, from the root of the namespace and through no symbolic link."""
 
     def resolve(self, key: int, path: bytes) -> Program | Trouble:
         """The program that a path leads to, through symbolic links, from the root of the namespace."""

@@ -7,6 +7,7 @@ import errno
 import os
 import stat
 from collections.abc import Iterator
+from contextlib import contextmanager
 
 from . import mounts
 from .command import Failure
@@ -20,7 +21,7 @@ from .standing import CLONE_NEWNS, CLONE_NEWUSER, Standing
 NS_GET_USERNS = 0xb701
 ATTRIBUTE, ACCESS_LIST = "security.capability", "system.posix_acl_access"
 FRONT = 256                     # bytes of a script's first line (execve(2))
-EVERY = 4096                    # files between two counts
+EVERY = 1024                    # entries between two counts
 PASSED_OVER = (errno.ENOENT, errno.EXDEV)
 
 
@@ -153,7 +154,8 @@ class Live:
         finally:
             os.close(root)
 
-    def walk(self, key: int, start: bytes, mount: int) -> Iterator[Program | Trouble | int]:
+    def walk(self, key: int, start: bytes, mount: int,
+             skip: frozenset[bytes] = frozenset()) -> Iterator[Program | Trouble | int]:
         """All programs on one mount, from a directory or a file on, what can't be looked at, and counts of files."""
         try:
             handle = self.place(key, start, PLAIN)
@@ -164,27 +166,48 @@ class Live:
             if mount_number(handle) != mount:
                 yield Trouble(start, "another mount hides it")
             elif stat.S_ISDIR(os.fstat(handle).st_mode):
-                yield from walk_tree(handle, start, mount)
+                yield from walk_tree(handle, start, mount, skip)
             else:
                 yield from wanted(handle, start, mount)
         finally:
             os.close(handle)
 
+    @contextmanager
+    def at(self, key: int, path: bytes, resolve: int) -> Iterator[int]:
+        """A place below the root of a mount namespace, which is open meanwhile. OSError where it can't be opened."""
+        handle = self.place(key, path, resolve)
+        try:
+            yield handle
+        finally:
+            os.close(handle)
+
+    def inodes(self, key: int, path: bytes) -> int:
+        """How many inodes the filesystem of a place has in use; 0 where it isn't known (statvfs(3))."""
+        try:
+            with self.at(key, path, PLAIN) as handle:
+                told = os.statvfs(handle)
+        except OSError:
+            return 0
+        return told.f_files - told.f_ffree
+
+    def is_directory(self, key: int, path: bytes) -> bool:
+        """Whether a path leads to a directory, through no symbolic link."""
+        try:
+            with self.at(key, path, PLAIN) as handle:
+                return stat.S_ISDIR(os.fstat(handle).st_mode)
+        except OSError:
+            return False
+
     def resolve(self, key: int, path: bytes) -> Program | Trouble:
         """The program that a path leads to, through symbolic links, or why it leads to none."""
         try:
-            handle = self.place(key, path, ROOTED)
+            with self.at(key, path, ROOTED) as handle:
+                found = os.readlink(os.fsencode(f"/proc/self/fd/{handle}"))
+                if not stat.S_ISREG(os.fstat(handle).st_mode):
+                    return Trouble(path, "it is no regular file")
+                return program(handle, found, mount_number(handle))
         except OSError as error:
             return Trouble(path, error.strerror)
-        try:
-            found = os.readlink(os.fsencode(f"/proc/self/fd/{handle}"))
-            if not stat.S_ISREG(os.fstat(handle).st_mode):
-                return Trouble(path, "it is no regular file")
-            return program(handle, found, mount_number(handle))
-        except OSError as error:
-            return Trouble(path, error.strerror)
-        finally:
-            os.close(handle)
 
     def directory_modes(self, key: int, path: bytes) -> list[tuple[bytes, int, int, int]]:
         """The directories above a file: path, owner, group, mode; those that can't be opened are left out."""
@@ -193,11 +216,10 @@ class Live:
         for count in range(len(parts) + 1):
             above = b"/" + b"/".join(parts[:count])
             try:
-                handle = self.place(key, above, PLAIN)
+                with self.at(key, above, PLAIN) as handle:
+                    kept = os.fstat(handle)
             except OSError:
                 continue
-            kept = os.fstat(handle)
-            os.close(handle)
             found.append((above, kept.st_uid, kept.st_gid, stat.S_IMODE(kept.st_mode)))
         return found
 
@@ -253,9 +275,10 @@ def wanted(handle: int, path: bytes, mount: int) -> Iterator[Program | Trouble]:
         yield Trouble(path, error.strerror)
 
 
-def walk_tree(top: int, start: bytes, mount: int) -> Iterator[Program | Trouble | int]:
-    """All files of a mount below a directory."""
-    waiting, count = [b""], 0
+def walk_tree(top: int, start: bytes, mount: int,
+              skip: frozenset[bytes] = frozenset()) -> Iterator[Program | Trouble | int]:
+    """All files of a mount below a directory, but for those in the directories of `skip`."""
+    waiting, count, entries_read = [b""], 0, 0
     while waiting:
         inner = waiting.pop()
         try:
@@ -269,12 +292,13 @@ def walk_tree(top: int, start: bytes, mount: int) -> Iterator[Program | Trouble 
                 for entry in entries:
                     path = join(inner, os.fsencode(entry.name))
                     if entry.is_dir(follow_symlinks=False):
-                        waiting.append(path)
+                        waiting += [path] if join(start, path) not in skip else []
                     elif entry.is_file(follow_symlinks=False):
                         count += 1
                         yield from looked_at(folder, entry, join(start, path), mount)
-                        if count % EVERY == 0:
-                            yield count
+                    entries_read += 1
+                    if entries_read % EVERY == 0:
+                        yield count
         except OSError as error:
             yield Trouble(join(start, inner), error.strerror)
         finally:

@@ -4,6 +4,7 @@ A filesystem is often mounted more than once, in parts and in several mount name
 for each way in which it may run programs: what a mount hides below another one is looked through where it shows.
 """
 import re
+from collections.abc import Sequence
 from dataclasses import dataclass, field
 
 # Kinds of filesystems that hold no programs: their files are the kernel's own, or can't be executed.
@@ -37,7 +38,7 @@ class Mount:
 @dataclass(frozen=True)
 class Area:
     """What is to be looked through: of the mount namespace `key` the mount `mount`, from `start` on; `part` is the same
-    place on the filesystem, and `hidden` are the places of it that other mounts cover there."""
+    place on the filesystem, and `hidden` are the places of it that other mounts cover there, or that are left out."""
     key: int
     mount: Mount
     start: bytes
@@ -78,11 +79,13 @@ def moved(place: bytes, old: bytes, new: bytes) -> bytes:
     return new if not rest else new.rstrip(b"/") + b"/" + rest
 
 
-def hidden_of(mount: Mount, mounts: list[Mount]) -> frozenset[bytes]:
-    """The places of its filesystem that other mounts cover."""
-    return frozenset(moved(other.point, mount.point, mount.part) for other in mounts
-                     if other.above == mount.number and other.number != mount.number
-                     and below(other.point, mount.point))
+def hidden_of(mount: Mount, mounts: list[Mount], skip: Sequence[bytes]) -> frozenset[bytes]:
+    """The places of its filesystem that other mounts cover, or that are to be left out; none lies in another one."""
+    points = {other.point for other in mounts if other.above == mount.number and other.number != mount.number
+              and below(other.point, mount.point)}
+    points |= {place for place in skip if below(place, mount.point)}
+    return frozenset(moved(point, mount.point, mount.part) for point in points
+                     if not any(below(point, other) for other in points - {point}))
 
 
 # ---- what is to be looked through ------------------------------------------------------------------------------------
@@ -94,9 +97,9 @@ class Plan:
     areas: list[Area] = field(default_factory=list)
     by_view: dict[tuple[bytes, int], list[Area]] = field(default_factory=dict)
 
-    def add(self, key: int, mounts: list[Mount], mount: Mount) -> None:
-        """A mount of a namespace with this table."""
-        hidden, view = hidden_of(mount, mounts), mount.view()
+    def add(self, key: int, mounts: list[Mount], mount: Mount, skip: Sequence[bytes]) -> None:
+        """A mount of a namespace with this table, where these places are left out."""
+        hidden, view = hidden_of(mount, mounts, skip), mount.view()
         for part in self.missing(view, mount.part, hidden):
             area = Area(key, mount, moved(part, mount.part, mount.point), part, hidden)
             self.areas.append(area)
@@ -113,12 +116,12 @@ class Plan:
         return [part]
 
 
-def plan(tables: dict[int, list[Mount]], skip: list[bytes]) -> Plan:
-    """What is to be looked through of these namespaces: all mounts on which set-id bits have an effect, but those at
-    the points of `skip`. Larger parts first, so that a part of one is found in it."""
+def plan(tables: dict[int, list[Mount]], skip: Sequence[bytes]) -> Plan:
+    """What is to be looked through of these namespaces: all mounts on which set-id bits have an effect, but in each
+    namespace what lies in the places of `skip`. Larger parts first, so that a part of one is found in it."""
     made = Plan()
     wanted = [(key, mounts, mount) for key, mounts in tables.items() for mount in mounts
-              if mount.runs_set_id() and mount.point not in skip]
+              if mount.runs_set_id() and not any(below(mount.point, place) for place in skip)]
     for key, mounts, mount in sorted(wanted, key=lambda one: one[2].part.rstrip(b"/").count(b"/")):
-        made.add(key, mounts, mount)
+        made.add(key, mounts, mount, skip)
     return made

@@ -3,6 +3,8 @@ import os
 import shutil
 import subprocess
 import tempfile
+from collections.abc import Iterable, Iterator
+from typing import IO
 
 from . import report
 from .command import Failure
@@ -10,10 +12,11 @@ from .command import Failure
 HERE = os.path.dirname(os.path.abspath(__file__))
 INSTALLED = os.path.normpath(os.path.join(HERE, "..", "..", "..", "bin", "credaudit"))
 BUILT = os.path.normpath(os.path.join(HERE, "..", "..", "crates", "credaudit", "out", "credaudit"))
+PIECE, END = 1 << 16, b"\nend "
 # What each status of the program means (docs/FORMATS.md, "Report").
 STATUSES = {0: "accepted", 1: "no", 2: "undecided", 3: "impossible", 4: "bad world", 5: "bad log", 6: "wrong words",
-            7: "a file can't be read", 8: "a write failed", 9: "a limit", 10: "no memory", 12: "bad query",
-            13: "not built"}
+            7: "a file can't be read", 8: "a write failed", 9: "a limit", 10: "no memory", 11: "refused",
+            12: "bad query"}
 
 
 def find() -> str:
@@ -37,6 +40,27 @@ def is_text(word: str) -> bool:
     return True
 
 
+def pieces_of(stream: IO[bytes] | None) -> Iterator[bytes]:
+    """A stream in pieces."""
+    while stream is not None and (piece := stream.read(PIECE)):
+        yield piece
+
+
+def tail_of(pieces: Iterable[bytes]) -> bytes:
+    """Of a text in pieces what stands from its last line `end N` on; where it has none, its last part."""
+    kept, found = bytearray(b"\n"), False
+    for piece in pieces:
+        known = len(kept)
+        kept += piece
+        place = kept.rfind(END, max(known - len(END), 0))
+        if place >= 0:
+            del kept[:place]
+            found = True
+        elif not found:
+            del kept[:-PIECE]
+    return bytes(kept.removeprefix(b"\n"))
+
+
 class Program:
     """credaudit, ready to be called."""
 
@@ -53,6 +77,19 @@ class Program:
         if done.returncode < 0:
             raise Failure(f"{self.path} was killed by signal {-done.returncode}")
         return done.stdout.decode("ascii", "backslashreplace"), done.returncode
+
+    def tail(self, *words: str) -> tuple[bytes, int]:
+        """What a call writes from its line `end N` on, or, where it has none, the last of it; and its status. What
+        stands before isn't kept: a report of a long log is longer than the log."""
+        try:
+            with subprocess.Popen([self.path, *words], stdin=subprocess.DEVNULL, stdout=subprocess.PIPE,
+                                  stderr=subprocess.DEVNULL) as done:
+                kept = tail_of(pieces_of(done.stdout))
+        except OSError as error:
+            raise Failure(f"{self.path} can't be started: {error.strerror}") from error
+        if done.returncode < 0:
+            raise Failure(f"{self.path} was killed by signal {-done.returncode}")
+        return kept, done.returncode
 
     def run(self, *words: str) -> report.Report:
         """The report and the status of a call."""

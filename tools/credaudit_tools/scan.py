@@ -1,6 +1,7 @@
 """The files of the mount namespaces in which a family stands: all programs with set-id bits or the attribute
 security.capability, and what wasn't looked at."""
-from collections.abc import Iterator
+import time
+from collections.abc import Callable, Iterator
 from dataclasses import dataclass, field
 
 from . import mounts, programs
@@ -9,7 +10,7 @@ from .family import Family, Thread
 from .kernel import Kernel, Program, Trouble
 from .mounts import Area, Mount
 from .namespaces import INITIAL_INODE
-from .shown import escaped, few, plural, quoted
+from .shown import escaped, few, plural, quoted, shown
 
 DAC_SEARCH = 1 << 1 | 1 << 2        # CAP_DAC_OVERRIDE, CAP_DAC_READ_SEARCH
 
@@ -21,9 +22,11 @@ class Scan:
     family: Family
     skip: tuple[bytes, ...]
     says: Says
+    clock: Callable[[], float] = time.monotonic
     notes: list[str] = field(default_factory=list)
     doubts: list[str] = field(default_factory=list)
     looked_at: int = 0
+    began: float = 0.0
     by_number: dict[int, Mount] = field(default_factory=dict)
 
     def namespaces(self) -> dict[int, bytes]:
@@ -46,14 +49,14 @@ class Scan:
         namespaces = self.namespaces()
         tables = self.tables(list(namespaces))
         self.check_skipped(tables)
-        planned = mounts.plan(tables, list(self.skip))
+        areas, self.began = mounts.plan(tables, self.skip).areas, self.clock()
         self.tell_mounts(tables)
         taken: set[str] = set()
         rows = programs.Rows(notes=self.notes, lost=self.doubts)
         writers = {key: programs.Writer(self.resolver(key), prefix, rows, {}, taken, self.flags)
                    for key, prefix in namespaces.items()}
-        for area in planned.areas:
-            for program in self.area(area, namespaces[area.key]):
+        for number, area in enumerate(areas, 1):
+            for program in self.area(area, namespaces[area.key], f"part {number} of {len(areas)}"):
                 writers[area.key].add_found(program)
                 self.tell_odd(area, program)
         self.tell_hidden(namespaces, rows)
@@ -68,13 +71,17 @@ class Scan:
         """The options of the mount of that number."""
         return self.by_number[number].options if number in self.by_number else frozenset()
 
-    def area(self, area: Area, prefix: bytes) -> Iterator[Program]:
-        """The programs of one part of a mount; what can't be looked at becomes a doubt, under that prefix."""
-        count = 0
-        for found in self.kernel.walk(area.key, area.start, area.mount.number):
+    def area(self, area: Area, prefix: bytes, which: str) -> Iterator[Program]:
+        """The programs of one part of a mount; what can't be looked at becomes a doubt, under that prefix. Now and then
+        it is told how far the scan is."""
+        count, inodes = 0, self.kernel.inodes(area.key, area.start)
+        where = f"{quoted(prefix + area.start)} ({which}, {shown(area.mount.kind)}" \
+                + (f" with {plural(inodes, 'inode')} in use)" if inodes else ")")
+        for found in self.kernel.walk(area.key, area.start, area.mount.number, frozenset(self.skip)):
             if isinstance(found, int):
                 count = found
-                self.says(f"{self.looked_at + count} files looked at, now below {quoted(area.start)}")
+                self.says(f"{plural(self.looked_at + count, 'file')} looked at in {self.clock() - self.began:.0f} s,"
+                          f" now below {where}")
             elif isinstance(found, Trouble):
                 self.doubts.append(f"{escaped(prefix + found.path)} can't be looked at: {found.why}")
             else:
@@ -82,12 +89,13 @@ class Scan:
         self.looked_at += count
 
     def check_skipped(self, tables: dict[int, list[Mount]]) -> None:
-        """Fails where what is to be skipped is no mount's point: it would be looked at, and told as left out."""
+        """Fails where what is to be skipped is no directory and no mount's point: it would be told as left out. A
+        mount's point isn't opened, since a filesystem that doesn't answer may stand there."""
         points = {mount.point for table in tables.values() for mount in table}
-        for point in self.skip:
-            if point not in points:
-                raise Failure(f"nothing is mounted at {quoted(point)}, so it can't be left out",
-                              "--skip takes mount points as /proc/PID/mountinfo has them")
+        for place in self.skip:
+            if place not in points and not any(self.kernel.is_directory(key, place) for key in tables):
+                raise Failure(f"there is no directory {quoted(place)}, so it can't be left out",
+                              "--skip takes a directory by its path from the root, without symbolic links")
 
     def tell_mounts(self, tables: dict[int, list[Mount]]) -> None:
         """What isn't looked through."""
@@ -100,8 +108,8 @@ class Scan:
         if kinds:
             self.notes.append(f"left out: files on {plural(len(kinds), 'mount')} of kinds that hold no programs, such"
                               " as proc")
-        for point in self.skip:
-            self.doubts.append(f"{escaped(point)} isn't looked at, as asked for")
+        for place in self.skip:
+            self.doubts.append(f"{escaped(place)} isn't looked at, as asked for")
         for key in tables:
             owner = self.kernel.owner_of_mounts(key)
             if owner != INITIAL_INODE:

@@ -5,10 +5,12 @@ All of it is read from the report's own lines and from the world that was replay
 """
 from dataclasses import dataclass, field
 
+from .names import NUMBERS
 from .namespaces import Extents
-from .report import Event, Standing
+from .report import Event, Report, Standing, turn
 from .worlds import INITIAL, World
 
+SETFCAP = NUMBERS["CAP_SETFCAP"]
 OVERFLOW = 65534            # the id that the kernel shows for one without a mapping (user_namespaces(7))
 EVERY: Extents = ((0, 0, 4294967295),)
 
@@ -22,6 +24,7 @@ class SpaceTold:
     uid_map: Extents = ()
     gid_map: Extents = ()
     setgroups: str = "allow"
+    setfcap: bool = False       # its creator had CAP_SETFCAP
 
 
 @dataclass
@@ -36,7 +39,8 @@ class SpacesTold:
         if event.call in ("unshare", "clone_user") and event.after:
             inner = event.after[-1].space
             above = self.named[before.space]
-            self.named[inner] = SpaceTold(before.space, before.credential.uid[1], setgroups=above.setgroups)
+            self.named[inner] = SpaceTold(before.space, before.credential.uid[1], setgroups=above.setgroups,
+                                          setfcap=bool(before.credential.eff >> SETFCAP & 1))
         elif event.call in ("write_uid_map", "write_gid_map"):
             own = self.named[event.arguments[0]]
             key = event.call.removeprefix("write_")
@@ -61,7 +65,18 @@ def of_world(world: World) -> SpacesTold:
     for space in world.spaces:
         maps = [told.taken_down(space.parent, key, own or ()) for key, own in
                 (("uid_map", space.uid_map), ("gid_map", space.gid_map))]
-        told.named[space.name] = SpaceTold(space.parent, space.owner, maps[0], maps[1], space.setgroups)
+        told.named[space.name] = SpaceTold(space.parent, space.owner, maps[0], maps[1], space.setgroups,
+                                           space.creator_setfcap)
+    return told
+
+
+def at_end(read: Report, world: World) -> SpacesTold:
+    """The namespaces at the end of a replay of that world. KeyError where the report has one that the world can't
+    have."""
+    told, standing = of_world(world), {one.pid: one for one in read.start}
+    for event in read.events:
+        told.turn(event, standing.get(event.pid))
+        turn(standing, event)
     return told
 
 
@@ -76,12 +91,18 @@ def triples(words: tuple[str, ...]) -> Extents:
     return tuple((values[at], values[at + 1], values[at + 2]) for at in range(0, len(values), 3))
 
 
-def inside(extents: Extents, number: int) -> int:
-    """An id as the processes of a namespace see it."""
+def inner(extents: Extents, number: int) -> int | None:
+    """The inside id that a map takes to an id of the initial namespace; None where there is none."""
     for first, low, count in extents:
         if low <= number < low + count:
             return first + number - low
-    return OVERFLOW
+    return None
+
+
+def inside(extents: Extents, number: int) -> int:
+    """An id as the processes of a namespace see it."""
+    found = inner(extents, number)
+    return OVERFLOW if found is None else found
 
 
 def joined(extents: Extents) -> Extents:

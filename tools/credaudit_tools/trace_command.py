@@ -8,7 +8,7 @@ from . import command, proc, recording, verify_command, worlds
 from .command import FOUND, GOOD, USAGE, Progress, tell
 from .plain_log import numbers_of, renumbered
 from .recorder import Asked, Recorder
-from .shown import shown
+from .shown import plural, shown
 from .statuses import Status
 
 NAME = "credaudit-trace"
@@ -16,7 +16,7 @@ SAYS = """Records a program, or processes that run already, under strace(1): the
 credaudit reads, and what the kernel showed of each process at the log's end. Then the recording is verified."""
 AFTER = """exit status:
   0  recorded, and the replay agrees with what the kernel showed
-  1  recorded, and there is a doubt or a difference; each is told
+  1  recorded, and there is a doubt or a difference, or nothing was compared; each is told
   2  the words are wrong
   3  not recorded: the reason is told"""
 
@@ -82,8 +82,8 @@ def traced(options: argparse.Namespace, asked: Asked) -> int:
     end = found.made.end if found.made else ""
     if end == "stopped":
         tell(NAME, ADVICE)
-    print(f"{shown(options.output)}: {len(made.log.splitlines())} lines, {len(made.statuses)} processes at the end"
-          f" ({end})")
+    print(f"{shown(options.output)}: {plural(len(made.log.splitlines()), 'line')},"
+          f" {plural(len(made.statuses), 'process')} at the end ({end})")
     status = GOOD if options.no_verify else verify_command.verified(NAME, options.output, tell_doubts=False)
     return FOUND if doubts and status == GOOD else status
 

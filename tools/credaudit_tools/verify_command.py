@@ -6,14 +6,14 @@ from . import command, recording
 from .command import FAILED, FOUND, GOOD, Failure, Progress, tell
 from .program import STATUSES, Program
 from .shown import plural, shown
-from .verifying import NOTHING, Verdict, verify
+from .verifying import Verdict, verify
 
 NAME = "credaudit-verify"
 SAYS = """Replays a recording with credaudit, and holds the replay against what the kernel showed: each process that
 lived at the log's end, its user namespace with maps, and each answer of getuid, capget and their like at its line."""
 AFTER = """exit status:
-  0  all that could be compared agrees
-  1  there is a difference, or the recording has a doubt; each is told
+  0  something was compared, and agrees
+  1  there is a difference, nothing was compared, or the recording has a doubt; each is told
   2  the words are wrong
   3  it couldn't be compared: the reason is told"""
 MOST = 50
@@ -32,11 +32,9 @@ def tell_verdict(name: str, folder: str, verdict: Verdict, doubts: list[str]) ->
     for text in verdict.notes:
         tell(name, f"note: {text}")
     found = len(verdict.differences)
-    outcome = plural(found, "difference") if found else "no difference"
-    if verdict.differences == [NOTHING]:
-        outcome = "nothing to compare"
-    print(f"{shown(folder)}: {verdict.processes} processes, {verdict.answers} answers compared: {outcome}", flush=True)
-    return FOUND if found or doubts else GOOD
+    outcome = ": " + plural(found, "difference") if found else ": no difference" if not verdict.faults() else ""
+    print(f"{shown(folder)}: {verdict.compared()}{outcome}", flush=True)
+    return FOUND if verdict.faults() or doubts else GOOD
 
 
 def verified(name: str, folder: str, tell_doubts: bool = True) -> int:

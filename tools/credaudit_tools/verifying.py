@@ -11,13 +11,12 @@ from .credential import WORDS, differences
 from .kernel_rows import Made
 from .recording import Recording, SpaceSeen
 from .report import Report, Standing
-from .shown import shown
+from .shown import plural, shown
 from .spaces_of_report import SpacesTold, joined, map_words, of_world
 from .statuses import Status
 from .worlds import INITIAL
 
 STEP = 4096                     # lines between two words of progress
-NOTHING = "nothing could be compared: no process lived at the end, and no call asked for a credential"
 
 
 @dataclass
@@ -28,6 +27,40 @@ class Verdict:
     processes: int = 0
     answers: int = 0
     unread: int = 0         # answers that can't be compared
+    lived: bool = False     # a process lived at the end, for the kernel or in the replay
+    refused: bool = False   # the replay doesn't come to the log's end
+
+    def no_process(self) -> str:
+        """Why no process was compared."""
+        return "none lived both for the kernel and in the replay" if self.lived else "none lived at the end"
+
+    def no_answer(self) -> str:
+        """Why no answer was compared."""
+        return "their form isn't known" if self.unread else "no call asked for a credential"
+
+    def nothing(self) -> str | None:
+        """Why nothing was compared; None where something was."""
+        if self.refused:
+            return "the replay doesn't come to the log's end"
+        if self.processes or self.answers:
+            return None
+        return f"processes: {self.no_process()}; answers: {self.no_answer()}"
+
+    def faults(self) -> list[str]:
+        """The differences; where there are none, and nothing was compared, that."""
+        why = self.nothing()
+        return self.differences or ([] if why is None else [f"nothing was compared: {why}"])
+
+    def compared(self) -> str:
+        """What was compared, and why nothing of a kind was."""
+        why = self.nothing()
+        if why is not None:
+            return f"nothing was compared ({why})"
+        if not self.answers:
+            return f"{plural(self.processes, 'process')} compared, no answers ({self.no_answer()})"
+        if not self.processes:
+            return f"{plural(self.answers, 'answer')} compared, no processes ({self.no_process()})"
+        return f"{plural(self.processes, 'process')}, {plural(self.answers, 'answer')} compared"
 
 
 @dataclass
@@ -117,6 +150,7 @@ def with_row(text: str, row: str | None) -> str:
 def compare_processes(kept: Recording, now: Replayed, verdict: Verdict) -> None:
     """Who lives, and with what."""
     shown_ones = {status.pid: status for status in kept.statuses}
+    verdict.lived = bool(shown_ones or now.standing)
     if len(shown_ones) != len(kept.statuses):
         verdict.differences.append(f"{recording.STATUS} has a process twice")
     for pid in sorted(set(shown_ones) - set(now.standing)):
@@ -210,6 +244,7 @@ def verify(kept: Recording, told: Report, says: Says = silent) -> Verdict:
     verdict.differences += recording.altered(kept)
     if told.status != 0:
         verdict.differences.append(failure_of(kept, told))
+        verdict.refused = True
         return verdict
     now = through(kept, told, verdict, says)
     if kept.log and not told.events and verdict.answers < kept.log.count(b"\n"):
@@ -217,10 +252,8 @@ def verify(kept: Recording, told: Report, says: Says = silent) -> Verdict:
     if kept.made is None:
         verdict.notes.append(f"there is no {recording.MADE}: whether the recording had doubts, and whether its files"
                              " were changed since, isn't known")
-    elif kept.made.end == "program":
+    elif kept.made.end == "program" and verdict.answers:
         verdict.notes.append("the program had ended: what its calls answered is compared, and who lives")
     compare_processes(kept, now, verdict)
     compare_spaces(kept, now, verdict)
-    if verdict.processes == 0 and verdict.answers == 0:
-        verdict.differences.append(NOTHING)
     return verdict

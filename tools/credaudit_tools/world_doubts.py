@@ -21,8 +21,13 @@ def is_interpreter(path: str) -> bool:
 
 def of_world(data: bytes, world: World, report: Report) -> Iterator[Finding]:
     """Doubts about an accepted world, with the report of a log in it."""
+    yield from of_marks(data)
+    yield from of_rows(data, world, report)
+
+
+def of_marks(data: bytes) -> Iterator[Finding]:
+    """What a world says of itself: that no scan made it, and the doubts of who made it."""
     text = data.decode("utf-8", "replace")
-    where = places(text.removeprefix("\ufeff"))
     if "# " + SCANNED not in text.split("\n"):
         yield doubt(WORLD, None,
                     "the world doesn't say that all files were looked for: a `yes` holds by the family's own calls"
@@ -30,6 +35,11 @@ def of_world(data: bytes, world: World, report: Report) -> Iterator[Finding]:
     for number, line in enumerate(text.split("\n"), 1):
         if line.startswith(DOUBT):
             yield doubt(WORLD, number, line.removeprefix(DOUBT), "the doubt of who made the world")
+
+
+def of_rows(data: bytes, world: World, report: Report) -> Iterator[Finding]:
+    """What is doubtful of the rows of an accepted world."""
+    where = places(data.decode("utf-8", "replace").removeprefix("\ufeff"))
     yield from process_doubts(world, where)
     yield from file_doubts(world, where)
     yield from path_doubts(world, where, report)

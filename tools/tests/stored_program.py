@@ -11,7 +11,8 @@ import os
 import subprocess
 import sys
 
-REPORTS = os.path.join(os.path.dirname(os.path.abspath(__file__)), "data", "reports")
+# A link may name this program: its folder is found all the same.
+REPORTS = os.path.join(os.path.dirname(os.path.realpath(__file__)), "data", "reports")
 UNKNOWN, USAGE = 99, 6
 
 

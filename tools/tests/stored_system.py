@@ -10,7 +10,7 @@ A system is a TOML text. Its texts are Latin-1, so that each byte can stand in t
   [[mounts]]   key, owner, table (the text of mountinfo)
   [[file]]     path, mounts (the namespace), mount (the number), uid, gid, mode, caps, start, listed
   [[link]]     path, to; of symbolic links
-  [[folder]]   path, uid, gid, mode; others are 0 0 0755
+  [[folder]]   path, uid, gid, mode; others are 0 0 0755; inodes, those in use on its filesystem, else not known
   [[trouble]]  path, why; what can't be looked at
   [[hidden]]   name, why; whose user namespace isn't shown
 """
@@ -136,12 +136,24 @@ class StoredSystem:
                        bytes.fromhex(row["caps"]) if "caps" in row else None, data(row.get("start", "\x7fELF")),
                        row.get("listed", False), row.get("mount", 1))
 
-    def walk(self, key: int, start: bytes, mount: int) -> Iterator[Program | Trouble | int]:
+    def walk(self, key: int, start: bytes, mount: int, skip: frozenset[bytes]) -> Iterator[Program | Trouble | int]:
+        def here(path: bytes) -> bool:
+            return below(path, start) and not any(below(path, place) for place in skip)
+
         programs = [self.program(row) for row in self.rows("file") if row.get("mounts", OWN_MOUNTS) == key]
-        yield from (each for each in programs if each.mount == mount and below(each.path, start) and counts(each))
+        programs = [each for each in programs if each.mount == mount and here(each.path)]
+        yield from (each for each in programs if counts(each))
         troubles = [Trouble(data(row["path"]), row["why"]) for row in self.rows("trouble")]
-        yield from (each for each in troubles if below(each.path, start))
+        yield from (each for each in troubles if here(each.path))
         yield len(programs)
+
+    def inodes(self, key: int, path: bytes) -> int:
+        return max((row.get("inodes", 0) for row in self.rows("folder") if data(row["path"]) == path), default=0)
+
+    def is_directory(self, key: int, path: bytes) -> bool:
+        files = [data(row["path"]) for row in self.rows("file") if row.get("mounts", OWN_MOUNTS) == key]
+        folders = [data(row["path"]) for row in self.rows("folder") if row.get("mounts", OWN_MOUNTS) == key]
+        return path in folders or any(each != path and below(each, path) for each in files)
 
     def resolve(self, key: int, path: bytes) -> Program | Trouble:
         links = {data(row["path"]): data(row["to"]) for row in self.rows("link")}
@@ -153,5 +165,5 @@ class StoredSystem:
 
     def directory_modes(self, key: int, path: bytes) -> list[tuple[bytes, int, int, int]]:
         return [(data(row["path"]), row.get("uid", 0), row.get("gid", 0),
-                 int(row["mode"], 8)) for row in self.rows("folder")
+                 int(row.get("mode", "0755"), 8)) for row in self.rows("folder")
                 if below(path, data(row["path"])) and row.get("mounts", OWN_MOUNTS) == key]

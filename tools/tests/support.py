@@ -12,7 +12,7 @@ from collections.abc import Callable, Iterator, Sequence
 from unittest import mock
 
 from credaudit_tools import command
-from credaudit_tools.program import Program
+from credaudit_tools.program import Program, tail_of
 
 from . import stored_program
 
@@ -21,7 +21,7 @@ DATA = os.path.join(HERE, "data")
 EXAMPLES = os.path.normpath(os.path.join(HERE, "..", "..", "examples"))
 STORED = os.path.join(HERE, "stored_program.py")
 os.environ["CREDAUDIT"] = STORED
-CALLED = Program.answer
+CALLED, CALLED_TAIL = Program.answer, Program.tail
 
 
 def stored_answer(program: Program, *words: str) -> tuple[str, int]:
@@ -32,7 +32,16 @@ def stored_answer(program: Program, *words: str) -> tuple[str, int]:
     return text.decode("ascii", "backslashreplace"), status
 
 
+def stored_tail(program: Program, *words: str) -> tuple[bytes, int]:
+    """As Program.tail, likewise."""
+    if program.path != STORED:
+        return CALLED_TAIL(program, *words)
+    status, text = stored_program.answer(list(words))
+    return tail_of([text]), status
+
+
 mock.patch.object(Program, "answer", stored_answer).start()
+mock.patch.object(Program, "tail", stored_tail).start()
 
 
 def data(*names: str) -> bytes:
@@ -47,6 +56,7 @@ class Case(unittest.TestCase):
     def setUp(self) -> None:
         self.work = tempfile.mkdtemp(prefix="credaudit-test-")
         self.addCleanup(shutil.rmtree, self.work)
+        self.enterContext(mock.patch.object(command, "PATIENCE", 600.0))     # no word of progress on a slow machine
 
     def put(self, name: str | bytes, text: bytes = b"", mode: int = 0o644) -> str:
         """A file below the folder."""

@@ -1,5 +1,6 @@
 """The plain checkers and the witnesses stand apart from the package: neither uses the other, so that one can be held
-against the other.
+against the other. What both need stands in each of them, on purpose: the names of the capabilities, the record of a
+credential. Among themselves the plain checkers share: plain_drill.py has the drill, and drill_witness.py uses it.
 """
 import ast
 import glob
@@ -41,7 +42,7 @@ def reached(paths: list[str]) -> set[str]:
 
 class Apart(unittest.TestCase):
     def setUp(self) -> None:
-        self.apart = files("plain_*.py", "witness/*.py", "audit_witness.py", "settled_witness.py")
+        self.apart = files("plain_*.py", "witness/*.py", "*_witness.py")
         self.package = files(f"{PACKAGE}/*.py", "credaudit-*")
 
     def test_there_are_enough(self) -> None:

@@ -9,6 +9,7 @@ from credaudit_tools.capture import Capture, Wishes, captured
 from credaudit_tools.command import Failure
 from credaudit_tools.marks import SCANNED, UNSCANNED
 from credaudit_tools.program import Program
+from credaudit_tools.scan import Scan
 
 from . import support
 from .stored_system import StoredSystem
@@ -93,10 +94,6 @@ class Wished(Systems):
         self.assertEqual(made.world.files, [])
         self.assertEqual(made.doubts, ["/srv isn't looked at, as asked for"])
 
-    def test_what_is_skipped_is_a_mount(self) -> None:
-        with self.assertRaisesRegex(Failure, "nothing is mounted at '/srv/data'"):
-            self.capture(self.system(stored("nosuid_on_one_mount.toml")), Wishes(skip=(b"/srv/data",)))
-
     def test_own_namespaces_alone(self) -> None:
         made = self.capture(self.system(stored("namespace_of_others.toml")), Wishes(own_spaces=True))
         self.assertEqual(made.world.spaces, [])
@@ -132,6 +129,87 @@ class Wished(Systems):
     def test_a_process_that_has_ended(self) -> None:
         with self.assertRaisesRegex(Failure, "process 101 has ended"):
             self.capture(self.system(stored("ended_child.toml")), pid=101)
+
+
+class Skipped(Systems):
+    """Directories that are left out."""
+
+    MOUNTS = ("1 1 8:1 / / rw - ext4 /dev/sda rw", "2 1 8:2 / /srv rw - xfs /dev/sdb rw",
+              "3 2 8:3 / /srv/data rw - xfs /dev/sdc rw")
+    FILES = ((1, "/usr/bin/su"), (1, "/opt/big/su"), (1, "/opt/big/in/su"), (1, "/opt/bigger/su"), (2, "/srv/su"),
+             (3, "/srv/data/su"))
+
+    def skipped(self, *skip: str, mounts: tuple[str, ...] = (), files: tuple[tuple[int, str], ...] = ()) -> list[str]:
+        """The paths of the programs that are declared then. Of each directory that is left out a doubt is told."""
+        table = "".join(line + "\\n" for line in (*self.MOUNTS, *mounts))
+        rows = "".join(f'\n[[file]]\npath = "{path}"\nmode = "4755"\nmount = {mount}\n'
+                       for mount, path in (*self.FILES, *files))
+        system = self.system(f'[[thread]]\ntid = 100\n\n[[mounts]]\ntable = "{table}"\n{rows}')
+        made = self.capture(system, Wishes(skip=tuple(map(os.fsencode, skip))))
+        self.assertEqual(made.doubts, [f"{each} isn't looked at, as asked for" for each in skip])
+        return sorted(row.path for row in made.world.files)
+
+    def left(self, *gone: str) -> list[str]:
+        """The paths of all programs but those below these directories."""
+        return sorted(path for _, path in self.FILES if not any(path.startswith(each + "/") for each in gone))
+
+    def test_a_directory(self) -> None:
+        self.assertEqual(self.skipped(), self.left())
+        for gone in (("/opt/big",), ("/opt/big/in",), ("/opt/big", "/opt/big/in"), ("/opt", "/usr")):
+            self.assertEqual(self.skipped(*gone), self.left(*gone), gone)
+
+    def test_a_mount_with_those_below_it(self) -> None:
+        for gone in ("/srv", "/srv/data"):
+            self.assertEqual(self.skipped(gone), self.left(gone), gone)
+        self.assertEqual(self.skipped("/"), [])
+
+    def test_what_another_mount_shows_too_is_looked_at_there(self) -> None:
+        inner = ("4 1 8:1 /opt/big /mnt rw - ext4 /dev/sda rw",), ((4, "/mnt/su"), (4, "/mnt/in/su"))
+        whole = ("4 1 8:1 / /mnt rw - ext4 /dev/sda rw",), tuple((4, "/mnt" + path) for mount, path in self.FILES
+                                                                 if mount == 1)
+        for mounts, files in (inner, whole):
+            self.assertEqual(self.skipped(mounts=mounts, files=files), self.left())
+            shown = [path for _, path in files if mounts == inner[0] or "/opt/big/" in path]
+            self.assertEqual(self.skipped("/opt/big", mounts=mounts, files=files),
+                             sorted(self.left("/opt/big") + shown))
+            self.assertEqual(self.skipped("/opt/big", "/mnt", mounts=mounts, files=files), self.left("/opt/big"))
+
+    def test_what_is_no_directory_is_told(self) -> None:
+        for path in ("/opt/none", "/usr/bin/su", "/opt/bi"):
+            with self.subTest(path), self.assertRaisesRegex(Failure, f"there is no directory '{path}', so it can't be"):
+                self.skipped(path)
+
+
+class Far(Systems):
+    """How far the scan of the files is."""
+
+    def test_how_many_where_and_for_how_long(self) -> None:
+        system = self.system("""
+[[thread]]
+tid = 100
+
+[[mounts]]
+table = "1 1 8:1 / / rw - ext4 /dev/sda rw\\n2 1 0:9 / /srv/\\\\033[2J rw - nfs4 host:/ rw\\n"
+
+[[folder]]
+path = "/"
+inodes = 5003
+
+[[file]]
+path = "/bin/a"
+mode = "0755"
+
+[[file]]
+path = "/srv/\\u001b[2J/b"
+mode = "0755"
+mount = 2
+""")
+        read, told = family.settled(system, ROOT, False, 600.0, pause=lambda _: None), list[str]()
+        clock = iter((100.0, 100.4, 162.0))
+        Scan(system, read, (), told.append, lambda: next(clock)).rows()
+        self.assertEqual(told, [
+            "1 file looked at in 0 s, now below '/' (part 1 of 2, ext4 with 5003 inodes in use)",
+            "2 files looked at in 62 s, now below '/srv/\\033[2J' (part 2 of 2, nfs4)"])
 
 
 class Moving(Systems):

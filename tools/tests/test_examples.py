@@ -1,9 +1,17 @@
-"""The small daemons of examples/strace: what the kernel showed of them at the end is what their sources say."""
+"""The small daemons of examples/strace: what the kernel showed of them at the end is what their sources say. The
+reports of examples/: what plain Python works out.
+"""
+import glob
 import os
+import unittest
 from dataclasses import dataclass
+from pathlib import Path
 
+import plain_bounds
 from credaudit_tools import recording
 from credaudit_tools.credential import Four
+from plain_cases import Case as Stored
+from plain_report import report
 
 from .support import EXAMPLES, Case
 
@@ -62,3 +70,55 @@ class Daemons(Case):
         folder = os.path.join(EXAMPLES, "strace")
         sources = {name for name in os.listdir(folder) if os.path.exists(os.path.join(folder, name, name + ".c"))}
         self.assertEqual(sources, set(ENDS))
+
+
+def stored(folder: Path) -> Stored:
+    """An example, as the cases of report_cases are."""
+    def words(name: str) -> list[str]:
+        return (folder / name).read_text().split() if (folder / name).exists() else []
+
+    files = {"world": (folder / "world.toml").read_bytes(), "log": (folder / "log").read_bytes()}
+    query = words("query")
+    return Stored(folder.name, ["audit" if query else "replay", "world", "log", *query], files,
+                  (folder / "report").read_text("ascii").splitlines(), int((words("status") or ["0"])[0]))
+
+
+class Reports(unittest.TestCase):
+    """The report of each example."""
+
+    def setUp(self) -> None:
+        self.examples = [stored(Path(path).parent) for path in sorted(glob.glob(os.path.join(EXAMPLES, "*", "report")))]
+
+    def test_there_are_both_kinds(self) -> None:
+        self.assertGreaterEqual([each.words[0] for each in self.examples].count("audit"), 11)
+        self.assertGreaterEqual([each.words[0] for each in self.examples].count("replay"), 3)
+
+    def test_replays(self) -> None:
+        """The whole of a replay, and of an audit what stands before the verdict."""
+        for each in self.examples:
+            with self.subTest(each.name):
+                told = report(each.files["world"], each.files["log"])
+                lines, rest = told.text.decode().splitlines(), []
+                if each.words[0] == "audit":
+                    rest = each.lines[len(lines):]
+                    self.assertTrue(rest)
+                self.assertEqual((told.status, [*lines, *rest]), (0, each.lines))
+
+    def test_verdicts(self) -> None:
+        """By bounds; the run of a `no` is confirmed, with its holder."""
+        for each in self.examples:
+            if each.words[0] == "audit":
+                with self.subTest(each.name):
+                    self.assertIsNone(plain_bounds.difference(each))
+                    if each.status == plain_bounds.NO:
+                        at = next(at for at, line in enumerate(each.lines) if line.startswith("no "))
+                        *run, holder = each.lines[at + 1:]
+                        self.assertEqual(each.lines[at], f"no {len(run)}")
+                        pid, right = (word.encode() for word in each.words[3:])
+                        told = plain_bounds.answer("confirm", each.files["world"], each.files["log"], pid, right,
+                                                   "".join(line + "\n" for line in run).encode())
+                        self.assertEqual(told.lines, (holder.replace("holder", "confirmed"),))
+
+
+if __name__ == "__main__":
+    unittest.main()

@@ -93,8 +93,8 @@ class Silent(Filtered):
             shutil.rmtree(os.path.join(self.work, "proc", str(pid)), ignore_errors=True)
         filtering = self.filtering()
         self.assertIsNone(self.fed(filtering, ['100 write(3</tmp/a>, "0 0 1\\n", 6) = 6']))
-        self.assertEqual(filtering.taken.doubts, ["process 100 wrote what looks like a map to /tmp/a, and whether that is"
-                                                  " one isn't known"])
+        self.assertEqual(filtering.taken.doubts, ["process 100 wrote what looks like a map to /tmp/a, and whether that"
+                                                  " is one isn't known"])
 
 
 # Bytes of a name, and how a recording's log and world have it.

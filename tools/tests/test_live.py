@@ -17,6 +17,7 @@ from credaudit_tools.safe_open import PLACE, ROOTED, WITHIN, mount_number, safe_
 from credaudit_tools.standing import CLONE_NEWUSER, Standing
 
 from . import support
+from .plain_program import Plain
 from .stored_system import StoredSystem, put
 from .test_capture import SYSTEMS
 
@@ -85,10 +86,10 @@ class Walked(support.Case):
         if not support.set_ids_stay(self.put("probe")):
             self.skipTest("no set-id bits here")
 
-    def walk(self) -> list[Program | Trouble | int]:
+    def walk(self, skip: frozenset[bytes] = frozenset()) -> list[Program | Trouble | int]:
         top = os.open(os.path.join(self.work, "tree"), os.O_PATH | os.O_DIRECTORY)
         try:
-            return list(walk_tree(top, b"/top", 7))
+            return list(walk_tree(top, b"/top", 7, skip))
         finally:
             os.close(top)
 
@@ -105,6 +106,19 @@ class Walked(support.Case):
         su = programs[b"/top/a/b/su"]
         self.assertEqual((su.mode & 0o7777, su.uid, su.caps, su.start, su.listed, su.mount),
                          (0o4755, os.getuid(), None, b"\x7fELF", False, 7))
+
+    def test_directories_that_are_left_out(self) -> None:
+        for path in ("tree/su", "tree/a/su", "tree/a/b/su", "tree/ab/su", "tree/c/a/su"):
+            self.put(path, b"\x7fELF", 0o4755)
+        *found, count = self.walk(frozenset([b"/top/a", b"/top/c/a", b"/top/su", b"/other"]))
+        self.assertEqual((sorted(each.path for each in found if isinstance(each, Program)), len(found), count),
+                         ([b"/top/ab/su", b"/top/su"], 2, 2))
+
+    def test_counts_come_meanwhile(self) -> None:
+        for number in range(7):
+            self.put(f"tree/{number}/file")
+        with mock.patch.object(live, "EVERY", 5):
+            self.assertEqual(self.walk(), [0, 3, 7])
 
     def test_a_deep_tree_is_told(self) -> None:
         path = os.path.join(self.work, "tree")
@@ -189,6 +203,31 @@ class Kernel(support.Case):
                          [path])
         self.assertEqual(list(self.live.walk(self.mounts, path, 0)), [Trouble(path, "another mount hides it")])
         self.assertIsInstance(next(self.live.walk(self.mounts, b"/there/is/none", 0)), Trouble)
+
+    def test_directories(self) -> None:
+        self.put("one/file")
+        self.link("link", "one")
+        for name, is_one in (("one", True), ("one/file", False), ("link", False), ("none", False)):
+            path = os.fsencode(os.path.join(self.work, name))
+            self.assertEqual(self.live.is_directory(self.mounts, path), is_one, name)
+        self.assertTrue(self.live.is_directory(self.mounts, b"/"))
+
+    def test_inodes(self) -> None:
+        told = os.statvfs(self.work)
+        with mock.patch.object(os, "statvfs", return_value=told):
+            self.assertEqual(self.live.inodes(self.mounts, os.fsencode(self.work)), told.f_files - told.f_ffree)
+        self.assertGreaterEqual(self.live.inodes(self.mounts, b"/"), 0)
+        self.assertEqual(self.live.inodes(self.mounts, b"/there/is/none"), 0)
+        with mock.patch.object(os, "statvfs", side_effect=OSError(errno.EIO, os.strerror(errno.EIO))):
+            self.assertEqual(self.live.inodes(self.mounts, b"/"), 0)
+
+    def test_a_walk_leaves_directories_out(self) -> None:
+        self.put("tree/a/tool", b"", 0o4755)
+        top = os.fsencode(os.path.join(self.work, "tree"))
+        place = self.live.place(self.mounts, top, ROOTED)
+        number = mount_number(place)
+        os.close(place)
+        self.assertEqual(list(self.live.walk(self.mounts, top, number, frozenset([top + b"/a"]))), [0])
 
     def test_interpreters(self) -> None:
         path = os.fsencode(self.put("dash", b"\x7fELF", 0o755))
@@ -351,6 +390,20 @@ class Command(support.Case):
         self.assertEqual(status, FOUND)
         self.assertIn("doubt: /srv/data can't be looked at", errors)
 
+    def test_directories_that_are_left_out(self) -> None:
+        path = os.path.join(self.work, "world.toml")
+        for word in ("/srv", "//srv/", "/srv/su/../."):
+            with mock.patch.object(capture_command, "Program", Plain):
+                status, _, errors = self.called("nosuid_on_one_mount.toml", "--skip", word, "--skip", "/srv", "-o",
+                                                path, "100")
+            self.assertEqual((status, errors.count("doubt: /srv isn't looked at, as asked for")), (FOUND, 1), word)
+            with open(path, encoding="ascii") as file:
+                self.assertNotIn("[[file]]", file.read())
+        status, _, errors = self.called("programs.toml", "--skip", "/usr/share", "100")
+        self.assertEqual(status, FAILED)
+        self.assertIn("there is no directory '/usr/share'", errors)
+        self.assertIn("without symbolic links", errors)
+
     def test_a_family_that_cannot_be_read_gives_no_world(self) -> None:
         path = os.path.join(self.work, "world.toml")
         status, _, errors = self.called("programs.toml", "-o", path, "7")
@@ -364,7 +417,8 @@ class Command(support.Case):
 
     def test_words(self) -> None:
         for words in ((), ("0",), ("4194305",), ("-5",), ("one",), ("100", "101"), ("--what", "100"),
-                      ("--patience", "nan", "100"), ("--patience", "inf", "100"), ("--patience", "-1", "100")):
+                      ("--patience", "nan", "100"), ("--patience", "inf", "100"), ("--patience", "-1", "100"),
+                      ("--skip", "srv", "100"), ("--skip", "", "100")):
             self.assertEqual(self.called("programs.toml", *words)[0], USAGE, words)
         self.assertEqual(self.called("programs.toml", "--version")[0], GOOD)
         self.assertIn("Exit status", self.called("programs.toml", "--help")[1])

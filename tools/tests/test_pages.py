@@ -4,14 +4,23 @@ import re
 import shutil
 import subprocess
 import unittest
+from unittest import mock
 
-from credaudit_tools import capture_command, lint_command, trace_command, verify_command
+from credaudit_tools import (capture_command, explain, explain_command, lint_command, schemas, summary,
+                             summary_command, trace_command, unit_command, verify_command)
 
 from .support import EXAMPLES, Case
+from .told_program import Told, no
 
 PAGES = os.path.join(EXAMPLES, "..", "man")
 COMMANDS = {"credaudit-trace": trace_command.main, "credaudit-verify": verify_command.main,
-            "credaudit-capture": capture_command.main, "credaudit-lint": lint_command.main}
+            "credaudit-capture": capture_command.main, "credaudit-lint": lint_command.main,
+            "credaudit-explain": explain_command.main, "credaudit-unit": unit_command.main,
+            "credaudit-summary": summary_command.main}
+STATUSES = {"credaudit-explain": ["0", "2", "3"], "credaudit-unit": ["0", "1", "2", "3", "4"],
+            "credaudit-summary": ["0", "1", "2", "3", "4"]}
+SCHEMAS = {"credaudit-explain": explain.SCHEMA, "credaudit-unit": unit_command.SCHEMA,
+           "credaudit-summary": summary.SCHEMA}
 SECTIONS = ("NAME", "SYNOPSIS", "DESCRIPTION", "EXIT STATUS", "EXAMPLES", "SEE ALSO")
 
 
@@ -39,13 +48,32 @@ class Pages(Case):
     def test_statuses(self) -> None:
         for name in COMMANDS:
             statuses = page(name).split(".Sh EXIT STATUS")[1].split(".Sh ")[0]
-            self.assertEqual(re.findall(r"^\.It (\d)$", statuses, re.MULTILINE), ["0", "1", "2", "3"], name)
+            wanted = STATUSES.get(name, ["0", "1", "2", "3"])
+            self.assertEqual(re.findall(r"^\.It (\d)$", statuses, re.MULTILINE), wanted, name)
+
+    def test_schemas(self) -> None:
+        for name, schema in SCHEMAS.items():
+            told = page(name).split(".Sh JSON")[1].split(".Bd ")[1].split("\n", 1)[1].split("\n.Ed")[0]
+            self.assertEqual(told.split("\n"), list(schemas.lines(schema)), name)
+            self.assertEqual(next(iter(schema)), "format")
 
     def test_the_example_of_a_verification(self) -> None:
         folder = os.path.join(EXAMPLES, "strace", "sudo")
         status, told, _ = self.told(verify_command.main, folder)
         self.assertEqual(status, 0)
         self.assertIn("\nexamples/strace/sudo" + told.removeprefix(folder), page("credaudit-verify"))
+
+    def test_the_example_of_an_explanation(self) -> None:
+        _, told, _ = self.told(explain_command.main, os.path.join(EXAMPLES, "saved_id_forgotten", "report"))
+        self.assertIn("| credaudit-explain\n" + told, page("credaudit-explain"))
+
+    def test_the_example_of_a_summary(self) -> None:
+        folder = os.path.join(EXAMPLES, "real_id_left")
+        answers = {("real", f"{kind}:33"): no(100) for kind in ("uid", "gid")}
+        with mock.patch.object(summary_command, "Program", lambda: Told(None, answers)):
+            _, told, _ = self.told(summary_command.main, "--classes", os.path.join(folder, "world.toml"),
+                                   os.path.join(folder, "log"), "100")
+        self.assertIn("log 100\n" + told, page("credaudit-summary"))
 
     @unittest.skipIf(shutil.which("mandoc") is None, "mandoc isn't there")
     def test_form(self) -> None:

@@ -95,7 +95,8 @@ class Commands(Case):
 
     def test_progress(self) -> None:
         now, told = [0.0], []
-        with mock.patch.object(command, "tell", lambda _, text: told.append(text)):
+        patience = mock.patch.object(command, "PATIENCE", 1.0)
+        with patience, mock.patch.object(command, "tell", lambda _, text: told.append(text)):
             progress = Progress("test", lambda: now[0])
             for now[0], text in ((0.5, "a"), (1.5, "b"), (2.0, "c"), (7.0, "d"), (13.0, "d"), (14.0, "e")):
                 progress.at(text)

@@ -9,7 +9,7 @@ import time
 import unittest
 from unittest import mock
 
-from credaudit_tools import command, proc, recording, trace_command
+from credaudit_tools import proc, recording, trace_command
 from credaudit_tools.command import Failure
 from credaudit_tools.stub import user_of
 
@@ -32,7 +32,6 @@ class Traced(Case):
     def setUp(self) -> None:
         super().setUp()
         self.out = os.path.join(self.work, "recording")
-        self.enterContext(mock.patch.object(command, "PATIENCE", 600.0))     # no word of progress on a slow machine
         if os.geteuid() != 0:
             self.enterContext(mock.patch.object(proc, "needs_root", lambda _: None))
         handlers = [(number, signal.getsignal(number)) for number in (signal.SIGINT, signal.SIGTERM, signal.SIGHUP)]
@@ -46,7 +45,7 @@ class Traced(Case):
         status, out, errors = self.trace("--pids-from", "100", "--until", r'execve\(".*/sleep".* = 0', "--", "sh", "-c",
                                          "exec sleep 60")
         self.assertEqual((status, errors), (0, ""))
-        self.assertIn("1 processes at the end (line)", out)
+        self.assertIn("1 process at the end (line)", out)
         kept = recording.read(self.out)
         assert kept.made is not None
         self.assertEqual(kept.made.doubts, [])
@@ -74,7 +73,7 @@ class Traced(Case):
             time.sleep(0.2)
             status, out, _ = self.trace("--for", "0.3", "-p", str(running.pid))
             self.assertEqual(status, 0)
-            self.assertIn("1 processes at the end (time)", out)
+            self.assertIn("1 process at the end (time)", out)
             self.assertIsNone(running.poll())
             kept = recording.read(self.out)
             assert kept.made is not None

@@ -8,6 +8,7 @@ from credaudit_tools import recording, report, verify_command, verifying
 from credaudit_tools.program import Program
 from credaudit_tools.verifying import Verdict, verify
 
+from .plain_program import Plain
 from .support import DATA, EXAMPLES, Case, cases
 
 RECORDINGS = os.path.join(DATA, "recordings")
@@ -98,6 +99,17 @@ class Stored(Case):
                 with self.subTest(name):
                     self.assertEqual(self.told(verify_command.main, os.path.join(folder, name))[0], 0)
 
+    def test_the_example_of_the_readme(self) -> None:
+        """What it shows of a recording by credaudit-trace, which verifies it."""
+        with open(os.path.join(EXAMPLES, "..", "README.md"), encoding="utf-8") as file:
+            readme = file.read()
+        for name in ("recording", "recording-fixed"):
+            folder = os.path.join(EXAMPLES, "first_try", name)
+            with mock.patch.object(verify_command, "Program", Plain):
+                status, out, _ = self.told(verify_command.main, folder)
+            self.assertEqual(status, 0)
+            self.assertIn("\n" + out.replace(folder, "/tmp/" + name), readme)
+
     def test_a_recording_is_written_as_it_was_read(self) -> None:
         for name in sorted(os.listdir(RECORDINGS)):
             with self.subTest(name):
@@ -163,8 +175,35 @@ class Failing(Case):
         ended = report.Report(events=[report.Event(1, 100, "exit", (), "0", ())], ending=["end 1"])
         with mock.patch.object(Program, "replay", lambda *_: ended):
             status, out, errors = self.told(verify_command.main, folder)
-        self.assertEqual((status, out), (1, f"{folder}: 0 processes, 0 answers compared: nothing to compare\n"))
-        self.assertIn("no call asked for a credential", errors)
+        why = "processes: none lived at the end; answers: no call asked for a credential"
+        self.assertEqual((status, out), (1, f"{folder}: nothing was compared ({why})\n"))
+        self.assertNotIn("is compared", errors)
+
+    def test_what_was_compared_is_told(self) -> None:
+        """And why nothing of a kind was. By hand, from the page's words."""
+        for verdict, told in ((Verdict(processes=1, answers=2, lived=True), "1 process, 2 answers compared"),
+                              (Verdict(processes=2, answers=1, lived=True), "2 processes, 1 answer compared"),
+                              (Verdict(processes=1, lived=True),
+                               "1 process compared, no answers (no call asked for a credential)"),
+                              (Verdict(processes=1, unread=3, lived=True),
+                               "1 process compared, no answers (their form isn't known)"),
+                              (Verdict(answers=28), "28 answers compared, no processes (none lived at the end)")):
+            self.assertEqual((verdict.compared(), verdict.faults()), (told, []))
+        neither = "processes: none lived both for the kernel and in the replay; answers: no call asked for a credential"
+        for verdict, why in ((Verdict(lived=True), neither),
+                             (Verdict(refused=True), "the replay doesn't come to the log's end")):
+            self.assertEqual((verdict.compared(), verdict.faults()),
+                             (f"nothing was compared ({why})", [f"nothing was compared: {why}"]))
+
+    def test_a_log_that_is_refused_is_not_compared(self) -> None:
+        folder = os.path.join(self.work, "x")
+        shutil.copytree(os.path.join(RECORDINGS, "daemon"), folder)
+        refused = report.Report(ending=["bad log line 1: BadCall"], status=5)
+        with mock.patch.object(Program, "replay", lambda *_: refused):
+            status, out, errors = self.told(verify_command.main, folder)
+        why = "the replay doesn't come to the log's end"
+        self.assertEqual((status, out), (1, f"{folder}: nothing was compared ({why}): 1 difference\n"))
+        self.assertIn("bad log line 1: BadCall", errors)
 
     def test_progress(self) -> None:
         kept = recording.read(os.path.join(RECORDINGS, "daemon"))

@@ -1,6 +1,6 @@
-"""Asks an audit, and looks at what it answers (docs/FORMATS.md, "Report"): a verdict, and of `no` the run, which
-`replay` must take after the log and leave its holder with the right. The audit may be any command that takes the words
-of `credaudit`."""
+"""Asks an audit, and looks at what it answers (docs/FORMATS.md, "Report"): a verdict; of `yes` its certificate, which
+`check` must accept; of `no` the run, which `confirm` must confirm with the same holder, and which `replay` must take
+after the log and leave its holder with the right. The audit may be any command that takes the words of `credaudit`."""
 import re
 import subprocess
 from dataclasses import dataclass
@@ -12,6 +12,7 @@ YES, NO, UNDECIDED = VERDICTS = ("yes", "no", "undecided")
 RULES = ("start setuid setfsuid setgid setfsgid setgroups capset securebits exec_uid exec_gid exec_caps exec_root"
          " create join maps").split()
 LONGEST = 60.0      # seconds
+BOUNDS = re.compile(r'\{"format":1,"rows":\[.*\]\}')
 CREDENTIAL = re.compile(r"> (\d+) (\S+) uid=([\d,]+) gid=([\d,]+) groups=(\S+) inh=\w{16} prm=\w{16} eff=(\w{16}) .*")
 
 
@@ -21,11 +22,13 @@ class Wrong(Exception):
 
 @dataclass(frozen=True)
 class Answer:
-    """A verdict; of `no` its run's lines and its holder, of `undecided` what is blamed."""
+    """A verdict; of `no` its run's lines and its holder, of `undecided` the rule that is blamed, of `yes` and
+    `undecided` the line of bounds."""
     verdict: str
     run: tuple[str, ...] = ()
     holder: int = 0
     blamed: str = ""
+    bounds: str = ""
 
 
 def asked(words: list[str]) -> tuple[int, list[str]]:
@@ -41,14 +44,15 @@ def verdict_of(status: int, lines: list[str]) -> Answer:
     ends = [at for at, line in enumerate(lines) if re.fullmatch(r"end \d+", line)]
     told = lines[ends[0] + 1:] if ends else []
     first = told[0] if told else ""
-    if status == 0 and told == ["yes"]:
-        return Answer(YES)
+    has_bounds = len(told) == 2 and BOUNDS.fullmatch(told[1]) is not None
+    if status == 0 and first == YES and has_bounds:
+        return Answer(YES, bounds=told[1])
     if status == 1 and (count := re.fullmatch(r"no (\d+)", first)) and len(told) == int(count[1]) + 2:
         if holder := re.fullmatch(r"holder (\d+)", told[-1]):
             return Answer(NO, tuple(told[1:-1]), int(holder[1]))
-    if status == 2 and len(told) == 1 and (blamed := re.fullmatch(r"undecided (\S+) \S+", first)):
+    if status == 2 and has_bounds and (blamed := re.fullmatch(r"undecided (\S+) \S+", first)):
         if blamed[1] in RULES:
-            return Answer(UNDECIDED, blamed=blamed[1])
+            return Answer(UNDECIDED, blamed=blamed[1], bounds=told[1])
     raise Wrong(f"status {status}, ending in {(told or lines)[-3:]}")
 
 
@@ -57,7 +61,30 @@ def ask(audit: list[str], world: Path, log: Path, query: Query) -> Answer:
     return verdict_of(*asked([*audit, "audit", str(world), str(log), str(query.pid), query.right()]))
 
 
-# ---- the run of a `no` ---------------------------------------------------------------------------------------------
+# ---- what the answer is to hold by --------------------------------------------------------------------------------
+
+
+def judged(audit: list[str], command: str, world: Path, log: Path, query: Query, text: str) -> tuple[int, list[str]]:
+    """What `check` or `confirm` answers to a certificate or a run."""
+    third = log.with_suffix(f".{command}")
+    third.write_text(text)
+    return asked([*audit, command, str(world), str(log), str(query.pid), query.right(), str(third)])
+
+
+def check_answer(audit: list[str], world: Path, log: Path, query: Query, answer: Answer) -> None:
+    """That the certificate of a `yes` holds, and the run of a `no` is confirmed, with its holder."""
+    if answer.verdict == UNDECIDED:
+        return
+    if answer.verdict == YES:
+        command, text, wanted = "check", f"{answer.bounds}\n", "holds"
+    else:
+        command, text = "confirm", "".join(f"{line}\n" for line in answer.run)
+        wanted = f"confirmed {answer.holder}"
+    told = judged(audit, command, world, log, query, text)
+    if told != (0, [wanted]):
+        raise Wrong(f"{command} answers {told}, not {wanted}: {text[:500]}")
+
+
 
 
 def has_power(world: World, space: str, uid: int, effective: int, query: Query) -> bool:

@@ -3,7 +3,7 @@ and a right near what they have. A draw follows from its seed and number alone."
 from dataclasses import replace
 from random import Random
 
-from .settled import ALL_NOROOT, ALTERNATIVES, NNP, NO_BOUNDING, NO_ZERO, NOROOT, SPACES, alternatives, is_settled
+from .settled import ALL_NOROOT, ALTERNATIVES, NNP, NO_BOUNDING, NOROOT, SPACES, alternatives, is_settled
 from .worlds import ALL, CALLS, File, Four, Lines, Mount, Process, Query, Space, World
 
 IDS = (0, 7, 34, 500, 1000, 1001)

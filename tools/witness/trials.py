@@ -1,4 +1,4 @@
-"""What the two witnesses share: the audit's answer to a drawn query, the plain search, and what is counted."""
+"""What the witnesses share: the audit's answer to a drawn query, the plain search, and what is counted."""
 import argparse
 import os
 import shlex
@@ -13,7 +13,7 @@ from dataclasses import dataclass, field
 from pathlib import Path
 
 from . import worlds
-from .audits import NO, Answer, Wrong, ask, check_run
+from .audits import NO, Answer, Wrong, ask, check_answer, check_run
 from .worlds import Query
 
 HERE = Path(__file__).resolve().parent
@@ -61,11 +61,13 @@ def asked_of(told: argparse.Namespace, work: Path) -> Asked:
 
 
 def answered(asked: Asked, query: Query, number: int) -> tuple[Path, Answer]:
-    """The file of the query's world, and the verdict; of `no` once its run was replayed."""
+    """The file of the query's world, and the verdict; of `yes` once its certificate was checked, of `no` once its run
+    was confirmed and replayed."""
     world, log = asked.work / f"{number}.toml", asked.work / f"{number}.log"
     world.write_text(worlds.text(query.world))
     log.write_text("")
     answer = ask(asked.audit, world, log, query)
+    check_answer(asked.audit, world, log, query, answer)
     if answer.verdict == NO:
         check_run(asked.replay, world, log, query, answer)
     return world, answer

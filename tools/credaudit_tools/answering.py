@@ -1,0 +1,142 @@
+"""What credaudit-summary and credaudit-unit share: their options, the classes of rights on standard output, in words,
+as lines or as JSON, the folder of certificates, and the exit statuses.
+
+| Status | Means |
+|---|---|
+| 0 | all is told, and each class is an expected one |
+| 1 | a right has another class than expected |
+| 2 | the words are wrong |
+| 3 | it couldn't be done |
+| 4 | what is looked at is broken: a recording, a log that is refused, a unit that doesn't start |
+"""
+import argparse
+import os
+from collections.abc import Sequence
+from dataclasses import dataclass, field
+
+from . import classes, expecting, rights, schemas
+from .classes import Outcome
+from .command import FOUND, GOOD, Failure, tell
+from .expecting import Expected
+from .files import read_regular, write_new
+from .judged import WhatIf
+from .rights import Right
+from .shown import plural, quoted, shown
+
+BROKEN = 4
+
+
+class Broken(Failure):
+    """What is looked at can't be trusted to tell anything."""
+
+
+@dataclass
+class Answers:
+    """What is known of a family's rights, what another start would change, and what is to be said beside it."""
+    title: str
+    outcomes: list[Outcome] = field(default_factory=list)
+    what_ifs: list[WhatIf] = field(default_factory=list)
+    notes: list[str] = field(default_factory=list)
+    kept: dict[Right, str] = field(default_factory=dict)
+    made: dict[str, bytes] = field(default_factory=dict)    # the world and the log, where they aren't files of the user
+
+
+def right_word(word: str) -> Right:
+    """A right of the words."""
+    right = rights.parse(word)
+    if right is None:
+        raise argparse.ArgumentTypeError(f"{word!r} is no right")
+    return right
+
+
+def options(ask: argparse.ArgumentParser) -> None:
+    """The options of both commands."""
+    ask.add_argument("--right", metavar="RIGHT", type=right_word, action="append", default=[],
+                     help="ask for this right too")
+    ask.add_argument("--expect", metavar="FILE", help="the classes that are expected; any other one is status 1")
+    ask.add_argument("--certificates", metavar="FOLDER", help="keep the certificates of the rights that are gone here")
+    ask.add_argument("--classes", action="store_true", help="write a line RIGHT CLASS for each right, as --expect"
+                                                            " reads them, and nothing else")
+    ask.add_argument("--json", action="store_true", help="write JSON instead of words")
+
+
+def expected_by(asked: argparse.Namespace) -> Expected | None:
+    """The expected classes of the words; None where none are given."""
+    return None if asked.expect is None else expecting.read(read_regular(asked.expect, expecting.MOST, follow=True))
+
+
+def all_rights(asked: argparse.Namespace, own: Sequence[Right], expected: Expected | None) -> list[Right]:
+    """The rights that are asked about: those of the process, and those that are named."""
+    named = list(expected.rights) if expected is not None else []
+    return list(dict.fromkeys([*own, *asked.right, *named]))
+
+
+def keep(answers: Answers, folder: str) -> None:
+    """Puts the certificates into a folder, which is made where it isn't there, and beside them the world and the log
+    that were made for the questions. One of a right that isn't gone any more is taken out."""
+    if os.path.lexists(folder) and not os.path.isdir(folder):
+        raise Failure(f"{quoted(folder)} is no folder", "name one, or a path at which nothing stands")
+    os.makedirs(folder, mode=0o700, exist_ok=True)
+    for name, data in answers.made.items():
+        write_new(folder, name, data)
+    for each in answers.outcomes:
+        name = each.right.text() + ".json"
+        if each.certificate is not None:
+            write_new(folder, name, each.certificate + b"\n")
+            answers.kept[each.right] = os.path.join(folder, name)
+        elif os.path.lexists(os.path.join(folder, name)):
+            os.remove(os.path.join(folder, name))
+
+
+def words(answers: Answers) -> list[str]:
+    """All of it for the eye: one line for each right."""
+    wide = max((len(each.right.text()) for each in answers.outcomes), default=0)
+    found = [answers.title]
+    found += [f"{each.right.text():{wide}}  {classes.words(each, answers.kept.get(each.right))}"
+              for each in answers.outcomes]
+    counts = ", ".join(f"{count} {kind}" for kind, count in classes.counted(answers.outcomes) if count)
+    found.append(f"{plural(len(answers.outcomes), 'right')}: {counts or 'none'}")
+    found += [f"with {each.with_} {each.gone} of {each.of} gone" for each in answers.what_ifs if each.of]
+    return found
+
+
+COMMON_SCHEMA: dict[str, object] = {
+    "rights": [classes.SCHEMA], "counts": {kind: "number" for kind in classes.CLASSES},
+    "what_ifs": [{"with": "text", "gone": "number", "of": "number"}],
+    "unexpected": [{"right": "text", "class": "text", "expected": ["text"]}], "notes": ["text"]}
+
+
+def document(answers: Answers, new: Sequence[tuple[Outcome, tuple[str, ...]]]) -> dict[str, object]:
+    """All of it for other programs."""
+    return {"rights": [classes.document(each, answers.kept.get(each.right)) for each in answers.outcomes],
+            "counts": dict(classes.counted(answers.outcomes)),
+            "what_ifs": [{"with": each.with_, "gone": each.gone, "of": each.of} for each in answers.what_ifs],
+            "unexpected": [{"right": each.right.text(), "class": each.kind, "expected": list(wanted)}
+                           for each, wanted in new],
+            "notes": answers.notes}
+
+
+def broken(name: str, failure: Broken) -> int:
+    """Tells that what is looked at is broken; the exit status."""
+    tell(name, str(failure))
+    if failure.advice:
+        tell(name, failure.advice)
+    return BROKEN
+
+
+def told(name: str, asked: argparse.Namespace, answers: Answers, front: dict[str, object],
+         expected: Expected | None) -> int:
+    """Writes what was asked for; the exit status."""
+    if asked.certificates is not None:
+        keep(answers, asked.certificates)
+    new = expected.new(answers.outcomes) if expected is not None else []
+    if asked.json:
+        print(schemas.written({"format": schemas.FORMAT, **front, **document(answers, new)}))
+    else:
+        for line in expecting.written(answers.outcomes) if asked.classes else words(answers):
+            print(shown(line))
+    for note in answers.notes:
+        tell(name, f"note: {note}")
+    for each, wanted in new:
+        tell(name, f"{each.right.text()} is {each.kind}, and expected is {' or '.join(wanted)}")
+    return FOUND if new else GOOD

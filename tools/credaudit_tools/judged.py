@@ -1,0 +1,151 @@
+"""The classes of a family's rights after a log: two audits of each, with the declared programs and with none, and what
+stands against a `yes` (docs/KERNEL.md; a world that no scan of files made; doubts of who made it).
+"""
+from collections.abc import Sequence
+from dataclasses import dataclass, field, replace
+
+from . import classes, touched
+from .asking import Answer, Asking, Files, right_in, shortened
+from .classes import Outcome
+from .command import Failure
+from .end_world import End, filtered, limited, unbounded, without_files
+from .holding import holders
+from .rights import Right
+from .run_words import parsed
+from .touched import Facts
+from .verdicts import NO, RULES, YES
+from .worlds import INITIAL, World
+
+WHAT_IFS = {"no_new_privs": limited, "an empty bounding set": unbounded,
+            "a filter of the calls that take ids, capabilities or user namespaces": filtered}
+
+
+@dataclass(frozen=True)
+class WhatIf:
+    """What would change: so many rights, of those that nobody holds and that aren't gone, would be gone."""
+    with_: str
+    gone: int
+    of: int
+
+
+@dataclass
+class Family:
+    """What is asked about: the files, the process, the end of the replay, and what is known against a `yes`."""
+    files: Files
+    pid: int
+    end: End
+    facts: Facts
+    scanned: bool
+    doubts: list[str] = field(default_factory=list)
+
+    def space(self, right: Right) -> str | None:
+        """The name of a right's namespace in the replay: `#N` may name a declared one."""
+        names, token = list(self.end.spaces.named), right.space
+        if token is None or not token.startswith("#"):
+            return token
+        return names[int(token[1:])] if int(token[1:]) < len(names) else token
+
+    def token(self, name: str) -> str:
+        """The name of a namespace in the world of the end."""
+        found = self.space(Right("cap", 0, name))
+        return self.end.token(found if found is not None else INITIAL)
+
+    def reasons(self, right: Right, touches: Sequence[touched.Touch]) -> tuple[str, ...]:
+        """Why a `yes` on a right isn't taken as it is."""
+        own = [f"{each.row} ({each.why})" for each in touches if each.touches(right, self.space(right))]
+        return (*own, *self.doubts)
+
+
+def programs_of(run: Sequence[bytes], files: set[str]) -> tuple[str, ...]:
+    """The declared programs that a run executes, each once."""
+    found = dict[str, None]()
+    for line in run:
+        parts = parsed(line.decode("ascii", "backslashreplace"))
+        if parts is not None and parts[1] == "execve" and parts[2] and parts[2][0] in files:
+            found[parts[2][0]] = None
+    return tuple(found)
+
+
+def back(line: bytes, names: dict[str, str]) -> bytes:
+    """A line of a run over the world of the end, with the replay's names of namespaces."""
+    parts = parsed(line.decode("ascii", "backslashreplace"))
+    if parts is None or parts[1] not in ("setns", "write_uid_map", "write_gid_map", "write_setgroups"):
+        return line
+    words = line.split(b" ")
+    words[2] = names.get(words[2].decode("ascii", "replace"), "").encode() or words[2]
+    return b" ".join(words)
+
+
+@dataclass
+class Judge:
+    """Puts the program's answers about a family together."""
+    ask: Asking
+    family: Family
+
+    def outcomes(self, rights: Sequence[Right]) -> list[Outcome]:
+        """What is known of each right."""
+        both = self.ask.audits("audits", self.family.files, self.family.pid, [each.text() for each in rights])
+        own = self.ask.files("own", without_files(self.family.end.world))
+        got = [right for right, told in zip(rights, both) if told.run]
+        alone = dict(zip(got, self.ask.audits("audits by own calls", own, self.family.pid,
+                                              [right_in(each, self.family.token) for each in got])))
+        touches = touched.touches(self.family.facts)
+        found = [self.outcome(right, told, alone.get(right), touches) for right, told in zip(rights, both)]
+        return self.ask.side_by_side("runs and certificates", self.settled, found)
+
+    def outcome(self, right: Right, told: Answer, alone: Answer | None, touches: Sequence[touched.Touch]) -> Outcome:
+        """The class of a right, by the verdict on it and, where it can be had, the one without declared programs."""
+        verdict = told.verdict
+        if verdict.word == NO:
+            if not told.run:
+                end = self.family.end
+                by = holders(end.family, right, self.family.space(right), end.spaces.named)
+                return Outcome(right, classes.HELD, holder=verdict.holder, reasons=by)
+            if alone is not None and alone.verdict.word == NO:
+                names = {word: name for name, word in self.family.end.names.items()}
+                run = tuple(back(line, names) for line in alone.run)
+                return Outcome(right, classes.OWN_CALLS, run, alone.verdict.holder)
+            return Outcome(right, classes.PROGRAM, told.run, verdict.holder)
+        if verdict.word == YES:
+            reasons = self.family.reasons(right, touches)
+            kind = classes.DOUBTED if reasons else classes.GONE if self.family.scanned else classes.GONE_BY_OWN_CALLS
+            certificate = None if verdict.certificate is None else verdict.certificate.encode("ascii")
+            return Outcome(right, kind, reasons=reasons, certificate=certificate)
+        lets, advice = RULES.get(verdict.rule or "", ("a rule that isn't known here", "see docs/VERDICT.md"))
+        return Outcome(right, classes.OPEN, rule=verdict.rule, row=verdict.row, lets=lets, advice=advice)
+
+    def settled(self, outcome: Outcome) -> Outcome:
+        """With its run as short as the program confirms it; with a certificate that its check accepts."""
+        files, pid, right = self.family.files, self.family.pid, outcome.right.text()
+        if outcome.certificate is not None and not self.ask.holds(files, pid, right, outcome.certificate):
+            why = "the program's check doesn't accept the program's certificate"
+            return replace(outcome, kind=classes.DOUBTED, reasons=(*outcome.reasons, why))
+        if not outcome.run:
+            return outcome
+        run, holder = shortened(outcome.run, lambda fewer: self.ask.confirms(files, pid, right, fewer))
+        outcome = replace(outcome, run=tuple(run), holder=outcome.holder if holder is None else holder)
+        paths = {row.path.encode().decode("ascii", "backslashreplace") for row in self.family.end.world.files}
+        programs = programs_of(outcome.run, paths)
+        return replace(outcome, programs=programs, kind=classes.PROGRAM if programs else classes.OWN_CALLS)
+
+    def what_ifs(self, outcomes: Sequence[Outcome]) -> list[WhatIf]:
+        """How many of the rights that nobody holds, and that aren't gone, would be gone if the family were otherwise
+        from its end on."""
+        found, left = [], [each.right for each in outcomes if each.kind in classes.TO_BE_HAD]
+        for number, (words, change) in enumerate(WHAT_IFS.items()):
+            files = self.ask.files(f"if-{number}", change(self.family.end.world))
+            told = self.ask.audits(f"audits with {words}", files, self.family.pid,
+                                   [right_in(each, self.family.token) for each in left])
+            found.append(WhatIf(words, sum(each.verdict.word == YES for each in told), len(told)))
+        return found
+
+
+def same_as_replayed(ask: Asking, family: Family) -> None:
+    """Has the program replay the world of the end, and fails where a member isn't what it was after the log."""
+    world: World = family.end.world
+    files = ask.files("end", world)
+    read = ask.program.run("replay", files.world, files.log)
+    told = {one.pid: (family.end.token(one.space), one.credential) for one in family.end.family}
+    if {one.pid: (one.space, one.credential) for one in read.start} != told or read.status != 0:
+        raise Failure("the world of the log's end isn't the replay's end: "
+                      + (read.ending[-1] if read.ending else "no report"))

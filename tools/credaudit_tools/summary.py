@@ -1,0 +1,199 @@
+"""A summary: for each right that a process had at the start of a log, what became of it at the end."""
+from collections.abc import Iterable, Sequence
+from dataclasses import dataclass, field, replace
+
+from . import answering, log_doubts, verifying, world_doubts, worlds
+from .answering import Answers, Broken
+from .asking import Asking, Files
+from .command import Failure, Says, silent
+from .end_world import births_of, end_of
+from .explain import process_words
+from .findings import Finding
+from .judged import Family, Judge, same_as_replayed
+from .marks import SCANNED, UNSCANNED, marks_of
+from .names import CAPABILITIES
+from .recording import Recording
+from .report import BIRTHS, Report
+from .rights import Right
+from .shown import few, plural
+from .touched import facts_of
+from .worlds import INITIAL, World
+
+SUSPECT = 3         # of the findings of a lint so many are told
+
+
+@dataclass
+class Given:
+    """What is looked at: a world and a log by their paths and texts, and of a recording what else it has. `world` is
+    the one that is asked about; `made` whether it isn't the text of its path."""
+    files: Files
+    world: World
+    text: bytes
+    log: bytes
+    kept: Recording | None = None
+    made: bool = False
+    notes: list[str] = field(default_factory=list)
+
+
+# ---- what is looked at -----------------------------------------------------------------------------------------------
+
+
+def with_files(world: World, scan: World) -> World:
+    """A world with the programs of a scan too. What it declares itself stays. Fails where a mount of the scan has the
+    name of another one, or stands in a namespace."""
+    own = {mount.name: mount for mount in world.mounts}
+    for mount in scan.mounts:
+        if mount.space != INITIAL or own.get(mount.name, mount) != mount:
+            raise Failure(f"the mount {mount.name} of the scan can't be declared beside the world's own")
+    mounts = [*world.mounts, *(mount for mount in scan.mounts if mount.name not in own)]
+    paths = {row.path for row in world.files}
+    return replace(world, mounts=mounts, files=[*world.files, *(row for row in scan.files if row.path not in paths)])
+
+
+def scanned_text(given: Given, data: bytes) -> bytes:
+    """The text of the given world with the files of the scan of another one: with the marks and the doubts of both."""
+    scan, doubts = marks_of(data)
+    _, own = marks_of(given.text)
+    made = with_files(given.world, worlds.read(data))
+    made.remarks = [SCANNED if scan else UNSCANNED, *(f"doubt: {each}" for each in [*own, *doubts])]
+    return worlds.written(made)
+
+
+def of_recording(given: Given, report: Report, says: Says = silent) -> None:
+    """Holds a recording against what the kernel showed of it. Fails where it differs."""
+    if given.kept is None:
+        return
+    told = verifying.verify(given.kept, report, says)
+    if told.differences:
+        raise Broken(f"the recording isn't true: {few(told.differences, SUSPECT)}", "credaudit-verify tells more")
+    given.notes += [*told.faults(), *told.notes]
+
+
+def suspicion(given: Given, report: Report) -> list[Finding]:
+    """What a lint finds, but for what the classes tell by themselves: that no scan made the world, and its doubts."""
+    found = list(world_doubts.of_rows(given.text, given.world, report))
+    found += log_doubts.of_strace(given.log, report, given.world) if given.world.log == "strace" else \
+        log_doubts.front_doubts(given.log, report)
+    return found
+
+
+# ---- the rights ------------------------------------------------------------------------------------------------------
+
+
+def at_start(world: World, report: Report, pid: int) -> int:
+    """The process of the world from which a process descends, itself where the world has it."""
+    makers, at, seen = births_of(world, report).makers, pid, set[int]()
+    first = {row.pid for row in world.processes}
+    while at not in first and at in makers and at not in seen:
+        seen.add(at)
+        at = makers[at][-1]
+    return at
+
+
+def rights_of(report: Report, pid: int) -> list[Right]:
+    """What a process had at the start of the log: each of its user ids, of its group ids and of its groups, and each
+    permitted capability over its user namespace."""
+    [one] = [each for each in report.start if each.pid == pid]
+    own = one.credential
+    ids = [Right("uid", each) for each in (own.uid[1], *own.uid)]
+    ids += [Right("gid", each) for each in (own.gid[1], *own.gid, *sorted(own.groups))]
+    caps = [Right("cap", number, one.space) for number in range(len(CAPABILITIES)) if own.prm >> number & 1]
+    return list(dict.fromkeys([*ids, *caps]))
+
+
+def with_groups_set(report: Report) -> set[int]:
+    """The processes that called setgroups, or descend from one that had."""
+    found = set[int]()
+    for event in report.events:
+        if event.call == "setgroups":
+            found.add(event.pid)
+        elif event.call in BIRTHS and event.result.isdigit():
+            child = int(event.result)
+            found = found | {child} if event.pid in found else found - {child}
+    return found
+
+
+def unseen_groups(report: Report, first: int, family: Iterable[int]) -> list[str]:
+    """A note where a forgotten setgroups isn't seen: the process began without groups, and none of the family, and
+    nobody before it, called setgroups."""
+    groups = next((each.credential.groups for each in report.start if each.pid == first), None)
+    if groups != frozenset() or with_groups_set(report) & set(family):
+        return []
+    return [f"process {first} began without supplementary groups, and setgroups was never called: a forgotten one isn't"
+            " seen; record it with the groups that it has in earnest"]
+
+
+def chosen(world: World, report: Report, pid: int | None) -> int:
+    """The process that is asked about: the named one, or the first of the world that lives. Fails where it doesn't
+    live at the end."""
+    alive = report.alive()
+    if pid is None:
+        pid = next((row.pid for row in world.processes if row.pid in alive), min(alive, default=None))
+    if pid is None or pid not in alive:
+        who = "no process lives" if pid is None else f"process {pid} doesn't live"
+        living = few([str(each) for each in sorted(alive)])
+        raise Failure(f"{who} at the log's end", f"these do: {living}" if alive else "there is nothing to ask about")
+    return pid
+
+
+# ---- the whole -------------------------------------------------------------------------------------------------------
+
+
+def accepted(ask: Asking, given: Given) -> Report:
+    """The replay of the world and the log. Fails where the program refuses them."""
+    report = ask.program.run("replay", given.files.world, given.files.log)
+    if report.status in (3, 4, 5, 9):
+        raise Broken(f"credaudit doesn't accept the world and the log: {report.ending[-1]}", "credaudit-lint tells why")
+    if report.status != 0:
+        raise Failure(f"credaudit ends with status {report.status}")
+    return report
+
+
+def doubts_of(given: Given) -> tuple[bool, list[str]]:
+    """Whether a scan of all files made the world, and what stands against every `yes`: the doubts of who made the world
+    or the recording, and a declared filter that not every member of the recording had."""
+    scanned, doubts = marks_of(given.text)
+    kept = given.kept
+    if kept is not None and kept.made is not None:
+        doubts += kept.made.doubts
+    if kept is not None and given.world.exclude:
+        doubts += [each.why for each in world_doubts.filter_doubts(kept, given.world)]
+    return scanned, doubts
+
+
+@dataclass(frozen=True)
+class Summary:
+    """The answers, and of which process."""
+    answers: Answers
+    pid: int
+    scanned: bool
+
+
+def summed_up(ask: Asking, given: Given, pid: int | None, more: Sequence[Right]) -> Summary:
+    """What the program says of each right of the process, and of those that are named beside."""
+    report = accepted(ask, given)
+    of_recording(given, report, ask.says)
+    pid = chosen(given.world, report, pid)
+    first = at_start(given.world, report, pid)
+    own = rights_of(report, first) if any(each.pid == first for each in report.start) else []
+    end = end_of(given.world, report, pid)
+    scanned, doubts = doubts_of(given)
+    family = Family(given.files, pid, end, facts_of(given.world, report, given.log, end), scanned,
+                    [f"a doubt: {each}" for each in dict.fromkeys(doubts)])
+    same_as_replayed(ask, family)
+    judge = Judge(ask, family)
+    outcomes = judge.outcomes(list(dict.fromkeys([*own, *more])))
+    one = end.family[0]
+    title = process_words(one, end.spaces.named[one.space] if one.space != INITIAL else None)
+    if len(end.family) > 1:
+        title += f"; with {plural(len(end.family) - 1, 'process')} that it started"
+    found = suspicion(given, report)
+    notes = [*given.notes, *ask.notes, *unseen_groups(report, first, [each.pid for each in end.family]),
+             *(f"suspect: {each.why}" for each in found[:SUSPECT])]
+    if len(found) > SUSPECT:
+        notes.append(f"credaudit-lint tells {len(found) - SUSPECT} more suspect things")
+    return Summary(Answers(title, outcomes, judge.what_ifs(outcomes), notes), pid, scanned)
+
+
+SCHEMA: dict[str, object] = {"format": "number", "process": "number", "about": "text", "scanned": "flag",
+                             **answering.COMMON_SCHEMA}

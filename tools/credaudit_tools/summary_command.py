@@ -1,0 +1,101 @@
+"""credaudit-summary: what became of each right that a process had."""
+import argparse
+import os
+from collections.abc import Sequence
+
+from . import answering, command, recording, summary, worlds
+from .answering import Broken
+from .asking import Asking, Files, asking
+from .command import Failure, Progress
+from .files import read_regular
+from .program import Program
+from .shown import quoted
+from .summary import Given, Summary
+
+NAME = "credaudit-summary"
+SAYS = """Tells for each right that a process had at the start of a log what became of it: held, regained by its own
+calls or through a program, gone, or open. Every verdict is credaudit's. RECORDING is a folder that credaudit-trace
+wrote; of it the first process that lives at the end is asked about, where PID isn't given."""
+AFTER = """exit status:
+  0  it is told, and each class is an expected one
+  1  a right has another class than expected
+  2  the words are wrong
+  3  it can't be told: no program, a file that can't be read; the reason is told
+  4  the recording is broken: the log or the world is refused, or isn't what the kernel showed"""
+TWO, THREE = 2, 3
+
+
+def words_of(given: Sequence[str]) -> argparse.Namespace:
+    """The words of the command."""
+    ask = command.parser(NAME, SAYS, AFTER)
+    ask.usage = f"{NAME} [OPTION ..] WORLD LOG PID\n       {NAME} [OPTION ..] RECORDING [PID]"
+    ask.add_argument("names", metavar="WORLD LOG PID | RECORDING [PID]", nargs="+")
+    ask.add_argument("--files", metavar="SCAN", help="a world of credaudit-capture, whose files are declared too")
+    answering.options(ask)
+    asked = ask.parse_args(given)
+    if len(asked.names) > THREE:
+        ask.error("a world, a log and a pid, or a recording and a pid")
+    asked.pid = None
+    if len(asked.names) > 1:
+        try:
+            asked.pid = command.pid_word(asked.names[-1])
+        except argparse.ArgumentTypeError as error:
+            ask.error(str(error))
+    return asked
+
+
+def given_by(ask: Asking, names: Sequence[str]) -> Given:
+    """The world and the log of the words. Fails where they can't be read."""
+    kept = None
+    if len(names) == THREE:
+        world, log = names[:TWO]
+    else:
+        folder = names[0]
+        if not os.path.isdir(folder):
+            raise Failure(f"{quoted(folder)} is no folder", "name WORLD, LOG and PID, or the folder of a recording")
+        world, log = os.path.join(folder, recording.WORLD), os.path.join(folder, recording.LOG)
+        kept = read_recording(folder)
+    text, told = read_regular(world, follow=True), read_regular(log, follow=True)
+    try:
+        read = worlds.read(text)
+    except Failure as failure:
+        raise Broken(str(failure), failure.advice) from failure
+    return Given(ask.named("given", world, log), read, text, told, kept)
+
+
+def read_recording(folder: str) -> recording.Recording:
+    """A recording. Fails where it is broken."""
+    try:
+        return recording.read(folder)
+    except Failure as failure:
+        raise Broken(str(failure), failure.advice) from failure
+
+
+def with_scan(ask: Asking, given: Given, path: str) -> Given:
+    """The same with the files of a scan."""
+    text = summary.scanned_text(given, read_regular(path, follow=True))
+    files = Files(ask.put("given.toml", text), given.files.log)
+    return Given(files, worlds.read(text), text, given.log, given.kept, True, given.notes)
+
+
+def summed_up(asked: argparse.Namespace, progress: Progress) -> int:
+    """The whole command."""
+    expected = answering.expected_by(asked)
+    with asking(Program(), progress.at) as ask:
+        given = given_by(ask, asked.names)
+        if asked.files is not None:
+            given = with_scan(ask, given, asked.files)
+        made: Summary = summary.summed_up(ask, given, asked.pid, answering.all_rights(asked, (), expected))
+    answers = made.answers
+    if given.made:
+        answers.made = {recording.WORLD: given.text, recording.LOG: given.log}
+    front: dict[str, object] = {"process": made.pid, "about": answers.title, "scanned": made.scanned}
+    return answering.told(NAME, asked, answers, front, expected)
+
+
+def main(given: Sequence[str]) -> int:
+    """The command; its exit status (above)."""
+    try:
+        return summed_up(words_of(given), Progress(NAME))
+    except Broken as broken:
+        return answering.broken(NAME, broken)

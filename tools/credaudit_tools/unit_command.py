@@ -1,0 +1,131 @@
+"""credaudit-unit: what the processes of a systemd unit can get, without a recording."""
+import argparse
+import os
+from collections.abc import Sequence
+
+from . import answering, command, unit_files, unit_settings, unit_world, users, worlds
+from .answering import Answers, Broken
+from .asking import Asking, asking
+from .command import Failure, Progress, Says, tell
+from .end_world import end_of
+from .expecting import Expected
+from .explain import process_words
+from .files import read_regular
+from .judged import Family, Judge, same_as_replayed
+from .marks import marks_of
+from .names import CAPABILITIES
+from .program import Program
+from .rights import Right
+from .touched import facts_of
+from .unit_files import SUFFIX, Unit
+from .unit_world import Made
+from .worlds import INITIAL
+
+NAME = "credaudit-unit"
+SAYS = """Tells for each right of root whether the processes of a service can get it: of the unit of this name, with its
+drop-ins, or of the file of one. The settings of systemd.exec(5) make a world; every verdict on it is credaudit's. What
+isn't counted is told on standard error."""
+AFTER = """exit status:
+  0  it is told, and each class is an expected one
+  1  a right has another class than expected
+  2  the words are wrong
+  3  it can't be told: no program, a file that can't be read; the reason is told
+  4  the unit isn't there, is masked, or wouldn't start as it is written"""
+IMPOSSIBLE = 3          # the program's status for a line that the rules refuse
+SCHEMA: dict[str, object] = {"format": "number", "unit": "text", "files": ["text"], "world": "text", "log": "text",
+                             "scanned": "flag", **answering.COMMON_SCHEMA}
+
+
+def words_of(given: Sequence[str]) -> argparse.Namespace:
+    """The words of the command."""
+    ask = command.parser(NAME, SAYS, AFTER)
+    ask.add_argument("unit", metavar="UNIT", help="the name of a unit, or the file of one")
+    ask.add_argument("--files", metavar="WORLD", help="a world of credaudit-capture, whose files the machine has")
+    ask.add_argument("--root", metavar="FOLDER", default="/", help="look for units and users below this folder")
+    ask.add_argument("--world", action="store_true", help="write the world that is made, and ask nothing")
+    answering.options(ask)
+    return ask.parse_args(given)
+
+
+def unit_by(word: str, root: str) -> Unit:
+    """The unit of a name or of a file: of a word without a slash the unit comes first. Fails where there is none."""
+    try:
+        if "/" in word:
+            return unit_files.of_file(word)
+        return unit_files.named(word if word.endswith(SUFFIX) else word + SUFFIX, root)
+    except Failure as failure:
+        if "/" not in word and os.path.isfile(word):
+            return unit_files.of_file(word)
+        raise Broken(str(failure), failure.advice) from failure
+
+
+def made_by(asked: argparse.Namespace, unit: Unit) -> Made:
+    """The world of a unit. Fails where it wouldn't start."""
+    known = users.of_machine() if asked.root == "/" else users.of_root(asked.root)
+    try:
+        settings = unit_settings.settings(unit, known)
+    except unit_settings.NotKnown:
+        raise
+    except Failure as failure:
+        raise Broken(str(failure), failure.advice) from failure
+    files, data, scanned = None, b"", False
+    if asked.files is not None:
+        data = read_regular(asked.files, follow=True)
+        files, (scanned, doubts) = worlds.read(data), marks_of(data)
+        settings.notes += [f"doubt of {asked.files}: {each}" for each in doubts]
+        scanned = scanned and not doubts
+    made = unit_world.world_of(unit, settings, files, data.decode("utf-8", "replace"), scanned, asked.root)
+    made.notes = [*settings.notes, *made.notes]
+    return made
+
+
+def rights_of(made: Made) -> list[Right]:
+    """What root has: user and group 0, and each capability over the initial namespace and over the unit's own."""
+    spaces = dict.fromkeys([INITIAL, made.world.processes[0].space])
+    return [Right("uid", 0), Right("gid", 0),
+            *(Right("cap", number, space) for space in spaces for number in range(len(CAPABILITIES)))]
+
+
+def judged(ask: Asking, made: Made, rights: Sequence[Right]) -> Answers:
+    """What the program says of the rights."""
+    files = ask.files("unit", made.world, made.log)
+    read = ask.program.run("replay", files.world, files.log)
+    if read.status == IMPOSSIBLE:
+        raise Broken(f"its program can't be executed by the rules: {' '.join(read.ending)}")
+    if read.status != 0:
+        raise Failure(f"credaudit refuses the world of the unit, status {read.status}: {' '.join(read.ending)}")
+    end = end_of(made.world, read, unit_world.PID)
+    family = Family(files, unit_world.PID, end, facts_of(made.world, read, made.log, end), made.scanned)
+    same_as_replayed(ask, family)
+    judge = Judge(ask, family)
+    outcomes = judge.outcomes(rights)
+    one = end.family[0]
+    title = process_words(one, end.spaces.named[one.space] if one.space != INITIAL else None)
+    return Answers(title, outcomes, judge.what_ifs(outcomes), [*made.notes, *ask.notes])
+
+
+def answered(asked: argparse.Namespace, says: Says) -> int:
+    """The whole command."""
+    expected: Expected | None = answering.expected_by(asked)
+    unit = unit_by(asked.unit, asked.root)
+    made = made_by(asked, unit)
+    if asked.world:
+        print(worlds.written(made.world).decode("ascii"), end="")
+        for note in made.notes:
+            tell(NAME, f"note: {note}")
+        return command.GOOD
+    with asking(Program(), says) as ask:
+        answers = judged(ask, made, answering.all_rights(asked, rights_of(made), expected))
+    answers.title = f"unit {unit.name}: {answers.title}"
+    answers.made = {"world.toml": worlds.written(made.world), "log": made.log}
+    front: dict[str, object] = {"unit": unit.name, "files": unit.files, "world": worlds.written(made.world).decode(),
+                                "log": made.log.decode(), "scanned": made.scanned}
+    return answering.told(NAME, asked, answers, front, expected)
+
+
+def main(given: Sequence[str]) -> int:
+    """The command; its exit status (above)."""
+    try:
+        return answered(words_of(given), Progress(NAME).at)
+    except Broken as broken:
+        return answering.broken(NAME, broken)

@@ -1,0 +1,138 @@
+"""The blocks of README and of documents: each command, pasted at the top of the repository, writes what stands below
+it.
+
+By the stored answers of the program each is run, but those that record a program: of these the stored recordings stand
+for what they make. Where the variable CREDAUDIT_BUILT names a built program, and this runs as root with strace and a C
+compiler there, each block is run as it stands. And what docs/PROVED.md and docs/LIBRARY.md name stands in the crates.
+"""
+import os
+import re
+import shutil
+import subprocess
+import tempfile
+import unittest
+
+from .support import EXAMPLES, STORED
+
+TOP = os.path.normpath(os.path.join(EXAMPLES, ".."))
+DOCUMENTS = {"README.md": 8, "docs/TUTORIAL.md": 10}      # and how many commands each has at least
+
+
+def blocks(document: str) -> list[list[tuple[str, str]]]:
+    """The blocks with commands of a document: in each the commands, and what each writes."""
+    with open(os.path.join(TOP, document), encoding="utf-8") as file:
+        texts = re.findall(r"^```\n(\$ .*?)^```$", file.read(), re.MULTILINE | re.DOTALL)
+    found: list[list[tuple[str, str]]] = []
+    for text in texts:
+        parts = re.split(r"^\$ ", text, flags=re.MULTILINE)[1:]
+        found.append([(part.split("\n", 1)[0], part.split("\n", 1)[1]) for part in parts])
+    return found
+
+
+RECORDINGS = {"/tmp/recording": "recording", "/tmp/recording-fixed": "recording-fixed"}
+COMMANDS = os.path.join(TOP, "tools")
+BUILT = os.environ.get("CREDAUDIT_BUILT")
+
+
+def may_record() -> bool:
+    """Whether programs can be recorded here, and the program is built."""
+    return bool(BUILT) and os.geteuid() == 0 and all(shutil.which(name) for name in ("strace", "cc"))
+
+
+class Blocks(unittest.TestCase):
+    def setUp(self) -> None:
+        self.folder = tempfile.mkdtemp(prefix="credaudit-test-")
+        self.addCleanup(shutil.rmtree, self.folder)
+
+    def environment(self, program: str) -> dict[str, str]:
+        """Where credaudit is this program, and the commands around it are those of this checkout."""
+        for name in os.listdir(COMMANDS):
+            if name.startswith("credaudit-"):
+                os.symlink(os.path.join(COMMANDS, name), os.path.join(self.folder, name))
+        os.symlink(program, os.path.join(self.folder, "credaudit"))
+        return {**os.environ, "CREDAUDIT": program, "PATH": self.folder + ":" + os.environ["PATH"]}
+
+    def run_block(self, block: list[tuple[str, str]], environment: dict[str, str]) -> None:
+        """Runs the commands of a block, and compares what they write."""
+        for command, wanted in block:
+            with self.subTest(command=command):
+                done = subprocess.run(["bash", "-c", command.replace("sudo ", "")], cwd=TOP, env=environment, text=True,
+                                      capture_output=True, check=False)
+                self.assertEqual((done.stdout, done.stderr), (wanted, ""))
+
+    def test_there_are_blocks(self) -> None:
+        for document, least in DOCUMENTS.items():
+            self.assertGreaterEqual(sum(map(len, blocks(document))), least, document)
+
+    def test_they_write_what_they_say(self) -> None:
+        environment = self.environment(STORED)
+        for place, name in RECORDINGS.items():
+            shutil.rmtree(place, ignore_errors=True)
+            shutil.copytree(os.path.join(TOP, "examples", "first_try", name), place)
+            self.addCleanup(shutil.rmtree, place, True)
+        for document in DOCUMENTS:
+            for block in blocks(document):
+                kept = [part for part in block if not part[0].startswith(("cc ", "sudo "))]
+                self.run_block(kept, environment)
+
+    @unittest.skipUnless(may_record(), "no built program, or programs can't be recorded here")
+    def test_they_can_be_pasted(self) -> None:
+        for place in RECORDINGS:
+            shutil.rmtree(place, ignore_errors=True)
+        environment = self.environment(os.path.abspath(BUILT or ""))
+        for document in DOCUMENTS:
+            for block in blocks(document):
+                self.run_block(block, environment)
+
+
+def theorems() -> list[tuple[str, str]]:
+    """The rows of docs/PROVED.md: a theorem and its contract."""
+    with open(os.path.join(TOP, "docs", "PROVED.md"), encoding="utf-8") as file:
+        rows = [line.strip("|").split(" | ") for line in file.read().split("\n") if line.startswith("| ")]
+    return [(row[0].strip(), row[1].strip()) for row in rows if row[0].strip() != "Theorem"]
+
+
+def source(crate: str) -> str:
+    """All code of a crate."""
+    folder = os.path.join(TOP, "crates", crate, "src")
+    texts: list[str] = []
+    for name in sorted(os.listdir(folder)):
+        if name.endswith(".rt"):
+            with open(os.path.join(folder, name), encoding="utf-8") as file:
+                texts.append(file.read())
+    return "\n".join(texts)
+
+
+class Proved(unittest.TestCase):
+    def test_a_theorem_is_a_short_sentence(self) -> None:
+        self.assertGreater(len(theorems()), 40)
+        for theorem, _ in theorems():
+            self.assertLessEqual(len(theorem.split()), 40, theorem)
+
+    def test_contracts_stand(self) -> None:
+        for theorem, contract in theorems():
+            named = re.findall(r"`(\w+)::(\w+)`(?:: ((?:`\w+`(?:, )?)+))?", contract)
+            self.assertTrue(named, theorem)
+            for crate, function, clauses in named:
+                text = source(crate)
+                self.assertTrue(re.search(rf"\bfn {function}\b", text), f"{crate}::{function}")
+                for clause in re.findall(r"`(\w+)`", clauses):
+                    self.assertTrue(re.search(rf"\bensures {clause} ", text), f"{crate}::{function}: {clause}")
+
+
+class Library(unittest.TestCase):
+    def test_calls_stand(self) -> None:
+        """Each call of docs/LIBRARY.md stands in its crate; a name without a crate is of the one before it."""
+        with open(os.path.join(TOP, "docs", "LIBRARY.md"), encoding="utf-8") as file:
+            rows = [line.split(" | ")[0] for line in file.read().split("\n") if line.startswith("| `")]
+        self.assertGreater(len(rows), 15)
+        for row in rows:
+            crate = ""
+            for name in re.findall(r"`([\w:]+)", row):
+                *path, last = name.split("::")
+                crate = path[0] if path and path[0].startswith("cm_") else crate
+                self.assertRegex(source(crate), rf"\b(fn|struct) {last}\b", f"{crate}: {last}")
+
+
+if __name__ == "__main__":
+    unittest.main()

@@ -1,0 +1,413 @@
+"""credaudit-summary on answers of the program that are told by hand from the formats, and on stored recordings."""
+import json
+import os
+import shutil
+import tomllib
+import unittest
+from collections.abc import Callable
+from unittest import mock
+
+from credaudit_tools import answering, classes, expecting, rights, schemas, summary, summary_command, worlds
+from credaudit_tools.answering import BROKEN
+from credaudit_tools.asking import Asking, Files, shortened
+from credaudit_tools.classes import Outcome
+from credaudit_tools.command import FAILED, FOUND, GOOD, USAGE, Failure
+from credaudit_tools.marks import SCANNED
+from credaudit_tools.program import PIECE, Program, tail_of
+from credaudit_tools.rights import Right
+from credaudit_tools.worlds import File, Mount, World
+
+from . import support
+from .plain_program import Plain
+from .told_program import CERTIFICATE, YES, Answers, Told, no
+from .told_rows import file_row, space_row
+
+# A daemon that root starts, with two capabilities; it becomes the user 33 and keeps its saved user id.
+WORLD = f"""# {SCANNED}
+log = "script"
+{space_row("box", 0, [[0, 7, 1]], [[0, 7, 1]])}{file_row("/usr/bin/su", "4755")}[[process]]
+pid = 100
+groups = [4]
+permitted = "CAP_KILL,CAP_SETUID"
+effective = "CAP_KILL,CAP_SETUID"
+"""
+LOG = "100 setresuid 33 33 0 = 0\n100 unshare = 0\n"
+RAISE = "100 capset 0000000000000080 0000000000000080 0000000000000000 = 0"
+OWN, SU = "100 setresuid -1 0 -1 = 0", "100 execve /usr/bin/su = 0"
+ANSWERS: Answers = {
+    ("real", "uid:33"): no(100), ("real", "uid:0"): no(100, RAISE, OWN), ("own", "uid:0"): no(100, RAISE, OWN),
+    ("real", "gid:0"): no(101, RAISE, SU, OWN),
+    ("real", "gid:4"): f"undecided exec_gid fresh(init)\n{CERTIFICATE}\n",
+    ("if-1", "gid:4"): f"undecided exec_gid fresh(init)\n{CERTIFICATE}\n", ("if-2", "uid:0"): no(100, OWN)}
+SUSPECT = "credaudit-summary: note: suspect: user namespaces are declared, and no process stands in one\n"
+NEEDED = {"uid:0": OWN, "gid:0": SU}       # without which the program doesn't confirm a run
+START = ["uid:0", "gid:0", "gid:4", "cap:CAP_KILL@init", "cap:CAP_SETUID@init"]
+
+
+class Case(support.Case):
+    """A world and a log, and a program that is told what to answer."""
+
+    def setUp(self) -> None:
+        super().setUp()
+        self.program = Told(None, ANSWERS, confirms=lambda right, run: 100 if NEEDED[right] in run else None)
+
+    def names(self, world: str = WORLD, log: str = LOG) -> list[str]:
+        return [self.put("world.toml", world.encode()), self.put("log", log.encode())]
+
+    def command(self, *given: str) -> tuple[int, str, str]:
+        with mock.patch.object(summary_command, "Program", lambda: self.program):
+            return self.told(summary_command.main, *given)
+
+
+class Whole(Case):
+    def test_one_line_for_each_right(self) -> None:
+        status, out, errors = self.command(*self.names(), "100", "--right", "uid:33")
+        self.assertEqual((status, errors), (GOOD, SUSPECT))
+        self.assertEqual(out.split("\n")[1:], [
+            f"uid:0                regained by its own calls: {OWN} (holder 100)",
+            f"gid:0                regained through /usr/bin/su: {SU} (holder 100)",
+            "gid:4                open: a set-group-ID program that a member may run lets it in, in user namespaces"
+            " that are made later in init (rule exec_gid, row fresh(init)): set no_new_privs in every member; mount"
+            " nosuid; exclude execve",
+            "cap:CAP_KILL@init    gone", "cap:CAP_SETUID@init  gone",
+            "uid:33               held by process 100 (effective user id)",
+            "6 rights: 1 held, 1 own-calls, 1 program, 2 gone, 1 open", "with no_new_privs 3 of 3 gone",
+            "with an empty bounding set 2 of 3 gone",
+            "with a filter of the calls that take ids, capabilities or user namespaces 2 of 3 gone", ""])
+        self.assertTrue(out.startswith("process 100: real user 33 (inside: none), effective user 33 (inside: none),"
+                                       " saved user 0 (inside: none), fs user 33 (inside: none); group 0 (inside:"
+                                       " none);"))
+
+    def test_the_questions(self) -> None:
+        self.command(*self.names(), "100")
+        asked = self.program.asked
+        self.assertEqual({right for word, kind, right in asked if (word, kind) == ("audit", "own")}, {"uid:0", "gid:0"})
+        self.assertEqual({right for word, kind, right in asked if (word, kind) == ("audit", "real")}, set(START))
+        own = self.program.worlds["own"]
+        self.assertEqual((own.files, own.processes[0].space), ([], "made-2"))
+        [limited, unbounded, filtered] = [self.program.worlds[f"if-{number}"] for number in range(3)]
+        self.assertEqual([len(each.files) for each in (limited, unbounded, filtered)], [1, 1, 1])
+        self.assertTrue(limited.processes[0].credential.nnp)
+        self.assertEqual(unbounded.processes[0].credential.bnd, 0)
+        self.assertIn("setresuid", filtered.exclude or [])
+
+    def test_a_world_that_was_not_scanned(self) -> None:
+        _, out, _ = self.command(*self.names(WORLD.replace(SCANNED, "Files: by hand.")), "100")
+        self.assertIn("cap:CAP_KILL@init    gone by its own calls\n", out)
+        self.assertNotIn(" gone\n", out.split("5 rights")[0])
+
+    def test_a_world_with_a_doubt(self) -> None:
+        _, out, _ = self.command(*self.names("# doubt: /srv can't be read\n" + WORLD), "100")
+        self.assertIn("cap:CAP_KILL@init    not called gone: a doubt: /srv can't be read\n", out)
+
+    def test_a_child_had_what_its_ancestor_had(self) -> None:
+        log = "100 fork = 101\n101 fork = 102\n101 exit = 0\n102 setresuid 5 5 5 = 0\n"
+        _, out, _ = self.command(*self.names(WORLD, log), "102", "--classes")
+        self.assertEqual([line.split(" ")[0] for line in out.split("\n")[:-1]], START)
+
+    def test_ids_of_all_kinds(self) -> None:
+        world = WORLD.replace("groups = [4]", "groups = [4]\nuid = [1, 2, 3, 4]\ngid = [5, 6, 7, 5]\nspace = \"box\"")
+        _, out, _ = self.command(*self.names(world, ""), "100", "--classes")
+        self.assertEqual([line.split(" ")[0] for line in out.split("\n")[:-1]],
+                         ["uid:2", "uid:1", "uid:3", "uid:4", "gid:6", "gid:5", "gid:7", "gid:4", "cap:CAP_KILL@box",
+                          "cap:CAP_SETUID@box"])
+
+    def test_who_started_others(self) -> None:
+        _, out, _ = self.command(*self.names(WORLD, "100 fork = 101\n100 fork = 102\n"), "100")
+        self.assertIn("; with 2 processes that it started\n", out)
+
+    def test_a_run_over_names_of_the_end_comes_back(self) -> None:
+        join = "100 setns made-2 = 0"
+        answers = {("real", "uid:0"): no(100, "100 setns #2 = 0", SU), ("own", "uid:0"): no(100, join)}
+        self.program = Told(None, answers)
+        _, out, _ = self.command(*self.names(), "100")
+        self.assertIn("uid:0                regained by its own calls: 100 setns #2 = 0 (holder 100)", out)
+
+    def test_a_run_that_needs_all_its_calls(self) -> None:
+        self.program.confirms = lambda right, run: None
+        status, out, _ = self.command(*self.names(), "100")
+        self.assertEqual(status, GOOD)
+        self.assertIn(f"regained by its own calls: {RAISE}; {OWN} (holder 100)", out)
+        self.assertIn("cap:CAP_KILL@init    gone\n", out)
+
+    def test_a_run_that_needs_no_program(self) -> None:
+        self.program.confirms = lambda right, run: 100 if OWN in run else None
+        _, out, _ = self.command(*self.names(), "100")
+        self.assertIn(f"gid:0                regained by its own calls: {OWN} (holder 100)\n", out)
+
+    def test_a_certificate_that_the_check_refuses(self) -> None:
+        self.program.sound = False
+        _, out, _ = self.command(*self.names(), "100")
+        self.assertIn("cap:CAP_KILL@init    not called gone: the program's check doesn't accept the program's"
+                      " certificate", out)
+
+    def test_certificates(self) -> None:
+        folder = os.path.join(self.work, "kept")
+        _, out, _ = self.command(*self.names(), "100", "--certificates", folder)
+        self.assertEqual(sorted(os.listdir(folder)), ["cap:CAP_KILL@init.json", "cap:CAP_SETUID@init.json"])
+        self.assertIn(f"cap:CAP_KILL@init    gone (certificate {folder}/cap:CAP_KILL@init.json)", out)
+
+    def test_the_files_of_a_scan(self) -> None:
+        scan = World("script", mounts=[Mount("nosuid", nosuid=True)], remarks=[SCANNED],
+                     files=[File("/usr/bin/su", 5, 5, 0o4755), File("/opt/x", 0, 0, 0o2755, mount="nosuid")])
+        path, folder = self.put("scan.toml", worlds.written(scan)), os.path.join(self.work, "kept")
+        world = WORLD.replace(SCANNED, "Files: by hand.")
+        _, out, _ = self.command(*self.names(world), "100", "--files", path, "--certificates", folder)
+        self.assertIn("cap:CAP_KILL@init    gone (", out)
+        asked = self.program.worlds["real"]
+        self.assertEqual([(each.path, each.uid) for each in asked.files], [("/usr/bin/su", 0), ("/opt/x", 0)])
+        with open(os.path.join(folder, "world.toml"), "rb") as file:
+            self.assertEqual(worlds.read(file.read()).files, asked.files)
+        for mount in (Mount("root", noexec=True), Mount("nosuid", space="box")):
+            scan.mounts = [mount]
+            own = world.replace("[[file]]", '[[mount]]\nname = "root2"\n[[file]]').replace("root2", mount.name)
+            self.assertEqual(self.command(*self.names(own), "100", "--files",
+                                          self.put("scan.toml", worlds.written(scan)))[0], FAILED)
+
+    def test_json(self) -> None:
+        status, out, _ = self.command(*self.names(), "100", "--json", "--expect", self.put("expect", b"uid:0 gone\n"))
+        self.assertEqual(status, FOUND)
+        self.assertTrue(out.startswith('{\n "format": 1,'))
+        told = json.loads(out)
+        self.assertTrue(schemas.fits(told, summary.SCHEMA), out)
+        self.assertEqual(told["unexpected"], [{"right": "uid:0", "class": "own-calls", "expected": ["gone"]}])
+        self.assertEqual(told["rights"][1]["programs"], ["/usr/bin/su"])
+        _, out, _ = self.command(*self.names(), "100", "--json", "--right", "uid:33")
+        [held] = [each for each in json.loads(out)["rights"] if each["class"] == classes.HELD]
+        self.assertEqual((held["right"], held["holder"], held["reasons"]),
+                         ("uid:33", 100, ["process 100 (effective user id)"]))
+
+    def test_a_forgotten_setgroups_that_is_not_seen(self) -> None:
+        world = WORLD.replace("groups = [4]\n", "").replace("CAP_KILL,CAP_SETUID", "CAP_KILL,CAP_SETGID")
+        note = "note: process 100 began without supplementary groups, and setgroups was never called"
+        for log, pid, told in (
+                ("", "100", True), ("100 setgroups = 0\n", "100", False), ("100 setgroups 7 = 0\n", "100", False),
+                ("100 fork = 101\n101 fork = 102\n101 setgroups = 0\n", "102", True),
+                ("100 fork = 101\n101 setgroups = 0\n101 fork = 102\n", "102", False),
+                ("100 fork = 101\n101 setgroups = 0\n", "100", False),
+                ("100 fork = 101\n101 setgroups = 0\n101 exit = 0\n", "100", True),
+                ("100 fork = 101\n101 setgroups = 0\n101 exit = 0\n100 fork = 101\n", "101", True)):
+            with self.subTest(log), mock.patch.object(Told, "run", Plain().run):
+                _, _, errors = self.command(*self.names(world, log), pid)
+                self.assertEqual(note in errors, told, errors)
+        self.assertNotIn(note, self.command(*self.names(), "100")[2])
+
+    def test_what_is_suspect_is_told(self) -> None:
+        _, _, errors = self.command(*self.names(WORLD, LOG.rstrip("\n")), "100")
+        self.assertIn("note: suspect: ", errors)
+        many = WORLD + "".join(f"[[process]]\npid = {number}\n" for number in (1, 2))
+        self.assertIn("has no parent", self.command(*self.names(many), "100")[2])
+
+
+class Statuses(Case):
+    def test_statuses(self) -> None:
+        names = self.names()
+        good = self.put("good", self.command(*names, "100", "--classes")[1].encode())
+        odd, cut = self.put("odd", b"log = 1\n"), self.put("bad", b"100 jump = 0\n")
+        rows: list[tuple[int, list[str]]] = [
+            (GOOD, [*names, "100", "--expect", good]), (FOUND, [*names, "100", "--expect", self.put("x", b"* gone\n")]),
+            (USAGE, [*names, "0"]), (USAGE, [*names]), (USAGE, [*names, "100", "7"]), (USAGE, []),
+            (USAGE, [*names, "100", "--right", "uid"]), (FAILED, [*names, "7"]), (FAILED, [names[0]]),
+            (FAILED, [names[0], names[1] + "x", "100"]), (FAILED, [*names, "100", "--expect", odd]),
+            (FAILED, [*names, "100", "--certificates", odd]), (BROKEN, [names[0], cut, "100"]),
+            (BROKEN, [self.put("bad.toml", b"x"), names[1], "100"]), (BROKEN, [self.work])]
+        for status, given in rows:
+            with self.subTest(given):
+                self.assertEqual(self.command(*given)[0], status)
+        self.program.default = "bad query: right\n"
+        self.assertEqual(self.command(*names, "100")[0], FAILED)
+
+    def test_the_rights_of_the_expected_classes_are_asked_for(self) -> None:
+        path = self.put("expect", b"uid:33 held\n# a remark\ncap:CAP_KILL@#1 gone,held # another\n"
+                                  b"* gone,open,own-calls\n")
+        status, out, errors = self.command(*self.names(), "100", "--expect", path)
+        self.assertIn("uid:33               held by process 100 (effective user id)", out)
+        told = "credaudit-summary: gid:0 is program, and expected is gone or open or own-calls\n"
+        self.assertEqual((status, errors), (FOUND, SUSPECT + told))
+
+
+class Recordings(Case):
+    def folder(self, name: str) -> str:
+        path = os.path.join(self.work, name)
+        shutil.copytree(os.path.join(support.DATA, "recordings", name), path)
+        return path
+
+    def test_a_recording(self) -> None:
+        folder = self.folder("daemon")
+        self.program.default = no(100)
+        status, out, _ = self.command(folder)
+        self.assertEqual(status, GOOD)
+        self.assertIn("uid:0 ", out)
+        self.assertEqual(self.command(folder, "100")[0], GOOD)
+        self.assertEqual(self.command(folder, "4000")[0], FAILED)
+
+    def test_a_broken_one(self) -> None:
+        folder = self.folder("daemon")
+        log = os.path.join(folder, "log")
+        with open(log, "rb") as file:
+            data = file.read()
+        with open(log, "wb") as file:
+            file.write(data[:-9])
+        status, out, errors = self.command(folder)
+        self.assertEqual((status, out), (BROKEN, ""))
+        self.assertIn("the recording isn't true: the log ends within a line: it was cut", errors)
+        os.remove(os.path.join(folder, "status.txt"))
+        self.assertEqual(self.command(folder)[0], BROKEN)
+
+    def test_its_doubts(self) -> None:
+        folder = self.folder("daemon")
+        path = os.path.join(folder, "recording.toml")
+        with open(path, encoding="utf-8") as file:
+            text = file.read()
+        with open(path, "w", encoding="utf-8") as file:
+            file.write(text.replace("doubts = []", 'doubts = ["a child went on untraced"]'))
+        _, out, _ = self.command(folder)
+        self.assertIn("not called gone: a doubt: a child went on untraced", out)
+
+    def test_a_filter_that_not_every_member_had(self) -> None:
+        folder = self.folder("daemon")
+        with open(os.path.join(folder, "world.toml"), "a", encoding="utf-8") as file:
+            file.write('\n[filter]\nexclude = ["setuid"]\n')
+        _, out, _ = self.command(folder)
+        self.assertIn("not called gone: a doubt: the world declares a [filter], and the kernel showed none", out)
+
+    def test_one_whose_processes_ended(self) -> None:
+        self.assertEqual(self.command(self.folder("ended"))[0], FAILED)
+
+
+class Shortening(unittest.TestCase):
+    def short(self, run: str, good: Callable[[str], bool]) -> tuple[str, int | None]:
+        kept, holder = shortened([each.encode() for each in run],
+                                 lambda fewer: 7 if good(b"".join(fewer).decode()) else None)
+        return b"".join(kept).decode(), holder
+
+    def test_what_the_program_confirms_goes(self) -> None:
+        self.assertEqual(self.short("abcd", lambda run: "b" in run and "d" in run), ("bd", 7))
+        self.assertEqual(self.short("abcd", lambda run: run in ("abd", "ad")), ("ad", 7))
+        self.assertEqual(self.short("ab", lambda run: True), ("b", 7))
+        self.assertEqual(self.short("a", lambda run: True), ("a", None))
+        self.assertEqual(self.short("ab", lambda run: False), ("ab", None))
+        self.assertEqual(self.short("", lambda run: True), ("", None))
+
+    def test_one_that_frees_an_earlier_one(self) -> None:
+        self.assertEqual(self.short("abc", lambda run: run in ("ac", "c")), ("c", 7))
+
+
+class Pieces(support.Case):
+    def test_rights(self) -> None:
+        for text, right in (("uid:0", Right("uid", 0)), ("gid:007", Right("gid", 7)),
+                            ("cap:CAP_KILL@init", Right("cap", 5, "init")), ("cap:CAP_KILL@#3", Right("cap", 5, "#3")),
+                            ("uid:4294967295", None), ("uid:", None), ("cap:CAP_NO@init", None), ("cap:CAP_KILL", None),
+                            ("cap:CAP_KILL@a b", None), ("uid:0\n", None), ("uid:-1", None)):
+            self.assertEqual(rights.parse(text), right, text)
+
+    def test_expected_classes(self) -> None:
+        for text in (b"uid:0\n", b"uid:0 gon\n", b"uid:0 gone held\n", b"uid gone\n", b"uid:0 gone\nuid:0 held\n",
+                     b"* gone\n* held\n", b"uid:0 gone,\n", b"\xff gone\n"):
+            with self.subTest(text), self.assertRaises(Failure):
+                expecting.read(text)
+        self.assertEqual(expecting.read(b"").new([Outcome(Right("uid", 0), classes.HELD)]), [])
+        told = [Outcome(Right("uid", 0), classes.HELD), Outcome(Right("uid", 1), classes.GONE)]
+        self.assertEqual(expecting.read("\n".join(expecting.written(told)).encode()).new(told), [])
+
+    def test_each_class_has_words(self) -> None:
+        for kind in classes.CLASSES:
+            self.assertTrue(classes.words(Outcome(Right("uid", 0), kind, holder=1)))
+
+    def test_the_tail_of_a_report(self) -> None:
+        long = b"> line\n" * PIECE
+        self.assertEqual(tail_of([long, b"end 7\nyes\n"]), b"end 7\nyes\n")
+        self.assertEqual(tail_of([long, b"e", b"nd 7", b"\nyes\n"]), b"end 7\nyes\n")
+        self.assertEqual(tail_of([b"end 7\n", long, long]), b"end 7\n" + long + long)
+        self.assertEqual(len(tail_of([long, long])), PIECE)
+        self.assertEqual(tail_of([]), b"")
+        script = b"#!/bin/sh\nyes '> a line' | head -n 50000\necho end 3\necho yes\nexit 2\n"
+        program = self.put("program", script, 0o755)
+        self.assertEqual(Program(program).tail("x"), (b"end 3\nyes\n", 2))
+        self.assertEqual(Program(self.put("short", b"#!/bin/sh\necho usage\nexit 6\n", 0o755)).tail(), (b"usage\n", 6))
+        killed = Program(self.put("killed", b"#!/bin/sh\nkill -9 $$\n", 0o755))
+        for broken in (killed, Program(self.work + "/none")):
+            with self.assertRaises(Failure):
+                broken.tail("x")
+
+    def test_answers_that_are_none(self) -> None:
+        files = Files(self.put("w", b'log = "script"\n'), self.put("l"))
+        whole = b"end 0\n" + YES.encode()
+        for told, status in ((whole, 1), (b"end 0\nyes\n", 0), (b"usage\n", 6), (b"", 7),
+                             (b"end 0\nno 0\nholder 1\n", 0)):
+            ask = Asking(Program("told"), self.work)
+            with mock.patch.object(Program, "tail", lambda *_, to=(told, status): to), self.assertRaises(Failure):
+                ask.audit(files, 1, "uid:0")
+        ask = Asking(Program("told"), self.work)
+        with mock.patch.object(Program, "tail", lambda *_: (b"limit spaces 256\n", 9)), self.assertRaises(Failure):
+            ask.confirms(files, 1, "uid:0", [b"x"])
+
+    def test_names_that_are_not_utf_8(self) -> None:
+        names: list[str] = tomllib.loads(support.data("hostile_names.toml").decode())["names"]
+        plain = set(map(chr, range(0x20, 0x7f))) | {"\n"}
+        for name in names:
+            raw = name.encode("latin-1")
+            if name in ("..", "-") or name.startswith("-"):
+                continue
+            with self.subTest(name), mock.patch.object(summary_command, "Program", lambda: Told(None, {}, YES)):
+                paths = self.put(b"w/" + raw, WORLD.encode()), self.put(b"l/" + raw, LOG.encode())
+                folder = os.path.join(self.work, "kept", os.fsdecode(raw))
+                status, out, errors = self.told(summary_command.main, *paths, "100", "--certificates", folder)
+                self.assertEqual(status, GOOD, errors)
+                self.assertFalse(set(out + errors) - plain, out + errors)
+
+    def test_hostile_paths_in_runs(self) -> None:
+        names: list[str] = tomllib.loads(support.data("hostile_names.toml").decode())["names"]
+        plain = set(map(chr, range(0x20, 0x7f))) | {"\n"}
+        for name in names:
+            path = "/opt/" + name
+            told = Told(None, {})
+            lines = no(100, f"100 execve {path} = 0").encode("latin-1")
+            with self.subTest(name), mock.patch.object(summary_command, "Program", lambda: told), \
+                    mock.patch.object(Told, "tail", lambda *_, to=lines: (b"end 0\n" + to, 1)):
+                status, out, errors = self.told(summary_command.main, self.put("world.toml", WORLD.encode()),
+                                                self.put("log", LOG.encode()), "100")
+                self.assertIn(status, (GOOD, FAILED))
+                self.assertFalse(set(out + errors) - plain, out + errors)
+
+
+class Document(unittest.TestCase):
+    def test_statuses_stand_in_the_module(self) -> None:
+        self.assertEqual((BROKEN, answering.BROKEN), (4, 4))
+
+
+REAL = os.environ.get("CREDAUDIT_STORE")
+
+
+@unittest.skipIf(REAL is None, "CREDAUDIT_STORE names no program")
+class OfTheProgram(support.Case):
+    """What the program itself makes of the examples; the classes were worked out by hand from the README's audits."""
+
+    def classes(self, *given: str) -> dict[str, str]:
+        with mock.patch.object(summary_command, "Program", lambda: Program(REAL)):
+            status, out, errors = self.told(summary_command.main, "--classes", *given)
+        self.assertEqual(status, GOOD, errors)
+        return dict((line.split()[0], line.split()[1]) for line in out.split("\n")[:-1])
+
+    def test_the_examples(self) -> None:
+        for name, pid, kind in (("saved_id_forgotten", "100", classes.OWN_CALLS),
+                                ("program_left", "100", classes.PROGRAM),
+                                ("program_not_declared", "100", classes.GONE_BY_OWN_CALLS),
+                                ("dropped_for_good", "100", classes.GONE_BY_OWN_CALLS),
+                                ("real_id_left", "100", classes.DOUBTED), ("two_workers", "31", classes.OPEN)):
+            folder = os.path.join(support.EXAMPLES, name)
+            names = [os.path.join(folder, each) for each in ("world.toml", "log")]
+            with self.subTest(name):
+                self.assertEqual(self.classes(*names, pid, "--right", "uid:0")["uid:0"], kind)
+
+    def test_a_scanned_world_and_a_right_drop(self) -> None:
+        names = [self.put("world.toml", WORLD.encode()),
+                 self.put("log", b"100 setresuid 33 33 33 = 0\n100 no_new_privs 1 = 0\n")]
+        told = self.classes(*names, "100", "--right", "uid:33", "--certificates", os.path.join(self.work, "kept"))
+        kept = dict.fromkeys(("gid:0", "gid:4", "uid:33"), classes.HELD)
+        self.assertEqual(told, {**dict.fromkeys(START, classes.GONE), **kept})
+
+    def test_a_recording(self) -> None:
+        # Its last process is root again (test_examples).
+        self.assertEqual(self.classes(os.path.join(support.EXAMPLES, "strace", "saved_user_left"), "100")["uid:0"],
+                         classes.HELD)
