@@ -2,7 +2,9 @@
 # make           proves and builds the program, runs its stored example and compares what it writes
 # make test      the gate: the tests of the commands in tools/, every proof, every must-fail edit, every test and the
 #                program's stored runs
-# make install   puts the built program and the commands around it into $(DESTDIR)$(PREFIX)/bin, with their pages
+# make install   puts the built program, the commands around it, their pages, completion, documents and examples below
+#                $(DESTDIR)$(PREFIX)
+# make uninstall takes away what make install put there
 # make clean     removes what was proved and built
 #
 # Needs rt, the command of the kit that the README names, in the PATH.
@@ -13,10 +15,13 @@ PROGRAM := $(CRATE)/out/credaudit
 # The commands around the program: their package lies below lib, where they find it.
 COMMANDS := $(wildcard tools/credaudit-*)
 LIBRARY := $(PREFIX)/lib/credaudit
+SHARE := $(PREFIX)/share
+DOCUMENTS := $(SHARE)/doc/credaudit
+COMPLETIONS := $(SHARE)/bash-completion/completions
 # The words of the stored example, its files below data/.
 EXAMPLE := $(foreach word,$(shell cat $(CRATE)/args),$(if $(wildcard $(CRATE)/data/$(word)),data/$(word),$(word)))
 
-.PHONY: all try test install clean
+.PHONY: all try test install uninstall clean
 
 all:
 	cd $(CRATE) && rt run -- $(EXAMPLE)
@@ -33,13 +38,25 @@ test:
 
 install:
 	@test -x $(PROGRAM) || { echo "$(PROGRAM) isn't built: run make first" >&2; exit 1; }
-	install -d $(DESTDIR)$(PREFIX)/bin
+	install -d $(DESTDIR)$(PREFIX)/bin $(DESTDIR)$(LIBRARY)/credaudit_tools $(DESTDIR)$(COMPLETIONS)
+	install -d $(DESTDIR)$(SHARE)/man/man1 $(DESTDIR)$(SHARE)/man/man5 $(DESTDIR)$(DOCUMENTS)
 	install -m 755 $(PROGRAM) $(DESTDIR)$(PREFIX)/bin/credaudit
-	install -d $(DESTDIR)$(LIBRARY)/credaudit_tools $(DESTDIR)$(PREFIX)/share/man/man1
 	install -m 644 tools/credaudit_tools/*.py $(DESTDIR)$(LIBRARY)/credaudit_tools
 	install -m 755 $(COMMANDS) $(DESTDIR)$(LIBRARY)
 	ln -sf $(patsubst tools/%,../lib/credaudit/%,$(COMMANDS)) $(DESTDIR)$(PREFIX)/bin
-	install -m 644 man/*.1 $(DESTDIR)$(PREFIX)/share/man/man1
+	install -m 644 man/*.1 $(DESTDIR)$(SHARE)/man/man1
+	install -m 644 man/*.5 $(DESTDIR)$(SHARE)/man/man5
+	install -m 644 completion/credaudit $(DESTDIR)$(COMPLETIONS)/credaudit
+	for name in $(notdir $(COMMANDS)); do ln -sf credaudit $(DESTDIR)$(COMPLETIONS)/$$name || exit; done
+	install -m 644 README.md docs/*.md $(DESTDIR)$(DOCUMENTS)
+	cp -R examples $(DESTDIR)$(DOCUMENTS)
+
+uninstall:
+	rm -f $(DESTDIR)$(PREFIX)/bin/credaudit $(addprefix $(DESTDIR)$(PREFIX)/bin/,$(notdir $(COMMANDS)))
+	rm -f $(addprefix $(DESTDIR)$(SHARE)/man/man1/,$(notdir $(wildcard man/*.1)))
+	rm -f $(addprefix $(DESTDIR)$(SHARE)/man/man5/,$(notdir $(wildcard man/*.5)))
+	rm -f $(addprefix $(DESTDIR)$(COMPLETIONS)/,credaudit $(notdir $(COMMANDS)))
+	rm -rf $(DESTDIR)$(LIBRARY) $(DESTDIR)$(DOCUMENTS)
 
 clean:
 	rm -rf crates/*/out

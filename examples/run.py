@@ -5,8 +5,9 @@
 
 An example is a folder with world.toml, log and report. Where the report is that of an audit, query has its PID and
 RIGHT; where the status is to be another than 0, status has it. The reports were written by hand, from docs/RULES.md and
-the manual pages that it names, docs/PLANS.md and docs/BOUNDS.md. One line for each example, and where they differ the
-first line that does. Status 0: all agree; 1: some differ; 2: there is no program.
+the manual pages that it names, docs/PLANS.md and docs/BOUNDS.md; the lines of bounds in them were worked out by
+tools/plain_bounds.py. One line for each example, and where they differ the first line that does. Status 0: all agree;
+1: some differ; 2: there is no program.
 """
 import glob
 import itertools
