@@ -23,7 +23,8 @@ use std::alloc::Global;
 
 /// What the lines of a run come to, from where the machine is, by these members, whose pids ascend. They are read as a script,
 /// whatever form of log the world declares. For each event the limits come first, then whether it is a member's, whether the
-/// world's filter permits it, and whether it is a step. Its only error is out of memory.
+/// world's filter permits it, and whether it is a step. The state is within the limits of processes and spaces, and the
+/// text has fewer than 2^31 bytes. Its only error is out of memory.
 pub fn confirm(
     alloc: Global,
     w: &World,
