@@ -22,7 +22,7 @@ limit_name limit.Run = codes "run"
 -- the number of a limit: it is hit where the count exceeds it
 abbrev pub limit_number : Limited → ℕ
 limit_number limit.World = 1048576
-limit_number limit.Log = 67108864
+limit_number limit.Log = 1099511627776
 limit_number limit.Line = 1048576
 limit_number limit.Processes = 4096
 limit_number limit.Spaces = 256

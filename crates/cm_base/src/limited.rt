@@ -61,7 +61,8 @@ impl Limited {
     {
         match self {
             Limited::World | Limited::Line => 1_048_576,
-            Limited::Log | Limited::Certificate | Limited::Run => 67_108_864,
+            Limited::Log => 1_099_511_627_776,
+            Limited::Certificate | Limited::Run => 67_108_864,
             Limited::Processes | Limited::Files | Limited::Held => 4096,
             Limited::Spaces | Limited::Family => 256,
             Limited::Mounts => 64,

@@ -182,7 +182,7 @@ fn faults_tables_and_limits_have_their_words(rt: HostRuntime) {
     }
     for (limit, name, number) in [
         (Limited::World, "world", 1_048_576),
-        (Limited::Log, "log", 67_108_864),
+        (Limited::Log, "log", 1_099_511_627_776),
         (Limited::Line, "line", 1_048_576),
         (Limited::Processes, "processes", 4096),
         (Limited::Spaces, "spaces", 256),

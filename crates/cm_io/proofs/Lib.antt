@@ -1,6 +1,11 @@
 pub mod Counting
 pub mod Files
 pub mod Front
+pub mod Broken
 pub mod Places
 pub mod ReadCounts
 pub mod Written
+pub mod Kept
+pub mod Cutting
+pub mod Given
+pub mod Coming

@@ -5,6 +5,9 @@ pub mod Names
 pub mod Counts
 pub mod Turns
 pub mod Held
+pub mod Breaks
 pub mod Memory
 pub mod Sure
 pub mod Real
+pub mod Cutter
+pub mod CutterSteps

@@ -2,6 +2,7 @@
 use Rattle.std.specs.Prelude.{ℕ, List, Bool, ◌||◌, not}
 use Rattle.cm_io.specs.Held.{held_files, is_held}
 use Rattle.cm_io.specs.Turns.{is_due}
+use Rattle.cm_io.specs.Breaks.{breaks_of, is_broken}
 use Rattle.cm_io.specs.declared.counts.Counts.{Counts}
 use Rattle.cm_io.specs.declared.turns.Turns.{Turns}
 use Rattle.cm_io.specs.declared.memory.MemShelf.{MemShelf}
@@ -15,9 +16,18 @@ shelf_turns shelf = shelf.turns
 abbrev pub shelf_counts : MemShelf → Counts
 shelf_counts shelf = shelf.files.counts
 
--- the next read of this name fails: its turn is due, or no file has the name
-abbrev pub read_fails : MemShelf → List ℕ → Bool
-read_fails shelf name = is_due shelf.turns || not (is_held (held_files shelf.files) name)
+-- the names of files that are broken, with the places from which on they are
+abbrev pub shelf_breaks : MemShelf → List (List ℕ × ℕ)
+shelf_breaks shelf = breaks_of shelf.breaks
+
+-- how many bytes the longest buffer has that a shelf was asked to fill
+abbrev pub shelf_widest : MemShelf → ℕ
+shelf_widest shelf = shelf.widest
+
+-- the next read fails, if it is of this name at this place: its turn is due, no file has the name, or it is broken
+abbrev pub read_fails : MemShelf → List ℕ → ℕ → Bool
+read_fails shelf name at =
+    (is_due shelf.turns || is_broken (breaks_of shelf.breaks) name at) || not (is_held (held_files shelf.files) name)
 
 -- the turns at which the writes to a sink fail
 abbrev pub sink_turns : MemSink → Turns

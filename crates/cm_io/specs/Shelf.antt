@@ -82,3 +82,10 @@ pub record ReadsByBytes (reads reads' taken taken' : List ℕ → ℕ) (name : L
 pub record CountsApart (counted : List ℕ → Bool) (faults faults' reads reads' : List ℕ → ℕ) (name : List ℕ) : Type 0 where
   pub faults_stay : IsTrue (counted name) → OthersStay faults faults' name
   pub reads_stay : IsTrue (not (counted name)) → reads' name ≡ reads name
+
+-- The counts of faults before and after a file was read: only a read that failed raises one, and it raises that of the
+-- file's name.
+pub record FileFaults (before now : List ℕ → ℕ) (name : List ℕ) (failed : Type 0) : Type 0 where
+  pub later : (n : List ℕ) → before n ≤ now n
+  pub fault : failed → Rose (before name) (now name)
+  pub others : (failed → ⊥) → (n : List ℕ) → now n ≡ before n

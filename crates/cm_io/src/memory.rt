@@ -2,31 +2,34 @@
 // one can try what a program does when the outside fails.
 ghost use Rattle.std.specs.Prelude.{◌≡◌, vec_len};
 
+use crate::breaks::Breaks;
 use crate::held::{Held, copy_part};
 use crate::turns::Turns;
 use crate::{NoMemory, Outside, Shelf, Sink};
 use std::alloc::Global;
 
-/// Files in memory. Reads are counted from 1, and those with given numbers fail; so does each read
-/// of a name that isn't held. The number of reads stays at 2^64 - 1.
+/// Files in memory. Reads are counted from 1, and those with given numbers fail; so does each read of a name that isn't
+/// held, and each at a place from which on a file is broken. The number of reads stays at 2^64 - 1.
 ///
 /// It counts the reads of every name, and the bytes. A name that isn't held is noted at its first read.
 #[derive(Drop)]
 pub struct MemShelf {
     pub(crate) files: Held,
     turns: Turns,
+    breaks: Breaks,
+    widest: usize,
 }
 
 impl MemShelf {
-    ghost use Rattle.std.specs.Prelude.{ℕ, List, Some, IfOk, IsTrue, true, map, string_bytes};
+    ghost use Rattle.std.specs.Prelude.{◌++◌, ◌∷◌, [], ℕ, List, Some, IfOk, OnErr, IsTrue, true, map, string_bytes};
     ghost use Rattle.cm_io.specs.Names.{are_distinct};
     ghost use Rattle.cm_io.specs.Held.{files_of};
     ghost use Rattle.cm_io.specs.Counts.{names_of};
     ghost use Rattle.cm_io.specs.Turns.{StartsTurns};
-    ghost use Rattle.cm_io.specs.Memory.{shelf_turns, shelf_counts};
+    ghost use Rattle.cm_io.specs.Memory.{shelf_turns, shelf_counts, shelf_breaks, shelf_widest};
 
-    /// A shelf that holds `texts` under `names`, of which the reads with the numbers `fail` fail. No
-    /// read was made yet, all counts are 0, and the held names are noted. `NoMemory` means that there was no memory for
+    /// A shelf that holds `texts` under `names`, of which the reads with the numbers `fail` fail. No read was made yet,
+    /// all counts are 0, the held names are noted, and no file is broken. `NoMemory` means that there was no memory for
     /// the counts.
     pub fn new(
         alloc: Global,
@@ -44,21 +47,45 @@ impl MemShelf {
         ensures reads { IfOk result (λ s. (n : List ℕ) → ⟦<MemShelf as Shelf>⟧.reads s n ≡ 0) }
         ensures taken { IfOk result (λ s. (n : List ℕ) → ⟦<MemShelf as Shelf>⟧.taken s n ≡ 0) }
         ensures turns { IfOk result (λ s. StartsTurns (shelf_turns s) fail.items) }
+        ensures whole { IfOk result (λ s. shelf_breaks s ≡ []) }
+        ensures widest { IfOk result (λ s. shelf_widest s ≡ 0) }
     {
         Ok(MemShelf {
             files: Held::new(alloc, names, texts)?,
             turns: Turns::new(fail),
+            breaks: Breaks::none(alloc),
+            widest: 0,
         })
+    }
+
+    /// From now on each read of this name at the place `at` or past it fails, and raises its count of faults. Nothing
+    /// else changes. `NoMemory` means that there was no memory for the name: then nothing changed.
+    pub fn fail_from(&mut self, name: &str, at: u64) -> Result<(), NoMemory>
+        ensures done { IfOk result (λ _. shelf_breaks self.new ≡ shelf_breaks self.old ++ (name.now, at) ∷ []) }
+        ensures err { OnErr result (shelf_breaks self.new ≡ shelf_breaks self.old) }
+        ensures held { ⟦<MemShelf as Shelf>⟧.held self.new ≡ ⟦<MemShelf as Shelf>⟧.held self.old }
+        ensures counts { shelf_counts self.new ≡ shelf_counts self.old }
+        ensures turns { shelf_turns self.new ≡ shelf_turns self.old }
+        ensures widest { shelf_widest self.new ≡ shelf_widest self.old }
+    {
+        self.breaks.add(name, at)
+    }
+
+    /// How many bytes the longest buffer has that it was asked to fill, by a read that was made; 0 where none was.
+    pub fn widest(&self) -> usize
+        ensures { result ≡ shelf_widest self.now }
+    {
+        self.widest
     }
 }
 
 impl Shelf for MemShelf {
-    ghost use Rattle.std.specs.Prelude.{◌≢◌, ◌≤◌, ◌↔◌, ℕ, List, length, Some, IsTrue, true, IfOk};
+    ghost use Rattle.std.specs.Prelude.{◌≢◌, ◌≤◌, ◌↔◌, ℕ, List, length, max, Some, IsTrue, true, IfOk};
     ghost use Rattle.cm_io.specs.Shelf.{ReadsHeld, ReadFaults, CountsOn, OthersStay, reads_made, bytes_given};
     ghost use Rattle.cm_io.specs.Counts.{faults_of, reads_of, taken_of, counts_name, names_of, noted, SameCounts};
     ghost use Rattle.cm_io.specs.Held.{held_files, GivesAll};
     ghost use Rattle.cm_io.specs.Turns.{TakesTurn};
-    ghost use Rattle.cm_io.specs.Memory.{read_fails, shelf_turns, shelf_counts};
+    ghost use Rattle.cm_io.specs.Memory.{read_fails, shelf_turns, shelf_counts, shelf_breaks, shelf_widest};
 
     ghost held = { λ s. Some (held_files s.files) };
 
@@ -70,8 +97,8 @@ impl Shelf for MemShelf {
 
     ghost taken = { λ s name. taken_of s.files.counts name };
 
-    /// Fails where this read is one of those that are to fail, and where no file has the name; else it
-    /// gives as much as there is and fits. A failure changes nothing but the counts.
+    /// Fails where this read is one of those that are to fail, where no file has the name, and where the file is broken
+    /// at this place; else it gives as much as there is and fits. A failure changes nothing but the counts.
     ///
     /// `NoMemory` means that there was no memory to note a name that is neither held nor was read before. Then the read
     /// wasn't made, and nothing changed.
@@ -92,23 +119,28 @@ impl Shelf for MemShelf {
         ensures others { (n : List ℕ) → n ≢ name.now →
             ⟦<MemShelf as Shelf>⟧.faults self.new n ≡ ⟦<MemShelf as Shelf>⟧.faults self.old n }
 
-        // Where it has memory, it fails at its turns and at names that aren't held, and at nothing else; else it gives
-        // all that fits.
+        // Where it has memory, it fails at its turns, at names that aren't held and where a file is broken, and at
+        // nothing else; else it gives all that fits.
         ensures fails { result ≢ Err Outside.NoMemory →
-            (result ≡ Err Outside.Failed) ↔ IsTrue (read_fails self.old name.now) }
+            (result ≡ Err Outside.Failed) ↔ IsTrue (read_fails self.old name.now at) }
         ensures gives { GivesAll (⟦<MemShelf as Shelf>⟧.held self.old) name.now at buf.new result }
         ensures turn { result ≢ Err Outside.NoMemory → TakesTurn (shelf_turns self.old) (shelf_turns self.new) }
         ensures noted { result ≢ Err Outside.NoMemory →
             names_of (shelf_counts self.new) ≡ noted (names_of (shelf_counts self.old)) name.now }
+        ensures widest { result ≢ Err Outside.NoMemory →
+            shelf_widest self.new ≡ max (shelf_widest self.old) (length buf.new) }
+        ensures breaks { shelf_breaks self.new ≡ shelf_breaks self.old }
 
         // It takes memory only for a name that has no counts yet, and then changes nothing: it takes no turn.
         ensures no_want { IsTrue (counts_name (shelf_counts self.old) name.now) → result ≢ Err Outside.NoMemory }
         ensures no_turn { result ≡ Err Outside.NoMemory → shelf_turns self.new ≡ shelf_turns self.old }
+        ensures no_buffer { result ≡ Err Outside.NoMemory → shelf_widest self.new ≡ shelf_widest self.old }
         ensures same { result ≡ Err Outside.NoMemory → SameCounts (shelf_counts self.old) (shelf_counts self.new) }
     {
         self.files.note(name)?;
-        let fails = self.turns.is_due();
+        let fails = self.turns.is_due() || self.breaks.has(name, at);
         self.turns.count();
+        self.widest = self.widest.max(buf.len());
         let read = match self.files.text(name) {
             Some(text) if !fails => Ok(copy_part(text, at, buf)),
             _ => Err(Outside::Failed),

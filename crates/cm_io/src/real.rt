@@ -4,6 +4,7 @@ ghost use Rattle.std.specs.Prelude.{◌≡◌, ◌≢◌, ◌≤◌, ℕ, List, 
 ghost use Rattle.std.specs.Io.KnownBytes.{WriteAppends};
 
 use crate::counts::Counts;
+use crate::streams::Streams;
 use crate::{NoMemory, Outside, Shelf, Sink};
 use std::alloc::Global;
 use std::io::{ErrorKind, Read, Seek, SeekFrom, Write};
@@ -21,13 +22,19 @@ const TRIES: u32 = 1_000_000;
 /// read, a directory. No read takes memory.
 ///
 /// Of the names that were handed to `new`, the file that was read last stays open, and a read that goes on where the
-/// last one ended is a plain read: so a pipe can be read from its front to its end. A read at the place 0 opens the
-/// file anew, and one at another place opens it and moves there.
+/// last one ended is a plain read. A read at the place 0 opens the file anew, and one at another place opens it and
+/// moves there.
+///
+/// A pipe, a FIFO or a terminal can't be moved in, and what is read of it is gone. Such a file is read as far as its
+/// reads follow one another, the first from the place 0 and each from where the one before it ended, with no other file
+/// between them: so it can be read from its front to its end. Any other read of it fails, also under another name, and
+/// so does each under a name that was not handed to `new`.
 #[derive(Drop)]
 pub struct RealShelf<R: Files> {
     files: R,
     tally: Tally,
-    kept: Option<OpenFile<R::File>>,
+    streams: Streams,
+    kept: Option<Kept<R::File>>,
 }
 
 // Counts for some names, and one count of the faults of all others.
@@ -65,12 +72,19 @@ impl Tally {
     }
 }
 
-// An open file, where its name's own counts stand, and the place in it that the next read is from.
+// An open file, and whether it can't be moved in.
 #[derive(Drop)]
-struct OpenFile<F> {
+struct Opened<F> {
+    file: F,
+    is_stream: bool,
+}
+
+// An open file that is kept: where its name's own counts stand, and the place in it that the next read is from.
+#[derive(Drop)]
+struct Kept<F> {
     own: usize,
     place: u64,
-    file: F,
+    opened: Opened<F>,
 }
 
 impl<R: Files + Drop> RealShelf<R> {
@@ -89,6 +103,7 @@ impl<R: Files + Drop> RealShelf<R> {
         ensures reads { IfOk result (λ s. (n : List ℕ) → ⟦<RealShelf<R> as Shelf>⟧.reads s n ≡ 0) }
         ensures taken { IfOk result (λ s. (n : List ℕ) → ⟦<RealShelf<R> as Shelf>⟧.taken s n ≡ 0) }
     {
+        let streams = Streams::none(alloc, names.len())?;
         let names = copies_of(alloc, names)?;
         Ok(RealShelf {
             files,
@@ -96,6 +111,7 @@ impl<R: Files + Drop> RealShelf<R> {
                 counts: Counts::new(alloc, names)?,
                 others: 0,
             },
+            streams,
             kept: None,
         })
     }
@@ -150,10 +166,13 @@ impl<R: Files> Shelf for RealShelf<R> {
             (⟦<RealShelf<R> as Shelf>⟧.reads self.old) (⟦<RealShelf<R> as Shelf>⟧.reads self.new) name.now 1 }
     {
         let own = self.tally.own_place(name);
-        let kept = kept_at(self.kept.take(), own, at);
-        let read = match read_from(&self.files, kept, name, at, buf) {
-            Some((n, file)) => {
-                self.kept = keep(own, at.saturating_add(n as u64), file);
+        let opened = match kept_at(self.kept.take(), own, at) {
+            Some(opened) => Some(opened),
+            None => open_at(&self.files, &mut self.streams, own, name, at),
+        };
+        let read = match read_from(opened, buf) {
+            Some((n, opened)) => {
+                self.kept = keep(own, at.saturating_add(n as u64), opened);
                 Ok(n)
             }
             None => Err(Outside::Failed),
@@ -163,49 +182,55 @@ impl<R: Files> Shelf for RealShelf<R> {
     }
 }
 
-// Reads once, and gives the file back that was read; nothing where that failed.
-fn read_from<R: Files>(
-    files: &R,
-    kept: Option<R::File>,
-    name: &str,
-    at: u64,
+// Reads once, and gives the file back that was read; nothing where there is none, or that failed.
+fn read_from<F: Read + Drop>(
+    opened: Option<Opened<F>>,
     buf: &mut [u8],
-) -> Option<(usize, R::File)>
+) -> Option<(usize, Opened<F>)>
     ensures { IfSome result (λ read. read.0 ≤ length buf.new) }
 {
-    let mut file = match kept {
-        Some(file) => file,
-        None => open_at(files, name, at)?,
-    };
-    let n = read_once(&mut file, buf)?;
-    Some((n, file))
+    let mut opened = opened?;
+    let n = read_once(&mut opened.file, buf)?;
+    Some((n, opened))
 }
 
 // A file that stays open where its name has counts of its own.
-fn keep<F: Drop>(own: Option<usize>, place: u64, file: F) -> Option<OpenFile<F>> {
-    Some(OpenFile {
+fn keep<F: Drop>(own: Option<usize>, place: u64, opened: Opened<F>) -> Option<Kept<F>> {
+    Some(Kept {
         own: own?,
         place,
-        file,
+        opened,
     })
 }
 
-// The kept file where it has this name and stands at this place, which isn't the front.
-fn kept_at<F: Drop>(kept: Option<OpenFile<F>>, own: Option<usize>, at: u64) -> Option<F> {
+// The kept file where it has this name and stands at this place. At the front it is read on only where it can't be
+// opened anew.
+fn kept_at<F: Drop>(kept: Option<Kept<F>>, own: Option<usize>, at: u64) -> Option<Opened<F>> {
     let kept = kept?;
-    if at != 0 && kept.place == at && own == Some(kept.own) {
-        Some(kept.file)
+    if kept.place == at && own == Some(kept.own) && (at != 0 || kept.opened.is_stream) {
+        Some(kept.opened)
     } else {
         None
     }
 }
 
-fn open_at<R: Files>(files: &R, name: &str, at: u64) -> Option<R::File> {
-    let mut file = fs::open(files, name).ok()?;
-    if at != 0 {
-        file.seek(SeekFrom::Start(at)).ok()?;
+// Opens a file and moves in it. One that can't be moved in is opened once, at its front.
+fn open_at<R: Files>(
+    files: &R,
+    streams: &mut Streams,
+    own: Option<usize>,
+    name: &str,
+    at: u64,
+) -> Option<Opened<R::File>> {
+    if own.is_some_and(|own| streams.has(own)) {
+        return None;
     }
-    Some(file)
+    let mut file = fs::open(files, name).ok()?;
+    let is_stream = file.seek(SeekFrom::Start(at)).is_err();
+    if is_stream && (at != 0 || !streams.note(own?, &file)) {
+        return None;
+    }
+    Some(Opened { file, is_stream })
 }
 
 fn read_once<F: Read>(file: &mut F, buf: &mut [u8]) -> Option<usize>

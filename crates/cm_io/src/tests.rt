@@ -2,9 +2,13 @@
 use super::*;
 use crate::held::Held;
 use std::alloc::{AllocError, Global};
+use std::io::{PipeReader, Write};
+use std::os::fd::AsRawFd;
 use std::process::Abort;
 use std::test::Fail;
 use std::{env, fs, io, process};
+
+mod cutting;
 
 const NAMES: [&str; 2] = ["world", "log"];
 
@@ -94,6 +98,26 @@ fn reads_fail_at_their_turns(rt: HostRuntime) -> Result<(), Fail> {
     ] {
         assert!(rt; shelf.read_at(name, 0, &mut buf) == want, "{name}");
     }
+    Ok(())
+}
+
+#[test]
+fn files_are_broken_from_a_place_on(rt: HostRuntime) -> Result<(), Fail> {
+    let mut shelf = mem_shelf(&rt, rt.alloc(), &[])?;
+    assert!(rt; shelf.widest() == 0);
+    shelf.fail_from("world", 4)?;
+    shelf.fail_from("world", 5)?;
+    check_reads(
+        &rt,
+        &mut shelf,
+        &[("world", 3, 3, b"def"), ("log", 4, 4, b"")],
+    );
+    for at in [4, 5, 9] {
+        let got = shelf.read_at("world", at, &mut [0; 8]);
+        assert!(rt; got == Err(Outside::Failed), "{at}");
+    }
+    check_counts(&rt, &shelf.files, "world", Some([3, 4, 3]));
+    assert!(rt; shelf.widest() == 8);
     Ok(())
 }
 
@@ -227,6 +251,34 @@ fn real_files_are_read(rt: HostRuntime) -> Result<(), Fail> {
     check_fault(&rt, &mut shelf, path);
     check_fault(&rt, &mut shelf, "/");
     check_fault(&rt, &mut shelf, "/no/such/file");
+    Ok(())
+}
+
+// A pipe with these bytes, of which no more come.
+fn filled_pipe(rt: &HostRuntime, bytes: &[u8]) -> Result<PipeReader, Fail> {
+    let (end, mut filled) = io::pipe(rt)?;
+    filled.write_all(bytes)?;
+    Ok(end)
+}
+
+// Its end is opened by three paths, of which the last wasn't handed over.
+#[test]
+fn a_pipe_is_read_once(rt: HostRuntime) -> Result<(), Fail> {
+    let alloc = rt.alloc();
+    let end = filled_pipe(&rt, b"abcdef")?;
+    let fd = end.as_raw_fd();
+    let names = vec![in alloc;
+        format!(in alloc; "/proc/self/fd/{fd}")?,
+        format!(in alloc; "/dev/fd/{fd}")?,
+    ]?;
+    let third = format!(in alloc; "/proc/thread-self/fd/{fd}")?;
+    let mut shelf = RealShelf::new(&rt, alloc, &names)?;
+    let (path, other) = (names[0].as_str(), names[1].as_str());
+    check_read(&rt, &mut shelf, path, 0, 2, b"ab");
+    check_read(&rt, &mut shelf, path, 2, 3, b"cde");
+    check_fault(&rt, &mut shelf, other);
+    check_fault(&rt, &mut shelf, path);
+    check_fault(&rt, &mut shelf, third.as_str());
     Ok(())
 }
 

@@ -6,6 +6,7 @@ ghost use Rattle.cm_io.specs.Sink.{then_written, WriteFaults};
 ghost use Rattle.cm_io.specs.Whole.{WholeFaults};
 ghost use Rattle.cm_io.specs.declared.whole.WholeError.TheVariants.{NoMemory as OutOfMemory};
 
+use crate::buffer::{PIECE, zeros};
 use crate::{NoMemory, Outside, Shelf, Sink};
 use std::alloc::{AllocError, Global};
 
@@ -35,9 +36,6 @@ impl From<AllocError> for WholeError {
         WholeError::NoMemory
     }
 }
-
-// The most that is asked for at once.
-const PIECE: usize = 65_536;
 
 /// Writes a whole piece, in as many writes as the sink wants.
 ///
@@ -143,11 +141,4 @@ fn read_more<H: Shelf>(
         Err(Outside::Failed) => Err(WholeError::Read),
         Err(Outside::NoMemory) => Err(WholeError::NoMemory),
     }
-}
-
-// A buffer on the heap.
-fn zeros(alloc: Global, len: usize) -> Result<Vec<u8>, AllocError>
-    ensures { IfOk result (λ bytes. vec_len bytes ≡ len) }
-{
-    vec![in alloc; 0; len]
 }

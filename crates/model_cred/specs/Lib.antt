@@ -8,6 +8,7 @@ pub mod Process
 pub mod Files
 pub mod Attribute
 pub mod Call
+pub mod Made
 pub mod Right
 pub mod World
 pub use Rattle.cm_base.specs.CapSet

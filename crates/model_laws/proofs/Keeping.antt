@@ -195,13 +195,13 @@ keeps_birth s child after true keeps born = born refl
 keeps_birth s child after false keeps born = keeps
 
 -- the result of making a space is that it is done, or an error
-abbrev IsPlain : Res → Type 0
+abbrev pub IsPlain : Res → Type 0
 IsPlain Done = Unit {0}
 IsPlain (Id n) = ⊥
 IsPlain (Child n) = ⊥
 IsPlain (Err e) = Unit {0}
 
-clone_plain : (spaces : Spaces) (at : ℕ) (c : Credential) → IsPlain (clone_user spaces at c)
+pub clone_plain : (spaces : Spaces) (at : ℕ) (c : Credential) → IsPlain (clone_user spaces at c)
 clone_plain spaces at c = plain _ _ tt tt
   where
     plain : (a b : Bool) → IsPlain Done → IsPlain Done

@@ -7,6 +7,7 @@ pub mod Refusals
 pub mod Credentials
 pub mod Trees
 pub mod Keeping
+pub mod MadeSpaces
 pub mod Effects
 pub mod Kin
 pub mod Reaching

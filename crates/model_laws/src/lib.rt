@@ -20,4 +20,4 @@ pub use sentence::{
     exception_gains_own, root_gains_all, root_sets, saved_after_setregid, saved_after_setreuid,
     who_writes_maps,
 };
-pub use step::{error_changes_nothing, one_next_state};
+pub use step::{error_changes_nothing, one_next_state, step_makes_spaces};

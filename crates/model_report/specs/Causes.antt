@@ -37,12 +37,10 @@ pub record Names (words : List (List ℕ)) (bytes : List ℕ → List ℕ) (text
   pub size : length (bytes world) ≤ limit_number limit.World
   pub reads : world_text (bytes world) ≡ text
 
--- The replay begins: the words name the world w and a log, which is within its limit and, in the form that w declares, reads
--- so.
+-- The replay begins: the words name the world w and a log, which reads so in the form that w declares.
 pub record Begins (words : List (List ℕ)) (bytes : List ℕ → List ℕ) (w : World) (reading : Reading) : Type 0 where
   pub log : List ℕ
   pub names : Names words bytes (Reads w) log
-  pub size : length (bytes log) ≤ limit_number limit.Log
   pub reads : log_reading w (bytes log) ≡ reading
 
 -- The replay comes to an end: the log reads as these events, which are a run within the limits from the world's state to s,
@@ -58,7 +56,8 @@ pub record IsAccepted (words : List (List ℕ)) (bytes : List ℕ → List ℕ) 
   pub state : State
   pub comes : ComesTo words bytes world state AtEnd
 
--- The events that the log reads as are a run, and the reading stops so.
+-- The events that the log reads as are a run, and the reading stops so: at the fault of a line, or at a limit. Among these
+-- are the limits of the log's bytes and of a line's, which stop it in their place, after the lines before.
 pub record IsStopped (words : List (List ℕ)) (bytes : List ℕ → List ℕ) (stop : Stop) : Type 0 where
   pub world : World
   pub state : State
@@ -95,11 +94,6 @@ abbrev pub IsLongWorld : List (List ℕ) → (List ℕ → List ℕ) → Type 0
 IsLongWorld words bytes =
     (world : List ℕ) × (more : List (List ℕ × Limited)) × (files_of (command_of words) ≡ (world, limit.World) ∷ more)
     × (limit_number limit.World < length (bytes world))
-
--- the words name a world, and the log is too long
-abbrev pub IsLongLog : List (List ℕ) → (List ℕ → List ℕ) → Type 0
-IsLongLog words bytes =
-    (w : World) × (log : List ℕ) × Names words bytes (Reads w) log × (limit_number limit.Log < length (bytes log))
 
 -- ---- what is asked, in the state after an accepted log
 -- the query's pid is that of a live process, and its right is a right
@@ -221,12 +215,11 @@ AfterLog words bytes Stands =
     (is : IsAccepted words bytes) × Stands (task_of (command_of words) bytes) is.world is.state
 
 -- ---- limits
--- The world or the log is too long; the world's text exceeds a limit; so does the log's, after a run; or a step of it
--- would; the family that is asked about is too large; the certificate or the run is too long; or a line or a step of the run
--- exceeds a limit.
+-- The world is too long; its text exceeds a limit; so does the log, or a line of it, after a run; or a step of it would; the
+-- family that is asked about is too large; the certificate or the run is too long; or a line or a step of the run exceeds a
+-- limit.
 pub data IsLimited (words : List (List ℕ)) (bytes : List ℕ → List ℕ) : Type 0 where
   by_world : IsLongWorld words bytes → IsLimited words bytes
-  by_log : IsLongLog words bytes → IsLimited words bytes
   by_row : (l : Limited) (log : List ℕ) → Names words bytes (Exceeds l) log → IsLimited words bytes
   by_line : (l : Limited) → IsStopped words bytes (Limit l) → IsLimited words bytes
   by_step : (l : Limited) → IsCrowded words bytes l → IsLimited words bytes

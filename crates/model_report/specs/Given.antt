@@ -37,11 +37,10 @@ abbrev pub LogGives : Task → World → Reading → Judged → Type 0
 LogGives task w reading j =
     (s : State) → reading.ending ≡ AtEnd → RunWithin w w.start (events_of reading.events) s → StateGives task w s j
 
--- So it is of the texts of a world and a log, within their limits.
+-- So it is of the texts of a world, within its limit, and a log.
 abbrev pub FilesGive : Task → List ℕ → List ℕ → Judged → Type 0
 FilesGive task world log j =
-    (w : World) → length world ≤ limit_number limit.World → world_text world ≡ Reads w
-    → length log ≤ limit_number limit.Log → LogGives task w (log_reading w log) j
+    (w : World) → length world ≤ limit_number limit.World → world_text world ≡ Reads w → LogGives task w (log_reading w log) j
 
 -- The verdict is that on the family of the process with the least pid, in the last state of a drill.
 abbrev pub DrillGives : Drilled → Judged → Type 0

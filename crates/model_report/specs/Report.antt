@@ -1,5 +1,5 @@
 -- The report: what a command answers and writes, by its words, by the bytes of the files, and by what is judged. A log has a
--- part in it by what it reads as, and by its size. A verdict is a relation, and so is what rows are found to be; no definition
+-- part in it by what it reads as alone. A verdict is a relation, and so is what rows are found to be; no definition
 -- works them out: so they come to the report as values, and `Given` says which of them the words and the files give.
 use Rattle.std.specs.Prelude.{ℕ, codes, decimal, nat_lt, length, Bool, true, false, List, [], ◌∷◌, ◌++◌, map, if◌then◌else◌}
 use Rattle.cm_base.specs.declared.faults.Table.{Table}
@@ -54,21 +54,16 @@ log_report task j w reading =
     go_on replay.status replay (answer task j w (state_after w w.start (events_of reading.events)))
 
 -- ---- the report of a command, over texts
--- the report of a log's text in a world, by what the form that the world declares reads it as
-abbrev pub text_report : Task → Judged → World → List ℕ → Report
-text_report task j w log =
-    if nat_lt (limit_number limit.Log) (length log) then limit_hit limit.Log else log_report task j w (log_reading w log)
-
 -- the line of a fault of a world, with its table and the number of its row
 abbrev pub bad_world_text : Table → ℕ → WorldFault → List ℕ
 bad_world_text table row why =
     codes "bad world " ++ table_name table ++ codes " " ++ decimal row ++ codes ": " ++ world_fault_word why
 
--- the report of a log by what the world's text comes to
+-- The report of a log's text by what the world's text comes to: by what the log reads as in the form that the world declares.
 abbrev pub by_world : Task → Judged → WorldText → List ℕ → Report
 by_world task j (Bad table row why) log = says status.BadWorld (bad_world_text table row why)
 by_world task j (Exceeds l) log = limit_hit l
-by_world task j (Reads w) log = text_report task j w log
+by_world task j (Reads w) log = log_report task j w (log_reading w log)
 
 -- the report of a log by the world's text
 abbrev pub files_report : Task → Judged → List ℕ → List ℕ → Report

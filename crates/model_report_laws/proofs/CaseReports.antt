@@ -6,12 +6,13 @@ use Rattle.model_cred.specs.World.{World}
 use Rattle.model_report.specs.Checked.{Checked, Holds}
 use Rattle.model_report.specs.Judged.{Judged}
 use Rattle.model_report.specs.Replay.{Report, text_of}
-use Rattle.model_report.specs.Report.{report, text_report}
+use Rattle.model_report.specs.Report.{by_world, report}
 use Rattle.model_report.specs.Task.{NoTask}
 use Rattle.model_report.specs.Told.{Told, TellsYes}
 use Rattle.model_text.proofs.PrintCases.{process_100}
 use Rattle.model_text.proofs.ProcessCases.{of_row}
 use Rattle.model_text.proofs.WorldCases.{world_with}
+use Rattle.model_text.specs.WorldText.{Reads}
 
 -- ---- what a report says
 -- what is judged, where nothing is asked
@@ -38,9 +39,13 @@ pub record Says (report : Report) (st : Status) (lines : List (List ℕ)) : Type
 abbrev pub world_of_100 : ℕ → World
 world_of_100 uid = world_with (process_100 uid ∷ [])
 
--- the replay of a script log in a world has this status and these lines
+-- the replay of a log in a world
+abbrev pub replay_in : World → List ℕ → Report
+replay_in w log = by_world NoTask none_judged (Reads w) log
+
+-- it has this status and these lines
 abbrev pub Replays : World → List ℕ → Status → List (List ℕ) → Type 0
-Replays w log st lines = Says (text_report NoTask none_judged w log) st lines
+Replays w log st lines = Says (replay_in w log) st lines
 
 -- ---- whole commands
 -- the words `replay w l`

@@ -1,10 +1,13 @@
 -- What the report of a log says: a run of the events, the state that it reaches, the numbers of lines, and how it ends.
 use Rattle.std.proofs.Common.{◌≡◌, ℕ, Bool, true, false, cond, inl, inr, length, List, [], ◌∷◌, ◌++◌, refl, sym, ◌∙◌, ap, subst, append_assoc, append-nil, All}
-use Rattle.std.proofs.lemmas.List.Elements.{All-nil, All-cons, All-head, All-tail}
+use Rattle.std.proofs.lemmas.List.Elements.{All-nil, All-cons, All-head, All-tail, All-weaker}
 use Rattle.std.specs.Prelude.{codes}
 use Rattle.cm_base.specs.declared.faults.LineFault.{LineFault}
+use Rattle.cm_base.specs.declared.limited.Limited.TheVariants as limit
 use Rattle.cm_base.specs.declared.status.Status.{Status}
 use Rattle.cm_base.specs.declared.status.Status.TheVariants as status
+use Rattle.cm_base.specs.Limited.{limit_number}
+use Rattle.cm_lines.specs.Lines.{lines_of}
 use Rattle.model_cred.specs.Process.{State}
 use Rattle.model_cred.specs.World.{World, LogForm, Script, Strace}
 use Rattle.model_run.specs.Step.{outcome}
@@ -19,18 +22,22 @@ use Rattle.model_report.specs.Command.{command_of, task_of}
 use Rattle.model_report.specs.Given.{Gives}
 use Rattle.model_report.specs.Judged.{Judged}
 use Rattle.model_report_laws.specs.Laws.{AcceptedIsRun, ImpossibleIsNoStep, ReportTellsOfLog, TellsOfLog, EndCountsEvents}
-use Rattle.model_report_laws.specs.Laws.{ImpossibleIsNumbered, BadLogIsNumbered, those_shown}
+use Rattle.model_report_laws.specs.Laws.{ImpossibleIsNumbered, BadLogIsNumbered, LimitIsLast, those_shown}
 use Rattle.model_report_laws.specs.Laws.{FormStandsFor, LineStandsFor, told_in, EndsIn}
-use Rattle.model_report.specs.Replay.{Report, ReportLine, silent, Plain, at_line, bad_log_text, impossible_text, reason, stopped, state_after}
+use Rattle.model_report.specs.Replay.{Report, ReportLine, silent, Plain, at_line, bad_log_text, impossible_text, limit_text, reason, stopped}
+use Rattle.model_report.specs.Replay.{state_after}
 use Rattle.model_report.specs.Report.{report, replay_of, start_lines, shown, shows, go_on}
 use Rattle.model_report.specs.Task.{Task}
+use Rattle.model_run.specs.Within.{RunWithin}
 use Rattle.model_strace.proofs.LineNumbers as strace
 use Rattle.model_strace.specs.LineNumbers as strace_law
 use Rattle.model_strace.specs.Logs.{form_reading, log_reading}
+use Rattle.model_text.proofs.Fronts.{cuts_are_fronts}
 use Rattle.model_text.proofs.Numbers as script
-use Rattle.model_text.specs.Line.{Tells, Faulty}
-use Rattle.model_text.specs.Numbers.{NumbersAreLines}
-use Rattle.model_text.specs.Reading.{Placed, Stop, Fault, Limit, End, AtEnd, Stops, Reading, events_of}
+use Rattle.model_text.specs.Fronts.{CutsAreFronts, IsFrontOf}
+use Rattle.model_text.specs.Line.{Line, Tells, Faulty}
+use Rattle.model_text.specs.Numbers.{NumbersAreLines, StandsFor}
+use Rattle.model_text.specs.Reading.{Placed, Stop, Fault, Limit, End, AtEnd, Stops, Reading, events_of, log_cut}
 
 -- what holds of all holds of the first ones
 all_front : (P : Placed → Type 0) (events later : List Placed) → All P (events ++ later) → All P events
@@ -42,17 +49,40 @@ stop_line : (stop : Stop) → (text : List ℕ) × ((stopped stop).lines ≡ Pla
 stop_line (Fault number why) = (_, refl)
 stop_line (Limit l) = (_, refl)
 
+-- ---- numbers
+-- a line among those that come of a script log is one of its lines
+stands_in_log : (w : World) (log : List ℕ) (number : ℕ) (meaning : Line) → StandsFor w 1 (log_cut log).lines number meaning
+    → StandsFor w 1 (lines_of log) number meaning
+unfolding CutsAreFronts
+stands_in_log w log number meaning stands =
+    let front : IsFrontOf (limit_number limit.Line) (limit_number limit.Log) log (log_cut log)
+    = cuts_are_fronts (limit_number limit.Line) (limit_number limit.Log) log in
+    record {
+      before = stands.before;
+      line = stands.line;
+      later = stands.later ++ front.later;
+      cut =
+          front.front ∙ ap (λ (ls : List (List ℕ)). ls ++ front.later) stands.cut
+          ∙ append_assoc stands.before (stands.line ∷ stands.later) front.later;
+      place = stands.place;
+      means = stands.means;
+    }
+
 -- the number of each event of a log's reading, and of a fault, is that of its line
-record Numbered (form : LogForm) (w : World) (log : List ℕ) : Type 0 where
-  events : All (λ e. FormStandsFor form w log e.line (Tells e.event)) (form_reading form w log).events
-  fault : (number : ℕ) (why : LineFault) → (form_reading form w log).ending ≡ Stops (Fault number why)
+pub record Numbered (form : LogForm) (w : World) (log : List ℕ) : Type 0 where
+  pub events : All (λ e. FormStandsFor form w log e.line (Tells e.event)) (form_reading form w log).events
+  pub fault : (number : ℕ) (why : LineFault) → (form_reading form w log).ending ≡ Stops (Fault number why)
       → FormStandsFor form w log number (Faulty why)
 
-numbered : (form : LogForm) (w : World) (log : List ℕ) → Numbered form w log
+pub numbered : (form : LogForm) (w : World) (log : List ℕ) → Numbered form w log
 unfolding NumbersAreLines strace_law.NumbersAreLines
 numbered Script w log = record {
-  events = (script.numbers_are_lines w log).events;
-  fault = λ number why is. ((script.numbers_are_lines w log).fault number why is).stands;
+  events =
+      All-weaker (λ (e : Placed). StandsFor w 1 (log_cut log).lines e.line (Tells e.event))
+      (λ e. FormStandsFor Script w log e.line (Tells e.event)) (λ e stands. stands_in_log w log e.line (Tells e.event) stands)
+      (form_reading Script w log).events (script.numbers_are_lines w (log_cut log)).events;
+  fault = λ number why is.
+      stands_in_log w log number (Faulty why) ((script.numbers_are_lines w (log_cut log)).fault number why is).stands;
 }
 numbered Strace w log = record { events = (strace.numbers_are_lines w log).events; fault = (strace.numbers_are_lines w log).fault }
 
@@ -143,7 +173,7 @@ module _ (words : List (List ℕ)) (bytes : List ℕ → List ℕ) (j : Judged) 
   plain_next status.Accepted r next plain more = plain_append r.lines next.lines plain more
   plain_next _ r next plain more = plain
 
-  hidden_plain : (w : World) (reading : Reading) → Begins words bytes w reading → shows the_task ≡ false → ArePlain (report words bytes j).lines
+  pub hidden_plain : (w : World) (reading : Reading) → Begins words bytes w reading → shows the_task ≡ false → ArePlain (report words bytes j).lines
   hidden_plain w reading begins hidden =
       let next : Report = answer the_task j w (state_after w w.start (events_of reading.events)) in
       subst (λ (r : Report). ArePlain r.lines) (sym (of_begins words bytes j w reading begins))
@@ -175,13 +205,14 @@ module _ (words : List (List ℕ)) (bytes : List ℕ → List ℕ) (j : Judged) 
 
   -- ---- a log that begins
   -- the report has such lines, of all its events or of the first ones
-  record IsWrittenOf (w : World) (events : List Placed) (lines : List ReportLine) : Type 0 where
-    told : List Placed
-    untold : List Placed
-    order : events ≡ told ++ untold
-    state : State
-    end : List ℕ
-    written : IsWritten w told state end lines
+  pub record IsWrittenOf (w : World) (events : List Placed) (lines : List ReportLine) : Type 0 where
+    pub told : List Placed
+    pub untold : List Placed
+    pub order : events ≡ told ++ untold
+    pub state : State
+    pub within : RunWithin w w.start (events_of told) state
+    pub end : List ℕ
+    pub written : IsWritten w told state end lines
 
   run_written : (w : World) (s : State) (ending : End) (comes : ComesTo words bytes w s ending) → shows the_task ≡ true
       → IsWrittenOf w comes.events (report words bytes j).lines
@@ -190,6 +221,7 @@ module _ (words : List (List ℕ)) (bytes : List ℕ → List ℕ) (j : Judged) 
     untold = [];
     order = sym (append-nil comes.events);
     state = s;
+    within = comes.run;
     end = _;
     written = accepted_written (record { world = w; state = s; comes = comes }) shown_so;
   }
@@ -200,11 +232,12 @@ module _ (words : List (List ℕ)) (bytes : List ℕ → List ℕ) (j : Judged) 
         untold = [];
         order = sym (append-nil comes.events);
         state = s;
+        within = comes.run;
         end = line.0;
         written = stopped_written stop line.0 line.1 (record { world = w; state = s; comes = comes }) shown_so;
       }
 
-  begins_written : (w : World) (reading : Reading) → Begins words bytes w reading → shows the_task ≡ true
+  pub begins_written : (w : World) (reading : Reading) → Begins words bytes w reading → shows the_task ≡ true
       → IsWrittenOf w reading.events (report words bytes j).lines
   begins_written w reading begins shown_so =
       elim (runs_or_breaks w w.start reading.events) [
@@ -217,12 +250,13 @@ module _ (words : List (List ℕ)) (bytes : List ℕ → List ℕ) (j : Judged) 
               untold = breaks.event ∷ breaks.later;
               order = breaks.cut;
               state = breaks.state;
+              within = breaks.run;
               end = line.0;
               written = break_written w reading begins breaks line.0 line.1 shown_so;
             }
       ]
 
-  tells_of_log : (w : World) (reading : Reading) (begins : Begins words bytes w reading) → TellsOfLog w (bytes begins.log) (report words bytes j).lines
+  pub tells_of_log : (w : World) (reading : Reading) (begins : Begins words bytes w reading) → TellsOfLog w (bytes begins.log) (report words bytes j).lines
   tells_of_log w reading begins = by (shows the_task) refl where
     by : (b : Bool) → shows the_task ≡ b → TellsOfLog w (bytes begins.log) (report words bytes j).lines
     by true shown_so =
@@ -346,6 +380,10 @@ impossible_is_numbered words bytes j is =
     all_there : (P : Placed → Type 0) (before : List Placed) (e : Placed) (later : List Placed) → All P (before ++ e ∷ later) → P e
     all_there P [] e later all = All-head P e later all
     all_there P (x ∷ before) e later all = all_there P before e later (All-tail P x (before ++ e ∷ later) all)
+
+pub limit_is_last : LimitIsLast
+unfolding LimitIsLast
+limit_is_last words bytes j l is = stopped_ends words bytes j (Limit l) (limit_text l) refl is
 
 pub bad_log_is_numbered : BadLogIsNumbered
 unfolding BadLogIsNumbered

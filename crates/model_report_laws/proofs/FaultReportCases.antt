@@ -3,9 +3,8 @@
 use Rattle.std.proofs.Common.{ℕ, zero, suc, ◌+◌, List, [], ◌∷◌, ◌++◌, map, refl}
 use Rattle.std.specs.Prelude.{codes, decimal}
 use Rattle.cm_base.specs.declared.status.Status.TheVariants as status
-use Rattle.model_report_laws.proofs.CaseReports.{AllSay, TextReplays, Replays, files, replay_words, none_judged, root_line, world_of_100}
-use Rattle.model_report.specs.Task.{NoTask}
-use Rattle.model_report.specs.Report.{report, text_report}
+use Rattle.model_report_laws.proofs.CaseReports.{AllSay, TextReplays, Replays, files, none_judged, replay_in, replay_words, root_line, world_of_100}
+use Rattle.model_report.specs.Report.{report}
 use Rattle.model_text.proofs.PrintCases.{print_on_literals}
 use Rattle.model_text.proofs.WorldCases.{world_on_literals}
 
@@ -172,7 +171,7 @@ a_world_is_told_before_its_log = record { status = refl; text = refl }
 -- each of these logs in the world of root is told by these words
 abbrev AreBadLogs : List (List ℕ) → List (List ℕ) → Type 0
 AreBadLogs logs words =
-    AllSay (map (text_report NoTask none_judged (world_of_100 0)) logs) status.BadLog
+    AllSay (map (replay_in (world_of_100 0)) logs) status.BadLog
     (map (λ word. root_line ∷ (codes "bad log line " ++ word) ∷ []) words)
 
 pub faults_of_lines : AreBadLogs

@@ -11,6 +11,7 @@ use Rattle.cm_base.specs.declared.status.Status.TheVariants as status
 use Rattle.cm_base.specs.Limited.{limit_number}
 use Rattle.cm_base.specs.declared.limited.Limited.TheVariants as limit
 use Rattle.cm_filter.specs.declared.kind.CallKind.{CallKind}
+use Rattle.cm_lines.specs.declared.limits.Past.{Past}
 use Rattle.model_box.specs.Bounds.{BoxRow}
 use Rattle.model_cert.specs.Document.{certificate}
 use Rattle.model_cert.specs.Fault.{CertFault}
@@ -52,11 +53,11 @@ use Rattle.model_run.specs.Outside.{comes_from_outside}
 use Rattle.model_text.specs.Arguments.{Argument, Form, Pattern, argument_text, argument_token, arguments_of, form_at, pattern_of, spaced_texts, takes}
 use Rattle.model_text.specs.Arguments as argument
 use Rattle.model_text.specs.Print.{credential_line, event_line, event_text, res_text}
-use Rattle.model_text.specs.Cut.{lines_of, tokens_of}
+use Rattle.model_text.specs.Cut.{tokens_of}
 use Rattle.cm_base.specs.declared.faults.LineFault.TheVariants as fault
-use Rattle.model_text.specs.Line.{Line, NoEvent, Exceeds, Parts, Tokens, parts_of, arguments_from, argument_before, call_read, outcome_line, parts_line}
+use Rattle.model_text.specs.Line.{Line, NoEvent, Parts, Tokens, parts_of, arguments_from, argument_before, call_read, outcome_line, parts_line}
 use Rattle.model_text.specs.Line.{kind_line, call_line, pid_line, tokens_line}
-use Rattle.model_text.specs.Reading.{Placed, End, Reading, events_of, from_line, log_line, lines_reading, script_reading}
+use Rattle.model_text.specs.Reading.{Placed, End, Reading, events_of, from_line, line_cut, lines_reading, script_reading}
 use Rattle.model_text.specs.Token.{pid_token, is_comment}
 use Rattle.model_verdict.specs.Verdict.{Verdict, No, Yes, Undecided}
 use Rattle.model_verdict.specs.InWorld.{each_may, VerdictIn}
@@ -298,15 +299,12 @@ tokens_form v form [] = refl
 tokens_form v form (first ∷ tokens) =
     ap (λ (line : Line). if is_comment first then NoEvent else line) (pid_form v form (pid_token first) tokens)
 
-line_form : (v : World) (form : LogForm) (line : List ℕ) → log_line (in_form v form) line ≡ log_line v line
-line_form v form line =
-    ap (λ (told : Line). if nat_lt (limit_number limit.Line) (length line) then Exceeds limit.Line else told) (tokens_form v form (tokens_of line))
-
-lines_form : (v : World) (form : LogForm) (number : ℕ) (lines : List (List ℕ))
-    → lines_reading (in_form v form) number lines ≡ lines_reading v number lines
-lines_form v form number [] = refl
-lines_form v form number (line ∷ lines) =
-    ap₂ (λ (told : Line) (rest : Reading). from_line number told rest) (line_form v form line) (lines_form v form (number + 1) lines)
+lines_form : (v : World) (form : LogForm) (number : ℕ) (lines : List (List ℕ)) (stop : Option Past)
+    → lines_reading (in_form v form) number lines stop ≡ lines_reading v number lines stop
+lines_form v form number [] stop = refl
+lines_form v form number (line ∷ lines) stop =
+    ap₂ (λ (told : Line) (rest : Reading). from_line number told rest) (tokens_form v form (tokens_of line))
+    (lines_form v form (number + 1) lines stop)
 
 -- ---- runs that are put forward
 confirm_turn : (v : World) (form : LogForm) (members : List ℕ) (e : Placed) (rest more : State → Confirmed) → ((s : State) → rest s ≡ more s) → (o : Outcome)
@@ -360,7 +358,7 @@ task_form v form (ToCheck q text) j s members right =
     (certificate_form v form s.spaces j.checked (certificate (length s.spaces) text))
 task_form v form (ToConfirm q text) j s members right =
     ap (λ (x : Confirmed). if nat_lt (limit_number limit.Run) (length text) then limit_hit limit.Run else confirmed_report x)
-    (ap (λ (r : Reading). confirm_of (in_form v form) s members right r) (lines_form v form 1 (lines_of text))
+    (ap (λ (r : Reading). confirm_of (in_form v form) s members right r) (lines_form v form 1 (line_cut text).lines (line_cut text).stop)
     ∙ confirm_form v form s members right (script_reading v text).events (script_reading v text).ending)
 
 right_form : (v : World) (form : LogForm) (task : Task) (j : Judged) (s : State) (p : Process) (right : Right)

@@ -28,7 +28,7 @@ use Rattle.model_report.specs.Given.{StateGives, LogGives, FilesGive, CommandGiv
 use Rattle.model_report.specs.Judged.{Judged}
 use Rattle.model_report.specs.Query.{Query}
 use Rattle.model_report.specs.Replay.{Report, limit_hit, after, stopped}
-use Rattle.model_report.specs.Report.{command_report, drill_report, files_report, text_report, log_report, replay_of, shown, shows}
+use Rattle.model_report.specs.Report.{command_report, drill_report, files_report, log_report, replay_of, shown, shows}
 use Rattle.model_report.specs.Report as report
 use Rattle.model_report.specs.Task.{Task, NoTask, ToJudge, ToCheck, ToConfirm}
 use Rattle.model_report.specs.Told.{Told, TellsYes, IsVerdictOn}
@@ -115,7 +115,7 @@ files_give task world log (Exceeds l) is =
 files_give task world log (Reads w) is =
     let given : (j : Judged) × LogGives task w (log_reading w log) j = log_gives task w (log_reading w log) (start_keeps world w is) in (
       given.0,
-      λ u size reads small.
+      λ u size reads.
           let two : Reads w ≡ Reads u = sym is ∙ reads in
           let same : w ≡ u = cc in
           subst (λ (x : World). LogGives task x (log_reading x log) given.0) same given.1,
@@ -222,22 +222,12 @@ module _ (j other : Judged) where
           same_stop (stopped stop).status stops (stop_is_other stop)
 
   one_by_world : (task : Task) (text : WorldText) (log : List ℕ)
-      → ((w : World) → text ≡ Reads w → length log ≤ limit_number limit.Log → LogGives task w (log_reading w log) j)
-      → ((w : World) → text ≡ Reads w → length log ≤ limit_number limit.Log → LogGives task w (log_reading w log) other)
+      → ((w : World) → text ≡ Reads w → LogGives task w (log_reading w log) j)
+      → ((w : World) → text ≡ Reads w → LogGives task w (log_reading w log) other)
       → report.by_world task j text log ≡ report.by_world task other text log
   one_by_world task (Bad table row why) log gives gives' = refl
   one_by_world task (Exceeds l) log gives gives' = refl
-  one_by_world task (Reads w) log gives gives' = by_length (nat_lt (limit_number limit.Log) (length log)) refl
-    where
-      by_length : (over : Bool) → nat_lt (limit_number limit.Log) (length log) ≡ over → text_report task j w log ≡ text_report task other w log
-      by_length true is =
-          ap (λ (b : Bool). cond b (limit_hit limit.Log) (log_report task j w (log_reading w log))) is
-          ∙ sym (ap (λ (b : Bool). cond b (limit_hit limit.Log) (log_report task other w (log_reading w log))) is)
-      by_length false is =
-          let size : length log ≤ limit_number limit.Log = below_limit (limit_number limit.Log) (length log) is in
-          ap (λ (b : Bool). cond b (limit_hit limit.Log) (log_report task j w (log_reading w log))) is
-          ∙ one_log_report task w (log_reading w log) (gives w refl size) (gives' w refl size)
-          ∙ sym (ap (λ (b : Bool). cond b (limit_hit limit.Log) (log_report task other w (log_reading w log))) is)
+  one_by_world task (Reads w) log gives gives' = one_log_report task w (log_reading w log) (gives w refl) (gives' w refl)
 
   one_files_report : (task : Task) (world log : List ℕ) → FilesGive task world log j → FilesGive task world log other
       → files_report task j world log ≡ files_report task other world log

@@ -5,9 +5,11 @@ pub mod Given
 pub mod Showing
 pub mod Lines
 pub mod LivePids
+pub mod Endings
+pub mod LogLimits
 pub mod LogEvents
 pub mod RunEvents
-pub mod Endings
+pub mod ToldEvents
 pub mod Audits
 pub mod RunLimits
 pub mod Printed

@@ -1,35 +1,38 @@
 -- Worked cases, by computation, of the lines that tell a limit: their words, and that a limit is hit by one past its number
 -- (choice).
-use Rattle.std.proofs.Common.{◌≡◌, ℕ, zero, suc, ◌+◌, List, [], ◌∷◌, ◌++◌, cond, length, map, nat_lt}
-use Rattle.std.proofs.Common.{None, Some, refl, ap}
+use Rattle.std.proofs.Common.{◌≡◌, ℕ, zero, suc, ◌+◌, ◌-◌, min, List, [], ◌∷◌, ◌++◌, cond, length, map, nat_lt}
+use Rattle.std.proofs.Common.{None, Some, refl, sym, ◌∙◌, ap, subst, arith}
 use Rattle.std.specs.Prelude.{codes}
 use Rattle.cm_base.specs.declared.limited.Limited.TheVariants as limit
 use Rattle.cm_base.specs.declared.status.Status.TheVariants as status
 use Rattle.cm_base.specs.Limited.{limit_number}
+use Rattle.cm_lines.specs.Cut.{Cut, cut_by, cut_lines, ends_by, past_of}
+use Rattle.cm_lines.specs.Lines.{lines_of}
+use Rattle.cm_lines.specs.declared.limits.Past.TheVariants.{Line as PastLine, Whole}
 use Rattle.model_cred.specs.Process.{State}
 use Rattle.model_cred.specs.Space.{Spaces, first_spaces}
-use Rattle.model_cred.specs.World.{World}
-use Rattle.model_report_laws.proofs.CaseReports.{AllSay, Replays, TextReplays, none_judged, root_line, user_line, user_ids, of_100}
+use Rattle.model_cred.specs.World.{World, Script}
+use Rattle.model_report_laws.proofs.CaseReports.{AllSay, Replays, Says, TextReplays, none_judged, root_line, user_line, user_ids, of_100}
 use Rattle.model_report_laws.proofs.CaseReports.{line_of, all_sets, world_of_100}
 use Rattle.model_report.specs.Judged.{Judged}
 use Rattle.model_report.specs.Replay.{Report, after, by_outcome, limit_hit, step_lines, unless_exceeded}
-use Rattle.model_report.specs.Task.{Task, NoTask}
-use Rattle.model_report.specs.Report.{by_world, files_report, log_report, text_report}
+use Rattle.model_report.specs.Task.{Task, NoTask, ToCheck}
+use Rattle.model_report.specs.Report.{by_world, files_report, log_report}
 use Rattle.model_run.proofs.Worlds.{new_space}
 use Rattle.model_run.specs.Step.{Goes}
 use Rattle.model_text.proofs.LimitCases.{with_rows}
 use Rattle.model_text.proofs.PrintCases.{print_on_literals, process_100}
 use Rattle.model_text.proofs.WorldCases.{world_on_literals, world_with}
-use Rattle.model_text.specs.Line.{Exceeds, script_line}
-use Rattle.model_text.specs.Reading.{Placed, Limit, Stops, ends_at, from_line, lines_reading}
-use Rattle.model_strace.specs.Logs.{log_reading}
+use Rattle.model_text.specs.Line.{Line, NoEvent, script_line}
+use Rattle.model_text.specs.Reading.{Placed, AtEnd, ends_at, from_line, log_cut}
+use Rattle.model_strace.specs.Logs.{form_of_cut}
 use Rattle.model_text.specs.WorldText.{table_world, text_as, world_text}
 
 pub each_limit_has_its_words : AllSay
     (map limit_hit (limit.World ∷ limit.Log ∷ limit.Line ∷ limit.Processes ∷ limit.Spaces ∷ limit.Mounts ∷ limit.Files
     ∷ limit.Groups ∷ limit.Family ∷ []))
     status.Limit
-    ((codes "limit world 1048576" ∷ []) ∷ (codes "limit log 67108864" ∷ []) ∷ (codes "limit line 1048576" ∷ [])
+    ((codes "limit world 1048576" ∷ []) ∷ (codes "limit log 1099511627776" ∷ []) ∷ (codes "limit line 1048576" ∷ [])
     ∷ (codes "limit processes 4096" ∷ [])
     ∷ (codes "limit spaces 256" ∷ []) ∷ (codes "limit mounts 64" ∷ []) ∷ (codes "limit files 4096" ∷ [])
     ∷ (codes "limit groups 1024" ∷ []) ∷ (codes "limit family 256" ∷ []) ∷ [])
@@ -52,28 +55,80 @@ pub a_world_of_one_byte_more_is_not : (task : Task) (j : Judged) (world log : Li
     → files_report task j world log ≡ limit_hit limit.World
 a_world_of_one_byte_more_is_not task j world log long = by_size task j world log 1048577 long
 
--- the same of a log
-by_log_size : (task : Task) (j : Judged) (w : World) (log : List ℕ) (size : ℕ) → length log ≡ size
-    → text_report task j w log ≡ cond (nat_lt (limit_number limit.Log) size) (limit_hit limit.Log)
-    (log_report task j w (log_reading w log))
-by_log_size task j w log size long =
-    ap (λ (n : ℕ). cond (nat_lt (limit_number limit.Log) n) (limit_hit limit.Log) (log_report task j w (log_reading w log))) long
+-- ---- the limits of a log
+-- what is said of a log of which this comes, in the world of root
+abbrev cut_replay : Task → Cut → Report
+cut_replay task cut = log_report task none_judged (world_of_100 0) (form_of_cut Script (world_of_100 0) cut)
 
-pub a_log_of_as_many_bytes_is_read : (task : Task) (j : Judged) (w : World) (log : List ℕ) → length log ≡ 67108864
-    → text_report task j w log ≡ log_report task j w (log_reading w log)
-a_log_of_as_many_bytes_is_read task j w log long = by_log_size task j w log 67108864 long
+-- what is told of one event
+abbrev one_event : List (List ℕ)
+one_event = root_line ∷ codes "1: 100 setuid 0 = 0" ∷ root_line ∷ []
 
-pub a_log_of_one_byte_more_is_not : (task : Task) (j : Judged) (w : World) (log : List ℕ) → length log ≡ 67108865
-    → text_report task j w log ≡ limit_hit limit.Log
-a_log_of_one_byte_more_is_not task j w log long = by_log_size task j w log 67108865 long
+-- a log whose second line is this
+abbrev with_line : List ℕ → List ℕ
+with_line line = codes "100 setuid 0 = 0\n" ++ line
 
--- a line of one byte more than lines may have stops the reading, whatever it is
-pub a_line_of_one_byte_more_stops_the_reading : (w : World) (number : ℕ) (line : List ℕ) (lines : List (List ℕ))
-    → length line ≡ 1048577
-    → lines_reading w number (line ∷ lines) ≡ ends_at (Stops (Limit limit.Line))
-a_line_of_one_byte_more_stops_the_reading w number line lines long =
-    ap (λ (n : ℕ). from_line number (cond (nat_lt (limit_number limit.Line) n) (Exceeds limit.Line) (script_line w line))
-    (lines_reading w (number + 1) lines)) long
+-- what comes of it, where the line has so many bytes and no LF
+with_line_cut : (line : List ℕ) (size : ℕ) → lines_of line ≡ line ∷ [] → length line ≡ size → (whole : ℕ) → length (with_line line) ≡ whole
+    → log_cut (with_line line) ≡ cut_by (past_of 1048576 1099511627776 0 16 (min 17 (whole - 0))) (codes "100 setuid 0 = 0")
+    (cut_by (past_of 1048576 1099511627776 17 size (min (size + 1) (whole - 17))) line (ends_by None))
+with_line_cut line size one long whole all =
+    ap (λ (ls : List (List ℕ)). cut_lines 1048576 1099511627776 (length (with_line line)) 0 (codes "100 setuid 0 = 0" ∷ ls)) one
+    ∙ ap (λ (n : ℕ). cut_lines 1048576 1099511627776 n 0 (codes "100 setuid 0 = 0" ∷ line ∷ [])) all
+    ∙ ap (λ (n : ℕ). cut_by (past_of 1048576 1099511627776 0 16 (min 17 (whole - 0))) (codes "100 setuid 0 = 0")
+    (cut_by (past_of 1048576 1099511627776 17 n (min (n + 1) (whole - 17))) line (ends_by None))) long
+
+-- a line of as many bytes as lines may have is read; here it tells nothing, as one of `;` alone
+pub a_line_of_as_many_bytes_is_read : (line : List ℕ) → lines_of line ≡ line ∷ [] → length line ≡ 1048576
+    → script_line (world_of_100 0) line ≡ NoEvent
+    → Replays (world_of_100 0) (with_line line) status.Accepted (one_event ++ codes "end 1" ∷ [])
+unfolding print_on_literals
+a_line_of_as_many_bytes_is_read line one long silent =
+    let all : length (with_line line) ≡ 1048593 = omega (arith, long) in
+    subst (λ (cut : Cut). Says (cut_replay NoTask cut) status.Accepted (one_event ++ codes "end 1" ∷ []))
+    (sym (with_line_cut line 1048576 one long 1048593 all))
+    (subst (λ (told : Line). Says (log_report NoTask none_judged (world_of_100 0)
+    (from_line 1 (script_line (world_of_100 0) (codes "100 setuid 0 = 0")) (from_line 2 told (ends_at AtEnd)))) status.Accepted
+    (one_event ++ codes "end 1" ∷ []))
+    (sym silent) (record { status = refl; text = refl }))
+
+-- one of a byte more, whatever it is, is past their limit, which is told in its place: after the lines at the start, and those of
+-- the events before
+pub a_line_of_one_byte_more_is_not : (line : List ℕ) → lines_of line ≡ line ∷ [] → length line ≡ 1048577
+    → Replays (world_of_100 0) (with_line line) status.Limit (one_event ++ codes "limit line 1048576" ∷ [])
+unfolding print_on_literals
+a_line_of_one_byte_more_is_not line one long =
+    let all : length (with_line line) ≡ 1048594 = omega (arith, long) in
+    subst (λ (cut : Cut). Says (cut_replay NoTask cut) status.Limit (one_event ++ codes "limit line 1048576" ∷ []))
+    (sym (with_line_cut line 1048577 one long 1048594 all)) (record { status = refl; text = refl })
+
+-- so is that of a log's bytes; here by the line that comes, and that the next one is past the limit
+pub a_log_of_too_many_bytes : Says
+    (cut_replay NoTask (record { lines = codes "100 setuid 0 = 0" ∷ []; stop = Some Whole })) status.Limit
+    (one_event ++ codes "limit log 1099511627776" ∷ [])
+unfolding print_on_literals
+a_log_of_too_many_bytes = record { status = refl; text = refl }
+
+-- a line with a fault, and an event that is no step, come before a limit behind them
+pub a_fault_before_the_limit : Says
+    (cut_replay NoTask (record { lines = codes "100 setuid 0 = 0" ∷ codes "x" ∷ []; stop = Some PastLine })) status.BadLog
+    (one_event ++ codes "bad log line 2: pid" ∷ [])
+unfolding print_on_literals
+a_fault_before_the_limit = record { status = refl; text = refl }
+
+pub an_impossible_line_before_the_limit : Says
+    (cut_replay NoTask (record { lines = codes "100 setuid 0 = EPERM" ∷ []; stop = Some Whole })) status.Impossible
+    (root_line ∷ codes "impossible line 1: the rules give 0" ∷ [])
+unfolding print_on_literals
+an_impossible_line_before_the_limit = record { status = refl; text = refl }
+
+-- where the replay isn't shown, the limit alone is told, and not a word of the query
+pub a_limit_of_a_log_that_is_not_shown : Says
+    (cut_replay (ToCheck (record { pid = codes "x"; right = codes "x" }) [])
+    (record { lines = codes "100 setuid 0 = 0" ∷ []; stop = Some PastLine })) status.Limit
+    (codes "limit line 1048576" ∷ [])
+unfolding print_on_literals
+a_limit_of_a_log_that_is_not_shown = record { status = refl; text = refl }
 
 -- ---- rows of worlds
 -- so many times this text

@@ -77,7 +77,6 @@ module _ (words other_words : List (List ℕ)) (bytes other : List ℕ → List 
           size = subst (λ (text : List ℕ). length text ≤ limit_number limit.World) (sym same_world) is.comes.begins.names.size;
           reads = ap world_text same_world ∙ is.comes.begins.names.reads;
         };
-        size = subst (λ (text : List ℕ). length text ≤ limit_number limit.Log) (sym same_log) is.comes.begins.size;
         reads = ap (λ (text : List ℕ). log_reading is.world text) same_log ∙ is.comes.begins.reads;
       };
       run = is.comes.run;

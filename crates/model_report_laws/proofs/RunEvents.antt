@@ -366,7 +366,7 @@ found_brief permitted w s members right found has ready is =
     subst (All (IsBrief w)) (sym is.run) (all_at Brief is.before is.after is.plan (subst (All Brief) is.listed all))
 
 -- ---- the state after an accepted log
-within_few : (s : State) → IsWithin s → length s.spaces ≤ limit_number limit.Spaces
+pub within_few : (s : State) → IsWithin s → length s.spaces ≤ limit_number limit.Spaces
 within_few s within =
     let rest = not_some (nat_lt (limit_number limit.Processes) (length s.processes)) limit.Processes _ within in
     let last = not_some (nat_lt (limit_number limit.Spaces) (length s.spaces)) limit.Spaces None rest.1 in

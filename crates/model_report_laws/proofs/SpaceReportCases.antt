@@ -5,12 +5,10 @@ use Rattle.std.specs.Prelude.{codes}
 use Rattle.cm_base.specs.declared.status.Status.TheVariants as status
 use Rattle.model_cred.specs.Space.{Spaces, first_spaces}
 use Rattle.model_cred.specs.World.{World}
-use Rattle.model_report_laws.proofs.CaseReports.{AllSay, Replays, RowReplays, TextReplays, none_judged, world_of_100, root_line}
+use Rattle.model_report_laws.proofs.CaseReports.{AllSay, Replays, RowReplays, TextReplays, replay_in, world_of_100, root_line}
 use Rattle.model_report_laws.proofs.CaseReports.{user_line, user_at, user_ids}
 use Rattle.model_report_laws.proofs.CaseReports.{line_of, of_user, ids_of, sets_of, all, none, kill, all_sets, no_sets}
 use Rattle.model_report_laws.proofs.CaseReports.{no_flags, three_spaces}
-use Rattle.model_report.specs.Task.{NoTask}
-use Rattle.model_report.specs.Report.{text_report}
 use Rattle.model_run.proofs.Worlds.{in_space, ids, space, user}
 use Rattle.model_text.proofs.PrintCases.{print_on_literals}
 use Rattle.model_text.proofs.WorldCases.{world_on_literals, world_with}
@@ -133,7 +131,7 @@ calls_of_no_space =
     ∷ codes "100 write_uid_map #1 0 0 1 = 0\n" ∷ codes "100 write_gid_map #1 = EINVAL\n" ∷ codes "100 write_setgroups #1 deny = 0\n" ∷ []
 
 -- it is told before the rules are asked, whatever the result is
-pub spaces_that_do_not_stand : AllSay (map (text_report NoTask none_judged (world_of_100 0)) calls_of_no_space) status.Impossible
+pub spaces_that_do_not_stand : AllSay (map (replay_in (world_of_100 0)) calls_of_no_space) status.Impossible
     (map (λ _. root_line ∷ codes "impossible line 1: no space" ∷ []) calls_of_no_space)
 unfolding print_on_literals
 spaces_that_do_not_stand = record { statuses = refl; texts = refl }

@@ -1,5 +1,5 @@
 -- Each status comes exactly by its cause.
-use Rattle.std.proofs.Common.{◌≡◌, Some, ℕ, ◌≤◌, inl, inr, Bool, true, false, cond, nat_lt, length, List, []}
+use Rattle.std.proofs.Common.{◌≡◌, Some, ℕ, inl, inr, Bool, true, false, cond, nat_lt, length, List, []}
 use Rattle.std.proofs.Common.{◌∷◌, ◌++◌, refl, sym, ◌∙◌, ap, ap₂, subst}
 use Rattle.cm_base.specs.declared.limited.Limited.{Limited}
 use Rattle.cm_base.specs.declared.limited.Limited.TheVariants as limit
@@ -11,16 +11,16 @@ use Rattle.model_cred.specs.World.{World}
 use Rattle.model_run.specs.Step.{Step}
 use Rattle.model_run.specs.Within.{exceeded}
 use Rattle.model_report.proofs.Replayed.{over_all, over_break, status_of, shown_status, stop_is_other, break_is_other, of_stop, of_end, of_size}
-use Rattle.model_report.proofs.Replayed.{below_limit, above_limit, not_above, is_above}
+use Rattle.model_report.proofs.Replayed.{below_limit, above_limit, is_above}
 use Rattle.model_report.proofs.Replays.{Breaks, Break, no_step, crowds, said, passed_lines, runs_or_breaks}
 use Rattle.model_report.specs.Answer.{answer}
-use Rattle.model_report.specs.Causes.{Names, Begins, ComesTo, IsImpossible, IsStopped, IsCrowded, IsLongWorld, IsLongLog, IsAccepted, Cause}
-use Rattle.model_report.specs.Causes.{IsLimited, by_world, by_log, by_row, by_line, by_step, by_family, by_size, by_run}
+use Rattle.model_report.specs.Causes.{Names, Begins, ComesTo, IsImpossible, IsStopped, IsCrowded, IsLongWorld, IsAccepted, Cause}
+use Rattle.model_report.specs.Causes.{IsLimited, by_world, by_row, by_line, by_step, by_family, by_size, by_run}
 use Rattle.model_report.specs.Command.{Command, Replay, Audit, Check, Confirm, Drill, NoForm, command_of, files_of, query, task_of}
 use Rattle.model_report.specs.Given.{StateGives, LogGives, FilesGive, CommandGives, Gives}
 use Rattle.model_report.specs.Judged.{Judged}
 use Rattle.model_report.specs.Replay.{Report, stopped, limit_hit, after}
-use Rattle.model_report.specs.Report.{report, command_report, drill_report, files_report, text_report, log_report, replay_of, shown, shows}
+use Rattle.model_report.specs.Report.{report, command_report, drill_report, files_report, log_report, replay_of, shown, shows}
 use Rattle.model_report.specs.Report as report
 use Rattle.model_report.specs.Task.{Task, NoTask, ToJudge, ToCheck, ToConfirm}
 use Rattle.model_report_laws.proofs.Answering.{TaskCause, Fits, run_fit, answer_cause, answer_by}
@@ -145,15 +145,9 @@ module _ (words : List (List ℕ)) (bytes : List ℕ → List ℕ) (j : Judged) 
 
 module _ (words : List (List ℕ)) (bytes : List ℕ → List ℕ) (j : Judged) where
   caused_by_log : (log : List ℕ) (w : World) (task : Task) → task_of (command_of words) bytes ≡ task → Names words bytes (Reads w) log
-      → (length (bytes log) ≤ limit_number limit.Log → LogGives task w (log_reading w (bytes log)) j)
-      → (over : Bool) → nat_lt (limit_number limit.Log) (length (bytes log)) ≡ over
-      → Cause words bytes (text_report task j w (bytes log)).status
-  caused_by_log log w task asked names gives true is =
-      rw is (by_log (w, log, names, above_limit (limit_number limit.Log) (length (bytes log)) is))
-  caused_by_log log w task asked names gives false is =
-      let size : length (bytes log) ≤ limit_number limit.Log = below_limit (limit_number limit.Log) (length (bytes log)) is in
-      let begins : Begins words bytes w (log_reading w (bytes log)) = record { log = log; names = names; size = size; reads = refl } in
-      rw is (caused_by_answer words bytes j w task asked (log_reading w (bytes log)) begins (gives size))
+      → LogGives task w (log_reading w (bytes log)) j → Cause words bytes (log_report task j w (log_reading w (bytes log))).status
+  caused_by_log log w task asked names gives =
+      caused_by_answer words bytes j w task asked (log_reading w (bytes log)) (record { log = log; names = names; reads = refl }) gives
 
   caused_by_world : (log : List ℕ) (task : Task) (text : WorldText) → task_of (command_of words) bytes ≡ task
       → (names : Names words bytes text log) → FilesGive task (bytes names.world) (bytes log) j
@@ -161,7 +155,7 @@ module _ (words : List (List ℕ)) (bytes : List ℕ → List ℕ) (j : Judged) 
   caused_by_world log task (Bad table row why) asked names gives = (table, row, why, log, names)
   caused_by_world log task (Exceeds l) asked names gives = by_row l log names
   caused_by_world log task (Reads w) asked names gives =
-      caused_by_log log w task asked names (gives w names.size names.reads) (nat_lt (limit_number limit.Log) (length (bytes log))) refl
+      caused_by_log log w task asked names (gives w names.size names.reads)
 
   caused_by_size : (world log : List ℕ) (more : List (List ℕ × Limited)) (task : Task)
       → files_of (command_of words) ≡ (world, limit.World) ∷ (log, limit.Log) ∷ more
@@ -246,14 +240,14 @@ files_give : (command : Command) (bytes : List ℕ → List ℕ) (j : Judged) (w
     → FilesGive (task_of command bytes) (bytes world) (bytes log) j
 files_give NoForm bytes j world log more is gives = absurd (cc)
 files_give (Drill n) bytes j world log more is gives = absurd (cc)
-files_give (Replay world' log') bytes j world log more is gives = λ w size reads short s ending run. tt
+files_give (Replay world' log') bytes j world log more is gives = λ w size reads s ending run. tt
 files_give (Audit world' log' pid right) bytes j world log more is gives =
     subst (λ (m : List ℕ). FilesGive (ToJudge (query pid right)) (bytes m) (bytes log) j) (first_of is)
     (subst (λ (n : List ℕ). FilesGive (ToJudge (query pid right)) (bytes world') (bytes n) j) (second_of is) gives)
 files_give (Check world' log' pid right text) bytes j world log more is gives =
     subst (λ (m : List ℕ). FilesGive (ToCheck (query pid right) (bytes text)) (bytes m) (bytes log) j) (first_of is)
     (subst (λ (n : List ℕ). FilesGive (ToCheck (query pid right) (bytes text)) (bytes world') (bytes n) j) (second_of is) gives)
-files_give (Confirm world' log' pid right text) bytes j world log more is gives = λ w size reads short s ending run. tt
+files_give (Confirm world' log' pid right text) bytes j world log more is gives = λ w size reads s ending run. tt
 
 -- the report where the words name a world and a log
 of_names : (words : List (List ℕ)) (bytes : List ℕ → List ℕ) (j : Judged) (text : WorldText) (log : List ℕ) → Names words bytes text log
@@ -267,11 +261,8 @@ of_names words bytes j text log names =
 pub of_begins : (words : List (List ℕ)) (bytes : List ℕ → List ℕ) (j : Judged) (w : World) (reading : Reading) → Begins words bytes w reading
     → report words bytes j ≡ log_report (task_of (command_of words) bytes) j w reading
 of_begins words bytes j w reading begins =
-    let told : Reading → Report = λ r. log_report (task_of (command_of words) bytes) j w r in
     of_names words bytes j (Reads w) begins.log begins.names
-    ∙ ap (λ (over : Bool). cond over (limit_hit limit.Log) (told (log_reading w (bytes begins.log))))
-    (not_above (limit_number limit.Log) (length (bytes begins.log)) begins.size)
-    ∙ ap told begins.reads
+    ∙ ap (λ (r : Reading). log_report (task_of (command_of words) bytes) j w r) begins.reads
 
 -- and what the words and the files give then
 pub gives_in : (words : List (List ℕ)) (bytes : List ℕ → List ℕ) (j : Judged) (w : World) (reading : Reading) → Begins words bytes w reading
@@ -279,7 +270,7 @@ pub gives_in : (words : List (List ℕ)) (bytes : List ℕ → List ℕ) (j : Ju
 gives_in words bytes j w reading begins gives =
     subst (λ (r : Reading). LogGives (task_of (command_of words) bytes) w r j) begins.reads
     (files_give (command_of words) bytes j begins.names.world begins.log begins.names.more begins.names.command gives
-    w begins.names.size begins.names.reads begins.size)
+    w begins.names.size begins.names.reads)
 
 -- ---- the report of a log that begins, by how its replay ends
 module _ (words : List (List ℕ)) (bytes : List ℕ → List ℕ) (j : Judged) where
@@ -364,12 +355,6 @@ module _ (words : List (List ℕ)) (bytes : List ℕ → List ℕ) (j : Judged) 
       status_of (report words bytes j) _ there.1
       ∙ ap (λ (b : Bool). (cond b (limit_hit limit.World) rest).status) (is_above (limit_number limit.World) (length (bytes world)) over)
 
-  by_long_log : IsLongLog words bytes → (report words bytes j).status ≡ status.Limit
-  by_long_log (w, log, names, over) =
-      let rest : Report = log_report the_task j w (log_reading w (bytes log)) in
-      status_of (report words bytes j) _ (of_names words bytes j (Reads w) log names)
-      ∙ ap (λ (b : Bool). (cond b (limit_hit limit.Log) rest).status) (is_above (limit_number limit.Log) (length (bytes log)) over)
-
   -- ---- the status whose cause holds, with what is given
   module _ (gives : Gives words bytes j) where
     -- what is given is what is asked after the log
@@ -383,7 +368,6 @@ module _ (words : List (List ℕ)) (bytes : List ℕ → List ℕ) (j : Judged) 
 
     by_limit : IsLimited words bytes → (report words bytes j).status ≡ status.Limit
     by_limit (by_world long) = by_long_world long
-    by_limit (by_log long) = by_long_log long
     by_limit (by_row l log names) = status_of (report words bytes j) _ (of_names words bytes j (Exceeds l) log names)
     by_limit (by_line l is) = by_stop (Limit l) is
     by_limit (by_step l is) = by_crowded l is

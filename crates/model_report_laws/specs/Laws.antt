@@ -1,26 +1,31 @@
 -- What is proved of the report as a whole.
-use Rattle.std.specs.Prelude.{◌≡◌, ◌↔◌, ◌⊎◌, ℕ, ◌==◌, codes, IsTrue, length, List, [], ◌∷◌, ◌++◌, Option, Some, None, IsSomeAnd, All, if◌then◌else◌}
+use Rattle.std.specs.Prelude.{◌≡◌, ◌≤◌, ◌<◌, ◌^◌, ◌↔◌, ◌⊎◌, ℕ, ◌==◌, codes, IsTrue, length, List, [], ◌∷◌, ◌++◌}
+use Rattle.std.specs.Prelude.{Option, Some, None, IsSomeAnd, All, Any, if◌then◌else◌}
 use Rattle.std.specs.Option.{option_or}
 use Rattle.cm_base.specs.declared.faults.LineFault.{LineFault}
+use Rattle.cm_base.specs.declared.limited.Limited.{Limited}
+use Rattle.cm_base.specs.declared.limited.Limited.TheVariants as limit
 use Rattle.cm_base.specs.declared.status.Status.{Status}
 use Rattle.cm_base.specs.declared.status.Status.TheVariants as status
+use Rattle.cm_base.specs.Limited.{limit_number}
 use Rattle.model_cred.specs.Process.{Process, State, process_at}
 use Rattle.model_cred.specs.World.{World, LogForm, Script, Strace}
 use Rattle.model_report.specs.Causes.{Begins, Cause, IsAccepted, IsDrill, IsImpossible, IsStopped}
 use Rattle.model_report.specs.Command.{Command, Replay, Audit, Check, Confirm, Drill, NoForm, command_of, task_of}
 use Rattle.model_report.specs.Given.{Gives}
 use Rattle.model_report.specs.Judged.{Judged}
-use Rattle.model_report.specs.Replay.{Report, ReportLine, Credentials, Told, Plain, at_line, bad_log_text, impossible_text, reason, text_of}
+use Rattle.model_report.specs.Replay.{Report, ReportLine, Credentials, Told, Plain, at_line, bad_log_text, impossible_text, limit_text, reason}
+use Rattle.model_report.specs.Replay.{text_of}
 use Rattle.model_report.specs.Report.{report, log_report, shows}
 use Rattle.model_report.specs.Task.{Task}
 use Rattle.model_run.specs.Step.{Step, Run, outcome}
 use Rattle.model_strace.specs.LineNumbers as strace
 use Rattle.model_strace.specs.Logs.{log_reading}
-use Rattle.model_text.specs.Cut.{lines_of}
+use Rattle.cm_lines.specs.Lines.{lines_of}
 use Rattle.model_text.specs.Line.{Line, Tells, Faulty, script_line}
 use Rattle.model_text.specs.Numbers.{StandsFor}
 use Rattle.model_text.specs.Print.{event_text}
-use Rattle.model_text.specs.Reading.{Placed, Fault, Reading, events_of}
+use Rattle.model_text.specs.Reading.{Placed, Fault, Limit, Reading, events_of}
 
 -- There is something judged that the words and the files give, whatever they are.
 unfoldable pub JudgedIsGiven : Type 0
@@ -169,12 +174,40 @@ BadLogIsNumbered =
     → EndsIn (report words bytes j).lines (those_shown words bytes is.comes.events) (bad_log_text number why) []
     × LineStandsFor is.world (bytes is.comes.begins.log) number (Faulty why)
 
--- What is written of an event of the log, whatever form that has, is read as a line of a script that tells the event. So it
--- is with each that the report tells, after the number of its line.
+-- What is written of an event of the log, whatever form that has, is read as a line of a script that tells the event: so it
+-- is with each event of a log that has fewer than 2 ^ 31 lines.
 unfoldable pub EventsReadBack : Type 0
 EventsReadBack = (words : List (List ℕ)) (bytes : List ℕ → List ℕ) (w : World) (reading : Reading)
-    → Begins words bytes w reading
+    → (begins : Begins words bytes w reading) → length (lines_of (bytes begins.log)) < 2 ^ 31
     → All (λ e. script_line w (event_text w e.event) ≡ Tells e.event) reading.events
+
+-- So it is with each event that a report tells, after the number of its line, however many lines the log has.
+unfoldable pub ToldEventsReadBack : Type 0
+ToldEventsReadBack = (words : List (List ℕ)) (bytes : List ℕ → List ℕ) (j : Judged) (w : World) (reading : Reading)
+    → Begins words bytes w reading
+    → All (λ e. script_line w (event_text w e.event) ≡ Tells e.event) (told_in (report words bytes j).lines)
+
+-- ---- the limits of a log
+-- Where the reading stops at a limit, the line that tells it is the last, and the events before it are told before where the
+-- replay is shown.
+unfoldable pub LimitIsLast : Type 0
+LimitIsLast =
+    (words : List (List ℕ)) (bytes : List ℕ → List ℕ) (j : Judged) (l : Limited) (is : IsStopped words bytes (Limit l))
+    → EndsIn (report words bytes j).lines (those_shown words bytes is.comes.events) (limit_text l) []
+
+-- The limit of a log's bytes stops a reading only where the log has more of them; that of a line's bytes, only where one of the
+-- log's lines has more.
+unfoldable pub LogLimitsAreExceeded : Type 0
+LogLimitsAreExceeded = (words : List (List ℕ)) (bytes : List ℕ → List ℕ)
+    → ((is : IsStopped words bytes (Limit limit.Log)) → limit_number limit.Log < length (bytes is.comes.begins.log))
+    × ((is : IsStopped words bytes (Limit limit.Line))
+    → Any (λ line. limit_number limit.Line < length line) (lines_of (bytes is.comes.begins.log)))
+
+-- An accepted log is within both.
+unfoldable pub AcceptedIsWithin : Type 0
+AcceptedIsWithin = (words : List (List ℕ)) (bytes : List ℕ → List ℕ) (is : IsAccepted words bytes)
+    → (length (bytes is.comes.begins.log) ≤ limit_number limit.Log)
+    × All (λ line. length line ≤ limit_number limit.Line) (lines_of (bytes is.comes.begins.log))
 
 -- ---- readings
 -- The reports have the same status and the same text.

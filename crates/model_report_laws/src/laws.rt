@@ -1,9 +1,10 @@
 // The laws of reports. Each function does nothing: its contract is the law, which the check proves.
 ghost use Rattle.model_report_laws.specs.Answers.{ConfirmedIsRun, NoIsRun, PrintedCertificateHolds, PrintedRunIsConfirmed, RefusedIsNoRun, RunReadsBack};
 ghost use Rattle.model_report_laws.specs.Answers.{SettledIsDecided, UndecidedIsOpen, YesIsNever, YesPrintsLeast};
-ghost use Rattle.model_report_laws.specs.Laws.{AcceptedIsRun, BadLogIsNumbered, EachByItsCause, EndCountsEvents, EventsReadBack, ImpossibleIsNoStep};
-ghost use Rattle.model_report_laws.specs.Laws.{ImpossibleIsNumbered, JudgedIsGiven, ReportIsOne, ReportTellsOfLog, SameLogsSameReport};
-ghost use Rattle.model_report_laws.specs.Laws.{SameReadingSameReport, ValidIsAnswered};
+ghost use Rattle.model_report_laws.specs.Laws.{AcceptedIsRun, AcceptedIsWithin, BadLogIsNumbered, EachByItsCause, EndCountsEvents};
+ghost use Rattle.model_report_laws.specs.Laws.{EventsReadBack, ImpossibleIsNoStep, ImpossibleIsNumbered, JudgedIsGiven, LimitIsLast};
+ghost use Rattle.model_report_laws.specs.Laws.{LogLimitsAreExceeded, ReportIsOne, ReportTellsOfLog, SameLogsSameReport};
+ghost use Rattle.model_report_laws.specs.Laws.{SameReadingSameReport, ToldEventsReadBack, ValidIsAnswered};
 
 /// There is something judged that the words and the files give, whatever they are: a verdict with its bounds as rows, and
 /// what the rows of a certificate are found to be.
@@ -70,6 +71,24 @@ pub fn bad_log_is_numbered()
     ensures { BadLogIsNumbered }
 {}
 
+/// Where the reading stops at a limit, the line that tells it is the last, after the events before it where they are shown.
+#[tactic(auto, using(crate::proofs::Endings::limit_is_last))]
+pub fn limit_is_last()
+    ensures { LimitIsLast }
+{}
+
+/// The limit of a log's bytes, or of a line's, stops a reading only where it is exceeded.
+#[tactic(auto, using(crate::proofs::LogLimits::log_limits_are_exceeded))]
+pub fn log_limits_are_exceeded()
+    ensures { LogLimitsAreExceeded }
+{}
+
+/// An accepted log is within both.
+#[tactic(auto, using(crate::proofs::LogLimits::accepted_is_within))]
+pub fn accepted_is_within()
+    ensures { AcceptedIsWithin }
+{}
+
 /// Readings that are the same have one report, whatever form of log the worlds declare.
 #[tactic(auto, using(crate::proofs::SameLogs::same_reading_same_report))]
 pub fn same_reading_same_report()
@@ -82,10 +101,16 @@ pub fn same_logs_same_report()
     ensures { SameLogsSameReport }
 {}
 
-/// What is written of events is read again as they are.
+/// What is written of the events of a log, which has fewer than 2^31 lines, is read again as they are.
 #[tactic(auto, using(crate::proofs::LogEvents::events_read_back))]
 pub fn events_read_back()
     ensures { EventsReadBack }
+{}
+
+/// So are the events that a report tells, however many lines the log has.
+#[tactic(auto, using(crate::proofs::ToldEvents::told_events_read_back))]
+pub fn told_events_read_back()
+    ensures { ToldEventsReadBack }
 {}
 
 /// So is the run of an audit's no.

@@ -1,18 +1,21 @@
 -- A session tells no more events than it holds lines and others come: each line is read once, and gives at most one.
 use Rattle.std.proofs.Common.{◌≡◌, ◌≤◌, ℕ, zero, suc, ◌+◌, ◌==◌, Bool, true, false, List, [], ◌∷◌, ◌++◌, length, find, Option}
-use Rattle.std.proofs.Common.{Some, None, refl, cond, length-append, arith}
+use Rattle.std.proofs.Common.{Some, None, refl, cond, length-append, arith, inl, inr}
+use Rattle.std.proofs.lemmas.Bool.{cases_lt, le-ltb}
 use Rattle.std.specs.Prelude.{nat_lt, if◌then◌else◌}
 use Rattle.cm_base.specs.declared.limited.Limited.TheVariants as limit
 use Rattle.cm_base.specs.Limited.{limit_number}
+use Rattle.cm_lines.specs.declared.limits.Past.{Past}
 use Rattle.model_cred.specs.World.{World}
 use Rattle.model_strace.proofs.HeldLines.{next_found}
 use Rattle.model_strace.specs.After.{After, Goes, Halts, preceded, and_then}
-use Rattle.model_strace.specs.Body.{PidLine, Blank, TooLong, NoPid, Of, row_of}
-use Rattle.model_strace.specs.Counts.{EventsWithinLines, LinesAreCounted, EndsAreNotCounted}
+use Rattle.model_strace.specs.Body.{PidLine, Blank, NoPid, Of, row_of}
+use Rattle.model_strace.specs.Counts.{EventsWithinLines, EventsOfLine, EventsOfEnd, HeldIsLimited, LinesAreCounted}
+use Rattle.model_strace.specs.Counts.{EndsAreNotCounted, held_count}
 use Rattle.model_strace.specs.Lines.{Line, Read, Next, is_line_of, given_at, read_line, next_line, at_end, at_end_turn, ended}
 use Rattle.model_strace.specs.Parts.{Parts, is_known, without_any_kept}
 use Rattle.model_strace.specs.Rest.{Work, Going, Stopped, Finished, without_first, then_released, released, read_fed}
-use Rattle.model_strace.specs.Rest.{held_fed, line_fed, row_fed, fed_by, all_fed, work_end}
+use Rattle.model_strace.specs.Rest.{held_fed, line_fed, row_fed, fed, all_fed, work_end, work_ended, answer_of}
 use Rattle.model_strace.specs.Rest.{lines_fed, session_of, session_ended, after_line}
 use Rattle.model_strace.specs.Turn.{Turn, Quiet, Gives, Refused, Exceeds, turn}
 use Rattle.model_text.specs.Reading.{Placed, Limit, End, AtEnd, Stops, Reading}
@@ -129,17 +132,19 @@ line_within w l t =
 
 row_within : (w : World) (row : PidLine) (t : Work) → Within holds (1 + length t.held) (row_fed w row t)
 row_within w Blank t = omega arith
-row_within w TooLong t = omega arith
 row_within w NoPid t = omega arith
 row_within w (Of pid body) t = line_within w (record { number = t.count; pid = pid; body = body }) t
 
-all_within : (cut : List ℕ → PidLine) (w : World) (lines : List (List ℕ)) (t : Work) → Within holds (length t.held + length lines) (all_fed cut w lines t)
-all_within cut w [] t = omega arith
-all_within cut w (line ∷ lines) t =
+fed_within : (w : World) (line : List ℕ) (t : Work) → Within holds (1 + length t.held) (fed w line t)
+fed_within w line t = row_within w (row_of line) (record t { count = t.count + 1 })
+
+all_within : (w : World) (lines : List (List ℕ)) (t : Work) → Within holds (length t.held + length lines) (all_fed w lines t)
+all_within w [] t = omega arith
+all_within w (line ∷ lines) t =
     within_more holds ((1 + length t.held) + length lines) (length t.held + suc (length lines))
-    (and_then (fed_by cut w line t) (λ t'. all_fed cut w lines t')) (omega arith)
-    (within_then holds holds (1 + length t.held) (length lines) (fed_by cut w line t) (λ t'. all_fed cut w lines t')
-    (row_within w (cut line) (record t { count = t.count + 1 })) (λ t'. all_within cut w lines t'))
+    (and_then (fed w line t) (λ t'. all_fed w lines t')) (omega arith)
+    (within_then holds holds (1 + length t.held) (length lines) (fed w line t) (λ t'. all_fed w lines t')
+    (fed_within w line t) (λ t'. all_within w lines t'))
 
 -- ---- the log's end
 end_turn_once : (number : ℕ) (t : Turn) (more : ℕ) (later : Parts → Reading) → ((p : Parts) → length (later p).events ≤ more)
@@ -154,19 +159,101 @@ end_within w [] p = omega arith
 end_within w (l ∷ lines) p =
     end_turn_once l.number (turn w l.pid l.body p) (length lines) (λ p'. at_end w lines p') (λ p'. end_within w lines p')
 
-ended_within : (w : World) (most : ℕ) (a : After Work) → Within holds most a → length (ended (work_end w) a).events ≤ most
-ended_within w most (Goes es t) is =
-    let long : length (es ++ (work_end w t).events) ≡ length es + length (work_end w t).events = length-append es (work_end w t).events in
-    let end : length (work_end w t).events ≤ length t.held = end_within w t.held (without_any_kept t.parts) in
+-- at a limit it tells none
+stop_within : (w : World) (stop : Option Past) (t : Work) → length (work_ended w stop t).events ≤ length t.held
+stop_within w None t = end_within w t.held (without_any_kept t.parts)
+stop_within w (Some past) t = omega arith
+
+ended_within : (w : World) (stop : Option Past) (most : ℕ) (a : After Work) → Within holds most a → length (ended (work_ended w stop) a).events ≤ most
+ended_within w stop most (Goes es t) is =
+    let long : length (es ++ (work_ended w stop t).events) ≡ length es + length (work_ended w stop t).events =
+    length-append es (work_ended w stop t).events in
+    let end : length (work_ended w stop t).events ≤ length t.held = stop_within w stop t in
     let fits : length es + length t.held ≤ most = is in
     omega (arith, long, end, fits)
-ended_within w most (Halts es stop) is = is
+ended_within w stop most (Halts es other) is = is
 
 pub events_within_lines : EventsWithinLines
 unfolding EventsWithinLines
-events_within_lines cut w (Going t) lines = ended_within w (length t.held + length lines) (all_fed cut w lines t) (all_within cut w lines t)
-events_within_lines cut w (Stopped count stop) lines = omega arith
-events_within_lines cut w (Finished count) lines = omega arith
+events_within_lines w (Going t) cut =
+    ended_within w cut.stop (length t.held + length cut.lines) (all_fed w cut.lines t) (all_within w cut.lines t)
+events_within_lines w (Stopped count stop) cut = omega arith
+events_within_lines w (Finished count) cut = omega arith
+
+-- ---- one line, and the end
+answer_within : (most count : ℕ) (a : After Work) → Within holds most a → length (answer_of a).events + held_count (session_of count a) ≤ most
+answer_within most count (Goes es t) is = is
+answer_within most count (Halts es stop) is = let fits : length es ≤ most = is in omega (arith, fits)
+
+pub events_of_line : EventsOfLine
+unfolding EventsOfLine
+events_of_line w (Going t) line =
+    let fits : length (answer_of (fed w line t)).events + held_count (session_of (t.count + 1) (fed w line t)) ≤ 1 + length t.held =
+    answer_within (1 + length t.held) (t.count + 1) (fed w line t) (fed_within w line t) in
+    omega (arith, fits)
+events_of_line w (Stopped count stop) line = omega arith
+events_of_line w (Finished count) line = omega arith
+
+pub events_of_end : EventsOfEnd
+unfolding EventsOfEnd
+events_of_end w (Going t) = end_within w t.held (without_any_kept t.parts)
+events_of_end w (Stopped count stop) = omega arith
+events_of_end w (Finished count) = omega arith
+
+-- ---- how many are held
+-- where it goes on, it holds no more than this
+abbrev HoldsFew : ℕ → After Work → Type 0
+HoldsFew most (Goes es t) = length t.held ≤ most
+HoldsFew most (Halts es stop) = Unit {0}
+
+few_then : (most : ℕ) (a : After Read) (next : Read → After Work) → ((r : Read) → HoldsFew most (next r)) → HoldsFew most (and_then a next)
+few_then most (Goes es r) next each = few_preceded (next r) (each r)
+  where
+    few_preceded : (a : After Work) → HoldsFew most a → HoldsFew most (preceded es a)
+    few_preceded (Goes fs t) few = few
+    few_preceded (Halts fs stop) few = tt
+few_then most (Halts es stop) next each = tt
+
+few_of_within : (most : ℕ) (a : After Work) → Within holds most a → HoldsFew most a
+few_of_within most (Goes es t) is = let fits : length es + length t.held ≤ most = is in omega (arith, fits)
+few_of_within most (Halts es stop) is = tt
+
+hold_few : (l : Line) (t : Work) → HoldsFew (limit_number limit.Held) (held_fed l t)
+hold_few l t = elim (cases_lt (limit_number limit.Held) (length (t.held ++ l ∷ []))) [
+  | inl over ↦ let past : nat_lt (limit_number limit.Held) (length (t.held ++ l ∷ [])) ≡ true = grind (arith, over) in rw past tt
+  | inr few ↦ rw (le-ltb (limit_number limit.Held) (length (t.held ++ l ∷ [])) few) few
+]
+
+line_few : (w : World) (l : Line) (t : Work) → length t.held ≤ limit_number limit.Held → HoldsFew (limit_number limit.Held) (line_fed w l t)
+line_few w l t few =
+    elim (is_known l.pid t.parts) as (λ (b : Bool). HoldsFew (limit_number limit.Held) (if b then read_fed w l t else held_fed l t)) [
+      | true ↦ few_then (limit_number limit.Held) (read_line w l t.parts)
+          (λ r. released w (length t.held) r.born (record t { parts = r.parts }))
+          (λ r. few_more (length t.held) (released w (length t.held) r.born (record t { parts = r.parts })) few
+          (few_of_within (length t.held) (released w (length t.held) r.born (record t { parts = r.parts }))
+          (released_within w (length t.held) r.born (record t { parts = r.parts }))))
+      | false ↦ hold_few l t
+    ]
+  where
+    few_more : (n : ℕ) (a : After Work) → n ≤ limit_number limit.Held → HoldsFew n a → HoldsFew (limit_number limit.Held) a
+    few_more n (Goes es t) up is = let fits : length t.held ≤ n = is in omega (arith, fits, up)
+    few_more n (Halts es stop) up is = tt
+
+row_few : (w : World) (row : PidLine) (t : Work) → length t.held ≤ limit_number limit.Held → HoldsFew (limit_number limit.Held) (row_fed w row t)
+row_few w Blank t few = few
+row_few w NoPid t few = tt
+row_few w (Of pid body) t few = line_few w (record { number = t.count; pid = pid; body = body }) t few
+
+session_few : (count : ℕ) (a : After Work) → HoldsFew (limit_number limit.Held) a → held_count (session_of count a) ≤ limit_number limit.Held
+session_few count (Goes es t) few = few
+session_few count (Halts es stop) few = omega arith
+
+pub held_is_limited : HeldIsLimited
+unfolding HeldIsLimited
+held_is_limited w (Going t) line few =
+    session_few (t.count + 1) (fed w line t) (row_few w (row_of line) (record t { count = t.count + 1 }) few)
+held_is_limited w (Stopped count stop) line few = omega arith
+held_is_limited w (Finished count) line few = omega arith
 
 -- ---- how many lines are counted
 -- where it goes on, it has counted so many
@@ -214,7 +301,6 @@ line_counted w l t =
 
 row_counted : (w : World) (row : PidLine) (t : Work) → Counted t.count (row_fed w row t)
 row_counted w Blank t = refl
-row_counted w TooLong t = tt
 row_counted w NoPid t = tt
 row_counted w (Of pid body) t = line_counted w (record { number = t.count; pid = pid; body = body }) t
 
@@ -225,7 +311,7 @@ session_counted n (Halts es stop) is = refl
 -- the line is counted
 pub line_is_counted : (w : World) (t : Work) (line : List ℕ) → lines_fed (after_line w (Going t) line) ≡ t.count + 1
 line_is_counted w t line =
-    session_counted (t.count + 1) (fed_by row_of w line t) (row_counted w (row_of line) (record t { count = t.count + 1 }))
+    session_counted (t.count + 1) (fed w line t) (row_counted w (row_of line) (record t { count = t.count + 1 }))
 
 pub lines_are_counted : LinesAreCounted
 unfolding LinesAreCounted

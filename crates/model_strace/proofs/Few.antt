@@ -1,41 +1,34 @@
--- A log reads as no more events than it has bytes.
-use Rattle.std.proofs.Common.{◌≡◌, ◌≤◌, ℕ, suc, ◌+◌, ◌==◌, Bool, true, false, List, [], ◌∷◌, length, ap, cond, arith}
+-- A log reads as no more events than it has lines.
+use Rattle.std.proofs.Common.{◌≡◌, ◌≤◌, ℕ, ◌+◌, ◌++◌, List, length, length-append, ap, arith}
+use Rattle.cm_base.specs.Limited.{limit_number}
+use Rattle.cm_base.specs.declared.limited.Limited.TheVariants as limit
+use Rattle.cm_lines.specs.Cut.{Cut}
+use Rattle.cm_lines.specs.Lines.{lines_of}
 use Rattle.model_cred.specs.World.{World}
 use Rattle.model_strace.proofs.Counts.{events_within_lines}
-use Rattle.model_strace.proofs.RestLaws.{begins_with_reading_by}
-use Rattle.model_strace.specs.Body.{log_row}
+use Rattle.model_strace.proofs.RestLaws.{begins_with_reading}
 use Rattle.model_strace.specs.Counts.{EventsWithinLines}
-use Rattle.model_strace.specs.Lines.{strace_reading}
-use Rattle.model_strace.specs.Rest.{BeginsWithReadingBy, first_session, rest_by}
-use Rattle.model_text.specs.Cut.{grown, lines_of}
-use Rattle.model_text.specs.Reading.{Reading}
+use Rattle.model_strace.specs.Lines.{strace_of_cut, strace_reading}
+use Rattle.model_strace.specs.Rest.{BeginsWithReading, first_session, rest}
+use Rattle.model_text.proofs.Fronts.{cuts_are_fronts}
+use Rattle.model_text.specs.Fronts.{CutsAreFronts, IsFrontOf}
+use Rattle.model_text.specs.Reading.{Reading, log_cut}
 
-grown_few : (byte : ℕ) (pieces : List (List ℕ)) → length (grown byte pieces) ≤ suc (length pieces)
-grown_few byte [] = omega arith
-grown_few byte (piece ∷ pieces) = omega arith
+-- what is cut from a log reads as no more events than it has lines
+pub cut_few : (w : World) (cut : Cut) → length (strace_of_cut w cut).events ≤ length cut.lines
+unfolding EventsWithinLines BeginsWithReading
+cut_few w cut =
+    let within : length (rest w (first_session w) cut).events ≤ 0 + length cut.lines = events_within_lines w (first_session w) cut in
+    let same : length (rest w (first_session w) cut).events ≡ length (strace_of_cut w cut).events =
+    ap (λ (r : Reading). length r.events) (begins_with_reading w cut) in
+    omega (arith, within, same)
 
--- there are no more lines than bytes
-pub lines_few : (text : List ℕ) → length (lines_of text) ≤ length text
-lines_few [] = omega arith
-lines_few (byte ∷ text) =
-    let rest : length (lines_of text) ≤ length text = lines_few text in
-    elim (byte == 10)
-    as (λ (b : Bool). length (cond b ([] ∷ lines_of text) (grown byte (lines_of text))) ≤ suc (length text)) [
-      | true ↦ omega (arith, rest)
-      | false ↦ omega (arith, grown_few byte (lines_of text), rest)
-    ]
-
--- what a session that has just begun gives is what the log reads as
-pub begins_as : (w : World) (text : List ℕ) → rest_by log_row w (first_session w) (lines_of text) ≡ strace_reading w text
-unfolding BeginsWithReadingBy
-begins_as w text = begins_with_reading_by log_row w (lines_of text)
-
-pub strace_few : (w : World) (text : List ℕ) → length (strace_reading w text).events ≤ length text
-unfolding EventsWithinLines
+pub strace_few : (w : World) (text : List ℕ) → length (strace_reading w text).events ≤ length (lines_of text)
+unfolding CutsAreFronts
 strace_few w text =
-    let lines : length (lines_of text) ≤ length text = lines_few text in
-    let within : length (rest_by log_row w (first_session w) (lines_of text)).events ≤ 0 + length (lines_of text) =
-    events_within_lines log_row w (first_session w) (lines_of text) in
-    let same : length (rest_by log_row w (first_session w) (lines_of text)).events ≡ length (strace_reading w text).events =
-    ap (λ (r : Reading). length r.events) (begins_as w text) in
-    omega (arith, lines, within, same)
+    let cut : Cut = log_cut text in
+    let f : IsFrontOf (limit_number limit.Line) (limit_number limit.Log) text cut =
+    cuts_are_fronts (limit_number limit.Line) (limit_number limit.Log) text in
+    let all = ap length f.front in
+    let sum : length (cut.lines ++ f.later) ≡ length cut.lines + length f.later = length-append cut.lines f.later in
+    omega (arith, all, sum, cut_few w cut)

@@ -12,9 +12,13 @@ pub mod HeldLines
 pub mod RestLaws
 pub mod LineNumbers
 pub mod Counts
+pub mod KnownSpaces
 pub mod ToldValues
 pub mod ToldCalls
 pub mod ToldEvents
 pub mod NamedSpaces
 pub mod Few
 pub mod ReadBack
+pub mod ToldLimits
+pub mod TurnLimits
+pub mod Stops

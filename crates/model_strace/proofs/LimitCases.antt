@@ -1,19 +1,19 @@
 -- Worked cases, by computation, of the limits of a log of strace(1).
-use Rattle.std.proofs.Common.{◌≡◌, ℕ, false, true, Bool, List, [], ◌∷◌, ◌++◌, map, replicate, flat_map, length, ap}
-use Rattle.std.proofs.Common.{refl}
-use Rattle.std.specs.Prelude.{codes, bytes_eq, nat_lt, if◌then◌else◌}
+use Rattle.std.proofs.Common.{◌≡◌, ℕ, false, true, Bool, List, [], ◌∷◌, ◌++◌, map, replicate, flat_map}
+use Rattle.std.proofs.Common.{None, refl}
+use Rattle.std.specs.Prelude.{codes}
 use Rattle.cm_base.specs.declared.faults.LineFault.TheVariants as fault
-use Rattle.cm_base.specs.Limited.{limit_number}
 use Rattle.cm_base.specs.declared.limited.Limited.TheVariants as limit
 use Rattle.cm_base.specs.declared.res.Res.TheVariants.{Done, Child}
+use Rattle.cm_lines.specs.Cut.{Cut, cut_of}
 use Rattle.model_cred.specs.Call.{SetUid, SetGroups, Fork}
 use Rattle.model_strace.proofs.CaseWorld.{the_world, at_line, to_the_end, up_to_fault, up_to_limit}
-use Rattle.model_strace.specs.Body.{TooLong, log_row, row_of}
 use Rattle.model_strace.specs.Files.{UidMap}
-use Rattle.model_strace.specs.Lines.{reading, reading_by}
+use Rattle.model_strace.specs.Lines.{reading, strace_of_cut}
 use Rattle.model_strace.specs.Parts.{Descriptor, Parts, first_parts}
 use Rattle.model_strace.specs.Rest.{Session, Going, rest}
 use Rattle.model_strace.specs.Turn.{Turn, Refused, Exceeds, turn}
+use Rattle.model_text.specs.Reading.{Reading}
 
 -- ---- groups
 -- a line with so many groups 7, after its length as it is written
@@ -47,21 +47,25 @@ holding n = Going (record {
   count = 9;
 })
 
-pub most_held_lines_are_held : rest the_world (holding 4095) (codes "201 setuid(1) = 0" ∷ codes "200 getpid() = 200" ∷ [])
+-- these lines, and the log's end
+abbrev all_of : List (List ℕ) → Cut
+all_of lines = record { lines = lines; stop = None }
+
+pub most_held_lines_are_held : rest the_world (holding 4095) (all_of (codes "201 setuid(1) = 0" ∷ codes "200 getpid() = 200" ∷ []))
     ≡ to_the_end (at_line 10 201 (SetUid 1) Done ∷ [])
 most_held_lines_are_held = refl
 
-pub one_held_line_more_is_over_the_limit : rest the_world (holding 4096) (codes "201" ∷ codes "200 setuid(1) = 0" ∷ [])
+pub one_held_line_more_is_over_the_limit : rest the_world (holding 4096) (all_of (codes "201" ∷ codes "200 setuid(1) = 0" ∷ []))
     ≡ up_to_limit [] limit.Held
 one_held_line_more_is_over_the_limit = refl
 
 -- a line that isn't held doesn't count
-pub other_lines_come_all_the_same : rest the_world (holding 4096) (codes "" ∷ codes "200 setuid(1) = 0" ∷ codes "x" ∷ [])
+pub other_lines_come_all_the_same : rest the_world (holding 4096) (all_of (codes "" ∷ codes "200 setuid(1) = 0" ∷ codes "x" ∷ []))
     ≡ up_to_fault (at_line 11 200 (SetUid 1) Done ∷ []) 12 fault.Pid
 other_lines_come_all_the_same = refl
 
 -- a birth makes room
-pub held_lines_that_are_read_count_no_more : rest the_world (holding 4096) (codes "200 fork() = 201" ∷ codes "202 setuid(1) = 0" ∷ [])
+pub held_lines_that_are_read_count_no_more : rest the_world (holding 4096) (all_of (codes "200 fork() = 201" ∷ codes "202 setuid(1) = 0" ∷ []))
     ≡ to_the_end (at_line 10 200 Fork (Child 201) ∷ at_line 11 202 (SetUid 1) Done ∷ [])
 held_lines_that_are_read_count_no_more = refl
 
@@ -103,18 +107,31 @@ pub faults_come_before_that_limit :
 faults_come_before_that_limit = refl
 
 -- ---- bytes
--- what a line of so many bytes is
-row_of_length : (n : ℕ) (line : List ℕ) → length line ≡ n → log_row line ≡ (if nat_lt (limit_number limit.Line) n then TooLong else row_of line)
-row_of_length n line long = ap (λ (m : ℕ). if nat_lt (limit_number limit.Line) m then TooLong else row_of line) long
+-- small limits in their place: 18 bytes a line
+abbrev read_of : ℕ → List ℕ → Reading
+read_of whole text = strace_of_cut the_world (cut_of 18 whole text)
 
-pub the_longest_line_of_a_log : (line : List ℕ) → length line ≡ 1048576 → log_row line ≡ row_of line
-the_longest_line_of_a_log line long = row_of_length 1048576 line long
-
-pub a_line_of_one_byte_more_is_too_long : (line : List ℕ) → length line ≡ 1048577 → log_row line ≡ TooLong
-a_line_of_one_byte_more_is_too_long line long = row_of_length 1048577 line long
+pub lines_within_the_limits_are_read : read_of 36 (codes "200 setuid(1) = 0\n200 setuid(2) = 0\n")
+    ≡ to_the_end (at_line 1 200 (SetUid 1) Done ∷ at_line 2 200 (SetUid 2) Done ∷ [])
+lines_within_the_limits_are_read = refl
 
 -- a line that is too long ends the reading, whatever it is
-pub it_ends_the_reading : reading_by (λ line. if bytes_eq line (codes "x") then TooLong else row_of line) the_world
-    (codes "200 setuid(1) = 0" ∷ codes "x" ∷ codes "y" ∷ [])
+pub a_long_line_ends_the_reading : read_of 99 (codes "200 setuid(1) = 0\n200 setuid(2)    = 0\ny\n")
     ≡ up_to_limit (at_line 1 200 (SetUid 1) Done ∷ []) limit.Line
-it_ends_the_reading = refl
+a_long_line_ends_the_reading = refl
+
+-- so does the line that has a byte more than the log may have, be it its LF
+pub a_byte_too_many_ends_it : read_of 35 (codes "200 setuid(1) = 0\n200 setuid(2) = 0\n")
+    ≡ up_to_limit (at_line 1 200 (SetUid 1) Done ∷ []) limit.Log
+a_byte_too_many_ends_it = refl
+
+-- a fault or a limit of an earlier line comes first
+pub earlier_lines_come_first : read_of 8 (codes "x\n200 setuid(1) = 0\n") ≡ up_to_fault [] 1 fault.Pid
+earlier_lines_come_first = refl
+
+-- the held lines tell nothing more there, where at the log's end they would
+pub held_lines_tell_nothing_there :
+    read_of 35 (codes "201 setuid(1) = 0\n200 setuid(2) = 0\n") ∷ read_of 36 (codes "201 setuid(1) = 0\n200 setuid(2) = 0\n") ∷ []
+    ≡ up_to_limit [] limit.Log
+    ∷ to_the_end (at_line 2 200 (SetUid 2) Done ∷ at_line 1 201 (SetUid 1) Done ∷ []) ∷ []
+held_lines_tell_nothing_there = refl

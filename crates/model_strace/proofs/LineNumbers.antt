@@ -9,16 +9,20 @@ use Rattle.cm_base.specs.Limited.{limit_number}
 use Rattle.model_cred.specs.World.{World}
 use Rattle.model_strace.proofs.HeldLines.{next_found}
 use Rattle.model_strace.specs.After.{After, Goes, Halts, preceded, and_then}
-use Rattle.model_strace.specs.Body.{PidLine, Blank, TooLong, NoPid, Of, log_row}
+use Rattle.model_strace.specs.Body.{PidLine, Blank, NoPid, Of, row_of}
 use Rattle.model_strace.specs.LineNumbers.{StandsFor, NumbersAreLines, told_by, row_told}
 use Rattle.model_strace.specs.Lines.{Line, Read, Moment, Next, Progress, is_among, held, is_line_of, given_at, read_line}
 use Rattle.model_strace.specs.Lines.{next_line, moment_after, then_rest, read_born, read_now, hold, arrives, line_read}
 use Rattle.model_strace.specs.Lines.{row_read, rows_read, beginning, at_end, at_end_turn, ended, log_end, strace_reading}
 use Rattle.model_strace.specs.Parts.{Parts, is_known, without_any_kept}
 use Rattle.model_strace.specs.Turn.{Turn, Quiet, Gives, Refused, Exceeds, turn}
-use Rattle.model_text.specs.Cut.{lines_of}
+use Rattle.cm_lines.specs.Cut.{Cut}
+use Rattle.cm_lines.specs.Lines.{lines_of}
+use Rattle.cm_lines.specs.declared.limits.Past.{Past}
+use Rattle.model_text.proofs.Fronts.{cuts_are_fronts}
+use Rattle.model_text.specs.Fronts.{CutsAreFronts, IsFrontOf}
 use Rattle.model_text.specs.Line as text
-use Rattle.model_text.specs.Reading.{Placed, Stop, Fault, Limit, Stops, Reading}
+use Rattle.model_text.specs.Reading.{Placed, Stop, Fault, Limit, Stops, Reading, limit_past, log_cut}
 
 -- Lines of a log, in a world.
 module _ (w : World) (all : List (List ℕ)) where
@@ -134,25 +138,25 @@ module _ (w : World) (all : List (List ℕ)) where
 
   row_stands : (number : ℕ) (row : PidLine) (at : Progress) → IsRow number row → AreLines at → Stands AreLines (row_read w number row at)
   row_stands number Blank at is each = (All-nil (λ e. StandsFor w all e.line (text.Tells e.event)), each)
-  row_stands number TooLong at is each = (All-nil (λ e. StandsFor w all e.line (text.Tells e.event)), tt)
   row_stands number NoPid at is each = (All-nil (λ e. StandsFor w all e.line (text.Tells e.event)), is at.now.parts)
   row_stands number (Of pid body) at is each = read_stands at.lines (record { number = number; pid = pid; body = body }) at.now is each
 
   -- the line that comes after these is that of the next number
   row_here : (before : List (List ℕ)) (line : List ℕ) (later : List (List ℕ)) (number : ℕ) → all ≡ before ++ line ∷ later → number ≡ 1 + length before
-      → IsRow number (log_row line)
+      → IsRow number (row_of line)
   row_here before line later number cut place p =
       record { before = before; line = line; later = later; cut = cut; place = place; known = p; means = refl }
 
-  rows_stand : (before lines : List (List ℕ)) (number : ℕ) (at : Progress) → all ≡ before ++ lines → number ≡ 1 + length before → AreLines at
-      → Stands AreLines (rows_read w log_row number lines at)
-  rows_stand before [] number at cut place each = (All-nil (λ e. StandsFor w all e.line (text.Tells e.event)), each)
-  rows_stand before (line ∷ lines) number at cut place each =
-      let next : all ≡ (before ++ line ∷ []) ++ lines = cut ∙ sym (append_assoc before (line ∷ []) lines) in
+  -- these lines come, and others may stand after them
+  rows_stand : (before lines others : List (List ℕ)) (number : ℕ) (at : Progress) → all ≡ before ++ (lines ++ others) → number ≡ 1 + length before
+      → AreLines at → Stands AreLines (rows_read w number lines at)
+  rows_stand before [] others number at cut place each = (All-nil (λ e. StandsFor w all e.line (text.Tells e.event)), each)
+  rows_stand before (line ∷ lines) others number at cut place each =
+      let next : all ≡ (before ++ line ∷ []) ++ (lines ++ others) = cut ∙ sym (append_assoc before (line ∷ []) (lines ++ others)) in
       let longer : length (before ++ line ∷ []) ≡ length before + 1 = length-append before (line ∷ []) in
-      stands_then AreLines AreLines (row_read w number (log_row line) at) (λ at'. rows_read w log_row (number + 1) lines at')
-      (row_stands number (log_row line) at (row_here before line lines number cut place) each)
-      (λ at' each'. rows_stand (before ++ line ∷ []) lines (number + 1) at' next (omega (arith, place, longer)) each')
+      stands_then AreLines AreLines (row_read w number (row_of line) at) (λ at'. rows_read w (number + 1) lines at')
+      (row_stands number (row_of line) at (row_here before line (lines ++ others) number cut place) each)
+      (λ at' each'. rows_stand (before ++ line ∷ []) lines others (number + 1) at' next (omega (arith, place, longer)) each')
 
   -- ---- the log's end
   -- the events are told by their lines, and so is a fault at the end
@@ -195,17 +199,25 @@ module _ (w : World) (all : List (List ℕ)) where
         | false ↦ All-cons IsLine l (held lines numbers) (All-head IsLine l lines each) later
       ]
 
-  log_stands : (a : After Progress) → Stands AreLines a → ReadingStands (ended (log_end w) a)
-  log_stands (Goes events at) is =
-      let end : ReadingStands (log_end w at) =
-      end_stands (held at.lines at.now.read) (without_any_kept at.now.parts) (held_are at.lines at.now.read is.1) in
-      (All-append (λ e. StandsFor w all e.line (text.Tells e.event)) events (log_end w at).events is.0 end.0, end.1)
-  log_stands (Halts events stop) is = (is.0, stop_stands stop is.1)
+  log_end_stands : (stop : Option Past) (at : Progress) → AreLines at → ReadingStands (log_end w stop at)
+  log_end_stands None at are =
+      end_stands (held at.lines at.now.read) (without_any_kept at.now.parts) (held_are at.lines at.now.read are)
+  log_end_stands (Some past) at are =
+      (All-nil (λ e. StandsFor w all e.line (text.Tells e.event)), stop_stands (Limit (limit_past past)) tt)
+
+  log_stands : (stop : Option Past) (a : After Progress) → Stands AreLines a → ReadingStands (ended (log_end w stop) a)
+  log_stands stop (Goes events at) is =
+      let end : ReadingStands (log_end w stop at) = log_end_stands stop at is.1 in
+      (All-append (λ e. StandsFor w all e.line (text.Tells e.event)) events (log_end w stop at).events is.0 end.0, end.1)
+  log_stands stop (Halts events other) is = (is.0, stop_stands other is.1)
 
 pub numbers_are_lines : NumbersAreLines
-unfolding NumbersAreLines
+unfolding NumbersAreLines CutsAreFronts
 numbers_are_lines w text =
+    let cut : Cut = log_cut text in
+    let f : IsFrontOf (limit_number limit.Line) (limit_number limit.Log) text cut =
+    cuts_are_fronts (limit_number limit.Line) (limit_number limit.Log) text in
     let is : ReadingStands w (lines_of text) (strace_reading w text) =
-    log_stands w (lines_of text) (rows_read w log_row 1 (lines_of text) (beginning w))
-    (rows_stand w (lines_of text) [] (lines_of text) 1 (beginning w) refl refl (All-nil (IsLine w (lines_of text)))) in
+    log_stands w (lines_of text) cut.stop (rows_read w 1 cut.lines (beginning w))
+    (rows_stand w (lines_of text) [] cut.lines f.later 1 (beginning w) f.front refl (All-nil (IsLine w (lines_of text)))) in
     record { events = is.0; fault = is.1 }

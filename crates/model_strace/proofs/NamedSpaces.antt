@@ -21,8 +21,8 @@ use Rattle.model_cred.specs.IdMap.{Extent}
 use Rattle.model_cred.specs.World.{World}
 use Rattle.model_strace.proofs.ToldCalls.{ToldFits, call_told_fits, names_space}
 use Rattle.model_strace.specs.After.{After, Goes, Halts, preceded, and_then}
-use Rattle.model_strace.specs.Body.{Body, Silent, Ends, Superseded, Begun, Resumed, Whole, PidLine, Blank, TooLong, NoPid}
-use Rattle.model_strace.specs.Body.{Of, body_of, log_row}
+use Rattle.model_strace.specs.Body.{Body, Silent, Ends, Superseded, Begun, Resumed, Whole, PidLine, Blank, NoPid}
+use Rattle.model_strace.specs.Body.{Of, body_of, row_of}
 use Rattle.model_strace.specs.Calls as calls
 use Rattle.model_strace.specs.Calls.{Told, Nothing, Faulty, Does, Bears, Joins, Opens, Closes, Copies, CopiesTo, Writes}
 use Rattle.model_strace.specs.Calls.{Opening, call_told}
@@ -52,8 +52,9 @@ use Rattle.model_strace.specs.Written.{call_name, without_32}
 use Rattle.model_text.proofs.CapTexts.{if_mapped, if_there}
 use Rattle.model_text.proofs.ToldEvents.{AreFew, SpacesWithin}
 use Rattle.model_text.specs.Arguments.{Argument, Id, Space, arguments_of, triple_of}
-use Rattle.model_text.specs.Cut.{lines_of}
-use Rattle.model_text.specs.Reading.{Placed, Limit, Reading}
+use Rattle.cm_lines.specs.Cut.{Cut}
+use Rattle.cm_lines.specs.declared.limits.Past.{Past}
+use Rattle.model_text.specs.Reading.{Placed, Limit, Reading, log_cut}
 
 -- ---- arguments and calls
 pub spaces_more : (low high : ℕ) → low ≤ high → (arguments : List Argument) → SpacesWithin low arguments
@@ -588,18 +589,17 @@ module _ (w : World) (few : AreFew w) where
   row_within : (most number : ℕ) (row : PidLine) (at : Progress) → KnowsWithin most at.now.parts
       → AfterWithin (λ at. at.now.parts) most (row_read w number row at)
   row_within most number Blank at knows = still_within (λ (at : Progress). at.now.parts) most at knows
-  row_within most number TooLong at knows = All-nil (PlacedWithin (most + 0))
   row_within most number NoPid at knows = All-nil (PlacedWithin (most + 0))
   row_within most number (Of pid body) at knows =
       line_within most at.lines (record { number = number; pid = pid; body = body }) at.now knows
 
   rows_within : (most number : ℕ) (lines : List (List ℕ)) (at : Progress) → KnowsWithin most at.now.parts
-      → AfterWithin (λ at. at.now.parts) most (rows_read w log_row number lines at)
+      → AfterWithin (λ at. at.now.parts) most (rows_read w number lines at)
   rows_within most number [] at knows = still_within (λ (at : Progress). at.now.parts) most at knows
   rows_within most number (line ∷ lines) at knows =
       then_within (λ (at : Progress). at.now.parts) (λ (at : Progress). at.now.parts) most
-      (row_read w number (log_row line) at)
-      (λ at'. rows_read w log_row (number + 1) lines at') (row_within most number (log_row line) at knows)
+      (row_read w number (row_of line) at)
+      (λ at'. rows_read w (number + 1) lines at') (row_within most number (row_of line) at knows)
       (λ n at' its. rows_within n (number + 1) lines at' its)
 
   -- ---- the log's end
@@ -624,13 +624,17 @@ module _ (w : World) (few : AreFew w) where
       (turn_within most l.pid l.body p knows)
       (λ p' its. end_within most lines p' its)
 
-  ended_within : (most : ℕ) (a : After Progress) → AfterWithin (λ at. at.now.parts) most a
-      → ReadingWithin most (ended (log_end w) a)
-  ended_within most (Goes events at) within =
-      both_within most events (log_end w at).events within.1
-      (end_within (most + length events) (held at.lines at.now.read) (without_any_kept at.now.parts)
-      (same_known (most + length events) at.now.parts within.0 (without_any_kept at.now.parts) refl refl refl))
-  ended_within most (Halts events stop) within = within
+  log_end_within : (most : ℕ) (stop : Option Past) (at : Progress) → KnowsWithin most at.now.parts → ReadingWithin most (log_end w stop at)
+  log_end_within most None at knows =
+      end_within most (held at.lines at.now.read) (without_any_kept at.now.parts)
+      (same_known most at.now.parts knows (without_any_kept at.now.parts) refl refl refl)
+  log_end_within most (Some past) at knows = All-nil (PlacedWithin (most + 0))
+
+  ended_within : (most : ℕ) (stop : Option Past) (a : After Progress) → AfterWithin (λ at. at.now.parts) most a
+      → ReadingWithin most (ended (log_end w stop) a)
+  ended_within most stop (Goes events at) within =
+      both_within most events (log_end w stop at).events within.1 (log_end_within (most + length events) stop at within.0)
+  ended_within most stop (Halts events other) within = within
 
   first_within : All (λ p. p.space < length w.start.spaces) w.start.processes
       → KnowsWithin (length w.start.spaces) (first_parts w)
@@ -647,5 +651,6 @@ module _ (w : World) (few : AreFew w) where
   pub log_within : (text : List ℕ) → All (λ p. p.space < length w.start.spaces) w.start.processes
       → All (λ e. EventWithin (length w.start.spaces + length (strace_reading w text).events) e.event) (strace_reading w text).events
   log_within text stand =
-      ended_within (length w.start.spaces) (rows_read w log_row 1 (lines_of text) (beginning w))
-      (rows_within (length w.start.spaces) 1 (lines_of text) (beginning w) (first_within stand))
+      let cut : Cut = log_cut text in
+      ended_within (length w.start.spaces) cut.stop (rows_read w 1 cut.lines (beginning w))
+      (rows_within (length w.start.spaces) 1 cut.lines (beginning w) (first_within stand))

@@ -4,7 +4,6 @@ use Rattle.std.proofs.lemmas.List.Elements.{All-nil, All-cons, All-head, All-tai
 use Rattle.cm_base.specs.Limited.{limit_number}
 use Rattle.cm_base.specs.Limits.{greatest_number}
 use Rattle.cm_base.specs.declared.limited.Limited.TheVariants as limit
-use Rattle.model_cred.specs.World.{World}
 use Rattle.model_strace.proofs.Few.{strace_few}
 use Rattle.model_strace.proofs.LineNumbers.{numbers_are_lines}
 use Rattle.model_strace.proofs.NamedSpaces.{EventWithin, log_within, spaces_more}
@@ -17,7 +16,7 @@ use Rattle.model_text.proofs.ReadBack.{lines_read_back}
 use Rattle.model_text.proofs.Starts.{start_spaces}
 use Rattle.model_text.proofs.ToldEvents.{AreFew, few_names}
 use Rattle.model_text.specs.Arguments.{arguments_of}
-use Rattle.model_text.specs.Cut.{lines_of}
+use Rattle.cm_lines.specs.Lines.{lines_of}
 use Rattle.model_text.specs.Line.{Tells, script_line}
 use Rattle.model_text.specs.Print.{event_text}
 use Rattle.model_text.specs.Reading.{Placed}
@@ -39,7 +38,7 @@ told_are_writable bytes w text reads size =
     let events : List Placed = (strace_reading w text).events in
     let most : ℕ = length w.start.spaces + length events in
     let spaces : length w.start.spaces ≤ limit_number limit.Spaces = start_spaces bytes w reads in
-    let count : length events ≤ length text = strace_few w text in
+    let count : length events ≤ length (lines_of text) = strace_few w text in
     let low : most ≤ greatest_number = omega (arith, spaces, count, size) in
     all_both (λ (e : Placed). StandsFor w (lines_of text) e.line (Tells e.event)) (λ e. EventWithin most e.event)
     (λ e. IsWritable w e.event)

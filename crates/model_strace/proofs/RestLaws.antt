@@ -5,19 +5,21 @@ use Rattle.std.proofs.Common.{Some, None, refl, sym, ap, ap₂, ◌∙◌, subst
 use Rattle.std.specs.Prelude.{nat_lt, if◌then◌else◌}
 use Rattle.cm_base.specs.declared.limited.Limited.TheVariants as limit
 use Rattle.cm_base.specs.Limited.{limit_number}
+use Rattle.cm_lines.specs.Cut.{Cut}
+use Rattle.cm_lines.specs.declared.limits.Past.{Past}
 use Rattle.model_cred.specs.World.{World}
 use Rattle.model_strace.proofs.HeldLines.{Rise, Below, rise_more, rise_later, below_more, later_not_among, held_more}
 use Rattle.model_strace.proofs.HeldLines.{held_as_read, found_within, held_without, next_found}
 use Rattle.model_strace.specs.After.{After, Goes, Halts, preceded, and_then}
-use Rattle.model_strace.specs.Body.{PidLine, Blank, TooLong, NoPid, Of, row_of}
+use Rattle.model_strace.specs.Body.{PidLine, Blank, NoPid, Of, row_of}
 use Rattle.model_strace.specs.Lines.{Line, Read, Moment, Next, Progress, is_among, held, is_line_of, read_line}
 use Rattle.model_strace.specs.Lines.{next_line, moment_after, then_rest, read_born, read_now, hold, arrives}
-use Rattle.model_strace.specs.Lines.{row_read, rows_read, beginning, ended, log_end, reading_by}
+use Rattle.model_strace.specs.Lines.{row_read, rows_read, beginning, ended, log_end}
 use Rattle.model_strace.specs.Parts.{is_known}
-use Rattle.model_strace.specs.Rest.{Work, first_work, first_session, without_first, then_released, released, read_fed}
-use Rattle.model_strace.specs.Rest.{held_fed, line_fed, row_fed, fed_by, all_fed, work_end}
-use Rattle.model_strace.specs.Rest.{Going, Stopped, Finished, session_of, answer_of, answered_then, rest_by, rest}
-use Rattle.model_strace.specs.Rest.{BeginsWithReading, BeginsWithReadingBy, LinesGoOn, LinesGoOnBy, EndsForGood, session_ended}
+use Rattle.model_strace.specs.Rest.{Work, first_work, without_first, then_released, released, read_fed}
+use Rattle.model_strace.specs.Rest.{held_fed, line_fed, row_fed, fed, all_fed, work_end, work_ended}
+use Rattle.model_strace.specs.Rest.{Going, Stopped, Finished, session_of, answer_of, answered_then, rest}
+use Rattle.model_strace.specs.Rest.{BeginsWithReading, LinesGoOn, EndsForGood, session_ended}
 use Rattle.model_text.specs.Reading.{Placed, Stop, Limit, End, AtEnd, Stops, Reading, ends_at}
 
 -- The same events, and the same stop, or what is known on both sides is so related.
@@ -164,7 +166,6 @@ row_alike : (w : World) (count : ℕ) (row : PidLine) (at : Progress) → Rise 1
     → Same (Together (count + 1)) (row_read w (count + 1) row at) (row_fed w row (work_at (count + 1) at.lines at.now))
 row_alike w count Blank at rise below =
     (refl, record { work = refl; rise = rise_later 1 (count + 1) at.lines rise; below = below_more (count + 1) at.now.read below })
-row_alike w count TooLong at rise below = (refl, refl)
 row_alike w count NoPid at rise below = (refl, refl)
 row_alike w count (Of pid body) at rise below =
     let l : Line = record { number = count + 1; pid = pid; body = body } in
@@ -178,77 +179,69 @@ abbrev Alike : Progress → Work → Type 0
 Alike at t = (count : ℕ) × (t ≡ work_at count at.lines at.now)
 
 -- lines come alike
-rows_alike : (cut : List ℕ → PidLine) (w : World) (count : ℕ) (lines : List (List ℕ)) (at : Progress) → Rise 1 (count + 1) at.lines → Below (count + 1) at.now.read
-    → Same Alike (rows_read w cut (count + 1) lines at) (all_fed cut w lines (work_at count at.lines at.now))
-rows_alike cut w count [] at rise below = (refl, (count, refl))
-rows_alike cut w count (line ∷ lines) at rise below =
-    same_then (Together (count + 1)) Alike (row_read w (count + 1) (cut line) at) (row_fed w (cut line) (work_at (count + 1) at.lines at.now))
-    (λ at'. rows_read w cut (count + 1 + 1) lines at') (λ t'. all_fed cut w lines t')
-    (row_alike w count (cut line) at rise below)
-    (λ at' t' same. subst (λ (t : Work). Same Alike (rows_read w cut (count + 1 + 1) lines at') (all_fed cut w lines t)) (sym same.work)
-    (rows_alike cut w (count + 1) lines at' same.rise same.below))
+rows_alike : (w : World) (count : ℕ) (lines : List (List ℕ)) (at : Progress) → Rise 1 (count + 1) at.lines → Below (count + 1) at.now.read
+    → Same Alike (rows_read w (count + 1) lines at) (all_fed w lines (work_at count at.lines at.now))
+rows_alike w count [] at rise below = (refl, (count, refl))
+rows_alike w count (line ∷ lines) at rise below =
+    same_then (Together (count + 1)) Alike (row_read w (count + 1) (row_of line) at) (row_fed w (row_of line) (work_at (count + 1) at.lines at.now))
+    (λ at'. rows_read w (count + 1 + 1) lines at') (λ t'. all_fed w lines t')
+    (row_alike w count (row_of line) at rise below)
+    (λ at' t' same. subst (λ (t : Work). Same Alike (rows_read w (count + 1 + 1) lines at') (all_fed w lines t)) (sym same.work)
+    (rows_alike w (count + 1) lines at' same.rise same.below))
 
--- ---- the log's end
+-- ---- the end
+-- a session ends as the reading does
+end_alike : (w : World) (stop : Option Past) (count : ℕ) (at : Progress) → work_ended w stop (work_at count at.lines at.now) ≡ log_end w stop at
+end_alike w None count at = refl
+end_alike w (Some past) count at = refl
+
 -- what has come alike ends alike
-ends_alike : (w : World) (a : After Progress) (b : After Work) → Same Alike a b → ended (work_end w) b ≡ ended (log_end w) a
-ends_alike w (Goes es at) (Goes fs t) same =
-    sym (ap₂ (λ (events : List Placed) (t' : Work). ended (work_end w) (Goes events t')) same.0 (sym same.1.1))
-ends_alike w (Goes es at) (Halts fs stop) same = absurd same
-ends_alike w (Halts es stop) (Goes fs t) same = absurd same
-ends_alike w (Halts es stop) (Halts fs other) same =
-    sym (ap₂ (λ (events : List Placed) (s : Stop). ended (work_end w) (Halts events s)) same.0 same.1)
-
--- a session that has just begun gives the reading
-begins_alike : (cut : List ℕ → PidLine) (w : World) (lines : List (List ℕ)) → rest_by cut w (first_session w) lines ≡ reading_by cut w lines
-begins_alike cut w lines =
-    ends_alike w (rows_read w cut 1 lines (beginning w)) (all_fed cut w lines (first_work w)) (rows_alike cut w 0 lines (beginning w) (omega arith) tt)
-
--- A session that has just begun gives the reading, however lines are cut.
-pub begins_with_reading_by : BeginsWithReadingBy
-unfolding BeginsWithReadingBy
-begins_with_reading_by cut w lines = begins_alike cut w lines
+ends_alike : (w : World) (stop : Option Past) (a : After Progress) (b : After Work) → Same Alike a b → ended (work_ended w stop) b ≡ ended (log_end w stop) a
+ends_alike w stop (Goes es at) (Goes fs t) same =
+    sym (ap₂ (λ (events : List Placed) (t' : Work). ended (work_ended w stop) (Goes events t')) same.0 (sym same.1.1))
+    ∙ ap (λ (end : Reading). let r : Reading = record { events = es ++ end.events; ending = end.ending } in r) (end_alike w stop same.1.0 at)
+ends_alike w stop (Goes es at) (Halts fs other) same = absurd same
+ends_alike w stop (Halts es other) (Goes fs t) same = absurd same
+ends_alike w stop (Halts es one) (Halts fs other) same =
+    sym (ap₂ (λ (events : List Placed) (s : Stop). ended (work_ended w stop) (Halts events s)) same.0 same.1)
 
 -- A session that has just begun gives the reading.
 pub begins_with_reading : BeginsWithReading
 unfolding BeginsWithReading
-begins_with_reading w lines = begins_alike row_of w lines
+begins_with_reading w cut =
+    ends_alike w cut.stop (rows_read w 1 cut.lines (beginning w)) (all_fed w cut.lines (first_work w))
+    (rows_alike w 0 cut.lines (beginning w) (omega arith) tt)
 
 -- ---- one line
 -- what a line gave, and then what later ones give
-goes_on : (cut : List ℕ → PidLine) (w : World) (count : ℕ) (a : After Work) (lines : List (List ℕ))
-    → ended (work_end w) (and_then a (λ t. all_fed cut w lines t)) ≡ answered_then (answer_of a) (rest_by cut w (session_of count a) lines)
-goes_on cut w count (Goes es t) lines = after_events (all_fed cut w lines t)
+goes_on : (w : World) (count : ℕ) (a : After Work) (cut : Cut)
+    → ended (work_ended w cut.stop) (and_then a (λ t. all_fed w cut.lines t)) ≡ answered_then (answer_of a) (rest w (session_of count a) cut)
+goes_on w count (Goes es t) cut = after_events (all_fed w cut.lines t)
   where
-    after_events : (b : After Work) → ended (work_end w) (preceded es b) ≡ answered_then (record { events = es; ending = AtEnd }) (ended (work_end w) b)
+    after_events : (b : After Work) → ended (work_ended w cut.stop) (preceded es b)
+        ≡ answered_then (record { events = es; ending = AtEnd }) (ended (work_ended w cut.stop) b)
     after_events (Goes fs t') =
-        ap (λ (events : List Placed). let r : Reading = record { events = events; ending = (work_end w t').ending } in r)
-        (append_assoc es fs (work_end w t').events)
+        ap (λ (events : List Placed). let r : Reading = record { events = events; ending = (work_ended w cut.stop t').ending } in r)
+        (append_assoc es fs (work_ended w cut.stop t').events)
     after_events (Halts fs stop) = refl
-goes_on cut w count (Halts es stop) lines = refl
+goes_on w count (Halts es stop) cut = refl
 
 -- What a line answers, and then what the session after it still gives, is what the session gave before.
-pub lines_go_on_by : LinesGoOnBy
-unfolding LinesGoOnBy
-lines_go_on_by cut w (Going t) line lines same =
-    ap (λ (row : PidLine). ended (work_end w) (and_then (row_fed w row (record t { count = t.count + 1 })) (λ t'. all_fed cut w lines t'))) same
-    ∙ goes_on cut w (t.count + 1) (fed_by row_of w line t) lines
-lines_go_on_by cut w (Stopped count stop) line lines same = refl
-lines_go_on_by cut w (Finished count) line lines same = refl
-
--- The same of a session's own way to cut lines.
 pub lines_go_on : LinesGoOn
-unfolding LinesGoOn LinesGoOnBy
-lines_go_on w session line lines = lines_go_on_by row_of w session line lines refl
+unfolding LinesGoOn
+lines_go_on w (Going t) line cut = goes_on w (t.count + 1) (fed w line t) cut
+lines_go_on w (Stopped count stop) line cut = refl
+lines_go_on w (Finished count) line cut = refl
 
 -- ---- the log's end
 -- a session that ended so gives nothing, and ends so
-gives_no_more : (w : World) (count : ℕ) (ending : End) (lines : List (List ℕ)) → rest w (session_ended count ending) lines ≡ ends_at ending
-gives_no_more w count AtEnd lines = refl
-gives_no_more w count (Stops stop) lines = refl
+gives_no_more : (w : World) (count : ℕ) (ending : End) (cut : Cut) → rest w (session_ended count ending) cut ≡ ends_at ending
+gives_no_more w count AtEnd cut = refl
+gives_no_more w count (Stops stop) cut = refl
 
 -- After the log's end a session gives nothing more, and ends as it ended.
 pub ends_for_good : EndsForGood
 unfolding EndsForGood
-ends_for_good w (Going t) lines = gives_no_more w t.count (work_end w t).ending lines
-ends_for_good w (Stopped count stop) lines = refl
-ends_for_good w (Finished count) lines = refl
+ends_for_good w (Going t) cut = gives_no_more w t.count (work_end w t).ending cut
+ends_for_good w (Stopped count stop) cut = refl
+ends_for_good w (Finished count) cut = refl

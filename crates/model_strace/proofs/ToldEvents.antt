@@ -4,7 +4,6 @@ use Rattle.std.proofs.Common.{◌≡◌, ℕ, ◌==◌, ◌&&◌, ◌||◌, Bool
 use Rattle.std.proofs.Common.{length}
 use Rattle.std.proofs.Common.{Option, Some, None, IfSome, All, IsTrue, refl}
 use Rattle.std.proofs.Common.{subst, if◌then◌else◌, nat_lt}
-use Rattle.std.proofs.lemmas.Bool.{cond_both}
 use Rattle.std.proofs.lemmas.List.Elements.{All-nil, All-cons, All-head, All-tail}
 use Rattle.std.specs.Prelude.{bytes_eq, codes, flat_map}
 use Rattle.cm_base.specs.Limited.{limit_number}
@@ -18,8 +17,8 @@ use Rattle.model_cred.specs.Call.{Call, Event, kind_of}
 use Rattle.model_cred.specs.IdMap.{Extent}
 use Rattle.model_cred.specs.Process.{is_pid}
 use Rattle.model_cred.specs.World.{World}
-use Rattle.model_strace.specs.Body.{Body, Silent, Ends, Superseded, Begun, Resumed, Whole, PidLine, Blank, TooLong, NoPid}
-use Rattle.model_strace.specs.Body.{Of, body_of, log_row, pid_row, row_cut, row_of}
+use Rattle.model_strace.specs.Body.{Body, Silent, Ends, Superseded, Begun, Resumed, Whole, PidLine, Blank, NoPid}
+use Rattle.model_strace.specs.Body.{Of, body_of, pid_row, row_cut, row_of}
 use Rattle.model_strace.specs.Calls as calls
 use Rattle.model_strace.specs.Calls.{Listed, SetsIds, SetsGroups, SetsCaps, Prctl, Birth, Unshare, SetNs, Execve}
 use Rattle.model_strace.specs.Calls.{ExecveAt, OpenFile, OpenAt}
@@ -63,7 +62,7 @@ use Rattle.model_text.proofs.ToldEvents.{pid_is}
 use Rattle.model_text.specs.Arguments.{Argument, Space, Word}
 use Rattle.model_text.specs.Arguments.{triple_of}
 use Rattle.model_text.specs.Arguments.{Number as ANumber}
-use Rattle.model_text.specs.Cut.{lines_of}
+use Rattle.cm_lines.specs.Lines.{lines_of}
 use Rattle.model_text.specs.Line.{Tells}
 use Rattle.model_text.specs.Token.{pid_token}
 use Rattle.model_text.specs.Written.{IsBirth, IsInRange, IsOutcome}
@@ -291,10 +290,8 @@ abbrev RowFits : PidLine → Type 0
 RowFits (Of pid body) = IsTrue (is_pid pid)
 RowFits _ = Unit {0}
 
-row_fits : (line : List ℕ) → RowFits (log_row line)
-row_fits line =
-    cond_both (nat_lt (limit_number limit.Line) (length line)) TooLong (row_of line) RowFits (λ _. tt)
-    (λ _. cut_fits (without_end line))
+row_fits : (line : List ℕ) → RowFits (row_of line)
+row_fits line = cut_fits (without_end line)
   where
     pid_fits : (pid : Option ℕ) (body : List ℕ) → IfSome pid (λ n. IsTrue (is_pid n)) → RowFits (pid_row pid body)
     pid_fits None body is = tt
@@ -315,7 +312,6 @@ turn_tells w (Exceeds l) e fits is = absurd (cc)
 row_tells : (w : World) (p : Parts) (row : PidLine) (e : Event) → AreFew w → RowFits row → row_told w p row ≡ Tells e
     → CanWrite w e
 row_tells w p Blank e few fits is = absurd (cc)
-row_tells w p TooLong e few fits is = absurd (cc)
 row_tells w p NoPid e few fits is = absurd (cc)
 row_tells w p (Of pid body) e few fits is =
     turn_tells w (turn w pid body p) e (body_fits w pid fits (body_of body) p few) is
@@ -324,4 +320,4 @@ row_tells w p (Of pid body) e few fits is =
 pub line_can_write : (w : World) (lines : List (List ℕ)) (number : ℕ) (e : Event) → AreFew w
     → StandsFor w lines number (Tells e) → CanWrite w e
 line_can_write w lines number e few stands =
-    row_tells w stands.known (log_row stands.line) e few (row_fits stands.line) stands.means
+    row_tells w stands.known (row_of stands.line) e few (row_fits stands.line) stands.means

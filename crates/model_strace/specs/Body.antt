@@ -1,20 +1,17 @@
 -- A line of a log of strace -f: a pid, blanks, and a body; and what a body is (strace(1), "-f"; the reading is a choice).
-use Rattle.std.specs.Prelude.{ℕ, codes, ◌||◌, Bool, false, nat_lt, is_some, bytes_eq, length, List, [], ◌∷◌, Option}
+use Rattle.std.specs.Prelude.{ℕ, codes, ◌||◌, Bool, false, is_some, bytes_eq, List, [], ◌∷◌, Option}
 use Rattle.std.specs.Prelude.{Some, None}
 use Rattle.std.specs.Prelude.{option_and_then, option_map, unwrap_or, if◌then◌else◌}
 use Rattle.std.specs.Option.{option_or}
-use Rattle.cm_base.specs.Limited.{limit_number}
 use Rattle.cm_base.specs.Number.{is_number}
-use Rattle.cm_base.specs.declared.limited.Limited.TheVariants as limit
 use Rattle.model_strace.specs.Marks.{without_front, without_end, first_word, after_first_word, after_mark, before_mark}
 use Rattle.model_text.specs.Cut.{tokens_of}
 use Rattle.model_text.specs.Token.{pid_token}
 
 -- ---- the line
--- A line of blanks alone; one with more bytes than lines may have; one that doesn't begin with a pid; a pid and its body.
+-- A line of blanks alone; one that doesn't begin with a pid; a pid and its body.
 pub data PidLine : Type 0 where
   Blank : PidLine
-  TooLong : PidLine
   NoPid : PidLine
   Of : ℕ → List ℕ → PidLine
 
@@ -31,10 +28,6 @@ row_cut (byte ∷ text) = pid_row (pid_token (first_word (byte ∷ text))) (afte
 -- the row of a line
 abbrev pub row_of : List ℕ → PidLine
 row_of line = row_cut (without_end line)
-
--- the row of a line of a log, in which lines have a limit
-abbrev pub log_row : List ℕ → PidLine
-log_row line = if nat_lt (limit_number limit.Line) (length line) then TooLong else row_of line
 
 -- ---- the body
 -- What a body is: none that tells anything; the end of its process; the end of a thread whose place another one's execve

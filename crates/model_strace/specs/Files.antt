@@ -7,7 +7,8 @@ use Rattle.std.specs.List.{slice_split}
 use Rattle.std.specs.Option.{option_or}
 use Rattle.model_cred.specs.IdMap.{Extent}
 use Rattle.model_strace.specs.Marks.{after_mark, before_mark}
-use Rattle.model_text.specs.Cut.{lines_of, tokens_of}
+use Rattle.cm_lines.specs.Lines.{lines_of}
+use Rattle.model_text.specs.Cut.{tokens_of}
 use Rattle.model_text.specs.Token.{number_token, pid_token, word_token}
 
 -- A file that is followed: uid_map, gid_map, setgroups, ns/user.

@@ -17,3 +17,4 @@ pub mod Rest
 pub mod LineNumbers
 pub mod Counts
 pub mod ReadBack
+pub mod Stops

@@ -2,13 +2,12 @@
 use Rattle.std.specs.Prelude.{◌≡◌, ℕ, ◌+◌, length, List, ◌∷◌, ◌++◌, All}
 use Rattle.cm_base.specs.declared.faults.LineFault.{LineFault}
 use Rattle.cm_base.specs.declared.faults.LineFault.TheVariants as fault
-use Rattle.cm_base.specs.declared.limited.Limited.TheVariants as limit
 use Rattle.model_cred.specs.World.{World}
-use Rattle.model_strace.specs.Body.{PidLine, Blank, TooLong, NoPid, Of, log_row}
+use Rattle.model_strace.specs.Body.{PidLine, Blank, NoPid, Of, row_of}
 use Rattle.model_strace.specs.Lines.{strace_reading}
 use Rattle.model_strace.specs.Parts.{Parts}
 use Rattle.model_strace.specs.Turn.{Turn, Quiet, Gives, Refused, Exceeds, turn}
-use Rattle.model_text.specs.Cut.{lines_of}
+use Rattle.cm_lines.specs.Lines.{lines_of}
 use Rattle.model_text.specs.Line as text
 use Rattle.model_text.specs.Line.{Line, NoEvent, Tells, Faulty}
 use Rattle.model_text.specs.Reading.{Fault, Stops, Reading}
@@ -23,7 +22,6 @@ told_by (Exceeds l) = text.Exceeds l
 -- what a line tells, where so much is known
 abbrev pub row_told : World → Parts → PidLine → Line
 row_told w p Blank = NoEvent
-row_told w p TooLong = text.Exceeds limit.Line
 row_told w p NoPid = Faulty fault.Pid
 row_told w p (Of pid body) = told_by (turn w pid body p)
 
@@ -35,7 +33,7 @@ pub record StandsFor (w : World) (lines : List (List ℕ)) (number : ℕ) (meani
   pub cut : lines ≡ before ++ line ∷ later
   pub place : number ≡ 1 + length before
   pub known : Parts
-  pub means : row_told w known (log_row line) ≡ meaning
+  pub means : row_told w known (row_of line) ≡ meaning
 
 -- Each event of a reading is told by the line of its number; where it stops at a fault, the line of that number has it.
 pub record ReadsLines (w : World) (lines : List (List ℕ)) (reading : Reading) : Type 0 where

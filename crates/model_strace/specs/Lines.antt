@@ -10,11 +10,12 @@ use Rattle.cm_base.specs.declared.faults.LineFault.TheVariants as fault
 use Rattle.cm_base.specs.declared.limited.Limited.TheVariants as limit
 use Rattle.model_cred.specs.World.{World}
 use Rattle.model_strace.specs.After.{After, Goes, Halts, and_then}
-use Rattle.model_strace.specs.Body.{PidLine, Blank, TooLong, NoPid, Of, row_of, log_row}
+use Rattle.model_strace.specs.Body.{PidLine, Blank, NoPid, Of, row_of}
 use Rattle.model_strace.specs.Parts.{Parts, first_parts, is_known, without_any_kept}
 use Rattle.model_strace.specs.Turn.{Turn, Quiet, Gives, Refused, Exceeds, turn}
-use Rattle.model_text.specs.Cut.{lines_of}
-use Rattle.model_text.specs.Reading.{Fault, Limit, AtEnd, Stops, Reading, ends_at}
+use Rattle.cm_lines.specs.Cut.{Cut}
+use Rattle.cm_lines.specs.declared.limits.Past.{Past}
+use Rattle.model_text.specs.Reading.{Fault, Limit, AtEnd, Stops, Reading, ends_at, cut_ending, log_cut}
 
 -- ---- one line
 -- A line that has a pid: its number in the log, from 1 on, its pid and its body.
@@ -122,15 +123,14 @@ line_read w lines l m = progress_after (lines ++ l ∷ []) (arrives w (lines ++ 
 -- the line of that number comes
 abbrev pub row_read : World → ℕ → PidLine → Progress → After Progress
 row_read w number Blank at = Goes [] at
-row_read w number TooLong at = Halts [] (Limit limit.Line)
 row_read w number NoPid at = Halts [] (Fault number fault.Pid)
 row_read w number (Of pid body) at = line_read w at.lines (record { number = number; pid = pid; body = body }) at.now
 
--- lines come, each cut so, the first with that number
-abbrev pub rows_read : World → (List ℕ → PidLine) → ℕ → List (List ℕ) → Progress → After Progress
-rows_read w cut number [] at = Goes [] at
-rows_read w cut number (line ∷ lines) at =
-    and_then (row_read w number (cut line) at) (λ at'. rows_read w cut (number + 1) lines at')
+-- lines come, the first with that number
+abbrev pub rows_read : World → ℕ → List (List ℕ) → Progress → After Progress
+rows_read w number [] at = Goes [] at
+rows_read w number (line ∷ lines) at =
+    and_then (row_read w number (row_of line) at) (λ at'. rows_read w (number + 1) lines at')
 
 -- nothing has come
 abbrev pub beginning : World → Progress
@@ -154,19 +154,21 @@ abbrev pub ended : {S : Type 0} → (S → Reading) → After S → Reading
 ended end (Goes events s) = record { events = events ++ (end s).events; ending = (end s).ending }
 ended end (Halts events stop) = record { events = events; ending = Stops stop }
 
--- the end of the log, where so much has come
-abbrev pub log_end : World → Progress → Reading
-log_end w at = at_end w (held at.lines at.now.read) (without_any_kept at.now.parts)
+-- The end, where so much has come: that of the log, or, where the line that comes then is past a limit, that limit, and the
+-- held lines tell nothing more.
+abbrev pub log_end : World → Option Past → Progress → Reading
+log_end w None at = at_end w (held at.lines at.now.read) (without_any_kept at.now.parts)
+log_end w (Some past) at = ends_at (cut_ending (Some past))
 
 -- ---- the reading
--- the reading of lines, each cut so
-abbrev pub reading_by : (List ℕ → PidLine) → World → List (List ℕ) → Reading
-reading_by cut w lines = ended (log_end w) (rows_read w cut 1 lines (beginning w))
+-- the reading of what is cut from a log
+abbrev pub strace_of_cut : World → Cut → Reading
+strace_of_cut w cut = ended (log_end w cut.stop) (rows_read w 1 cut.lines (beginning w))
 
--- the reading of lines
+-- the reading of a log that has these lines, whatever their length
 abbrev pub reading : World → List (List ℕ) → Reading
-reading w lines = reading_by row_of w lines
+reading w lines = strace_of_cut w (record { lines = lines; stop = None })
 
--- the reading of a log: of its lines, which have a limit
+-- the reading of a log
 abbrev pub strace_reading : World → List ℕ → Reading
-strace_reading w text = reading_by log_row w (lines_of text)
+strace_reading w text = strace_of_cut w (log_cut text)

@@ -1,4 +1,4 @@
--- What a session of a reader of strace(1) still gives for the lines that come and for the log's end, by its plain parts:
+-- What a session of a reader of strace(1) still gives for what is cut from a log from here on, by its plain parts:
 -- what is known, the held lines, how many lines came, the stop if there was one, and whether the log has ended. A session
 -- is fed line by line and keeps the held lines; that one which has just begun gives the reading is a law.
 use Rattle.std.specs.Prelude.{◌≡◌, ℕ, zero, suc, ◌+◌, ◌==◌, nat_lt, length, List, [], ◌∷◌, ◌++◌, Option, Some, None}
@@ -6,12 +6,14 @@ use Rattle.std.specs.Prelude.{if◌then◌else◌}
 use Rattle.cm_base.specs.Limited.{limit_number}
 use Rattle.cm_base.specs.declared.faults.LineFault.TheVariants as fault
 use Rattle.cm_base.specs.declared.limited.Limited.TheVariants as limit
+use Rattle.cm_lines.specs.Cut.{Cut, before, ends_by}
+use Rattle.cm_lines.specs.declared.limits.Past.{Past}
 use Rattle.model_cred.specs.World.{World}
 use Rattle.model_strace.specs.After.{After, Goes, Halts, and_then}
-use Rattle.model_strace.specs.Body.{PidLine, Blank, TooLong, NoPid, Of, row_of}
-use Rattle.model_strace.specs.Lines.{Line, Next, read_line, next_line, at_end, ended, reading, reading_by}
+use Rattle.model_strace.specs.Body.{PidLine, Blank, NoPid, Of, row_of}
+use Rattle.model_strace.specs.Lines.{Line, Next, read_line, next_line, at_end, ended, strace_of_cut}
 use Rattle.model_strace.specs.Parts.{Parts, first_parts, is_known, without_any_kept}
-use Rattle.model_text.specs.Reading.{Placed, Stop, Fault, Limit, End, AtEnd, Stops, Reading, ends_at}
+use Rattle.model_text.specs.Reading.{Placed, Stop, Fault, Limit, End, AtEnd, Stops, Reading, ends_at, cut_ending}
 
 -- What a session that goes on has: what is known, the held lines in their order, and how many lines came.
 pub record Work : Type 0 where
@@ -75,33 +77,33 @@ line_fed w l t = if is_known l.pid t.parts then read_fed w l t else held_fed l t
 -- a line comes, which is counted already
 abbrev pub row_fed : World → PidLine → Work → After Work
 row_fed w Blank t = Goes [] t
-row_fed w TooLong t = Halts [] (Limit limit.Line)
 row_fed w NoPid t = Halts [] (Fault t.count fault.Pid)
 row_fed w (Of pid body) t = line_fed w (record { number = t.count; pid = pid; body = body }) t
 
--- a line comes, cut so
-abbrev pub fed_by : (List ℕ → PidLine) → World → List ℕ → Work → After Work
-fed_by cut w line t = row_fed w (cut line) (record t { count = t.count + 1 })
+-- a line comes
+abbrev pub fed : World → List ℕ → Work → After Work
+fed w line t = row_fed w (row_of line) (record t { count = t.count + 1 })
 
--- lines come, each cut so
-abbrev pub all_fed : (List ℕ → PidLine) → World → List (List ℕ) → Work → After Work
-all_fed cut w [] t = Goes [] t
-all_fed cut w (line ∷ lines) t = and_then (fed_by cut w line t) (λ t'. all_fed cut w lines t')
+-- lines come
+abbrev pub all_fed : World → List (List ℕ) → Work → After Work
+all_fed w [] t = Goes [] t
+all_fed w (line ∷ lines) t = and_then (fed w line t) (λ t'. all_fed w lines t')
 
 -- the log ends
 abbrev pub work_end : World → Work → Reading
 work_end w t = at_end w t.held (without_any_kept t.parts)
 
--- ---- what a session gives
--- what a session still gives for lines, each cut so, and the log's end: after a stop that stop, after the log's end nothing
-abbrev pub rest_by : (List ℕ → PidLine) → World → Session → List (List ℕ) → Reading
-rest_by cut w (Going t) lines = ended (work_end w) (all_fed cut w lines t)
-rest_by cut w (Stopped count stop) lines = ends_at (Stops stop)
-rest_by cut w (Finished count) lines = ends_at AtEnd
+-- the log ends, or the line that comes is past a limit, and the held lines tell nothing more
+abbrev pub work_ended : World → Option Past → Work → Reading
+work_ended w None t = work_end w t
+work_ended w (Some past) t = ends_at (cut_ending (Some past))
 
--- what a session still gives
-abbrev pub rest : World → Session → List (List ℕ) → Reading
-rest w session lines = rest_by row_of w session lines
+-- ---- what a session gives
+-- what a session still gives for what is cut from the log from here on: after a stop that stop, after the log's end nothing
+abbrev pub rest : World → Session → Cut → Reading
+rest w (Going t) cut = ended (work_ended w cut.stop) (all_fed w cut.lines t)
+rest w (Stopped count stop) cut = ends_at (Stops stop)
+rest w (Finished count) cut = ends_at AtEnd
 
 -- ---- what a call answers
 -- the events, and the stop where there is one
@@ -111,7 +113,7 @@ answer_of (Halts events stop) = record { events = events; ending = Stops stop }
 
 -- what a line that comes answers; after a stop that stop, after the log's end nothing
 abbrev pub line_answer : World → Session → List ℕ → Reading
-line_answer w (Going t) line = answer_of (fed_by row_of w line t)
+line_answer w (Going t) line = answer_of (fed w line t)
 line_answer w (Stopped count stop) line = ends_at (Stops stop)
 line_answer w (Finished count) line = ends_at AtEnd
 
@@ -122,7 +124,7 @@ session_of count (Halts events stop) = Stopped count stop
 
 -- what a session is after a line
 abbrev pub after_line : World → Session → List ℕ → Session
-after_line w (Going t) line = session_of (t.count + 1) (fed_by row_of w line t)
+after_line w (Going t) line = session_of (t.count + 1) (fed w line t)
 after_line w (Stopped count stop) line = Stopped count stop
 after_line w (Finished count) line = Finished count
 
@@ -131,7 +133,7 @@ abbrev pub session_ended : ℕ → End → Session
 session_ended count AtEnd = Finished count
 session_ended count (Stops stop) = Stopped count stop
 
--- what a session is after the log's end, which answers what it still gives for no lines
+-- what a session is after the log's end, which answers what it still gives where no line comes
 abbrev pub after_finish : World → Session → Session
 after_finish w (Going t) = session_ended t.count (work_end w t).ending
 after_finish w (Stopped count stop) = Stopped count stop
@@ -149,24 +151,14 @@ answered_then answer later = answered_by answer.ending answer.events later
 -- ---- laws
 -- A session that has just begun gives the reading.
 unfoldable pub BeginsWithReading : Type 0
-BeginsWithReading = (w : World) (lines : List (List ℕ)) → rest w (first_session w) lines ≡ reading w lines
-
--- The same of lines that are cut otherwise.
-unfoldable pub BeginsWithReadingBy : Type 0
-BeginsWithReadingBy =
-    (cut : List ℕ → PidLine) (w : World) (lines : List (List ℕ)) → rest_by cut w (first_session w) lines ≡ reading_by cut w lines
+BeginsWithReading = (w : World) (cut : Cut) → rest w (first_session w) cut ≡ strace_of_cut w cut
 
 -- What a line answers, and then what the session after it still gives, is what the session gave before.
 unfoldable pub LinesGoOn : Type 0
-LinesGoOn = (w : World) (session : Session) (line : List ℕ) (lines : List (List ℕ))
-    → rest w session (line ∷ lines) ≡ answered_then (line_answer w session line) (rest w (after_line w session line) lines)
+LinesGoOn = (w : World) (session : Session) (line : List ℕ) (cut : Cut)
+    → rest w session (before line cut) ≡ answered_then (line_answer w session line) (rest w (after_line w session line) cut)
 
--- The same of lines that are cut otherwise, where that line is cut as it is.
-unfoldable pub LinesGoOnBy : Type 0
-LinesGoOnBy = (cut : List ℕ → PidLine) (w : World) (session : Session) (line : List ℕ) (lines : List (List ℕ)) → cut line ≡ row_of line
-    → rest_by cut w session (line ∷ lines) ≡ answered_then (line_answer w session line) (rest_by cut w (after_line w session line) lines)
-
--- After the log's end a session gives nothing more, and ends as it ended.
+-- After the log's end a session gives nothing more, whatever comes, and ends as it ended.
 unfoldable pub EndsForGood : Type 0
-EndsForGood = (w : World) (session : Session) (lines : List (List ℕ))
-    → rest w (after_finish w session) lines ≡ ends_at (rest w session []).ending
+EndsForGood = (w : World) (session : Session) (cut : Cut)
+    → rest w (after_finish w session) cut ≡ ends_at (rest w session (ends_by None)).ending

@@ -3,7 +3,8 @@ use Rattle.std.proofs.Common.{◌≡◌, [], ◌∷◌, Some, None, refl}
 use Rattle.std.specs.Prelude.{codes}
 use Rattle.cm_base.specs.declared.res.Res.TheVariants.{Done, Err}
 use Rattle.cm_base.specs.declared.errno.Errno.TheVariants.{ENOSPC}
-use Rattle.model_text.specs.Cut.{lines_of, tokens_of}
+use Rattle.cm_lines.specs.Lines.{lines_of}
+use Rattle.model_text.specs.Cut.{tokens_of}
 use Rattle.model_text.specs.Token.{number_token, pid_token, id_token, result_token}
 
 -- ---- lines and tokens

@@ -1,13 +1,10 @@
 -- Worked cases, by computation, of the faults of script lines, of their order, and of lines that are no event.
-use Rattle.std.proofs.Common.{◌≡◌, ℕ, nat_lt, length, List, [], ◌∷◌, map, refl, ap}
-use Rattle.std.specs.Prelude.{codes, cond}
-use Rattle.cm_base.specs.Limited.{limit_number}
+use Rattle.std.proofs.Common.{◌≡◌, ℕ, List, [], ◌∷◌, map, refl}
+use Rattle.std.specs.Prelude.{codes}
 use Rattle.cm_base.specs.declared.faults.LineFault.TheVariants as fault
-use Rattle.cm_base.specs.declared.limited.Limited.TheVariants as limit
 use Rattle.model_text.proofs.CaseWorld.{the_world}
 use Rattle.model_text.proofs.LineCases.{Have}
-use Rattle.model_text.specs.Line.{Faulty, NoEvent, Exceeds, script_line}
-use Rattle.model_text.specs.Reading.{log_line}
+use Rattle.model_text.specs.Line.{Faulty, NoEvent, script_line}
 
 -- ---- no event
 -- each of the lines tells nothing
@@ -71,16 +68,3 @@ then_the_first_argument = refl
 pub then_a_later_one : Have (fault.Argument 2)
     (codes "100 setresuid 1 y z = x" ∷ codes "100 setgroups 1 y z = x" ∷ codes "100 write_setgroups pod maybe = x" ∷ [])
 then_a_later_one = refl
-
--- ---- the limit of a line's bytes
--- the length decides before all else
-from_length : (n : ℕ) (line : List ℕ) → length line ≡ n
-    → log_line the_world line ≡ cond (nat_lt (limit_number limit.Line) n) (Exceeds limit.Line) (script_line the_world line)
-from_length n line long =
-    ap (λ (m : ℕ). cond (nat_lt (limit_number limit.Line) m) (Exceeds limit.Line) (script_line the_world line)) long
-
-pub a_line_of_as_many_bytes_is_read : (line : List ℕ) → length line ≡ 1048576 → log_line the_world line ≡ script_line the_world line
-a_line_of_as_many_bytes_is_read line long = from_length 1048576 line long
-
-pub a_line_of_one_byte_more_is_not : (line : List ℕ) → length line ≡ 1048577 → log_line the_world line ≡ Exceeds limit.Line
-a_line_of_one_byte_more_is_not line long = from_length 1048577 line long

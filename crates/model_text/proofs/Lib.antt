@@ -12,6 +12,7 @@ pub mod ReadBack
 pub mod ToldEvents
 pub mod WrittenLogs
 pub mod WrittenCases
+pub mod Fronts
 pub mod Numbers
 pub mod CapTexts
 pub mod Values
@@ -33,6 +34,7 @@ pub mod BirthLineCases
 pub mod SpaceLineCases
 pub mod FileLineCases
 pub mod FaultCases
+pub mod CutCases
 pub mod WorldCases
 pub mod SpaceCases
 pub mod MountCases

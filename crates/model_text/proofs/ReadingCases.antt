@@ -13,7 +13,7 @@ use Rattle.model_text.specs.NameText.{is_path}
 use Rattle.model_text.specs.Reading.{Placed, AtEnd, Stops, Fault, Limit, ends_at, script_reading}
 
 -- the event of a call of process 100 in the line of that number
-abbrev at_line : ℕ → Call → Res → Placed
+abbrev pub at_line : ℕ → Call → Res → Placed
 at_line number call res = record { line = number; event = event_of call res }
 
 pub nothing_is_read_to_the_end : script_reading the_world [] ≡ ends_at AtEnd

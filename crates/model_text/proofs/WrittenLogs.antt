@@ -1,8 +1,8 @@
 -- What was written of events, a line for each, is read again as the same events.
 use Rattle.std.proofs.Common.{◌≡◌, ℕ, ◌+◌, ◌*◌, ◌<◌, ◌≤◌, ◌==◌, Bool, true, not, List, [], ◌∷◌, ◌++◌, length}
-use Rattle.std.proofs.Common.{refl, ap, ◌∙◌, arith, append_assoc, length-append, All}
-use Rattle.std.proofs.lemmas.Bool.{and_parts, le-ltb, ltb-true, not-true, ne_eqb}
-use Rattle.std.proofs.lemmas.List.Elements.{All-head, All-tail}
+use Rattle.std.proofs.Common.{refl, sym, subst, ap, ◌∙◌, arith, append_assoc, length-append, All, map, None}
+use Rattle.std.proofs.lemmas.Bool.{and_parts, ltb-true, not-true, ne_eqb}
+use Rattle.std.proofs.lemmas.List.Elements.{All-nil, All-cons, All-head, All-tail}
 use Rattle.std.specs.Prelude.{codes, decimal}
 use Rattle.std.specs.List.{list_all}
 use Rattle.cm_base.specs.Limited.{limit_number}
@@ -11,14 +11,15 @@ use Rattle.cm_filter.specs.Kinds.{call_name}
 use Rattle.model_cred.specs.Call.{Event, kind_of}
 use Rattle.model_cred.specs.World.{World}
 use Rattle.model_text.proofs.Found.{all_append, all_weaker}
+use Rattle.model_text.proofs.Fronts.{short_lines_come}
 use Rattle.model_text.proofs.KeepsNames.{declared_names_keep}
 use Rattle.model_text.proofs.ReadBack.{Written, TokensWritten, tokens_written, event_read_back}
 use Rattle.model_text.proofs.Tokens.{IsToken, is_plain}
 use Rattle.model_text.specs.Arguments.{Argument, argument_text, arguments_of, spaced_texts}
-use Rattle.model_text.specs.Cut.{grown, lines_of}
-use Rattle.model_text.specs.Line.{Line, Tells}
+use Rattle.cm_lines.specs.Lines.{grown, lines_of}
+use Rattle.model_text.specs.Line.{Line}
 use Rattle.model_text.specs.Print.{event_text}
-use Rattle.model_text.specs.Reading.{Reading, AtEnd, from_line, lines_reading, log_line, reads_on}
+use Rattle.model_text.specs.Reading.{Reading, AtEnd, from_line, lines_reading, reads_on, script_of_cut}
 use Rattle.model_text.specs.Token.{res_text}
 use Rattle.model_text.specs.Written.{DeclaredNamesKeep, KeepsNames, IsWritable, LogsReadBack, events_text, placed_from}
 
@@ -95,27 +96,40 @@ event_short w e keeps can few =
     omega (arith, all, few, one, two, three, four, are.pid.short, are.name.short, are.result.short)
 
 -- ---- several events
-line_read : (w : World) (e : Event) → KeepsNames w → IsWritable w e → length (event_text w e) ≤ limit_number limit.Line
-    → log_line w (event_text w e) ≡ Tells e
-line_read w e keeps can short =
-    rw (le-ltb (limit_number limit.Line) (length (event_text w e)) short) (event_read_back w e keeps can)
+-- the lines of events are their texts
+lines_written : (w : World) (events : List Event) → KeepsNames w → All (IsWritable w) events
+    → lines_of (events_text w events) ≡ map (event_text w) events
+lines_written w [] keeps can = refl
+lines_written w (e ∷ events) keeps can =
+    let this : IsWritable w e = All-head (IsWritable w) e events can in
+    ap lines_of (append_assoc (event_text w e) (10 ∷ []) (events_text w events))
+    ∙ line_before (event_text w e) (events_text w events) (event_inner w e (tokens_written w e keeps this))
+    ∙ ap (λ (ls : List (List ℕ)). event_text w e ∷ ls) (lines_written w events keeps (All-tail (IsWritable w) e events can))
+
+-- a property of what is written of each is one of all these texts
+all_texts : (P : List ℕ → Type 0) (w : World) (events : List Event) → All (λ e. P (event_text w e)) events → All P (map (event_text w) events)
+all_texts P w [] all = All-nil P
+all_texts P w (e ∷ events) all =
+    All-cons P (event_text w e) (map (event_text w) events) (All-head (λ e. P (event_text w e)) e events all)
+    (all_texts P w events (All-tail (λ e. P (event_text w e)) e events all))
 
 lines_read : (w : World) (number : ℕ) (events : List Event) → KeepsNames w → All (IsWritable w) events
-    → All (λ e. length (event_text w e) ≤ limit_number limit.Line) events
-    → lines_reading w number (lines_of (events_text w events)) ≡ record { events = placed_from number events; ending = AtEnd }
-lines_read w number [] keeps can short = refl
-lines_read w number (e ∷ events) keeps can short =
-    let IsShort : Event → Type 0 = λ e. length (event_text w e) ≤ limit_number limit.Line in
-    let this : IsWritable w e = All-head (IsWritable w) e events can in
-    let rest : Reading = lines_reading w (number + 1) (lines_of (events_text w events)) in
-    ap (λ (text : List ℕ). lines_reading w number (lines_of text))
-    (append_assoc (event_text w e) (10 ∷ []) (events_text w events))
-    ∙ ap (lines_reading w number)
-    (line_before (event_text w e) (events_text w events) (event_inner w e (tokens_written w e keeps this)))
-    ∙ ap (λ (line : Line). from_line number line rest) (line_read w e keeps this (All-head IsShort e events short))
+    → lines_reading w number (map (event_text w) events) None ≡ record { events = placed_from number events; ending = AtEnd }
+lines_read w number [] keeps can = refl
+lines_read w number (e ∷ events) keeps can =
+    let rest : Reading = lines_reading w (number + 1) (map (event_text w) events) None in
+    ap (λ (line : Line). from_line number line rest) (event_read_back w e keeps (All-head (IsWritable w) e events can))
     ∙ ap (reads_on (record { line = number; event = e }))
-    (lines_read w (number + 1) events keeps (All-tail (IsWritable w) e events can) (All-tail IsShort e events short))
+    (lines_read w (number + 1) events keeps (All-tail (IsWritable w) e events can))
 
 pub logs_read_back : LogsReadBack
 unfolding LogsReadBack DeclaredNamesKeep
-logs_read_back bytes w events reads can short = lines_read w 1 events (declared_names_keep bytes w reads) can short
+logs_read_back bytes w events reads can short =
+    let keeps : KeepsNames w = declared_names_keep bytes w reads in
+    let line : ℕ = limit_number limit.Line in
+    let are : lines_of (events_text w events) ≡ map (event_text w) events = lines_written w events keeps can in
+    let all : All (λ l. length l ≤ line) (lines_of (events_text w events)) =
+    subst (All (λ l. length l ≤ line)) (sym are) (all_texts (λ l. length l ≤ line) w events short) in
+    ap (script_of_cut w) (short_lines_come line (events_text w events) all)
+    ∙ ap (λ (ls : List (List ℕ)). lines_reading w 1 ls None) are
+    ∙ lines_read w 1 events keeps can

@@ -1,15 +1,6 @@
--- How a text is cut into lines, and a line into tokens (choice).
+-- How a line is cut into tokens (choice).
 use Rattle.std.specs.Prelude.{ℕ, ◌==◌, ◌||◌, Bool, false, not, List, [], ◌∷◌, if◌then◌else◌}
-
--- the first piece with a byte more at its front; the piece of that byte alone where there is none
-abbrev pub grown : ℕ → List (List ℕ) → List (List ℕ)
-grown byte [] = (byte ∷ []) ∷ []
-grown byte (piece ∷ pieces) = (byte ∷ piece) ∷ pieces
-
--- The lines of a text: each ends before its LF, and a last line without LF counts where it isn't empty.
-abbrev pub lines_of : List ℕ → List (List ℕ)
-lines_of [] = []
-lines_of (byte ∷ text) = if byte == 10 then [] ∷ lines_of text else grown byte (lines_of text)
+use Rattle.cm_lines.specs.Lines.{grown}
 
 -- a blank is a space, a tab or a CR
 abbrev pub is_blank : ℕ → Bool

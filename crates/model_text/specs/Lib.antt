@@ -8,6 +8,7 @@ pub mod Hex
 pub mod Arguments
 pub mod Line
 pub mod Reading
+pub mod Fronts
 pub mod Numbers
 pub mod Places
 pub mod Toml

@@ -1,0 +1,276 @@
+-- What a cutter finds at the front of what it keeps is what comes next in the file.
+use Rattle.std.proofs.Common.{◌≡◌, ℕ, ◌+◌, ◌-◌, ◌<◌, ◌≤◌, ◌==◌, ◌||◌, nat_lt, length, List, [], ◌∷◌, take, drop, refl, ◌∙◌, sym, ap, ap₂, subst, arith, length-take, length-drop}
+use Rattle.std.proofs.Common.{Bool, true, false, IsTrue, inl, inr, Option, None, Some, IfSome, Ok, Err}
+use Rattle.std.proofs.lemmas.Bool.{cases_Bool, cases_lt}
+use Rattle.std.proofs.lemmas.List.{take-take, take_all}
+use Rattle.cm_lines.specs.Lines.{line_len, line_size}
+use Rattle.cm_lines.specs.Cut.{past_of}
+use Rattle.cm_lines.specs.declared.limits.Past.{Past}
+use Rattle.cm_lines.specs.declared.limits.Past.TheVariants.{Line, Whole}
+use Rattle.cm_lines.proofs.Lengths.{len_within, len_front, len_past}
+use Rattle.cm_lines.proofs.PastLimits.{past_more, some_past}
+use Rattle.cm_io.specs.Cutter.{Cutting, FitsText, Fits, SameFile, unless_past, next_cut, next_of, error_of, is_at_hand, ends}
+use Rattle.cm_io.specs.CutterSteps.{KeepsMore, IsFound, found_of}
+use Rattle.cm_io.specs.Shelf.{Files, bytes_at, TakesAtMost}
+use Rattle.cm_io.specs.declared.cutter.CutError.{CutError}
+use Rattle.cm_io.specs.declared.cutter.CutError.TheVariants.{Read, TooLong, TooMuch, NoMemory}
+
+-- ---- what comes next
+next_past : (line whole place : ℕ) (left : List ℕ) (past : Past) → 0 < length left
+    → past_of line whole place (line_len left) (line_size left) ≡ Some past → next_cut line whole place left ≡ Err (error_of past)
+next_past line whole place [] past some is = absurd (omega arith)
+next_past line whole place (b ∷ bs) past some is = ap (λ p. unless_past p (take (line_len (b ∷ bs)) (b ∷ bs))) is
+
+next_line : (line whole place : ℕ) (left : List ℕ) → 0 < length left
+    → past_of line whole place (line_len left) (line_size left) ≡ None → next_cut line whole place left ≡ Ok (Some (take (line_len left) left))
+next_line line whole place [] some is = absurd (omega arith)
+next_line line whole place (b ∷ bs) some is = ap (λ p. unless_past p (take (line_len (b ∷ bs)) (b ∷ bs))) is
+
+next_end : (line whole place : ℕ) (left : List ℕ) → length left ≤ 0 → next_cut line whole place left ≡ Ok None
+next_end line whole place [] none = refl
+next_end line whole place (b ∷ bs) none = absurd (omega arith)
+
+-- ---- what is kept of what is left
+-- as much is left
+left_len : (left kept : List ℕ) → kept ≡ take (length kept) left → length kept ≤ length left
+left_len left kept is = omega (arith, ap length is, length-take (length kept) left)
+
+-- an LF that is kept ends the line
+len_kept : (left kept : List ℕ) → kept ≡ take (length kept) left → line_len kept < length kept → line_len left ≡ line_len kept
+len_kept left kept is within =
+    let same : line_len (take (length kept) left) ≡ line_len kept = ap line_len (sym is) in
+    let size : length (take (length kept) left) ≡ length kept = ap length (sym is) in
+    len_front left (length kept) (omega (arith, same, size, within)) ∙ same
+
+-- where none is kept, the line goes on
+len_open : (left kept : List ℕ) → kept ≡ take (length kept) left → length kept ≤ line_len kept → length kept ≤ line_len left
+len_open left kept is none =
+    let same : line_len (take (length kept) left) ≡ line_len kept = ap line_len (sym is) in
+    let within = len_within kept in
+    len_past left (length kept) (left_len left kept is) (omega (arith, same, within, none))
+
+-- A limit that what is kept is past.
+pub past_next : (line whole place : ℕ) (left kept : List ℕ) (past : Past) → kept ≡ take (length kept) left → place ≤ whole
+    → past_of line whole place (line_len kept) (line_size kept) ≡ Some past → next_cut line whole place left ≡ Err (error_of past)
+past_next line whole place left kept past is reached found =
+    let most = left_len left kept is in
+    elim (cases_lt (line_len kept) (length kept)) [
+      | inl within ↦
+          let len : line_len left ≡ line_len kept = len_kept left kept is within in
+          let size : line_size left ≡ line_size kept = omega (arith, len, within, most) in
+          next_past line whole place left past (omega (arith, within, most))
+          (ap₂ (λ (l : ℕ) (s : ℕ). past_of line whole place l s) len size ∙ found)
+      | inr none ↦
+          let within = len_within kept in
+          let len : line_len kept ≡ length kept = omega (arith, within, none) in
+          let size : line_size kept ≡ length kept = omega (arith, within, none) in
+          let past_kept : past_of line whole place (length kept) (length kept) ≡ Some past =
+          sym (ap₂ (λ (l : ℕ) (s : ℕ). past_of line whole place l s) len size) ∙ found in
+          let further = len_open left kept is none in
+          elim (cases_lt 0 (length kept)) [
+            | inl some ↦
+                next_past line whole place left past (omega (arith, some, most))
+                (past_more line whole place (length kept) (line_len left) (line_size left) past further (omega (arith, further, most)) past_kept)
+            | inr empty ↦ absurd (some_past line whole place past reached
+                (let zero_len : length kept ≡ 0 = omega (arith, empty) in sym (ap (λ n. past_of line whole place n n) zero_len) ∙ past_kept))
+          ]
+    ]
+
+-- A line that is kept with its LF.
+pub line_next : (line whole place : ℕ) (left kept : List ℕ) → kept ≡ take (length kept) left → line_len kept < length kept
+    → past_of line whole place (line_len kept) (line_size kept) ≡ None
+    → (next_cut line whole place left ≡ Ok (Some (take (line_len kept) kept))) × (line_size kept ≡ line_size left)
+line_next line whole place left kept is within found =
+    let most = left_len left kept is in
+    let len : line_len left ≡ line_len kept = len_kept left kept is within in
+    let size : line_size left ≡ line_size kept = omega (arith, len, within, most) in
+    let same : take (line_len kept) kept ≡ take (line_len kept) left =
+    ap (λ l. take (line_len kept) l) is ∙ take-take (line_len kept) (length kept) left (omega (arith, within)) in (
+      next_line line whole place left (omega (arith, within, most)) (ap₂ (λ (l : ℕ) (s : ℕ). past_of line whole place l s) len size ∙ found)
+          ∙ ap (λ l. Ok (Some l)) (ap (λ n. take n left) len ∙ sym same),
+      sym size,
+    )
+
+-- The last line, and the end.
+pub last_next : (line whole place : ℕ) (left kept : List ℕ) → kept ≡ take (length kept) left → length left ≤ length kept → length kept ≤ line_len kept
+    → past_of line whole place (line_len kept) (line_size kept) ≡ None
+    → (0 < length kept → (next_cut line whole place left ≡ Ok (Some (take (length kept) kept))) × (length kept ≡ line_size left))
+    × (length kept ≡ 0 → next_cut line whole place left ≡ Ok None)
+last_next line whole place left kept is all none found =
+    let whole_is : take (length kept) left ≡ left = take_all (length kept) left all in
+    let same : kept ≡ left = is ∙ whole_is in
+    let within = len_within kept in
+    let len : line_len left ≡ length kept = ap line_len (sym same) ∙ omega (arith, within, none) in
+    let size : line_size left ≡ line_size kept = ap line_size (sym same) in (
+      λ some. (
+        next_line line whole place left (omega (arith, some, ap length same))
+            (ap (λ l. past_of line whole place (line_len l) (line_size l)) (sym same) ∙ found)
+            ∙ ap (λ l. Ok (Some l)) (ap (λ n. take n left) len ∙ ap (λ l. take (length kept) l) (sym same)),
+        omega (arith, size, within, none),
+      ),
+      λ empty. next_end line whole place left (omega (arith, empty, all)),
+    )
+
+-- ---- cutters
+-- its text as what it keeps of what is left
+left_kept : (c : Cutting) (text : List ℕ) → FitsText c text → c.kept ≡ take (length c.kept) (drop c.place text)
+left_kept c text fits = fits.kept
+
+-- what comes next is told of the same file at the same place
+same_next : (old cur : Cutting) (text : List ℕ) → SameFile old cur → cur.place ≡ old.place → next_of cur text ≡ next_of old text
+same_next old cur text same place =
+    let line = same.line in let whole = same.whole in
+    ap₂ (λ (l : ℕ) (w : ℕ). next_cut l w cur.place (drop cur.place text)) line whole
+    ∙ ap (λ p. next_cut old.line old.whole p (drop p text)) place
+
+-- A limit is found.
+pub past_now : (held : Option Files) (cur : Cutting) (len size : ℕ) (past : Past) → Fits held cur
+    → cur.place ≤ cur.whole → len ≡ line_len cur.kept → size ≡ line_size cur.kept
+    → past_of cur.line cur.whole cur.place len size ≡ Some past → IfSome held (λ files. next_of cur (bytes_at files cur.name) ≡ Err (error_of past))
+past_now None cur len size past fits reached len_is size_is found = tt
+past_now (Some files) cur len size past fits reached len_is size_is found =
+    past_next cur.line cur.whole cur.place (drop cur.place (bytes_at files cur.name)) cur.kept past fits.kept reached
+    (sym (ap₂ (λ (l : ℕ) (s : ℕ). past_of cur.line cur.whole cur.place l s) len_is size_is) ∙ found)
+
+is_past : (old new : Cutting) (text : List ℕ) (past : Past) (e : CutError) → e ≡ error_of past → next_of old text ≡ Err (error_of past)
+    → IsFound old new text (Err e)
+is_past old new text Line TooLong same is = is
+is_past old new text Whole TooMuch same is = is
+is_past old new text Line TooMuch same is = absurd (cc)
+is_past old new text Whole TooLong same is = absurd (cc)
+is_past old new text past Read same is = tt
+is_past old new text past NoMemory same is = tt
+
+pub past_found : (held : Option Files) (old cur new : Cutting) (more : ℕ) (past : Past) (e : CutError) → KeepsMore old cur more → e ≡ error_of past
+    → IfSome held (λ files. next_of cur (bytes_at files cur.name) ≡ Err (error_of past))
+    → IfSome held (λ files. IsFound old new (bytes_at files old.name) (Err e))
+past_found None old cur new more past e keeps same is = tt
+past_found (Some files) old cur new more past e keeps same is =
+    is_past old new (bytes_at files old.name) past e same (
+    subst (λ (n : List ℕ). next_of old (bytes_at files n) ≡ Err (error_of past)) keeps.same.name
+    (sym (same_next old cur (bytes_at files cur.name) keeps.same keeps.place) ∙ is))
+
+-- and told from then on
+pub fits_stopped : (held : Option Files) (cur new : Cutting) (past : Past) → new ≡ record cur { stop = Some past } → Fits held cur
+    → IfSome held (λ files. next_of cur (bytes_at files cur.name) ≡ Err (error_of past)) → Fits held new
+fits_stopped None cur new past now fits is = tt
+fits_stopped (Some files) cur new past now fits is =
+    subst (λ (c : Cutting). Fits (Some files) c) (sym now) (record { kept = fits.kept; ended = fits.ended; stopped = is })
+
+pub stopped_at : (was cur : Cutting) (past : Past) → was ≡ cur → record was { stop = Some past } ≡ record cur { stop = Some past }
+stopped_at was cur past same = ap (λ (c : Cutting). let d : Cutting = record c { stop = Some past } in d) same
+
+-- What is found, where a line is kept with its LF.
+line_found : (old cur : Cutting) (text : List ℕ) (more len size : ℕ) → KeepsMore old cur more → FitsText cur text
+    → len ≡ line_len cur.kept → size ≡ line_size cur.kept → len < size → past_of cur.line cur.whole cur.place len size ≡ None
+    → IsFound old cur text (Ok (found_of len size))
+line_found old cur text more len size keeps fits len_is size_is below found =
+    let (now, all) = line_next cur.line cur.whole cur.place (drop cur.place text) cur.kept fits.kept (omega (arith, len_is, size_is, below))
+    (sym (ap₂ (λ (l : ℕ) (s : ℕ). past_of cur.line cur.whole cur.place l s) len_is size_is) ∙ found) in
+    let some : (size == 0) ≡ false = grind (arith, below) in
+    rw some (
+      sym (same_next old cur text keeps.same keeps.place) ∙ now ∙ ap (λ n. Ok (Some (take n cur.kept))) (sym len_is),
+      size_is ∙ all ∙ ap (λ p. line_size (drop p text)) keeps.place,
+    )
+
+-- What is found, where the file ends and no LF is kept.
+last_is_found : (old cur : Cutting) (text : List ℕ) (more len size : ℕ) → KeepsMore old cur more → FitsText cur text → IsTrue cur.ended
+    → len ≡ line_len cur.kept → size ≡ line_size cur.kept → size ≤ len → past_of cur.line cur.whole cur.place len size ≡ None
+    → IsFound old cur text (Ok (found_of len size))
+last_is_found old cur text more len size keeps fits ended len_is size_is above found =
+    let within = len_within cur.kept in
+    let all : len ≡ length cur.kept = omega (arith, len_is, size_is, above, within) in
+    let same : size ≡ length cur.kept = omega (arith, len_is, size_is, above, within) in
+    let left : length (drop cur.place text) ≤ length cur.kept = omega (arith, length-drop cur.place text, fits.ended ended) in
+    let (some, none) = last_next cur.line cur.whole cur.place (drop cur.place text) cur.kept fits.kept left (omega (arith, all, len_is))
+    (sym (ap₂ (λ (l : ℕ) (s : ℕ). past_of cur.line cur.whole cur.place l s) len_is size_is) ∙ found) in
+    let back = sym (same_next old cur text keeps.same keeps.place) in
+    elim (cases_Bool (size == 0)) [
+      | inl is ↦ rw is (back ∙ none (grind (arith, is, same)))
+      | inr isnt ↦
+          let (now, size_all) = some (grind (arith, isnt, same)) in
+          rw isnt (
+            back ∙ now ∙ ap (λ n. Ok (Some (take n cur.kept))) (sym all),
+            same ∙ size_all ∙ ap (λ p. line_size (drop p text)) keeps.place,
+          )
+    ]
+
+-- What is found.
+pub is_found : (held : Option Files) (old cur : Cutting) (more len size : ℕ) → KeepsMore old cur more → Fits held cur → IsTrue (is_at_hand cur)
+    → len ≡ line_len cur.kept → size ≡ line_size cur.kept → past_of cur.line cur.whole cur.place len size ≡ None
+    → IfSome held (λ files. IsFound old cur (bytes_at files old.name) (Ok (found_of len size)))
+is_found None old cur more len size keeps fits hand len_is size_is found = tt
+is_found (Some files) old cur more len size keeps fits hand len_is size_is found =
+    subst (λ (n : List ℕ). IsFound old cur (bytes_at files n) (Ok (found_of len size))) keeps.same.name (elim (cases_lt len size) [
+      | inl below ↦ line_found old cur (bytes_at files cur.name) more len size keeps fits len_is size_is below found
+      | inr above ↦
+          last_is_found old cur (bytes_at files cur.name) more len size keeps fits
+          (ended_or cur.ended (line_len cur.kept) (length cur.kept) (omega (arith, len_is, size_is, above, len_within cur.kept)) hand)
+          len_is size_is above found
+    ])
+  where
+    ended_or : (ended : Bool) (a b : ℕ) → b ≤ a → IsTrue (ended || nat_lt a b) → IsTrue ended
+    ended_or true a b above hand = hand
+    ended_or false a b above hand = absurd (grind (arith, above, hand))
+
+-- ---- more is kept
+pub keeps_on : (old cur new : Cutting) (more n : ℕ) → KeepsMore old cur more → KeepsMore cur new n
+    → KeepsMore old new (length new.kept - length old.kept)
+keeps_on old cur new more n first then =
+    let shorter : length old.kept ≤ length cur.kept = omega (arith, first.len) in
+    let longer : length cur.kept ≤ length new.kept = omega (arith, then.len) in
+    record {
+      same = record {
+        name = then.same.name ∙ first.same.name;
+        line = then.same.line ∙ first.same.line;
+        whole = then.same.whole ∙ first.same.whole;
+      };
+      place = then.place ∙ first.place;
+      ended = λ is. then.ended (first.ended is);
+      stop = then.stop ∙ first.stop;
+      front = sym (take-take (length old.kept) (length cur.kept) new.kept shorter) ∙ ap (λ l. take (length old.kept) l) then.front ∙ first.front;
+      len = omega (arith, shorter, longer);
+      few = then.few;
+    }
+
+-- what is at hand stays so
+hand_on : (old cur : Cutting) (more : ℕ) → KeepsMore old cur more → IsTrue (is_at_hand old) → IsTrue (is_at_hand cur)
+hand_on old cur more keeps hand = elim (cases_Bool old.ended) [
+  | inl is ↦ let ended = keeps.ended (rw is refl) in grind (arith, ended)
+  | inr isnt ↦
+      let within : line_len old.kept < length old.kept = let lf = rw isnt at hand in grind (arith, lf) in
+      let same : line_len (take (length old.kept) cur.kept) ≡ line_len old.kept = ap line_len keeps.front in
+      let size : length (take (length old.kept) cur.kept) ≡ length old.kept = ap length keeps.front in
+      let len = len_front cur.kept (length old.kept) (omega (arith, same, size, within)) in
+      let below : line_len cur.kept < length cur.kept = omega (arith, len, same, within, keeps.len) in
+      or_right cur.ended (line_len cur.kept) (length cur.kept) below
+]
+  where
+    or_right : (b : Bool) (m n : ℕ) → m < n → IsTrue (b || nat_lt m n)
+    or_right true m n below = refl
+    or_right false m n below = grind (arith, below)
+
+-- so nothing was, where nothing is
+pub not_hand : (old cur : Cutting) (more : ℕ) (P : Type 0) → KeepsMore old cur more → is_at_hand cur ≡ false → IsTrue (is_at_hand old) → P
+not_hand old cur more P keeps none hand = absurd (let now = hand_on old cur more keeps hand in cc)
+
+-- A read that gave no byte is the one that tells of the end.
+pub ends_on : (old cur new : Cutting) (more n : ℕ) → KeepsMore old cur more → is_at_hand cur ≡ false → new.ended ≡ (n == 0)
+    → ends cur - ends old + (1 - n) ≤ ends new - ends old
+ends_on old cur new more n keeps none is =
+    let before : old.ended ≡ false = elim (cases_Bool old.ended) [
+      | inl was ↦ absurd (let now = hand_on old cur more keeps (rw was refl) in cc)
+      | inr wasnt ↦ wasnt
+    ] in
+    let now : cur.ended ≡ false = elim (cases_Bool cur.ended) [ inl e ↦ absurd (let t = rw e at none in cc) | inr e ↦ e ] in
+    elim (cases_Bool (n == 0)) [
+      | inl zero_is ↦ let none_is : n ≡ 0 = grind (arith, zero_is) in rw (before, now, is, zero_is) (omega (arith, none_is))
+      | inr some ↦ let some_is : 0 < n = grind (arith, some) in rw (before, now, is, some) (omega (arith, some_is))
+    ]
+
+-- ---- bytes that are taken
+pub takes_on : (a b c : List ℕ → ℕ) (name : List ℕ) (m n k : ℕ) → TakesAtMost a b name m → TakesAtMost b c name n → m + n ≤ k → TakesAtMost a c name k
+takes_on a b c name m n k first then few = record {
+  here = omega (arith, first.here, then.here, few);
+  others = λ other isnt. then.others other isnt ∙ first.others other isnt;
+}
