@@ -336,6 +336,27 @@ fn families_are_counted_before_the_file_is_read(rt: HostRuntime) -> Result<(), F
     Ok(())
 }
 
+// How many reads fail in turn, each with no text before it, until the command needs no more.
+fn reads_failed(
+    rt: &impl Abort,
+    alloc: Global,
+    files: &[(&str, &[u8])],
+    command: &str,
+) -> Result<u64, Fail> {
+    let words = strings(alloc, &[command, "world", "log", "100", "uid:0", command])?;
+    let mut met = 0;
+    for k in 1..20 {
+        let mut shelf = shelf_of(rt, alloc, files, &[k])?;
+        let (got, text) = answer(alloc, &words, &mut shelf, &[])?;
+        if got != Status::ReadFault {
+            break;
+        }
+        assert!(rt; text.is_empty(), "read {k}");
+        met = k;
+    }
+    Ok(met)
+}
+
 #[test]
 fn reads_of_a_third_file_fail_in_turn(rt: HostRuntime) -> Result<(), Fail> {
     let alloc = rt.alloc();
@@ -346,20 +367,8 @@ fn reads_of_a_third_file_fail_in_turn(rt: HostRuntime) -> Result<(), Fail> {
         ("check", text.as_slice()),
         ("confirm", EMPTY),
     ];
-    for command in ["check", "confirm"] {
-        let words = strings(alloc, &[command, "world", "log", "100", "uid:0", command])?;
-        let mut met = 0;
-        for k in 1..20 {
-            let mut shelf = shelf_of(&rt, alloc, &files, &[k])?;
-            let (got, text) = answer(alloc, &words, &mut shelf, &[])?;
-            if got != Status::ReadFault {
-                break;
-            }
-            assert!(rt; text.is_empty(), "{command}, read {k}");
-            met = k;
-        }
-        // Of the world a read and one that finds its end; one of the log; of the certificate as of the world.
-        assert_eq!(rt; met, if command == "check" { 5 } else { 4 }, "{command}");
-    }
+    // Of the world a read and one that finds its end; one of the log; of the certificate as of the world.
+    assert_eq!(rt; reads_failed(&rt, alloc, &files, "check")?, 5);
+    assert_eq!(rt; reads_failed(&rt, alloc, &files, "confirm")?, 4);
     Ok(())
 }

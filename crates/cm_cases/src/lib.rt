@@ -15,6 +15,8 @@ mod lines;
 #[cfg(test)]
 mod outside;
 #[cfg(test)]
+mod pieces;
+#[cfg(test)]
 mod spaces;
 #[cfg(test)]
 mod strace;

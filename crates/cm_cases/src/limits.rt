@@ -98,7 +98,7 @@ fn groups_of_a_world_have_a_limit(rt: HostRuntime) -> Result<(), Fail> {
 }
 
 #[test]
-fn files_of_bytes_have_limits(rt: HostRuntime) -> Result<(), Fail> {
+fn worlds_have_a_limit_of_bytes(rt: HostRuntime) -> Result<(), Fail> {
     let alloc = rt.alloc();
     // A comment fills the world.
     let mut world = b"log = \"script\"\n#".to_vec(alloc)?;
@@ -106,10 +106,23 @@ fn files_of_bytes_have_limits(rt: HostRuntime) -> Result<(), Fail> {
     check(&rt, alloc, &world, b"", Status::Accepted, b"end 0\n")?;
     world.push(b'x')?;
     let report = b"limit world 1048576\n";
-    check(&rt, alloc, &world, b"", Status::Limit, report)?;
-    let log = vec![in alloc; b'\n'; 67_108_865]?;
-    let report = b"limit log 67108864\n";
-    check(&rt, alloc, SCRIPT.as_bytes(), &log, Status::Limit, report)
+    check(&rt, alloc, &world, b"", Status::Limit, report)
+}
+
+// The limit of logs, 2^40 bytes, is beyond what a shelf in memory holds.
+#[test]
+fn a_log_of_64_mib_and_a_byte_is_accepted(rt: HostRuntime) -> Result<(), Fail> {
+    let alloc = rt.alloc();
+    let mut line = vec![in alloc; b';'; 1_048_575]?;
+    line.push(b'\n')?;
+    let mut log = Vec::new(alloc);
+    for _ in 0..64 {
+        log.extend_from_slice(&line)?;
+    }
+    log.push(b'\n')?;
+    assert_eq!(rt; log.len(), 67_108_865);
+    let end = b"end 0\n";
+    check(&rt, alloc, SCRIPT.as_bytes(), &log, Status::Accepted, end)
 }
 
 #[test]

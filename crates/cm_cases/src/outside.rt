@@ -8,6 +8,10 @@ use std::test::Fail;
 
 const WORLD: &[u8] = b"log = \"script\"\n[[process]]\npid = 100\n";
 
+const START: &str =
+    "> 100 init uid=0,0,0,0 gid=0,0,0,0 groups=- inh=0000000000000000 prm=000001ffffffffff \
+                     eff=000001ffffffffff bnd=000001ffffffffff amb=0000000000000000 sec=00 nnp=0\n";
+
 // A log whose report leaves in several pieces.
 fn long_log(alloc: Global) -> Result<Vec<u8>, AllocError> {
     let mut log = Vec::new(alloc);
@@ -22,6 +26,13 @@ fn reads_fail_in_turn(rt: HostRuntime) -> Result<(), Fail> {
     let alloc = rt.alloc();
     let words = strings(alloc, &["replay", "world", "log"])?;
     let log = long_log(alloc)?;
+    let mut sound = shelf(&rt, alloc, WORLD, &log, &[])?;
+    let (status, whole) = answer(alloc, &words, &mut sound, &[])?;
+    assert_eq!(rt; status, Status::Accepted);
+
+    // A read of each file, and one that finds its end. Before those of the log nothing is written; then the start lines
+    // are, and once all lines are read what they tell: all but the last line, which counts the events.
+    let told = [0, 0, START.len(), whole.len().saturating_sub(9)];
     let mut met = 0;
     for k in 1..20 {
         let mut shelf = shelf(&rt, alloc, WORLD, &log, &[k])?;
@@ -30,11 +41,13 @@ fn reads_fail_in_turn(rt: HostRuntime) -> Result<(), Fail> {
             break;
         }
         assert_eq!(rt; got, Status::ReadFault, "read {k}");
-        assert!(rt; text.is_empty(), "read {k}");
-        met = k;
+        assert!(rt; whole.starts_with(&text), "read {k}");
+        assert!(rt; told.get(met) == Some(&text.len()), "read {k}");
+        met += 1;
     }
-    // A read of each file, and one that finds its end.
     assert_eq!(rt; met, 4);
+    assert!(rt; whole.starts_with(START.as_bytes()));
+    assert!(rt; whole.ends_with(b"end 1000\n"));
     Ok(())
 }
 

@@ -13,11 +13,10 @@ use Rattle.model_report.specs.Judged.{Judged}
 -- the report was told
 pub drill_answers : (held : Option Files) (n : ℕ) (answer : Status) (w w' : Option (List ℕ)) (f f' : ℕ)
     → ((j : Judged) → GivesDrill n j → TellsReport (drill_of n j) answer w w' f f')
-    → answer ≢ answers.Usage → answer ≢ answers.ReadFault → AnswersReport held (Drill n) answer w w'
-drill_answers held n answer w w' f f' told other fine = record {
+    → answer ≢ answers.Usage → AnswersReport held (Drill n) answer w w'
+drill_answers held n answer w w' f f' told other = record {
   status = always held (λ files j gives is. (told j gives).status is);
   text = always held (λ files j gives. let here = told j gives in record { whole = here.text; front = here.front });
-  silent = λ fault. absurd (fine fault);
   usage = λ is. absurd (other is);
   no_form = λ is. cc;
 }

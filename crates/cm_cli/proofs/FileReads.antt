@@ -7,7 +7,7 @@ use Rattle.std.proofs.lemmas.Slice.Eq.{bytes_eq-Decides}
 use Rattle.cm_base.specs.declared.limited.Limited.{Limited}
 use Rattle.cm_cli.specs.Files.{AnyRose, ApartFor, FilesFaults, IsFileOf, ReadsFor, TakesFor, for_files, one_past, under}
 use Rattle.cm_io.proofs.ReadCounts.{each_then}
-use Rattle.cm_io.specs.Shelf.{CountsApart, EachGives, ReadsByBytes, Rose, TakesAtMost}
+use Rattle.cm_io.specs.Shelf.{CountsApart, EachGives, FileFaults, ReadsByBytes, Rose, TakesAtMost}
 
 -- ---- some files and then others
 count_both : (one more : List (List ℕ × Limited)) (many : Limited → ℕ) (n : List ℕ)
@@ -30,6 +30,20 @@ in_later (file ∷ one) more n is = inr (in_later one more n is)
 -- ---- what is taken
 pub takes_none : (taken : List ℕ → ℕ) → TakesFor [] taken taken
 takes_none taken n = omega arith
+
+pub takes_one : (taken taken' : List ℕ → ℕ) (name : List ℕ) (l : Limited) → TakesAtMost taken taken' name (one_past l)
+    → TakesFor ((name, l) ∷ []) taken taken'
+takes_one taken taken' name l takes n = elim (cases_Bool (bytes_eq n name)) [
+  | inl is ↦
+      let same : n ≡ name = (bytes_eq-Decides n name).0 is in
+      let here = takes.here in
+      rw is (rw same (omega (arith, here)))
+  | inr isnt ↦
+      let other : n ≢ name = λ e. let is = (bytes_eq-Decides n name).1 e in let never : true ≡ false = sym is ∙ isnt in
+      cc in
+      let still = takes.others n other in
+      rw isnt (omega (arith, still))
+]
 
 pub takes_then : (one more : List (List ℕ × Limited)) (taken taken' taken'' : List ℕ → ℕ) → TakesFor one taken taken'
     → TakesFor more taken' taken'' → TakesFor (one ++ more) taken taken''
@@ -128,6 +142,43 @@ rose_later [] (file ∷ more) before mid now same (inl rose) = inl (rose_since b
 rose_later [] (file ∷ more) before mid now same (inr rose) = inr (rose_later [] more before mid now same rose)
 rose_later (file ∷ one) more before mid now same rose = inr (rose_later one more before mid now same rose)
 
+-- one file
+pub faults_one : (before now : List ℕ → ℕ) (name : List ℕ) (l : Limited) (failed : Type 0)
+    → FileFaults before now name failed → FilesFaults before now ((name, l) ∷ []) failed
+faults_one before now name l failed faults = record {
+  later = faults.later;
+  fault = λ is. inl (faults.fault is);
+  others = faults.others;
+}
+
+-- some files, and others after them that weren't read
+pub faults_more : (one more : List (List ℕ × Limited)) (before now : List ℕ → ℕ) (failed : Type 0)
+    → FilesFaults before now one failed → FilesFaults before now (one ++ more) failed
+faults_more one more before now failed faults = record {
+  later = faults.later;
+  fault = λ is. rose_first one more before now (faults.fault is);
+  others = faults.others;
+}
+
+-- some files without a fault, and then others
+pub faults_then : (one more : List (List ℕ × Limited)) (before mid now : List ℕ → ℕ) (failed : Type 0)
+    → ((n : List ℕ) → mid n ≡ before n) → FilesFaults mid now more failed → FilesFaults before now (one ++ more) failed
+faults_then one more before mid now failed same second = record {
+  later = λ n. let a = second.later n in let b = same n in omega (arith, a, b);
+  fault = λ is. rose_later one more before mid now same (second.fault is);
+  others = λ none n. second.others none n ∙ same n;
+}
+
+-- what failed, told another way
+pub faults_as : (files : List (List ℕ × Limited)) (before now : List ℕ → ℕ) (one other : Type 0) → (one → other)
+    → (other → one)
+    → FilesFaults before now files one → FilesFaults before now files other
+faults_as files before now one other to back faults = record {
+  later = faults.later;
+  fault = λ is. faults.fault (back is);
+  others = λ none n. faults.others (λ is. none (to is)) n;
+}
+
 -- A file whose reads are apart, after others that raised no count: where the count of another name rose, it wasn't
 -- read.
 pub unread_apart : (counted : List ℕ → Bool) (faults faults' reads reads' : List ℕ → ℕ) (name other : List ℕ)
@@ -158,3 +209,22 @@ pub apart_still : (files : List (List ℕ × Limited)) (counted : List ℕ → B
     → ApartFor files counted faults faults reads reads
 apart_still [] counted faults reads = tt
 apart_still (file ∷ files) counted faults reads = record { faults_stay = λ _ n other. refl; reads_stay = λ _. refl }
+
+-- a file that wasn't read
+pub fault_still : {failed : Type 0} (before : List ℕ → ℕ) (name : List ℕ) → (failed → ⊥)
+    → FileFaults before before name failed
+fault_still before name never = record {
+  later = λ n. omega arith;
+  fault = λ is. absurd (never is);
+  others = λ none n. refl;
+}
+
+pub taken_still : (taken : List ℕ → ℕ) (name : List ℕ) (most : ℕ) → TakesAtMost taken taken name most
+taken_still taken name most = record { here = omega arith; others = λ n other. refl }
+
+pub read_still : (reads taken : List ℕ → ℕ) (name : List ℕ) → ReadsByBytes reads reads taken taken name 1
+read_still reads taken name = record { later = omega arith; here = inl (omega arith); others = λ n other. refl }
+
+pub counts_still : (counted : List ℕ → Bool) (faults reads : List ℕ → ℕ) (name : List ℕ)
+    → CountsApart counted faults faults reads reads name
+counts_still counted faults reads name = record { faults_stay = λ _ n other. refl; reads_stay = λ _. refl }

@@ -5,9 +5,11 @@ pub mod Ready
 pub mod Auditing
 pub mod LogReport
 pub mod FileReads
-pub mod BothFiles
+pub mod Apart
 pub mod Replaying
+pub mod InOrder
 pub mod Shown
+pub mod BeforeFault
 pub mod Stopping
 pub mod Asked
 pub mod Certified

@@ -1,28 +1,21 @@
 -- The report of a log: the replay, shown or not, and then what is asked.
-use Rattle.std.proofs.Common.{◌≡◌, ◌≢◌, ◌+◌, ℕ, List, [], ◌∷◌, ◌++◌, append-nil, ◌⊎◌, inl, inr, Bool, true, false}
-use Rattle.std.proofs.Common.{Option, None, Some, subst, refl, sym, ap, ◌∙◌, arith}
-use Rattle.cm_base.specs.declared.limited.Limited.{Limited}
+use Rattle.std.proofs.Common.{◌≡◌, ◌≢◌, ◌≤◌, ℕ, List, [], ◌++◌, append-nil, ◌⊎◌, inl, inr, Bool, true, false, length}
+use Rattle.std.proofs.Common.{subst, refl, sym, ap, ◌∙◌, arith}
 use Rattle.cm_base.specs.declared.status.Status.{Status}
 use Rattle.cm_base.specs.declared.status.Status.TheVariants as answers
-use Rattle.cm_cli.specs.Claims.{IsLogAnswer}
 use Rattle.cm_report.proofs.ReportText.{text_of_append}
 use Rattle.cm_replay.specs.Shown.{shown_report, start_shown}
-use Rattle.model_box.proofs.Grows.{run_grows}
-use Rattle.model_cred.specs.Call.{Event}
 use Rattle.model_cred.specs.Process.{State}
 use Rattle.model_cred.specs.World.{World, KeepsWorld}
 use Rattle.model_run.specs.Never.{MountsStand}
-use Rattle.model_report.proofs.Replayed.{of_end, of_stop, over_all, shown_status, stop_is_other, status_of}
-use Rattle.model_report.proofs.Replays.{run_of_within}
+use Rattle.model_report.proofs.Replayed.{of_end, of_stop, over_all, stop_is_other, status_of}
 use Rattle.model_report.specs.Answer.{answer}
 use Rattle.model_report.specs.Judged.{Judged}
-use Rattle.model_report.specs.Replay.{IsWithin, Report, after, by_end, by_outcome, exceeded, replayed, state_after}
-use Rattle.model_report.specs.Replay.{step_lines, stopped, text_of, unless_exceeded}
+use Rattle.model_report.specs.Replay.{Report, after, state_after, stopped, text_of}
 use Rattle.model_report.specs.Report.{log_report, replay_of, shown, shows, go_on}
 use Rattle.model_report.specs.Task.{Task}
-use Rattle.model_run.specs.Step.{Goes, NoProcess, NoSpace, Outcome, PidInUse, Wrong, outcome}
 use Rattle.model_run.specs.Within.{RunWithin}
-use Rattle.model_text.specs.Reading.{Fault, Limit, End, AtEnd, Stops, Placed, Reading, events_of}
+use Rattle.model_text.specs.Reading.{End, AtEnd, Stops, Reading, events_of}
 
 -- what comes after the replay of a log that ends so, in the state that it leads to: the status, and more lines
 abbrev pub answer_to : Task → Judged → World → Status → State → Report
@@ -51,39 +44,6 @@ shown_same false r = refl
 -- one that isn't shown, and is accepted, has no lines
 pub silent_none : (r : Report) → r.status ≡ answers.Accepted → text_of (shown_report false r).lines ≡ []
 silent_none r is = ap (λ (st : Status). text_of (shown_report false (record { status = st; lines = r.lines })).lines) is
-
--- ---- its answers
--- the answer that a replay ends with is that of a log
-end_answers : (count : ℕ) (ending : End) → IsLogAnswer (by_end count ending).status
-end_answers count AtEnd = tt
-end_answers count (Stops (Fault number why)) = tt
-end_answers count (Stops (Limit l)) = tt
-
-unless_answers : (over : Option Limited) (r : Report) → IsLogAnswer r.status
-    → IsLogAnswer (unless_exceeded over r).status
-unless_answers None r is = is
-unless_answers (Some l) r is = tt
-
-outcome_answers : (w : World) (e : Placed) (rest : State → Report) (become : Outcome)
-    → ((s : State) → IsLogAnswer (rest s).status)
-    → IsLogAnswer (by_outcome w e rest become).status
-outcome_answers w e rest (Goes s) each = unless_answers (exceeded s) (after (step_lines w s e) (rest s)) (each s)
-outcome_answers w e rest (Wrong res) each = tt
-outcome_answers w e rest NoProcess each = tt
-outcome_answers w e rest NoSpace each = tt
-outcome_answers w e rest PidInUse each = tt
-
-replayed_answers : (w : World) (s : State) (count : ℕ) (events : List Placed) (ending : End)
-    → IsLogAnswer (replayed w s count events ending).status
-replayed_answers w s count [] ending = end_answers count ending
-replayed_answers w s count (e ∷ events) ending =
-    outcome_answers w e (λ (next : State). replayed w next (count + 1) events ending) (outcome w s e.event)
-    (λ (next : State). replayed_answers w next (count + 1) events ending)
-
-pub replay_answers : (b : Bool) (w : World) (reading : Reading) (st : Status) → (shown b w reading).status ≡ st
-    → IsLogAnswer st
-replay_answers b w reading st is =
-    subst IsLogAnswer (sym (shown_status b w reading) ∙ is) (replayed_answers w w.start 0 reading.events reading.ending)
 
 -- ---- what comes after it
 -- What is reported is the replay, and then what comes after it in the state that an accepted log leads to.
@@ -169,12 +129,7 @@ ends_there w reading s run accepted = by reading.ending refl
         ∙ ap (λ (r : Report). r.status) (over_all w reading.events (Stops stop) s run) in
         absurd (stop_is_other stop (sym stops ∙ accepted))
 
--- a run within the limits stays within them
-pub within_there : (w : World) (es : List Event) (s s' : State) → IsWithin s → RunWithin w s es s' → IsWithin s'
-within_there w [] s s' within run = subst (λ (t : State). IsWithin t) (sym run) within
-within_there w (e ∷ es) s s' within (mid, step, there, run) = within_there w es mid s' there run
-
--- and the space of each mount stands
-pub mounts_there : (w : World) (es : List Event) (s : State) → KeepsWorld w → RunWithin w w.start es s → MountsStand w s
-mounts_there w es s keeps run = λ k m low.
-    omega (arith, keeps.mounts k m low, run_grows w w.start es s (run_of_within w w.start es s run))
+-- the space of each mount stands where no space went
+pub mounts_there : (w : World) (s : State) → KeepsWorld w → length w.start.spaces ≤ length s.spaces → MountsStand w s
+mounts_there w s keeps more = λ k m low.
+    omega (arith, keeps.mounts k m low, more)

@@ -1,37 +1,36 @@
 -- The report of a log on its way: at the start, after the replay, and after what is asked.
-use Rattle.std.proofs.Common.{◌≡◌, ◌≢◌, ℕ, Bool, true, false, List, [], ◌∷◌, ◌++◌, Option, Result, refl, sym, ap, ◌∙◌}
-use Rattle.std.proofs.Common.{append-nil}
+use Rattle.std.proofs.Common.{◌≡◌, ◌≢◌, ℕ, Bool, true, false, List, [], ◌∷◌, ◌++◌, Option, Result, Err, refl, sym, ap, ◌∙◌}
+use Rattle.std.proofs.Common.{append-nil, append_assoc}
 use Rattle.std.proofs.lemmas.Result.{IfOk-weaker}
-use Rattle.std.specs.Prelude.{IfOk, IfSome, OnErr, OnOk}
+use Rattle.std.specs.Prelude.{IfOk, OnOk}
 use Rattle.cm_base.specs.declared.status.Status.{Status}
 use Rattle.cm_base.specs.declared.status.Status.TheVariants as answers
-use Rattle.cm_cli.proofs.LogReport.{IsAnswered, answer_to, is_answered, log_longer, shown_text, silent_none}
-use Rattle.cm_cli.proofs.LogReport.{stopped_rest}
-use Rattle.cm_cli.proofs.Replaying.{always, if_told}
-use Rattle.cm_cli.proofs.Stopping.{at_error}
-use Rattle.cm_cli.specs.Claims.{ClaimStands}
+use Rattle.cm_cli.proofs.LogReport.{IsAnswered, answer_to, ends_there, is_answered, log_longer, shown_text, stopped_rest}
+use Rattle.cm_cli.specs.BeforeFault.{HoldsShown}
+use Rattle.cm_cli.specs.Claims.{AfterReading, ClaimStands}
 use Rattle.cm_cli.specs.Put.{IsPut}
-use Rattle.cm_cli.specs.declared.untold.Untold.{Untold}
-use Rattle.cm_io.specs.Shelf.{Files, bytes_at}
-use Rattle.model_report.specs.Answer.{answer}
-use Rattle.model_report.specs.Given.{LogGives, StateGives}
 use Rattle.cm_cli.specs.Query.{shows_of, task_by, task_view}
 use Rattle.cm_cli.specs.declared.query.ClaimKind.{ClaimKind}
 use Rattle.cm_cli.specs.declared.query.ClaimKind.TheVariants as kind
 use Rattle.cm_cli.specs.declared.query.Task as code
 use Rattle.cm_cli.specs.declared.query.Task.TheVariants as task
-use Rattle.cm_replay.specs.Replay.{report_from}
+use Rattle.cm_io.proofs.Written.{then_written_twice}
+use Rattle.cm_io.specs.Shelf.{Files, bytes_at}
+use Rattle.cm_io.specs.Sink.{then_written}
+use Rattle.cm_replay.specs.Coming.{Sends, SendsAll, SendsMore}
 use Rattle.cm_replay.specs.Shown.{shown_report, start_shown}
-use Rattle.cm_replay.specs.declared.replay.Replay.{Replay}
+use Rattle.cm_replay.specs.declared.untold.Untold.{Untold}
+use Rattle.cm_replay.specs.declared.untold.Untold.TheVariants as untold
 use Rattle.cm_report.proofs.Waiting.{front_of_longer, more_waits, waits_as, written_nothing}
 use Rattle.cm_report.specs.Sent.{IsFront, IsSent}
-use Rattle.cm_io.specs.Sink.{then_written}
 use Rattle.model_cred.specs.Process.{State}
 use Rattle.model_cred.specs.World.{World}
 use Rattle.model_report.proofs.Replayed.{shown_status}
+use Rattle.model_report.specs.Answer.{answer}
+use Rattle.model_report.specs.Given.{LogGives, StateGives}
 use Rattle.model_report.specs.Judged.{Judged}
 use Rattle.model_report.specs.Query.{Query}
-use Rattle.model_report.specs.Replay.{Report, replayed, text_of}
+use Rattle.model_report.specs.Replay.{Report, text_of}
 use Rattle.model_report.specs.Report.{log_report, replay_of, shown, shows}
 use Rattle.model_report.specs.Task.{Task}
 use Rattle.model_run.specs.Within.{RunWithin}
@@ -54,16 +53,6 @@ claim_silent (task.Judge q) w s stands = absurd stands
 claim_silent (task.Claims claim) w s stands = refl
 
 -- ---- the replay
--- the report from the beginning of a replay
-pub from_start : (w : World) (replay : Replay) (left reading : Reading) (b : Bool) → replay.machine.state ≡ w.start
-    → replay.events ≡ 0
-    → replay.shows ≡ b → left ≡ reading → report_from w replay left ≡ shown_report b (replay_of w reading)
-from_start w replay left reading b state none is same =
-    ap (λ (r : Reading). report_from w replay r) same
-    ∙ ap (λ (c : Bool). shown_report c (replayed w replay.machine.state replay.events reading.events reading.ending)) is
-    ∙ ap (λ (s : State). shown_report b (replayed w s replay.events reading.events reading.ending)) state
-    ∙ ap (λ (n : ℕ). shown_report b (replayed w w.start n reading.events reading.ending)) none
-
 -- its status is that of the replay
 pub from_status : (b : Bool) (w : World) (reading : Reading)
     → (shown b w reading).status ≡ (shown_report b (replay_of w reading)).status
@@ -120,88 +109,126 @@ module _ (t : Task) (j : Judged) (w : World) (reading : Reading) (b : Bool) (is 
         (stopped_rest t j w st s other)
         ∙ append-nil (text_of (shown b w reading).lines)
 
--- ---- what is told of it, where it is told what the shelf holds
-module _ (held : Option Files) (t : code.Task) (w : World) (reading : Reading) (b : Bool) (is : b ≡ shows_of t) where
-  so : (files : Files) → shows (task_view t (bytes_at files)) ≡ b
-  so files = shows_is t (bytes_at files) ∙ sym is
+-- ---- what is told of it, over the files that the shelf holds
+-- The replay of the log is accepted, and its events lead to this state.
+pub record EndsIn (w : World) (reading : Reading) (b : Bool) (s : State) : Type 0 where
+  pub status : (shown b w reading).status ≡ answers.Accepted
+  pub run : RunWithin w w.start (events_of reading.events) s
+
+module _ (files : Files) (t : code.Task) (w : World) (reading : Reading) (b : Bool) (is : b ≡ shows_of t) where
+  so : shows (task_view t (bytes_at files)) ≡ b
+  so = shows_is t (bytes_at files) ∙ sym is
 
   -- a front of the replay is a front of the report
-  pub fronts_told : {a c : Option (List ℕ)} → IsFront a c (text_of (shown b w reading).lines)
-      → IfSome held (λ files. (j : Judged)
-      → IsFront a c (text_of (log_report (task_view t (bytes_at files)) j w reading).lines))
-  fronts_told front = always held (λ files j. front_of_replay (task_view t (bytes_at files)) j w reading b
-      (so files) front)
-
-  -- and so it is at an error
-  pub error_told : {a c : Option (List ℕ)} (res : Result Status Untold)
-      → IsFront a c (text_of (shown b w reading).lines)
-      → IfSome held (λ files. (j : Judged)
-      → OnErr res (IsFront a c (text_of (log_report (task_view t (bytes_at files)) j w reading).lines)))
-  error_told res front =
-      always held (λ files j. at_error res
-      (front_of_replay (task_view t (bytes_at files)) j w reading b (so files) front))
+  pub front_told : {a c : Option (List ℕ)} → IsFront a c (text_of (shown b w reading).lines) → (j : Judged)
+      → IsFront a c (text_of (log_report (task_view t (bytes_at files)) j w reading).lines)
+  front_told front j = front_of_replay (task_view t (bytes_at files)) j w reading b so front
 
   -- where it is accepted, and then what is asked is answered
-  module _ (s : State) (ends : (shown b w reading).status ≡ answers.Accepted) (over : reading.ending ≡ AtEnd)
-      (run : RunWithin w w.start (events_of reading.events) s) (res : Result Status Untold) (old new : List ℕ)
-      (put : IfSome held (λ files. (j : Judged) → StateGives (task_view t (bytes_at files)) w s j
-      → IfOk res (λ st. IsPut (answer (task_view t (bytes_at files)) j w s) old new st))) where
-    pub answered_status : IfSome held (λ files. (j : Judged) → LogGives (task_view t (bytes_at files)) w reading j
-        → IfOk res (λ st. (log_report (task_view t (bytes_at files)) j w reading).status ≡ st))
-    answered_status =
-        if_told held put (λ files put_so j gives.
-        IfOk-weaker res (λ st. IsPut (answer (task_view t (bytes_at files)) j w s) old new st)
-        (λ st. (log_report (task_view t (bytes_at files)) j w reading).status ≡ st)
-        (λ st here. whole_status (task_view t (bytes_at files)) j w reading b (so files) answers.Accepted s ends
-        (λ _. run) ∙ sym here.status)
-        (put_so j (gives s over run)))
+  module _ (s : State) (ends : EndsIn w reading b s) where
+    over : reading.ending ≡ AtEnd
+    over = ends_there w reading s ends.run (sym (shown_status b w reading) ∙ ends.status)
 
-    pub answered_sent : (a c : Option (List ℕ)) → IsSent a c old (text_of (shown b w reading).lines)
-        → IfSome held (λ files. (j : Judged) → LogGives (task_view t (bytes_at files)) w reading j
-        → OnOk res (IsSent a c new (text_of (log_report (task_view t (bytes_at files)) j w reading).lines)))
-    answered_sent a c sent =
-        if_told held put (λ files put_so j gives.
-        IfOk-weaker res (λ st. IsPut (answer (task_view t (bytes_at files)) j w s) old new st)
-        (λ st. IsSent a c new (text_of (log_report (task_view t (bytes_at files)) j w reading).lines))
-        (λ st here.
-        rw (whole_text (task_view t (bytes_at files)) j w reading b (so files) answers.Accepted s ends (λ _. run))
-        (waits_as (old ++ text_of (answer (task_view t (bytes_at files)) j w s).lines) new (sym here.text)
-        (more_waits sent (text_of (answer (task_view t (bytes_at files)) j w s).lines))))
-        (put_so j (gives s over run)))
+    -- the state after an accepted log, of which this holds
+    pub holds_after : {Holds : State → Type 0} → Holds s → AfterReading w reading Holds
+    holds_after {Holds} holds = record { state = s; ends = over; run = ends.run; holds = holds }
 
-  -- where it isn't
-  module _ (s : State) (st : Status) (ends : (shown b w reading).status ≡ st)
-      (reached : st ≡ answers.Accepted → RunWithin w w.start (events_of reading.events) s)
-      (other : st ≢ answers.Accepted) where
-    pub ended_status : IfSome held (λ files. (j : Judged) → LogGives (task_view t (bytes_at files)) w reading j
-        → (log_report (task_view t (bytes_at files)) j w reading).status ≡ st)
-    ended_status =
-        always held (λ files j gives. stopped_status (task_view t (bytes_at files)) j w reading b
-        (so files) st s ends reached other)
+    module _ (res : Result Status Untold) (old new : List ℕ)
+        (put : (j : Judged) → StateGives (task_view t (bytes_at files)) w s j
+        → IfOk res (λ st. IsPut (answer (task_view t (bytes_at files)) j w s) old new st)) where
+      pub answered_status : (j : Judged) → LogGives (task_view t (bytes_at files)) w reading j
+          → IfOk res (λ st. (log_report (task_view t (bytes_at files)) j w reading).status ≡ st)
+      answered_status j gives =
+          IfOk-weaker res (λ st. IsPut (answer (task_view t (bytes_at files)) j w s) old new st)
+          (λ st. (log_report (task_view t (bytes_at files)) j w reading).status ≡ st)
+          (λ st here. whole_status (task_view t (bytes_at files)) j w reading b so answers.Accepted s ends.status
+          (λ _. ends.run) ∙ sym here.status)
+          (put j (gives s over ends.run))
+
+      pub answered_sent : (a c : Option (List ℕ)) → IsSent a c old (text_of (shown b w reading).lines)
+          → (j : Judged) → LogGives (task_view t (bytes_at files)) w reading j
+          → OnOk res (IsSent a c new (text_of (log_report (task_view t (bytes_at files)) j w reading).lines))
+      answered_sent a c sent j gives =
+          IfOk-weaker res (λ st. IsPut (answer (task_view t (bytes_at files)) j w s) old new st)
+          (λ st. IsSent a c new (text_of (log_report (task_view t (bytes_at files)) j w reading).lines))
+          (λ st here.
+          rw (whole_text (task_view t (bytes_at files)) j w reading b so answers.Accepted s ends.status (λ _. ends.run))
+          (waits_as (old ++ text_of (answer (task_view t (bytes_at files)) j w s).lines) new (sym here.text)
+          (more_waits sent (text_of (answer (task_view t (bytes_at files)) j w s).lines))))
+          (put j (gives s over ends.run))
+
+  -- where it isn't, with whatever state
+  module _ (s : State) (st : Status) (ends : (shown b w reading).status ≡ st) (other : st ≢ answers.Accepted) where
+    pub ended_status : (j : Judged) → (log_report (task_view t (bytes_at files)) j w reading).status ≡ st
+    ended_status j =
+        stopped_status (task_view t (bytes_at files)) j w reading b so st s ends (λ accepted. absurd (other accepted))
+        other
 
     pub ended_sent : (a c : Option (List ℕ)) (waits : List ℕ) → IsSent a c waits (text_of (shown b w reading).lines)
-        → IfSome held (λ files. (j : Judged) → LogGives (task_view t (bytes_at files)) w reading j
-        → IsSent a c waits (text_of (log_report (task_view t (bytes_at files)) j w reading).lines))
-    ended_sent a c waits sent =
-        always held (λ files j gives.
-        rw (stopped_text (task_view t (bytes_at files)) j w reading b (so files) st s ends reached other) sent)
+        → (j : Judged) → IsSent a c waits (text_of (log_report (task_view t (bytes_at files)) j w reading).lines)
+    ended_sent a c waits sent j =
+        rw (stopped_text (task_view t (bytes_at files)) j w reading b so st s ends (λ accepted. absurd (other accepted))
+        other) sent
 
--- ---- silence
--- nothing of an empty text was written
-no_front : (front waits : List ℕ) → [] ≡ front ++ waits → front ≡ []
-no_front [] waits is = refl
-no_front (x ∷ front) waits is = absurd (cc)
+-- ---- before a fault of reading
+-- nothing of an empty text is written, and nothing waits
+module _ (a c : Option (List ℕ)) (waits whole : List ℕ) (sent : IsSent a c waits whole) (empty : whole ≡ []) where
+  no_front : (front rest : List ℕ) → [] ≡ front ++ rest → front ≡ []
+  no_front [] rest is = refl
+  no_front (x ∷ front) rest is = absurd (cc)
 
-none_written : (a c : Option (List ℕ)) (waits whole : List ℕ) → IsSent a c waits whole → whole ≡ [] → c ≡ a
-none_written a c waits whole sent empty =
-    sent.written ∙ ap (then_written a) (no_front sent.front waits (sym empty ∙ sent.parts)) ∙ written_nothing a
+  front_none : sent.front ≡ []
+  front_none = no_front sent.front waits (sym empty ∙ sent.parts)
 
--- so it is after an accepted log before a claim
-pub silent_so_far : (b : Bool) → b ≡ false → (w : World) (reading : Reading) (a c : Option (List ℕ)) (waits : List ℕ)
-    (st : Status)
-    → IsSent a c waits (text_of (shown b w reading).lines) → (shown b w reading).status ≡ st → st ≡ answers.Accepted
-    → c ≡ a
-silent_so_far b none w reading a c waits st sent is accepted =
-    none_written a c waits _ sent
-    (ap (λ (x : Bool). text_of (shown x w reading).lines) none
-    ∙ silent_none (replay_of w reading) (sym (shown_status b w reading) ∙ is ∙ accepted))
+  none_written : c ≡ a
+  none_written = sent.written ∙ ap (then_written a) front_none ∙ written_nothing a
+
+  none_left : waits ≡ []
+  none_left = sym (sym empty ∙ sent.parts ∙ ap (λ (x : List ℕ). x ++ waits) front_none)
+
+no_start : (b : Bool) (w : World) → b ≡ false → text_of (start_shown b w) ≡ []
+no_start true w is = absurd (cc)
+no_start false w is = refl
+
+-- The lines at the start were sent, or wait.
+module _ (b : Bool) (w : World) (a c d : Option (List ℕ)) (waits : List ℕ)
+    (started : IsSent a c waits (text_of (start_shown b w))) where
+  -- where nothing more comes of a replay that isn't shown, nothing is written
+  pub stays_quiet : (waits' : List ℕ) → SendsMore b c d waits waits' → b ≡ false → d ≡ a
+  stays_quiet waits' sends hidden =
+      let empty = no_start b w hidden in
+      let none = none_left a c waits (text_of (start_shown b w)) started empty in
+      none_written c d waits' (waits ++ sends.more) sends.sent (sends.unshown hidden ∙ none)
+      ∙ none_written a c waits (text_of (start_shown b w)) started empty
+
+  all_holds : SendsAll b c d waits → HoldsShown b w a d
+  all_holds sends = record {
+    more = sends.more;
+    holds =
+        sends.sent
+        ∙ ap (λ (x : Option (List ℕ)). then_written x (waits ++ sends.more)) started.written
+        ∙ then_written_twice a started.front (waits ++ sends.more)
+        ∙ ap (then_written a) (sym (append_assoc started.front waits sends.more)
+        ∙ ap (λ (x : List ℕ). x ++ sends.more) (sym started.parts));
+    unshown = λ hidden.
+        let empty = no_start b w hidden in
+        let none = none_left a c waits (text_of (start_shown b w)) started empty in
+        sends.sent ∙ ap (then_written c) (sends.unshown hidden ∙ none) ∙ written_nothing c
+        ∙ none_written a c waits (text_of (start_shown b w)) started empty;
+  }
+
+  -- at a fault of the log's they are written
+  pub fault_holds : (why : Untold) (waits' : List ℕ) → Sends b c d waits waits' (Err why) → why ≡ untold.ReadFault
+      → HoldsShown b w a d
+  fault_holds untold.ReadFault waits' sends is = all_holds sends
+  fault_holds untold.WriteFault waits' sends is = absurd (cc)
+  fault_holds untold.NoMemory waits' sends is = absurd (cc)
+
+-- nothing is written of a replay that isn't shown
+pub quiet_holds : (b : Bool) (w : World) (a c : Option (List ℕ)) → b ≡ false → c ≡ a → HoldsShown b w a c
+quiet_holds true w a c hidden same = absurd (cc)
+quiet_holds false w a c hidden same = record {
+  more = [];
+  holds = same ∙ sym (written_nothing a);
+  unshown = λ _. same;
+}

@@ -1,81 +1,22 @@
--- Why the report of a log isn't told, in the counts of faults.
-use Rattle.std.proofs.Common.{◌≡◌, ◌≢◌, ℕ, List, [], Option, refl, sym, ap, ◌∙◌, append-nil, arith, inl, inr, le_of_eq}
+-- What is answered where the report of a log isn't told to its end, and what is written of it.
+use Rattle.std.proofs.Common.{◌≡◌, ◌≢◌, ℕ, List, [], Option, refl, sym, ap, ◌∙◌, append-nil, arith, le_of_eq}
 use Rattle.std.proofs.Common.{Result, Ok, Err}
 use Rattle.std.specs.Prelude.{OnErr}
-use Rattle.cm_base.specs.declared.limited.Limited.{Limited}
 use Rattle.cm_base.specs.declared.status.Status.{Status}
 use Rattle.cm_base.specs.declared.status.Status.TheVariants as answers
-use Rattle.cm_cli.specs.Files.{FilesFaults}
 use Rattle.cm_cli.specs.LogReport.{TellsLog}
-use Rattle.cm_cli.specs.Untold.{UntoldFaults, status_by, untold_by}
-use Rattle.cm_cli.specs.declared.untold.Untold.{Untold}
-use Rattle.cm_cli.specs.declared.untold.Untold.TheVariants as untold
 use Rattle.cm_io.specs.Sink.{WriteFaults, then_written}
 use Rattle.cm_io.specs.declared.outside.Outside.{Outside}
 use Rattle.cm_io.specs.declared.outside.Outside.TheVariants as outside
+use Rattle.cm_replay.proofs.Stopping.{stops_at}
+use Rattle.cm_replay.specs.Untold.{UntoldFaults, status_by}
+use Rattle.cm_replay.specs.declared.untold.Untold.{Untold}
+use Rattle.cm_replay.specs.declared.untold.Untold.TheVariants as untold
 use Rattle.cm_report.specs.Sent.{IsFront, IsSent}
 use Rattle.cm_report.specs.Telling.{CountsWrites, IsOfReport, stopped_by}
 use Rattle.model_report.specs.Replay.{Report, text_of}
 
--- what failed, told another way
-pub faults_as : (files : List (List ℕ × Limited)) (before now : List ℕ → ℕ) (one other : Type 0) → (one → other)
-    → (other → one)
-    → FilesFaults before now files one → FilesFaults before now files other
-faults_as files before now one other to back faults = record {
-  later = faults.later;
-  fault = λ is. faults.fault (back is);
-  others = λ none n. faults.others (λ is. none (to is)) n;
-}
-
--- ---- the sink's count
--- no error of the sink is a fault of reading
-pub stops_no_read : {T : Type 0} (why : Outside) (r : Result T Untold) → r ≡ Err (untold_by why)
-    → r ≢ Err untold.ReadFault
-stops_no_read outside.Failed r same is = let two = sym same ∙ is in cc
-stops_no_read outside.NoMemory r same is = let two = sym same ∙ is in cc
-
-pub stops_at : {T U : Type 0} (why : Outside) (before mid now : ℕ) → mid ≡ before
-    → WriteFaults {T = T} mid now (Err why)
-    → UntoldFaults {T = U} before now (Err (untold_by why))
-stops_at outside.Failed before mid now same cause = record {
-  later = let after = cause.later in omega (arith, same, after);
-  failed = λ _. elim (cause.failed refl) [
-    | inl less ↦ inl (omega (arith, same, less))
-    | inr last ↦ inr last
-  ];
-  others = λ other. absurd (other refl);
-}
-stops_at outside.NoMemory before mid now same cause = record {
-  later = let after = cause.later in omega (arith, same, after);
-  failed = λ is. absurd (cc);
-  others = λ _. cause.no_memory refl ∙ same;
-}
-
--- nothing failed at the sink
-pub none_failed : {T : Type 0} (before now : ℕ) (r : Result T Untold) → now ≡ before → r ≢ Err untold.WriteFault
-    → UntoldFaults before now r
-none_failed before now r same other = record {
-  later = le_of_eq
-      (sym same);
-  failed = λ is. absurd (other is);
-  others = λ _. same;
-}
-
--- why nothing came of one thing is why nothing came of another
-pub read_as : {T U : Type 0} (why : Untold) (r : Result T Untold) (s : Result U Untold) → r ≡ Err why → s ≡ Err why
-    → r ≢ Err untold.ReadFault → s ≢ Err untold.ReadFault
-read_as why r s one two none is = none (let same : why ≡ untold.ReadFault = cc in one ∙ ap (λ (e : Untold). Err e) same)
-
-pub untold_as : {T U : Type 0} (why : Untold) (before now : ℕ) (r : Result T Untold) (s : Result U Untold) → r ≡ Err why
-    → s ≡ Err why
-    → UntoldFaults before now r → UntoldFaults before now s
-untold_as why before now r s one two cause = record {
-  later = cause.later;
-  failed = λ is. cause.failed (let same : why ≡ untold.WriteFault = cc in one ∙ ap (λ (e : Untold). Err e) same);
-  others = λ other.
-      cause.others (λ is. other (let same : why ≡ untold.WriteFault = cc in two ∙ ap (λ (e : Untold). Err e) same));
-}
-
+-- ---- the answer
 -- the answer where a report isn't told, and where the sink failed at its end
 pub untold_counts : {T : Type 0} (why : Untold) (before now : ℕ) → UntoldFaults {T = T} before now (Err why)
     → CountsWrites (status_by why) before now

@@ -30,7 +30,7 @@ abbrev pub IsUsageAnswer : Status → Type 0
 IsUsageAnswer answer = (answer ≡ answers.Usage) ⊎ (answer ≡ answers.WriteFault) ⊎ (answer ≡ answers.NoMemory)
 
 -- What a command answers and writes. Where it is told what the shelf holds, it is the report's status, and its text is
--- written, with whatever the command and the files give to be judged; after a read fault nothing is. Words of no form
+-- written, with whatever the command and the files give to be judged; after a fault a front of it is. Words of no form
 -- give the usage, and no other words do.
 pub record AnswersReport (held : Option Files) (command : Command) (answer : Status)
     (written written' : Option (List ℕ))
@@ -39,7 +39,6 @@ pub record AnswersReport (held : Option Files) (command : Command) (answer : Sta
       → answer ≡ (command_report command (bytes_at files) j).status)
   pub text : IfSome held (λ files. (j : Judged) → CommandGives command (bytes_at files) j
       → WritesReport (command_report command (bytes_at files) j) answer written written')
-  pub silent : answer ≡ answers.ReadFault → written' ≡ written
   pub usage : answer ≡ answers.Usage → command ≡ NoForm
   pub no_form : command ≡ NoForm → IsUsageAnswer answer
 

@@ -1,18 +1,11 @@
 -- The files of a command, each by its name and the limit of its size: the counts of their faults, and what is taken of
 -- them.
-use Rattle.std.specs.Prelude.{◌≡◌, ◌⊎◌, ◌≤◌, ◌+◌, ℕ, Bool, bytes_eq, if◌then◌else◌, List, [], ◌∷◌}
+use Rattle.std.specs.Prelude.{◌≡◌, ◌≢◌, ◌⊎◌, ◌<◌, ◌≤◌, ◌+◌, ℕ, Bool, IsTrue, bytes_eq, if◌then◌else◌, List, [], ◌∷◌}
 use Rattle.cm_base.specs.Limited.{limit_number}
 use Rattle.cm_base.specs.declared.limited.Limited.{Limited}
 use Rattle.cm_io.specs.Shelf.{CountsApart, EachGives, Rose}
 
 -- ---- faults
--- the counts of faults before and after a file was read: only a read that failed raises one, and it raises that of its
--- name
-pub record FileFaults (before now : List ℕ → ℕ) (name : List ℕ) (failed : Type 0) : Type 0 where
-  pub later : (n : List ℕ) → before n ≤ now n
-  pub fault : failed → Rose (before name) (now name)
-  pub others : (failed → ⊥) → (n : List ℕ) → now n ≡ before n
-
 -- the count of one of these files rose
 abbrev pub AnyRose : List (List ℕ × Limited) → (before now : List ℕ → ℕ) → Type 0
 AnyRose [] before now = ⊥
@@ -62,3 +55,20 @@ abbrev pub ApartFor : List (List ℕ × Limited) → (counted : List ℕ → Boo
     → Type 0
 ApartFor [] counted faults faults' reads reads' = Unit {0}
 ApartFor (file ∷ files) counted faults faults' reads reads' = CountsApart counted faults faults' reads reads' file.0
+
+-- The counts of a log, and of a file that is read after it, where no read of the log failed. Where the count of a name
+-- other than both rose, the log wasn't read, if the file is counted (the faults of one that isn't may be counted under
+-- any name). Where that of a name other than the file's rose, the file wasn't read, if it isn't the log.
+pub record BothApart (counted : List ℕ → Bool) (faults faults' reads reads' : List ℕ → ℕ) (log file : List ℕ)
+    : Type 0 where
+  pub log_unread : IsTrue (counted file) → (n : List ℕ) → n ≢ log → n ≢ file → faults n < faults' n
+      → reads' log ≡ reads log
+  pub file_unread : file ≢ log → (n : List ℕ) → n ≢ file → faults n < faults' n → reads' file ≡ reads file
+
+-- The counts of a log, and after it of at most one file more, are apart so.
+abbrev pub LogApart : List (List ℕ × Limited) → List ℕ → (counted : List ℕ → Bool)
+    (faults faults' reads reads' : List ℕ → ℕ)
+    → Type 0
+LogApart [] log counted faults faults' reads reads' = CountsApart counted faults faults' reads reads' log
+LogApart (file ∷ files) log counted faults faults' reads reads' =
+    BothApart counted faults faults' reads reads' log file.0

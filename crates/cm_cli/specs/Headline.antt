@@ -24,10 +24,11 @@
 -- The premises: the shelf tells its bytes; no read or write failed, and memory was found; words, world, log and query
 -- are within the grammars and the limits; after the log only the family acts, under the declared filter; and files and
 -- mounts stay as declared.
-use Rattle.std.specs.Prelude.{◌≡◌, ℕ, List, Option, IfSome}
+use Rattle.std.specs.Prelude.{◌≡◌, ℕ, Bool, List, Option, IfSome}
 use Rattle.cm_base.specs.declared.status.Status.{Status}
 use Rattle.cm_base.specs.declared.status.Status.TheVariants as answers
 use Rattle.cm_cli.specs.Answers.{AnswersReport, CountsReads, report_over}
+use Rattle.cm_cli.specs.BeforeFault.{WritesBeforeFault}
 use Rattle.cm_io.specs.Shelf.{Files, bytes_at}
 use Rattle.cm_report.specs.Telling.{CountsWrites}
 use Rattle.model_report.specs.Causes.{IsAccepted, IsDrill, IsImpossible}
@@ -97,8 +98,8 @@ pub record Meaning (words : List (List ℕ)) (files : Files) (answer : Status) :
   pub undecided : answer ≡ answers.Undecided → SaysUndecided words files
 
 -- The headline.
-pub record Headline (held : Option Files) (words : List (List ℕ)) (answer : Status) (written written' : Option (List ℕ))
-    (reads reads' : List ℕ → ℕ) (writes writes' : ℕ) : Type 0 where
+pub record Headline (held : Option Files) (counted : List ℕ → Bool) (words : List (List ℕ)) (answer : Status)
+    (written written' : Option (List ℕ)) (reads reads' : List ℕ → ℕ) (writes writes' : ℕ) : Type 0 where
   -- Where the shelf tells what it holds, the status is that of the report, and its text is written: all of it with the
   -- status of a report, a front of it with a fault or out of memory. Words of no form give the usage, and no other
   -- words do.
@@ -108,6 +109,9 @@ pub record Headline (held : Option Files) (words : List (List ℕ)) (answer : St
   pub read_faults : CountsReads held (command_of words) answer reads reads'
   -- A fault of writing comes only where the sink's count rose; with any other answer it didn't.
   pub write_faults : CountsWrites answer writes writes'
+  -- Before a fault of reading nothing is written where it was the world's, or no replay is shown; the lines at the
+  -- start, at the least, where it was the log's.
+  pub before_fault : WritesBeforeFault held counted (command_of words) answer reads reads' written written'
   -- What the report's status means: there is something that the words and the files give, and with whatever they give
   -- it is so.
   pub means : IfSome held (λ files. Meaning words files answer)

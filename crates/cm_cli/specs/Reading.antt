@@ -9,25 +9,20 @@ use Rattle.cm_base.specs.declared.limited.Limited.TheVariants as limit
 use Rattle.cm_declared.specs.World.{world_of}
 use Rattle.cm_declared.specs.declared.world.World as code
 use Rattle.cm_cli.specs.Claims.{AfterReading, StandsIn}
-pub use Rattle.cm_cli.specs.Files.{AnyRose, ApartFor, FileFaults, FilesFaults, IsFileOf, ReadsFor, TakesFor}
-use Rattle.cm_cli.specs.LogReport.{log_report, WorldGives}
+pub use Rattle.cm_cli.specs.Files.{AnyRose, ApartFor, FilesFaults, IsFileOf, LogApart, ReadsFor, TakesFor}
+pub use Rattle.cm_io.specs.Shelf.{FileFaults}
 use Rattle.cm_cli.specs.declared.reading.Unread.{Unread}
 use Rattle.cm_cli.specs.declared.reading.Unread.TheVariants as unread
 use Rattle.cm_cli.specs.declared.reading.Unready.{Unready}
 use Rattle.cm_cli.specs.declared.reading.Unready.TheVariants as unready
-use Rattle.cm_io.specs.Shelf.{Files, bytes_at, Rose}
+use Rattle.cm_io.specs.Shelf.{Files, bytes_at}
 use Rattle.cm_io.specs.declared.whole.WholeError.{WholeError}
 use Rattle.cm_io.specs.declared.whole.WholeError.TheVariants as whole
-use Rattle.cm_report.specs.Telling.{short_report}
 use Rattle.cm_report.specs.declared.short.Short.TheVariants as short
 use Rattle.model_cred.specs.Process.{State}
 use Rattle.model_cred.specs.World.{World}
 use Rattle.model_report.specs.Command.{Command, files_of, query_of}
-use Rattle.model_report.specs.Given.{FilesGive}
-use Rattle.model_report.specs.Judged.{Judged}
 use Rattle.model_report.specs.Query.{Query}
-use Rattle.model_report.specs.Report.{files_report}
-use Rattle.model_report.specs.Task.{Task}
 use Rattle.model_strace.specs.Logs.{log_reading}
 use Rattle.model_text.specs.WorldText.{WorldText, Reads, Bad, Exceeds, world_text}
 
@@ -60,35 +55,13 @@ IsFileRead limit (Err (unread.TooMuch l)) bytes = (l ≡ limit) × (limit_number
 IsFileRead limit (Err unread.ReadFault) bytes = Unit {0}
 IsFileRead limit (Err unread.NoMemory) bytes = Unit {0}
 
--- What the files come to, with what is asked after the log and what is judged: the report of the log in the world,
--- which gives what is judged where the files do; or a report of one piece.
-abbrev pub IsReady : Task → Judged → (world log : List ℕ) → Result (code.World × Vec ℕ Global) Unready → Type 0
-IsReady task j world log (Ok (w, text)) =
-    (files_report task j world log ≡ log_report task j w text.items)
-    × (FilesGive task world log j → WorldGives task w text.items j)
-IsReady task j world log (Err (unready.Refused why)) = files_report task j world log ≡ short_report why
-IsReady task j world log (Err unready.ReadFault) = Unit {0}
-IsReady task j world log (Err unready.NoMemory) = Unit {0}
-
--- What was read, where the files were: a world that stands, and the log within its limit.
-abbrev pub AreRead : (world log : List ℕ) → Result (code.World × Vec ℕ Global) Unready → Type 0
-AreRead world log (Ok (w, text)) =
-    ReadsAs world (Reads (world_of w)) × (length log ≤ limit_number limit.Log) × (text.items ≡ log)
-AreRead world log (Err why) = Unit {0}
-
--- ---- faults
--- the world's count rose; or nothing in the world is refused, and the log's did
-abbrev pub RoseInOrder : Files → (world log : List ℕ) → (before now : List ℕ → ℕ) → Type 0
-RoseInOrder held world log before now =
-    Rose (before world) (now world) ⊎ (WorldStands (bytes_at held world) × Rose (before log) (now log))
-
 -- why a file was not read whole, within this limit
 abbrev pub unread_by : WholeError → Limited → Unread
 unread_by whole.Read limit = unread.ReadFault
 unread_by whole.TooMuch limit = unread.TooMuch limit
 unread_by whole.NoMemory limit = unread.NoMemory
 
--- the same of a world or a log
+-- the same of a world
 abbrev pub unready_by : Unread → Unready
 unready_by (unread.TooMuch l) = unready.Refused (short.Limit l)
 unready_by unread.ReadFault = unready.ReadFault
@@ -114,7 +87,6 @@ pub record LogWaits (held : Option Files) (world log : List ℕ) (faults faults'
 pub record LogStands (world log : List ℕ) (Holds : World → State → Type 0) : Type 0 where
   pub w : World
   pub reads : ReadsAs world (Reads w)
-  pub size : length log ≤ limit_number limit.Log
   pub after : AfterReading w (log_reading w log) (Holds w)
 
 -- A third file isn't read where the world or the log couldn't be, which their counts of faults tell, and, where it is

@@ -19,12 +19,12 @@ use crate::answers::{put_certificate, put_run, put_undecided, put_yes};
 use crate::asking::{Refusal, put_refusal, read_query};
 use crate::claims::put_claim;
 use crate::query::{Query, Task};
-use crate::untold::Untold;
 use cm_audit::{AuditRefusal, Verdict, audit};
 use cm_base::{NoMemory, Status};
 use cm_declared::World;
 use cm_io::Shelf;
 use cm_machine::Machine;
+use cm_replay::Untold;
 use cm_state::{Spaces, State};
 use std::alloc::Global;
 

@@ -22,11 +22,11 @@ use crate::checking::put_check;
 use crate::confirming::put_confirm;
 use crate::query::{Claim, ClaimKind};
 use crate::reading::{Unread, read_file};
-use crate::untold::Untold;
 use cm_base::{Limited, NoMemory, Status};
 use cm_declared::World;
 use cm_io::Shelf;
 use cm_machine::Machine;
+use cm_replay::Untold;
 use cm_report::put_limit;
 use std::alloc::Global;
 

@@ -2,6 +2,7 @@
 ghost use Rattle.std.specs.Prelude.{◌≡◌, ◌≢◌, IfSome};
 ghost use Rattle.cm_cli.specs.Answers.{AnswersReport, CountsReads, NoneRose};
 ghost use Rattle.cm_cli.specs.Answers.{IsValid, ComesByCause, IsCompleted, IsDecided, AsksOfSettled};
+ghost use Rattle.cm_cli.specs.BeforeFault.{WritesBeforeFault};
 ghost use Rattle.cm_cli.specs.Headline.{Headline, SaysYes, SaysNo, SaysUndecided};
 ghost use Rattle.cm_cli.specs.Reading.{TakesFor, ReadsFor, ReadsInOrder};
 ghost use Rattle.cm_io.specs.Shelf.{bytes_at};
@@ -11,7 +12,7 @@ ghost use Rattle.model_report.specs.Command.{files_of};
 
 use crate::drilling::tell_drill;
 use crate::query::Task;
-use crate::reading::{Unready, read_files};
+use crate::reading::{Unready, read_world_file};
 use crate::telling::tell_log;
 use crate::words::{Command, read_words};
 use cm_base::Status;
@@ -21,10 +22,12 @@ use std::alloc::Global;
 
 /// Carries out the command that the words name: reads the files from the shelf, and writes the report to the sink.
 ///
-/// The answer is the report's status. `ReadFault` comes only where a read of a file that the words name failed, and
-/// then nothing is written; `WriteFault` only where a write failed, and `NoMemory` only where neither did: then a front
-/// of the report is written. No other file is read, and of each no more than its limit and one byte; the log only after
-/// a world that stands, and a certificate or a run only after an accepted log and for a query that stands.
+/// The answer is the report's status. `ReadFault` comes only where a read of a file that the words name failed,
+/// `WriteFault` only where a write failed, and `NoMemory` only where neither did: then a front of the report is
+/// written. That is none of it where the world couldn't be read, or a file of `check` or `confirm`; and where it was
+/// the log of a replay or an audit, it holds the lines at the start. No other file is read, and of each no more than
+/// its limit and one byte; the log, which is read as it is told and never kept, only after a world that stands, and a
+/// certificate or a run only after an accepted log and for a query that stands.
 pub fn run<H: Shelf, K: Sink>(
     alloc: Global,
     words: &Vec<String>,
@@ -32,8 +35,8 @@ pub fn run<H: Shelf, K: Sink>(
     out: &mut K,
 ) -> Status
     // Where the shelf tells what it holds, the answer is the report's status, and its text is written, with each
-    // verdict that the words and the files give; after a read fault nothing is. Words of no form give the usage, and no
-    // other words do.
+    // verdict that the words and the files give; after a fault a front of it is. Words of no form give the usage, and
+    // no other words do.
     ensures report { AnswersReport (H.held shelf.old) (command_in words.now.items) result
         (K.written out.old) (K.written out.new) }
 
@@ -43,6 +46,11 @@ pub fn run<H: Shelf, K: Sink>(
     ensures read_faults { CountsReads (H.held shelf.old) (command_in words.now.items) result
         (H.faults shelf.old) (H.faults shelf.new) }
     ensures write_faults { CountsWrites result (K.faults out.old) (K.faults out.new) }
+
+    // Before a fault of reading nothing is written where it was the world's, or no replay is shown; the lines at the
+    // start, at the least, where it was the log's.
+    ensures before_fault { WritesBeforeFault (H.held shelf.old) (H.counted shelf.old) (command_in words.now.items)
+        result (H.faults shelf.old) (H.faults shelf.new) (K.written out.old) (K.written out.new) }
 
     // Of each file that the words name at most its limit and one byte are taken, and it is read at most once for each
     // byte that is taken, and once more; no other name is read. The log isn't read where the world couldn't be or
@@ -70,8 +78,8 @@ pub fn run<H: Shelf, K: Sink>(
         result ≡ Status.Undecided → SaysUndecided (bytes_of words.now.items) files) }
 
     // The headline: all that is said above of the report and the faults, and what a replay, yes, no and undecided mean.
-    ensures headline { Headline (H.held shelf.old) (bytes_of words.now.items) result (K.written out.old)
-        (K.written out.new)
+    ensures headline { Headline (H.held shelf.old) (H.counted shelf.old) (bytes_of words.now.items) result
+        (K.written out.old) (K.written out.new)
         (H.faults shelf.old) (H.faults shelf.new) (K.faults out.old) (K.faults out.new) }
 
     // Where nothing in the input is refused and no fault was counted, a replay and a drill are accepted, an audit
@@ -125,7 +133,8 @@ pub fn run_surely(
         result ≡ Status.No → SaysNo (bytes_of words.now.items) files) }
     ensures undecided { IfSome (⟦<SureShelf as Shelf>⟧.held shelf.old) (λ files.
         result ≡ Status.Undecided → SaysUndecided (bytes_of words.now.items) files) }
-    ensures headline { Headline (⟦<SureShelf as Shelf>⟧.held shelf.old) (bytes_of words.now.items) result
+    ensures headline { Headline (⟦<SureShelf as Shelf>⟧.held shelf.old) (⟦<SureShelf as Shelf>⟧.counted shelf.old)
+        (bytes_of words.now.items) result
         (⟦<SureSink as Sink>⟧.written out.old) (⟦<SureSink as Sink>⟧.written out.new)
         (⟦<SureShelf as Shelf>⟧.faults shelf.old) (⟦<SureShelf as Shelf>⟧.faults shelf.new)
         (⟦<SureSink as Sink>⟧.faults out.old) (⟦<SureSink as Sink>⟧.faults out.new) }
@@ -145,6 +154,8 @@ fn carry_out<H: Shelf, K: Sink>(
     ensures read_faults { CountsReads (H.held shelf.old) (command_view command.entry) result
         (H.faults shelf.old) (H.faults shelf.new) }
     ensures write_faults { CountsWrites result (K.faults out.old) (K.faults out.new) }
+    ensures before_fault { WritesBeforeFault (H.held shelf.old) (H.counted shelf.old) (command_view command.entry)
+        result (H.faults shelf.old) (H.faults shelf.new) (K.written out.old) (K.written out.new) }
     ensures takes { TakesFor (files_of (command_view command.entry)) (H.taken shelf.old) (H.taken shelf.new) }
     ensures reads { ReadsFor (files_of (command_view command.entry)) (H.reads shelf.old) (H.reads shelf.new)
         (H.taken shelf.old) (H.taken shelf.new) }
@@ -173,6 +184,9 @@ fn run_log<H: Shelf, K: Sink>(
     ensures read_faults { CountsReads (H.held shelf.old) (asking task.entry world.now log.now) result
         (H.faults shelf.old) (H.faults shelf.new) }
     ensures write_faults { CountsWrites result (K.faults out.old) (K.faults out.new) }
+    ensures before_fault { WritesBeforeFault (H.held shelf.old) (H.counted shelf.old)
+        (asking task.entry world.now log.now) result (H.faults shelf.old) (H.faults shelf.new)
+        (K.written out.old) (K.written out.new) }
     ensures takes { TakesFor (files_of (asking task.entry world.now log.now)) (H.taken shelf.old) (H.taken shelf.new) }
     ensures reads { ReadsFor (files_of (asking task.entry world.now log.now)) (H.reads shelf.old) (H.reads shelf.new)
         (H.taken shelf.old) (H.taken shelf.new) }
@@ -180,8 +194,8 @@ fn run_log<H: Shelf, K: Sink>(
         (H.faults shelf.old) (H.faults shelf.new) (H.reads shelf.old) (H.reads shelf.new) }
     ensures held { H.held shelf.new ≡ H.held shelf.old }
 {
-    match read_files(alloc, shelf, world, log) {
-        Ok((w, text)) => tell_log(alloc, &w, &text, task, shelf, out),
+    match read_world_file(alloc, shelf, world) {
+        Ok(w) => tell_log(alloc, &w, log, task, shelf, out),
         Err(Unready::Refused(short)) => tell_short(alloc, short, out),
         Err(Unready::ReadFault) => Status::ReadFault,
         Err(Unready::NoMemory) => Status::NoMemory,

@@ -5,8 +5,8 @@ ghost use Rattle.model_report_laws.specs.Answers.{UndecidedIsOpen, YesIsNever, Y
 ghost use Rattle.model_report_laws.specs.Laws.{JudgedIsGiven, ReportIsOne, EachByItsCause, AcceptedIsRun};
 ghost use Rattle.model_report_laws.specs.Laws.{ImpossibleIsNoStep};
 ghost use Rattle.model_report_laws.specs.Laws.{EventsReadBack, ReportTellsOfLog, EndCountsEvents, ImpossibleIsNumbered};
-ghost use Rattle.model_report_laws.specs.Laws.{BadLogIsNumbered};
-ghost use Rattle.model_report_laws.specs.Laws.{SameReadingSameReport, SameLogsSameReport};
+ghost use Rattle.model_report_laws.specs.Laws.{AcceptedIsWithin, BadLogIsNumbered, LimitIsLast, LogLimitsAreExceeded};
+ghost use Rattle.model_report_laws.specs.Laws.{SameReadingSameReport, SameLogsSameReport, ToldEventsReadBack};
 
 /// There is something judged that the words and the files give, whatever they are: a verdict, and what rows are found
 /// to be.
@@ -110,8 +110,23 @@ pub fn bad_log_is_numbered()
     ensures { BadLogIsNumbered }
 {}
 
-/// Logs within the limit of size that read as the same events in the same places, and whose readings end alike, have
-/// the same report, whatever form they have.
+/// Where the reading of a log stops at a limit, the line that tells it is the last, after the events before it where the
+/// replay is shown.
+#[tactic(auto, using(model_report_laws::proofs::Endings::limit_is_last))]
+pub fn limit_is_last()
+    ensures { LimitIsLast }
+{}
+
+/// The limit of a log's bytes, or of a line's, stops a reading only where it is exceeded; and an accepted log is within
+/// both.
+#[tactic(auto, using(model_report_laws::proofs::LogLimits::log_limits_are_exceeded, model_report_laws::proofs::LogLimits::accepted_is_within))]
+pub fn log_limits()
+    ensures exceeded { LogLimitsAreExceeded }
+    ensures within { AcceptedIsWithin }
+{}
+
+/// Logs that read as the same events in the same places, and whose readings end alike, have the same report, whatever
+/// form they have.
 #[tactic(auto, using(model_report_laws::proofs::SameLogs::same_reading_same_report))]
 pub fn same_reading_same_report()
     ensures { SameReadingSameReport }
@@ -125,8 +140,14 @@ pub fn same_logs_same_report()
     ensures { SameLogsSameReport }
 {}
 
-/// What is written of an event of the log, whatever form that has, is read as a line of a script that tells the event:
-/// so it is with each that the report tells, after the number of its line. And the lines of the run after which a
+/// What is written of an event that a report tells, after the number of its line, is read as a line of a script that tells
+/// the event, whatever form the log has and however many lines.
+#[tactic(auto, using(model_report_laws::proofs::ToldEvents::told_events_read_back))]
+pub fn told_events_read_back()
+    ensures { ToldEventsReadBack }
+{}
+
+/// So it is with each event of a log that has fewer than 2^31 lines, told or not. And the lines of the run after which a
 /// member holds the right, read as a script log, are that run: its events, in their order, and nothing else.
 #[tactic(auto, using(model_report_laws::proofs::LogEvents::events_read_back, model_report_laws::proofs::RunEvents::run_reads_back))]
 pub fn reports_read_back()

@@ -1,70 +1,73 @@
 // Telling the report of a log: what is written goes to the sink, and the answer says how it went.
-ghost use Rattle.std.specs.Prelude.{◌≡◌, ◌≢◌, ◌≤◌, ◌++◌, ℕ, List, [], length, Err, IfOk, IfSome, OnOk, OnErr};
-ghost use Rattle.cm_base.specs.Limited.{limit_number};
-ghost use Rattle.cm_cli.specs.Claims.{ClaimStandsAfter, IsLogAnswer};
+ghost use Rattle.std.specs.Prelude.{◌≡◌, ◌≢◌, ◌+◌, ◌++◌, ◌∷◌, ℕ, List, [], false, Ok, Err, IfOk, IfSome, OnOk, OnErr};
+ghost use Rattle.cm_base.specs.declared.limited.Limited.TheVariants as limit;
+ghost use Rattle.cm_cli.specs.BeforeFault.{HoldsShown};
+ghost use Rattle.cm_cli.specs.Claims.{IsLogAnswer};
 ghost use Rattle.cm_cli.specs.LogReport.{log_report, TellsLog, WorldGives};
-ghost use Rattle.cm_cli.specs.Query.{file_of, task_view};
-ghost use Rattle.cm_cli.specs.Reading.{ApartFor, FilesFaults, ReadsFor, TakesFor};
-ghost use Rattle.cm_cli.specs.Untold.{UntoldFaults};
+ghost use Rattle.cm_cli.specs.LogReading.{LogFails, ThirdStaysUnread};
+ghost use Rattle.cm_cli.specs.Query.{file_of, shows_of, task_view};
+ghost use Rattle.cm_cli.specs.Reading.{FilesFaults, LogApart, ReadsFor, TakesFor};
 ghost use Rattle.cm_declared.specs.World.{world_of};
-ghost use Rattle.cm_io.specs.Shelf.{bytes_at};
+ghost use Rattle.cm_io.specs.Shelf.{CountsApart, FileFaults, ReadsByBytes, TakesAtMost, bytes_at};
 ghost use Rattle.cm_io.specs.Sink.{WriteFaults};
 ghost use Rattle.cm_replay.specs.Shown.{start_shown};
+ghost use Rattle.cm_replay.specs.Untold.{UntoldFaults};
 ghost use Rattle.cm_report.specs.Sent.{IsSent, IsFront};
 ghost use Rattle.cm_report.specs.Telling.{CountsWrites};
+ghost use Rattle.cm_base.specs.Limited.{limit_number};
 ghost use Rattle.model_cred.specs.World.{KeepsWorld};
 ghost use Rattle.model_report.specs.Judged.{Judged};
 ghost use Rattle.model_report.specs.Replay.{text_of, IsWithin};
 ghost use Rattle.model_report.specs.Report.{shown};
+ghost use Rattle.model_run.specs.Never.{MountsStand};
 ghost use Rattle.model_run.specs.Within.{RunWithin};
 ghost use Rattle.model_strace.specs.Logs.{log_reading};
 ghost use Rattle.model_text.specs.Reading.{events_of};
 
 use crate::answer::put_answer;
 use crate::query::Task;
-use crate::untold::Untold;
-use cm_base::{Limited, Status};
+use cm_base::Status;
 use cm_declared::World;
 use cm_io::{Outside, Shelf, Sink};
-use cm_log::Log;
 use cm_machine::Machine;
-use cm_replay::{Replay, replay_log, send_start};
+use cm_replay::{Untold, replay_log, send_start};
 use cm_report::{send, stopped};
 use std::alloc::Global;
 
-/// Tells the report of a log in a world, and after an accepted log the answer to what is asked: with whatever verdict
-/// is given.
+/// Tells the report of the log of that name in a world, and after an accepted log the answer to what is asked: with
+/// whatever verdict is given. The log is read as it is told, and not kept.
 pub(crate) fn tell_log<H: Shelf, K: Sink>(
     alloc: Global,
     w: &World,
-    log: &[u8],
+    log: &str,
     task: Task<'_>,
     shelf: &mut H,
     out: &mut K,
 ) -> Status
     requires keeps { KeepsWorld (world_of w.now) }
     requires within { IsWithin w.now.start }
-    requires size { length log.now ≤ limit_number Limited.Log }
-    ensures report { IfSome (H.held shelf.old)
-        (λ files. (j : Judged) → WorldGives (task_view task.entry (bytes_at files)) w.now log.now j →
-        TellsLog (log_report (task_view task.entry (bytes_at files)) j w.now log.now) result (K.written out.old)
-        (K.written out.new)) }
-    ensures silent { result ≡ Status.ReadFault → K.written out.new ≡ K.written out.old }
+    ensures report { IfSome (H.held shelf.old) (λ files. (j : Judged) →
+        WorldGives (task_view task.entry (bytes_at files)) w.now (bytes_at files log.now) j →
+        TellsLog (log_report (task_view task.entry (bytes_at files)) j w.now (bytes_at files log.now)) result
+        (K.written out.old) (K.written out.new)) }
+    ensures start { result ≡ Status.ReadFault → HoldsShown (shows_of task.entry) (world_of w.now) (K.written out.old)
+        (K.written out.new) }
     ensures not_usage { result ≢ Status.Usage }
     ensures counts { CountsWrites result (K.faults out.old) (K.faults out.new) }
     // A third file is read only where the log is accepted and the query stands.
-    ensures stands { result ≡ Status.ReadFault →
-        ClaimStandsAfter task.entry (world_of w.now) (log_reading (world_of w.now) log.now) }
-    ensures waits { (ClaimStandsAfter task.entry (world_of w.now) (log_reading (world_of w.now) log.now) → ⊥) →
-        (n : List ℕ) → H.reads shelf.new n ≡ H.reads shelf.old n }
+    ensures order { IfSome (H.held shelf.old) (λ files. result ≡ Status.ReadFault →
+        LogFails task.entry (world_of w.now) log.now (bytes_at files log.now) (H.faults shelf.old)
+        (H.faults shelf.new)) }
+    ensures waits { IfSome (H.held shelf.old) (λ files. ThirdStaysUnread task.entry (world_of w.now) log.now
+        (bytes_at files log.now) (H.reads shelf.old) (H.reads shelf.new)) }
     ensures held { H.held shelf.new ≡ H.held shelf.old }
-    ensures faults { FilesFaults (H.faults shelf.old) (H.faults shelf.new) (file_of task.entry)
+    ensures faults { FilesFaults (H.faults shelf.old) (H.faults shelf.new) ((log.now, limit.Log) ∷ file_of task.entry)
         (result ≡ Status.ReadFault) }
-    ensures takes { TakesFor (file_of task.entry) (H.taken shelf.old) (H.taken shelf.new) }
-    ensures reads { ReadsFor (file_of task.entry) (H.reads shelf.old) (H.reads shelf.new) (H.taken shelf.old)
-        (H.taken shelf.new) }
-    ensures apart { ApartFor (file_of task.entry) (H.counted shelf.old) (H.faults shelf.old) (H.faults shelf.new)
-        (H.reads shelf.old) (H.reads shelf.new) }
+    ensures takes { TakesFor ((log.now, limit.Log) ∷ file_of task.entry) (H.taken shelf.old) (H.taken shelf.new) }
+    ensures reads { ReadsFor ((log.now, limit.Log) ∷ file_of task.entry) (H.reads shelf.old) (H.reads shelf.new)
+        (H.taken shelf.old) (H.taken shelf.new) }
+    ensures apart { LogApart (file_of task.entry) log.now (H.counted shelf.old) (H.faults shelf.old)
+        (H.faults shelf.new) (H.reads shelf.old) (H.reads shelf.new) }
 {
     let mut text = Vec::new(alloc);
     let status = match put_log(alloc, w, log, task, shelf, &mut text, out) {
@@ -82,7 +85,7 @@ pub(crate) fn tell_log<H: Shelf, K: Sink>(
 fn put_log<H: Shelf, K: Sink>(
     alloc: Global,
     w: &World,
-    log: &[u8],
+    log: &str,
     task: Task<'_>,
     shelf: &mut H,
     text: &mut Vec<u8>,
@@ -90,35 +93,36 @@ fn put_log<H: Shelf, K: Sink>(
 ) -> Result<Status, Untold>
     requires keeps { KeepsWorld (world_of w.now) }
     requires within { IsWithin w.now.start }
-    requires size { length log.now ≤ limit_number Limited.Log }
     requires empty { text.old.items ≡ [] }
-    ensures status { IfSome (H.held shelf.old)
-        (λ files. (j : Judged) → WorldGives (task_view task.entry (bytes_at files)) w.now log.now j →
-        IfOk result (λ status. (log_report (task_view task.entry (bytes_at files)) j w.now log.now).status ≡ status)) }
-    ensures sent { IfSome (H.held shelf.old)
-        (λ files. (j : Judged) → WorldGives (task_view task.entry (bytes_at files)) w.now log.now j →
+    ensures status { IfSome (H.held shelf.old) (λ files. (j : Judged) →
+        WorldGives (task_view task.entry (bytes_at files)) w.now (bytes_at files log.now) j → IfOk result (λ status.
+        (log_report (task_view task.entry (bytes_at files)) j w.now (bytes_at files log.now)).status ≡ status)) }
+    ensures sent { IfSome (H.held shelf.old) (λ files. (j : Judged) →
+        WorldGives (task_view task.entry (bytes_at files)) w.now (bytes_at files log.now) j →
         OnOk result (IsSent (K.written out.old) (K.written out.new) text.new.items
-        (text_of (log_report (task_view task.entry (bytes_at files)) j w.now log.now).lines))) }
-    ensures stopped { IfSome (H.held shelf.old)
-        (λ files. (j : Judged) → OnErr result (IsFront (K.written out.old) (K.written out.new)
-        (text_of (log_report (task_view task.entry (bytes_at files)) j w.now log.now).lines))) }
+        (text_of (log_report (task_view task.entry (bytes_at files)) j w.now (bytes_at files log.now)).lines))) }
+    ensures stopped { IfSome (H.held shelf.old) (λ files. (j : Judged) →
+        OnErr result (IsFront (K.written out.old) (K.written out.new)
+        (text_of (log_report (task_view task.entry (bytes_at files)) j w.now (bytes_at files log.now)).lines))) }
     ensures answers { IfOk result IsLogAnswer }
-    ensures silent { result ≡ Err Untold.ReadFault → K.written out.new ≡ K.written out.old }
+    ensures start { result ≡ Err Untold.ReadFault → HoldsShown (shows_of task.entry) (world_of w.now)
+        (K.written out.old) (K.written out.new) }
     ensures cause { UntoldFaults (K.faults out.old) (K.faults out.new) result }
-    ensures stands { result ≡ Err Untold.ReadFault →
-        ClaimStandsAfter task.entry (world_of w.now) (log_reading (world_of w.now) log.now) }
-    ensures waits { (ClaimStandsAfter task.entry (world_of w.now) (log_reading (world_of w.now) log.now) → ⊥) →
-        (n : List ℕ) → H.reads shelf.new n ≡ H.reads shelf.old n }
+    ensures order { IfSome (H.held shelf.old) (λ files. result ≡ Err Untold.ReadFault →
+        LogFails task.entry (world_of w.now) log.now (bytes_at files log.now) (H.faults shelf.old)
+        (H.faults shelf.new)) }
+    ensures waits { IfSome (H.held shelf.old) (λ files. ThirdStaysUnread task.entry (world_of w.now) log.now
+        (bytes_at files log.now) (H.reads shelf.old) (H.reads shelf.new)) }
     ensures held { H.held shelf.new ≡ H.held shelf.old }
-    ensures faults { FilesFaults (H.faults shelf.old) (H.faults shelf.new) (file_of task.entry)
+    ensures faults { FilesFaults (H.faults shelf.old) (H.faults shelf.new) ((log.now, limit.Log) ∷ file_of task.entry)
         (result ≡ Err Untold.ReadFault) }
-    ensures takes { TakesFor (file_of task.entry) (H.taken shelf.old) (H.taken shelf.new) }
-    ensures reads { ReadsFor (file_of task.entry) (H.reads shelf.old) (H.reads shelf.new) (H.taken shelf.old)
-        (H.taken shelf.new) }
-    ensures apart { ApartFor (file_of task.entry) (H.counted shelf.old) (H.faults shelf.old) (H.faults shelf.new)
-        (H.reads shelf.old) (H.reads shelf.new) }
+    ensures takes { TakesFor ((log.now, limit.Log) ∷ file_of task.entry) (H.taken shelf.old) (H.taken shelf.new) }
+    ensures reads { ReadsFor ((log.now, limit.Log) ∷ file_of task.entry) (H.reads shelf.old) (H.reads shelf.new)
+        (H.taken shelf.old) (H.taken shelf.new) }
+    ensures apart { LogApart (file_of task.entry) log.now (H.counted shelf.old) (H.faults shelf.old)
+        (H.faults shelf.new) (H.reads shelf.old) (H.reads shelf.new) }
 {
-    let (end, machine) = send_replay(alloc, w, log, task.shows(), text, out)?;
+    let (end, machine) = send_replay(alloc, w, log, task.shows(), shelf, text, out)?;
     match end {
         Status::Accepted => put_answer(alloc, w, machine, task, shelf, text),
         _ => Ok(end),
@@ -126,33 +130,49 @@ fn put_log<H: Shelf, K: Sink>(
 }
 
 // Writes the replay, which is shown or not, in that way, and says how it ends, and with which machine.
-fn send_replay<K: Sink>(
+fn send_replay<H: Shelf, K: Sink>(
     alloc: Global,
     w: &World,
-    log: &[u8],
+    log: &str,
     shows: bool,
+    shelf: &mut H,
     text: &mut Vec<u8>,
     out: &mut K,
 ) -> Result<(Status, Machine), Untold>
+    requires keeps { KeepsWorld (world_of w.now) }
     requires within { IsWithin w.now.start }
-    requires size { length log.now ≤ limit_number Limited.Log }
     requires empty { text.old.items ≡ [] }
-    ensures status { IfOk result (λ ended.
-        (shown shows (world_of w.now) (log_reading (world_of w.now) log.now)).status ≡ ended.0) }
-    ensures sent { OnOk result (IsSent (K.written out.old) (K.written out.new) text.new.items
-        (text_of (shown shows (world_of w.now) (log_reading (world_of w.now) log.now)).lines)) }
-    ensures stopped { OnErr result (IsFront (K.written out.old) (K.written out.new)
-        (text_of (shown shows (world_of w.now) (log_reading (world_of w.now) log.now)).lines)) }
+    ensures status { IfSome (H.held shelf.old) (λ files. IfOk result (λ ended.
+        (shown shows (world_of w.now) (log_reading (world_of w.now) (bytes_at files log.now))).status ≡ ended.0)) }
+    ensures sent { IfSome (H.held shelf.old) (λ files.
+        OnOk result (IsSent (K.written out.old) (K.written out.new) text.new.items
+        (text_of (shown shows (world_of w.now) (log_reading (world_of w.now) (bytes_at files log.now))).lines))) }
+    ensures stopped { IfSome (H.held shelf.old) (λ files.
+        OnErr result (IsFront (K.written out.old) (K.written out.new)
+        (text_of (shown shows (world_of w.now) (log_reading (world_of w.now) (bytes_at files log.now))).lines))) }
+    ensures answers { IfOk result (λ ended. IsLogAnswer ended.0) }
+    // At a fault of the log's the lines at the start are written, where the replay is shown; else nothing is.
+    ensures start { result ≡ Err Untold.ReadFault → HoldsShown shows (world_of w.now) (K.written out.old)
+        (K.written out.new) }
+    ensures quiet { shows ≡ false → IfOk result (λ ended. ended.0 ≡ Status.Accepted →
+        K.written out.new ≡ K.written out.old) }
     ensures cause { UntoldFaults (K.faults out.old) (K.faults out.new) result }
-    ensures no_read_fault { result ≢ Err Untold.ReadFault }
-    ensures reached { IfOk result (λ ended. ended.0 ≡ Status.Accepted →
-        RunWithin (world_of w.now) w.now.start (events_of (log_reading (world_of w.now) log.now).events) ended.1.state) }
+    ensures reached { IfSome (H.held shelf.old) (λ files. IfOk result (λ ended. ended.0 ≡ Status.Accepted →
+        RunWithin (world_of w.now) w.now.start
+        (events_of (log_reading (world_of w.now) (bytes_at files log.now)).events) ended.1.state)) }
+    ensures within { IfOk result (λ ended. ended.0 ≡ Status.Accepted → IsWithin ended.1.state) }
+    ensures mounts { IfOk result (λ ended. ended.0 ≡ Status.Accepted → MountsStand (world_of w.now) ended.1.state) }
+    ensures held { H.held shelf.new ≡ H.held shelf.old }
+    ensures counted { (n : List ℕ) → H.counted shelf.new n ≡ H.counted shelf.old n }
+    ensures faults { FileFaults (H.faults shelf.old) (H.faults shelf.new) log.now (result ≡ Err Untold.ReadFault) }
+    ensures takes { TakesAtMost (H.taken shelf.old) (H.taken shelf.new) log.now (limit_number limit.Log + 1) }
+    ensures reads { ReadsByBytes (H.reads shelf.old) (H.reads shelf.new) (H.taken shelf.old) (H.taken shelf.new)
+        log.now 1 }
+    ensures apart { CountsApart (H.counted shelf.old) (H.faults shelf.old) (H.faults shelf.new)
+        (H.reads shelf.old) (H.reads shelf.new) log.now }
 {
-    let mut replay = Replay::new(alloc, w, shows)?;
     send_shown(w, shows, text, out)?;
-    let mut log = Log::new(alloc, w, log)?;
-    let end = replay_log(alloc, w, &mut replay, &mut log, text, out)?;
-    let Replay { machine, .. } = replay;
+    let (end, machine) = replay_log(alloc, w, log, shows, shelf, text, out)?;
     Ok((end, machine))
 }
 

@@ -1,9 +1,8 @@
 -- Where a run stands: an event is taken, or it is over.
-use Rattle.std.proofs.Common.{◌≡◌, ℕ, Bool, true, false, List, Option, None, Some}
-use Rattle.std.proofs.Common.{if◌then◌else◌, refl, sym, ◌∙◌, ap}
+use Rattle.std.proofs.Common.{◌≡◌, ℕ, List}
+use Rattle.std.proofs.Common.{sym, ◌∙◌, ap}
 use Rattle.cm_confirm.proofs.Sames.{run_same}
 use Rattle.cm_confirm.specs.Confirmed.{GoesOn}
-use Rattle.cm_confirm.specs.Members.{SameMembers}
 use Rattle.model_confirm.proofs.Passing.{taken}
 use Rattle.model_confirm.specs.Confirm.{Confirmed, by_outcome, confirm_of, events_confirm}
 use Rattle.model_cred.specs.Process.{State}

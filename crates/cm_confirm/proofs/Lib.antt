@@ -1,4 +1,5 @@
 -- Lemmas of this crate, by topic.
 pub mod Ascending
+pub mod RunLines
 pub mod Sames
 pub mod Endings

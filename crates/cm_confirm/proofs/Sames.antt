@@ -1,7 +1,7 @@
 -- What a run comes to rests on who is a member, and not on the order of the list.
-use Rattle.std.proofs.Common.{◌≡◌, ◌≢◌, ℕ, ◌==◌, ◌||◌, ◌&&◌, Bool, true, false, not, List, [], ◌∷◌, filter, Option, None, Some}
-use Rattle.std.proofs.Common.{if◌then◌else◌, refl, sym, ◌∙◌, ap, inl, inr, subst}
-use Rattle.std.proofs.lemmas.Bool.{cases_Bool, cases_eq, cond-true, cond-false, eqb-true, eq-eqb, ne_eqb}
+use Rattle.std.proofs.Common.{◌≡◌, ℕ, ◌==◌, ◌||◌, ◌&&◌, Bool, true, false, List, [], ◌∷◌, filter, Option, None, Some}
+use Rattle.std.proofs.Common.{if◌then◌else◌, refl, sym, ◌∙◌, ap, inl, inr}
+use Rattle.std.proofs.lemmas.Bool.{cases_Bool, cond-true, cond-false, eqb-true}
 use Rattle.cm_base.specs.declared.res.Res.{Res}
 use Rattle.cm_base.specs.declared.res.Res.TheVariants.{Done, Id, Child, Err}
 use Rattle.cm_confirm.proofs.Ascending.{other_than}
@@ -20,7 +20,7 @@ use Rattle.model_plans.specs.PlanRun.{holder}
 use Rattle.model_run.specs.Later.{is_member, members_with, members_without, members_after}
 use Rattle.model_run.specs.Step.{Outcome, Goes, NoProcess, NoSpace, PidInUse, Wrong, outcome}
 use Rattle.model_run.specs.Within.{exceeded}
-use Rattle.model_text.specs.Reading.{Placed, Stop, End, AtEnd, Stops}
+use Rattle.model_text.specs.Reading.{Placed, End, AtEnd, Stops}
 
 -- ---- after an event
 -- who is left of members of whom one goes

@@ -1,21 +1,29 @@
 // The run, line by line: each of its events is made a step of the machine, and is held against the limits, the members and
 // the world's filter.
-ghost use Rattle.std.specs.Prelude.{◌≡◌, ◌<◌, ◌^◌, length};
+ghost use Rattle.std.specs.Prelude.{◌≡◌, ◌<◌, ◌≤◌, ◌+◌, ◌^◌, length};
+ghost use Rattle.cm_base.specs.Limited.{limit_number};
 ghost use Rattle.cm_base.specs.Outcome.{OrNoMemory};
+ghost use Rattle.cm_base.specs.declared.limited.Limited.TheVariants as limit;
 ghost use Rattle.cm_confirm.specs.Confirmed.{confirmed_of, IsTurn};
+ghost use Rattle.cm_confirm.specs.Lines.{line_before};
 ghost use Rattle.cm_declared.specs.World.{world_of};
+ghost use Rattle.cm_lines.specs.Cut.{Cut, ends_by};
+ghost use Rattle.cm_log.specs.Counts.{lines_read};
+ghost use Rattle.cm_log.specs.Left.{left, IsScript};
+ghost use Rattle.cm_log.specs.Next.{IsNext};
 ghost use Rattle.cm_state.specs.Right.{right_of};
 ghost use Rattle.cm_strace.specs.Answers.{ending_is};
 ghost use Rattle.model_confirm.specs.Confirm.{by_ending, confirm_of, is_for_members};
 ghost use Rattle.model_plans.specs.Firsts.{PidsAscend};
 ghost use Rattle.model_run.specs.Step.{outcome};
 ghost use Rattle.model_run.specs.Within.{IsWithin};
-ghost use Rattle.model_text.specs.Reading.{script_reading};
+ghost use Rattle.model_text.specs.Reading.{ends_at, script_reading};
 
 use crate::confirmed::Confirmed;
 use crate::members::Members;
-use cm_base::{NoMemory, Pid};
+use cm_base::{Limited, NoMemory, Pid};
 use cm_declared::World;
+use cm_lines::{Past, next_line};
 use cm_log::{Log, Next, Placed, Stop};
 use cm_machine::{Machine, StepError};
 use cm_state::{Event, Right, State};
@@ -41,9 +49,10 @@ pub fn confirm(
 {
     let mut machine = machine;
     let mut members = Members::new(members);
-    let mut run = Log::of_script(text);
-    loop {
-        match run.next(alloc, w) {
+    let mut run = Log::of_script();
+    let mut rest = text;
+    while let Some((line, after)) = next_line(rest) {
+        match next_of_line(alloc, w, &mut run, line) {
             Ok(Next::Event(event)) => {
                 match take_event(alloc, w, &mut machine, &mut members, &event) {
                     Ok(Turn::Goes) => let_go(event),
@@ -51,9 +60,52 @@ pub fn confirm(
                     Err(NoMemory) => return Err(NoMemory),
                 }
             }
+            Ok(Next::Nothing) => {}
             Ok(Next::Ends(stop)) => return Ok(end_run(&machine.state, &members, right, stop)),
             Err(NoMemory) => return Err(NoMemory),
         }
+        rest = after;
+    }
+    match end_of(alloc, w, &mut run, None) {
+        Ok(stop) => Ok(end_run(&machine.state, &members, right, stop)),
+        Err(NoMemory) => Err(NoMemory),
+    }
+}
+
+// What a line of the run tells; one that has more bytes than lines may have ends its reading.
+fn next_of_line(alloc: Global, w: &World, run: &mut Log, line: &[u8]) -> Result<Next, NoMemory>
+    requires script { IsScript run.old }
+    requires lines { lines_read run.old < 2 ^ 63 }
+    ensures next { OrNoMemory result (λ next. (cut : Cut) → IsNext next (left (world_of w.now) run.old (line_before (limit_number limit.Line) line.now cut)) (left (world_of w.now) run.new cut)) }
+    ensures script { OrNoMemory result (λ _. IsScript run.new) }
+    ensures lines { OrNoMemory result (λ _. lines_read run.new ≤ lines_read run.old + 1) }
+{
+    if line.len() as u64 > Limited::Line.number() {
+        return match end_of(alloc, w, run, Some(Past::Line)) {
+            Ok(stop) => Ok(Next::Ends(stop)),
+            Err(NoMemory) => Err(NoMemory),
+        };
+    }
+    run.read_line(alloc, w, line)
+}
+
+// How the run ends where no line of it comes any more.
+fn end_of(
+    alloc: Global,
+    w: &World,
+    run: &mut Log,
+    past: Option<Past>,
+) -> Result<Option<Stop>, NoMemory>
+    requires { IsScript run.old }
+    ensures ends { OrNoMemory result (λ stop. left (world_of w.now) run.old (ends_by past) ≡ ends_at (ending_is stop)) }
+    ensures script { OrNoMemory result (λ _. IsScript run.new) }
+    ensures lines { OrNoMemory result (λ _. lines_read run.new ≤ lines_read run.old) }
+{
+    match run.end(alloc, w, past) {
+        Ok(Next::Ends(stop)) => Ok(stop),
+        Ok(Next::Event(_)) => unreachable!(),
+        Ok(Next::Nothing) => unreachable!(),
+        Err(NoMemory) => Err(NoMemory),
     }
 }
 

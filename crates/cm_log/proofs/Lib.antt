@@ -1,3 +1,4 @@
 -- Lemmas of this crate, by topic.
-pub mod Few
 pub mod LeftAfter
+pub mod Counted
+pub mod Known

@@ -1,71 +1,74 @@
--- What is left of a log, as a reading, and that there are numbers enough for its lines.
-use Rattle.std.specs.Prelude.{◌<◌, ◌+◌, ◌^◌, ℕ, length, reverse, ◌++◌, Some, None}
-use Rattle.cm_base.specs.Limits.{greatest_number}
+-- What a log still gives, as a reading, if these lines come and the cutting ends so.
+use Rattle.std.specs.Prelude.{◌≡◌, ℕ, ◌+◌, Bool, true, false, reverse, List, [], ◌++◌, Option, None, Some}
+use Rattle.cm_lines.specs.Cut.{Cut}
+use Rattle.cm_lines.specs.declared.limits.Past.{Past}
 use Rattle.cm_log.specs.declared.log.Log.{Log}
 use Rattle.cm_log.specs.declared.log.Log.TheVariants.{Script, Strace}
 use Rattle.cm_log.specs.declared.script.ScriptLog.{ScriptLog}
 use Rattle.cm_log.specs.declared.strace.StraceLog.{StraceLog}
-use Rattle.cm_strace.specs.Answers.{ending_is}
+use Rattle.cm_strace.specs.Answers.{ending_is, stop_past}
 use Rattle.cm_strace.specs.declared.stage.Stage.{Stage}
 use Rattle.cm_strace.specs.declared.stage.Stage.TheVariants as stage
 use Rattle.model_cred.specs.World.{World}
-use Rattle.model_strace.specs.Body.{log_row}
-use Rattle.model_strace.specs.Counts.{spaces_counted}
-use Rattle.model_strace.specs.Rest.{Session, Going, lines_fed, rest_by}
-use Rattle.model_text.specs.Cut.{lines_of}
-use Rattle.model_text.specs.Reading.{Reading, ends_at, lines_reading}
+use Rattle.model_strace.specs.Rest.{Session, Going, rest}
+use Rattle.model_text.specs.Reading.{Placed, Reading, ends_at, lines_reading}
 
 -- ---- scripts
--- the reading of what is left
-abbrev pub script_left : World → ScriptLog → Reading
-script_left w log = lines_reading w log.number (lines_of log.rest.now)
+-- what comes from the line of that number on, where the reading is at that stage: after a stop that stop, after the end nothing
+abbrev pub lines_left : World → Stage → ℕ → Cut → Reading
+lines_left w stage.Going number cut = lines_reading w number cut.lines cut.stop
+lines_left w (stage.Stopped stop) number cut = ends_at (ending_is (Some stop))
+lines_left w stage.Finished number cut = ends_at (ending_is None)
 
--- there are numbers for its lines
-abbrev pub ScriptCanGoOn : ScriptLog → Type 0
-ScriptCanGoOn log = log.number + length log.rest.now < 2 ^ 64
+-- what a script still gives
+abbrev pub script_left : World → ScriptLog → Cut → Reading
+script_left w log cut = lines_left w log.stage (log.lines + 1) cut
+
+-- the stage after the last line, where the script ends, or the line that comes is past a limit
+abbrev pub stage_past : Option Past → Stage
+stage_past None = stage.Finished
+stage_past (Some past) = stage.Stopped (stop_past past)
+
+-- the reading goes on
+abbrev pub is_going : Stage → Bool
+is_going stage.Going = true
+is_going _ = false
 
 -- ---- logs of strace
--- the reading of what comes after the events that wait
-abbrev pub strace_later : World → StraceLog → Stage → Reading
-strace_later w log stage.Going = rest_by log_row w log.tracer (lines_of log.rest.now)
-strace_later w log (stage.Stopped stop) = ends_at (ending_is (Some stop))
-strace_later w log stage.Finished = ends_at (ending_is None)
+-- events, and then a reading
+abbrev pub told_before : List Placed → Reading → Reading
+told_before events later = record { events = events ++ later.events; ending = later.ending }
 
--- the reading of what is left
-abbrev pub strace_left : World → StraceLog → Reading
-strace_left w log = record {
-  events = reverse log.waiting.items ++ (strace_later w log log.stage).events;
-  ending = (strace_later w log log.stage).ending;
-}
+-- the events that wait, the first one first
+abbrev pub waiting_of : StraceLog → List Placed
+waiting_of log = reverse log.waiting.items
 
--- the session goes on as long as the log is read
-abbrev pub IsOpen : Stage → Session → Type 0
-IsOpen stage.Going (Going t) = Unit {0}
-IsOpen stage.Going _ = ⊥
-IsOpen _ session = Unit {0}
+-- what a log of strace still gives: the events that wait, and what its session gives
+abbrev pub strace_left : World → StraceLog → Cut → Reading
+strace_left w log cut = told_before (waiting_of log) (rest w log.tracer cut)
 
--- There are numbers for its lines, and for the user namespaces that they can make, one a line, and its session goes on as
--- long as it is read.
-pub record StraceCanGoOn (log : StraceLog) : Type 0 where
-  pub room : lines_fed log.tracer + length log.rest.now < 2 ^ 31
-  pub spaces : spaces_counted log.tracer + length log.rest.now < greatest_number
-  pub open_session : IsOpen log.stage log.tracer
-
--- how many steps the reading can still make
-abbrev pub stage_steps : Stage → ℕ
-stage_steps stage.Going = 1
-stage_steps _ = 0
-
-abbrev pub steps_left : StraceLog → ℕ
-steps_left log = length log.rest.now + stage_steps log.stage
+-- the session goes on
+abbrev pub goes_on : Session → Bool
+goes_on (Going t) = true
+goes_on _ = false
 
 -- ---- both
--- the reading of what is left of a log
-abbrev pub left : World → Log → Reading
-left w (Script log) = script_left w log
-left w (Strace log) = strace_left w log
+-- what a log still gives
+abbrev pub left : World → Log → Cut → Reading
+left w (Script log) cut = script_left w log cut
+left w (Strace log) cut = strace_left w log cut
 
--- what is left can be read
-abbrev pub CanGoOn : Log → Type 0
-CanGoOn (Script log) = ScriptCanGoOn log
-CanGoOn (Strace log) = StraceCanGoOn log
+-- the log is still read
+abbrev pub is_open : Log → Bool
+is_open (Script log) = is_going log.stage
+is_open (Strace log) = goes_on log.tracer
+
+-- no event waits
+abbrev pub NoneWaits : Log → Type 0
+NoneWaits (Script log) = Unit {0}
+NoneWaits (Strace log) = log.waiting.items ≡ []
+
+-- the log is a script
+abbrev pub IsScript : Log → Type 0
+IsScript (Script log) = Unit {0}
+IsScript (Strace log) = ⊥

@@ -1,3 +1,4 @@
--- What is left of a log, and what is read of it next, as readings.
+-- What is left of a log, what is read of it next, and what it counts.
 pub mod Left
 pub mod Next
+pub mod Counts

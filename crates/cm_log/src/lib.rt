@@ -1,8 +1,7 @@
-//! Logs as readings, event by event: a script, or what strace(1) writes. What a log reads as is in model_text/specs (Reading)
+//! Logs as readings, a line at a time: a script, or what strace(1) writes. What a log reads as is in model_text/specs (Reading)
 //! and in model_strace/specs (Lines, Logs).
 #![tactic(auto)]
 
-mod limit;
 mod log;
 mod next;
 mod script;

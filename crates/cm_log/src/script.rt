@@ -1,86 +1,142 @@
-// The reading of a script log, line by line: its events, each with the number of its line, and how it ends.
-ghost use Rattle.std.specs.Prelude.{◌≡◌, ◌<◌, ◌+◌, ◌^◌, length};
+// The reading of a script log, line by line: the event of each with the number of its line, and how the reading ends.
+ghost use Rattle.std.specs.Prelude.{◌≡◌, ◌<◌, ◌≤◌, ◌+◌, ◌^◌, false, length, Some};
 ghost use Rattle.cm_base.specs.Outcome.{OrNoMemory};
-ghost use Rattle.cm_log.specs.Left.{script_left};
-ghost use Rattle.cm_log.specs.Next.{IsNext, EndsAgain};
-ghost use Rattle.cm_script.specs.Lines.{IsRead};
 ghost use Rattle.cm_declared.specs.World.{world_of};
+ghost use Rattle.cm_lines.specs.Cut.{Cut, before, ends_by};
+ghost use Rattle.cm_log.specs.Counts.{given};
+ghost use Rattle.cm_log.specs.Left.{is_going, script_left, stage_past};
+ghost use Rattle.cm_log.specs.Next.{IsNext, EndsAgain, Leaves};
+ghost use Rattle.cm_log.specs.declared.log.Log.TheVariants.{Script};
 ghost use Rattle.model_cred.specs.World as model;
-ghost use Rattle.model_text.specs.Reading.{script_reading, log_line};
+ghost use Rattle.model_text.specs.Reading.{script_of_cut};
 
-use crate::limit::is_too_long;
 use crate::next::Next;
-use cm_base::{Limited, NoMemory};
+use cm_base::NoMemory;
 use cm_declared::{Placed, World};
+use cm_lines::Past;
 use cm_script::{LineError, read_line};
-use cm_state::Event;
-use cm_strace::Stop;
-use cm_tokens::next_line;
+use cm_strace::{Stage, Stop};
 use std::alloc::Global;
 
-/// What is left of a script log: its text from a line on, which has that number.
+/// How many lines of a script came, and whether it is still read.
 #[derive(Debug, Drop)]
-pub struct ScriptLog<'a> {
-    rest: &'a [u8],
-    number: u64,
+pub struct ScriptLog {
+    lines: u64,
+    stage: Stage,
 }
 
-impl<'a> ScriptLog<'a> {
-    /// The whole of a log's text.
-    pub(crate) fn new(text: &'a [u8]) -> ScriptLog<'a>
-        ensures reading { (w : model.World) → script_left w result ≡ script_reading w text.now }
-        ensures number { result.number ≡ 1 }
-        ensures rest { result.rest.now ≡ text.now }
+impl ScriptLog {
+    /// Before the first line.
+    pub(crate) fn new() -> ScriptLog
+        ensures reading { (w : model.World) (cut : Cut) → script_left w result cut ≡ script_of_cut w cut }
+        ensures lines { result.lines ≡ 0 }
     {
         ScriptLog {
-            rest: text,
-            number: 1,
+            lines: 0,
+            stage: Stage::Going,
         }
     }
 
-    /// Reads on to the next event, past lines that tell none. It fails only where memory runs out.
-    pub(crate) fn next(&mut self, alloc: Global, w: &World) -> Result<Next, NoMemory>
-        requires { self.old.number + length self.old.rest.now < 2 ^ 64 }
-        ensures next { OrNoMemory result (λ next. IsNext next (script_left (world_of w.now) self.old) (script_left (world_of w.now) self.new)) }
-        ensures again { OrNoMemory result (λ next. EndsAgain next (script_left (world_of w.now) self.new)) }
-        ensures room { OrNoMemory result (λ _. self.new.number + length self.new.rest.now < 2 ^ 64) }
+    /// A line comes. It fails only where memory runs out.
+    #[inline]
+    pub(crate) fn read_line(
+        &mut self,
+        alloc: Global,
+        w: &World,
+        line: &[u8],
+    ) -> Result<Next, NoMemory>
+        requires line { length line.now < 2 ^ 32 }
+        requires lines { self.old.lines < 2 ^ 63 }
+        ensures next { OrNoMemory result (λ next. (cut : Cut) →
+            IsNext next (script_left (world_of w.now) self.old (before line.now cut)) (script_left (world_of w.now) self.new cut)) }
+        ensures again { OrNoMemory result (λ next. (cut : Cut) → EndsAgain next (script_left (world_of w.now) self.new cut)) }
+        ensures leaves { OrNoMemory result (λ next. Leaves next (Script self.new)) }
+        ensures lines { OrNoMemory result (λ _. self.new.lines ≤ self.old.lines + 1) }
     {
-        while let Some((line, after)) = next_line(self.rest) {
-            let number = self.number;
-            match read_log_line(alloc, line, w) {
-                Ok(None) => self.pass(after),
-                Ok(Some(event)) => {
-                    self.pass(after);
-                    return Ok(Next::Event(Placed {
-                        line: number,
-                        event,
-                    }));
-                }
-                Err(LineError::Bad(why)) => return Ok(Next::Ends(Some(Stop::Fault(number, why)))),
-                Err(LineError::Limit(limit)) => return Ok(Next::Ends(Some(Stop::Limit(limit)))),
-                Err(LineError::NoMemory) => return Err(NoMemory),
+        match self.stage {
+            Stage::Going => self.read_on(alloc, w, line),
+            Stage::Stopped(stop) => Ok(Next::Ends(Some(stop))),
+            Stage::Finished => Ok(Next::Ends(None)),
+        }
+    }
+
+    // A line comes while the script is still read.
+    fn read_on(&mut self, alloc: Global, w: &World, line: &[u8]) -> Result<Next, NoMemory>
+        requires reads { self.old.stage ≡ Stage.Going }
+        requires line { length line.now < 2 ^ 32 }
+        requires lines { self.old.lines < 2 ^ 63 }
+        ensures next { OrNoMemory result (λ next. (cut : Cut) →
+            IsNext next (script_left (world_of w.now) self.old (before line.now cut)) (script_left (world_of w.now) self.new cut)) }
+        ensures again { OrNoMemory result (λ next. (cut : Cut) → EndsAgain next (script_left (world_of w.now) self.new cut)) }
+        ensures leaves { OrNoMemory result (λ next. Leaves next (Script self.new)) }
+        ensures lines { OrNoMemory result (λ _. self.new.lines ≤ self.old.lines + 1) }
+    {
+        let number = self.lines + 1;
+        match read_line(alloc, line, w) {
+            Ok(None) => {
+                self.lines = number;
+                Ok(Next::Nothing)
             }
+            Ok(Some(event)) => {
+                self.lines = number;
+                Ok(Next::Event(Placed {
+                    line: number,
+                    event,
+                }))
+            }
+            Err(LineError::Bad(why)) => Ok(self.stop(Stop::Fault(number, why))),
+            Err(LineError::Limit(limit)) => Ok(self.stop(Stop::Limit(limit))),
+            Err(LineError::NoMemory) => Err(NoMemory),
         }
-        Ok(Next::Ends(None))
     }
 
-    // Goes past a line, after which this is left.
-    fn pass(&mut self, after: &'a [u8])
-        requires { self.old.number + 1 < 2 ^ 64 }
-        ensures number { self.new.number ≡ self.old.number + 1 }
-        ensures rest { self.new.rest.now ≡ after.now }
+    // The reading stops so.
+    fn stop(&mut self, stop: Stop) -> Next
+        ensures ends { result ≡ Next.Ends (Some stop) }
+        ensures lines { self.new.lines ≡ self.old.lines }
+        ensures stage { self.new.stage ≡ Stage.Stopped stop }
     {
-        self.rest = after;
-        self.number += 1;
+        self.stage = Stage::Stopped(stop);
+        Next::Ends(Some(stop))
+    }
+
+    /// Nothing, while the script is still read; else how the reading ended.
+    #[inline]
+    pub(crate) fn next_waiting(&self) -> Next
+        ensures next { (w : model.World) (cut : Cut) → IsNext result (script_left w self.now cut) (script_left w self.now cut) }
+        ensures again { (w : model.World) (cut : Cut) → EndsAgain result (script_left w self.now cut) }
+        ensures leaves { Leaves result (Script self.now) }
+        ensures none { given result ≡ 0 }
+    {
+        match self.stage {
+            Stage::Going => Next::Nothing,
+            Stage::Stopped(stop) => Next::Ends(Some(stop)),
+            Stage::Finished => Next::Ends(None),
+        }
+    }
+
+    /// No line comes any more: how the reading ends.
+    pub(crate) fn end(&mut self, past: Option<Past>) -> Next
+        ensures next { (w : model.World) (cut : Cut) → IsNext result (script_left w self.old (ends_by past)) (script_left w self.new cut) }
+        ensures again { (w : model.World) (cut : Cut) → EndsAgain result (script_left w self.new cut) }
+        ensures leaves { Leaves result (Script self.new) }
+        ensures over { is_going self.new.stage ≡ false }
+        ensures none { given result ≡ 0 }
+        ensures lines { self.new.lines ≡ self.old.lines }
+    {
+        if let Stage::Going = self.stage {
+            self.stage = stage_after_last(past);
+        }
+        self.next_waiting()
     }
 }
 
-// A line of the log, within the limit of its bytes.
-fn read_log_line(alloc: Global, line: &[u8], w: &World) -> Result<Option<Event>, LineError>
-    ensures { IsRead result (log_line (world_of w.now) line.now) }
+// The stage after the last line: the script ends, or the line that comes is past a limit.
+fn stage_after_last(past: Option<Past>) -> Stage
+    ensures { result ≡ stage_past past }
 {
-    if is_too_long(line) {
-        return Err(LineError::Limit(Limited::Line));
+    match past {
+        None => Stage::Finished,
+        Some(past) => Stage::Stopped(Stop::of_past(past)),
     }
-    read_line(alloc, line, w)
 }

@@ -1,135 +1,150 @@
 // The reading of a log of strace(1), line by line, as its session gives it.
-ghost use Rattle.std.specs.Prelude.{◌≡◌, ◌<◌, ◌^◌, [], ◌∷◌, length, reverse};
+ghost use Rattle.std.specs.Prelude.{◌≡◌, ◌<◌, ◌^◌, [], false, length, None};
+ghost use Rattle.cm_base.specs.Limits.{greatest_number};
 ghost use Rattle.cm_base.specs.Outcome.{OrNoMemory};
-ghost use Rattle.cm_log.specs.Left.{StraceCanGoOn, strace_left, steps_left};
-ghost use Rattle.cm_log.specs.Next.{IsNext, EndsAgain};
 ghost use Rattle.cm_declared.specs.World.{world_of};
-ghost use Rattle.model_strace.specs.Lines.{strace_reading};
-ghost use Rattle.model_strace.specs.Rest.{first_session};
-ghost use Rattle.model_text.specs.Cut.{lines_of};
+ghost use Rattle.cm_lines.specs.Cut.{Cut, before, ends_by};
+ghost use Rattle.cm_log.specs.Counts.{Counts};
+ghost use Rattle.cm_log.specs.Left.{goes_on, strace_left};
+ghost use Rattle.cm_log.specs.Next.{IsNext, EndsAgain, Leaves};
+ghost use Rattle.cm_log.specs.declared.log.Log.TheVariants.{Strace};
+ghost use Rattle.model_cred.specs.World as model;
+ghost use Rattle.model_strace.specs.Counts.{spaces_counted};
+ghost use Rattle.model_strace.specs.Lines.{strace_of_cut};
+ghost use Rattle.model_strace.specs.Rest.{first_session, lines_fed};
 
-use crate::limit::is_too_long;
 use crate::next::Next;
-use cm_base::{Limited, NoMemory};
+use cm_base::NoMemory;
 use cm_declared::{Placed, World};
-use cm_strace::{Stage, Stop, Tracer};
-use cm_tokens::next_line;
+use cm_lines::Past;
+use cm_strace::{Stage, Tracer};
 use std::alloc::Global;
 
-/// What is left of a log of strace: the session, the text from a line on, the events that the session gave and that weren't
-/// taken yet, the last one first, and whether it is still read.
+/// The session of a log of strace, and the events that it gave and that weren't taken yet, the last one first.
 #[derive(Debug, Drop)]
-pub struct StraceLog<'a> {
+pub struct StraceLog {
     tracer: Tracer,
-    rest: &'a [u8],
     waiting: Vec<Placed>,
-    stage: Stage,
 }
 
-impl<'a> StraceLog<'a> {
-    /// The whole of a log's text. It fails only where memory runs out.
-    pub(crate) fn new(alloc: Global, w: &World, text: &'a [u8]) -> Result<StraceLog<'a>, NoMemory>
-        requires spaces { length w.now.start.spaces < 2 ^ 31 }
-        requires text { length text.now < 2 ^ 31 }
-        ensures reading { OrNoMemory result (λ log. strace_left (world_of w.now) log ≡ strace_reading (world_of w.now) text.now) }
-        ensures room { OrNoMemory result StraceCanGoOn }
+impl StraceLog {
+    /// Before the first line. It fails only where memory runs out.
+    pub(crate) fn new(alloc: Global, w: &World) -> Result<StraceLog, NoMemory>
+        requires { length w.now.start.spaces < 2 ^ 31 }
+        ensures reading { OrNoMemory result (λ log. (cut : Cut) → strace_left (world_of w.now) log cut ≡ strace_of_cut (world_of w.now) cut) }
+        ensures session { OrNoMemory result (λ log. log.tracer ≡ first_session (world_of w.now)) }
+        ensures none { OrNoMemory result (λ log. log.waiting.items ≡ []) }
     {
         let tracer = Tracer::new(alloc, w)?;
         Ok(StraceLog {
             tracer,
-            rest: text,
             waiting: Vec::new(alloc),
-            stage: Stage::Going,
         })
     }
 
-    /// Reads on to the next event, past lines that tell none. It fails only where memory runs out.
-    pub(crate) fn next(&mut self, alloc: Global, w: &World) -> Result<Next, NoMemory>
-        requires { StraceCanGoOn self.old }
-        ensures next { OrNoMemory result (λ next. IsNext next (strace_left (world_of w.now) self.old) (strace_left (world_of w.now) self.new)) }
-        ensures again { OrNoMemory result (λ next. EndsAgain next (strace_left (world_of w.now) self.new)) }
-        ensures room { OrNoMemory result (λ _. StraceCanGoOn self.new) }
-    {
-        loop {
-            if let Some(event) = self.waiting.pop() {
-                return Ok(Next::Event(event));
-            }
-            match self.stage {
-                Stage::Going => self.read_on(alloc, w)?,
-                Stage::Stopped(stop) => return Ok(Next::Ends(Some(stop))),
-                Stage::Finished => return Ok(Next::Ends(None)),
-            }
-        }
-    }
-
-    // Reads a line more, or the log's end, where no event waits.
-    fn read_on(&mut self, alloc: Global, w: &World) -> Result<(), NoMemory>
-        requires none { self.old.waiting.items ≡ [] }
-        requires reads { self.old.stage ≡ Stage.Going }
-        requires room { StraceCanGoOn self.old }
-        ensures left { OrNoMemory result (λ _. strace_left (world_of w.now) self.new ≡ strace_left (world_of w.now) self.old) }
-        ensures shorter { OrNoMemory result (λ _. steps_left self.new < steps_left self.old) }
-        ensures room { OrNoMemory result (λ _. StraceCanGoOn self.new) }
-    {
-        match next_line(self.rest) {
-            Some((line, after)) => self.read_line(alloc, w, line, after),
-            None => self.read_end(alloc, w),
-        }
-    }
-
-    // Reads a line, after which this is left; one that is too long ends the reading.
-    fn read_line(
+    /// A line comes, where no event waits. It fails only where memory runs out.
+    #[inline]
+    pub(crate) fn read_line(
         &mut self,
         alloc: Global,
         w: &World,
         line: &[u8],
-        after: &'a [u8],
-    ) -> Result<(), NoMemory>
+    ) -> Result<Next, NoMemory>
         requires none { self.old.waiting.items ≡ [] }
-        requires reads { self.old.stage ≡ Stage.Going }
-        requires room { StraceCanGoOn self.old }
-        requires line { lines_of self.old.rest.now ≡ line.now ∷ lines_of after.now }
-        requires shorter { length after.now < length self.old.rest.now }
-        ensures left { OrNoMemory result (λ _. strace_left (world_of w.now) self.new ≡ strace_left (world_of w.now) self.old) }
-        ensures shorter { OrNoMemory result (λ _. steps_left self.new < steps_left self.old) }
-        ensures room { OrNoMemory result (λ _. StraceCanGoOn self.new) }
+        requires lines { lines_fed self.old.tracer < 2 ^ 63 }
+        requires spaces { spaces_counted self.old.tracer < greatest_number }
+        ensures next { OrNoMemory result (λ next. (cut : Cut) →
+            IsNext next (strace_left (world_of w.now) self.old (before line.now cut)) (strace_left (world_of w.now) self.new cut)) }
+        ensures again { OrNoMemory result (λ next. (cut : Cut) → EndsAgain next (strace_left (world_of w.now) self.new cut)) }
+        ensures leaves { OrNoMemory result (λ next. Leaves next (Strace self.new)) }
+        ensures counts { OrNoMemory result (λ next. Counts 1 next (Strace self.old) (Strace self.new)) }
     {
-        if is_too_long(line) {
-            self.stage = Stage::Stopped(Stop::Limit(Limited::Line));
-            return Ok(());
-        }
-        let stop = self.tracer.feed_line(alloc, w, line, &mut self.waiting)?;
-        self.rest = after;
-        self.turn_waiting();
-        self.stage = Stage::after(stop);
+        self.feed(alloc, w, line)?;
+        Ok(self.next_waiting())
+    }
+
+    // A line comes: what the session gives waits from then on.
+    #[inline]
+    fn feed(&mut self, alloc: Global, w: &World, line: &[u8]) -> Result<(), NoMemory>
+        requires none { self.old.waiting.items ≡ [] }
+        requires lines { lines_fed self.old.tracer < 2 ^ 63 }
+        requires spaces { spaces_counted self.old.tracer < greatest_number }
+        ensures left { OrNoMemory result (λ _. (cut : Cut) →
+            strace_left (world_of w.now) self.old (before line.now cut) ≡ strace_left (world_of w.now) self.new cut) }
+        ensures counts { OrNoMemory result (λ _. Counts 1 Next.Nothing (Strace self.old) (Strace self.new)) }
+    {
+        self.tracer.feed_line(alloc, w, line, &mut self.waiting)?;
+        self.waiting.reverse();
         Ok(())
     }
 
-    // Reads the log's end.
-    fn read_end(&mut self, alloc: Global, w: &World) -> Result<(), NoMemory>
+    /// The next event that waits; or, where none does, nothing while the log is still read, and after that how the reading
+    /// ended.
+    #[inline]
+    pub(crate) fn next_waiting(&mut self) -> Next
+        ensures next { (w : model.World) (cut : Cut) → IsNext result (strace_left w self.old cut) (strace_left w self.new cut) }
+        ensures again { (w : model.World) (cut : Cut) → EndsAgain result (strace_left w self.new cut) }
+        ensures leaves { Leaves result (Strace self.new) }
+        ensures counts { Counts 0 result (Strace self.old) (Strace self.new) }
+        ensures session { self.new.tracer ≡ self.old.tracer }
+    {
+        if let Some(event) = self.waiting.pop() {
+            return Next::Event(event);
+        }
+        match self.tracer.stage() {
+            Stage::Going => Next::Nothing,
+            Stage::Stopped(stop) => Next::Ends(Some(stop)),
+            Stage::Finished => Next::Ends(None),
+        }
+    }
+
+    /// No line comes any more, where no event waits. It fails only where memory runs out.
+    pub(crate) fn end(
+        &mut self,
+        alloc: Global,
+        w: &World,
+        past: Option<Past>,
+    ) -> Result<Next, NoMemory>
         requires none { self.old.waiting.items ≡ [] }
-        requires reads { self.old.stage ≡ Stage.Going }
-        requires room { StraceCanGoOn self.old }
-        requires empty { lines_of self.old.rest.now ≡ [] }
-        ensures left { OrNoMemory result (λ _. strace_left (world_of w.now) self.new ≡ strace_left (world_of w.now) self.old) }
-        ensures shorter { OrNoMemory result (λ _. steps_left self.new < steps_left self.old) }
-        ensures room { OrNoMemory result (λ _. StraceCanGoOn self.new) }
+        ensures next { OrNoMemory result (λ next. (cut : Cut) →
+            IsNext next (strace_left (world_of w.now) self.old (ends_by past)) (strace_left (world_of w.now) self.new cut)) }
+        ensures again { OrNoMemory result (λ next. (cut : Cut) → EndsAgain next (strace_left (world_of w.now) self.new cut)) }
+        ensures leaves { OrNoMemory result (λ next. Leaves next (Strace self.new)) }
+        ensures over { OrNoMemory result (λ _. goes_on self.new.tracer ≡ false) }
+        ensures counts { OrNoMemory result (λ next. Counts 0 next (Strace self.old) (Strace self.new)) }
+    {
+        self.close(alloc, w, past)?;
+        Ok(self.next_waiting())
+    }
+
+    // The session ends: what it still gives waits from then on.
+    fn close(&mut self, alloc: Global, w: &World, past: Option<Past>) -> Result<(), NoMemory>
+        requires none { self.old.waiting.items ≡ [] }
+        ensures left { OrNoMemory result (λ _. (cut : Cut) →
+            strace_left (world_of w.now) self.old (ends_by past) ≡ strace_left (world_of w.now) self.new cut) }
+        ensures over { OrNoMemory result (λ _. goes_on self.new.tracer ≡ false) }
+        ensures counts { OrNoMemory result (λ _. Counts 0 Next.Nothing (Strace self.old) (Strace self.new)) }
+    {
+        match past {
+            Some(past) => {
+                self.tracer.break_off(past);
+                Ok(())
+            }
+            None => self.finish(alloc, w),
+        }
+    }
+
+    // The log ends.
+    fn finish(&mut self, alloc: Global, w: &World) -> Result<(), NoMemory>
+        requires none { self.old.waiting.items ≡ [] }
+        ensures left { OrNoMemory result (λ _. (cut : Cut) →
+            strace_left (world_of w.now) self.old (ends_by None) ≡ strace_left (world_of w.now) self.new cut) }
+        ensures over { OrNoMemory result (λ _. goes_on self.new.tracer ≡ false) }
+        ensures counts { OrNoMemory result (λ _. Counts 0 Next.Nothing (Strace self.old) (Strace self.new)) }
     {
         let fed = self.tracer.finish(alloc, w)?;
         self.waiting = fed.events;
-        self.turn_waiting();
-        self.stage = Stage::at_end(fed.stop);
-        Ok(())
-    }
-
-    // The events that the session gave wait from now on, the last one first.
-    #[inline]
-    fn turn_waiting(&mut self)
-        ensures events { reverse self.new.waiting.items ≡ self.old.waiting.items }
-        ensures tracer { self.new.tracer ≡ self.old.tracer }
-        ensures rest { self.new.rest ≡ self.old.rest }
-        ensures stage { self.new.stage ≡ self.old.stage }
-    {
         self.waiting.reverse();
+        Ok(())
     }
 }

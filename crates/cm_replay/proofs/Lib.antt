@@ -3,3 +3,8 @@ pub mod Shown
 pub mod Events
 pub mod Standing
 pub mod StartLines
+pub mod Ready
+pub mod Pieces
+pub mod Ending
+pub mod Lines
+pub mod Stopping

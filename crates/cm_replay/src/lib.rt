@@ -2,8 +2,12 @@
 //! form of log it is read from.
 #![tactic(auto)]
 
+mod coming;
 mod replay;
 mod starting;
+mod untold;
 
-pub use replay::{Replay, replay_log};
+pub use coming::replay_log;
+pub use replay::{Replay, Turn, replay_end, replay_line};
 pub use starting::send_start;
+pub use untold::Untold;

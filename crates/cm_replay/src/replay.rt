@@ -1,21 +1,25 @@
-// The replay of a log's events, whatever form of log they are read from: each is made a step of the machine, and its lines of
-// the report are written where the replay is shown.
-ghost use Rattle.std.specs.Prelude.{◌≡◌, ◌<◌, ◌+◌, ◌^◌, ◌++◌, length, IfOk, OnOk, OnErr};
+// The replay of a log, a line at a time, whatever its form: each event is made a step of the machine, and its lines of the report
+// are written where the replay is shown.
+ghost use Rattle.std.specs.Prelude.{◌≡◌, ◌<◌, ◌≤◌, ◌+◌, ◌^◌, ◌++◌, true, length, Ok, IfOk};
 ghost use Rattle.cm_base.specs.Outcome.{OrNoMemory};
-ghost use Rattle.cm_replay.specs.Replay.{event_lines, IsTurn, report_from, shown_lines, shown_report};
-ghost use Rattle.cm_report.specs.Sent.{IsSent, IsFront};
-ghost use Rattle.cm_io.specs.Sink.{WriteFaults};
-ghost use Rattle.cm_log.specs.Left.{CanGoOn, left};
-ghost use Rattle.cm_strace.specs.Answers.{ending_is};
 ghost use Rattle.cm_declared.specs.World.{world_of};
-ghost use Rattle.model_report.specs.Causes.{RunWithin};
+ghost use Rattle.cm_io.specs.Sink.{WriteFaults};
+ghost use Rattle.cm_lines.specs.Cut.{Cut, before, ends_by};
+ghost use Rattle.cm_log.specs.Counts.{KnowsWithin, events_due, given, lines_read, made};
+ghost use Rattle.cm_log.specs.Left.{is_open, left};
+ghost use Rattle.cm_log.specs.Next.{IsNext, Leaves};
+ghost use Rattle.cm_log.specs.declared.next.Next.TheVariants as next;
+ghost use Rattle.cm_replay.specs.Following.{Advances, EndsSo, Follows, IsReady, Takes, TakesCount};
+ghost use Rattle.cm_replay.specs.Replay.{event_lines, IsTurn, shown_lines, shown_report};
+ghost use Rattle.cm_strace.specs.Answers.{ending_is};
 ghost use Rattle.model_report.specs.Replay.{text_of, by_end, step_lines, IsWithin};
 ghost use Rattle.model_run.specs.Step.{outcome};
-ghost use Rattle.model_text.specs.Reading.{events_of};
+ghost use Rattle.model_text.specs.Reading.{Reading};
 
 use cm_base::{NoMemory, Status};
 use cm_declared::World;
 use cm_io::{Outside, Sink};
+use cm_lines::Past;
 use cm_log::{Log, Next, Placed, Stop};
 use cm_machine::Machine;
 use cm_report::{put_bad_log, put_end, put_impossible, put_limit, put_step, send_full};
@@ -45,62 +49,198 @@ impl Replay {
     }
 }
 
-/// Replays what is left of a log and ends the report; says the report's status. What it writes goes through the buffer
-/// `text` to the sink in large pieces; at `Ok` the rest of it waits in the buffer. Of a replay that isn't shown nothing is
-/// written but the line that says why it isn't accepted.
-pub fn replay_log<K: Sink>(
+/// What a line is to the replay: it goes on, and a line more is wanted; or its report ends, with this status.
+#[derive(Clone, Copy, Debug)]
+pub enum Turn {
+    Goes,
+    Ends(Status),
+}
+
+/// Replays what a line of the log tells, where all that the lines before it told was taken. The events' lines of the report go
+/// through the buffer `text` to the sink in large pieces, and what isn't sent of them waits in the buffer; at an end so does the
+/// line that ends the report. Of a replay that isn't shown nothing is written but the line that says why it isn't accepted. The
+/// errors are the sink's, and out of memory; after one a front of the report is written.
+pub fn replay_line<K: Sink>(
     alloc: Global,
     w: &World,
     replay: &mut Replay,
-    log: &mut Log<'_>,
+    log: &mut Log,
+    line: &[u8],
+    text: &mut Vec<u8>,
+    out: &mut K,
+) -> Result<Turn, Outside>
+    requires ready { IsReady replay.old log.old }
+    requires line { length line.now < 2 ^ 32 }
+    requires lines { lines_read log.old < 2 ^ 63 }
+    requires events { replay.old.events + events_due log.old < 2 ^ 63 }
+    // Whatever comes after the line, what is told of the whole is what is told now and what is told of the rest.
+    ensures follows { (cut : Cut) → Follows (world_of w.now) replay.old replay.new
+        (record { written = K.written out.old; waits = text.old.items })
+        (record { written = K.written out.new; waits = text.new.items })
+        result (left (world_of w.now) log.old (before line.now cut)) (left (world_of w.now) log.new cut) }
+    ensures advances { result ≡ Ok Turn.Goes → Advances 1 1 replay.old replay.new log.old log.new }
+    ensures cause { WriteFaults (K.faults out.old) (K.faults out.new) result }
+{
+    match log.read_line(alloc, w, line) {
+        Ok(next) => follow(alloc, w, replay, log, &next, text, out),
+        Err(NoMemory) => Err(Outside::NoMemory),
+    }
+}
+
+/// Replays what the log still tells where no line comes any more, since it ends or since the line that comes is past a limit;
+/// says the report's status. All else is as with a line.
+pub fn replay_end<K: Sink>(
+    alloc: Global,
+    w: &World,
+    replay: &mut Replay,
+    log: &mut Log,
+    past: Option<Past>,
     text: &mut Vec<u8>,
     out: &mut K,
 ) -> Result<Status, Outside>
-    requires lines { CanGoOn log.old }
-    requires events { replay.old.events + length (left (world_of w.now) log.old).events < 2 ^ 64 }
-    requires within { IsWithin replay.old.machine.state }
-    ensures status { IfOk result (λ status. (report_from (world_of w.now) replay.old (left (world_of w.now) log.old)).status ≡ status) }
-    ensures sent { OnOk result (IsSent (K.written out.old) (K.written out.new) text.new.items
-        (text.old.items ++ text_of (report_from (world_of w.now) replay.old (left (world_of w.now) log.old)).lines)) }
-    ensures stopped { OnErr result (IsFront (K.written out.old) (K.written out.new)
-        (text.old.items ++ text_of (report_from (world_of w.now) replay.old (left (world_of w.now) log.old)).lines)) }
+    requires ready { IsReady replay.old log.old }
+    requires events { replay.old.events + events_due log.old < 2 ^ 63 }
+    ensures ends { EndsSo (world_of w.now) replay.old replay.new
+        (record { written = K.written out.old; waits = text.old.items })
+        (record { written = K.written out.new; waits = text.new.items })
+        result (left (world_of w.now) log.old (ends_by past)) }
     ensures cause { WriteFaults (K.faults out.old) (K.faults out.new) result }
-    // Where the log is accepted, the machine is in the state that its events lead to.
-    ensures reached { IfOk result (λ status. status ≡ Status.Accepted →
-        RunWithin (world_of w.now) replay.old.machine.state (events_of (left (world_of w.now) log.old).events) replay.new.machine.state) }
+{
+    match log.end(alloc, w, past) {
+        Ok(next) => match follow(alloc, w, replay, log, &next, text, out) {
+            Ok(Turn::Ends(status)) => Ok(status),
+            Ok(Turn::Goes) => unreachable!(),
+            Err(why) => Err(why),
+        },
+        Err(NoMemory) => Err(Outside::NoMemory),
+    }
+}
+
+// What the log gave is taken, and what else waits, until a line is wanted or the report ends.
+fn follow<K: Sink>(
+    alloc: Global,
+    w: &World,
+    replay: &mut Replay,
+    log: &mut Log,
+    next: &Next,
+    text: &mut Vec<u8>,
+    out: &mut K,
+) -> Result<Turn, Outside>
+    requires within { IsWithin replay.old.machine.state }
+    requires leaves { Leaves next.now log.old }
+    requires knows { KnowsWithin (length replay.old.machine.state.spaces + made next.now) log.old }
+    requires events { replay.old.events + (given next.now + events_due log.old) < 2 ^ 64 }
+    ensures follows { (cut : Cut) (reading : Reading) → IsNext next.now reading (left (world_of w.now) log.old cut)
+        → Follows (world_of w.now) replay.old replay.new
+        (record { written = K.written out.old; waits = text.old.items })
+        (record { written = K.written out.new; waits = text.new.items })
+        result reading (left (world_of w.now) log.new cut) }
+    ensures advances { result ≡ Ok Turn.Goes → Advances 0 (given next.now) replay.old replay.new log.old log.new }
+    ensures open_still { result ≡ Ok Turn.Goes → is_open log.old ≡ true }
+    ensures cause { WriteFaults (K.faults out.old) (K.faults out.new) result }
+{
+    match take_next(alloc, w, replay, next, text, out) {
+        Ok(Taken::Event) => follow_waiting(alloc, w, replay, log, text, out),
+        Ok(Taken::Nothing) => Ok(Turn::Goes),
+        Ok(Taken::End(status)) => Ok(Turn::Ends(status)),
+        Err(why) => Err(why),
+    }
+}
+
+// The events that wait are taken, until a line is wanted or the report ends.
+fn follow_waiting<K: Sink>(
+    alloc: Global,
+    w: &World,
+    replay: &mut Replay,
+    log: &mut Log,
+    text: &mut Vec<u8>,
+    out: &mut K,
+) -> Result<Turn, Outside>
+    requires within { IsWithin replay.old.machine.state }
+    requires knows { KnowsWithin (length replay.old.machine.state.spaces) log.old }
+    requires events { replay.old.events + events_due log.old < 2 ^ 64 }
+    ensures follows { (cut : Cut) → Follows (world_of w.now) replay.old replay.new
+        (record { written = K.written out.old; waits = text.old.items })
+        (record { written = K.written out.new; waits = text.new.items })
+        result (left (world_of w.now) log.old cut) (left (world_of w.now) log.new cut) }
+    ensures advances { result ≡ Ok Turn.Goes → Advances 0 0 replay.old replay.new log.old log.new }
+    ensures open_still { result ≡ Ok Turn.Goes → is_open log.old ≡ true }
+    ensures cause { WriteFaults (K.faults out.old) (K.faults out.new) result }
 {
     loop {
-        match log.next(alloc, w) {
-            Ok(Next::Event(event)) => {
-                match take_event(alloc, w, replay, &event, text) {
-                    Ok(Turn::Goes) => let_go(event),
-                    Ok(Turn::Ends(status)) => return Ok(status),
-                    Err(NoMemory) => return Err(Outside::NoMemory),
-                }
-                match send_full(text, out) {
-                    Ok(()) => {}
-                    Err(why) => return Err(why),
-                }
-            }
-            Ok(Next::Ends(stop)) => {
-                return match put_ending(text, replay, stop) {
-                    Ok(status) => Ok(status),
-                    Err(NoMemory) => Err(Outside::NoMemory),
-                };
-            }
-            Err(NoMemory) => return Err(Outside::NoMemory),
+        let next = log.next_waiting();
+        match take_next(alloc, w, replay, &next, text, out) {
+            Ok(Taken::Event) => let_go(next),
+            Ok(Taken::Nothing) => return Ok(Turn::Goes),
+            Ok(Taken::End(status)) => return Ok(Turn::Ends(status)),
+            Err(why) => return Err(why),
         }
     }
 }
 
-// Lets go of an event, whatever its call holds.
-fn let_go(_: Placed) {}
+// Lets go of what was read, whatever the call of an event holds.
+fn let_go(_: Next) {}
 
-// What an event is to the replay: a step, after which it goes on; or its end, with this status.
+// What is next of the log to the replay: an event, which was taken; nothing; its end, with this status.
 #[derive(Clone, Copy, Debug)]
-enum Turn {
-    Goes,
-    Ends(Status),
+enum Taken {
+    Event,
+    Nothing,
+    End(Status),
+}
+
+// What is next of the log is taken: an event with its lines, which are sent where they fill a piece, or the end.
+fn take_next<K: Sink>(
+    alloc: Global,
+    w: &World,
+    replay: &mut Replay,
+    next: &Next,
+    text: &mut Vec<u8>,
+    out: &mut K,
+) -> Result<Taken, Outside>
+    requires within { IsWithin replay.old.machine.state }
+    requires events { replay.old.events + given next.now < 2 ^ 64 }
+    ensures takes { (reading rest : Reading) → IsNext next.now reading rest → Takes (world_of w.now) replay.old replay.new
+        (record { written = K.written out.old; waits = text.old.items })
+        (record { written = K.written out.new; waits = text.new.items }) result reading rest }
+    ensures counts { IfOk result (TakesCount next.now replay.old replay.new) }
+    ensures cause { WriteFaults (K.faults out.old) (K.faults out.new) result }
+{
+    match next {
+        Next::Event(event) => take_and_send(alloc, w, replay, event, text, out),
+        Next::Nothing => Ok(Taken::Nothing),
+        Next::Ends(stop) => match put_ending(text, replay, *stop) {
+            Ok(status) => Ok(Taken::End(status)),
+            Err(NoMemory) => Err(Outside::NoMemory),
+        },
+    }
+}
+
+// An event is taken with its lines, which are sent where they fill a piece.
+fn take_and_send<K: Sink>(
+    alloc: Global,
+    w: &World,
+    replay: &mut Replay,
+    event: &Placed,
+    text: &mut Vec<u8>,
+    out: &mut K,
+) -> Result<Taken, Outside>
+    requires within { IsWithin replay.old.machine.state }
+    requires events { replay.old.events + 1 < 2 ^ 64 }
+    ensures takes { (reading rest : Reading) → IsNext (next.Event event.now) reading rest → Takes (world_of w.now) replay.old replay.new
+        (record { written = K.written out.old; waits = text.old.items })
+        (record { written = K.written out.new; waits = text.new.items }) result reading rest }
+    ensures counts { IfOk result (TakesCount (next.Event event.now) replay.old replay.new) }
+    ensures cause { WriteFaults (K.faults out.old) (K.faults out.new) result }
+{
+    match take_event(alloc, w, replay, event, text) {
+        Ok(Turn::Goes) => match send_full(text, out) {
+            Ok(()) => Ok(Taken::Event),
+            Err(why) => Err(why),
+        },
+        Ok(Turn::Ends(status)) => Ok(Taken::End(status)),
+        Err(NoMemory) => Err(Outside::NoMemory),
+    }
 }
 
 // One event of the log: says whether the replay goes on with it, and writes its lines where it is shown, or why it doesn't.

@@ -1,12 +1,21 @@
 // What holds of script lines by their definitions, as contracts.
+ghost use Rattle.model_text.specs.Fronts.{CutsAreFronts, ShortLogsAreCut};
 ghost use Rattle.model_text.specs.Numbers.{NumbersAreLines};
 ghost use Rattle.model_text.specs.Written.{LinesReadBack, LogsReadBack, ToldAreWritable, ToldReadBack};
 
-/// A log reads as the events of its lines, each with the number of its line and none left out, as far as the first line that
-/// has a fault, whose number and fault are told, or exceeds a limit, which is told.
+/// What comes of a log reads as the events of its lines, each with the number of its line and none left out, as far as the
+/// first line that has a fault, whose number and fault are told, or exceeds a limit, which is told.
 #[tactic(auto, using(model_text::proofs::Numbers::numbers_are_lines))]
 pub fn numbers_are_lines()
     ensures { NumbersAreLines }
+{}
+
+/// The lines that come of a text are its first ones, and all of them unless one is past a limit: that of lines, where it has
+/// more bytes, or that of the text, where the text has. Of a log within its limit comes what comes where lines alone have one.
+#[tactic(auto, using(model_text::proofs::Fronts::cuts_are_fronts, model_text::proofs::Fronts::short_logs_are_cut))]
+pub fn first_lines_come()
+    ensures front { CutsAreFronts }
+    ensures within { ShortLogsAreCut }
 {}
 
 /// What was written of an event over a world that a text declares is read again as the same event: one whose parts are in

@@ -16,6 +16,8 @@ mod writing;
 
 pub use cm_tokens::read_pid;
 pub use error::LineError;
-pub use laws::{lines_read_back, logs_read_back, numbers_are_lines, told_read_back};
+pub use laws::{
+    first_lines_come, lines_read_back, logs_read_back, numbers_are_lines, told_read_back,
+};
 pub use reading::read_line;
 pub use writing::{put_line, put_res, write_line};

@@ -1,15 +1,16 @@
 // A session of a reader of strace(1).
-ghost use Rattle.std.specs.Prelude.{◌≡◌, ℕ, ◌∷◌, [], ◌+◌, ◌<◌, ◌≤◌, ◌^◌, List, length};
+ghost use Rattle.std.specs.Prelude.{◌≡◌, [], ◌+◌, ◌<◌, ◌≤◌, ◌^◌, length, None, Some};
 ghost use Rattle.cm_base.specs.Limits.{greatest_number};
 ghost use Rattle.cm_base.specs.Outcome.{OrNoMemory, UnchangedOnErr};
 ghost use Rattle.cm_strace.specs.Answers.{stop_is, reading_is};
-ghost use Rattle.cm_strace.specs.Stages.{session_is, stage_after};
+ghost use Rattle.cm_lines.specs.Cut.{Cut, before, ends_by};
+ghost use Rattle.cm_strace.specs.Stages.{cut_off, session_is, stage_after, IsAt};
 ghost use Rattle.cm_strace.specs.Works.{uses};
 ghost use Rattle.cm_declared.specs.World.{world_of};
-ghost use Rattle.model_strace.specs.Body.{row_of};
+ghost use Rattle.model_cred.specs.World as model;
 ghost use Rattle.model_strace.specs.Counts.{spaces_counted};
-ghost use Rattle.model_strace.specs.Lines.{reading};
-ghost use Rattle.model_strace.specs.Rest.{answer_of, fed_by, first_session, lines_fed, rest, line_answer, after_line};
+ghost use Rattle.model_strace.specs.Lines.{strace_of_cut};
+ghost use Rattle.model_strace.specs.Rest.{answer_of, fed, first_session, lines_fed, rest, line_answer, after_line};
 ghost use Rattle.model_strace.specs.Rest.{after_finish, answered_then, session_of};
 ghost use Rattle.model_text.specs.Reading.{AtEnd, Stops, ends_at};
 
@@ -19,6 +20,7 @@ use crate::stage::Stage;
 use crate::work::Work;
 use cm_base::NoMemory;
 use cm_declared::{Placed, World};
+use cm_lines::Past;
 use std::alloc::Global;
 use std::marker::Model;
 
@@ -46,8 +48,8 @@ impl Tracer {
     pub fn new(alloc: Global, w: &World) -> Result<Tracer, NoMemory>
         requires { length w.now.start.spaces < 2 ^ 31 }
         ensures first { OrNoMemory result (λ t. t ≡ first_session (world_of w.now)) }
-        ensures reading { OrNoMemory result (λ t. (lines : List (List ℕ)) → rest (world_of w.now) t lines
-            ≡ reading (world_of w.now) lines) }
+        ensures reading { OrNoMemory result (λ t. (cut : Cut) → rest (world_of w.now) t cut
+            ≡ strace_of_cut (world_of w.now) cut) }
     {
         let work = Work::first(alloc, w)?;
         Ok(Tracer {
@@ -89,9 +91,9 @@ impl Tracer {
         ensures given { OrNoMemory result (λ stop. reading_is events.new.items stop
             ≡ line_answer (world_of w.now) self.old line.now) }
         ensures after { OrNoMemory result (λ _. self.new ≡ after_line (world_of w.now) self.old line.now) }
-        ensures told { OrNoMemory result (λ stop. (lines : List (List ℕ)) →
-            rest (world_of w.now) self.old (line.now ∷ lines) ≡ answered_then (reading_is events.new.items stop)
-            (rest (world_of w.now) self.new lines)) }
+        ensures told { OrNoMemory result (λ stop. (cut : Cut) →
+            rest (world_of w.now) self.old (before line.now cut) ≡ answered_then (reading_is events.new.items stop)
+            (rest (world_of w.now) self.new cut)) }
         ensures spaces { OrNoMemory result (λ _. spaces_counted self.new ≤ spaces_counted self.old + 1) }
         ensures unchanged { UnchangedOnErr result self.new self.old }
     {
@@ -107,10 +109,29 @@ impl Tracer {
         }
     }
 
+    /// What the session is at: it goes on; it was stopped; the log has ended.
+    #[inline]
+    pub fn stage(&self) -> Stage
+        ensures { IsAt result self.now }
+    {
+        self.stage
+    }
+
+    /// The line that comes is past a limit: that limit stops a session that goes on, and the held lines tell nothing
+    /// more. A session that was stopped, or whose log has ended, stays as it was.
+    pub fn break_off(&mut self, past: Past)
+        ensures after { self.new ≡ cut_off past self.old }
+        ensures told { (w : model.World) (cut : Cut) → rest w self.new cut ≡ rest w self.old (ends_by (Some past)) }
+    {
+        if let Stage::Going = self.stage {
+            self.stage = Stage::Stopped(Stop::of_past(past));
+        }
+    }
+
     /// The log ends: what the held lines still give. It fails only where memory runs out, and then leaves the session
     /// as it was.
     pub fn finish(&mut self, alloc: Global, w: &World) -> Result<Fed, NoMemory>
-        ensures told { OrNoMemory result (λ fed. fed ≡ rest (world_of w.now) self.old []) }
+        ensures told { OrNoMemory result (λ fed. fed ≡ rest (world_of w.now) self.old (ends_by None)) }
         ensures after { OrNoMemory result (λ _. self.new ≡ after_finish (world_of w.now) self.old) }
         ensures unchanged { UnchangedOnErr result self.new self.old }
     {
@@ -158,9 +179,9 @@ fn feed_work(
     requires few { t.old.count < 2 ^ 63 }
     requires fresh { events.old.items ≡ [] }
     ensures given { OrNoMemory result (λ stop. reading_is events.new.items stop
-        ≡ answer_of (fed_by row_of (world_of w.now) line.now t.old)) }
+        ≡ answer_of (fed (world_of w.now) line.now t.old)) }
     ensures after { OrNoMemory result (λ stop. session_is (stage_after stop) t.new
-        ≡ session_of (t.old.count + 1) (fed_by row_of (world_of w.now) line.now t.old)) }
+        ≡ session_of (t.old.count + 1) (fed (world_of w.now) line.now t.old)) }
     ensures unchanged { UnchangedOnErr result t.new t.old }
     ensures uses { uses t.new ≤ uses t.old + 1 }
     ensures count { OrNoMemory result (λ _. t.new.count ≡ t.old.count + 1) }

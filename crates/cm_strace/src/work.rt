@@ -12,8 +12,7 @@ ghost use Rattle.cm_strace.specs.Works.{awaits, concluded, uses};
 ghost use Rattle.cm_declared.specs.World.{world_of};
 ghost use Rattle.model_cred.specs.World as model;
 ghost use Rattle.model_strace.specs.After.{preceded};
-ghost use Rattle.model_strace.specs.Body.{row_of};
-ghost use Rattle.model_strace.specs.Rest.{first_work, read_fed, held_fed, fed_by};
+ghost use Rattle.model_strace.specs.Rest.{fed, first_work, held_fed, read_fed};
 
 use crate::acts::conclude;
 use crate::deed::{Act, Deed, Given, Origin, Step};
@@ -99,7 +98,7 @@ impl Work {
         requires room { uses self.old < greatest_number }
         requires few { self.old.count < 2 ^ 63 }
         ensures fed { OrNoMemory result (λ stop. after_is stop events.new.items self.new
-            ≡ preceded events.old.items (fed_by row_of (world_of w.now) line.now self.old)) }
+            ≡ preceded events.old.items (fed (world_of w.now) line.now self.old)) }
         ensures unchanged { UnchangedOnErr result self.new self.old }
         ensures uses { uses self.new ≤ uses self.old + 1 }
         ensures counted { OrNoMemory result (λ _. self.new.count ≡ self.old.count + 1) }

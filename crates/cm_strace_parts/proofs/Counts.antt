@@ -1,5 +1,5 @@
 -- How many descriptors there are after a change of those of one process.
-use Rattle.std.proofs.Common.{◌≡◌, ℕ, ◌+◌, Bool, true, false, cond, not, List, [], ◌∷◌, filter, length, map, refl, sym, ◌∙◌, ap, arith, eq-eqb}
+use Rattle.std.proofs.Common.{◌≡◌, ℕ, ◌+◌, Bool, true, false, cond, not, List, [], ◌∷◌, filter, length, map, refl, ◌∙◌, ap, arith, eq-eqb}
 use Rattle.std.proofs.lemmas.List.{length-map}
 use Rattle.cm_strace_parts.proofs.Lists.{own_in}
 use Rattle.cm_strace_parts.specs.Lists.{FdList, descriptors_in, fds_of, files_before, of_process}

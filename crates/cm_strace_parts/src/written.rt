@@ -7,9 +7,10 @@ ghost use Rattle.model_text.specs.Token.{number_token};
 
 use cm_base::NoMemory;
 use cm_idmap::Extent;
+use cm_lines::next_line;
 use cm_state::Extents;
 use cm_strace_text::before_mark;
-use cm_tokens::{next_line, next_token, read_number, read_word};
+use cm_tokens::{next_token, read_number, read_word};
 use std::alloc::Global;
 
 /// The extents of a text that is written to a map file, one on each line. None exactly where a line isn't three

@@ -1,7 +1,6 @@
 -- Lemmas of this crate, by topic.
 pub mod CapTexts
 pub mod Cuts
-pub mod FirstLine
 pub mod FirstToken
 pub mod HexDigits
 pub mod Options

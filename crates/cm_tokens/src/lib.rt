@@ -1,11 +1,10 @@
-//! Lines, tokens and pieces of which texts are made: the lines of a text, what blanks part in a line, what a byte parts in a
-//! text, what single tokens stand for, and how numbers and sets are written. The definitions are in model_text/specs (Cut,
-//! Token, CapText, NameText, Hex).
+//! Tokens and pieces of which texts are made: what blanks part in a line, what a byte parts in a text, what single tokens
+//! stand for, and how numbers and sets are written. The definitions are in model_text/specs (Cut, Token, CapText, NameText,
+//! Hex).
 #![tactic(auto)]
 
 mod cap_text;
 mod digits;
-mod lines;
 mod name_rules;
 mod numbers;
 mod pieces;
@@ -13,7 +12,6 @@ mod tokens;
 
 pub use cap_text::read_cap_text;
 pub use digits::hex_value;
-pub use lines::next_line;
 pub use name_rules::{is_name, is_path};
 pub use numbers::{put, put_decimal, put_hex2, put_hex16, put_id};
 pub use pieces::first_piece;

@@ -1,4 +1,5 @@
 use Rattle.cm_cli.proofs.FileReads.{reads_still, takes_still}
+use Rattle.cm_cli.proofs.BeforeFault.{no_fault}
 use Rattle.cm_cli.proofs.Drills.{drill_answers, nothing_read}
 use Rattle.cm_cli.proofs.Replaying.{usage_answers}
 use Rattle.cm_cli.proofs.commands.carry_out.Goals as goal
@@ -12,6 +13,7 @@ returns-in-NoForm g c =
       report = usage_answers (g.H.Shelf.held c.args.shelf.now) _ _ _ _ _ c.tell_short.ensures;
       read_faults = nothing_read (g.H.Shelf.held c.args.shelf.now) NoForm _ _ c.tell_short.ensures.never_read_fault;
       write_faults = c.tell_short.ensures.counts;
+      before_fault = no_fault (g.H.Shelf.held c.args.shelf.now) _ NoForm _ _ _ _ _ c.tell_short.ensures.never_read_fault;
       takes = takes_still [] (g.H.Shelf.taken c.args.shelf.now);
       reads = reads_still _ _ _;
       waits = tt;
@@ -22,10 +24,12 @@ pub returns-in-Drill : goal.returns-in-Drill
 returns-in-Drill g c =
     rw c.in-Drill.is (record {
       report = drill_answers (g.H.Shelf.held c.args.shelf.now) c.in-Drill.n _ _ _ _ _ c.tell_drill.ensures.report
-          c.tell_drill.ensures.not_usage c.tell_drill.ensures.not_read_fault;
+          c.tell_drill.ensures.not_usage;
       read_faults = nothing_read (g.H.Shelf.held c.args.shelf.now)
           (Drill c.in-Drill.n) _ _ c.tell_drill.ensures.not_read_fault;
       write_faults = c.tell_drill.ensures.counts;
+      before_fault = no_fault (g.H.Shelf.held c.args.shelf.now) _ (Drill c.in-Drill.n) _ _ _ _ _
+          c.tell_drill.ensures.not_read_fault;
       takes = takes_still [] (g.H.Shelf.taken c.args.shelf.now);
       reads = reads_still _ _ _;
       waits = tt;

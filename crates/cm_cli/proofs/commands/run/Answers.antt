@@ -4,6 +4,11 @@ use Rattle.cm_cli.proofs.Replaying.{if_told}
 use Rattle.cm_cli.specs.Words.{bytes_of, command_in}
 use Rattle.cm_cli.proofs.commands.run.Goals as goal
 
+pub returns-clause-before_fault : goal.returns-clause-before_fault
+returns-clause-before_fault g c =
+    let command = c.read_words.ensures ∙ ap command_in c.deref.ensures.value in
+    rw command at c.carry_out.ensures.before_fault
+
 pub returns-clause-answers : goal.returns-clause-answers
 returns-clause-answers g c =
     let command = c.read_words.ensures ∙ ap command_in c.deref.ensures.value in
@@ -59,6 +64,7 @@ returns-clause-headline g c =
       report = report;
       read_faults = reads;
       write_faults = c.carry_out.ensures.write_faults;
+      before_fault = rw command at c.carry_out.ensures.before_fault;
       means = if_told (g.H.Shelf.held c.args.shelf.now) report.status
           (λ files is. meaning (bytes_of c.args.words.now.items) files _ is);
     }

@@ -1,172 +1,130 @@
-use Rattle.std.proofs.Common.{◌∙◌, refl, sym}
+use Rattle.std.proofs.Common.{◌∙◌, [], ◌∷◌, inl, inr, refl}
 use Rattle.std.proofs.lemmas.Result.{err_from_is_err_and}
-use Rattle.cm_cli.proofs.FileReads.{apart_still, faults_still, reads_still, takes_still}
-use Rattle.cm_cli.proofs.LogReport.{ends_there, mounts_there, replay_answers, within_there}
-use Rattle.cm_cli.proofs.Replaying.{always}
-use Rattle.cm_cli.proofs.Shown.{answered_sent, answered_status, claim_silent, ended_sent, ended_status, error_told}
-use Rattle.cm_cli.proofs.Shown.{fronts_told, silent_so_far}
-use Rattle.cm_cli.proofs.Stopping.{none_failed, read_as, untold_as}
+use Rattle.cm_base.specs.declared.limited.Limited.TheVariants as limit
+use Rattle.cm_cli.proofs.Apart.{apart_alone, apart_then}
+use Rattle.cm_cli.proofs.FileReads.{faults_as, faults_more, faults_one, faults_then, reads_more, reads_one, reads_then}
+use Rattle.cm_cli.proofs.FileReads.{rose_later, takes_more, takes_one, takes_then}
+use Rattle.cm_cli.proofs.Replaying.{always, if_both, if_three, if_told}
+use Rattle.cm_cli.proofs.Shown.{EndsIn, answered_sent, answered_status, claim_silent, ended_sent, ended_status}
+use Rattle.cm_cli.proofs.Shown.{front_told, holds_after, quiet_holds}
+use Rattle.cm_cli.proofs.Stopping.{at_error}
 use Rattle.cm_cli.proofs.telling.put_log.Goals as goal
-use Rattle.cm_cli.specs.Query.{file_of}
+use Rattle.cm_cli.specs.Query.{file_of, shows_of}
 use Rattle.cm_declared.specs.World.{world_of}
-use Rattle.model_report.proofs.Replayed.{shown_status}
+use Rattle.cm_io.specs.Shelf.{bytes_at}
+use Rattle.cm_replay.proofs.Stopping.{err_as, none_failed, untold_as}
 use Rattle.model_strace.specs.Logs.{log_reading}
-use Rattle.model_text.specs.Reading.{events_of}
 
 -- the replay broke off at an error
 pub returns-in_err-end : goal.returns-in_err-end
 returns-in_err-end g c =
     let p = err_from_is_err_and c.from_residual.result c.from_residual.ensures.1 in
     let held = g.H.Shelf.held c.args.shelf.now in
+    let t = c.args.task in
     let w = world_of c.args.w.now in
+    let log = c.args.log.now in
+    let e = c.in_err-end.ensures in
     rw (p.1, p.2) (record {
       status = always held (λ files j gives. tt);
       sent = always held (λ files j gives. tt);
-      stopped = fronts_told held c.args.task w
-          (log_reading w c.args.log.now) c.shows.result c.shows.ensures c.in_err-end.ensures.stopped;
+      stopped = if_told held e.stopped (λ files front j.
+          front_told files t w (log_reading w (bytes_at files log)) c.shows.result c.shows.ensures front j);
       answers = tt;
-      silent = λ is. absurd (read_as _ _ _ refl refl c.in_err-end.ensures.no_read_fault is);
-      cause = untold_as _ _ _ _ _ refl refl c.in_err-end.ensures.cause;
-      stands = λ is. absurd (read_as _ _ _ refl refl c.in_err-end.ensures.no_read_fault is);
-      waits = λ _ n. refl;
-      held = refl;
-      faults = faults_still _ _ (read_as _ _ _ refl refl c.in_err-end.ensures.no_read_fault);
-      takes = takes_still (file_of c.args.task) (g.H.Shelf.taken c.args.shelf.now);
-      reads = reads_still _ _ _;
-      apart = apart_still (file_of c.args.task) (g.H.Shelf.counted c.args.shelf.now) (g.H.Shelf.faults c.args.shelf.now)
-          (g.H.Shelf.reads c.args.shelf.now);
+      start = λ is. rw c.shows.ensures at (e.start (err_as _ _ _ _ refl refl is));
+      cause = untold_as _ _ _ _ _ refl refl e.cause;
+      order = always held (λ files is. inl (e.faults.fault (err_as _ _ _ _ refl refl is)));
+      waits = always held (λ files none n other. e.reads.others n other);
+      held = e.held;
+      faults = faults_more ((log, limit.Log) ∷ []) (file_of t) _ _ _
+          (faults_as _ _ _ _ _ (err_as _ _ _ _ refl refl) (err_as _ _ _ _ refl refl) (faults_one _ _ _ _ _ e.faults));
+      takes = takes_more ((log, limit.Log) ∷ []) (file_of t) (g.H.Shelf.taken c.args.shelf.now)
+          (g.H.Shelf.taken c.send_replay.new.shelf) (takes_one _ _ log limit.Log e.takes);
+      reads = reads_more ((log, limit.Log) ∷ []) (file_of t) _ _ _ _ (reads_one _ _ _ _ log limit.Log _ e.reads e.takes);
+      apart = apart_alone (file_of t) log _ _ _ _ _ e.apart e.reads.others;
     })
 
 -- after an accepted log the state is within the limits, and the space of each mount stands
-pub put_answer-requires-clause-within : goal.put_answer-requires-clause-within
-put_answer-requires-clause-within g c =
-    let w = world_of c.args.w.now in
-    within_there w (events_of (log_reading w c.args.log.now).events) c.args.w.now.start c.in_ok-end.machine.state
-    c.requires.within
-    (c.in_ok-end.ensures.reached c.in-Accepted.is)
+pub put_answer-requires : goal.put_answer-requires
+put_answer-requires g c = record {
+  within = c.in_ok-end.ensures.within c.in-Accepted.is;
+  mounts = c.in_ok-end.ensures.mounts c.in-Accepted.is;
+}
 
-pub put_answer-requires-clause-mounts : goal.put_answer-requires-clause-mounts
-put_answer-requires-clause-mounts g c =
+pub returns-in-Accepted : goal.returns-in-Accepted
+returns-in-Accepted g c =
+    let held = g.H.Shelf.held c.args.shelf.now in
+    let t = c.args.task in
     let w = world_of c.args.w.now in
-    mounts_there w (events_of (log_reading w c.args.log.now).events) c.in_ok-end.machine.state c.requires.keeps
-    (c.in_ok-end.ensures.reached c.in-Accepted.is)
-
-pub returns-in-Accepted-clause-status : goal.returns-in-Accepted-clause-status
-returns-in-Accepted-clause-status g c =
-    let w = world_of c.args.w.now in
-    let reading = log_reading w c.args.log.now in
-    let run = c.in_ok-end.ensures.reached c.in-Accepted.is in
-    let ends = c.in_ok-end.ensures.status ∙ c.in-Accepted.is in
-    let over = ends_there w reading c.in_ok-end.machine.state run
-    (sym (shown_status c.shows.result w reading) ∙ ends) in
-    answered_status (g.H.Shelf.held c.args.shelf.now) c.args.task w reading c.shows.result c.shows.ensures
-    c.in_ok-end.machine.state ends over run
-    c.put_answer.result c.send_replay.new.text.items c.put_answer.new.text.items c.put_answer.ensures.report
-
-pub returns-in-Accepted-clause-sent : goal.returns-in-Accepted-clause-sent
-returns-in-Accepted-clause-sent g c =
-    let w = world_of c.args.w.now in
-    let reading = log_reading w c.args.log.now in
-    let run = c.in_ok-end.ensures.reached c.in-Accepted.is in
-    let ends = c.in_ok-end.ensures.status ∙ c.in-Accepted.is in
-    let over = ends_there w reading c.in_ok-end.machine.state run
-    (sym (shown_status c.shows.result w reading) ∙ ends) in
-    answered_sent (g.H.Shelf.held c.args.shelf.now) c.args.task w reading c.shows.result c.shows.ensures
-    c.in_ok-end.machine.state ends over run
-    c.put_answer.result c.send_replay.new.text.items c.put_answer.new.text.items c.put_answer.ensures.report
-    (g.K.Sink.written c.args.out.now) (g.K.Sink.written c.send_replay.new.out) c.in_ok-end.ensures.sent
-
-pub returns-in-Accepted-clause-stopped : goal.returns-in-Accepted-clause-stopped
-returns-in-Accepted-clause-stopped g c =
-    let w = world_of c.args.w.now in
-    error_told (g.H.Shelf.held c.args.shelf.now) c.args.task w
-    (log_reading w c.args.log.now) c.shows.result c.shows.ensures c.put_answer.result
-    (_, c.in_ok-end.ensures.sent)
-
-pub returns-in-Accepted-clause-silent : goal.returns-in-Accepted-clause-silent
-returns-in-Accepted-clause-silent g c is =
-    let w = world_of c.args.w.now in
-    let none = c.shows.ensures ∙ claim_silent c.args.task w c.in_ok-end.machine.state
-    (c.put_answer.ensures.stands is) in
-    silent_so_far c.shows.result none w (log_reading w c.args.log.now) (g.K.Sink.written c.args.out.now)
-    (g.K.Sink.written c.send_replay.new.out)
-    c.send_replay.new.text.items c.in_ok-end.end c.in_ok-end.ensures.sent c.in_ok-end.ensures.status c.in-Accepted.is
-
-pub returns-in-Accepted-clause-cause : goal.returns-in-Accepted-clause-cause
-returns-in-Accepted-clause-cause g c =
-    none_failed _ _ _ (c.in_ok-end.ensures.cause.others (λ is. cc)) c.put_answer.ensures.not_write_fault
-
-pub returns-in-Accepted-clause-stands : goal.returns-in-Accepted-clause-stands
-returns-in-Accepted-clause-stands g c is =
-    let w = world_of c.args.w.now in
-    let reading = log_reading w c.args.log.now in
-    let run = c.in_ok-end.ensures.reached c.in-Accepted.is in
-    let ends = c.in_ok-end.ensures.status ∙ c.in-Accepted.is in
+    let log = c.args.log.now in
+    let b = c.shows.result in
+    let s = c.in_ok-end.machine.state in
+    let accepted = c.in-Accepted.is in
+    let first = c.in_ok-end.ensures in
+    let e = c.put_answer.ensures in
+    let report = rw first.held at e.report in
+    let same = first.faults.others (λ is. cc) in
+    let ends = if_both {R = λ files. EndsIn w (log_reading w (bytes_at files log)) b s} held first.status first.reached
+    (λ files is run. record { status = is ∙ accepted; run = run accepted }) in
     record {
-      state = c.in_ok-end.machine.state;
-      ends = ends_there w reading c.in_ok-end.machine.state run (sym (shown_status c.shows.result w reading) ∙ ends);
-      run = run;
-      holds = c.put_answer.ensures.stands is;
+      status = if_both held ends report (λ files here put j gives.
+          answered_status files t w (log_reading w (bytes_at files log)) b c.shows.ensures s here _ _ _ put j gives);
+      sent = if_three held ends first.sent report (λ files here sent put j gives.
+          answered_sent files t w (log_reading w (bytes_at files log)) b c.shows.ensures s here _ _ _ put _ _ sent j
+          gives);
+      stopped = if_told held first.sent (λ files sent j.
+          at_error _ (front_told files t w (log_reading w (bytes_at files log)) b c.shows.ensures (_, sent) j));
+      answers = e.answers;
+      start = λ is.
+          let hidden = claim_silent t w s (e.stands is) in
+          quiet_holds (shows_of t) w _ _ hidden (first.quiet (c.shows.ensures ∙ hidden) accepted);
+      cause = none_failed _ _ _ (first.cause.others (λ is. cc)) e.not_write_fault;
+      order = if_told held ends (λ files here is.
+          inr (
+            holds_after files t w (log_reading w (bytes_at files log)) b c.shows.ensures s here (e.stands is),
+            rose_later [] (file_of t) _ _ _ same (e.faults.fault is),
+          ));
+      waits = if_told held ends (λ files here none n other.
+          e.waits (λ holds. none
+          (holds_after files t w (log_reading w (bytes_at files log)) b c.shows.ensures s here holds)) n
+          ∙ first.reads.others n other);
+      held = e.held ∙ first.held;
+      faults = faults_then ((log, limit.Log) ∷ []) (file_of t) _ _ _ _ same e.faults;
+      takes = takes_then ((log, limit.Log) ∷ []) (file_of t) (g.H.Shelf.taken c.args.shelf.now)
+          (g.H.Shelf.taken c.send_replay.new.shelf)
+          (g.H.Shelf.taken c.put_answer.new.shelf) (takes_one _ _ log limit.Log first.takes) e.takes;
+      reads = reads_then ((log, limit.Log) ∷ []) (file_of t) _ _ _ _ _ _
+          (reads_one _ _ _ _ log limit.Log _ first.reads first.takes) e.reads;
+      apart = apart_then log _ _ _ _ _ _ _ _ first.counted first.apart first.reads.others same t _ _ _ e.apart e.reads
+          e.faults;
     }
 
-pub returns-in-Accepted-clause-waits : goal.returns-in-Accepted-clause-waits
-returns-in-Accepted-clause-waits g c none =
+pub returns-in_default : goal.returns-in_default
+returns-in_default g c =
+    let held = g.H.Shelf.held c.args.shelf.now in
+    let t = c.args.task in
     let w = world_of c.args.w.now in
-    let reading = log_reading w c.args.log.now in
-    let run = c.in_ok-end.ensures.reached c.in-Accepted.is in
-    let ends = c.in_ok-end.ensures.status ∙ c.in-Accepted.is in
-    c.put_answer.ensures.waits (λ holds. none (record {
-      state = c.in_ok-end.machine.state;
-      ends = ends_there w reading c.in_ok-end.machine.state run (sym (shown_status c.shows.result w reading) ∙ ends);
-      run = run;
-      holds = holds;
-    }))
-
-pub returns-in_default-clause-status : goal.returns-in_default-clause-status
-returns-in_default-clause-status g c =
-    let w = world_of c.args.w.now in
-    ended_status (g.H.Shelf.held c.args.shelf.now) c.args.task w
-    (log_reading w c.args.log.now) c.shows.result c.shows.ensures
-    c.in_ok-end.machine.state c.in_ok-end.end c.in_ok-end.ensures.status c.in_ok-end.ensures.reached
-    c.in_default.not-Accepted
-
-pub returns-in_default-clause-sent : goal.returns-in_default-clause-sent
-returns-in_default-clause-sent g c =
-    let w = world_of c.args.w.now in
-    ended_sent (g.H.Shelf.held c.args.shelf.now) c.args.task w
-    (log_reading w c.args.log.now) c.shows.result c.shows.ensures
-    c.in_ok-end.machine.state c.in_ok-end.end c.in_ok-end.ensures.status c.in_ok-end.ensures.reached
-    c.in_default.not-Accepted
-    (g.K.Sink.written c.args.out.now) (g.K.Sink.written c.send_replay.new.out) c.send_replay.new.text.items
-    c.in_ok-end.ensures.sent
-
-pub returns-in_default-clause-stopped : goal.returns-in_default-clause-stopped
-returns-in_default-clause-stopped g c = always (g.H.Shelf.held c.args.shelf.now) (λ files j. tt)
-
-pub returns-in_default-clause-answers : goal.returns-in_default-clause-answers
-returns-in_default-clause-answers g c =
-    let w = world_of c.args.w.now in
-    replay_answers c.shows.result w (log_reading w c.args.log.now) c.in_ok-end.end c.in_ok-end.ensures.status
-
-pub returns-in_default-clause-silent : goal.returns-in_default-clause-silent
-returns-in_default-clause-silent g c is = absurd (cc)
-
-pub returns-in_default-clause-cause : goal.returns-in_default-clause-cause
-returns-in_default-clause-cause g c = none_failed _ _ _ (c.in_ok-end.ensures.cause.others (λ is. cc)) (λ is. cc)
-
-pub returns-in_default-clause-stands : goal.returns-in_default-clause-stands
-returns-in_default-clause-stands g c is = absurd (cc)
-
-pub returns-in_default-clause-faults : goal.returns-in_default-clause-faults
-returns-in_default-clause-faults g c = faults_still _ _ (λ is. cc)
-
-pub returns-in_default-clause-takes : goal.returns-in_default-clause-takes
-returns-in_default-clause-takes g c = takes_still (file_of c.args.task) (g.H.Shelf.taken c.args.shelf.now)
-
-pub returns-in_default-clause-reads : goal.returns-in_default-clause-reads
-returns-in_default-clause-reads g c = reads_still _ _ _
-
-pub returns-in_default-clause-apart : goal.returns-in_default-clause-apart
-returns-in_default-clause-apart g c =
-    apart_still (file_of c.args.task) (g.H.Shelf.counted c.args.shelf.now) (g.H.Shelf.faults c.args.shelf.now)
-    (g.H.Shelf.reads c.args.shelf.now)
+    let log = c.args.log.now in
+    let b = c.shows.result in
+    let s = c.in_ok-end.machine.state in
+    let other = c.in_default.not-Accepted in
+    let e = c.in_ok-end.ensures in
+    record {
+      status = if_told held e.status (λ files is j gives.
+          ended_status files t w (log_reading w (bytes_at files log)) b c.shows.ensures s c.in_ok-end.end is other j);
+      sent = if_both held e.status e.sent (λ files is sent j gives.
+          ended_sent files t w (log_reading w (bytes_at files log)) b c.shows.ensures s c.in_ok-end.end is other _ _ _
+          sent j);
+      stopped = always held (λ files j. tt);
+      answers = e.answers;
+      start = λ is. absurd (cc);
+      cause = none_failed _ _ _ (e.cause.others (λ is. cc)) (λ is. cc);
+      order = always held (λ files is. absurd (cc));
+      waits = always held (λ files none n away. e.reads.others n away);
+      held = e.held;
+      faults = faults_more ((log, limit.Log) ∷ []) (file_of t) _ _ _
+          (faults_as _ _ _ _ _ (λ is. absurd (cc)) (λ is. absurd (cc)) (faults_one _ _ _ _ _ e.faults));
+      takes = takes_more ((log, limit.Log) ∷ []) (file_of t) (g.H.Shelf.taken c.args.shelf.now)
+          (g.H.Shelf.taken c.send_replay.new.shelf) (takes_one _ _ log limit.Log e.takes);
+      reads = reads_more ((log, limit.Log) ∷ []) (file_of t) _ _ _ _ (reads_one _ _ _ _ log limit.Log _ e.reads e.takes);
+      apart = apart_alone (file_of t) log _ _ _ _ _ e.apart e.reads.others;
+    }

@@ -1,19 +1,51 @@
-use Rattle.std.proofs.Common.{◌∙◌}
+use Rattle.std.proofs.Common.{◌≡◌, ◌∙◌, ◌+◌, ◌≤◌, ◌∷◌, List, ℕ, ap, arith, length, sym}
+use Rattle.cm_base.specs.Limited.{limit_number}
+use Rattle.cm_base.specs.declared.limited.Limited.TheVariants as limit
 use Rattle.cm_confirm.proofs.Endings.{goes_on}
+use Rattle.cm_confirm.proofs.RunLines.{run_comes}
 use Rattle.cm_confirm.proofs.confirming.confirm.Goals as goal
+use Rattle.cm_confirm.specs.Lines.{lines_come}
 use Rattle.cm_declared.specs.World.{world_of}
+use Rattle.cm_lines.specs.Cut.{Cut}
+use Rattle.cm_lines.specs.Lines.{lines_of}
+use Rattle.cm_log.specs.Counts.{lines_read}
 use Rattle.cm_log.specs.Left.{left}
 use Rattle.cm_state.specs.Right.{right_of}
+use Rattle.model_confirm.specs.Confirm.{confirm_of}
+use Rattle.model_text.specs.Reading.{Reading, script_of_cut}
 
-pub loop-event-preserved : goal.loop-event-preserved
-loop-event-preserved c =
+pub loop-line-init : goal.loop-line-init
+loop-line-init c =
     let w = world_of c.args.w.now in
-    let is = rw c.in-Ok-Event.field-0-is at c.in-Ok-Event.ensures.next in
-    let goes = rw c.in-Ok-Goes.field-0-is at c.in-Ok-Goes.ensures in
+    let right = right_of c.args.right.now in
+    let lines = lines_of c.args.text.now in
     record {
-      same = c.loop-event.invariant.same
-          ∙ goes_on w c.loop-event.machine.state c.loop-event.members (right_of c.args.right.now) (left w c.loop-event.run)
-          (left w c.next.new.self) c.in-Ok-Event.event is c.take_event.new.machine.state c.take_event.new.members goes;
+      same =
+          ap (λ (cut : Cut). confirm_of w c.args.machine.state c.new-members.result right (script_of_cut w cut)) (run_comes c.args.text.now)
+          ∙ ap (λ (r : Reading). confirm_of w c.args.machine.state c.new-members.result right r)
+          (sym (c.of_script-run.ensures.reading w (lines_come (limit_number limit.Line) lines)));
+      within = c.requires.within;
+      script = c.of_script-run.ensures.script;
+      lines = omega (arith, c.of_script-run.ensures.fresh.lines, c.requires.text);
+    }
+
+pub loop-line-preserved-in-Ok-Goes : goal.loop-line-preserved-in-Ok-Goes
+loop-line-preserved-in-Ok-Goes c =
+    let w = world_of c.args.w.now in
+    let right = right_of c.args.right.now in
+    let rest = lines_come (limit_number limit.Line) (lines_of c.in-Some.after.now) in
+    let cut : lines_of c.loop-line.rest.now ≡ c.in-Some.line.now ∷ lines_of c.in-Some.after.now = c.in-Some.ensures.line in
+    let next = rw c.in-Ok-Event.field-0-is at c.in-Ok-Event.ensures.next in
+    let is = ap (λ (ls : List (List ℕ)). left w c.loop-line.run (lines_come (limit_number limit.Line) ls)) cut ∙ next rest in
+    let goes = rw c.in-Ok-Goes.field-0-is at c.in-Ok-Goes.ensures in
+    let lines : lines_read c.next_of_line.new.run ≤ lines_read c.loop-line.run + 1 = c.in-Ok-Event.ensures.lines in
+    let shorter : length c.in-Some.after.now + 1 ≤ length c.loop-line.rest.now = c.in-Some.ensures.shorter in
+    record {
+      same = c.loop-line.invariant.same
+          ∙ goes_on w c.loop-line.machine.state c.loop-line.members right
+          (left w c.loop-line.run (lines_come (limit_number limit.Line) (lines_of c.loop-line.rest.now)))
+          (left w c.next_of_line.new.run rest) c.in-Ok-Event.event is c.take_event.new.machine.state c.take_event.new.members goes;
       within = goes.within;
-      lines = c.in-Ok-Event.ensures.room;
+      script = c.in-Ok-Event.ensures.script;
+      lines = omega (arith, lines, shorter, c.loop-line.invariant.lines);
     }

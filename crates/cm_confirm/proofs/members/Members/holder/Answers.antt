@@ -1,4 +1,4 @@
-use Rattle.std.proofs.Common.{◌≡◌, ℕ, List, ap, sym, subst, ◌∙◌}
+use Rattle.std.proofs.Common.{ℕ, List, ap, sym, ◌∙◌}
 use Rattle.cm_confirm.proofs.Ascending.{ascends_there}
 use Rattle.cm_confirm.proofs.Sames.{holder_same}
 use Rattle.cm_confirm.proofs.members.Members.holder.Goals as goal

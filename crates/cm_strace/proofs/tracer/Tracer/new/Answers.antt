@@ -6,6 +6,6 @@ use Rattle.model_strace.specs.Rest.{Going, rest, BeginsWithReading}
 
 pub returns-clause-reading : goal.returns-clause-reading
 unfolding BeginsWithReading
-returns-clause-reading c lines =
-    ap (λ t. rest (world_of c.args.w.now) (Going t) lines) c.in_ok-work.ensures ∙ begins_with_reading
-    (world_of c.args.w.now) lines
+returns-clause-reading c cut =
+    ap (λ t. rest (world_of c.args.w.now) (Going t) cut) c.in_ok-work.ensures ∙ begins_with_reading
+    (world_of c.args.w.now) cut

@@ -1,0 +1,128 @@
+-- What is written before a fault of reading, by which read failed.
+use Rattle.std.proofs.Common.{◌≡◌, ◌≢◌, ◌<◌, ◌∙◌, ℕ, Bool, true, false, IsTrue, List, [], ◌∷◌, ◌++◌, ◌⊎◌, Option, Ok, IfSome, arith}
+use Rattle.std.proofs.Common.{ap, inl, inr, refl, subst, sym}
+use Rattle.cm_base.specs.declared.limited.Limited.{Limited}
+use Rattle.cm_base.specs.declared.status.Status.{Status}
+use Rattle.cm_base.specs.declared.status.Status.TheVariants as answers
+use Rattle.cm_cli.proofs.Replaying.{always, asking_names, if_told}
+use Rattle.cm_cli.specs.BeforeFault.{HoldsShown, HoldsStart, WritesBefore, WritesBeforeFault}
+use Rattle.cm_cli.specs.Files.{LogApart}
+use Rattle.cm_cli.specs.Query.{file_of, shows_of}
+use Rattle.cm_cli.specs.Reading.{IsWorldRead}
+use Rattle.cm_cli.specs.Words.{asking, claiming}
+use Rattle.cm_cli.specs.declared.query.Claim.{Claim}
+use Rattle.cm_cli.specs.declared.query.ClaimKind.{ClaimKind}
+use Rattle.cm_cli.specs.declared.query.ClaimKind.TheVariants as kind
+use Rattle.cm_cli.specs.declared.query.Task.{Task}
+use Rattle.cm_cli.specs.declared.query.Task.TheVariants as task
+use Rattle.cm_declared.specs.World.{world_of}
+use Rattle.cm_declared.specs.declared.world.World as code
+use Rattle.cm_io.specs.Shelf.{CountsApart, Files, bytes_at}
+use Rattle.cm_io.specs.Sink.{then_written}
+use Rattle.model_cred.specs.World.{World}
+use Rattle.model_report.specs.Command.{Command, task_of}
+use Rattle.model_report.specs.Replay.{text_of}
+use Rattle.model_report.specs.Report.{shows, start_lines}
+use Rattle.model_text.specs.WorldText.{Reads, WorldText}
+
+-- no read failed
+pub no_fault : (held : Option Files) (counted : List ℕ → Bool) (command : Command) (answer : Status)
+    (before now : List ℕ → ℕ) (w w' : Option (List ℕ))
+    → answer ≢ answers.ReadFault → WritesBeforeFault held counted command answer before now w w'
+no_fault held counted command answer before now w w' other is = absurd (other is)
+
+-- ---- the command that asks after a log
+claiming_shows : (k : ClaimKind) (claim : Claim) (world log : List ℕ)
+    → shows (task_of (claiming k claim.query world log claim.file.now) (λ name. [])) ≡ false
+claiming_shows kind.Certificate claim world log = refl
+claiming_shows kind.Run claim world log = refl
+
+asking_shows : (t : Task) (world log : List ℕ) → shows (task_of (asking t world log) (λ name. [])) ≡ shows_of t
+asking_shows task.Nothing world log = refl
+asking_shows (task.Judge q) world log = refl
+asking_shows (task.Claims claim) world log = claiming_shows claim.kind claim world log
+
+-- the names of the first file, and of the second
+first_name : List (List ℕ × Limited) → List ℕ
+first_name [] = []
+first_name (file ∷ files) = file.0
+
+second_name : List (List ℕ × Limited) → List ℕ
+second_name [] = []
+second_name (file ∷ files) = first_name files
+
+module _ (held : Option Files) (counted : List ℕ → Bool) (t : Task) (world log : List ℕ) (answer : Status)
+    (before now : List ℕ → ℕ) (w w' : Option (List ℕ)) where
+  -- told of the names that it has
+  pub before_asked : (answer ≡ answers.ReadFault → WritesBefore held counted (shows_of t) world log before now w w')
+      → WritesBeforeFault held counted (asking t world log) answer before now w w'
+  unfolding first_name second_name
+  before_asked writes is world' log' more names =
+      let same = sym (asking_names t world log) ∙ names in
+      let here = subst (λ (n : List ℕ). WritesBefore held counted (shows_of t) n log before now w w')
+      (ap first_name same) (writes is) in
+      let there = subst (λ (n : List ℕ). WritesBefore held counted (shows_of t) world' n before now w w')
+      (ap second_name same) here in
+      subst (λ (b : Bool). WritesBefore held counted b world' log' before now w w') (sym (asking_shows t world log)) there
+
+-- ---- the world couldn't be read
+pub world_before : (held : Option Files) (counted : List ℕ → Bool) (b : Bool) (world log : List ℕ)
+    (before now reads reads' : List ℕ → ℕ) (w : Option (List ℕ))
+    → CountsApart counted before now reads reads' world → WritesBefore held counted b world log before now w w
+world_before held counted b world log before now reads reads' w apart = record {
+  of_world = λ _ _ _. refl;
+  unshown = λ _. refl;
+  of_log = λ _ other counts rose.
+      let stays = apart.faults_stay counts log (λ is. other (sym is)) in
+      absurd (omega (arith, stays, rose));
+  either = λ _. always held (λ files. inl refl);
+}
+
+-- ---- the world was read, and then the log or a third file couldn't be
+world_in : WorldText → World → World
+world_in (Reads w) other = w
+world_in _ other = other
+
+-- where this world was read of the bytes, and its lines are written, they hold the lines at its start
+starts_in : (bytes : List ℕ) (c : code.World) (w w' : Option (List ℕ)) (b : Bool) → IsWorldRead (Ok c) bytes
+    → HoldsShown b (world_of c) w w' → b ≡ true → HoldsStart bytes w w'
+unfolding world_in
+starts_in bytes c w w' true read holds is other reads =
+    let same : world_of c ≡ other = ap (λ (text : WorldText). world_in text other) (sym read.text_is ∙ reads.text_is) in
+    (holds.more, subst (λ (x : World). w' ≡ then_written w (text_of (start_lines x) ++ holds.more)) same holds.holds)
+starts_in bytes c w w' false read holds is other reads = absurd (cc)
+
+module _ (held : Option Files) (counted : List ℕ → Bool) (t : Task) (world log : List ℕ) (c : code.World)
+    (before mid now reads reads' : List ℕ → ℕ) (w w' : Option (List ℕ))
+    (read : IfSome held (λ files. IsWorldRead (Ok c) (bytes_at files world))) (same : (n : List ℕ) → mid n ≡ before n)
+    (holds : HoldsShown (shows_of t) (world_of c) w w') where
+  -- where its replay is shown, no third file is read, so it wasn't the world's count that rose
+  not_world : (u : Task) → shows_of u ≡ true → LogApart (file_of u) log counted mid now reads reads' → world ≢ log
+      → IsTrue (counted log) → before world < now world → ⊥
+  not_world task.Nothing shown apart other counts rose =
+      let stays = apart.faults_stay counts world other in
+      let was = same world in
+      omega (arith, stays, was, rose)
+  not_world (task.Judge q) shown apart other counts rose =
+      let stays = apart.faults_stay counts world other in
+      let was = same world in
+      omega (arith, stays, was, rose)
+  not_world (task.Claims claim) shown apart other counts rose = cc
+
+  shown_or_not : (b : Bool) → (b ≡ true) ⊎ (b ≡ false)
+  shown_or_not true = inl refl
+  shown_or_not false = inr refl
+
+  pub log_before : LogApart (file_of t) log counted mid now reads reads'
+      → WritesBefore held counted (shows_of t) world log before now w w'
+  log_before apart = record {
+    of_world = λ other counts rose. elim (shown_or_not (shows_of t)) [
+      | inl shown ↦ absurd (not_world t shown apart other counts rose)
+      | inr hidden ↦ holds.unshown hidden
+    ];
+    unshown = holds.unshown;
+    of_log = λ shown _ _ _. if_told held read
+        (λ files is. starts_in (bytes_at files world) c w w' (shows_of t) is holds shown);
+    either = λ shown. if_told held read
+        (λ files is. inr (starts_in (bytes_at files world) c w w' (shows_of t) is holds shown));
+  }

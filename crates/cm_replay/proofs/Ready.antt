@@ -1,0 +1,86 @@
+-- A replay and a log between two lines: there is room for the next one; and what an event leaves.
+use Rattle.std.proofs.Common.{◌≡◌, ◌≤◌, ◌<◌, ℕ, ◌+◌, [], ◌∷◌, length, true, refl, ap, sym, subst, arith}
+use Rattle.cm_base.specs.Limited.{limit_number}
+use Rattle.cm_base.specs.Limits.{greatest_number}
+use Rattle.cm_base.specs.declared.limited.Limited.TheVariants as limit
+use Rattle.cm_log.proofs.Known.{knows_more, spaces_few}
+use Rattle.cm_log.specs.Counts.{Counts, IsFresh, KnowsWithin, events_due, given, lines_read, made, spaces_in}
+use Rattle.cm_log.specs.Left.{is_open, NoneWaits}
+use Rattle.cm_log.specs.Next.{Leaves}
+use Rattle.cm_log.specs.declared.log.Log.{Log}
+use Rattle.cm_log.specs.declared.next.Next.{Next}
+use Rattle.cm_log.specs.declared.next.Next.TheVariants as what
+use Rattle.cm_replay.specs.Following.{Advances, IsReady, TookEvent}
+use Rattle.cm_replay.specs.Replay.{IsTurn}
+use Rattle.cm_replay.specs.declared.replay.Replay.{Replay}
+use Rattle.cm_replay.specs.declared.replay.Turn.TheVariants as turn
+use Rattle.model_cred.specs.Made.{spaces_made}
+use Rattle.model_cred.specs.Process.{State}
+use Rattle.model_cred.specs.World.{World}
+use Rattle.model_laws.proofs.MadeSpaces.{steps_make_spaces}
+use Rattle.model_laws.specs.Steps.{StepsMakeSpaces}
+use Rattle.model_report.specs.Replay.{IsWithin}
+use Rattle.model_run.specs.Step.{outcome}
+use Rattle.model_text.specs.Reading.{Placed}
+
+-- a state within the limits has no more user namespaces than it may
+spaces_within : (s : State) → IsWithin s → length s.spaces ≤ limit_number limit.Spaces
+spaces_within s within = grind (arith, within)
+
+-- there is a number for each user namespace that the line may make
+pub ready_room : (replay : Replay) (log : Log) → IsReady replay log → spaces_in log < greatest_number
+ready_room replay log ready =
+    let few : spaces_in log ≤ length replay.machine.state.spaces + limit_number limit.Held =
+    spaces_few (length replay.machine.state.spaces) log ready.none ready.knows in
+    let spaces : length replay.machine.state.spaces ≤ limit_number limit.Spaces = spaces_within replay.machine.state ready.within in
+    omega (arith, few, spaces)
+
+-- A replay that begins, and a log no line of which has come, are between two lines.
+pub fresh_ready : (replay : Replay) (log : Log) (n : ℕ) → IsWithin replay.machine.state → n ≡ length replay.machine.state.spaces → IsFresh n log
+    → IsReady replay log
+fresh_ready replay log n within is fresh = record {
+  within = within;
+  none = fresh.none;
+  knows = subst (λ (k : ℕ). KnowsWithin k log) is fresh.knows;
+}
+
+-- an event was taken
+pub event_took : (w : World) (from to : Replay) (e : Placed) → IsTurn w e turn.Goes (outcome w from.machine.state e.event) to.machine.state
+    → to.events ≡ from.events + 1 → TookEvent (what.Event e) from to
+unfolding StepsMakeSpaces
+event_took w from to e goes counted =
+    let spaces : length to.machine.state.spaces ≡ length from.machine.state.spaces + spaces_made (e.event ∷ []) =
+    steps_make_spaces w from.machine.state e.event to.machine.state goes.0 in
+    record { given = refl; events = counted; within = goes.1; spaces = omega (arith, spaces) }
+
+-- then the log knows of no more than there are
+pub took_knows : (next : Next) (from to : Replay) (log : Log) → TookEvent next from to → KnowsWithin (length from.machine.state.spaces + made next) log
+    → KnowsWithin (length to.machine.state.spaces) log
+took_knows next from to log took knows =
+    knows_more (length from.machine.state.spaces + made next) (length to.machine.state.spaces) log took.spaces knows
+
+-- ---- nothing is next
+-- then they are between two lines
+pub nothing_ready : (next : Next) (from to : Replay) (log : Log) → (next ≡ what.Nothing) × (to ≡ from) → IsWithin from.machine.state
+    → KnowsWithin (length from.machine.state.spaces + made next) log → Leaves next log → IsReady to log
+nothing_ready next from to log is within knows leaves =
+    let n : ℕ = length from.machine.state.spaces in
+    let left : NoneWaits log × (is_open log ≡ true) = subst (λ (x : Next). Leaves x log) is.0 leaves in
+    let known : KnowsWithin (n + 0) log = subst (λ (x : Next). KnowsWithin (n + made x) log) is.0 knows in
+    let ready : IsReady from log = record { within = within; none = left.0; knows = knows_more (n + 0) n log (omega arith) known } in
+    subst (λ (r : Replay). IsReady r log) (sym is.1) ready
+
+-- and so it is after events that waited, where nothing more does
+pub nothing_advances : (next : Next) (first from to : Replay) (begun old new : Log) → (next ≡ what.Nothing) × (to ≡ from) → IsWithin from.machine.state
+    → KnowsWithin (length from.machine.state.spaces) old → lines_read old ≤ lines_read begun
+    → from.events + events_due old ≤ first.events + events_due begun → Counts 0 next old new → Leaves next new
+    → Advances 0 0 first to begun new
+nothing_advances next first from to begun old new is within knows lines events counts leaves =
+    let same : to.events ≡ from.events = ap (λ (r : Replay). r.events) is.1 in
+    let due : given next + events_due new ≤ events_due old + 0 = counts.due in
+    let fed : lines_read new ≤ lines_read old + 0 = counts.lines in
+    record {
+      ready = nothing_ready next from to new is within (counts.knows (length from.machine.state.spaces) knows) leaves;
+      lines = omega (arith, fed, lines);
+      events = omega (arith, same, due, events);
+    }

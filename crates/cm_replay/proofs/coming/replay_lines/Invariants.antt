@@ -1,0 +1,48 @@
+use Rattle.std.proofs.Common.{◌≡◌, ◌≤◌, ◌+◌, ◌-◌, ℕ, List, length, IfSome}
+use Rattle.cm_base.specs.Limited.{limit_number}
+use Rattle.cm_base.specs.declared.limited.Limited.TheVariants as limit
+use Rattle.cm_declared.specs.World.{world_of}
+use Rattle.cm_io.specs.Cutter.{Fits, ends, left_of, read_to}
+use Rattle.cm_io.specs.Shelf.{CountsApart, ReadsByBytes, TakesAtMost, bytes_at}
+use Rattle.cm_log.specs.Counts.{events_due, lines_read}
+use Rattle.cm_log.specs.Left.{left}
+use Rattle.cm_replay.proofs.Pieces.{Grown}
+use Rattle.cm_replay.proofs.coming.replay_lines.Given as goal
+use Rattle.cm_replay.specs.Following.{GoesOn, IsReady}
+
+-- Between two lines: of what file the cutter is, and that it fits the shelf; what was read of it; that the replay and the log
+-- are ready for the next line, and have numbers for it; what was written; and, where the shelf tells what it holds, that the
+-- report of what is left goes on from there.
+abbrev pub invariant-loop-line : goal.invariant-loop-line
+invariant-loop-line g l = record {
+  name : l.cutter.name ≡ l.fn.cutter.name;
+  line : l.cutter.line ≡ limit_number limit.Line;
+  whole : l.cutter.whole ≡ limit_number limit.Log;
+  fits : Fits (g.H.Shelf.held l.shelf) l.cutter;
+  held : g.H.Shelf.held l.shelf ≡ g.H.Shelf.held l.fn.shelf;
+  counted : (n : List ℕ) → g.H.Shelf.counted l.shelf n ≡ g.H.Shelf.counted l.fn.shelf n;
+  faults : (n : List ℕ) → g.H.Shelf.faults l.shelf n ≡ g.H.Shelf.faults l.fn.shelf n;
+  takes : TakesAtMost (g.H.Shelf.taken l.fn.shelf) (g.H.Shelf.taken l.shelf) l.fn.cutter.name (read_to l.cutter);
+  reads : ReadsByBytes (g.H.Shelf.reads l.fn.shelf) (g.H.Shelf.reads l.shelf) (g.H.Shelf.taken l.fn.shelf)
+      (g.H.Shelf.taken l.shelf) l.fn.cutter.name (ends l.cutter);
+  apart : CountsApart (g.H.Shelf.counted l.fn.shelf) (g.H.Shelf.faults l.fn.shelf) (g.H.Shelf.faults l.shelf)
+      (g.H.Shelf.reads l.fn.shelf) (g.H.Shelf.reads l.shelf) l.fn.cutter.name;
+  ready : IsReady l.replay l.log;
+  lines : lines_read l.log ≤ l.cutter.place;
+  events : l.replay.events + events_due l.log ≤ l.cutter.place;
+  place : l.cutter.place ≤ l.cutter.whole;
+  shows : l.replay.shows ≡ l.fn.replay.shows;
+  spaces : length l.fn.replay.machine.state.spaces ≤ length l.replay.machine.state.spaces;
+  grown : Grown l.fn.replay.shows
+      (record { written = g.K.Sink.written l.fn.out; waits = l.fn.text.items })
+      (record { written = g.K.Sink.written l.out; waits = l.text.items });
+  sink : g.K.Sink.faults l.out ≡ g.K.Sink.faults l.fn.out;
+  goes : IfSome (g.H.Shelf.held l.fn.shelf) (λ files. GoesOn (world_of l.w) l.fn.replay l.replay
+      (record { written = g.K.Sink.written l.fn.out; waits = l.fn.text.items })
+      (record { written = g.K.Sink.written l.out; waits = l.text.items })
+      (left (world_of l.w) l.fn.log (left_of l.fn.cutter (bytes_at files l.fn.cutter.name)))
+      (left (world_of l.w) l.log (left_of l.cutter (bytes_at files l.fn.cutter.name))));
+}
+
+abbrev pub decreases-loop-line : goal.decreases-loop-line
+decreases-loop-line g l = l.cutter.whole + 1 - l.cutter.place

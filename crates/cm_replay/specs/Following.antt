@@ -1,0 +1,97 @@
+-- How a replay follows a log a line at a time: what of its report is sent and what waits, and what is counted.
+use Rattle.std.specs.Prelude.{◌≡◌, ◌≤◌, ℕ, ◌+◌, false, List, ◌++◌, length, Option, Result, Ok, Err}
+use Rattle.cm_base.specs.declared.status.Status.{Status}
+use Rattle.cm_base.specs.declared.status.Status.TheVariants.{Accepted}
+use Rattle.cm_io.specs.declared.outside.Outside.{Outside}
+use Rattle.cm_log.specs.Counts.{KnowsWithin, events_due, given, lines_read, made}
+use Rattle.cm_log.specs.Left.{NoneWaits}
+use Rattle.cm_log.specs.declared.log.Log.{Log}
+use Rattle.cm_log.specs.declared.next.Next.{Next}
+use Rattle.cm_log.specs.declared.next.Next.TheVariants as next
+use Rattle.cm_replay.specs.Replay.{report_from}
+use Rattle.cm_replay.specs.declared.replay.Replay.{Replay}
+use Rattle.cm_replay.specs.declared.replay.Taken.{Taken}
+use Rattle.cm_replay.specs.declared.replay.Taken.TheVariants as taken
+use Rattle.cm_replay.specs.declared.replay.Turn.{Turn}
+use Rattle.cm_replay.specs.declared.replay.Turn.TheVariants as turn
+use Rattle.cm_report.specs.Sent.{IsSent, IsFront}
+use Rattle.model_cred.specs.Process.{State}
+use Rattle.model_cred.specs.World.{World}
+use Rattle.model_report.specs.Causes.{RunWithin}
+use Rattle.model_report.specs.Replay.{text_of, IsWithin}
+use Rattle.model_text.specs.Reading.{Reading, events_of}
+
+-- ---- what is reported
+-- What the sink has taken, and what waits in the buffer.
+pub record Outgoing : Type 0 where
+  pub written : Option (List ℕ)
+  pub waits : List ℕ
+
+-- The replay goes on, from what was to be read to what is left of it. Its report has the status of the rest's; what is sent and
+-- what waits, with the rest's lines, are what waited and the lines of the whole; and a run that goes on by the rest is one by the
+-- whole. Where it isn't shown, nothing more waits or is sent than what waited. No user namespace goes.
+pub record GoesOn (w : World) (from to : Replay) (old new : Outgoing) (reading rest : Reading) : Type 0 where
+  pub status : (report_from w to rest).status ≡ (report_from w from reading).status
+  pub sent : IsSent old.written new.written (new.waits ++ text_of (report_from w to rest).lines)
+      (old.waits ++ text_of (report_from w from reading).lines)
+  pub reached : (s : State) → RunWithin w to.machine.state (events_of rest.events) s
+      → RunWithin w from.machine.state (events_of reading.events) s
+  pub shows : to.shows ≡ from.shows
+  pub quiet : from.shows ≡ false → IsSent old.written new.written new.waits old.waits
+  pub spaces : length from.machine.state.spaces ≤ length to.machine.state.spaces
+
+-- The report ends with this status, and all of it is sent or waits; where the log is accepted, the machine is in the state that
+-- its events lead to.
+pub record EndsAs (w : World) (from to : Replay) (old new : Outgoing) (st : Status) (reading : Reading) : Type 0 where
+  pub status : (report_from w from reading).status ≡ st
+  pub sent : IsSent old.written new.written new.waits (old.waits ++ text_of (report_from w from reading).lines)
+  pub reached : st ≡ Accepted → RunWithin w from.machine.state (events_of reading.events) to.machine.state
+
+-- a front of what waited and of the report is sent
+abbrev pub IsCutOff : World → Replay → Outgoing → Outgoing → Reading → Type 0
+IsCutOff w from old new reading = IsFront old.written new.written (old.waits ++ text_of (report_from w from reading).lines)
+
+-- The replay goes on to the rest; or its report ends; or reading or sending failed.
+abbrev pub Follows : World → Replay → Replay → Outgoing → Outgoing → Result Turn Outside → Reading → Reading → Type 0
+Follows w from to old new (Ok turn.Goes) reading rest = GoesOn w from to old new reading rest
+Follows w from to old new (Ok (turn.Ends st)) reading rest = EndsAs w from to old new st reading
+Follows w from to old new (Err why) reading rest = IsCutOff w from old new reading
+
+-- the same where no line comes any more
+abbrev pub EndsSo : World → Replay → Replay → Outgoing → Outgoing → Result Status Outside → Reading → Type 0
+EndsSo w from to old new (Ok st) reading = EndsAs w from to old new st reading
+EndsSo w from to old new (Err why) reading = IsCutOff w from old new reading
+
+-- the same of what is next of a log
+abbrev pub Takes : World → Replay → Replay → Outgoing → Outgoing → Result Taken Outside → Reading → Reading → Type 0
+Takes w from to old new (Ok (taken.End st)) reading rest = EndsAs w from to old new st reading
+Takes w from to old new (Ok _) reading rest = GoesOn w from to old new reading rest
+Takes w from to old new (Err why) reading rest = IsCutOff w from old new reading
+
+-- ---- what is counted
+-- Between two lines of a log: no event waits; the state is within the limits; and the log knows of no more user namespaces than
+-- there are.
+pub record IsReady (replay : Replay) (log : Log) : Type 0 where
+  pub within : IsWithin replay.machine.state
+  pub none : NoneWaits log
+  pub knows : KnowsWithin (length replay.machine.state.spaces) log
+
+-- After so many lines more, which told so many events more: the replay and the log are between two lines; each line was counted;
+-- and the events that came, and those that can still come of the lines, are so many more at most.
+pub record Advances (more told : ℕ) (from to : Replay) (old new : Log) : Type 0 where
+  pub ready : IsReady to new
+  pub lines : lines_read new ≤ lines_read old + more
+  pub events : to.events + events_due new ≤ from.events + events_due old + told
+
+-- An event was taken, which was counted, and leads to a state within the limits that has the user namespaces which it makes.
+pub record TookEvent (next : Next) (from to : Replay) : Type 0 where
+  pub given : given next ≡ 1
+  pub events : to.events ≡ from.events + 1
+  pub within : IsWithin to.machine.state
+  pub spaces : length from.machine.state.spaces + made next ≤ length to.machine.state.spaces
+
+-- what was taken is what was next, and is counted
+abbrev pub TakesCount : Next → Replay → Replay → Taken → Type 0
+TakesCount next from to taken.Event = TookEvent next from to
+TakesCount what from to taken.Nothing = (what ≡ next.Nothing) × (to ≡ from)
+TakesCount next from to (taken.End st) = Unit {0}

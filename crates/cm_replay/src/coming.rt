@@ -1,0 +1,196 @@
+// The replay of a log as it comes: its lines are cut out of the file and told one by one, and none is kept.
+ghost use Rattle.std.specs.Prelude.{◌≡◌, ◌≢◌, ◌≤◌, ◌<◌, ◌^◌, ◌+◌, ◌++◌, ℕ, List, length, Option, Ok, Err, IfOk, IfErr, IfSome, OnOk, OnErr};
+ghost use Rattle.cm_base.specs.Limited.{limit_number};
+ghost use Rattle.cm_base.specs.declared.limited.Limited.TheVariants as limit;
+ghost use Rattle.cm_declared.specs.World.{world_of};
+ghost use Rattle.cm_io.specs.Cutter.{Fits, begun, left_of};
+ghost use Rattle.cm_io.specs.Shelf.{CountsApart, FileFaults, ReadsByBytes, TakesAtMost, Files, bytes_at};
+ghost use Rattle.cm_io.specs.Sink.{WriteFaults};
+ghost use Rattle.cm_lines.specs.Cut.{ends_by};
+ghost use Rattle.cm_log.specs.Counts.{events_due};
+ghost use Rattle.cm_log.specs.Left.{left};
+ghost use Rattle.cm_replay.specs.Coming.{Begins, ComesTo, IsReplayAnswer, KeepsAtEnd, Sends, SendsBy};
+ghost use Rattle.cm_replay.specs.Following.{IsReady};
+ghost use Rattle.cm_replay.specs.Shown.{shown_report};
+ghost use Rattle.cm_replay.specs.Untold.{UntoldFaults};
+ghost use Rattle.cm_report.specs.Sent.{IsSent, IsFront};
+ghost use Rattle.model_report.specs.Replay.{text_of, IsWithin};
+ghost use Rattle.model_report.specs.Report.{replay_of};
+ghost use Rattle.model_run.specs.Within.{RunWithin};
+ghost use Rattle.model_strace.specs.Logs.{log_reading};
+ghost use Rattle.model_text.specs.Reading.{events_of};
+
+use crate::replay::{Replay, Turn, replay_end, replay_line};
+use crate::untold::Untold;
+use cm_base::{Limited, Status};
+use cm_declared::World;
+use cm_io::{CutError, LineCutter, Outside, Shelf, Sink};
+use cm_lines::Past;
+use cm_log::Log;
+use cm_machine::Machine;
+use cm_report::send;
+use std::alloc::Global;
+
+/// Replays the log of that name in a world, from the world's state on, as it is read: says the report's status, and with
+/// which machine the replay ends. What it writes goes through the buffer `text` to the sink in large pieces; at `Ok` the
+/// rest of it waits in the buffer. Before each read of the log what waits is written: so at a fault of reading the
+/// sink has all that was told of the lines before. Of a replay that isn't shown nothing is written but the line that says
+/// why it isn't accepted.
+pub fn replay_log<H: Shelf, K: Sink>(
+    alloc: Global,
+    w: &World,
+    name: &str,
+    shows: bool,
+    shelf: &mut H,
+    text: &mut Vec<u8>,
+    out: &mut K,
+) -> Result<(Status, Machine), Untold>
+    requires within { IsWithin w.now.start }
+    ensures status { IfSome (H.held shelf.old) (λ files. IfOk result (λ ended.
+        (shown_report shows (replay_of (world_of w.now) (log_reading (world_of w.now) (bytes_at files name.now)))).status
+        ≡ ended.0)) }
+    ensures sent { IfSome (H.held shelf.old) (λ files.
+        OnOk result (IsSent (K.written out.old) (K.written out.new) text.new.items (text.old.items ++ text_of
+        (shown_report shows (replay_of (world_of w.now) (log_reading (world_of w.now) (bytes_at files name.now)))).lines))) }
+    ensures stopped { IfSome (H.held shelf.old) (λ files.
+        OnErr result (IsFront (K.written out.old) (K.written out.new) (text.old.items ++ text_of
+        (shown_report shows (replay_of (world_of w.now) (log_reading (world_of w.now) (bytes_at files name.now)))).lines))) }
+    ensures sends { Sends shows (K.written out.old) (K.written out.new) text.old.items text.new.items result }
+    ensures cause { UntoldFaults (K.faults out.old) (K.faults out.new) result }
+    ensures answers { IfOk result (λ ended. IsReplayAnswer ended.0) }
+    // Where the log is accepted, the machine is in the state that its events lead to, within the limits; no space went.
+    ensures reached { IfSome (H.held shelf.old) (λ files. IfOk result (λ ended. ended.0 ≡ Status.Accepted →
+        RunWithin (world_of w.now) w.now.start
+        (events_of (log_reading (world_of w.now) (bytes_at files name.now)).events) ended.1.state)) }
+    ensures within { IfOk result (λ ended. ended.0 ≡ Status.Accepted → IsWithin ended.1.state) }
+    ensures spaces { IfOk result (λ ended. ended.0 ≡ Status.Accepted →
+        length w.now.start.spaces ≤ length ended.1.state.spaces) }
+    ensures held { H.held shelf.new ≡ H.held shelf.old }
+    ensures counted { (n : List ℕ) → H.counted shelf.new n ≡ H.counted shelf.old n }
+    ensures faults { FileFaults (H.faults shelf.old) (H.faults shelf.new) name.now (result ≡ Err Untold.ReadFault) }
+    ensures takes { TakesAtMost (H.taken shelf.old) (H.taken shelf.new) name.now (limit_number limit.Log + 1) }
+    ensures reads { ReadsByBytes (H.reads shelf.old) (H.reads shelf.new) (H.taken shelf.old) (H.taken shelf.new)
+        name.now 1 }
+    ensures apart { CountsApart (H.counted shelf.old) (H.faults shelf.old) (H.faults shelf.new)
+        (H.reads shelf.old) (H.reads shelf.new) name.now }
+{
+    let mut replay = Replay::new(alloc, w, shows)?;
+    let mut log = Log::new(alloc, w)?;
+    let mut cutter = begin_cutter(alloc, name)?;
+    let status = replay_lines(
+        alloc,
+        w,
+        &mut replay,
+        &mut log,
+        &mut cutter,
+        shelf,
+        text,
+        out,
+    )?;
+    let Replay { machine, .. } = replay;
+    Ok((status, machine))
+}
+
+// The cutter of a log's lines, before the first one.
+fn begin_cutter(alloc: Global, name: &str) -> Result<LineCutter, Untold>
+    ensures begun { IfOk result (λ c. c ≡ begun name.now (limit_number limit.Line) (limit_number limit.Log)) }
+    ensures fits { IfOk result (λ c. (held : Option Files) → Fits held c) }
+    ensures memory { IfErr result (λ why. why ≡ Untold.NoMemory) }
+{
+    match LineCutter::new(alloc, name, Limited::Line.number(), Limited::Log.number()) {
+        Ok(cutter) => Ok(cutter),
+        Err(_) => Err(Untold::NoMemory),
+    }
+}
+
+// Replays the lines that the cutter gives, and ends the report. At first no line is at hand.
+fn replay_lines<H: Shelf, K: Sink>(
+    alloc: Global,
+    w: &World,
+    replay: &mut Replay,
+    log: &mut Log,
+    cutter: &mut LineCutter,
+    shelf: &mut H,
+    text: &mut Vec<u8>,
+    out: &mut K,
+) -> Result<Status, Untold>
+    requires begins { Begins cutter.old.name replay.old log.old cutter.old }
+    requires fits { Fits (H.held shelf.old) cutter.old }
+    ensures told { IfSome (H.held shelf.old) (λ files. ComesTo (world_of w.now) replay.old replay.new
+        (record { written = K.written out.old; waits = text.old.items })
+        (record { written = K.written out.new; waits = text.new.items })
+        result (left (world_of w.now) log.old (left_of cutter.old (bytes_at files cutter.old.name)))) }
+    ensures sends { SendsBy replay.old.shows (K.written out.old) (K.written out.new) text.old.items text.new.items result }
+    ensures answers { IfOk result IsReplayAnswer }
+    ensures keeps { KeepsAtEnd replay.old replay.new result }
+    ensures cause { UntoldFaults (K.faults out.old) (K.faults out.new) result }
+    ensures held { H.held shelf.new ≡ H.held shelf.old }
+    ensures counted { (n : List ℕ) → H.counted shelf.new n ≡ H.counted shelf.old n }
+    ensures faults { FileFaults (H.faults shelf.old) (H.faults shelf.new) cutter.old.name (result ≡ Err Untold.ReadFault) }
+    ensures takes { TakesAtMost (H.taken shelf.old) (H.taken shelf.new) cutter.old.name (limit_number limit.Log + 1) }
+    ensures reads { ReadsByBytes (H.reads shelf.old) (H.reads shelf.new) (H.taken shelf.old) (H.taken shelf.new)
+        cutter.old.name 1 }
+    ensures apart { CountsApart (H.counted shelf.old) (H.faults shelf.old) (H.faults shelf.new)
+        (H.reads shelf.old) (H.reads shelf.new) cutter.old.name }
+{
+    match send(text, out) {
+        Ok(()) => {}
+        Err(why) => return Err(Untold::from(why)),
+    }
+    loop {
+        match cutter.next_line(shelf) {
+            Ok(Some(line)) => match replay_line(alloc, w, replay, log, line, text, out) {
+                Ok(Turn::Goes) => {}
+                Ok(Turn::Ends(status)) => return Ok(status),
+                Err(why) => return Err(Untold::from(why)),
+            },
+            Ok(None) => return end_lines(alloc, w, replay, log, None, text, out),
+            Err(CutError::TooLong) => {
+                return end_lines(alloc, w, replay, log, Some(Past::Line), text, out);
+            }
+            Err(CutError::TooMuch) => {
+                return end_lines(alloc, w, replay, log, Some(Past::Whole), text, out);
+            }
+            Err(CutError::Read) => return Err(Untold::ReadFault),
+            Err(CutError::NoMemory) => return Err(Untold::NoMemory),
+        }
+        match send_unless(cutter.is_at_hand(), text, out) {
+            Ok(()) => {}
+            Err(why) => return Err(Untold::from(why)),
+        }
+    }
+}
+
+// Replays what is left of the log where no line comes any more.
+fn end_lines<K: Sink>(
+    alloc: Global,
+    w: &World,
+    replay: &mut Replay,
+    log: &mut Log,
+    past: Option<Past>,
+    text: &mut Vec<u8>,
+    out: &mut K,
+) -> Result<Status, Untold>
+    requires ready { IsReady replay.old log.old }
+    requires events { replay.old.events + events_due log.old < 2 ^ 63 }
+    ensures told { ComesTo (world_of w.now) replay.old replay.new
+        (record { written = K.written out.old; waits = text.old.items })
+        (record { written = K.written out.new; waits = text.new.items })
+        result (left (world_of w.now) log.old (ends_by past)) }
+    ensures no_read_fault { result ≢ Err Untold.ReadFault }
+    ensures cause { UntoldFaults (K.faults out.old) (K.faults out.new) result }
+{
+    match replay_end(alloc, w, replay, log, past, text, out) {
+        Ok(status) => Ok(status),
+        Err(why) => Err(Untold::from(why)),
+    }
+}
+
+// Sends what waits before a read of the log.
+fn send_unless<K: Sink>(at_hand: bool, text: &mut Vec<u8>, out: &mut K) -> Result<(), Outside>
+    ensures sent { OnOk result (IsSent (K.written out.old) (K.written out.new) text.new.items text.old.items) }
+    ensures front { OnErr result (IsFront (K.written out.old) (K.written out.new) text.old.items) }
+    ensures cause { WriteFaults (K.faults out.old) (K.faults out.new) result }
+{
+    if at_hand { Ok(()) } else { send(text, out) }
+}
