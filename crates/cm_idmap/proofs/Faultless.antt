@@ -1,7 +1,8 @@
 -- What a list without a fault is like: each extent ends within the ids, and no two have an id in common.
-use Rattle.std.proofs.Common.{◌≡◌, ℕ, ◌+◌, ◌≤◌, ◌==◌, ◌||◌, false, length, List, [], ◌∷◌, None, arith}
+use Rattle.std.proofs.Common.{◌≡◌, ℕ, ◌+◌, ◌<◌, ◌≤◌, ◌==◌, ◌||◌, false, length, List, [], ◌∷◌, None, arith}
 use Rattle.std.specs.Prelude.{nat_lt, All}
 use Rattle.std.proofs.lemmas.Bool.{or_parts, ltb-false}
+use Rattle.std.proofs.lemmas.Bool.Decides.{nat_tests}
 use Rattle.std.proofs.lemmas.List.Elements.{All-cons}
 use Rattle.cm_base.specs.Limits.{id_count}
 use Rattle.model_cred.specs.IdMap.{Extent}
@@ -21,6 +22,18 @@ extent_fits i e is =
     (not_some _ (PastEnd i) None (not_some (e.length == 0) (ZeroLength i) _ is).1).0 in
     let parts : (nat_lt id_count (e.inside + e.length) ≡ false) × (nat_lt id_count (e.outside + e.length) ≡ false) = or_parts _ _ some in
     record { inside = ltb-false id_count _ parts.0; outside = ltb-false id_count _ parts.1 }
+
+has_some : (n : ℕ) → (n == 0) ≡ false → 0 < n
+has_some n is = grind (arith, nat_tests, is)
+
+extent_some : (i : ℕ) (e : Extent) → extent_fault i e ≡ None → 0 < e.length
+extent_some i e is = has_some e.length (not_some (e.length == 0) (ZeroLength i) _ is).0
+
+pub all_some : (i : ℕ) (list : List Extent) → first_extent_fault i list ≡ None → All (λ (e : Extent). 0 < e.length) list
+all_some i [] is = λ k d below. absurd (omega (arith, below))
+all_some i (e ∷ list) is =
+    let parts : (extent_fault i e ≡ None) × (first_extent_fault (i + 1) list ≡ None) = both_none _ _ is in
+    All-cons (λ (f : Extent). 0 < f.length) e list (extent_some i e parts.0) (all_some (i + 1) list parts.1)
 
 all_fit : (i : ℕ) (list : List Extent) → first_extent_fault i list ≡ None → All Fits list
 all_fit i [] is = λ k d below. absurd (omega (arith, below))
@@ -52,6 +65,10 @@ faults_of list is = both_none _ _ (not_some (nat_lt 340 (length list)) TooMany _
 -- each extent of a map ends within the ids
 pub map_fits : (map : List Extent) → IsMap map → All Fits map
 map_fits map is = all_fit 0 map (faults_of map (none_is _ is)).0
+
+-- each extent of a map has an id
+pub map_some : (map : List Extent) → IsMap map → All (λ (e : Extent). 0 < e.length) map
+map_some map is = all_some 0 map (faults_of map (none_is _ is)).0
 
 -- no two extents of a map have an inside id in common, and none an outside id
 pub map_apart : (map : List Extent) → IsMap map → AllApart (λ e. e.inside) map × AllApart (λ e. e.outside) map

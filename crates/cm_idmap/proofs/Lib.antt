@@ -1,4 +1,10 @@
+pub mod Beside
 pub mod Faultless
+pub mod Finds
+pub mod Halves
+pub mod Orders
+pub mod Passing
+pub mod Permuted
 pub mod Refused
 pub mod Sides
 pub mod Taken

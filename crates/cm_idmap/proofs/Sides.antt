@@ -29,7 +29,7 @@ AllApart from [] = Unit {0}
 AllApart from (e ∷ map) = All (Apart from e) map × AllApart from map
 
 -- two ranges that hold one id meet
-meet_at : (first count other other_count id : ℕ)
+pub meet_at : (first count other other_count id : ℕ)
     → first ≤ id → id < first + count → other ≤ id → id < other + other_count → ranges_meet first count other other_count ≡ true
 meet_at first count other other_count id low high other_low other_high =
     and_from _ _ (lt-ltb first (other + other_count) (omega arith)) (lt-ltb other (first + count) (omega arith))

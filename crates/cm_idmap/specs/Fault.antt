@@ -1,8 +1,9 @@
 -- The answers of the code and the faults of the definitions.
-use Rattle.std.specs.Prelude.{Option, None, Some}
+use Rattle.std.specs.Prelude.{◌==◌, Option, None, Some, nat_lt, length, List, if◌then◌else◌}
 use Rattle.cm_idmap.specs.declared.fault.BadMap.{BadMap}
 use Rattle.cm_idmap.specs.declared.fault.BadMap.TheVariants as answer
-use Rattle.model_cred.specs.MapFault.{MapFault, Empty, TooMany, ZeroLength, PastEnd, Overlap}
+use Rattle.model_cred.specs.IdMap.{Extent}
+use Rattle.model_cred.specs.MapFault.{MapFault, Empty, TooMany, ZeroLength, PastEnd, Overlap, first_extent_fault, most_extents}
 
 -- The fault of the list that an answer tells: NoMemory, which comes only for a map, tells none.
 abbrev pub fault_of : BadMap → Option MapFault
@@ -17,3 +18,10 @@ fault_of answer.NoMemory = None
 abbrev pub told : Option BadMap → Option MapFault
 told None = None
 told (Some e) = fault_of e
+
+-- the first fault of a list that isn't one of two lines that meet
+abbrev pub fault_but_overlap : List Extent → Option MapFault
+fault_but_overlap list =
+    if length list == 0 then Some Empty
+    else if nat_lt most_extents (length list) then Some TooMany
+    else first_extent_fault 0 list

@@ -1,12 +1,16 @@
 // Which lists of extents are no map, and why (user_namespaces(7), "Defining user and group ID mappings: writing to
-// uid_map and gid_map"). The checks stand in the order of the answers: the whole list, each extent, each pair.
-ghost use Rattle.std.specs.Prelude.{◌≡◌, ℕ, ◌+◌, ◌≤◌, length, drop, nat_lt, is_some, option_map};
+// uid_map and gid_map"). The checks stand in the order of the answers: the whole list, each extent, each pair. Each pair
+// is looked at only where some meet, for the exact answer, or where there was no memory for lists in order.
+ghost use Rattle.std.specs.Prelude.{◌≡◌, ℕ, ◌+◌, ◌≤◌, None, length, drop, nat_lt, is_some, option_map};
 ghost use Rattle.cm_base.specs.Limits.{id_count};
-ghost use Rattle.model_cred.specs.MapFault.{Overlap, map_fault, first_extent_fault, first_overlap, overlap_with, ranges_meet, extents_meet};
-ghost use Rattle.cm_idmap.specs.Fault.{told};
+ghost use Rattle.cm_base.specs.Outcome.{OrNoMemory};
+ghost use Rattle.model_cred.specs.MapFault.{Overlap, first_extent_fault, first_overlap, overlap_with, ranges_meet, extents_meet};
+ghost use Rattle.cm_idmap.specs.Fault.{told, fault_but_overlap};
+ghost use Rattle.cm_idmap.specs.Kept.{AreSides};
 
 use crate::Extent;
-use cm_base::MINUS_ONE;
+use crate::kept::Sides;
+use cm_base::{MINUS_ONE, NoMemory};
 
 // The most extents of a map (user_namespaces(7), since Linux 4.15).
 const MOST_EXTENTS: usize = 340;
@@ -28,10 +32,10 @@ pub enum BadMap {
     NoMemory,
 }
 
-// The first fault of the list, None for a map.
-pub(crate) fn first_fault(list: &[Extent]) -> Option<BadMap>
-    ensures fault { told result ≡ map_fault list.now }
-    ensures some { is_some result ≡ is_some (map_fault list.now) }
+// The first fault of the list that isn't a pair of extents that meet.
+pub(crate) fn fault_but_overlap(list: &[Extent]) -> Option<BadMap>
+    ensures fault { told result ≡ fault_but_overlap list.now }
+    ensures some { is_some result ≡ is_some (fault_but_overlap list.now) }
 {
     if list.is_empty() {
         return Some(BadMap::Empty);
@@ -39,10 +43,7 @@ pub(crate) fn first_fault(list: &[Extent]) -> Option<BadMap>
     if list.len() > MOST_EXTENTS {
         return Some(BadMap::TooMany);
     }
-    match bad_extent(list) {
-        Some(fault) => Some(fault),
-        None => bad_pair(list),
-    }
+    bad_extent(list)
 }
 
 // The first extent that is wrong by itself.
@@ -66,6 +67,19 @@ fn passes_end(first: u32, length: u32) -> bool
     ensures { result ≡ nat_lt id_count (first + length) }
 {
     u64::from(first) + u64::from(length) > u64::from(MINUS_ONE)
+}
+
+// The least pair of extents that meet. Two lists in order tell that there is none; else each pair is looked at.
+pub(crate) fn overlap(list: &[Extent], sides: &Result<Sides, NoMemory>) -> Option<BadMap>
+    requires fine { first_extent_fault 0 list.now ≡ None }
+    requires sides { OrNoMemory sides.now (AreSides list.now) }
+    ensures fault { told result ≡ first_overlap 0 list.now }
+    ensures some { is_some result ≡ is_some (first_overlap 0 list.now) }
+{
+    match sides {
+        Ok(sides) if sides.are_apart() => None,
+        _ => bad_pair(list),
+    }
 }
 
 // The least pair of extents that meet.

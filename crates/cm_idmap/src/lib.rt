@@ -5,8 +5,19 @@
 mod down;
 mod extent;
 mod fault;
+mod kept;
+mod looks;
 mod map;
+mod search;
+mod side;
+mod sorted;
+mod steps;
+mod uncounted;
 
 pub use extent::Extent;
 pub use fault::BadMap;
+pub use looks::Looks;
 pub use map::IdMap;
+pub use search::{down_counted, up_counted};
+pub use sorted::Sorted;
+pub use steps::Steps;

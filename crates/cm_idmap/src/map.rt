@@ -1,6 +1,8 @@
-// An id map: a list of extents that is one by user_namespaces(7), with what it takes an id to, both ways.
+// An id map: a list of extents that is one by user_namespaces(7), with what it takes an id to, both ways. Beside the
+// list it keeps its extents in the order of each side, so that ids are looked for by halves. Contracts see the list.
 ghost use Rattle.std.specs.Prelude.{◌≡◌, ℕ, ◌<◌, ◌↔◌, None, Some, IfOk, IfSome, option_map};
 ghost use Rattle.std.specs.declared.result.Result.TheVariants.{Err};
+ghost use Rattle.std.specs.List.Sorted.{IsNonDecreasingBy, IsPermutation};
 ghost use Rattle.cm_base.specs.Limits.{id_count};
 ghost use Rattle.cm_base.specs.Outcome.{OrNoMemory};
 ghost use Rattle.model_cred.specs.IdMap.{down, extents_of, up, initial_map, Maps};
@@ -11,16 +13,21 @@ ghost use Rattle.cm_idmap.specs.declared.fault.BadMap.{BadMap};
 ghost use Rattle.cm_idmap.specs.declared.fault.BadMap.TheVariants as answer;
 
 use crate::down::list_down;
-use crate::fault::first_fault;
+use crate::fault::{fault_but_overlap, overlap};
+use crate::kept::Sides;
+use crate::sorted::Sorted;
+use crate::uncounted::{down_in, up_in};
 use crate::{BadMap, Extent};
 use cm_base::{MINUS_ONE, NoMemory};
 use std::alloc::Global;
-use std::marker::Model;
+use std::marker::{Brand, Model};
+use std::sync::ledger::Blank;
 
 /// A map from the ids of a user namespace, its inside ids, to outside ids. It takes no two ids to one.
 #[derive(Debug, Drop)]
 pub struct IdMap {
     list: Vec<Extent>,
+    sides: Sides,
 }
 
 impl Model for IdMap {
@@ -32,7 +39,9 @@ impl Model for IdMap {
 
     ghost view = { λ m. m.list.items };
 
-    ghost invariant = { λ m. IsMap m.list.items };
+    ghost use Rattle.cm_idmap.specs.Kept.{AreSides};
+
+    ghost invariant = { λ m. IsMap m.list.items × AreSides m.list.items m.sides };
 }
 
 impl IdMap {
@@ -44,12 +53,16 @@ impl IdMap {
         ensures refused { (e : BadMap) → result ≡ Err e → map_fault list.now ≡ fault_of e }
         ensures memory { result ≡ Err answer.NoMemory → map_fault list.now ≡ None }
     {
-        if let Some(fault) = first_fault(list) {
+        if let Some(fault) = fault_but_overlap(list) {
             return Err(fault);
         }
-        match Vec::from_slice(alloc, list) {
-            Ok(list) => Ok(IdMap { list }),
-            Err(_) => Err(BadMap::NoMemory),
+        let sides = Sides::of(alloc, list);
+        if let Some(fault) = overlap(list, &sides) {
+            return Err(fault);
+        }
+        match (sides, Vec::from_slice(alloc, list)) {
+            (Ok(sides), Ok(list)) => Ok(IdMap { list, sides }),
+            _ => Err(BadMap::NoMemory),
         }
     }
 
@@ -64,7 +77,8 @@ impl IdMap {
             length: MINUS_ONE,
         };
         let list = vec![in alloc; all]?;
-        Ok(IdMap { list })
+        let sides = Sides::of(alloc, &list)?;
+        Ok(IdMap { list, sides })
     }
 
     /// The outside id of an inside id, which isn't -1. None exactly where no extent holds the id
@@ -74,12 +88,7 @@ impl IdMap {
         ensures is_id { IfSome result (λ id. id < id_count) }
         ensures maps { (id : ℕ) → (result ≡ Some id) ↔ Maps self.now inside id }
     {
-        for e in &self.list {
-            if e.inside <= inside && inside - e.inside < e.length {
-                return Some(e.outside + (inside - e.inside));
-            }
-        }
-        None
+        down_in::<Brand>(&self.sides.by_inside, inside, Blank::new(1))
     }
 
     /// The inside id of an outside id, which isn't -1. None exactly where no extent holds the id
@@ -89,12 +98,7 @@ impl IdMap {
         ensures is_id { IfSome result (λ id. id < id_count) }
         ensures maps { (id : ℕ) → (result ≡ Some id) ↔ Maps self.now id outside }
     {
-        for e in &self.list {
-            if e.outside <= outside && outside - e.outside < e.length {
-                return Some(e.inside + (outside - e.outside));
-            }
-        }
-        None
+        up_in::<Brand>(&self.sides.by_outside, outside, Blank::new(1))
     }
 
     /// The map with its outside ids, which are inside ids of another map, taken down through that one: its outside ids are then
@@ -107,10 +111,11 @@ impl IdMap {
         let Some(other) = other else {
             return Ok(None);
         };
-        match list_down(alloc, other.extents(), given)? {
-            Some(list) => Ok(Some(IdMap { list })),
-            None => Ok(None),
-        }
+        let Some(list) = list_down(alloc, &other.sides.by_inside, given)? else {
+            return Ok(None);
+        };
+        let sides = Sides::of(alloc, &list)?;
+        Ok(Some(IdMap { list, sides }))
     }
 
     /// The extents, in the order in which they were handed in. They are a map.
@@ -121,11 +126,34 @@ impl IdMap {
         &self.list
     }
 
+    /// The extents in the order of their inside ids, as `down_counted` takes them. They are a map that takes each id
+    /// down as this one does.
+    pub fn by_inside(&self) -> &Sorted
+        ensures map { IsMap result.now }
+        ensures order { IsNonDecreasingBy (λ e. e.inside) result.now }
+        ensures extents { ∥ IsPermutation self.now result.now ∥₁ }
+        ensures same { (id : ℕ) → down result.now id ≡ down self.now id }
+    {
+        &self.sides.by_inside
+    }
+
+    /// The extents in the order of their outside ids, as `up_counted` takes them. They are a map that takes each id up
+    /// as this one does.
+    pub fn by_outside(&self) -> &Sorted
+        ensures map { IsMap result.now }
+        ensures order { IsNonDecreasingBy (λ e. e.outside) result.now }
+        ensures extents { ∥ IsPermutation self.now result.now ∥₁ }
+        ensures same { (id : ℕ) → up result.now id ≡ up self.now id }
+    {
+        &self.sides.by_outside
+    }
+
     /// An equal map. It fails only where memory runs out.
     pub fn copy(&self, alloc: Global) -> Result<IdMap, NoMemory>
         ensures { OrNoMemory result (λ m. m ≡ self.now) }
     {
         let list = Vec::from_slice(alloc, &self.list)?;
-        Ok(IdMap { list })
+        let sides = self.sides.copy(alloc)?;
+        Ok(IdMap { list, sides })
     }
 }

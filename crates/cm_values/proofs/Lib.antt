@@ -2,3 +2,4 @@
 pub mod Fours
 pub mod Members
 pub mod Paths
+pub mod Ranged

@@ -1,33 +1,31 @@
-use Rattle.std.proofs.Common.{◌≡◌, ◌<◌, ◌+◌, ◌-◌, Some, None, sym, subst, arith}
-use Rattle.std.proofs.lemmas.Grind.{common_steps}
+use Rattle.std.proofs.Common.{◌≡◌, subst, sym, ap, ◌∙◌}
+use Rattle.std.specs.Prelude.{IfSome, ◌<◌}
 use Rattle.cm_base.specs.Limits.{id_count}
 use Rattle.model_cred.specs.IdMap.{up}
 use Rattle.model_cred.specs.MapFault.{IsMap}
-use Rattle.cm_idmap.proofs.Faultless.{Fits}
-use Rattle.cm_idmap.proofs.Taken.{up_answer, fits_at}
+use Rattle.cm_idmap.proofs.Beside.{by_outside_is_map, up_beside}
+use Rattle.cm_idmap.proofs.Permuted.{up_is_id}
+use Rattle.cm_idmap.proofs.Taken.{up_answer}
 use Rattle.cm_idmap.proofs.map.IdMap.up.Goals as goal
 
--- the extent that holds the id ends within the ids
-within : (c : goal.Then-outside-e) → c.e.inside.inside + (c.args.outside - c.e.inside.outside) < id_count
-within c =
-    let is : IsMap c.deref-e-items.result.now = subst IsMap (sym c.deref-e-items.ensures.value) c.self.invariant in
-    let fits : Fits c.e-item.result = fits_at c.deref-e-items.result.now c.loop-e.e-index c.e-item.result is c.loop-e-test.true (sym c.e-item.is) in
-    grind (arith, fits.inside, c.e.view_is, c.if-outside-e.true)
+-- the list in order answers as the map does
+image : (c : goal.After-up_in) → c.up_in.result ≡ up c.args.self.now c.args.outside
+image c =
+    c.up_in.ensures ∙ (up_beside c.self.inside.list.items c.self.inside.sides c.args.outside c.self.invariant.1 c.self.invariant.0
+    ∙ ap (λ list. up list c.args.outside) c.self.view_is)
 
-pub overflow_add-result : goal.overflow_add-result
-overflow_add-result c = omega (arith, within c)
+pub up_in-requires-clause-map : goal.up_in-requires-clause-map
+up_in-requires-clause-map c = by_outside_is_map c.self.inside.list.items c.self.inside.sides c.self.invariant.1 c.self.invariant.0
 
-pub returns-then-outside-e-clause-is_id : goal.returns-then-outside-e-clause-is_id
-returns-then-outside-e-clause-is_id c = within c
+pub returns-clause-image : goal.returns-clause-image
+returns-clause-image c = image c
 
-pub returns-then-outside-e-clause-maps : goal.returns-then-outside-e-clause-maps
-returns-then-outside-e-clause-maps c =
-    let is : IsMap c.args.self.now = subst IsMap c.self.view_is c.self.invariant in
-    let image : Some (c.e.inside.inside + (c.args.outside - c.e.inside.outside)) ≡ up c.args.self.now c.args.outside = grind (arith, common_steps) in
-    up_answer c.args.self.now c.args.outside _ is image
+pub returns-clause-is_id : goal.returns-clause-is_id
+returns-clause-is_id c =
+    let is : IsMap c.args.self.now = subst IsMap c.self.view_is c.self.invariant.0 in
+    subst (λ o. IfSome o (λ n. n < id_count)) (sym (image c)) (up_is_id c.args.self.now c.args.outside is)
 
 pub returns-clause-maps : goal.returns-clause-maps
 returns-clause-maps c =
-    let is : IsMap c.args.self.now = subst IsMap c.self.view_is c.self.invariant in
-    let image : None ≡ up c.args.self.now c.args.outside = grind (arith, common_steps) in
-    up_answer c.args.self.now c.args.outside _ is image
+    let is : IsMap c.args.self.now = subst IsMap c.self.view_is c.self.invariant.0 in
+    up_answer c.args.self.now c.args.outside c.up_in.result is (image c)

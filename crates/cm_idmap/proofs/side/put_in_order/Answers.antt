@@ -1,0 +1,8 @@
+use Rattle.std.proofs.Common.{rules}
+use Rattle.std.proofs.lemmas.List.Sorted.{IsNonDecreasingBy-from_sort_by_key}
+use Rattle.cm_idmap.specs.Sides.{first_of}
+use Rattle.cm_idmap.proofs.side.put_in_order.Goals as goal
+
+pub returns-clause-order : goal.returns-clause-order
+returns-clause-order c =
+    IsNonDecreasingBy-from_sort_by_key (first_of c.args.side) _ c.sort_unstable_by_key.ensures.sorted (λ a r q k. search rules)
