@@ -5,7 +5,7 @@ use crate::case::Case;
 use crate::stop::Stop;
 use cm_base::Pid;
 use cm_box::{Bounds, Rule, Setting, closed, covers_start, meets, rule, start_bounds};
-use cm_maker::least;
+use cm_maker::{least, least_by_rounds};
 use cm_state::{Right, State};
 use std::alloc::Global;
 
@@ -66,13 +66,19 @@ pub(crate) fn applied(alloc: Global, case: &Case, x: Rule, y: u32) -> Result<Bou
     Ok(rule(alloc, x, y, &setting, b)?)
 }
 
-// The least closed bounds that cover the members.
+// The least closed bounds that cover the members. Bad where the two ways to find them don't agree.
 pub(crate) fn closed_least(alloc: Global, case: &Case) -> Result<Bounds, Stop> {
     let st = &case.world.start;
     if !few(st) {
         return Err(Stop::Bad);
     }
-    Ok(least(alloc, st, &case.world.files, case.filter, &case.members)?)
+    let files = &case.world.files;
+    let bounds = least(alloc, st, files, case.filter, &case.members)?;
+    let by_rounds = least_by_rounds(alloc, st, files, case.filter, &case.members)?;
+    if format!(in alloc; "{bounds:?}")? != format!(in alloc; "{by_rounds:?}")? {
+        return Err(Stop::Bad);
+    }
+    Ok(bounds)
 }
 
 // The first row by which the bounds meet the right. Bad where the space isn't there that it names.

@@ -70,6 +70,14 @@ impl Bounds {
         &self.rows.list[number]
     }
 
+    /// The row of that number. It takes no memory.
+    pub fn row_at(&self, number: u32) -> &BoxRow
+        requires { number < length self.now }
+        ensures { result.now ≡ row_in self.now number }
+    {
+        &self.rows.list[number as usize]
+    }
+
     /// Puts a row in the place of the one of that number. It takes no memory.
     pub fn put(&mut self, number: u32, row: BoxRow)
         requires { number < length self.old }

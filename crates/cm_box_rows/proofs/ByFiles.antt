@@ -1,13 +1,13 @@
 -- The ids and the capabilities that programs give: those of the table's rows, and none past its end.
-use Rattle.std.proofs.Common.{◌≡◌, ◌∙◌, ℕ, ◌<◌, ◌≤◌, false, List, length, inl, inr, arith, sym, subst}
-use Rattle.std.specs.Prelude.{◌↔◌, IsTrue}
+use Rattle.std.proofs.Common.{◌≡◌, ◌∙◌, ℕ, ◌<◌, ◌≤◌, Bool, true, false, List, Option, None, Some, length, refl, inl, inr, arith, sym, subst}
+use Rattle.std.specs.Prelude.{◌↔◌, IsTrue, is_none}
 use Rattle.std.proofs.lemmas.Bool.{cases_lt, false≢true}
 use Rattle.cm_sets.specs.Sets.{IsWithin}
 use Rattle.model_cred.specs.Files.{FileTable}
 use Rattle.model_cred.specs.Space.{Spaces}
 use Rattle.model_rules.specs.FileView.{FileView, plain_view, view}
 use Rattle.model_box.specs.Closed.{CapByFile}
-use Rattle.model_box.specs.Bounds.{BoxRow, row_in}
+use Rattle.model_box.specs.Bounds.{BoxRow, row_has, row_in}
 use Rattle.model_box.specs.Files.{FileGives, TakesCan}
 use Rattle.model_box.specs.Row.{Part, Row, PermittedCaps, row_number}
 use Rattle.model_box.proofs.Views.{view_past}
@@ -119,3 +119,25 @@ module _ (rows : List BoxRow) (row : Row) (r : BoxRow) (r_is : r ≡ row_in rows
         λ held x given. (caps_there x).0 (held x ((cap_here x).1 given)),
         λ held x gives. (caps_there x).1 (held x ((cap_here x).0 gives)),
       )
+
+-- no id is given that a row lacks: the row holds those that are given
+pub none_lacking : (row : BoxRow) (part : Part) (Gives : ℕ → Type 0) (o : Option ℕ)
+    → ((x : ℕ) → (o ≡ Some x) ↔ (Gives x × (RowHolds row part x → ⊥))) → IsTrue (is_none o) ↔ IsWithin Gives (RowHolds row part)
+none_lacking row part Gives None told = (λ is x gives. by x (row_has row part x) refl gives, λ within. refl) where
+  by : (x : ℕ) (b : Bool) → row_has row part x ≡ b → Gives x → RowHolds row part x
+  by x true is gives = is
+  by x false is gives =
+      let wrong : None ≡ Some x = (told x).1 (gives, λ held. false≢true (sym is ∙ held)) in
+      absurd (cc)
+none_lacking row part Gives (Some y) told = (
+  λ wrong. absurd (false≢true wrong),
+  λ within. let both : Gives y × (RowHolds row part y → ⊥) = (told y).0 refl in absurd (both.1 (within y both.0)),
+)
+
+-- a set-id bit stands for one id
+pub one_stands : (kind : IdKind) (f : FileView) (o : Option ℕ) → ((x : ℕ) → (o ≡ Some x) ↔ StandsFor kind f x) → (x y : ℕ) → o ≡ Some y
+    → StandsFor kind f x → x ≡ y
+one_stands kind f o told x y is stands =
+    let at : o ≡ Some x = (told x).1 stands in
+    let same : Some x ≡ Some y = sym at ∙ is in
+    cc

@@ -71,7 +71,7 @@ module _ (row : Part → ℕ → Type 0) (kind : IdKind) where
       no (HoldsAll row (SpreadsId kind row New)) (λ all. out (λ x new. all (effective kind) x (to_effective row New kind x new)))
 
   -- more new ids spread further, and those that are the same the same
-  spread_more : (Set New : ℕ → Type 0) → IsWithin Set New → (part : Part) (x : ℕ)
+  pub spread_more : (Set New : ℕ → Type 0) → IsWithin Set New → (part : Part) (x : ℕ)
       → SpreadsId kind row Set part x → SpreadsId kind row New part x
   spread_more Set New more =
       to_three_parts row Set kind (SpreadsId kind row New) (λ x has. to_effective row New kind x (more x has))

@@ -56,11 +56,33 @@ fn file_within(
     ensures { IsTrue result ↔ IsWithin (IdGiven kind files.now spaces.now n.0 (RowHolds row.now) k)
         (RowHolds row.now (effective kind)) }
 {
-    if !has_id_bit(kind, view_at(files, k)) {
-        return true;
+    match id_lacking(kind, files, k, spaces, n, row) {
+        Some(_) => false,
+        None => true,
     }
-    let id = given_at(kind, files, k, spaces, n, row);
-    has_given(effective_ids(kind, row), id)
+}
+
+/// The id that a file of the table gives, if it is a program and gives one, where the row lacks it among its effective
+/// ones. Whether it gives the id is asked last, since most of what long chains of programs give is held already.
+pub fn id_lacking(
+    kind: IdKind,
+    files: &FileTable,
+    k: usize,
+    spaces: &Spaces,
+    n: SpaceId,
+    row: &BoxRow,
+) -> Option<u32>
+    requires file { k < length files.now.rows }
+    requires space { n.0 < length spaces.now }
+    ensures is_id { IfSome result (λ id. id < id_count) }
+    ensures given { (x : ℕ) → (result ≡ Some x) ↔ (IdGiven kind files.now spaces.now n.0 (RowHolds row.now) k x
+        × (RowHolds row.now (effective kind) x → ⊥)) }
+{
+    let id = id_by_bit(kind, view_at(files, k))?;
+    if effective_ids(kind, row).holds(&id) {
+        return None;
+    }
+    given_at(kind, files, k, spaces, n, row)
 }
 
 /// The ids that programs give. It fails only where memory runs out.
@@ -105,16 +127,6 @@ fn given_at(
         return None;
     }
     Some(id)
-}
-
-// The id is in the set, if there is one.
-fn has_given(set: &IdSet, id: Option<u32>) -> bool
-    ensures { IsTrue result ↔ ((x : ℕ) → id ≡ Some x → Held set.now x) }
-{
-    match id {
-        Some(id) => set.holds(&id),
-        None => true,
-    }
 }
 
 // The ids with that one, if there is one. It fails only where memory runs out.

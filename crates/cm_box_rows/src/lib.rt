@@ -23,7 +23,7 @@ pub use gained::{
     cap_set_gained, ids_gained, secure_bits_gained, set_fs_gained, set_groups_gained,
     set_ids_gained,
 };
-pub use given::{given_within, ids_given, is_program, view_at};
+pub use given::{given_within, id_lacking, ids_given, is_program, view_at};
 pub use ids::meet;
 pub use kind::IdKind;
 pub use members::{map_held, members_held};

@@ -6,18 +6,20 @@ ghost use Rattle.model_box.specs.Bounds.{bounds_hold};
 ghost use Rattle.model_verdict.specs.Least.{IsLeast};
 ghost use Rattle.model_verdict.specs.Rows.{IsRow};
 
+use crate::passing::pass;
+use crate::runners::Runners;
 use crate::seeing::see_rows;
-use crate::sweep::round;
+use crate::waiting::Waiting;
 use cm_base::{NoMemory, Pid};
-use cm_box::{Bounds, Setting, closed, start_bounds};
+use cm_box::{Bounds, Setting, start_bounds};
 use cm_files::FileTable;
 use cm_filter::Filter;
 use cm_state::{State, see_state};
 use std::alloc::Global;
 
 /// The least bounds that are closed under the filter and cover the members now: they are within all others, of whatever
-/// form. Found by rounds, in place, from the start bounds on. Fewer than 2^31 spaces stand. It fails only where memory
-/// runs out.
+/// form. Found by changed rows, in place, from the start bounds on: rules are applied to a row until it rests, and again
+/// where a row that they read has changed. Fewer than 2^31 spaces stand. It fails only where memory runs out.
 pub fn least(
     alloc: Global,
     st: &State,
@@ -38,13 +40,12 @@ pub fn least(
         filter,
     };
     let mut bounds = start_bounds(alloc, st, members)?;
+    let runners = Runners::of_table(alloc, files)?;
+    let mut waiting = Waiting::all(alloc, bounds.rows.items().len())?;
     loop {
-        match closed(st, files, filter, &bounds) {
-            Some(_) => round(alloc, &setting, &mut bounds)?,
-            None => {
-                see_rows(bounds.rows.items());
-                return Ok(bounds);
-            }
+        if !pass(alloc, &setting, &runners, &mut waiting, &mut bounds)? {
+            see_rows(bounds.rows.items());
+            return Ok(bounds);
         }
     }
 }

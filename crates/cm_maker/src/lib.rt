@@ -5,9 +5,18 @@
 mod blaming;
 mod deciding;
 mod growing;
+mod laws;
+mod passing;
+mod resting;
+mod rounds;
+mod runners;
+mod running;
 mod seeing;
 mod sweep;
+mod waiting;
 
 pub use blaming::{Blamed, blame};
 pub use deciding::{Bounded, decide};
 pub use growing::least;
+pub use laws::both_give_one_list;
+pub use rounds::least_by_rounds;

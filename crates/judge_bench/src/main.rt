@@ -4,16 +4,21 @@
 //!
 //! It prints a line on the bounds, then one after all runs of `closed`, and one after all of `check`.
 //!
+//! With the word `least` or `rounds`, and a count, it prints `world` once the world is read, and the line on the bounds
+//! once they were found so many times more than once, by changed rows or by rounds.
+//!
 //! With the word `json`, or the word `certificate` and a number of spaces, standard input is a certificate's text, which
 //! is read by serde_json alone, or as bounds; it prints whether it is.
 #![tactic(auto)]
 
+mod finding;
 mod passes;
 mod setup;
 mod stop;
 mod sums;
 mod texts;
 
+use crate::finding::{Way, found};
 use crate::passes::{times_closed, times_judged};
 use crate::setup::start;
 use crate::stop::Stop;
@@ -34,12 +39,26 @@ fn main(rt: HostRuntime) -> Result<(), Stop> {
         return Ok(());
     }
     let s = start(alloc, text.as_bytes())?;
+    if let Some(way) = way_of(&first) {
+        println!(rt; "world")?;
+        let b = found(alloc, &s, way, number_of(&second))?;
+        println!(rt; "least {}", sums_of(&b))?;
+        return Ok(());
+    }
     let b = least(alloc, &s.m.state, &s.w.files, s.w.filter, &s.members)?;
     println!(rt; "least {}", sums_of(&b))?;
     println!(rt; "closed {}", times_closed(&s, &b, number_of(&first)))?;
     let (holds, meets) = times_judged(&s, &b, number_of(&second));
     println!(rt; "check {holds} {meets}")?;
     Ok(())
+}
+
+// How the least bounds are to be found, where the word says so.
+fn way_of(word: &Option<String>) -> Option<Way> {
+    match word {
+        Some(word) => Way::of_word(word.as_str()),
+        None => None,
+    }
 }
 
 // Whether the text is read, where the words ask for that.

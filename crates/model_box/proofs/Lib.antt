@@ -18,6 +18,7 @@ pub mod Steps
 pub mod Runs
 pub mod Excludes
 pub mod Starts
+pub mod Readers
 pub mod Grows
 pub mod Worlds
 pub mod Worked

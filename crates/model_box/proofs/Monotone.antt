@@ -57,7 +57,7 @@ module _ (R S : Part → ℕ → Type 0) (more : (part : Part) (x : ℕ) → R p
   gains_root_more : (part : Part) (x : ℕ) → GainsRoot R part x → GainsRoot S part x
   gains_root_more part x added = grind (arith, more)
 
-  brings_more : (part : Part) (x : ℕ) → Brings R part x → Brings S part x
+  pub brings_more : (part : Part) (x : ℕ) → Brings R part x → Brings S part x
   brings_more part x added = grind (arith, more)
 
   other_more : (part : Part) (id : Option ℕ) → HasOther (R part) id → HasOther (S part) id
@@ -66,13 +66,13 @@ module _ (R S : Part → ℕ → Type 0) (more : (part : Part) (x : ℕ) → R p
   id_more : (part : Part) (id : Option ℕ) → IdIn id (R part) → IdIn id (S part)
   id_more part id held = in_more id (R part) (S part) (more part) held
 
-  can_run_more : (f : FileView) → CanRun R f → CanRun S f
+  pub can_run_more : (f : FileView) → CanRun R f → CanRun S f
   can_run_more f held = grind (arith, more, id_more, other_more)
 
   set_id_more : (spaces : Spaces) (n : ℕ) (f : FileView) → SetIdCan spaces n R f → SetIdCan spaces n S f
   set_id_more spaces n f held = grind (arith, more, id_more)
 
-  file_gives_more : (f : FileView) (x : ℕ) → FileGives R f x → FileGives S f x
+  pub file_gives_more : (f : FileView) (x : ℕ) → FileGives R f x → FileGives S f x
   file_gives_more f x held = grind (arith, more)
 
   owner_more : (files : FileTable) (spaces : Spaces) (n x : ℕ) → OwnerByFile files spaces n R x → OwnerByFile files spaces n S x
@@ -89,7 +89,7 @@ module _ (bounds wider : Row → Part → ℕ → Type 0) (within : IsWithin bou
       zero_more (space_of spaces n).uids (bounds (Standing n) MappedUids) (wider (Standing n) MappedUids) (within (Standing n) MappedUids) x held
   zero_in_more spaces (Fresh n) x held = within (Fresh n) MappedUids x held
 
-  zero_id_more : (spaces : Spaces) (row : Row) (id : Option ℕ) → IdIn id (ZeroIn spaces bounds row) → IdIn id (ZeroIn spaces wider row)
+  pub zero_id_more : (spaces : Spaces) (row : Row) (id : Option ℕ) → IdIn id (ZeroIn spaces bounds row) → IdIn id (ZeroIn spaces wider row)
   zero_id_more spaces row id held = in_more id (ZeroIn spaces bounds row) (ZeroIn spaces wider row) (zero_in_more spaces row) held
 
   zero_above_more : (spaces : Spaces) (n : ℕ) (id : Option ℕ) → ZeroAbove spaces bounds n id → ZeroAbove spaces wider n id
@@ -122,10 +122,10 @@ module _ (bounds wider : Row → Part → ℕ → Type 0) (within : IsWithin bou
     (g, within (Standing n) EffectiveGids g eg, within (Standing n) MappedGids g mg),
   )
 
-  members_more : (row : Row) → HasMembers (bounds row) → HasMembers (wider row)
+  pub members_more : (row : Row) → HasMembers (bounds row) → HasMembers (wider row)
   members_more row held = (held.0, within row EffectiveUids held.0 held.1)
 
-  can_join_more : (spaces : Spaces) (a n : ℕ) → CanJoin spaces bounds a n → CanJoin spaces wider a n
+  pub can_join_more : (spaces : Spaces) (a n : ℕ) → CanJoin spaces bounds a n → CanJoin spaces wider a n
   can_join_more spaces a n (m, next, members, inl cap) = (m, next, members_more (Standing a) members, inl (within (Standing a) PermittedCaps _ cap))
   can_join_more spaces a n (m, next, members, inr owns) = (m, next, members_more (Standing a) members, inr (within (Standing a) EffectiveUids _ owns))
 

@@ -13,4 +13,5 @@ pub mod Meets
 pub mod Start
 pub mod Firsts
 pub mod Laws
+pub mod Reads
 pub mod Example

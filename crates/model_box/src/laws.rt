@@ -3,6 +3,7 @@
 ghost use Rattle.model_box.specs.Laws.{Soundness, Exclusion, CoversAtStart, Monotone, MeetsMore, PermitsMore};
 ghost use Rattle.model_box.specs.Laws.{ClosedForFewer, ClosedInCommon, StandingApart, ExcludedRulesAddNothing};
 ghost use Rattle.model_box.specs.Laws.{KeptStatesFit, KeptFilesFit, FilesOfWorldsFit, RowsByNumber, RulesByNumber};
+ghost use Rattle.model_box.specs.Reads.{RulesReadTheseAlone, ReadRowsAreAbove};
 ghost use Rattle.model_box.specs.Example.{PlainStaysPlain};
 
 /// Bounds that cover the members at the query, and are closed, cover them after every later run.
@@ -57,6 +58,18 @@ pub fn closed_bounds_have_closed_in_common()
 #[tactic(auto, using(crate::proofs::Stated::standing_apart))]
 pub fn nothing_flows_from_fresh_to_standing_rows()
     ensures { StandingApart }
+{}
+
+/// A rule adds no more where the rows that it reads hold no more: it reads no other rows.
+#[tactic(auto, using(crate::proofs::Readers::rules_read_these_alone))]
+pub fn rules_read_few_rows()
+    ensures { RulesReadTheseAlone }
+{}
+
+/// The rows that a rule reads are the row to which it adds, and standing rows of its space and of those above it.
+#[tactic(auto, using(crate::proofs::Readers::read_rows_are_above))]
+pub fn rules_read_from_above()
+    ensures { ReadRowsAreAbove }
 {}
 
 /// Where the filter excludes all calls that a rule rests on, it adds nothing.

@@ -11,7 +11,7 @@ use Rattle.model_box.specs.Bounds.{BoxRow, row_has, row_in, no_row, bounds_hold}
 use Rattle.model_box.specs.Row.{Part, Uids, EffectiveUids, FsUids, Gids, EffectiveGids, FsGids, Groups, MappedUids, MappedGids}
 use Rattle.model_box.specs.Row.{PermittedCaps, InheritableCaps, BoundingCaps, NewPrivs, RootCounts, LockClear, row_at}
 use Rattle.model_box.proofs.Starts.{number_back}
-use Rattle.model_verdict.specs.Rows.{IsRow, OneMeaningOneList}
+use Rattle.model_verdict.specs.Rows.{IsRow, OneMeaningOneList, LeastRowsAreOne}
 
 -- sets that hold the same are one
 same_ids : (one other : List Interval) → IsCanonical one → IsCanonical other
@@ -96,3 +96,9 @@ one_meaning_one_list one other are others count same = same_lists one other coun
 
   at : (k : ℕ) (d : BoxRow) → k < length one → k < length other → get_or one k d ≡ get_or other k d
   at k d low low_too = get_or_default one k d no_row low ∙ at_no_row k low low_too ∙ get_or_default other k no_row d low_too
+
+pub least_rows_are_one : LeastRowsAreOne
+unfolding LeastRowsAreOne OneMeaningOneList
+least_rows_are_one permitted files s members one other is are bounds others =
+    one_meaning_one_list one other bounds.written others.written (bounds.count ∙ sym others.count)
+    (λ row part x. (is.within (bounds_hold other) are.encloses row part x, are.within (bounds_hold one) is.encloses row part x))

@@ -1,14 +1,17 @@
 -- Rows by what they hold. A row has one way to be written.
-use Rattle.std.specs.Prelude.{◌≡◌, ◌↔◌, ◌<◌, ℕ, IsTrue, List, length, All}
+use Rattle.std.specs.Prelude.{◌≡◌, ◌↔◌, ◌<◌, ℕ, Bool, IsTrue, List, length, All}
 use Rattle.cm_base.specs.CapSet.{cap_count}
 use Rattle.cm_base.specs.Limits.{id_count}
+use Rattle.cm_filter.specs.declared.kind.CallKind.{CallKind}
+use Rattle.model_cred.specs.Files.{FileTable}
 use Rattle.model_cred.specs.Intervals.{IsCanonical}
+use Rattle.model_cred.specs.Process.{State}
 use Rattle.model_cred.specs.Space.{Spaces, stands}
 use Rattle.model_box.specs.Bounds.{BoxRow, bounds_hold}
 use Rattle.model_box.specs.Laws.{tested}
 use Rattle.model_box.specs.Row.{Part, Uids, EffectiveUids, FsUids, Gids, EffectiveGids, FsGids, Groups, MappedUids, MappedGids}
 use Rattle.model_box.specs.Row.{PermittedCaps, InheritableCaps, BoundingCaps, NewPrivs, RootCounts, LockClear, Row, space_under}
-use Rattle.model_verdict.specs.Least.{Test}
+use Rattle.model_verdict.specs.Least.{Test, IsLeast}
 use Rattle.model_verdict.specs.Sweep.{row_count}
 
 -- Each set of ids of the row is written in the one way.
@@ -39,6 +42,13 @@ unfoldable pub OneMeaningOneList : Type 0
 OneMeaningOneList =
     (one other : List BoxRow) → All IsRow one → All IsRow other → length one ≡ length other → HoldSame one other
     → one ≡ other
+
+-- So the least bounds have one way to be told in rows, however they were found.
+unfoldable pub LeastRowsAreOne : Type 0
+LeastRowsAreOne =
+    (permitted : CallKind → Bool) (files : FileTable) (s : State) (members : List ℕ) (one other : List BoxRow)
+    → IsLeast permitted files s members (bounds_hold one) → IsLeast permitted files s members (bounds_hold other)
+    → AreBounds s.spaces one → AreBounds s.spaces other → one ≡ other
 
 -- ---- rows that say what bounds hold
 -- what each number of a part is below: ids, capabilities, and the 0 of a flag

@@ -24,7 +24,7 @@ pub use least::{
     least_bounds_meet_if_all_do,
 };
 pub use more::{more_members_find_as_much, more_members_need_no_smaller_bounds};
-pub use rows::{rows_of_one_meaning_are_one_list, rows_say_each_low_test};
+pub use rows::{least_rows_are_one_list, rows_of_one_meaning_are_one_list, rows_say_each_low_test};
 pub use settled::{
     kept_states_take_their_ids_back, maps_take_their_ids_back, runs_keep_maps_taking_back,
     settled_families_are_decided, settled_families_are_never_open,

@@ -1,5 +1,12 @@
 // Drills of few events, and the counts of longer ones, as tools/plain_drill.py works them out.
+ghost use Rattle.std.specs.Prelude.{◌≡◌};
+ghost use Rattle.cm_base.specs.Outcome.{OrNoMemory};
+ghost use Rattle.cm_declared.specs.World.{world_of};
+ghost use Rattle.model_drill.specs.DrillWorld.{drill_world};
+ghost use Rattle.model_drill.specs.Laws.{IsDrillState};
+
 use super::*;
+use cm_maker::{least, least_by_rounds};
 use std::test::Fail;
 
 // The counts of the drill of n.
@@ -72,5 +79,35 @@ fn counts_of_longer_drills(rt: HostRuntime) -> Result<(), Fail> {
     assert_eq!(rt; counts(rt.alloc(), 300)?, (300, 165, 1, 4));
     assert_eq!(rt; counts(rt.alloc(), 4096)?, (4096, 2786, 11, 3));
     assert_eq!(rt; counts(rt.alloc(), 20000)?, (20000, 12324, 6, 2));
+    Ok(())
+}
+
+// How the drill of n stands after its events.
+fn state_after(alloc: Global, w: &World, n: u32) -> Result<Generator, NoMemory>
+    requires { world_of w.now ≡ drill_world }
+    ensures { OrNoMemory result (λ g. IsDrillState g.state) }
+{
+    let mut g = Generator::start(alloc, w, n)?;
+    for _made in 0..n {
+        g.next(alloc, w)?;
+    }
+    Ok(g)
+}
+
+#[test]
+fn both_ways_find_the_same_least_bounds_after_a_drill(rt: HostRuntime) -> Result<(), Fail> {
+    let alloc = rt.alloc();
+    let w = drill_world(alloc)?;
+    let g = state_after(alloc, &w, 1000)?;
+    let st = &g.machine.state;
+    assert!(rt; st.spaces.count() < 2_147_483_648);
+    let members = g.machine.family(alloc, first_live(st))?;
+    let by_rows = least(alloc, st, &w.files, w.filter, &members)?;
+    let by_rounds = least_by_rounds(alloc, st, &w.files, w.filter, &members)?;
+    assert!(rt; by_rows.rows.items().len() > 2);
+    assert_eq!(rt;
+        format!(in alloc; "{by_rows:?}")?,
+        format!(in alloc; "{by_rounds:?}")?
+    );
     Ok(())
 }

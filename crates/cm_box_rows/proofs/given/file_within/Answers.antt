@@ -1,18 +1,18 @@
-use Rattle.std.proofs.Common.{sym}
-use Rattle.cm_box_rows.proofs.ByFiles.{none_without_bit}
-use Rattle.cm_box_rows.proofs.Tests.{yes}
+use Rattle.std.proofs.Common.{None, Some}
+use Rattle.cm_box_rows.proofs.ByFiles.{none_lacking}
 use Rattle.cm_box_rows.proofs.given.file_within.Goals as goal
+use Rattle.cm_box_rows.specs.Kinds.{effective}
+use Rattle.cm_box_rows.specs.Programs.{IdGiven}
 use Rattle.cm_box_rows.specs.Rows.{RowHolds}
 
-pub returns-then-not-has_id_bit : goal.returns-then-not-has_id_bit
-returns-then-not-has_id_bit c =
-    let out = sym (rw c.view_at.ensures at c.if-not-has_id_bit.ensures) in
-    yes _ (λ x given. absurd (none_without_bit c.args.kind c.args.files.now c.args.spaces.now c.args.n.0
-    (RowHolds c.args.row.now) c.args.k x out given))
+pub returns-in-None : goal.returns-in-None
+returns-in-None c =
+    none_lacking c.args.row.now (effective c.args.kind)
+    (IdGiven c.args.kind c.args.files.now c.args.spaces.now c.args.n.0 (RowHolds c.args.row.now) c.args.k) None
+    (rw c.in-None.is at c.id_lacking.ensures.given)
 
-pub returns : goal.returns
-returns c = (
-  λ is x given. (c.effective_ids.ensures x).0 (c.has_given.ensures.0 is x ((c.given_at-id.ensures.given x).1 given)),
-  λ within. c.has_given.ensures.1 (λ x is.
-      (c.effective_ids.ensures x).1 (within x ((c.given_at-id.ensures.given x).0 is))),
-)
+pub returns-in-Some : goal.returns-in-Some
+returns-in-Some c =
+    none_lacking c.args.row.now (effective c.args.kind)
+    (IdGiven c.args.kind c.args.files.now c.args.spaces.now c.args.n.0 (RowHolds c.args.row.now) c.args.k) (Some c.in-Some.field-0)
+    (rw c.in-Some.is at c.id_lacking.ensures.given)

@@ -1,43 +1,65 @@
-use Rattle.std.proofs.Common.{suc, ◌∙◌}
-use Rattle.cm_box_rows.specs.Rows.{RowsHold}
+use Rattle.std.proofs.Common.{◌∙◌, length, ap}
 use Rattle.cm_filter.specs.Filters.{permits}
-use Rattle.model_box.specs.Bounds.{bounds_hold}
-use Rattle.model_box.proofs.Worlds.{state_fits}
-use Rattle.cm_maker.proofs.Turns.{start_swept, first_open}
-use Rattle.model_verdict.proofs.Ends.{round_lacks_less}
+use Rattle.cm_maker.proofs.Looks.{low_start, start_within, none_said, then_within, all_rest, they_are_least}
+use Rattle.cm_maker.proofs.Widenings.{low_kept, lacks_less}
 use Rattle.cm_maker.proofs.growing.least.Goals as goal
-use Rattle.model_verdict.specs.Sweep.{turns_before}
-use Rattle.model_verdict.proofs.Rounds.{says_least}
+use Rattle.model_box.proofs.Excludes.{fits_starts}
+use Rattle.model_box.proofs.Worlds.{state_fits}
 
-pub loop-setting-init : goal.loop-setting-init
-loop-setting-init c = record {
-  count = c.in_ok-bounds.ensures.count;
-  swept = (
-    0,
-    start_swept (permits c.args.filter) c.args.files.now c.args.st.now c.args.members.now c.in_ok-bounds.bounds
-        c.in_ok-bounds.ensures.holds,
-  );
-}
-
-pub loop-setting-smaller : goal.loop-setting-smaller
-loop-setting-smaller c =
-    let swept = c.loop-setting.invariant.swept in
-    round_lacks_less (permits c.args.filter) c.args.files.now c.args.st.now c.args.members.now c.see_state.ensures swept.0
-    (bounds_hold c.loop-setting.bounds)
-    (bounds_hold c.round.new.bounds)
-    swept.1 (c.in_ok-round-in-Some.ensures.swept swept.0 c.args.members.now swept.1)
-    (first_open (permits c.args.filter) c.args.files.now c.args.st.now.spaces (RowsHold c.loop-setting.bounds) _ _ c.in-Some.ensures.first)
-
-pub loop-setting-preserved : goal.loop-setting-preserved
-loop-setting-preserved c =
-    let swept = c.loop-setting.invariant.swept in
+pub loop-waiting-init : goal.loop-waiting-init
+loop-waiting-init c =
+    let p = permits c.args.filter in
+    let s = c.args.st.now in
+    let rows = c.in_ok-bounds.bounds in
+    let holds = c.in_ok-bounds.ensures.holds in
+    let list = c.in_ok-waiting.ensures.count ∙ ap length c.items.ensures ∙ ap length c.bounds.view_is ∙ c.in_ok-bounds.ensures.count in
     record {
-      count = c.in_ok-round-in-Some.ensures.count ∙ c.loop-setting.invariant.count;
-      swept = (suc swept.0, c.in_ok-round-in-Some.ensures.swept swept.0 c.args.members.now swept.1);
+      count = c.in_ok-bounds.ensures.count;
+      list = list;
+      low = low_start s c.args.members.now rows c.see_state.ensures (λ row part x held. (holds row part x).0 held);
+      rest = none_said p c.args.files.now s.spaces c.in_ok-waiting.waiting rows _ c.in_ok-waiting.ensures.all
+          (ap length c.items.ensures ∙ ap length c.bounds.view_is ∙ c.in_ok-bounds.ensures.count);
+      covers = λ row part x has. (holds row part x).1 has;
+      within = start_within p c.args.files.now s c.args.members.now rows c.see_state.ensures (λ row part x held. (holds row part x).0 held);
     }
 
-pub returns-in-None-clause-least : goal.returns-in-None-clause-least
-returns-in-None-clause-least c =
-    let swept = c.loop-setting.invariant.swept in
-    says_least (permits c.args.filter) c.args.files.now c.args.st.now c.args.members.now (state_fits c.args.st.now c.see_state.ensures)
-    (bounds_hold c.loop-setting.bounds) (turns_before c.args.st.now.spaces swept.0) swept.1 c.in-None.ensures.none
+pub pass-requires-clause-earlier : goal.pass-requires-clause-earlier
+pass-requires-clause-earlier c = (fits_starts c.args.st.now (state_fits c.args.st.now c.see_state.ensures)).earlier
+
+pub returns-then-not-branch-clause-least : goal.returns-then-not-branch-clause-least
+returns-then-not-branch-clause-least c =
+    let p = permits c.args.filter in
+    let f = c.args.files.now in
+    let s = c.args.st.now in
+    let before = c.loop-waiting.invariant in
+    let widens = c.in_ok-pass.ensures.widens in
+    they_are_least p f s c.args.members.now c.pass.new.bounds c.see_state.ensures
+    (all_rest p f s.spaces c.pass.new.waiting c.pass.new.bounds c.in_ok-pass.ensures.rest (c.in_ok-pass.ensures.empty c.if-not-branch.true))
+    (λ row part x has. widens.grown row part x (before.covers row part x has))
+    (then_within p f s c.args.members.now c.loop-waiting.bounds c.pass.new.bounds widens before.within)
+
+pub loop-waiting-smaller : goal.loop-waiting-smaller
+loop-waiting-smaller c =
+    let p = permits c.args.filter in
+    let f = c.args.files.now in
+    let s = c.args.st.now.spaces in
+    let widens = c.in_ok-pass.ensures.widens in
+    lacks_less p f s c.loop-waiting.bounds c.pass.new.bounds
+    (low_kept p f s c.loop-waiting.bounds c.pass.new.bounds widens c.loop-waiting.invariant.low)
+    widens.grown (c.in_ok-pass.ensures.larger c.if-not-branch.false)
+
+pub loop-waiting-preserved : goal.loop-waiting-preserved
+loop-waiting-preserved c =
+    let p = permits c.args.filter in
+    let f = c.args.files.now in
+    let s = c.args.st.now in
+    let before = c.loop-waiting.invariant in
+    let widens = c.in_ok-pass.ensures.widens in
+    record {
+      count = widens.count ∙ before.count;
+      list = c.in_ok-pass.ensures.list ∙ before.list;
+      low = low_kept p f s.spaces c.loop-waiting.bounds c.pass.new.bounds widens before.low;
+      rest = c.in_ok-pass.ensures.rest;
+      covers = λ row part x has. widens.grown row part x (before.covers row part x has);
+      within = then_within p f s c.args.members.now c.loop-waiting.bounds c.pass.new.bounds widens before.within;
+    }
