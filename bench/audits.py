@@ -21,6 +21,7 @@ import threading
 import time
 from collections.abc import Iterator
 from dataclasses import dataclass
+from random import Random
 
 from worlds import CHAIN, HEAD, row, text
 
@@ -142,13 +143,19 @@ def chained(size: Size) -> Made:
     return Made(world(size, "cap", "yes", in_chains=True).text, f"cap:CAP_KILL@s{lowest}", "yes")
 
 
-def links(count: int, spaces: int) -> Made:
+def links(count: int, spaces: int, order: int | str | None = None) -> Made:
     """A member in each space; who has the k-th group becomes the k-th user by a program, and that user comes to the
-    next group by another: so each round of the rules adds one link to each row."""
+    next group by another: so each round of the rules adds one link to each row. The files are in the chain's order,
+    `reversed`, or in the order of that draw."""
     rows = [row("space", name=text(f"s{number}"), parent=text("init"), owner=0, uid_map="[[0, 0, 20000]]",
                 gid_map="[[0, 0, 20000]]") for number in range(1, spaces)]
-    for at in range(count):
-        rows += [file_row(2 * at, 1001 + at, 1000 + at, "4010"), file_row(2 * at + 1, 1001 + at, 1001 + at, "2110")]
+    files = [one for at in range(count) for one in (file_row(2 * at, 1001 + at, 1000 + at, "4010"),
+                                                    file_row(2 * at + 1, 1001 + at, 1001 + at, "2110"))]
+    if order == "reversed":
+        files.reverse()
+    elif order is not None:
+        Random(order).shuffle(files)
+    rows += files
     rows += [row("process", pid=FIRST + number, parent=FIRST if number else None,
                  space=text(f"s{number}") if number else None, uid=1000, gid=1000, bounding=text("none"), securebits=3)
              for number in range(spaces)]

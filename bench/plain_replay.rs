@@ -2,8 +2,8 @@
 //! files stand in plain/. `rustc -O plain_replay.rs`; bench.py builds and runs it.
 //!
 //!   plain_replay gen KIND N SEED WORLD   writes a script log of some N events to stdout, or a log of strace of some N lines
-//!                                        KIND: setresuid | setuid | mixed | spaces | execve | comments
-//!                                        | strace | strace-held | strace-held-quarter
+//!                                        KIND: setresuid | setuid | mixed | turns | turns-many | spaces | execve
+//!                                        | comments | strace | strace-few | strace-held | strace-held-quarter
 //!   plain_replay replay WORLD LOG        "plain": BufReader, write!
 //!   plain_replay tuned  WORLD LOG        the same text; bytes read in pieces and printed by hand
 //!   plain_replay quiet  WORLD LOG        as tuned, but prints only the last line

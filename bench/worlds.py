@@ -4,7 +4,7 @@ plain_replay.rs too, so one key or header a line, and the tables in the order sp
   python3 worlds.py NAME      writes the world of that name to standard output
 """
 import sys
-from collections.abc import Callable, Iterable
+from collections.abc import Callable, Iterable, Iterator
 
 MIB = 1 << 20
 HEAD, STRACE = 'log = "script"\n', 'log = "strace"\n'
@@ -240,35 +240,50 @@ def extents(count: int) -> str:
     return "[" + ",".join(f"[{2 * at},{2 * at},1]" for at in range(count)) + "]"
 
 
-def of_spaces(parent: Callable[[int], str]) -> str:
-    """255 spaces with one map of 340 lines each, below these parents."""
-    return filled(HEAD, (row("space", name=text(f"s{number}"), parent=text(parent(number)), owner=0,
-                             uid_map=extents(EXTENTS)) for number in range(1, 256)))
+def space_rows(parent: Callable[[int], str], count: int, lines: int) -> Iterator[str]:
+    """So many spaces with one map of so many lines each, below these parents."""
+    return (row("space", name=text(f"s{number}"), parent=text(parent(number)), owner=0, uid_map=extents(lines))
+            for number in range(1, count + 1))
+
+
+def chained(number: int) -> str:
+    """The parent of a space in chains of up to 32."""
+    return "init" if number % CHAIN == 1 else f"s{number - 1}"
 
 
 def spaces_below_one_another() -> str:
-    """Those in chains of up to 32."""
-    return of_spaces(lambda number: "init" if number % CHAIN == 1 else f"s{number - 1}")
+    """255 spaces with one map of 340 lines each, in chains of up to 32."""
+    return filled(HEAD, space_rows(chained, 255, EXTENTS))
 
 
 def spaces_side_by_side() -> str:
-    """Those below the initial space."""
-    return of_spaces(lambda _: "init")
+    """The same below the initial space."""
+    return filled(HEAD, space_rows(lambda _: "init", 255, EXTENTS))
+
+
+def mount_rows(count: int) -> Iterator[str]:
+    """So many mounts with four maps of 335 lines each."""
+    maps = dict.fromkeys(("fs_uid_map", "fs_gid_map", "uid_map", "gid_map"), extents(335))
+    return (row("mount", name=text(f"m{number}"), **maps) for number in range(1, count + 1))
 
 
 def mounts() -> str:
-    """63 mounts with four maps of 335 lines each."""
-    maps = dict.fromkeys(("fs_uid_map", "fs_gid_map", "uid_map", "gid_map"), extents(335))
-    return filled(HEAD, (row("mount", name=text(f"m{number}"), **maps) for number in range(1, MOUNTS)))
+    """63 of these mounts."""
+    return filled(HEAD, mount_rows(MOUNTS - 1))
+
+
+def file_rows(count: int) -> Iterator[str]:
+    """So many files with long paths and an attribute each, on 64 mounts, after these."""
+    yield from map(mount_row_plain, range(1, MOUNTS))
+    for number in range(count):
+        yield row("file", path=text(f"/{number}/" + "d" * 60),
+                  mount=text(f"m{number % MOUNTS}" if number % MOUNTS else "root"), uid=number, gid=number,
+                  mode=text("4755"), caps=text(VERSION_3.format(1)))
 
 
 def files() -> str:
-    """4,096 files with long paths and an attribute each, on 64 mounts."""
-    def one(number: int) -> str:
-        return row("file", path=text(f"/{number}/" + "d" * 60),
-                   mount=text(f"m{number % MOUNTS}" if number % MOUNTS else "root"), uid=number, gid=number,
-                   mode=text("4755"), caps=text(VERSION_3.format(1)))
-    return filled(HEAD + "".join(map(mount_row_plain, range(1, MOUNTS))), map(one, range(FILES)))
+    """4,096 of these files."""
+    return filled(HEAD, file_rows(FILES))
 
 
 def mount_row_plain(number: int) -> str:
@@ -276,14 +291,17 @@ def mount_row_plain(number: int) -> str:
     return row("mount", name=text(f"m{number}"))
 
 
+def process_rows(count: int) -> Iterator[str]:
+    """So many processes in no order, with every key but parent and space."""
+    return (row("process", pid=1000 + number * 40503 % 65536, uid="[1, 2, 3, 4]", gid=7,
+                groups=str([number, 9, number + 7]), permitted=text("CAP_KILL,CAP_SETUID"),
+                effective=text("CAP_KILL"), inheritable=text("CAP_KILL"), ambient=text("none"),
+                bounding=text("all"), securebits=16, no_new_privs=flag(number % 2)) for number in range(count))
+
+
 def many_processes() -> str:
-    """4,096 processes in no order, with every key but parent and space."""
-    def one(number: int) -> str:
-        return row("process", pid=1000 + number * 40503 % 65536, uid="[1, 2, 3, 4]", gid=7,
-                   groups=str([number, 9, number + 7]), permitted=text("CAP_KILL,CAP_SETUID"),
-                   effective=text("CAP_KILL"), inheritable=text("CAP_KILL"), ambient=text("none"),
-                   bounding=text("all"), securebits=16, no_new_privs=flag(number % 2))
-    return filled(HEAD, map(one, range(PROCESSES)))
+    """4,096 of these processes."""
+    return filled(HEAD, process_rows(PROCESSES))
 
 
 def names_of_filter() -> str:
@@ -298,12 +316,20 @@ WORLDS: Makers = {
     "space": spaces_below_one_another, "space-flat": spaces_side_by_side, "mount": mounts, "file": files,
     "process": many_processes, "filter": names_of_filter,
 }
+# Worlds of so many of what is named, without a comment that fills them, and how many.
+GROWING: dict[str, tuple[Callable[[int], Iterator[str]], int]] = {
+    "spaces": (lambda count: space_rows(lambda _: "init", count, EXTENTS), 254),
+    "spaces in chains": (lambda count: space_rows(chained, count, EXTENTS), 254),
+    "lines of maps": (lambda count: space_rows(chained, 254, count), EXTENTS),
+    "mounts": (mount_rows, 62),
+    "files": (file_rows, FILES),
+    "processes": (process_rows, PROCESSES),
+}
 BOUNDS_WORLDS: Makers = {"bounds": bounds_of_all, "bounds-scattered": bounds_of_scattered_ids}
 CHAINS: Makers = {"bounds-chain": lambda: bounds_of_a_chain(256), "bounds-chain-twice": lambda: bounds_of_a_chain(512)}
 LOG_WORLDS: Makers = {
-    "setresuid": lambda: processes(p100="0"),
+    **dict.fromkeys(("setresuid", "mixed", "turns", "turns-many", "comments"), lambda: processes(p100="0")),
     "setuid": lambda: processes(p100="0", p101="[1000, 1001, 1002, 1001]", p102="1000"),
-    "mixed": lambda: processes(p100="0"),
     "spaces": spaces_of_log,
     "execve": execve_of_log,
     **dict.fromkeys(("strace", "strace-few", "strace-held", "strace-held-quarter"), strace_of_log),

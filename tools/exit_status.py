@@ -7,8 +7,8 @@ bytes with what docs/FORMATS.md tells.
 PROGRAM is credaudit; left out, the one that was built in this repository. The world, the log and the front of the
 reports are those of the stored run (crates/credaudit). So it shows what no contract says of `main`: it carries out the
 words once, all of them and in their order, writes nothing else, to standard output or standard error, and ends with the
-number of the answer. For status 10 (no memory) the program gets less memory than its log takes. Status 0: nothing
-differs; 1: something does; 2: there is no program.
+number of the answer. For status 10 (no memory) the program gets less memory than a run takes, which is read whole.
+Status 0: nothing differs; 1: something does; 2: there is no program.
 """
 import argparse
 import itertools
@@ -27,7 +27,7 @@ from recordings import program_of
 CRATE = os.path.join(os.path.dirname(os.path.abspath(__file__)), "..", "crates", "credaudit")
 FORMS = ("replay WORLD LOG", "audit WORLD LOG PID RIGHT", "check WORLD LOG PID RIGHT CERT",
          "confirm WORLD LOG PID RIGHT RUN", "drill N")
-# What the program gets, and a log past it that is within its limit.
+# What the program gets, and a run past it that is within its limit.
 MEMORY, LARGE = 32 << 20, 60 << 20
 USAGE = "".join(f"usage: credaudit {form}\n" for form in FORMS)
 
@@ -149,7 +149,7 @@ def run(program: str, words: Sequence[str], work: str, out: int | BinaryIO,
 
 
 def with_less() -> None:
-    """Leaves the process less memory than its log takes."""
+    """Leaves the process less memory than the run takes."""
     resource.setrlimit(resource.RLIMIT_AS, (MEMORY, MEMORY))
 
 
@@ -177,7 +177,7 @@ def main() -> None:
         of_log = ("replay", "world", "log")
         got = run(program, of_log, work, full)
         wrong += differs(of_log, (8, b""), (got.returncode, got.stderr))
-        of_large = ("replay", "world", "large")
+        of_large = ("confirm", "world", "log", "100", "uid:0", "large")
         got = run(program, of_large, work, subprocess.PIPE, with_less)
         wrong += differs(of_large, (10, b"", b""), (got.returncode, got.stdout, got.stderr))
     print(f"{len(table) + 2} runs, {wrong} differ")

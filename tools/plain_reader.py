@@ -19,7 +19,7 @@ from typing import Any, NamedTuple, TypeVar
 from plain_rules import (ALL, CAPABILITIES, EVERY_ID, INITIAL, MINUS_ONE, Argument, Attribute, Call, Credential, File,
                          Ids, Lines, Member, Mount, Space, State, lies_in, read_attribute, taken_down)
 
-LIMITS = {"world": 1048576, "log": 67108864, "line": 1048576, "processes": 4096, "spaces": 256, "mounts": 64,
+LIMITS = {"world": 1048576, "line": 1048576, "processes": 4096, "spaces": 256, "mounts": 64,
           "files": 4096, "groups": 1024}
 ERRORS = ("EPERM EINVAL ENOSPC ENOMEM EAGAIN EINTR EFAULT EIO ENOENT EACCES ENOTDIR ELOOP ENAMETOOLONG E2BIG ENOEXEC"
           " ETXTBSY ELIBBAD").split()

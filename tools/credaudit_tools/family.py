@@ -170,7 +170,7 @@ def refused(proc: Proc, listed: Listed, status: Status) -> None:
     again = proc.read(listed.pid, f"task/{listed.tid}/status")
     if again is not None and from_file(again).state == status.state and status.state != "R":
         raise Failure(f"process {listed.tid} ({quoted(status.name)}) can't be looked into: the kernel doesn't show its"
-                      " namespaces")
+                      " namespaces", "for the programs alone ask for another process that sees them, as the shell: $$")
     raise Moved(f"process {listed.tid} ended while it was read")
 
 

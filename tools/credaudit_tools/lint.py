@@ -71,7 +71,7 @@ def findings(given: Given, replay: Callable[[], Report], says: Says = silent) ->
               if (found := other_faults.unreadable(path, file)) is not None]
     if unread:
         return unread
-    world, log = (read_regular(path, other_faults.LOG_MOST + 1, follow=True) for path in (given.world, given.log))
+    world, log = (read_regular(path, other_faults.LOG_MOST, follow=True) for path in (given.world, given.log))
     report = replay()
     if report.status != ACCEPTED:
         return refusal(report, world, log, says)

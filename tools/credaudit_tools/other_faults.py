@@ -10,7 +10,7 @@ from .findings import LOG, WORLD, Finding
 from .lines import parted
 from .shown import quoted
 
-WORLD_MOST, LOG_MOST = 1048576, 67108864
+LOG_MOST = 67108864     # of a world, and of a log that is looked into; the program takes longer ones
 LIMIT = re.compile(r"limit (\w+) (\d+)")
 IMPOSSIBLE = re.compile(r"impossible line (\d+): (.*)")
 LIMITS = {
@@ -32,7 +32,7 @@ LIMITS = {
 def unreadable(path: str, file: str) -> Finding | None:
     """Why a file can't be read, None where it can."""
     try:
-        read_regular(path, LOG_MOST + 1, follow=True)
+        read_regular(path, LOG_MOST, follow=True)
     except Failure as failure:
         return Finding(file, None, str(failure), failure.advice or reading_hint(path))
     return None

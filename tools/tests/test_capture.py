@@ -294,8 +294,9 @@ class Moving(Systems):
     def test_a_process_whose_namespaces_are_not_shown(self) -> None:
         system = self.system(self.TEXT)
         os.remove(system.proc.path(101, "task", 101, "ns", "user"))
-        with self.assertRaisesRegex(Failure, "can't be looked into"):
+        with self.assertRaisesRegex(Failure, "can't be looked into") as raised:
             family.settled(system, ROOT, False, 0.0, pause=lambda _: None)
+        self.assertIn("$$", raised.exception.advice)
 
     def test_what_ran_is_told(self) -> None:
         system = self.system(self.TEXT.replace("uid = 1000", 'uid = 1000\nwaits = "running"'))
