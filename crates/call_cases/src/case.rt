@@ -61,7 +61,7 @@ impl Case {
         let at = self.place(pid)?;
         let p = &mut self.procs.list[at];
         let s = self.spaces.get(p.space).ok_or(Stop::Bad)?;
-        Ok(set_groups(alloc, &mut p.cred, s, ids)?)
+        Ok(set_groups(alloc, &mut *p.cred, s, ids)?)
     }
 
     // The groups of the process of that pid, as ranges.

@@ -28,22 +28,22 @@ pub(crate) fn made(
     }
     match call {
         Call::SetUid(_) | Call::SetReUid(_, _) | Call::SetResUid(_, _, _) | Call::SetFsUid(_) => {
-            user_call(&mut p.cred, spaces.standing(at), call)
+            user_call(&mut *p.cred, spaces.standing(at), call)
         }
         Call::SetGid(_) | Call::SetReGid(_, _) | Call::SetResGid(_, _, _) | Call::SetFsGid(_) => {
-            group_call(&mut p.cred, spaces.standing(at), call)
+            group_call(&mut *p.cred, spaces.standing(at), call)
         }
         Call::SetGroups(ids) => {
             let s = spaces.standing(at);
-            Ok(set_groups(alloc, &mut p.cred, s, ids.items())?)
+            Ok(set_groups(alloc, &mut *p.cred, s, ids.items())?)
         }
         Call::Unshare
         | Call::SetNs(_)
         | Call::WriteUidMap(_, _)
         | Call::WriteGidMap(_, _)
         | Call::WriteSetgroups { .. } => space_call(alloc, p, spaces, call),
-        Call::Exec(f) => Ok(exec(&mut p.cred, spaces, at, files, *f)),
-        _ => cap_call(&mut p.cred, call),
+        Call::Exec(f) => Ok(exec(&mut *p.cred, spaces, at, files, *f)),
+        _ => cap_call(&mut *p.cred, call),
     }
 }
 

@@ -32,7 +32,7 @@ fn unshare(p: &mut Proc, spaces: &mut Spaces) -> Result<Res, Stop> {
     if p.space.0 >= newest.0 || newest.0 == u32::MAX {
         return Err(Stop::Bad);
     }
-    let res = new_space(&mut p.cred, spaces, p.space)?;
+    let res = new_space(&mut *p.cred, spaces, p.space)?;
     if res == Res::Done {
         p.space = newest;
     }
@@ -43,7 +43,7 @@ fn join(p: &mut Proc, spaces: &Spaces, n: SpaceId) -> Result<Res, Stop> {
     if n.0 >= spaces.count() {
         return Err(Stop::Bad);
     }
-    let res = join_space(&mut p.cred, spaces, p.space, n);
+    let res = join_space(&mut *p.cred, spaces, p.space, n);
     if res == Res::Done {
         p.space = n;
     }

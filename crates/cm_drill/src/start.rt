@@ -36,19 +36,20 @@ fn first_procs(alloc: Global) -> Result<Procs, NoMemory>
     ensures { OrNoMemory result (λ procs. procs ≡ first_process ∷ []) }
 {
     let mut list = Vec::new(alloc);
-    list.push(first_proc(alloc))?;
+    list.push(first_proc(alloc)?)?;
     Ok(Procs::from_vec(list))
 }
 
-fn first_proc(alloc: Global) -> Proc
-    ensures { result ≡ first_process }
+fn first_proc(alloc: Global) -> Result<Proc, NoMemory>
+    ensures { OrNoMemory result (λ p. p ≡ first_process) }
 {
-    Proc {
+    let cred = Box::new(alloc, root_cred(alloc))?;
+    Ok(Proc {
         pid: Pid::new(1).unwrap(),
         forebear: None,
         space: SpaceId(0),
-        cred: root_cred(alloc),
-    }
+        cred,
+    })
 }
 
 fn root_cred(alloc: Global) -> Cred

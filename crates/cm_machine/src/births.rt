@@ -150,7 +150,7 @@ fn made_for(state: &State, at: usize) -> Space
 {
     let procs = &state.procs;
     let p = &procs.list[at];
-    created_by(&state.spaces, p.space, &p.cred)
+    created_by(&state.spaces, p.space, &*p.cred)
 }
 
 // One more process and one more space; where memory runs out neither.

@@ -89,7 +89,7 @@ pub(crate) fn undo(state: &mut State, at: usize, change: Change)
 {
     let procs = &mut state.procs;
     let p = &mut procs.list[at];
-    undo_cred(&mut p.cred, change);
+    undo_cred(&mut *p.cred, change);
 }
 
 fn undo_cred(c: &mut Cred, change: Change)

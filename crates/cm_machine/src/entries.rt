@@ -42,7 +42,7 @@ fn make_and_enter(p: &mut Proc, spaces: &mut Spaces) -> Result<(), NoMemory>
     ensures unchanged { UnchangedOnErr result p.new p.old }
     ensures same_spaces { UnchangedOnErr result spaces.new spaces.old }
 {
-    let made = created_by(spaces, p.space, &p.cred);
+    let made = created_by(spaces, p.space, &*p.cred);
     let n = spaces.add(made)?;
     come_into(p, n);
     Ok(())
@@ -52,6 +52,6 @@ fn make_and_enter(p: &mut Proc, spaces: &mut Spaces) -> Result<(), NoMemory>
 pub(crate) fn come_into(p: &mut Proc, n: SpaceId)
     ensures { p.new ≡ inside p.old n.0 }
 {
-    come_in(&mut p.cred);
+    come_in(&mut *p.cred);
     p.space = n;
 }

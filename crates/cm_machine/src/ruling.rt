@@ -94,7 +94,7 @@ fn ask_caller(
 {
     let at = p.space;
     let s = spaces.standing(at);
-    let c = &mut p.cred;
+    let c = &mut *p.cred;
     let old = c.without_groups(alloc);
     let res = match call {
         Call::SetUid(id) => set_uid(c, s, *id),

@@ -5,21 +5,23 @@ use std::alloc::Global;
 use std::marker::Model;
 
 /// A process: its pid; its forebear, the nearest living ancestor by birth, None where none lives (choice); the number
-/// of the user namespace that it is in; its credentials.
+/// of the user namespace that it is in; its credentials, behind a box, so that a list of processes is walked and moved
+/// by little.
 #[derive(Debug, Drop)]
 pub struct Proc {
     pub pid: Pid,
     pub forebear: Option<Pid>,
     pub space: SpaceId,
-    pub cred: Cred,
+    pub cred: Box<Cred>,
 }
 
 impl Model for Proc {
+    ghost use Rattle.std.specs.Prelude.{box_value};
     ghost use Rattle.model_cred.specs.Process.{Process};
 
     ghost Value = { Process };
 
-    ghost view = { λ p. record { pid = p.pid; forebear = p.forebear; space = p.space.0; cred = p.cred } };
+    ghost view = { λ p. record { pid = p.pid; forebear = p.forebear; space = p.space.0; cred = box_value p.cred } };
 }
 
 impl Proc {
@@ -30,7 +32,7 @@ impl Proc {
     pub fn copy(&self, alloc: Global) -> Result<Proc, NoMemory>
         ensures { OrNoMemory result (λ p. p ≡ self.now) }
     {
-        let cred = self.cred.copy(alloc)?;
+        let cred = Box::new(alloc, self.cred.copy(alloc)?)?;
         Ok(Proc {
             pid: self.pid,
             forebear: self.forebear,

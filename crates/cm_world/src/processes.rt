@@ -223,7 +223,7 @@ fn process_of_row(
     if !sets.are_included() {
         return Err(RowError::Fault(WorldFault::NotIncluded));
     }
-    let cred = cred_with(alloc, &sets, row)?;
+    let cred = Box::new(alloc, cred_with(alloc, &sets, row)?)?;
     Ok(Proc {
         pid: pid_of(row),
         forebear: parent_of_row(row),

@@ -16,7 +16,7 @@ returns-in_ok-more-in-Some c =
     or_more c.joined.result _ _ c.joined.ensures (λ both joined.
     member_joined c.args.st.now c.args.n.0 c.args.pid c.index-procs-at.result (proc.the_view c.p.inside) (RowHolds both)
     (RowHolds c.args.row)
-    (RowHolds c.in_ok-more-in-Some.more) found c.p.view_is c.if-p-n.false c.in_ok-more-in-Some.ensures joined)
+    (RowHolds c.in_ok-more-in-Some.more) found c.p.view_is c.if-p-n.false (rw c.deref.ensures at c.in_ok-more-in-Some.ensures) joined)
 
 pub returns-in-None : goal.returns-in-None
 returns-in-None c =

@@ -14,7 +14,7 @@ returns-else-p-n c =
     c.in-Some.ensures.found.1 c.index-procs-at.is in
     member_told c.args.st.now c.args.n.0 c.args.pid (RowHolds c.args.row.now) c.index-procs-at.result
     (proc.the_view c.p.inside) c.cred_held.result
-    found c.p.view_is c.if-p-n.false c.cred_held.ensures
+    found c.p.view_is c.if-p-n.false (rw c.deref.ensures at c.cred_held.ensures)
 
 pub returns-in-None : goal.returns-in-None
 returns-in-None c =

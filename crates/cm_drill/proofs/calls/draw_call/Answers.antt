@@ -53,7 +53,7 @@ returns-in_ok-groups_of-in-5-clause-number c = rw c.in-5.is (cc c.draw-draw.ensu
 
 pub returns-in-6-clause-call : goal.returns-in-6-clause-call
 unfolding table
-returns-in-6-clause-call c = rw (c.in-6.is, ← c.p.view_is) c.raise_all.ensures
+returns-in-6-clause-call c = rw (c.in-6.is, ← c.p.view_is) (rw c.deref.ensures at c.raise_all.ensures)
 
 pub returns-in-6-clause-number : goal.returns-in-6-clause-number
 unfolding table

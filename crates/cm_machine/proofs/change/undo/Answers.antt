@@ -28,6 +28,7 @@ returns c p there =
     ∙ c.state.view_is in
     let old : Process = c.index_mut-p.result.now in
     let made : c.undo_cred.new.c ≡ undone_cred c.args.change old.cred = c.undo_cred.ensures
+    ∙ ap (undone_cred c.args.change) c.deref_mut.ensures.value
     ∙ ap (λ (q : Process). undone_cred c.args.change q.cred) c.p.view_is in
     subst (λ (q : Process). after ≡ undone c.args.change q c.args.state.now)
     (same_there c.procs.inside.list.items c.args.at old p (rw items c.requires) c.index_mut-p.ensures.value (rw items there))
