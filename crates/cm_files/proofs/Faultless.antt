@@ -10,7 +10,7 @@ use Rattle.std.proofs.Math.Seq.{drop-cons}
 use Rattle.std.proofs.lemmas.List.Folds.{list_any_at}
 use Rattle.cm_files.proofs.Paths.{equal_path}
 use Rattle.cm_files.specs.Fault.{first_fault, row_fault, has_path, fits_interpreter, is_program}
-use Rattle.cm_files.specs.Index.{IsIndex, no_row}
+use Rattle.cm_files.specs.Index.{HasKeys, IsIndex, no_row}
 use Rattle.cm_files.specs.Table.{KeepsTable, PathsDiffer, seen_on}
 use Rattle.cm_files.specs.declared.fault.BadFiles.{BadFiles}
 use Rattle.cm_files.specs.declared.fault.BadFiles.TheVariants.{Twice, NoMount, NoInterpreter}
@@ -91,10 +91,10 @@ module _ (mounts : ℕ) (rows : List FileRow) (none : first_fault mounts [] rows
       false≢true (sym other ∙ some)
 
 -- what mounts and rows that keep what they should, without a fault, with their index and their views, keep as a table
-pub keeps_table : (mounts : List Mount) (rows : List FileRow) (order : List ℕ) (views : List FileView) → All KeepsMount mounts → All KeepsRow rows
-    → length rows < 2 ^ 32 → first_fault (length mounts) [] rows ≡ None → IsIndex rows (length rows) order → views ≡ map (seen_on mounts) rows
-    → KeepsTable (record { mounts = mounts; rows = rows }) order views
-keeps_table mounts rows order views all_mounts all_rows few none index seen = record {
+pub keeps_table : (mounts : List Mount) (rows : List FileRow) (order keys : List ℕ) (views : List FileView) → All KeepsMount mounts → All KeepsRow rows
+    → length rows < 2 ^ 32 → first_fault (length mounts) [] rows ≡ None → IsIndex rows (length rows) order → HasKeys rows order keys
+    → views ≡ map (seen_on mounts) rows → KeepsTable (record { mounts = mounts; rows = rows }) order keys views
+keeps_table mounts rows order keys views all_mounts all_rows few none index keyed seen = record {
   keeps = record {
     mounts = all_mounts;
     rows = all_rows;
@@ -104,5 +104,6 @@ keeps_table mounts rows order views all_mounts all_rows few none index seen = re
   few = few;
   paths_differ = paths_differ (length mounts) rows none;
   index = index;
+  keyed = keyed;
   seen = seen;
 }

@@ -12,7 +12,7 @@ use Rattle.std.proofs.lemmas.List.Folds.{Any-from_list_any, list_any-append, lis
 use Rattle.std.proofs.lemmas.List.Sums.{position_or_len_is}
 use Rattle.std.proofs.lemmas.Grind.{get_or_default_zero}
 use Rattle.cm_files.specs.Fault.{has_path}
-use Rattle.cm_files.specs.Index.{Ascend, IsIndex, IsPlace, is_before, no_row, path_at}
+use Rattle.cm_files.specs.Index.{Ascend, HasKeys, IsIndex, IsPlace, is_before, no_row, path_at, path_key}
 use Rattle.cm_files.proofs.Paths.{before_itself, before_through, before_other, other_path, equal_path}
 use Rattle.model_cred.specs.Files.{FileRow, row_named}
 
@@ -147,21 +147,34 @@ any_inserted order at n m within =
 alike : {a b c d : List ℕ} → a ≡ c → b ≡ d → IsTrue (is_before c d) → IsTrue (is_before a b)
 alike {a} {b} {c} {d} first second less = subst (λ p. IsTrue (is_before p b)) (sym first) (subst (λ p. IsTrue (is_before c p)) (sym second) less)
 
+-- the path at a place of an index of the first rows, where more come after them
+path_longer : (rows more : List FileRow) (count : ℕ) (order : List ℕ) → IsIndex rows count order
+    → (i : ℕ) → i < length order → path_at (rows ++ more) order i ≡ path_at rows order i
+path_longer rows more count order index i within =
+    ap (λ (r : FileRow). r.path)
+    (get_or-append rows more no_row (slice_index order i) (omega (arith, index.first i within, index.counted)))
+
+-- its keys
+pub keys_longer : (rows more : List FileRow) (count : ℕ) (order keys : List ℕ) → IsIndex rows count order → HasKeys rows order keys
+    → HasKeys (rows ++ more) order keys
+keys_longer rows more count order keys index have = record {
+  counted = have.counted;
+  each = λ i within. have.each i within ∙ ap path_key (sym (path_longer rows more count order index i within));
+}
+
 -- the index of the first rows, where more come after them
 pub index_longer : (rows more : List FileRow) (count : ℕ) (order : List ℕ) → IsIndex rows count order → IsIndex (rows ++ more) count order
 index_longer rows more count order index = record {
   ascend = record {
     numbers = λ i within. omega (arith, length-append rows more, index.first i within, index.counted);
-    paths = λ i j less within. alike (same i (omega arith)) (same j within) (index.ascend.paths i j less within);
+    paths = λ i j less within.
+        alike (path_longer rows more count order index i (omega arith)) (path_longer rows more count order index j within)
+        (index.ascend.paths i j less within);
   };
   counted = omega (arith, length-append rows more, index.counted);
   first = index.first;
   whole = index.whole;
-} where
-  same : (i : ℕ) → i < length order → path_at (rows ++ more) order i ≡ path_at rows order i
-  same i within =
-      ap (λ (r : FileRow). r.path)
-      (get_or-append rows more no_row (slice_index order i) (omega (arith, index.first i within, index.counted)))
+}
 
 module _ (rows : List FileRow) (n : ℕ) (order path : List ℕ) (at : ℕ) (index : IsIndex rows n order) (place : IsPlace rows order path at)
     (apart : at < length order → path_at rows order at ≢ path) (there : n < length rows) (is : (get_or rows n no_row).path ≡ path) where
@@ -243,6 +256,35 @@ module _ (rows : List FileRow) (n : ℕ) (order path : List ℕ) (at : ℕ) (ind
           | inl same ↦ or_right (list_any (λ x. x == m) order) (n == m) (eq-eqb n m same)
           | inr other ↦ or_left (list_any (λ x. x == m) order) (n == m) (index.whole m (omega arith))
         ]
+
+-- the keys, where a row and its path's key come to one place
+pub keys_more : (rows : List FileRow) (order keys : List ℕ) (n key at : ℕ) → HasKeys rows order keys → at ≤ length order
+    → key ≡ path_key (get_or rows n no_row).path → HasKeys rows (insert order at n) (insert keys at key)
+keys_more rows order keys n key at have within is = record { counted = long; each = each } where
+  low : at ≤ length keys
+  low = omega (arith, have.counted)
+
+  long : length (insert keys at key) ≡ length (insert order at n)
+  long = omega (arith, length-insert keys at key low, length-insert order at n within, have.counted)
+
+  of : ℕ → ℕ
+  of m = path_key (get_or rows m no_row).path
+
+  each : (i : ℕ) → i < length (insert order at n) → slice_index (insert keys at key) i ≡ of (slice_index (insert order at n) i)
+  each i less =
+      elim (cases_order i at) [
+        | inl same ↦
+            subst (λ k. slice_index (insert keys at key) k ≡ of (slice_index (insert order at n) k)) (sym same)
+            (get_or-insert_at keys at key 0 low ∙ is ∙ sym (ap of (get_or-insert_at order at n 0 within)))
+        | inr (inl before) ↦
+            get_or-insert_below keys at key 0 i before low ∙ have.each i (omega arith) ∙ sym (ap of (get_or-insert_below order at n 0 i before within))
+        | inr (inr after) ↦
+            let back : i - 1 + 1 ≡ i = omega arith in
+            subst (λ k. slice_index (insert keys at key) k ≡ of (slice_index (insert order at n) k)) back
+            (get_or-insert_above keys at key 0 (i - 1) (omega arith) low
+            ∙ have.each (i - 1) (omega (arith, length-insert order at n within))
+            ∙ sym (ap of (get_or-insert_above order at n 0 (i - 1) (omega arith) within)))
+      ]
 
 -- the path of a row that was read is that of the row of that number
 pub path_read : (rows : List FileRow) (n : ℕ) (path : List ℕ) (row : FileRow) → n < length rows → path ≡ row.path → row ≡ get_or rows n row

@@ -1,15 +1,18 @@
--- The order of paths, byte by byte: none comes before itself, and of two that differ one comes before the other.
+-- The order of paths, by their keys and then byte by byte: none comes before itself, and of two that differ one comes
+-- before the other.
 use Rattle.std.proofs.Common.{◌≡◌, ◌≢◌, ℕ, true, false, List, refl, sym, ap, ◌∙◌}
-use Rattle.std.specs.Prelude.{IsTrue, bytes_eq}
+use Rattle.std.specs.Prelude.{IsTrue, bytes_eq, nat_lt}
 use Rattle.std.specs.Cmp.Lexicographic.{slice_cmp}
-use Rattle.std.specs.Ordering.{is_lt, is_eq, nat_cmp, ordering_reverse}
+use Rattle.std.specs.Ordering.{is_lt, is_eq, nat_cmp, ordering_reverse, ordering_then}
 use Rattle.std.specs.declared.cmp.Ordering.{Ordering}
 use Rattle.std.specs.declared.cmp.Ordering.TheVariants.{Less, Equal, Greater}
+use Rattle.std.proofs.Common.{arith}
 use Rattle.std.proofs.lemmas.Bool.{false≢true, false_from_ne_true}
-use Rattle.std.proofs.lemmas.Cmp.{nat_list_cmp_total, tied_itself}
+use Rattle.std.proofs.lemmas.Bool.Decides.{nat_tests}
+use Rattle.std.proofs.lemmas.Cmp.{nat_cmp_total, nat_list_cmp_total, tied_itself}
 use Rattle.std.proofs.lemmas.Map.Text.{is_eq-slice_cmp}
 use Rattle.std.proofs.lemmas.Slice.Eq.{bytes_eq-Decides}
-use Rattle.cm_files.specs.Index.{is_before}
+use Rattle.cm_files.specs.Index.{is_before, keyed, path_key}
 
 pub same_path : (path other : List ℕ) → bytes_eq path other ≡ true → path ≡ other
 same_path path other is = (bytes_eq-Decides path other).0 is
@@ -31,11 +34,28 @@ turned Equal p back less equal = absurd (false≢true (sym equal))
 turned Greater p back less equal = ap is_lt back
 
 pub before_itself : (path : List ℕ) → is_before path path ≡ false
-before_itself path = ap is_lt (tied_itself nat_list_cmp_total path)
+before_itself path = ap is_lt (tied_itself nat_list_cmp_total (keyed path))
 
 pub before_through : (a b c : List ℕ) → IsTrue (is_before a b) → IsTrue (is_before b c) → IsTrue (is_before a c)
-before_through a b c first second = ap is_lt (nat_list_cmp_total.trans a b c (less_is _ first) (less_is _ second))
+before_through a b c first second =
+    ap is_lt (nat_list_cmp_total.trans (keyed a) (keyed b) (keyed c) (less_is _ first) (less_is _ second))
 
 pub before_other : (a b : List ℕ) → is_before a b ≡ false → a ≢ b → IsTrue (is_before b a)
 before_other a b less apart =
-    turned (slice_cmp nat_cmp a b) (slice_cmp nat_cmp b a) (nat_list_cmp_total.antisymm b a) less (is_eq-slice_cmp a b ∙ other_path a b apart)
+    let differ : keyed a ≢ keyed b = λ same. apart (cc) in
+    turned (slice_cmp nat_cmp (keyed a) (keyed b)) (slice_cmp nat_cmp (keyed b) (keyed a)) (nat_list_cmp_total.antisymm (keyed b) (keyed a)) less
+    (is_eq-slice_cmp (keyed a) (keyed b) ∙ other_path (keyed a) (keyed b) differ)
+
+-- of two paths with one key the bytes decide
+pub before_alike : (a b : List ℕ) → path_key a ≡ path_key b → is_lt (slice_cmp nat_cmp a b) ≡ is_before a b
+before_alike a b same =
+    let tied : nat_cmp (path_key a) (path_key b) ≡ Equal = ap (nat_cmp (path_key a)) (sym same) ∙ tied_itself nat_cmp_total (path_key a) in
+    sym (ap (λ o. is_lt (ordering_then o (slice_cmp nat_cmp a b))) tied)
+
+-- of two numbers that differ the order of what follows them doesn't matter
+pub then_less : (k j : ℕ) (o : Ordering) → k ≢ j → nat_lt k j ≡ is_lt (ordering_then (nat_cmp k j) o)
+then_less k j o apart = grind (arith, nat_tests)
+
+-- of two paths with different keys these decide
+pub before_apart : (a b : List ℕ) → path_key a ≢ path_key b → nat_lt (path_key a) (path_key b) ≡ is_before a b
+before_apart a b apart = then_less (path_key a) (path_key b) (slice_cmp nat_cmp a b) apart

@@ -5,7 +5,7 @@ ghost use Rattle.cm_files.specs.Fault.{has_path};
 ghost use Rattle.model_cred.specs.Files.{row_named};
 
 use crate::FileRow;
-use crate::index::{find, free_place};
+use crate::index::{Index, find, free_place};
 use cm_base::NoMemory;
 use std::alloc::Global;
 use std::marker::Model;
@@ -14,20 +14,23 @@ use std::marker::Model;
 #[derive(Debug, Drop)]
 pub struct FileRows {
     list: Vec<FileRow>,
-    // The numbers of the files in the order of their paths.
-    order: Vec<u32>,
+    // Where each path is found.
+    index: Index,
 }
 
 impl Model for FileRows {
     ghost use Rattle.std.specs.Prelude.{List, ◌<◌, ◌^◌, length};
-    ghost use Rattle.cm_files.specs.Index.{IsIndex};
+    ghost use Rattle.cm_files.specs.Index.{HasKeys, IsIndex};
     ghost use Rattle.model_cred.specs.Files as model;
 
     ghost Value = { List model.FileRow };
 
     ghost view = { λ rows. rows.list.items };
 
-    ghost invariant = { λ rows. (length rows.list.items < 2 ^ 32) × IsIndex rows.list.items (length rows.list.items) rows.order.items };
+    ghost invariant = { λ rows.
+        (length rows.list.items < 2 ^ 32)
+        × (IsIndex rows.list.items (length rows.list.items) rows.index.order.items
+        × HasKeys rows.list.items rows.index.order.items rows.index.keys.items) };
 }
 
 impl FileRows {
@@ -37,7 +40,7 @@ impl FileRows {
     {
         FileRows {
             list: Vec::new(alloc),
-            order: Vec::new(alloc),
+            index: Index::none(alloc),
         }
     }
 
@@ -49,15 +52,15 @@ impl FileRows {
     {
         let FileRows {
             mut list,
-            mut order,
+            mut index,
         } = self;
         let n = list.len();
         list.push(row)?;
-        match free_place(&list, &order, n) {
-            Some(place) => order.insert(place, n as u32)?,
+        match free_place(&list, &index, n) {
+            Some(place) => index.put(&list, n as u32, place)?,
             None => unreachable!(),
         }
-        Ok(FileRows { list, order })
+        Ok(FileRows { list, index })
     }
 
     /// The number of the file of that path. None exactly where none has it. It takes no memory.
@@ -65,7 +68,7 @@ impl FileRows {
         ensures named { result ≡ row_named self.now path.now }
         ensures within { IfSome result (λ n. n < length self.now) }
     {
-        find(&self.list, &self.order, path)
+        find(&self.list, &self.index, path)
     }
 
     /// The files, in their order. It takes no memory.

@@ -7,7 +7,7 @@ ghost use Rattle.model_rules.specs.Exec.{interpreter_of};
 ghost use Rattle.model_rules.specs.FileView.{view as view_of};
 
 use crate::filling::{Filled, fill};
-use crate::index::find;
+use crate::index::{Index, find};
 use crate::mount::see_mounts;
 use crate::{BadFiles, FileRow, FileView, Mount};
 use cm_base::FileRef;
@@ -20,8 +20,8 @@ use std::marker::Model;
 pub struct FileTable {
     mounts: Vec<Mount>,
     rows: Vec<FileRow>,
-    // The numbers of the rows in the order of their paths.
-    order: Vec<u32>,
+    // Where each path is found.
+    index: Index,
     // The rows as their mounts show them.
     views: Vec<FileView>,
 }
@@ -34,7 +34,7 @@ impl Model for FileTable {
 
     ghost view = { λ t. record { mounts = t.mounts.items; rows = t.rows.items } };
 
-    ghost invariant = { λ t. KeepsTable (record { mounts = t.mounts.items; rows = t.rows.items }) t.order.items t.views.items };
+    ghost invariant = { λ t. KeepsTable (record { mounts = t.mounts.items; rows = t.rows.items }) t.index.order.items t.index.keys.items t.views.items };
 }
 
 impl FileTable {
@@ -58,11 +58,11 @@ impl FileTable {
             Err(fault) => return Err(fault),
         };
         see_mounts(&mounts);
-        let Filled { order, views } = filled;
+        let Filled { index, views } = filled;
         Ok(FileTable {
             mounts,
             rows,
-            order,
+            index,
             views,
         })
     }
@@ -72,7 +72,7 @@ impl FileTable {
         ensures named { result ≡ file_named self.now path.now }
         ensures declared { IsDeclared self.now result }
     {
-        match find(&self.rows, &self.order, path) {
+        match find(&self.rows, &self.index, path) {
             Some(n) => FileRef::Row(n),
             None => FileRef::Plain,
         }

@@ -13,6 +13,7 @@ loop-n-preserved c =
     let n = c.loop-n.n in
     record {
       index = c.in-Ok.ensures.index;
+      keys = c.in-Ok.ensures.keys;
       seen = c.in-Ok.ensures.seen ∙ ap (λ l. l ++ seen_on c.args.mounts.now (get_or rows n no_row) ∷ []) c.loop-n.invariant.seen
           ∙ sym (map_more (seen_on c.args.mounts.now) rows n no_row c.loop-n-test.true);
       keeps = All-more KeepsRow rows n no_row c.loop-n-test.true c.loop-n.invariant.keeps c.in-Ok.ensures.keeps;

@@ -1,4 +1,6 @@
-use Rattle.std.proofs.Common.{length, ap, ◌∙◌}
+use Rattle.std.proofs.Common.{◌≡◌, length, Some, ap, ◌∙◌}
+use Rattle.std.proofs.lemmas.Grind.{get_or_default_zero}
+use Rattle.std.specs.Prelude.{slice_index}
 use Rattle.std.proofs.Math.Seq.{take-length}
 use Rattle.cm_files.proofs.Indexes.{found, absent}
 use Rattle.cm_files.proofs.index.find.Goals as goal
@@ -7,11 +9,14 @@ use Rattle.model_cred.specs.Files.{row_named}
 pub returns-then-stands_at-clause-named : goal.returns-then-stands_at-clause-named
 returns-then-stands_at-clause-named c =
     let there = c.stands_at.ensures.there c.if-stands_at.true in
-    found c.args.rows.now (length c.args.rows.now) c.args.order.now c.args.path.now _ c.requires c.place_of-place.ensures there.0 there.1
+    let read : c.index.result.now ≡ slice_index c.args.index.now.order.items c.place_of-place.result =
+    c.index.ensures ∙ get_or_default_zero c.args.index.now.order.items c.place_of-place.result _ there.0 in
+    ap Some read
+    ∙ found c.args.rows.now (length c.args.rows.now) c.args.index.now.order.items c.args.path.now _ c.requires.index c.place_of-place.ensures there.0 there.1
     ∙ ap (λ l. row_named l c.args.path.now) (take-length c.args.rows.now)
 
 pub returns-else-stands_at-clause-named : goal.returns-else-stands_at-clause-named
 returns-else-stands_at-clause-named c =
-    absent c.args.rows.now (length c.args.rows.now) c.args.order.now c.args.path.now _ c.requires c.place_of-place.ensures
+    absent c.args.rows.now (length c.args.rows.now) c.args.index.now.order.items c.args.path.now _ c.requires.index c.place_of-place.ensures
     (c.stands_at.ensures.absent c.if-stands_at.false)
     ∙ ap (λ l. row_named l c.args.path.now) (take-length c.args.rows.now)
