@@ -4,6 +4,7 @@ pub mod HeldLines
 pub mod Released
 pub mod Concluded
 pub mod Quiet
+pub mod Idle
 pub mod Taken
 pub mod Retained
 pub mod Dues

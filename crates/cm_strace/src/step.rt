@@ -3,8 +3,9 @@ ghost use Rattle.std.specs.Prelude.{◌≡◌, ℕ, ◌++◌, false, option_map,
 ghost use Rattle.std.specs.declared.vec.Vec.{Vec};
 ghost use Rattle.std.specs.declared.alloc.Global.{Global};
 ghost use Rattle.cm_base.specs.Outcome.{OrNoMemory, UnchangedOnErr};
-ghost use Rattle.cm_strace.specs.Deeds.{begun_text, step_is, Waits};
+ghost use Rattle.cm_strace.specs.Deeds.{begun_text, deed_is, step_is, Waits};
 ghost use Rattle.cm_strace.specs.Heard.{heard_turn};
+ghost use Rattle.cm_strace.specs.Shapes.{is_on_descriptors, shape_turn};
 ghost use Rattle.cm_strace_calls.specs.Told.{listed_is};
 ghost use Rattle.cm_strace_text.specs.Lines.{body_is};
 ghost use Rattle.cm_declared.specs.World.{world_of};
@@ -13,6 +14,7 @@ ghost use Rattle.model_strace.specs.Calls.{call_told, listed_told};
 ghost use Rattle.model_strace.specs.Parts as known;
 ghost use Rattle.model_strace.specs.Parts.{kept_of, without_kept};
 ghost use Rattle.model_strace.specs.Turn.{Quiet, begins, body_turn, resumes, told_turn, turn};
+ghost use Rattle.model_strace.specs.Written.{written_of};
 
 use crate::deed::{Act, Deed, Step};
 use crate::told::take;
@@ -20,7 +22,7 @@ use cm_base::{LineFault, NoMemory, Pid};
 use cm_declared::World;
 use cm_strace_calls::{Listed, named_call, read_call, read_named};
 use cm_strace_parts::Parts;
-use cm_strace_text::{Body, call_name, ends_name, read_body, without_32};
+use cm_strace_text::{Body, call_name, ends_name, read_body, read_written, without_32};
 use std::alloc::Global;
 
 /// What a body tells, before anything that is known is looked at: nothing, a call that is read, an end, or a part of a
@@ -128,7 +130,8 @@ fn begin(alloc: Global, parts: &mut Parts, pid: Pid, text: &[u8]) -> Result<Step
     Ok(plain(Deed::Quiet))
 }
 
-// A whole call that is read.
+// A whole call that is read: one on descriptors does nothing in a process of which none is followed, but it has its
+// shape.
 fn whole(
     alloc: Global,
     w: &World,
@@ -143,9 +146,44 @@ fn whole(
     ensures waits { OrNoMemory result (λ step. Waits step.deed parts.new parts.old) }
     ensures spaces { parts.new.spaces ≡ parts.old.spaces }
 {
+    if is_idle(parts, pid, call) {
+        return Ok(plain(shape_deed(text)));
+    }
     let told = read_named(alloc, w, pid, call, text)?;
     let deed = take(alloc, parts, pid, told)?;
     Ok(plain(deed))
+}
+
+// Of the call its shape alone tells, since it is one on descriptors, of which none is followed of the process.
+#[tactic(auto, using(crate::proofs::Idle::idle))]
+fn is_idle(parts: &Parts, pid: Pid, call: Listed) -> bool
+    ensures { IsTrue result → (w : model.World) (text : List ℕ)
+        → told_turn pid (listed_told w pid (Some (listed_is call)) text) parts.now ≡ shape_turn (written_of text) parts.now }
+{
+    if parts.has_descriptor(pid) {
+        return false;
+    }
+    is_on_descriptors(call)
+}
+
+// The call is read for the descriptor that it is made on.
+fn is_on_descriptors(call: Listed) -> bool
+    ensures { result ≡ is_on_descriptors (listed_is call) }
+{
+    match call {
+        Listed::Close | Listed::Dup | Listed::DupTo | Listed::Fcntl | Listed::Write => true,
+        _ => false,
+    }
+}
+
+// What a call does of which the shape alone tells.
+fn shape_deed(text: &[u8]) -> Deed
+    ensures { (pid : ℕ) (p : known.Parts) → deed_is pid result p ≡ shape_turn (written_of text.now) p }
+{
+    match read_written(text) {
+        Some(_) => Deed::Quiet,
+        None => Deed::Refused(LineFault::Shape),
+    }
 }
 
 // The rest of a call of that name, whose beginning is kept.

@@ -1,4 +1,5 @@
 -- Lemmas of this crate, by topic.
 pub mod FirstBytes
 pub mod FirstNames
+pub mod Fronts
 pub mod IdCalls

@@ -23,19 +23,36 @@ use cm_strace_text::{Written, call_name, read_arguments, read_written};
 use cm_strace_values::{Outcome, birth_flags, read_outcome};
 use std::alloc::Global;
 
-/// The call that a text names. None exactly where it isn't read; most of these texts are told by their first byte.
+/// The call that a text names. None exactly where it isn't read; most of these texts are told by their first two bytes.
 #[inline]
 pub fn named_call(text: &[u8]) -> Option<Listed>
     ensures { option_map listed_is result ≡ listed_named (call_name text.now) }
 {
     match text {
-        [first, ..] => if begins_unread(*first) {
+        [first, second, ..] => if begins_unread(*first, *second) {
             None
         } else {
-            Listed::from_name(call_name(text))
+            read_name(text)
         },
-        [] => None,
+        _ => read_name(text),
     }
+}
+
+// The same of any text: of the calls that come most the whole name is looked for at once.
+#[tactic(auto, using(crate::proofs::Fronts::closes, crate::proofs::Fronts::writes, crate::proofs::Fronts::opens_at))]
+fn read_name(text: &[u8]) -> Option<Listed>
+    ensures { option_map listed_is result ≡ listed_named (call_name text.now) }
+{
+    if text.starts_with(b"close(") {
+        return Some(Listed::Close);
+    }
+    if text.starts_with(b"write(") {
+        return Some(Listed::Write);
+    }
+    if text.starts_with(b"openat(") {
+        return Some(Listed::OpenAt);
+    }
+    Listed::from_name(call_name(text))
 }
 
 /// What the text of a call of a process tells.

@@ -39,8 +39,7 @@ pub enum Listed {
     Write,
 }
 
-// The calls by the first bytes of their names: most calls that aren't read begin with none of these, and are told so at
-// once.
+// The calls by the first bytes of their names.
 const CALLS_OF_C: [(&str, Listed); 5] = [
     ("capset", Listed::SetsCaps),
     ("clone", Listed::Birth),
@@ -97,13 +96,22 @@ impl Listed {
     }
 }
 
-/// No call that is read has a name that begins with that byte.
+/// No call that is read has a name that begins with these two bytes.
 #[inline]
-pub(crate) fn begins_unread(first: u8) -> bool
-    ensures { IsTrue result → (name : List ℕ) → listed_named (first ∷ name) ≡ None }
+pub(crate) fn begins_unread(first: u8, second: u8) -> bool
+    ensures { IsTrue result → (name : List ℕ) → listed_named (first ∷ second ∷ name) ≡ None }
 {
     match first {
-        b'c' | b'd' | b'e' | b'f' | b'o' | b'p' | b's' | b'u' | b'v' | b'w' => false,
+        b'c' => second != b'a' && second != b'l' && second != b'r',
+        b'd' => second != b'u',
+        b'e' => second != b'x',
+        b'f' => second != b'c' && second != b'o',
+        b'o' => second != b'p',
+        b'p' => second != b'r' && second != b'w',
+        b's' => second != b'e',
+        b'u' => second != b'n',
+        b'v' => second != b'f',
+        b'w' => second != b'r',
         _ => true,
     }
 }

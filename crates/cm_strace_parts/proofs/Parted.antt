@@ -1,6 +1,6 @@
 -- What a search has found where a list is parted by what is below.
 use Rattle.std.proofs.Common.{◌≡◌, ◌<◌, ◌≤◌, ◌+◌, ◌-◌, ◌*◌, ℕ, Bool, true, false, cond, List, length, get_or}
-use Rattle.std.proofs.Common.{refl, sym, ◌∙◌, ap, arith}
+use Rattle.std.proofs.Common.{refl, sym, ◌∙◌, ap, arith, zero, suc, ◌⊎◌, inl, inr}
 use Rattle.std.specs.List.{AllWithin}
 use Rattle.std.specs.List.Sorted.{IsPartitionedBy}
 use Rattle.std.proofs.lemmas.List.{get_or_default}
@@ -83,14 +83,51 @@ narrowed below xs from step left parts within gap old r s t rs ss ts = (
       (rw (rs e) at (rw (ss e) at (rw (ts e) at low))) lt,
 )
 
--- the one after those that are below isn't
-pub cut_here : {A : Type 0} (below : A → Bool) (xs : List A) (at end : ℕ) (d : A) → IsPartitionedBy below xs
-    → IsBetween below xs at end → at < length xs → below (get_or xs at d) ≡ false → IsCut below xs at
-cut_here below xs at end d parts between within isnt = cut_at below xs at (omega arith)
-    (between.0, higher_ones below xs at at d parts (omega arith) isnt)
+-- what an answer says that is told as a number
+told_below : (b : Bool) (r : ℕ) → r ≡ cond b 1 0 → r ≡ 1 → b ≡ true
+told_below true r is one = refl
+told_below false r is one = absurd (omega (arith, is, one))
 
--- no other one is left
-pub cut_end : {A : Type 0} (below : A → Bool) (xs : List A) (at end : ℕ) → IsBetween below xs at end → end ≤ at
-    → at ≤ length xs → IsCut below xs at
-cut_end below xs at end between past within = cut_at below xs at within
-    (between.0, λ k e low lt. between.1 k e (omega arith) lt)
+told_other : (b : Bool) (r : ℕ) → r ≡ cond b 1 0 → r ≡ 0 → b ≡ false
+told_other true r is none = absurd (omega (arith, is, none))
+told_other false r is none = refl
+
+-- one more is counted, where all those so far are below, or no other one is
+pub counted : {A : Type 0} (below : A → Bool) (xs : List A) (at place end r : ℕ) → IsPartitionedBy below xs
+    → place < length xs → r ≤ 1 → ((d : A) → r ≡ cond (below (get_or xs place d)) 1 0)
+    → ((at ≡ place) × IsBetween below xs at end) ⊎ ((at < place) × IsBetween below xs at at)
+    → ((at + r ≡ place + 1) × IsBetween below xs (at + r) end) ⊎ ((at + r < place + 1) × IsBetween below xs (at + r) (at + r))
+counted below xs at place end zero parts within few says (inl all) = inr (
+  omega arith,
+  (
+    λ k e low lt. all.1.0 k e low (omega arith),
+    λ k e low lt. higher_ones below xs place (at + 0) e parts (omega arith) (told_other (below (get_or xs place e)) zero (says e) refl)
+        k e low lt,
+  ),
+)
+counted below xs at place end zero parts within few says (inr some) = inr (
+  omega arith,
+  (λ k e low lt. some.1.0 k e low (omega arith), λ k e low lt. some.1.1 k e (omega arith) lt),
+)
+counted below xs at place end (suc zero) parts within few says (inl all) = inl (
+  omega arith,
+  (
+    λ k e low lt. parts k place e (omega arith) within (told_below (below (get_or xs place e)) (suc zero) (says e) refl),
+    λ k e low lt. all.1.1 k e low lt,
+  ),
+)
+counted below xs at place end (suc zero) parts within few says (inr some) = inr (
+  omega arith,
+  (
+    λ k e low lt. parts k place e (omega arith) within (told_below (below (get_or xs place e)) (suc zero) (says e) refl),
+    λ k e low lt. some.1.1 k e (omega arith) lt,
+  ),
+)
+counted below xs at place end (suc (suc r)) parts within few says so_far = absurd (omega arith)
+
+-- the place past all that were counted
+pub cut_counted : {A : Type 0} (below : A → Bool) (xs : List A) (at place end : ℕ) → place ≡ end → end ≤ length xs
+    → ((at ≡ place) × IsBetween below xs at end) ⊎ ((at < place) × IsBetween below xs at at) → IsCut below xs at
+cut_counted below xs at place end last within (inl all) = cut_at below xs at (omega arith)
+    (all.1.0, λ k e low lt. all.1.1 k e (omega arith) lt)
+cut_counted below xs at place end last within (inr some) = cut_at below xs at (omega arith) some.1

@@ -1,5 +1,5 @@
 // Places in lists that ascend by numbers. Each step asks for three that part what is left in four, and adds up the
-// answers, so that the processor has nothing to guess.
+// answers, and so does the end with what is left then, so that the processor has nothing to guess.
 ghost use Rattle.std.specs.Prelude.{◌≡◌, ◌<◌, ◌≤◌, ◌+◌, ◌-◌, ◌*◌, ℕ, length, nat_lt, slice_index_or, if◌then◌else◌};
 ghost use Rattle.cm_strace_parts.specs.Order.{Ascends, IsBetween, IsCut, before_by, below_by};
 
@@ -51,7 +51,7 @@ fn lower<T: Numbered>(list: &[T], at: usize, number: u64) -> usize
     usize::from(list[at].number() < number)
 }
 
-// The place of a number that is between these.
+// The place of a number that is between these: past so many of them as are lower.
 fn place_in<T: Numbered>(list: &[T], from: usize, end: usize, number: u64) -> usize
     requires ascends { Ascends (before_by T.number) list.now }
     requires order { from ≤ end }
@@ -60,8 +60,8 @@ fn place_in<T: Numbered>(list: &[T], from: usize, end: usize, number: u64) -> us
     ensures { IsCut (below_by T.number number) list.now result }
 {
     let mut at = from;
-    while at < end && list[at].number() < number {
-        at += 1;
+    for place in from..end {
+        at += lower(list, place, number);
     }
     at
 }

@@ -7,4 +7,5 @@ pub mod Runs
 pub mod SignRuns
 pub mod SignSteps
 pub mod Stops
+pub mod Unmarked
 pub mod Words

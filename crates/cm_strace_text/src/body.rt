@@ -1,8 +1,8 @@
 // What the body of a line is: the end of a process, a call, or a part of one (strace(1), "-f").
-ghost use Rattle.std.specs.Prelude.{◌≡◌, ◌∷◌, [], Some, codes, is_some, option_map, option_and_then};
+ghost use Rattle.std.specs.Prelude.{◌≡◌, ◌==◌, ◌||◌, ◌∷◌, [], Some, IsTrue, codes, is_some, option_map, option_and_then};
 ghost use Rattle.cm_base.specs.Number.{is_number};
 ghost use Rattle.cm_strace_text.specs.Lines.{body_is};
-ghost use Rattle.model_strace.specs.Body.{body_of, marked_body, end_body, words_before_plus, call_body, after_dots, is_end, are_number, after_words};
+ghost use Rattle.model_strace.specs.Body.{Whole, body_of, marked_body, end_body, words_before_plus, call_body, after_dots, is_end, are_number, after_words};
 ghost use Rattle.model_strace.specs.Marks.{without_front, after_mark};
 ghost use Rattle.model_text.specs.Cut.{tokens_of};
 
@@ -31,6 +31,39 @@ pub enum Body<'a> {
 /// What a body is: one that begins with `---` tells of a signal, one between two marks `+++` of an end.
 #[inline]
 pub fn read_body(text: &[u8]) -> Body<'_>
+    ensures { body_is result ≡ body_of text.now }
+{
+    if is_unmarked(text) {
+        return Body::Whole(text);
+    }
+    read_marked(text)
+}
+
+// The bytes at its ends tell that the text is a call: no mark begins or ends with them.
+#[inline]
+#[tactic(auto, using(crate::proofs::Unmarked::unmarked))]
+fn is_unmarked(text: &[u8]) -> bool
+    ensures { IsTrue result → Whole text.now ≡ body_of text.now }
+{
+    if text.is_empty() {
+        return false;
+    }
+    if begins_mark(text[0]) {
+        return false;
+    }
+    text[text.len() - 1] != b'>'
+}
+
+// A mark at a body's front begins with the byte.
+#[inline]
+fn begins_mark(byte: u8) -> bool
+    ensures { result ≡ (byte == 45 || byte == 43 || byte == 60) }
+{
+    byte == b'-' || byte == b'+' || byte == b'<'
+}
+
+// What a body is that may have marks.
+fn read_marked(text: &[u8]) -> Body<'_>
     ensures { body_is result ≡ body_of text.now }
 {
     if after_mark(b"---", text).is_some() {
