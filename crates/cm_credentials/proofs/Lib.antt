@@ -1,2 +1,3 @@
 -- Lemmas of this crate, by topic.
 pub mod GroupText
+pub mod Slots

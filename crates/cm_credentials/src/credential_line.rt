@@ -49,7 +49,12 @@ pub fn put_credentials(
 
 // The pid and the token of the space.
 #[inline]
-fn put_place(text: &mut Vec<u8>, pid: Pid, space: SpaceId, w: &World) -> Result<(), NoMemory>
+pub(crate) fn put_place(
+    text: &mut Vec<u8>,
+    pid: Pid,
+    space: SpaceId,
+    w: &World,
+) -> Result<(), NoMemory>
     ensures { OrNoMemory result (λ _. Appends text.old.items text.new.items (codes "> " ++ decimal pid ++ codes " " ++
         space_token w.now.names space.0)) }
 {
@@ -74,7 +79,7 @@ fn put_all_ids(text: &mut Vec<u8>, cred: &Cred) -> Result<(), NoMemory>
 
 #[inline]
 #[tactic(auto, unfolding(model_text::specs::Print::ids_text))]
-fn put_ids(text: &mut Vec<u8>, ids: FourIds) -> Result<(), NoMemory>
+pub(crate) fn put_ids(text: &mut Vec<u8>, ids: FourIds) -> Result<(), NoMemory>
     ensures { OrNoMemory result (λ _. Appends text.old.items text.new.items (ids_text ids)) }
 {
     put_decimal(text, ids.real as u64)?;
@@ -93,7 +98,7 @@ fn put_after_comma(text: &mut Vec<u8>, id: u32) -> Result<(), NoMemory>
 
 // The groups joined by commas, `-` where there is none.
 #[inline]
-fn put_groups(text: &mut Vec<u8>, groups: &[Kgid]) -> Result<(), NoMemory>
+pub(crate) fn put_groups(text: &mut Vec<u8>, groups: &[Kgid]) -> Result<(), NoMemory>
     ensures { OrNoMemory result (λ _. Appends text.old.items text.new.items (groups_text groups.now)) }
 {
     match groups {
@@ -117,7 +122,7 @@ fn put_rest(text: &mut Vec<u8>, groups: &[Kgid]) -> Result<(), NoMemory>
 
 #[inline]
 #[tactic(auto, unfolding(model_text::specs::Print::sets_text))]
-fn put_sets(text: &mut Vec<u8>, cred: &Cred) -> Result<(), NoMemory>
+pub(crate) fn put_sets(text: &mut Vec<u8>, cred: &Cred) -> Result<(), NoMemory>
     ensures { OrNoMemory result (λ _. Appends text.old.items text.new.items (sets_text cred.now)) }
 {
     put(text, b" inh=")?;
@@ -130,7 +135,7 @@ fn put_sets(text: &mut Vec<u8>, cred: &Cred) -> Result<(), NoMemory>
 
 #[inline]
 #[tactic(auto, unfolding(model_text::specs::Print::bounds_text))]
-fn put_bounds(text: &mut Vec<u8>, cred: &Cred) -> Result<(), NoMemory>
+pub(crate) fn put_bounds(text: &mut Vec<u8>, cred: &Cred) -> Result<(), NoMemory>
     ensures { OrNoMemory result (λ _. Appends text.old.items text.new.items (bounds_text cred.now)) }
 {
     put(text, b" bnd=")?;
@@ -141,7 +146,7 @@ fn put_bounds(text: &mut Vec<u8>, cred: &Cred) -> Result<(), NoMemory>
 
 #[inline]
 #[tactic(auto, unfolding(model_text::specs::Print::flags_text))]
-fn put_flags(text: &mut Vec<u8>, cred: &Cred) -> Result<(), NoMemory>
+pub(crate) fn put_flags(text: &mut Vec<u8>, cred: &Cred) -> Result<(), NoMemory>
     ensures { OrNoMemory result (λ _. Appends text.old.items text.new.items (flags_text cred.now)) }
 {
     put(text, b" sec=")?;
