@@ -9,7 +9,7 @@ use Rattle.cm_filter.specs.declared.kind.CallKind.TheVariants as kind
 use Rattle.cm_filter.specs.Kinds.{call_name, call_kinds, has_name, kind_named}
 
 -- what is found passes
-found_passes : {A : Type 0} (p : A → Bool) (xs : List A) (x : A) → find p xs ≡ Some x → p x ≡ true
+pub found_passes : {A : Type 0} (p : A → Bool) (xs : List A) (x : A) → find p xs ≡ Some x → p x ≡ true
 found_passes p [] x is = absurd (cc)
 found_passes p (y ∷ ys) x is =
     elim (cases_Bool (p y)) [

@@ -4,3 +4,8 @@ pub mod Telling
 pub mod CapNumbers
 pub mod Outcomes
 pub mod CallNames
+pub mod OwnNumbers
+pub mod OwnArguments
+pub mod OwnWords
+pub mod OwnHex
+pub mod OwnLines

@@ -9,6 +9,7 @@ mod error;
 mod files;
 mod laws;
 mod lists;
+mod own;
 mod parts;
 mod reading;
 mod results;
@@ -19,5 +20,6 @@ pub use error::LineError;
 pub use laws::{
     first_lines_come, lines_read_back, logs_read_back, numbers_are_lines, told_read_back,
 };
+pub use own::read_own;
 pub use reading::read_line;
 pub use writing::{put_line, put_res, write_line};

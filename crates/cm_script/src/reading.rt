@@ -94,8 +94,8 @@ fn read_outcome(
     Ok(Some(Event { pid, call, res }))
 }
 
-// A list of groups is no longer than one may be.
-fn groups_within(call: &Call) -> bool
+/// A list of groups is no longer than one may be.
+pub(crate) fn groups_within(call: &Call) -> bool
     ensures { result ≡ groups_fit (call_of call.now) }
 {
     match call {

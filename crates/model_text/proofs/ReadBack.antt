@@ -1,5 +1,5 @@
 -- What was written of an event is read again as the same event.
-use Rattle.std.proofs.Common.{◌≡◌, ℕ, suc, ◌+◌, ◌*◌, ◌%◌, ◌<◌, ◌≤◌, true, false, List, [], ◌∷◌}
+use Rattle.std.proofs.Common.{◌≡◌, ℕ, suc, ◌+◌, ◌*◌, ◌%◌, ◌<◌, ◌≤◌, Bool, true, false, List, [], ◌∷◌}
 use Rattle.std.proofs.Common.{◌++◌, length, map, refl, ap, ◌∙◌, arith, All, IsTrue, append_assoc}
 use Rattle.std.proofs.Common.{Option, Some, None, lit<, add-one, nat_lt}
 use Rattle.std.proofs.lemmas.Bool.{eq-eqb, ne_eqb, leb-true, ltb-true, and_parts}
@@ -9,6 +9,7 @@ use Rattle.std.proofs.lemmas.List.{length-map}
 use Rattle.std.specs.List.{list_all}
 use Rattle.std.specs.Option.{option_or}
 use Rattle.cm_base.proofs.Tables.{names_read_back}
+use Rattle.cm_base.specs.CapSet.{IsCapSet}
 use Rattle.cm_base.specs.Limits.{greatest_number, last_pid}
 use Rattle.cm_base.specs.Names.{errno_name, errno_of}
 use Rattle.cm_base.specs.Number.{is_digit}
@@ -36,7 +37,7 @@ use Rattle.model_text.specs.Arguments.{Form, AnId, ANumber, ACap, ASet, ASpace, 
 use Rattle.model_text.specs.Arguments.{Argument, Id, Number, Cap, Set, Space, Word, File, argument_token}
 use Rattle.model_text.specs.Arguments.{argument_text, extents_in, ids_in, call_with, triple_of, arguments_of}
 use Rattle.model_text.specs.Cut.{tokens_of}
-use Rattle.model_text.specs.Line.{Tells, Tokens, parts_of, after_argument, arguments_from, call_told, result_of_kind, script_line, tokens_line}
+use Rattle.model_text.specs.Line.{Tells, Tokens, parts_of, after_argument, arguments_from, call_told, groups_fit, result_of_kind, script_line, tokens_line}
 use Rattle.model_text.specs.Print.{event_text}
 use Rattle.model_text.specs.Token.{pid_token, result_token, birth_token, old_id_token, done_token, res_text, is_comment, is_equals}
 use Rattle.model_text.specs.Written.{AreNames, ArePaths, KeepsNames, DeclaredNamesKeep, IsInRange, IsOutcome, IsBirth, IsOldId, MayAnswer}
@@ -53,26 +54,43 @@ form_of (Space n) = ASpace
 form_of (Word deny) = AWord
 form_of (File file) = AFile
 
--- What is written of an argument.
+-- What is written of an argument: a token, no `=`, which is read as the argument.
 pub record Written (w : World) (argument : Argument) : Type 0 where
   pub token : IsToken (argument_text w argument)
-  plain : is_equals (argument_text w argument) ≡ false
-  back : argument_token w (form_of argument) (argument_text w argument) ≡ Some argument
+  pub plain : is_equals (argument_text w argument) ≡ false
+  pub back : argument_token w (form_of argument) (argument_text w argument) ≡ Some argument
 
-written : (w : World) (argument : Argument) → AreNames w.names → ArePaths (map (λ row. row.path) w.files.rows) → IsInRange w argument → Written w argument
-written w (Id n) names paths fits = record { token = id_is_token n fits; plain = id_is_no_equals n fits; back = ap (option_map Id) (id_back n fits) }
-written w (Number n) names paths fits =
+-- an id, a number, a capability, a set and a word ask nothing of the world's names
+pub id_written : (w : World) (n : ℕ) → n ≤ greatest_number → Written w (Id n)
+id_written w n fits = record { token = id_is_token n fits; plain = id_is_no_equals n fits; back = ap (option_map Id) (id_back n fits) }
+
+pub number_written : (w : World) (n : ℕ) → n ≤ greatest_number → Written w (Number n)
+number_written w n fits =
     record { token = decimal_token n fits; plain = decimal_is_no_equals n fits; back = ap (option_map Number) (number_back n fits) }
-written w (Cap n) names paths fits =
+
+pub cap_argument_written : (w : World) (n : ℕ) → n ≤ greatest_number → Written w (Cap n)
+cap_argument_written w n fits =
     let cap = cap_written n fits in record { token = cap.token; plain = cap.plain; back = ap (option_map Cap) cap.back }
-written w (Set n) names paths small = record {
+
+pub set_written : (w : World) (n : ℕ) → IsCapSet n → Written w (Set n)
+set_written w n small = record {
   token = set_is_token n;
   plain = length_other (argument_text w (Set n)) (codes "=") (λ same. omega (arith, set_length n, same));
   back = ap (option_map Set) (set_back n small);
 }
+
+pub word_written : (w : World) (deny : Bool) → Written w (Word deny)
+word_written w deny = record { token = word_is_token deny; plain = word_is_no_equals deny; back = ap (option_map Word) (word_back deny) }
+
+-- each argument, where the names and paths of the world are
+written : (w : World) (argument : Argument) → AreNames w.names → ArePaths (map (λ row. row.path) w.files.rows) → IsInRange w argument → Written w argument
+written w (Id n) names paths fits = id_written w n fits
+written w (Number n) names paths fits = number_written w n fits
+written w (Cap n) names paths fits = cap_argument_written w n fits
+written w (Set n) names paths small = set_written w n small
 written w (Space n) names paths fits =
     let space = space_written w.names n names fits in record { token = space.token; plain = space.plain; back = ap (option_map Space) space.back }
-written w (Word deny) names paths _ = record { token = word_is_token deny; plain = word_is_no_equals deny; back = ap (option_map Word) (word_back deny) }
+written w (Word deny) names paths _ = word_written w deny
 written w (File file) names paths there =
     let named = file_written w.files file paths there in record { token = named.token; plain = named.plain; back = ap (option_map File) named.back }
 
@@ -337,22 +355,37 @@ call_back w call all =
     let make : ArgumentsMake call = arguments_make call in
     rw (length-map, make.count, arguments_back w (pattern_of (kind_of call)) 0 (arguments_of call) make.fit all, make.made) refl
 
+-- An event that is read again as it is written: its arguments are, its pid and its result are in their ranges, and its
+-- groups are within their limit.
+pub record IsReadBack (w : World) (e : Event) : Type 0 where
+  pub pid : IsTrue (is_pid e.pid)
+  pub arguments : All (Written w) (arguments_of e.call)
+  pub groups : IsTrue (groups_fit e.call)
+  pub result : MayAnswer (kind_of e.call) e.res
+
 -- the tokens of a line tell the event
-tokens_back : (w : World) (e : Event) → IsWritable w e → All (Written w) (arguments_of e.call)
+tokens_back : (w : World) (e : Event) → IsReadBack w e
     → tokens_line w (decimal e.pid ∷ call_name (kind_of e.call) ∷ map (argument_text w) (arguments_of e.call) ++ codes "=" ∷ res_text e.res ∷ [])
     ≡ Tells e
-tokens_back w e can all =
+tokens_back w e can =
     let pid : List ℕ = decimal e.pid in
     let plain : is_comment pid ≡ false = no_comment pid (digits_of_decimal e.pid (pid_fits e.pid can.pid)).each in
     rw (
       plain,
       pid_back e.pid can.pid,
       (kind_written (kind_of e.call)).back,
-      parts_written w (arguments_of e.call) (res_text e.res) all,
-      call_back w e.call all,
+      parts_written w (arguments_of e.call) (res_text e.res) can.arguments,
+      call_back w e.call can.arguments,
       (result_written (kind_of e.call) e.res can.result).back,
       can.groups,
     ) refl
+
+-- Such an event is told by the line that is written of it, whatever the names and paths of the world.
+pub own_event_read_back : (w : World) (e : Event) → IsReadBack w e → script_line w (event_text w e) ≡ Tells e
+own_event_read_back w e can =
+    ap (tokens_line w)
+    (line_tokens w e (decimal_token e.pid (pid_fits e.pid can.pid)) can.arguments (result_written (kind_of e.call) e.res can.result).token)
+    ∙ tokens_back w e can
 
 -- The tokens that are written of an event.
 pub record TokensWritten (w : World) (e : Event) : Type 0 where
@@ -373,8 +406,12 @@ tokens_written w e keeps can = record {
 -- What was written of an event is read again as the same event, where the names and paths of the world are.
 pub event_read_back : (w : World) (e : Event) → KeepsNames w → IsWritable w e → script_line w (event_text w e) ≡ Tells e
 event_read_back w e keeps can =
-    let are : TokensWritten w e = tokens_written w e keeps can in
-    ap (tokens_line w) (line_tokens w e are.pid are.arguments are.result) ∙ tokens_back w e can are.arguments
+    own_event_read_back w e (record {
+      pid = can.pid;
+      arguments = (tokens_written w e keeps can).arguments;
+      groups = can.groups;
+      result = can.result;
+    })
 
 pub lines_read_back : LinesReadBack
 unfolding LinesReadBack DeclaredNamesKeep

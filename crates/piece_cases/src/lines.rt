@@ -3,7 +3,7 @@ use crate::escapes::bytes_of;
 use crate::stop::Stop;
 use crate::values::{named, word};
 use cm_declared::World;
-use cm_script::{lines_read_back, numbers_are_lines, read_line, write_line};
+use cm_script::{lines_read_back, numbers_are_lines, read_line, read_own, write_line};
 use cm_state::Event;
 use std::alloc::Global;
 
@@ -26,13 +26,16 @@ pub(crate) fn line_answer(
     }
 }
 
-// What is written of the event, or `same` where that is the line.
+// What is written of the event; `same` where that is the line and `read_own` reads it too, which no contract says.
 fn written(alloc: Global, event: &Event, line: &[u8], w: &World) -> Result<Vec<u8>, Stop> {
     let text = write_line(alloc, event, w)?;
-    if text.as_slice() == line {
-        return word(alloc, "same");
+    if text.as_slice() != line {
+        return Ok(text);
     }
-    Ok(text)
+    match read_own(alloc, line, w) {
+        Some(_) => word(alloc, "same"),
+        None => word(alloc, "not read as its own"),
+    }
 }
 
 // The laws are functions that do nothing.
