@@ -1,5 +1,5 @@
 // A log that is read a line at a time, whatever its form.
-ghost use Rattle.std.specs.Prelude.{◌≡◌, ◌<◌, ◌^◌, false, length};
+ghost use Rattle.std.specs.Prelude.{◌≡◌, ◌<◌, ◌^◌, false, true, length, IfNone, IfSome};
 ghost use Rattle.cm_base.specs.Limits.{greatest_number};
 ghost use Rattle.cm_base.specs.Outcome.{OrNoMemory};
 ghost use Rattle.cm_declared.specs.World.{world_of};
@@ -7,15 +7,17 @@ ghost use Rattle.cm_lines.specs.Cut.{Cut, before, ends_by};
 ghost use Rattle.cm_log.specs.Counts.{Counts, IsFresh, spaces_in, lines_read};
 ghost use Rattle.cm_log.specs.Left.{left, is_open, IsScript, NoneWaits};
 ghost use Rattle.cm_log.specs.Next.{IsNext, EndsAgain, Leaves};
+ghost use Rattle.cm_log.specs.declared.next.Next.TheVariants as next;
 ghost use Rattle.model_cred.specs.World as model;
 ghost use Rattle.model_strace.specs.Logs.{form_of_cut};
-ghost use Rattle.model_text.specs.Reading.{script_of_cut};
+ghost use Rattle.model_text.specs.Print.{event_text};
+ghost use Rattle.model_text.specs.Reading.{reads_on, script_of_cut};
 
 use crate::next::Next;
 use crate::script::ScriptLog;
 use crate::strace::StraceLog;
 use cm_base::NoMemory;
-use cm_declared::{LogForm, World};
+use cm_declared::{LogForm, Placed, World};
 use cm_lines::Past;
 use std::alloc::Global;
 
@@ -72,6 +74,27 @@ impl Log {
         match self {
             Log::Script(log) => log.read_line(alloc, w, line),
             Log::Strace(log) => log.read_line(alloc, w, line),
+        }
+    }
+
+    /// A line of a script comes, without its LF, that stands as events are written: its event, where the script is
+    /// still read. No event waits then. None says nothing of the line, which hasn't come then: `read_line` reads it.
+    #[inline]
+    pub fn read_own(&mut self, alloc: Global, w: &World, line: &[u8]) -> Option<Placed>
+        requires line { length line.now < 2 ^ 32 }
+        requires lines { lines_read self.old < 2 ^ 63 }
+        ensures next { IfSome result (λ event. (cut : Cut) →
+            left (world_of w.now) self.old (before line.now cut) ≡ reads_on event (left (world_of w.now) self.new cut)) }
+        ensures own { IfSome result (λ event. event_text (world_of w.now) event.event ≡ line.now) }
+        ensures none { IfSome result (λ _. NoneWaits self.new) }
+        ensures open_still { IfSome result (λ _. is_open self.new ≡ true) }
+        ensures counts { IfSome result (λ event. Counts 1 (next.Event event) self.old self.new) }
+        ensures form { IsScript self.old → IsScript self.new }
+        ensures same { IfNone result (self.new ≡ self.old) }
+    {
+        match self {
+            Log::Script(log) => log.read_own(alloc, w, line),
+            Log::Strace(_) => None,
         }
     }
 

@@ -1,5 +1,5 @@
 // The reading of a script log, line by line: the event of each with the number of its line, and how the reading ends.
-ghost use Rattle.std.specs.Prelude.{◌≡◌, ◌<◌, ◌≤◌, ◌+◌, ◌^◌, false, length, Some};
+ghost use Rattle.std.specs.Prelude.{◌≡◌, ◌<◌, ◌≤◌, ◌+◌, ◌^◌, false, true, length, IfNone, IfSome, Some};
 ghost use Rattle.cm_base.specs.Outcome.{OrNoMemory};
 ghost use Rattle.cm_declared.specs.World.{world_of};
 ghost use Rattle.cm_lines.specs.Cut.{Cut, before, ends_by};
@@ -8,13 +8,14 @@ ghost use Rattle.cm_log.specs.Left.{is_going, script_left, stage_past};
 ghost use Rattle.cm_log.specs.Next.{IsNext, EndsAgain, Leaves};
 ghost use Rattle.cm_log.specs.declared.log.Log.TheVariants.{Script};
 ghost use Rattle.model_cred.specs.World as model;
-ghost use Rattle.model_text.specs.Reading.{script_of_cut};
+ghost use Rattle.model_text.specs.Print.{event_text};
+ghost use Rattle.model_text.specs.Reading.{reads_on, script_of_cut};
 
 use crate::next::Next;
 use cm_base::NoMemory;
 use cm_declared::{Placed, World};
 use cm_lines::Past;
-use cm_script::{LineError, read_line};
+use cm_script::{LineError, read_line, read_own};
 use cm_strace::{Stage, Stop};
 use std::alloc::Global;
 
@@ -58,6 +59,30 @@ impl ScriptLog {
             Stage::Stopped(stop) => Ok(Next::Ends(Some(stop))),
             Stage::Finished => Ok(Next::Ends(None)),
         }
+    }
+
+    /// A line comes: its event, where the script is still read and the line stands as events are written. None says
+    /// nothing of the line, which hasn't come then.
+    #[inline]
+    pub(crate) fn read_own(&mut self, alloc: Global, w: &World, line: &[u8]) -> Option<Placed>
+        requires line { length line.now < 2 ^ 32 }
+        requires lines { self.old.lines < 2 ^ 63 }
+        ensures next { IfSome result (λ event. (cut : Cut) →
+            script_left (world_of w.now) self.old (before line.now cut) ≡ reads_on event (script_left (world_of w.now) self.new cut)) }
+        ensures own { IfSome result (λ event. event_text (world_of w.now) event.event ≡ line.now) }
+        ensures open_still { IfSome result (λ _. is_going self.new.stage ≡ true) }
+        ensures lines { IfSome result (λ _. self.new.lines ≡ self.old.lines + 1) }
+        ensures same { IfNone result (self.new ≡ self.old) }
+    {
+        if !matches!(self.stage, Stage::Going) {
+            return None;
+        }
+        let event = read_own(alloc, line, w)?;
+        self.lines += 1;
+        Some(Placed {
+            line: self.lines,
+            event,
+        })
     }
 
     // A line comes while the script is still read.

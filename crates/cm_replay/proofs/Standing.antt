@@ -3,7 +3,7 @@ use Rattle.std.proofs.Common.{◌≡◌, ◌∙◌, ◌≤◌, ℕ, ◌+◌, Lis
 use Rattle.cm_base.specs.declared.status.Status.{Status}
 use Rattle.cm_io.specs.declared.outside.Outside.{Outside}
 use Rattle.cm_replay.proofs.Events.{end_status, end_waits, next_status, next_waits, passed_lines, run_on}
-use Rattle.cm_replay.proofs.Ready.{event_took}
+use Rattle.cm_replay.proofs.Ready.{event_spaces}
 use Rattle.cm_replay.proofs.Shown.{no_step_lines}
 use Rattle.cm_replay.specs.Following.{EndsAs, Follows, GoesOn, IsCutOff, Outgoing}
 use Rattle.cm_replay.specs.Replay.{report_from, event_lines, shown_lines, shown_report, told_lines, EndsWith, IsTurn}
@@ -91,7 +91,7 @@ event_goes w from to reading rest e old text new is goes sent = record {
   quiet = λ none. subst (λ (t : List ℕ). IsSent old.written new.written new.waits t) (goes.lines ∙ nothing_put none) sent;
   spaces =
       let more : length from.machine.state.spaces + spaces_made (e.event ∷ []) ≤ length to.machine.state.spaces
-      = (event_took w from to e goes.turn goes.events).spaces in
+      = event_spaces w from to e goes.turn in
       omega (arith, more);
 }
   where

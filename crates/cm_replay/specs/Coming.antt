@@ -51,8 +51,8 @@ ComesTo w from to old new (Ok st) reading = EndsAs w from to old new st reading
 ComesTo w from to old new (Err why) reading = IsCutOff w from old new reading
 
 -- No line has come: the replay and the log are before the first one, and the cutter before the first byte of the file.
-pub record Begins (name : List ℕ) (replay : Replay) (log : Log) (cutter : Cutting) : Type 0 where
-  pub ready : IsReady replay log
+pub record Begins (w : World) (name : List ℕ) (replay : Replay) (log : Log) (cutter : Cutting) : Type 0 where
+  pub ready : IsReady w replay log
   pub lines : lines_read log ≡ 0
   pub events : replay.events + events_due log ≡ 0
   pub cut : cutter ≡ begun name (limit_number limit.Line) (limit_number limit.Log)

@@ -2,6 +2,7 @@
 use Rattle.std.specs.Prelude.{◌≡◌, ◌≤◌, ℕ, ◌+◌, false, List, ◌++◌, length, Option, Result, Ok, Err}
 use Rattle.cm_base.specs.declared.status.Status.{Status}
 use Rattle.cm_base.specs.declared.status.Status.TheVariants.{Accepted}
+use Rattle.cm_credentials.specs.Kept.{Keeps}
 use Rattle.cm_io.specs.declared.outside.Outside.{Outside}
 use Rattle.cm_log.specs.Counts.{KnowsWithin, events_due, given, lines_read, made}
 use Rattle.cm_log.specs.Left.{NoneWaits}
@@ -69,29 +70,32 @@ Takes w from to old new (Ok _) reading rest = GoesOn w from to old new reading r
 Takes w from to old new (Err why) reading rest = IsCutOff w from old new reading
 
 -- ---- what is counted
--- Between two lines of a log: no event waits; the state is within the limits; and the log knows of no more user namespaces than
--- there are.
-pub record IsReady (replay : Replay) (log : Log) : Type 0 where
+-- Between two lines of a log: no event waits; the state is within the limits; each kept text of a credential line is
+-- that of the values kept beside it; and the log knows of no more user namespaces than there are.
+pub record IsReady (w : World) (replay : Replay) (log : Log) : Type 0 where
+  pub keeps : Keeps w.names replay.kept
   pub within : IsWithin replay.machine.state
   pub none : NoneWaits log
   pub knows : KnowsWithin (length replay.machine.state.spaces) log
 
 -- After so many lines more, which told so many events more: the replay and the log are between two lines; each line was counted;
 -- and the events that came, and those that can still come of the lines, are so many more at most.
-pub record Advances (more told : ℕ) (from to : Replay) (old new : Log) : Type 0 where
-  pub ready : IsReady to new
+pub record Advances (w : World) (more told : ℕ) (from to : Replay) (old new : Log) : Type 0 where
+  pub ready : IsReady w to new
   pub lines : lines_read new ≤ lines_read old + more
   pub events : to.events + events_due new ≤ from.events + events_due old + told
 
--- An event was taken, which was counted, and leads to a state within the limits that has the user namespaces which it makes.
-pub record TookEvent (next : Next) (from to : Replay) : Type 0 where
+-- An event was taken, which was counted, and leads to a state within the limits that has the user namespaces which it
+-- makes; each kept text is still that of the values beside it.
+pub record TookEvent (w : World) (next : Next) (from to : Replay) : Type 0 where
+  pub keeps : Keeps w.names to.kept
   pub given : given next ≡ 1
   pub events : to.events ≡ from.events + 1
   pub within : IsWithin to.machine.state
   pub spaces : length from.machine.state.spaces + made next ≤ length to.machine.state.spaces
 
 -- what was taken is what was next, and is counted
-abbrev pub TakesCount : Next → Replay → Replay → Taken → Type 0
-TakesCount next from to taken.Event = TookEvent next from to
-TakesCount what from to taken.Nothing = (what ≡ next.Nothing) × (to ≡ from)
-TakesCount next from to (taken.End st) = Unit {0}
+abbrev pub TakesCount : World → Next → Replay → Replay → Taken → Type 0
+TakesCount w next from to taken.Event = TookEvent w next from to
+TakesCount w what from to taken.Nothing = (what ≡ next.Nothing) × (to ≡ from)
+TakesCount w next from to (taken.End st) = Unit {0}

@@ -114,7 +114,7 @@ fn replay_lines<H: Shelf, K: Sink>(
     text: &mut Vec<u8>,
     out: &mut K,
 ) -> Result<Status, Untold>
-    requires begins { Begins cutter.old.name replay.old log.old cutter.old }
+    requires begins { Begins (world_of w.now) cutter.old.name replay.old log.old cutter.old }
     requires fits { Fits (H.held shelf.old) cutter.old }
     ensures told { IfSome (H.held shelf.old) (λ files. ComesTo (world_of w.now) replay.old replay.new
         (record { written = K.written out.old; waits = text.old.items })
@@ -171,7 +171,7 @@ fn end_lines<K: Sink>(
     text: &mut Vec<u8>,
     out: &mut K,
 ) -> Result<Status, Untold>
-    requires ready { IsReady replay.old log.old }
+    requires ready { IsReady (world_of w.now) replay.old log.old }
     requires events { replay.old.events + events_due log.old < 2 ^ 63 }
     ensures told { ComesTo (world_of w.now) replay.old replay.new
         (record { written = K.written out.old; waits = text.old.items })

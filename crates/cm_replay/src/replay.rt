@@ -1,7 +1,8 @@
 // The replay of a log, a line at a time, whatever its form: each event is made a step of the machine, and its lines of the report
 // are written where the replay is shown.
-ghost use Rattle.std.specs.Prelude.{◌≡◌, ◌<◌, ◌≤◌, ◌+◌, ◌^◌, ◌++◌, true, length, Ok, IfOk};
+ghost use Rattle.std.specs.Prelude.{◌≡◌, ◌<◌, ◌+◌, ◌^◌, ◌++◌, true, length, Ok, IfOk, IfSome};
 ghost use Rattle.cm_base.specs.Outcome.{OrNoMemory};
+ghost use Rattle.cm_credentials.specs.Kept.{Keeps};
 ghost use Rattle.cm_declared.specs.World.{world_of};
 ghost use Rattle.cm_io.specs.Sink.{WriteFaults};
 ghost use Rattle.cm_lines.specs.Cut.{Cut, before, ends_by};
@@ -9,14 +10,16 @@ ghost use Rattle.cm_log.specs.Counts.{KnowsWithin, events_due, given, lines_read
 ghost use Rattle.cm_log.specs.Left.{is_open, left};
 ghost use Rattle.cm_log.specs.Next.{IsNext, Leaves};
 ghost use Rattle.cm_log.specs.declared.next.Next.TheVariants as next;
-ghost use Rattle.cm_replay.specs.Following.{Advances, EndsSo, Follows, IsReady, Takes, TakesCount};
-ghost use Rattle.cm_replay.specs.Replay.{event_lines, IsTurn, shown_lines, shown_report};
+ghost use Rattle.cm_replay.specs.Following.{Advances, EndsSo, Follows, IsReady, Takes, TakesCount, TookEvent};
+ghost use Rattle.cm_replay.specs.Replay.{event_lines, IsTurn, shown_report};
 ghost use Rattle.cm_strace.specs.Answers.{ending_is};
-ghost use Rattle.model_report.specs.Replay.{text_of, by_end, step_lines, IsWithin};
+ghost use Rattle.model_report.specs.Replay.{text_of, by_end, IsWithin};
 ghost use Rattle.model_run.specs.Step.{outcome};
-ghost use Rattle.model_text.specs.Reading.{Reading};
+ghost use Rattle.model_text.specs.Print.{event_text};
+ghost use Rattle.model_text.specs.Reading.{Reading, reads_on};
 
 use cm_base::{NoMemory, Status};
+use cm_credentials::KeptLines;
 use cm_declared::World;
 use cm_io::{Outside, Sink};
 use cm_lines::Past;
@@ -25,12 +28,14 @@ use cm_machine::Machine;
 use cm_report::{put_bad_log, put_end, put_impossible, put_limit, put_step, send_full};
 use std::alloc::Global;
 
-/// Where a replay stands: the machine after the events so far, and how many these are; and whether it is shown.
+/// Where a replay stands: the machine after the events so far, and how many these are; whether it is shown; and the
+/// last credential lines of some processes, which the next ones are made of.
 #[derive(Debug, Drop)]
 pub struct Replay {
     pub machine: Machine,
     pub events: u64,
     pub shows: bool,
+    pub kept: KeptLines,
 }
 
 impl Replay {
@@ -39,12 +44,15 @@ impl Replay {
         ensures state { OrNoMemory result (λ replay. replay.machine.state ≡ w.now.start) }
         ensures none { OrNoMemory result (λ replay. replay.events ≡ 0) }
         ensures shows { OrNoMemory result (λ replay. replay.shows ≡ shows) }
+        ensures keeps { OrNoMemory result (λ replay. Keeps w.now.names replay.kept) }
     {
         let machine = Machine::new(alloc, w)?;
+        let kept = KeptLines::new(alloc)?;
         Ok(Replay {
             machine,
             events: 0,
             shows,
+            kept,
         })
     }
 }
@@ -69,7 +77,7 @@ pub fn replay_line<K: Sink>(
     text: &mut Vec<u8>,
     out: &mut K,
 ) -> Result<Turn, Outside>
-    requires ready { IsReady replay.old log.old }
+    requires ready { IsReady (world_of w.now) replay.old log.old }
     requires line { length line.now < 2 ^ 32 }
     requires lines { lines_read log.old < 2 ^ 63 }
     requires events { replay.old.events + events_due log.old < 2 ^ 63 }
@@ -78,9 +86,12 @@ pub fn replay_line<K: Sink>(
         (record { written = K.written out.old; waits = text.old.items })
         (record { written = K.written out.new; waits = text.new.items })
         result (left (world_of w.now) log.old (before line.now cut)) (left (world_of w.now) log.new cut) }
-    ensures advances { result ≡ Ok Turn.Goes → Advances 1 1 replay.old replay.new log.old log.new }
+    ensures advances { result ≡ Ok Turn.Goes → Advances (world_of w.now) 1 1 replay.old replay.new log.old log.new }
     ensures cause { WriteFaults (K.faults out.old) (K.faults out.new) result }
 {
+    if let Some(event) = log.read_own(alloc, w, line) {
+        return take_and_send(alloc, w, replay, &event, Some(line), text, out);
+    }
     match log.read_line(alloc, w, line) {
         Ok(next) => follow(alloc, w, replay, log, &next, text, out),
         Err(NoMemory) => Err(Outside::NoMemory),
@@ -98,7 +109,7 @@ pub fn replay_end<K: Sink>(
     text: &mut Vec<u8>,
     out: &mut K,
 ) -> Result<Status, Outside>
-    requires ready { IsReady replay.old log.old }
+    requires ready { IsReady (world_of w.now) replay.old log.old }
     requires events { replay.old.events + events_due log.old < 2 ^ 63 }
     ensures ends { EndsSo (world_of w.now) replay.old replay.new
         (record { written = K.written out.old; waits = text.old.items })
@@ -127,6 +138,7 @@ fn follow<K: Sink>(
     out: &mut K,
 ) -> Result<Turn, Outside>
     requires within { IsWithin replay.old.machine.state }
+    requires keeps { Keeps w.now.names replay.old.kept }
     requires leaves { Leaves next.now log.old }
     requires knows { KnowsWithin (length replay.old.machine.state.spaces + made next.now) log.old }
     requires events { replay.old.events + (given next.now + events_due log.old) < 2 ^ 64 }
@@ -135,7 +147,7 @@ fn follow<K: Sink>(
         (record { written = K.written out.old; waits = text.old.items })
         (record { written = K.written out.new; waits = text.new.items })
         result reading (left (world_of w.now) log.new cut) }
-    ensures advances { result ≡ Ok Turn.Goes → Advances 0 (given next.now) replay.old replay.new log.old log.new }
+    ensures advances { result ≡ Ok Turn.Goes → Advances (world_of w.now) 0 (given next.now) replay.old replay.new log.old log.new }
     ensures open_still { result ≡ Ok Turn.Goes → is_open log.old ≡ true }
     ensures cause { WriteFaults (K.faults out.old) (K.faults out.new) result }
 {
@@ -157,13 +169,14 @@ fn follow_waiting<K: Sink>(
     out: &mut K,
 ) -> Result<Turn, Outside>
     requires within { IsWithin replay.old.machine.state }
+    requires keeps { Keeps w.now.names replay.old.kept }
     requires knows { KnowsWithin (length replay.old.machine.state.spaces) log.old }
     requires events { replay.old.events + events_due log.old < 2 ^ 64 }
     ensures follows { (cut : Cut) → Follows (world_of w.now) replay.old replay.new
         (record { written = K.written out.old; waits = text.old.items })
         (record { written = K.written out.new; waits = text.new.items })
         result (left (world_of w.now) log.old cut) (left (world_of w.now) log.new cut) }
-    ensures advances { result ≡ Ok Turn.Goes → Advances 0 0 replay.old replay.new log.old log.new }
+    ensures advances { result ≡ Ok Turn.Goes → Advances (world_of w.now) 0 0 replay.old replay.new log.old log.new }
     ensures open_still { result ≡ Ok Turn.Goes → is_open log.old ≡ true }
     ensures cause { WriteFaults (K.faults out.old) (K.faults out.new) result }
 {
@@ -199,15 +212,20 @@ fn take_next<K: Sink>(
     out: &mut K,
 ) -> Result<Taken, Outside>
     requires within { IsWithin replay.old.machine.state }
+    requires keeps { Keeps w.now.names replay.old.kept }
     requires events { replay.old.events + given next.now < 2 ^ 64 }
     ensures takes { (reading rest : Reading) → IsNext next.now reading rest → Takes (world_of w.now) replay.old replay.new
         (record { written = K.written out.old; waits = text.old.items })
         (record { written = K.written out.new; waits = text.new.items }) result reading rest }
-    ensures counts { IfOk result (TakesCount next.now replay.old replay.new) }
+    ensures counts { IfOk result (TakesCount (world_of w.now) next.now replay.old replay.new) }
     ensures cause { WriteFaults (K.faults out.old) (K.faults out.new) result }
 {
     match next {
-        Next::Event(event) => take_and_send(alloc, w, replay, event, text, out),
+        Next::Event(event) => match take_and_send(alloc, w, replay, event, None, text, out) {
+            Ok(Turn::Goes) => Ok(Taken::Event),
+            Ok(Turn::Ends(status)) => Ok(Taken::End(status)),
+            Err(why) => Err(why),
+        },
         Next::Nothing => Ok(Taken::Nothing),
         Next::Ends(stop) => match put_ending(text, replay, *stop) {
             Ok(status) => Ok(Taken::End(status)),
@@ -216,29 +234,33 @@ fn take_next<K: Sink>(
     }
 }
 
-// An event is taken with its lines, which are sent where they fill a piece.
+// An event is taken with its lines, which are sent where they fill a piece. Where its line stands as events are
+// written, it is given as `own`.
 fn take_and_send<K: Sink>(
     alloc: Global,
     w: &World,
     replay: &mut Replay,
     event: &Placed,
+    own: Option<&[u8]>,
     text: &mut Vec<u8>,
     out: &mut K,
-) -> Result<Taken, Outside>
+) -> Result<Turn, Outside>
     requires within { IsWithin replay.old.machine.state }
+    requires keeps { Keeps w.now.names replay.old.kept }
+    requires own { IfSome own (λ line. event_text (world_of w.now) event.now.event ≡ line.now) }
     requires events { replay.old.events + 1 < 2 ^ 64 }
-    ensures takes { (reading rest : Reading) → IsNext (next.Event event.now) reading rest → Takes (world_of w.now) replay.old replay.new
+    ensures takes { (reading rest : Reading) → reading ≡ reads_on event.now rest → Follows (world_of w.now) replay.old replay.new
         (record { written = K.written out.old; waits = text.old.items })
         (record { written = K.written out.new; waits = text.new.items }) result reading rest }
-    ensures counts { IfOk result (TakesCount (next.Event event.now) replay.old replay.new) }
+    ensures counts { result ≡ Ok Turn.Goes → TookEvent (world_of w.now) (next.Event event.now) replay.old replay.new }
     ensures cause { WriteFaults (K.faults out.old) (K.faults out.new) result }
 {
-    match take_event(alloc, w, replay, event, text) {
+    match take_event(alloc, w, replay, event, own, text) {
         Ok(Turn::Goes) => match send_full(text, out) {
-            Ok(()) => Ok(Taken::Event),
+            Ok(()) => Ok(Turn::Goes),
             Err(why) => Err(why),
         },
-        Ok(Turn::Ends(status)) => Ok(Taken::End(status)),
+        Ok(Turn::Ends(status)) => Ok(Turn::Ends(status)),
         Err(NoMemory) => Err(Outside::NoMemory),
     }
 }
@@ -249,15 +271,19 @@ fn take_event(
     w: &World,
     replay: &mut Replay,
     event: &Placed,
+    own: Option<&[u8]>,
     text: &mut Vec<u8>,
 ) -> Result<Turn, NoMemory>
     requires count { replay.old.events + 1 < 2 ^ 64 }
     requires within { IsWithin replay.old.machine.state }
+    requires keeps { Keeps w.now.names replay.old.kept }
+    requires own { IfSome own (λ line. event_text (world_of w.now) event.now.event ≡ line.now) }
     ensures turn { OrNoMemory result (λ turn. IsTurn (world_of w.now) event.now turn
         (outcome (world_of w.now) replay.old.machine.state event.now.event) replay.new.machine.state) }
     ensures lines { OrNoMemory result (λ _. text.new.items ≡ text.old.items
         ++ text_of (event_lines replay.old.shows (world_of w.now) event.now (outcome (world_of w.now) replay.old.machine.state event.now.event))) }
     ensures events { OrNoMemory result (λ turn. turn ≡ Turn.Goes → replay.new.events ≡ replay.old.events + 1) }
+    ensures keeps { OrNoMemory result (λ _. Keeps w.now.names replay.new.kept) }
     ensures shows { replay.new.shows ≡ replay.old.shows }
 {
     match replay.machine.step(alloc, w, &event.event) {
@@ -266,7 +292,9 @@ fn take_event(
                 put_limit(text, limit)?;
                 return Ok(Turn::Ends(Status::Limit));
             }
-            put_shown(text, w, replay, event)?;
+            if replay.shows {
+                put_step(text, w, &replay.machine.state, event, own, &mut replay.kept)?;
+            }
             replay.events += 1;
             Ok(Turn::Goes)
         }
@@ -274,18 +302,6 @@ fn take_event(
             put_impossible(text, event.line, &why)?;
             Ok(Turn::Ends(Status::Impossible))
         }
-    }
-}
-
-// The lines of a step, where the replay is shown.
-fn put_shown(text: &mut Vec<u8>, w: &World, replay: &Replay, event: &Placed) -> Result<(), NoMemory>
-    ensures { OrNoMemory result (λ _. text.new.items ≡ text.old.items
-        ++ text_of (shown_lines replay.now.shows (step_lines (world_of w.now) replay.now.machine.state event.now))) }
-{
-    if replay.shows {
-        put_step(text, w, &replay.machine.state, event)
-    } else {
-        Ok(())
     }
 }
 

@@ -27,7 +27,7 @@ invariant-loop-line g l = record {
       (g.H.Shelf.taken l.shelf) l.fn.cutter.name (ends l.cutter);
   apart : CountsApart (g.H.Shelf.counted l.fn.shelf) (g.H.Shelf.faults l.fn.shelf) (g.H.Shelf.faults l.shelf)
       (g.H.Shelf.reads l.fn.shelf) (g.H.Shelf.reads l.shelf) l.fn.cutter.name;
-  ready : IsReady l.replay l.log;
+  ready : IsReady (world_of l.w) l.replay l.log;
   lines : lines_read l.log ≤ l.cutter.place;
   events : l.replay.events + events_due l.log ≤ l.cutter.place;
   place : l.cutter.place ≤ l.cutter.whole;

@@ -19,7 +19,8 @@ loop-next-preserved g c =
       goes = λ cut. goes_then (c.loop-next.invariant.goes cut)
           (takes (left w c.loop-next.log cut) (left w c.next_waiting-next.new.self cut) (c.next_waiting-next.ensures.next w cut));
       within = took.within;
-      knows = took_knows c.next_waiting-next.result from to c.next_waiting-next.new.self took
+      keeps = took.keeps;
+      knows = took_knows w c.next_waiting-next.result from to c.next_waiting-next.new.self took
           (c.next_waiting-next.ensures.counts.knows (length from.machine.state.spaces) c.loop-next.invariant.knows);
       lines = omega (arith, lines, c.loop-next.invariant.lines);
       events = omega (arith, due, took.given, took.events, c.loop-next.invariant.events);
@@ -43,9 +44,10 @@ returns-in-Ok-Nothing-clause-follows g c cut =
 
 pub returns-in-Ok-Nothing-clause-advances : goal.returns-in-Ok-Nothing-clause-advances
 returns-in-Ok-Nothing-clause-advances g c goes =
+    let w = world_of c.args.w.now in
     let took = rw c.in-Ok-Nothing.field-0-is at c.in-Ok-Nothing.ensures.counts in
-    nothing_advances c.next_waiting-next.result c.args.replay.now c.loop-next.replay c.take_next.new.replay c.args.log.now c.loop-next.log
-    c.next_waiting-next.new.self took c.loop-next.invariant.within c.loop-next.invariant.knows c.loop-next.invariant.lines
+    nothing_advances w c.next_waiting-next.result c.args.replay.now c.loop-next.replay c.take_next.new.replay c.args.log.now c.loop-next.log
+    c.next_waiting-next.new.self took c.loop-next.invariant.keeps c.loop-next.invariant.within c.loop-next.invariant.knows c.loop-next.invariant.lines
     c.loop-next.invariant.events c.next_waiting-next.ensures.counts c.next_waiting-next.ensures.leaves
 
 pub returns-in-Ok-End-clause-follows : goal.returns-in-Ok-End-clause-follows

@@ -1,4 +1,5 @@
 use Rattle.std.proofs.Common.{◌≡◌, ◌<◌, ◌≤◌, ◌+◌, ◌^◌, length}
+use Rattle.cm_credentials.specs.Kept.{Keeps}
 use Rattle.cm_declared.specs.World.{world_of}
 use Rattle.cm_lines.specs.Cut.{Cut}
 use Rattle.cm_log.specs.Counts.{KnowsWithin, events_due, lines_read}
@@ -15,6 +16,7 @@ invariant-loop-next g l = record {
       (record { written = g.K.Sink.written l.out; waits = l.text.items })
       (left (world_of l.fn.w) l.initial.log cut) (left (world_of l.fn.w) l.log cut);
   within : IsWithin l.replay.machine.state;
+  keeps : Keeps (world_of l.fn.w).names l.replay.kept;
   knows : KnowsWithin (length l.replay.machine.state.spaces) l.log;
   lines : lines_read l.log ≤ lines_read l.initial.log;
   events : l.replay.events + events_due l.log ≤ l.initial.replay.events + events_due l.initial.log;

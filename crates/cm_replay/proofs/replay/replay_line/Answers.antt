@@ -1,9 +1,20 @@
-use Rattle.std.proofs.Common.{length}
+use Rattle.std.proofs.Common.{length, subst, sym}
+use Rattle.cm_declared.specs.World.{world_of}
+use Rattle.cm_log.specs.Counts.{KnowsWithin}
+use Rattle.cm_log.specs.declared.log.Log.{Log}
+use Rattle.cm_replay.proofs.Ready.{own_advances}
 use Rattle.cm_replay.proofs.Standing.{none_sent}
 use Rattle.cm_replay.proofs.replay.replay_line.Goals as goal
 
+pub returns-in-Some-clause-advances : goal.returns-in-Some-clause-advances
+returns-in-Some-clause-advances g c goes =
+    own_advances (world_of c.args.w.now) c.in-Some.event c.args.replay.now c.take_and_send.new.replay c.args.log.now c.read_own.new.self
+    (c.take_and_send.ensures.counts goes) c.in-Some.ensures.counts c.in-Some.ensures.none c.requires.ready.knows
+
 pub follow-requires-clause-knows : goal.follow-requires-clause-knows
-follow-requires-clause-knows g c = c.in-Ok.ensures.counts.knows (length c.args.replay.now.machine.state.spaces) c.requires.ready.knows
+follow-requires-clause-knows g c =
+    let n = length c.args.replay.now.machine.state.spaces in
+    c.in-Ok.ensures.counts.knows n (subst (λ (log : Log). KnowsWithin n log) (sym c.in_default.ensures.same) c.requires.ready.knows)
 
 pub returns-in-Err-clause-follows : goal.returns-in-Err-clause-follows
 returns-in-Err-clause-follows g c cut = none_sent _ _

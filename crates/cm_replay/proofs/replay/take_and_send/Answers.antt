@@ -18,9 +18,10 @@ returns-in-Ok-clause-takes g c reading rest is =
     (record { written = g.K.Sink.written c.send_full.new.out; waits = c.send_full.new.text.items }) is goes c.in-Ok.ensures.sent
 
 pub returns-in-Ok-clause-counts : goal.returns-in-Ok-clause-counts
-returns-in-Ok-clause-counts g c =
+returns-in-Ok-clause-counts g c _ =
     event_took (world_of c.args.w.now) c.args.replay.now c.take_event.new.replay c.args.event.now
     (rw c.in-Ok-Goes.field-0-is at c.in-Ok-Goes.ensures.turn) ((rw c.in-Ok-Goes.field-0-is at c.in-Ok-Goes.ensures.events) refl)
+    c.in-Ok-Goes.ensures.keeps
 
 pub returns-in-Err-send_full-clause-takes : goal.returns-in-Err-send_full-clause-takes
 returns-in-Err-send_full-clause-takes g c reading rest is =

@@ -8,9 +8,9 @@ use Rattle.model_text.specs.Print.{credential_line, place_text}
 pub returns : goal.returns
 unfolding credential_line place_text
 returns c =
-    rw (sym c.p.view_is)
+    rw (sym c.p.view_is, sym c.deref.ensures)
     (closed _ _ _ _
     (Credentials (world_of c.args.w.now)
-    (record { pid = c.p.inside.pid; forebear = None; space = c.p.inside.space.0; cred = c.p.inside.cred }))
+    (record { pid = c.p.inside.pid; forebear = None; space = c.p.inside.space.0; cred = c.deref.result.now }))
     c.put.ensures
     (joined_once _ _ _ (codes "\n") c.in_ok-put_credentials.ensures))
