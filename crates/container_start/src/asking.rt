@@ -1,5 +1,6 @@
-// The question: can the process, or what it starts, ever be root outside of the container?
-ghost use Rattle.std.specs.Prelude.{◌↔◌, IsTrue};
+// The question: can the process, or what it starts, ever be root outside of the container? One call asks it and writes
+// the certificate; another, which trusts nothing of the first, reads the certificate and checks it.
+ghost use Rattle.std.specs.Prelude.{◌↔◌, ◌<◌, ◌^◌, IsTrue, length};
 ghost use Rattle.cm_declared.specs.World.{world_of};
 ghost use Rattle.model_run.specs.Never.{MountsStand};
 
@@ -13,36 +14,59 @@ use cm_sound::{Checked, check};
 use cm_state::Right;
 use std::alloc::Global;
 
-/// What comes of it.
-#[derive(Debug, Drop)]
-pub(crate) enum Outcome {
-    /// Yes, with the certificate, and what a check of it says.
-    Yes(Vec<u8>, Checked),
+/// What an audit comes to.
+#[derive(Drop)]
+pub(crate) enum Answer {
+    /// Yes, with the certificate.
+    Yes(Vec<u8>),
     /// The word of another verdict.
     Other(&'static str),
 }
 
-/// Asks for the user id 0, as the initial user namespace has it.
-pub(crate) fn ask(alloc: Global, w: &World, m: &Machine, first: Pid) -> Result<Outcome, Stop> {
-    let spaces = m.state.spaces.count();
-    if spaces > 256 || !mounts_stand(w, m) {
+/// Asks whether no process of the family of `first` ever has that user id, as the initial user namespace has it.
+pub(crate) fn ask(
+    alloc: Global,
+    w: &World,
+    m: &Machine,
+    first: Pid,
+    id: Kuid,
+) -> Result<Answer, Stop> {
+    if !may_be_asked(w, m) {
         return Err(Stop::Refused);
     }
-    let root = Right::Uid(Kuid::of(0));
-    match audit(alloc, w, m, first, &root)? {
-        Verdict::Yes(bounds) => {
-            let text = write_bounds(alloc, &bounds)?;
-            let read = read_bounds(alloc, &text, spaces)?;
-            let members = m.family(alloc, first)?;
-            let checked = check(w, m, &members, &root, &read);
-            Ok(Outcome::Yes(text, checked))
-        }
-        Verdict::No { .. } => Ok(Outcome::Other("no")),
-        Verdict::Undecided { .. } => Ok(Outcome::Other("undecided")),
+    match audit(alloc, w, m, first, &Right::Uid(id))? {
+        Verdict::Yes(bounds) => Ok(Answer::Yes(write_bounds(alloc, &bounds)?)),
+        Verdict::No { .. } => Ok(Answer::Other("no")),
+        Verdict::Undecided { .. } => Ok(Answer::Other("undecided")),
     }
 }
 
-// The space of each mount stands, as an audit asks.
+/// What a check of the certificate says, which stands on its text alone.
+pub(crate) fn check_text(
+    alloc: Global,
+    w: &World,
+    m: &Machine,
+    first: Pid,
+    id: Kuid,
+    text: &[u8],
+) -> Result<Checked, Stop> {
+    if !may_be_asked(w, m) {
+        return Err(Stop::Refused);
+    }
+    let members = m.family(alloc, first)?;
+    let bounds = read_bounds(alloc, text, m.state.spaces.count())?;
+    Ok(check(w, m, &members, &Right::Uid(id), &bounds))
+}
+
+// Few enough spaces stand, and the space of each mount does, as an audit and a check ask.
+fn may_be_asked(w: &World, m: &Machine) -> bool
+    ensures few { IsTrue result → length m.now.state.spaces < 2 ^ 31 }
+    ensures mounts { IsTrue result → MountsStand (world_of w.now) m.now.state }
+{
+    m.state.spaces.count() <= 256 && mounts_stand(w, m)
+}
+
+// The space of each mount stands.
 fn mounts_stand(w: &World, m: &Machine) -> bool
     ensures { IsTrue result ↔ MountsStand (world_of w.now) m.now.state }
 {

@@ -1,6 +1,6 @@
 // The state in which the first process of a container starts: root of a user namespace, whose ids are those from 100000
 // on outside; and the calls that it makes before it runs the program.
-ghost use Rattle.std.specs.Prelude.{◌≡◌, ◌∷◌, [], All, IfOk, Some};
+ghost use Rattle.std.specs.Prelude.{◌≡◌, All, IfOk, Some, vec_len};
 ghost use Rattle.cm_base.specs.Outcome.{OrNoMemory};
 ghost use Rattle.model_cred.specs.Process.{Ascends};
 
@@ -25,6 +25,11 @@ pub(crate) fn start_world(alloc: Global) -> Result<World, Stop> {
         filter: Filter::none(),
         form: LogForm::Script,
     })
+}
+
+/// The process that starts the container.
+pub(crate) fn first_pid() -> Pid {
+    Pid::new(1).unwrap()
 }
 
 /// The calls, in their order: the ids of a user of the container, and no_new_privs.
@@ -62,44 +67,59 @@ fn processes(alloc: Global, container: SpaceId) -> Result<Procs, NoMemory>
     ensures inside { OrNoMemory result (λ procs. All (λ p. p.space ≡ container.0) procs) }
 {
     let mut list = Vec::new(alloc);
-    list.push(first_process(alloc, container))?;
+    list.push(first_process(alloc, container)?)?;
     Ok(Procs::from_vec(list))
 }
 
 // Root of the container, with all capabilities over its user namespace.
-fn first_process(alloc: Global, container: SpaceId) -> Proc
-    ensures { result.space ≡ container.0 }
+fn first_process(alloc: Global, container: SpaceId) -> Result<Proc, NoMemory>
+    ensures { OrNoMemory result (λ p. p.space ≡ container.0) }
 {
     let user = Kuid::of(100_000);
     let group = Kgid::of(100_000);
-    Proc {
-        pid: Pid::new(1).unwrap(),
+    let cred = Cred {
+        ruid: user,
+        euid: user,
+        suid: user,
+        fsuid: user,
+        rgid: group,
+        egid: group,
+        sgid: group,
+        fsgid: group,
+        groups: Groups::empty(alloc),
+        inh: CapWord::empty(),
+        prm: CapWord::full(),
+        eff: CapWord::full(),
+        bnd: CapWord::full(),
+        amb: CapWord::empty(),
+        sec: SecBits(0),
+        nnp: false,
+    };
+    Ok(Proc {
+        pid: first_pid(),
         forebear: None,
         space: container,
-        cred: Cred {
-            ruid: user,
-            euid: user,
-            suid: user,
-            fsuid: user,
-            rgid: group,
-            egid: group,
-            sgid: group,
-            fsgid: group,
-            groups: Groups::empty(alloc),
-            inh: CapWord::empty(),
-            prm: CapWord::full(),
-            eff: CapWord::full(),
-            bnd: CapWord::full(),
-            amb: CapWord::empty(),
-            sec: SecBits(0),
-            nnp: false,
-        },
-    }
+        cred: Box::new(alloc, cred)?,
+    })
 }
 
 // The mount of the machine, and no file.
 fn no_files(alloc: Global) -> Result<FileTable, Stop> {
-    let root = Mount {
+    Ok(FileTable::make(alloc, mounts(alloc)?, Vec::new(alloc))?)
+}
+
+// That mount alone.
+fn mounts(alloc: Global) -> Result<Vec<Mount>, NoMemory>
+    ensures { OrNoMemory result (λ mounts. vec_len mounts ≡ 1) }
+{
+    let mut list = Vec::new(alloc);
+    list.push(root_mount(alloc)?)?;
+    Ok(list)
+}
+
+// The mount of the machine's first file system, which belongs to the initial user namespace.
+fn root_mount(alloc: Global) -> Result<Mount, NoMemory> {
+    Ok(Mount {
         name: Text::from_string(String::from_str(alloc, "root")?),
         fs: MapPair {
             uids: IdMap::initial(alloc)?,
@@ -109,14 +129,5 @@ fn no_files(alloc: Global) -> Result<FileTable, Stop> {
         space: SpaceId(0),
         nosuid: false,
         noexec: false,
-    };
-    Ok(FileTable::make(alloc, one_mount(alloc, root)?, Vec::new(alloc))?)
-}
-
-fn one_mount(alloc: Global, root: Mount) -> Result<Vec<Mount>, NoMemory>
-    ensures { OrNoMemory result (λ mounts. mounts.items ≡ root ∷ []) }
-{
-    let mut mounts = Vec::new(alloc);
-    mounts.push(root)?;
-    Ok(mounts)
+    })
 }

@@ -5,7 +5,6 @@ use cm_cert::BadCert;
 use cm_files::BadFiles;
 use cm_idmap::BadMap;
 use cm_machine::StepError;
-use std::alloc::AllocError;
 use std::io;
 
 #[derive(Debug, Drop)]
@@ -19,12 +18,6 @@ pub(crate) enum Stop {
 
 impl From<NoMemory> for Stop {
     fn from(_: NoMemory) -> Stop {
-        Stop::NoMemory
-    }
-}
-
-impl From<AllocError> for Stop {
-    fn from(_: AllocError) -> Stop {
         Stop::NoMemory
     }
 }
