@@ -80,12 +80,17 @@ AUDIT = ("world", "log", "100", "uid:1000")
 DRILL = "events 100000\nrefused 58478\nlive 11\nspaces 2\nverdict yes\n"     # by plain_drill.py
 
 
+def start_of(report: str) -> str:
+    """The lines of the start, which are written before the log is read."""
+    return report[:report.index("1: ")]
+
+
 def ordered(report: str, world: str, log: str, pid: str, right: str) -> tuple[int, str]:
     """Status and text of an audit by these words, which are those of AUDIT in some order."""
     if world == "log":
         return 4, "bad world whole 0: Toml\n"
     if world != "world" or log != "log":
-        return 7, ""
+        return 7, start_of(report) if world == "world" else ""
     return (1, report + "no 0\nholder 100\n") if pid == "100" else (12, report + "bad query: pid\n")
 
 
@@ -110,7 +115,7 @@ def rows(report: str, made: dict[str, str]) -> list[Row]:
         Row((), 6, USAGE),
         Row(("replay", "world"), 6, USAGE),
         Row(("replay", "missing", "log"), 7, ""),
-        Row(("replay", "world", "missing"), 7, ""),
+        Row(("replay", "world", "missing"), 7, start_of(report)),
         *[Row((name, *query, "missing"), 7, "") for name in ("check", "confirm")],
         Row(("replay", "long", "log"), 9, "limit world 1048576\n"),
         Row(("audit", "world", "log", "7", "uid:0"), 12, report + "bad query: pid\n"),
