@@ -16,7 +16,7 @@ use Rattle.cm_base.specs.declared.res.Res.TheVariants as res
 use Rattle.cm_machine.proofs.Changing.{get_put, put_back, same_put, same_there, undone_is}
 use Rattle.cm_machine.proofs.Groups.{fs_fixed, gids_keep, uids_keep}
 use Rattle.cm_machine.specs.Asking.{IsAsked, CanKeep, pid_number, change_by, groups_change, birth_change, inner_birth_change, where_done}
-use Rattle.cm_machine.specs.Asking.{cred_after, kept, makes_new, undone, undone_cred, born_inside}
+use Rattle.cm_machine.specs.Asking.{cred_after, kept, makes_new, undone, undone_cred, born_inside, without_groups}
 use Rattle.cm_machine.specs.Outcomes.{takes_memory}
 use Rattle.cm_machine.specs.declared.change.Change.{Change}
 use Rattle.cm_machine.specs.declared.change.Change.TheVariants as change
@@ -63,26 +63,27 @@ regrouped : (c : Credential) (groups : List ℕ) → groups ≡ c.groups → rec
 regrouped c groups same = ap (λ (gs : List ℕ). record c { groups = gs }) same
 
 -- what is still to be made has changed nothing
-birth_still : (r : Res) (c : Credential) → undone_cred (birth_change r) c ≡ c
-birth_still res.Done c = refl
-birth_still (res.Id n) c = refl
-birth_still (res.Child n) c = refl
-birth_still (res.Err e) c = refl
+birth_still : (r : Res) (old c : Credential) → undone_cred (birth_change r) old c ≡ c
+birth_still res.Done old c = refl
+birth_still (res.Id n) old c = refl
+birth_still (res.Child n) old c = refl
+birth_still (res.Err e) old c = refl
 
-inner_still : (r : Res) (c : Credential) → undone_cred (inner_birth_change r) c ≡ c
-inner_still res.Done c = refl
-inner_still (res.Id n) c = refl
-inner_still (res.Child n) c = refl
-inner_still (res.Err e) c = refl
+inner_still : (r : Res) (old c : Credential) → undone_cred (inner_birth_change r) old c ≡ c
+inner_still res.Done old c = refl
+inner_still (res.Id n) old c = refl
+inner_still (res.Child n) old c = refl
+inner_still (res.Err e) old c = refl
 
-done_still : (r : Res) (to_make : Change) (c : Credential) → undone_cred to_make c ≡ c → undone_cred (where_done r to_make) c ≡ c
-done_still res.Done to_make c same = same
-done_still (res.Id n) to_make c same = refl
-done_still (res.Child n) to_make c same = refl
-done_still (res.Err e) to_make c same = refl
+done_still : (r : Res) (to_make : Change) (old c : Credential) → undone_cred to_make old c ≡ c → undone_cred (where_done r to_make) old c ≡ c
+done_still res.Done to_make old c same = same
+done_still (res.Id n) to_make old c same = refl
+done_still (res.Child n) to_make old c same = refl
+done_still (res.Err e) to_make old c same = refl
 
-groups_back : (s : Space) (c : Credential) (ids : List ℕ) → undone_cred (groups_change (setgroups s c ids).res c.groups) (setgroups s c ids).cred ≡ c
-groups_back s c ids =
+groups_back : (s : Space) (old c : Credential) (ids : List ℕ)
+    → undone_cred (groups_change (setgroups s c ids).res c.groups) old (setgroups s c ids).cred ≡ c
+groups_back s old c ids =
     cond_both (not (has_setgid c) || is_none s.gids || s.deny) (refused EPERM c)
     (if nat_lt most_groups (length ids) then refused EINVAL c else with_groups c o) P
     (λ _. refl)
@@ -92,7 +93,7 @@ groups_back s c ids =
     o = all_down (extents_of s.gids) ids
 
     P : Answer → Type 0
-    P a = undone_cred (groups_change a.res c.groups) a.cred ≡ c
+    P a = undone_cred (groups_change a.res c.groups) old a.cred ≡ c
 
     mapped : (q : Option (List ℕ)) → P (with_groups c q)
     mapped None = refl
@@ -112,7 +113,8 @@ exec_groups files spaces at c name =
 
 -- the caller's credential is as before
 restored : (w : World) (s : State) (p : Process) (call : Call) (n : ℕ)
-    → undone_cred (change_by s.spaces (call_of call) (ruling w s p (call_of call) n).res p.cred) (cred_after w s.spaces p (call_of call)) ≡ p.cred
+    → undone_cred (change_by s.spaces (call_of call) (ruling w s p (call_of call) n).res p.cred) (without_groups p.cred)
+    (cred_after w s.spaces p (call_of call)) ≡ p.cred
 restored w s p (SetUid id) n = regrouped p.cred _ (uids_keep (space_of s.spaces p.space) p.cred _)
 restored w s p (SetReUid r e) n = regrouped p.cred _ (uids_keep (space_of s.spaces p.space) p.cred _)
 restored w s p (SetResUid r e v) n = regrouped p.cred _ (uids_keep (space_of s.spaces p.space) p.cred _)
@@ -120,14 +122,14 @@ restored w s p (SetFsUid id) n = regrouped p.cred _ (fs_fixed (space_of s.spaces
 restored w s p (SetGid id) n = regrouped p.cred _ (gids_keep p.cred _)
 restored w s p (SetReGid r e) n = regrouped p.cred _ (gids_keep p.cred _)
 restored w s p (SetResGid r e v) n = regrouped p.cred _ (gids_keep p.cred _)
-restored w s p (SetGroups ids) n = groups_back (space_of s.spaces p.space) p.cred ids
-restored w s p Fork n = birth_still _ p.cred
-restored w s p CloneUser n = inner_still _ p.cred
-restored w s p Unshare n = done_still _ change.Space p.cred refl
-restored w s p (SetNs m) n = done_still _ (change.Join m) p.cred refl
-restored w s p (WriteUidMap m given) n = done_still _ (change.Map file.UidMap m (stored_list UidMap s.spaces m.0 given)) p.cred refl
-restored w s p (WriteGidMap m given) n = done_still _ (change.Map file.GidMap m (stored_list GidMap s.spaces m.0 given)) p.cred refl
-restored w s p (WriteSetgroups m deny) n = done_still _ (change.Word m deny) p.cred refl
+restored w s p (SetGroups ids) n = groups_back (space_of s.spaces p.space) _ p.cred ids
+restored w s p Fork n = birth_still _ _ p.cred
+restored w s p CloneUser n = inner_still _ _ p.cred
+restored w s p Unshare n = done_still _ change.Space _ p.cred refl
+restored w s p (SetNs m) n = done_still _ (change.Join m) _ p.cred refl
+restored w s p (WriteUidMap m given) n = done_still _ (change.Map file.UidMap m (stored_list UidMap s.spaces m.0 given)) _ p.cred refl
+restored w s p (WriteGidMap m given) n = done_still _ (change.Map file.GidMap m (stored_list GidMap s.spaces m.0 given)) _ p.cred refl
+restored w s p (WriteSetgroups m deny) n = done_still _ (change.Word m deny) _ p.cred refl
 restored w s p (Exec name) n = regrouped p.cred _ (exec_groups w.files s.spaces p.space p.cred name)
 restored w s p Exit n = refl
 restored w s p call n = regrouped p.cred _ (grind arith)
@@ -323,6 +325,9 @@ module _ (w : World) (s : State) (call : Call) (child : Option ℕ) (at : ℕ) (
   abbrev leaves : Credential
   leaves = cred_after w s.spaces old k
 
+  abbrev fields : Credential
+  fields = without_groups old.cred
+
   abbrev after : State
   after = record s { processes = slice_set s.processes at new }
 
@@ -346,7 +351,7 @@ module _ (w : World) (s : State) (call : Call) (child : Option ℕ) (at : ℕ) (
       ap (λ (ps : List Process). record s { processes = ps })
       (sym (put_at s.processes at new up h (pid asked made)) ∙ ap (λ (q : Process). put_process q s.processes) (new_is asked made))
 
-  asked_old : (asked : Asked) → Made asked → IsAsked asked at after s given
+  asked_old : (asked : Asked) → Made asked → IsAsked asked fields at after s given
   asked_old asked made = record {
     caller = new;
     there = get_put s.processes at new h;
@@ -355,36 +360,40 @@ module _ (w : World) (s : State) (call : Call) (child : Option ℕ) (at : ℕ) (
         ∙ ap (λ (q : Process). kept (change_by s.spaces k given.res old.cred) q after) (new_is asked made)
         ∙ ap (kept (change_by s.spaces k given.res old.cred) (record old { cred = leaves })) (after_is asked made)
         ∙ kept_is w s old call (pid_number child) (same_put s at old up h is);
-    undoes = ap (λ (ch : Change). undone ch new after) (by asked made)
-        ∙ undone_is (change_by s.spaces k given.res old.cred) after at new
+    undoes = ap (λ (ch : Change). undone ch fields new after) (by asked made)
+        ∙ undone_is (change_by s.spaces k given.res old.cred) fields after at new
         (put_ascends s.processes at new up h (pid asked made)) (rw (length-set s.processes at new) h)
         (sym (get_or-set_same s.processes at new new h))
-        ∙ ap (λ (c : Credential). with_cred after new (undone_cred (change_by s.spaces k given.res old.cred) c)) made.cred
+        ∙ ap (λ (c : Credential). with_cred after new (undone_cred (change_by s.spaces k given.res old.cred) fields c)) made.cred
         ∙ ap (with_cred after new) (restored w s old call (pid_number child))
         ∙ old_put s at old new up h is rest;
   }
 
   -- it was asked of the rules
-  pub asked_is : (r : Result Asked NoMemory) → OrNoMemory r (λ asked. asked.res ≡ given.res)
-      → OrNoMemory r (λ asked. asked.change ≡ change_by s.spaces k asked.res old.cred)
+  pub asked_is : (r : Result Res NoMemory) (changed : Change) → OrNoMemory r (λ res. res ≡ given.res)
+      → OrNoMemory r (λ res. changed ≡ change_by s.spaces k res old.cred)
       → OrNoMemory r (λ _. new.cred ≡ leaves)
-      → OrNoMemory r (λ asked. (p : Process) → slice_get s.processes at ≡ Some p → IsAsked asked at after s (ruling w s p k (pid_number child)))
-  asked_is (Ok asked) answers change cred = λ p there.
-      subst (λ (q : Process). IsAsked asked at after s (ruling w s q k (pid_number child))) (same_there s.processes at old p h is there)
+      → OrNoMemory r (λ res. (p : Process) → slice_get s.processes at ≡ Some p
+      → IsAsked (record { res = res; change = changed }) (without_groups p.cred) at after s (ruling w s p k (pid_number child)))
+  asked_is (Ok res) changed answers change cred = λ p there.
+      let asked : Asked = record { res = res; change = changed } in
+      subst (λ (q : Process). IsAsked asked (without_groups q.cred) at after s (ruling w s q k (pid_number child)))
+      (same_there s.processes at old p h is there)
       (asked_old asked (record { answers = answers; change = change; cred = cred }))
-  asked_is (Err why) answers change cred = tt
+  asked_is (Err why) changed answers change cred = tt
 
   -- and what is still to be made of it can be made
-  pub asked_can : (r : Result Asked NoMemory) → IfSome child (λ pid. is_alive s.processes pid ≡ false) → names_no_space s.spaces k ≡ false
-      → length s.spaces < greatest_number → OrNoMemory r (λ asked. asked.res ≡ given.res)
-      → OrNoMemory r (λ asked. asked.change ≡ change_by s.spaces k asked.res old.cred) → OrNoMemory r (λ _. new.cred ≡ leaves)
-      → OrNoMemory r (λ asked. CanKeep asked.change after)
-  asked_can (Ok asked) free stand room answers change cred =
+  pub asked_can : (r : Result Res NoMemory) (changed : Change) → IfSome child (λ pid. is_alive s.processes pid ≡ false)
+      → names_no_space s.spaces k ≡ false → length s.spaces < greatest_number → OrNoMemory r (λ res. res ≡ given.res)
+      → OrNoMemory r (λ res. changed ≡ change_by s.spaces k res old.cred) → OrNoMemory r (λ _. new.cred ≡ leaves)
+      → OrNoMemory r (λ _. CanKeep changed after)
+  asked_can (Ok res) changed free stand room answers change cred =
+      let asked : Asked = record { res = res; change = changed } in
       let made : Made asked = record { answers = answers; change = change; cred = cred } in
-      subst (CanKeep asked.change) (sym (after_is asked made))
+      subst (CanKeep changed) (sym (after_is asked made))
       (subst (λ (ch : Change). CanKeep ch (with_cred s old leaves)) (sym (by asked made))
       (can_is w s old call (pid_number child) (same_put s at old up h is) (free_number s.processes child free) stand room))
-  asked_can (Err why) free stand room answers change cred = tt
+  asked_can (Err why) changed free stand room answers change cred = tt
 
 -- ---- what can take memory
 
@@ -407,23 +416,24 @@ made_takes spaces (WriteGidMap m given) r c is = refl
 made_takes spaces (WriteSetgroups m deny) r c is = where_made _ r (change.Word m deny) (λ new. absurd (cc)) is
 made_takes spaces call r c is = absurd (cc)
 
-pub asked_takes : (r : Result Asked NoMemory) (spaces : Spaces) (call : Call) (c : Credential)
-    → OrNoMemory r (λ asked. asked.change ≡ change_by spaces (call_of call) asked.res c)
-    → OrNoMemory r (λ asked. makes_new asked.change ≡ true → takes_memory (call_of call) ≡ true)
-asked_takes (Ok asked) spaces call c change = λ is. made_takes spaces call asked.res c (sym (ap makes_new change) ∙ is)
-asked_takes (Err why) spaces call c change = tt
+pub asked_takes : (r : Result Res NoMemory) (changed : Change) (spaces : Spaces) (call : Call) (c : Credential)
+    → OrNoMemory r (λ res. changed ≡ change_by spaces (call_of call) res c)
+    → OrNoMemory r (λ _. makes_new changed ≡ true → takes_memory (call_of call) ≡ true)
+asked_takes (Ok res) changed spaces call c change = λ is. made_takes spaces call res c (sym (ap makes_new change) ∙ is)
+asked_takes (Err why) changed spaces call c change = tt
 
 -- ---- what is left of it
 
 -- undone, the state is as before
-pub undone_before : (asked : Asked) (at : ℕ) (left before new : State) (rules : Ruling) → IsAsked asked at left before rules
-    → ((p : Process) → slice_get left.processes at ≡ Some p → new ≡ undone asked.change p left) → new ≡ before
-undone_before asked at left before new rules is undo = undo is.caller is.there ∙ is.undoes
+pub undone_before : (asked : Asked) (fields old : Credential) (at : ℕ) (left before new : State) (rules : Ruling) → IsAsked asked fields at left before rules
+    → old ≡ fields → ((p : Process) → slice_get left.processes at ≡ Some p → new ≡ undone asked.change old p left) → new ≡ before
+undone_before asked fields old at left before new rules is same undo =
+    undo is.caller is.there ∙ ap (λ (c : Credential). undone asked.change c is.caller left) same ∙ is.undoes
 
 -- and so it is where there was nothing to undo
-pub nothing_before : (asked : Asked) (at : ℕ) (left before new : State) (rules : Ruling) → IsAsked asked at left before rules
-    → ((p : Process) → undone asked.change p left ≡ left) → new ≡ left → new ≡ before
-nothing_before asked at left before new rules is nothing same = same ∙ sym (nothing is.caller) ∙ is.undoes
+pub nothing_before : (asked : Asked) (fields : Credential) (at : ℕ) (left before new : State) (rules : Ruling) → IsAsked asked fields at left before rules
+    → ((old : Credential) (p : Process) → undone asked.change old p left ≡ left) → new ≡ left → new ≡ before
+nothing_before asked fields at left before new rules is nothing same = same ∙ sym (nothing fields is.caller) ∙ is.undoes
 
 -- what holds holds at an error too
 pub on_err : {T E P : Type 0} (r : Result T E) → P → OnErr r P

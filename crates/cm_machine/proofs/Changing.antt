@@ -60,11 +60,11 @@ same_put s at old up h is =
     (put_at s.processes at old up h (sym (pid_of_at s.processes at old h is)) ∙ ap (slice_set s.processes at) is ∙ set-get_or s.processes at old)
 
 -- what is undone of the process at a place
-pub undone_is : (change : Change) (s : State) (at : ℕ) (old : Process) → Ascends s.processes → at < length s.processes → old ≡ get_or s.processes at old
-    → undone change old s ≡ with_cred s old (undone_cred change old.cred)
-undone_is (change.Fields c) s at old up h is = refl
-undone_is (change.Groups ids) s at old up h is = refl
-undone_is _ s at old up h is = sym (same_put s at old up h is)
+pub undone_is : (change : Change) (fields : Credential) (s : State) (at : ℕ) (old : Process) → Ascends s.processes → at < length s.processes
+    → old ≡ get_or s.processes at old → undone change fields old s ≡ with_cred s old (undone_cred change fields old.cred)
+undone_is change.Fields fields s at old up h is = refl
+undone_is (change.Groups ids) fields s at old up h is = refl
+undone_is _ fields s at old up h is = sym (same_put s at old up h is)
 
 -- the process that was put there
 pub get_put : (ps : List Process) (at : ℕ) (new : Process) → at < length ps → slice_get (slice_set ps at new) at ≡ Some new

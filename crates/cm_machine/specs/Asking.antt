@@ -76,7 +76,7 @@ change_by spaces (WriteUidMap n given) res c = where_done res (change.Map file.U
 change_by spaces (WriteGidMap n given) res c = where_done res (change.Map file.GidMap (record { 0 = n }) (stored_list GidMap spaces n given))
 change_by spaces (WriteSetgroups n deny) res c = where_done res (change.Word (record { 0 = n }) deny)
 change_by spaces Exit res c = change.Exit
-change_by spaces call res c = change.Fields (record c { groups = [] })
+change_by spaces call res c = change.Fields
 
 -- the credential in which a call leaves its caller before its change is kept: a birth, an exit and the calls of spaces leave
 -- the one that it has
@@ -91,17 +91,21 @@ cred_after w spaces p (WriteSetgroups n deny) = p.cred
 cred_after w spaces p Exit = p.cred
 cred_after w spaces p call = (reply w.files spaces p.space p.cred call).cred
 
--- the credential where the change is undone
-abbrev pub undone_cred : Change → Credential → Credential
-undone_cred (change.Fields old) c = record old { groups = c.groups }
-undone_cred (change.Groups old) c = record c { groups = old }
-undone_cred _ c = c
+-- the credential with no supplementary group
+abbrev pub without_groups : Credential → Credential
+without_groups c = record c { groups = [] }
 
--- the state where the change of the process is undone
-abbrev pub undone : Change → Process → State → State
-undone (change.Fields old) p s = with_cred s p (undone_cred (change.Fields old) p.cred)
-undone (change.Groups old) p s = with_cred s p (undone_cred (change.Groups old) p.cred)
-undone _ p s = s
+-- the credential where the change is undone; the fields but the groups come back from the old one
+abbrev pub undone_cred : Change → Credential → Credential → Credential
+undone_cred change.Fields old c = record old { groups = c.groups }
+undone_cred (change.Groups groups) old c = record c { groups = groups }
+undone_cred _ old c = c
+
+-- the state where the change of the process, which had the old credential, is undone
+abbrev pub undone : Change → Credential → Process → State → State
+undone change.Fields old p s = with_cred s p (undone_cred change.Fields old p.cred)
+undone (change.Groups groups) old p s = with_cred s p (undone_cred (change.Groups groups) old p.cred)
+undone _ old p s = s
 
 -- the state where the process has a child of that pid
 abbrev pub born : State → Process → ℕ → State
@@ -158,15 +162,15 @@ CanKeep (change.Map which n map) s = n.0 < length s.spaces
 CanKeep (change.Word n deny) s = n.0 < length s.spaces
 CanKeep _ s = Unit {0}
 
--- What was asked for the process at that place is answered by the rules: kept, the change leads to the state that they
--- give, and undone, to the state before.
-pub record IsAsked (asked : Asked) (at : ℕ) (after before : State) (given : Ruling) : Type 0 where
+-- What was asked for the process at that place, which had the old credential, is answered by the rules: kept, the change
+-- leads to the state that they give, and undone, to the state before.
+pub record IsAsked (asked : Asked) (old : Credential) (at : ℕ) (after before : State) (given : Ruling) : Type 0 where
   pub caller : Process
   pub there : slice_get after.processes at ≡ Some caller
   pub answers : asked.res ≡ given.res
   pub keeps : kept asked.change caller after ≡ given.state
-  pub undoes : undone asked.change caller after ≡ before
+  pub undoes : undone asked.change old caller after ≡ before
 
 -- Whichever process stands at that place, what was asked for it is answered by the rules.
 abbrev pub AsksRules : Asked → ℕ → State → State → (Process → Ruling) → Type 0
-AsksRules asked at after before rules = OfCaller before at (λ p. IsAsked asked at after before (rules p))
+AsksRules asked at after before rules = OfCaller before at (λ p. IsAsked asked (without_groups p.cred) at after before (rules p))

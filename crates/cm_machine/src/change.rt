@@ -4,7 +4,8 @@
 // one that is gone, and what was never made needs no undoing.
 ghost use Rattle.std.specs.Prelude.{◌≡◌, ◌<◌, length, true, OnErr};
 ghost use Rattle.cm_base.specs.Outcome.{OrNoMemory, UnchangedOnErr};
-ghost use Rattle.cm_machine.specs.Asking.{CanKeep, OfCaller, kept, makes_new, undone, undone_cred};
+ghost use Rattle.cm_machine.specs.Asking.{CanKeep, OfCaller, kept, makes_new, undone, undone_cred, without_groups};
+ghost use Rattle.model_cred.specs.Credential.{Credential};
 ghost use Rattle.model_cred.specs.Process.{Process};
 
 use crate::births::{clone_as, fork_as};
@@ -22,8 +23,8 @@ use std::mem;
 pub(crate) enum Change {
     /// It changed nothing.
     Nothing,
-    /// The caller had these credentials, which are told without groups: its groups stayed.
-    Fields(Cred),
+    /// It may have changed fields of the caller's credentials, and nothing else: its groups stayed.
+    Fields,
     /// The caller had these groups; all else stayed.
     Groups(Groups),
     /// A child of this pid is to be born. Nothing changed so far.
@@ -55,7 +56,7 @@ pub(crate) fn keep(
     requires can { CanKeep change state.old }
     ensures kept { OrNoMemory result (λ _. OfCaller state.old at (λ p. state.new ≡ kept change p state.old)) }
     ensures unchanged { UnchangedOnErr result state.new state.old }
-    ensures nothing { OnErr result ((p : Process) → undone change p state.old ≡ state.old) }
+    ensures nothing { OnErr result ((old : Credential) (p : Process) → undone change old p state.old ≡ state.old) }
     ensures memory { OnErr result (makes_new change ≡ true) }
 {
     match change {
@@ -78,29 +79,46 @@ pub(crate) fn keep(
             exit(state, at);
             Ok(())
         }
-        Change::Nothing | Change::Fields(_) | Change::Groups(_) => Ok(()),
+        Change::Nothing | Change::Fields | Change::Groups(_) => Ok(()),
     }
 }
 
-/// Undoes what the process at this place has changed.
-pub(crate) fn undo(state: &mut State, at: usize, change: Change)
+/// The credentials of the process at this place, without groups: what is needed to undo a change of fields.
+#[inline]
+pub(crate) fn fields_of(alloc: Global, state: &State, at: usize) -> Cred
+    requires { at < length state.now.processes }
+    ensures { OfCaller state.now at (λ p. result ≡ without_groups p.cred) }
+{
+    let procs = &state.procs;
+    let p = &procs.list[at];
+    p.cred.without_groups(alloc)
+}
+
+/// Undoes what the process at this place has changed, which had the old credentials. Their groups aren't looked at.
+pub(crate) fn undo(state: &mut State, at: usize, change: Change, old: Cred)
     requires { at < length state.old.processes }
-    ensures { OfCaller state.old at (λ p. state.new ≡ undone change p state.old) }
+    ensures { OfCaller state.old at (λ p. state.new ≡ undone change old p state.old) }
 {
     let procs = &mut state.procs;
     let p = &mut procs.list[at];
-    undo_cred(&mut *p.cred, change);
+    undo_cred(&mut *p.cred, change, old);
 }
 
-fn undo_cred(c: &mut Cred, change: Change)
-    ensures { c.new ≡ undone_cred change c.old }
+fn undo_cred(c: &mut Cred, change: Change, old: Cred)
+    ensures { c.new ≡ undone_cred change old c.old }
 {
     match change {
-        Change::Fields(mut old) => {
-            mem::swap(&mut old.groups, &mut c.groups);
-            *c = old;
-        }
-        Change::Groups(old) => c.groups = old,
+        Change::Fields => put_fields(c, old),
+        Change::Groups(groups) => c.groups = groups,
         _ => {}
     }
+}
+
+// The old credentials come back, but the groups stay.
+fn put_fields(c: &mut Cred, old: Cred)
+    ensures { c.new ≡ record old { groups = c.old.groups } }
+{
+    let mut old = old;
+    mem::swap(&mut old.groups, &mut c.groups);
+    *c = old;
 }

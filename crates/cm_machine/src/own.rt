@@ -10,8 +10,8 @@ ghost use Rattle.model_run.specs.Ruling.{own};
 ghost use Rattle.model_run.specs.Step.{names_no_space};
 
 use crate::births::own_pid;
-use crate::change::keep;
-use crate::ruling::{Asked, ask};
+use crate::change::{Change, keep};
+use crate::ruling::ask;
 use cm_base::{NoMemory, Res};
 use cm_declared::World;
 use cm_state::{Call, State};
@@ -34,7 +34,8 @@ pub(crate) fn make_own(
     ensures unchanged { UnchangedOnErr result state.new state.old }
 {
     let child = own_pid(&state.procs, call);
-    let Asked { res, change } = ask(alloc, w, state, at, call, child)?;
+    let mut change = Change::Fields;
+    let res = ask(alloc, w, state, at, call, child, &mut change)?;
     keep(alloc, state, at, change)?;
     Ok(res)
 }

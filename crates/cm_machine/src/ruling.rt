@@ -44,8 +44,10 @@ pub(crate) struct Asked {
     pub change: Change,
 }
 
-/// Asks the rules for the call of the process at this place, a birth with that pid for its child. It fails only where
-/// memory runs out, of a call that can take memory, and then changes nothing.
+/// Asks the rules for the call of the process at this place, a birth with that pid for its child. What the call changes is
+/// written to the place that is given for it, which says before that no more than fields may change: where that is so, as
+/// for most calls, nothing is written there. It fails only where memory runs out, of a call that can take memory, and then
+/// the state is unchanged.
 #[inline]
 pub(crate) fn ask(
     alloc: Global,
@@ -54,22 +56,24 @@ pub(crate) fn ask(
     at: usize,
     call: &Call,
     child: Option<Pid>,
-) -> Result<Asked, NoMemory>
+    changed: &mut Change,
+) -> Result<Res, NoMemory>
     requires here { at < length state.old.processes }
+    requires fields { changed.old ≡ change.Fields }
     requires fresh { IfSome child (λ pid. is_alive state.old.processes pid ≡ false) }
     requires stands { names_no_space state.old.spaces (call_of call.now) ≡ false }
     requires room { length state.old.spaces < greatest_number }
-    ensures asked { OrNoMemory result (λ asked. AsksRules asked at state.new state.old
+    ensures asked { OrNoMemory result (λ res. AsksRules (record { res = res; change = changed.new }) at state.new state.old
         (λ p. ruling (world_of w.now) state.old p (call_of call.now) (pid_number child))) }
-    ensures can { OrNoMemory result (λ asked. CanKeep asked.change state.new) }
-    ensures made { OrNoMemory result (λ asked. makes_new asked.change ≡ true → takes_memory (call_of call.now) ≡ true) }
+    ensures can { OrNoMemory result (λ _. CanKeep changed.new state.new) }
+    ensures made { OrNoMemory result (λ _. makes_new changed.new ≡ true → takes_memory (call_of call.now) ≡ true) }
     ensures memory { OnErr result (takes_memory (call_of call.now) ≡ true) }
     ensures still { at < length state.new.processes }
     ensures unchanged { UnchangedOnErr result state.new state.old }
 {
     let procs = &mut state.procs;
     let p = &mut procs.list[at];
-    ask_caller(alloc, w, p, &state.spaces, call, child)
+    ask_caller(alloc, w, p, &state.spaces, call, child, changed)
 }
 
 // The same for the process alone, by the rules of each call.
@@ -81,13 +85,15 @@ fn ask_caller(
     spaces: &Spaces,
     call: &Call,
     child: Option<Pid>,
-) -> Result<Asked, NoMemory>
+    changed: &mut Change,
+) -> Result<Res, NoMemory>
     requires inside { p.old.space < length spaces.now }
+    requires fields { changed.old ≡ change.Fields }
     requires stands { names_no_space spaces.now (call_of call.now) ≡ false }
-    ensures res { (processes : List Process) → OrNoMemory result (λ asked.
-        asked.res ≡ (ruling (world_of w.now) (state_of processes spaces.now) p.old (call_of call.now) (pid_number child)).res) }
+    ensures res { (processes : List Process) → OrNoMemory result (λ res.
+        res ≡ (ruling (world_of w.now) (state_of processes spaces.now) p.old (call_of call.now) (pid_number child)).res) }
     ensures cred { OrNoMemory result (λ _. p.new.cred ≡ cred_after (world_of w.now) spaces.now p.old (call_of call.now)) }
-    ensures change { OrNoMemory result (λ asked. asked.change ≡ change_by spaces.now (call_of call.now) asked.res p.old.cred) }
+    ensures change { OrNoMemory result (λ res. changed.new ≡ change_by spaces.now (call_of call.now) res p.old.cred) }
     ensures rest { p.new ≡ record p.old { cred = p.new.cred } }
     ensures memory { OnErr result (takes_memory (call_of call.now) ≡ true) }
     ensures unchanged { UnchangedOnErr result p.new p.old }
@@ -95,7 +101,6 @@ fn ask_caller(
     let at = p.space;
     let s = spaces.standing(at);
     let c = &mut *p.cred;
-    let old = c.without_groups(alloc);
     let res = match call {
         Call::SetUid(id) => set_uid(c, s, *id),
         Call::SetReUid(r, e) => set_reuid(c, s, *r, *e),
@@ -114,18 +119,31 @@ fn ask_caller(
         Call::KeepCaps(argument) => keep_caps(c, *argument),
         Call::NoNewPrivs(argument) => no_new_privs(c, *argument),
         Call::Exec(f) => exec(c, spaces, at, &w.files, *f),
-        Call::SetGroups(ids) => return ask_groups(alloc, c, s, ids.items()),
-        Call::Fork => return Ok(birth(child)),
-        Call::CloneUser => return Ok(inner_birth(may_make(c, spaces, at), child)),
-        Call::Unshare => return Ok(to_make(may_make(c, spaces, at), Change::Space)),
-        Call::SetNs(n) => return Ok(to_make(may_join(c, spaces, at, *n), Change::Join(*n))),
+        Call::SetGroups(ids) => {
+            let asked = ask_groups(alloc, c, s, ids.items())?;
+            return Ok(leave(asked, changed));
+        }
+        Call::Fork => return Ok(leave(birth(child), changed)),
+        Call::CloneUser => {
+            let may = may_make(c, spaces, at);
+            return Ok(leave(inner_birth(may, child), changed));
+        }
+        Call::Unshare => {
+            let may = may_make(c, spaces, at);
+            return Ok(leave(to_make(may, Change::Space), changed));
+        }
+        Call::SetNs(n) => {
+            let may = may_join(c, spaces, at, *n);
+            return Ok(leave(to_make(may, Change::Join(*n)), changed));
+        }
         Call::WriteUidMap(n, given) => {
             let w = Write {
                 file: MapFile::UidMap,
                 at,
                 target: *n,
             };
-            return ask_map(alloc, w, c, spaces, given.items());
+            let asked = ask_map(alloc, w, c, spaces, given.items())?;
+            return Ok(leave(asked, changed));
         }
         Call::WriteGidMap(n, given) => {
             let w = Write {
@@ -133,23 +151,28 @@ fn ask_caller(
                 at,
                 target: *n,
             };
-            return ask_map(alloc, w, c, spaces, given.items());
+            let asked = ask_map(alloc, w, c, spaces, given.items())?;
+            return Ok(leave(asked, changed));
         }
         Call::WriteSetgroups { space, deny } => {
             let may = may_write_word(c, spaces, at, *space, *deny);
-            return Ok(to_make(may, Change::Word(*space, *deny)));
+            return Ok(leave(to_make(may, Change::Word(*space, *deny)), changed));
         }
         Call::Exit => {
-            return Ok(Asked {
-                res: Res::Done,
-                change: Change::Exit,
-            });
+            *changed = Change::Exit;
+            return Ok(Res::Done);
         }
     };
-    Ok(Asked {
-        res,
-        change: Change::Fields(old),
-    })
+    Ok(res)
+}
+
+// What the rules answer; the change is written to the place that is given for it.
+fn leave(asked: Asked, changed: &mut Change) -> Res
+    ensures res { result ≡ asked.res }
+    ensures change { changed.new ≡ asked.change }
+{
+    *changed = asked.change;
+    asked.res
 }
 
 // setgroups: the old groups are moved out, and back where they stay.

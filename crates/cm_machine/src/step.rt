@@ -9,11 +9,11 @@ ghost use Rattle.model_cred.specs.Process.{Ascends};
 ghost use Rattle.model_run.specs.Step.{outcome, is_living_child, names_no_space as model_names_no_space, told_call};
 
 use crate::births::told_pid;
-use crate::change::{keep, undo};
+use crate::change::{Change, fields_of, keep, undo};
 use crate::error::StepError;
 use crate::naming::names_no_space;
 use crate::outside::from_outside;
-use crate::ruling::{Asked, ask};
+use crate::ruling::ask;
 use crate::same::is_same;
 use cm_base::Res;
 use cm_declared::World;
@@ -57,7 +57,8 @@ fn has_child(procs: &Procs, res: &Res) -> bool
 }
 
 // The call of the process at this place with the result that is told: an error from outside changes nothing. Else the
-// rules are asked, and the told result is held against their answer: what the call has changed is kept, or undone.
+// rules are asked, and the told result is held against their answer: what the call has changed is kept, or undone. The
+// old credentials stand here and aren't handed on, since most events are told as the rules give them.
 #[inline]
 fn told_call(
     alloc: Global,
@@ -79,12 +80,14 @@ fn told_call(
         return Ok(());
     }
     let child = told_pid(&state.procs, &e.call, &e.res);
-    let Asked { res, change } = ask(alloc, w, state, at, &e.call, child)?;
+    let old = fields_of(alloc, state, at);
+    let mut change = Change::Fields;
+    let res = ask(alloc, w, state, at, &e.call, child, &mut change)?;
     if is_same(&e.res, &res) {
         keep(alloc, state, at, change)?;
         Ok(())
     } else {
-        undo(state, at, change);
+        undo(state, at, change, old);
         Err(StepError::Wrong { rules_give: res })
     }
 }

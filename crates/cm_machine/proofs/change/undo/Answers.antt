@@ -27,14 +27,14 @@ returns c p there =
     = ap (λ (ps : List Process). record { processes = ps; spaces = c.state.inside.spaces }) c.procs.view_is
     ∙ c.state.view_is in
     let old : Process = c.index_mut-p.result.now in
-    let made : c.undo_cred.new.c ≡ undone_cred c.args.change old.cred = c.undo_cred.ensures
-    ∙ ap (undone_cred c.args.change) c.deref_mut.ensures.value
-    ∙ ap (λ (q : Process). undone_cred c.args.change q.cred) c.p.view_is in
-    subst (λ (q : Process). after ≡ undone c.args.change q c.args.state.now)
+    let made : c.undo_cred.new.c ≡ undone_cred c.args.change c.args.old old.cred = c.undo_cred.ensures
+    ∙ ap (undone_cred c.args.change c.args.old) c.deref_mut.ensures.value
+    ∙ ap (λ (q : Process). undone_cred c.args.change c.args.old q.cred) c.p.view_is in
+    subst (λ (q : Process). after ≡ undone c.args.change c.args.old q c.args.state.now)
     (same_there c.procs.inside.list.items c.args.at old p (rw items c.requires) c.index_mut-p.ensures.value (rw items there))
     (ap (λ (q : Process). record before { processes = slice_set c.procs.inside.list.items c.args.at (record q { cred = c.undo_cred.new.c }) }) c.p.view_is
     ∙ ap (λ (k : Credential). record before { processes = slice_set c.procs.inside.list.items c.args.at (record old { cred = k }) }) made
-    ∙ cred_put before c.args.at old (undone_cred c.args.change old.cred) (rw c.procs.view_is c.state.invariant.0)
+    ∙ cred_put before c.args.at old (undone_cred c.args.change c.args.old old.cred) (rw c.procs.view_is c.state.invariant.0)
     (rw items c.requires) c.index_mut-p.ensures.value
-    ∙ sym (undone_is c.args.change before c.args.at old (rw c.procs.view_is c.state.invariant.0) (rw items c.requires) c.index_mut-p.ensures.value)
-    ∙ ap (undone c.args.change old) same)
+    ∙ sym (undone_is c.args.change c.args.old before c.args.at old (rw c.procs.view_is c.state.invariant.0) (rw items c.requires) c.index_mut-p.ensures.value)
+    ∙ ap (undone c.args.change c.args.old old) same)
