@@ -2,6 +2,7 @@
 pub mod Cuts
 pub mod MarkPlaces
 pub mod NameEnds
+pub mod PidDigits
 pub mod QuoteSteps
 pub mod Runs
 pub mod SignRuns

@@ -9,6 +9,7 @@ mod body;
 mod marks;
 mod members;
 mod names;
+mod pids;
 mod quoted;
 mod row;
 mod written;

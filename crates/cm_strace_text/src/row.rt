@@ -6,6 +6,7 @@ ghost use Rattle.model_strace.specs.Marks.{first_word, after_first_word};
 ghost use Rattle.model_text.specs.Token.{pid_token};
 
 use crate::blanks::{cut_word, without_end};
+use crate::pids::cut_pid;
 use cm_base::Pid;
 use cm_tokens::read_pid;
 
@@ -39,6 +40,16 @@ fn cut_row(text: &[u8]) -> PidLine<'_>
 
 // The same of a line that isn't empty.
 fn begun_row(text: &[u8]) -> PidLine<'_>
+    ensures { row_is result ≡ pid_row (pid_token (first_word text.now)) (after_first_word text.now) }
+{
+    match cut_pid(text) {
+        Some((pid, body)) => PidLine::Of(pid, body),
+        None => worded_row(text),
+    }
+}
+
+// The same by the first word, whatever it is.
+fn worded_row(text: &[u8]) -> PidLine<'_>
     ensures { row_is result ≡ pid_row (pid_token (first_word text.now)) (after_first_word text.now) }
 {
     let (word, body) = cut_word(text);
