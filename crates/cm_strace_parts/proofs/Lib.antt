@@ -6,3 +6,5 @@ pub mod Among
 pub mod Lists
 pub mod ListOrders
 pub mod Counts
+pub mod Slots
+pub mod Noted

@@ -7,6 +7,7 @@ mod descriptor;
 mod fd;
 mod files;
 mod kept;
+mod known;
 mod ordered;
 mod parts;
 mod search;

@@ -11,6 +11,7 @@ ghost use Rattle.model_strace.specs.Parts.{after_exec, after_birth, after_user_b
 use crate::descriptor::Descriptor;
 use crate::files::FdList;
 use crate::kept::Kept;
+use crate::known::Known;
 use crate::task::Task;
 use crate::{files, kept, ordered, task};
 use cm_base::{NoMemory, Pid, SpaceId};
@@ -28,6 +29,8 @@ pub struct Parts {
     // How many descriptors there are in the lists.
     followed: u128,
     spaces: u32,
+    // Pids that are noted as known.
+    known: Known,
 }
 
 impl Model for Parts {
@@ -44,7 +47,7 @@ impl Model for Parts {
       spaces = p.spaces;
     } };
 
-    ghost invariant = { λ p. InOrder p.tasks.items p.kept.items p.files.items p.followed };
+    ghost invariant = { λ p. InOrder p.tasks.items p.kept.items p.files.items p.followed p.known };
 }
 
 // ---- what is known
@@ -56,12 +59,14 @@ impl Parts {
     {
         let start = &w.start;
         let tasks = task::first_tasks(alloc, start.procs.items())?;
+        let known = Known::of(alloc, &tasks)?;
         Ok(Parts {
             tasks,
             kept: Vec::new(alloc),
             files: Vec::new(alloc),
             followed: 0,
             spaces: start.spaces.count(),
+            known,
         })
     }
 
@@ -72,12 +77,14 @@ impl Parts {
         let tasks = task::copy_list(alloc, &self.tasks)?;
         let kept = kept::copy_list(alloc, &self.kept)?;
         let files = files::copy_list(alloc, &self.files)?;
+        let known = self.known.copy(alloc)?;
         Ok(Parts {
             tasks,
             kept,
             files,
             followed: self.followed,
             spaces: self.spaces,
+            known,
         })
     }
 
@@ -99,7 +106,7 @@ impl Parts {
     pub fn is_known(&self, pid: Pid) -> bool
         ensures { result ≡ is_known pid self.now }
     {
-        self.task_of(pid).is_some()
+        self.known.has(pid) || self.task_of(pid).is_some()
     }
 
     /// The user namespace of a process, the initial one where the pid isn't known.
@@ -169,7 +176,7 @@ impl Parts {
         requires { self.old.spaces < greatest_number }
         ensures { self.new ≡ moved_to_new pid self.old }
     {
-        task::move_to(&mut self.tasks, pid, SpaceId(self.spaces));
+        self.move_to(pid, SpaceId(self.spaces));
         self.spaces += 1;
     }
 
@@ -191,6 +198,7 @@ impl Parts {
     pub fn end(&mut self, pid: Pid)
         ensures { self.new ≡ after_end pid self.old }
     {
+        self.known.forget(pid);
         ordered::remove(&mut self.tasks, pid);
         ordered::remove(&mut self.kept, pid);
         let own = files::count_of(&self.files, pid);
@@ -275,6 +283,7 @@ impl Parts {
             shares,
         };
         task::bear(&mut self.tasks, parent, born);
+        self.known.note(child);
         Ok(())
     }
 

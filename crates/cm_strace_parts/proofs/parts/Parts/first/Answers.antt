@@ -8,4 +8,5 @@ invariant_of-result c = record {
   kept = rw c.new.ensures.items tt;
   files = rw c.new-2.ensures.items (record { processes = tt; each = tt });
   count = rw c.new-2.ensures.items refl;
+  noted = rw (← c.deref.ensures.value) c.in_ok-known.ensures;
 }
