@@ -1,3 +1,5 @@
 -- Lemmas of this crate, by topic.
+pub mod Decimals
+pub mod Ends
 pub mod GroupText
 pub mod Slots

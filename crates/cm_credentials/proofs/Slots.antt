@@ -6,10 +6,11 @@ use Rattle.cm_credentials.specs.Kept.{Keeps, KeepsLine}
 use Rattle.cm_credentials.specs.declared.kept.KeptLines.{KeptLines}
 use Rattle.cm_credentials.specs.declared.kept_line.KeptLine.{KeptLine}
 
--- what the lines keep stays, where another line that keeps it stands in one place
-pub Keeps-set : (names : List (List ℕ)) (old new : KeptLines) (place : ℕ) (line : KeptLine) → Keeps names old
-    → new.lines.items ≡ set old.lines.items place line → KeepsLine names line → Keeps names new
-Keeps-set names old new place line keeps is here = record {
+-- what the lines keep stays, where another line that keeps it stands in one slot
+pub Keeps-set : (names : List (List ℕ)) (old new : KeptLines) (slot : ℕ) (line : KeptLine) → Keeps names old
+    → new.lines.items ≡ set old.lines.items slot line → new.number ≡ old.number → KeepsLine names line → Keeps names new
+Keeps-set names old new slot line keeps is number here = record {
   sixteen = ap length is ∙ simp length-set keeps.sixteen;
-  lines = rw is (All-set (KeepsLine names) old.lines.items place line here keeps.lines);
+  lines = rw is (All-set (KeepsLine names) old.lines.items slot line here keeps.lines);
+  number = rw number keeps.number;
 }

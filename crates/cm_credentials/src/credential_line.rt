@@ -1,5 +1,5 @@
 // The credential line of a process, as text.
-ghost use Rattle.std.specs.Prelude.{◌≡◌, ◌++◌, ◌∷◌, None, codes, decimal, flat_map};
+ghost use Rattle.std.specs.Prelude.{◌≡◌, ◌++◌, ◌∷◌, [], None, codes, decimal, flat_map};
 ghost use Rattle.cm_base.specs.Outcome.{OrNoMemory};
 ghost use Rattle.cm_tokens.specs.Pieces.{Appends};
 ghost use Rattle.model_text.specs.Print.{credential_line, ids_text, groups_text, all_ids_text, sets_text, bounds_text, flags_text};
@@ -45,6 +45,21 @@ pub fn put_credentials(
     put_sets(text, cred)?;
     put_bounds(text, cred)?;
     put_flags(text, cred)
+}
+
+/// The same with its LF.
+pub fn put_credential_line(
+    text: &mut Vec<u8>,
+    cred: &Cred,
+    pid: Pid,
+    space: SpaceId,
+    w: &World,
+) -> Result<(), NoMemory>
+    ensures { OrNoMemory result (λ _. Appends text.old.items text.new.items (credential_line w.now.names
+        (record { pid = pid; forebear = None; space = space.0; cred = cred.now }) ++ 10 ∷ [])) }
+{
+    put_credentials(text, cred, pid, space, w)?;
+    put(text, b"\n")
 }
 
 // The pid and the token of the space.

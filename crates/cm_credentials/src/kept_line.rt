@@ -7,7 +7,7 @@ ghost use Rattle.model_text.specs.Print.{all_ids_text, credential_line};
 
 use crate::kept_ids::{KeptGroups, KeptIds};
 use crate::kept_place::KeptPlace;
-use crate::kept_sets::{KeptBounds, KeptSets};
+use crate::kept_tail::KeptTail;
 use cm_base::{NoMemory, Pid, SpaceId};
 use cm_declared::World;
 use cm_state::Cred;
@@ -27,8 +27,8 @@ impl KeptAllIds {
         ensures { KeepsAllIds result }
     {
         KeptAllIds {
-            user: KeptIds::none(alloc),
-            group: KeptIds::none(alloc),
+            user: KeptIds::none(),
+            group: KeptIds::none(),
             groups: KeptGroups::none(alloc),
         }
     }
@@ -53,8 +53,7 @@ impl KeptAllIds {
 pub(crate) struct KeptLine {
     place: KeptPlace,
     ids: KeptAllIds,
-    sets: KeptSets,
-    bounds: KeptBounds,
+    tail: KeptTail,
 }
 
 impl KeptLine {
@@ -63,10 +62,9 @@ impl KeptLine {
         ensures { (names : List (List ℕ)) → KeepsLine names result }
     {
         KeptLine {
-            place: KeptPlace::none(alloc),
+            place: KeptPlace::none(),
             ids: KeptAllIds::none(alloc),
-            sets: KeptSets::none(alloc),
-            bounds: KeptBounds::none(alloc),
+            tail: KeptTail::none(),
         }
     }
 
@@ -88,7 +86,6 @@ impl KeptLine {
     {
         self.place.put(text, pid, space, w)?;
         self.ids.put(text, cred)?;
-        self.sets.put(text, cred)?;
-        self.bounds.put(text, cred)
+        self.tail.put(text, cred)
     }
 }

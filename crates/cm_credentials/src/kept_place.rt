@@ -1,15 +1,14 @@
 // The place of a kept credential line: a pid and the token of a space, and their text.
-ghost use Rattle.std.specs.Prelude.{◌≡◌, ◌++◌, ℕ, List, codes, decimal};
+ghost use Rattle.std.specs.Prelude.{◌++◌, ℕ, List, codes, decimal};
 ghost use Rattle.cm_base.specs.Outcome.{OrNoMemory};
 ghost use Rattle.cm_credentials.specs.Kept.{KeepsPlace};
 ghost use Rattle.cm_tokens.specs.Pieces.{Appends};
 ghost use Rattle.model_text.specs.SpaceToken.{space_token};
 
 use crate::credential_line::put_place;
+use crate::short_text::ShortText;
 use cm_base::{NoMemory, Pid, SpaceId};
 use cm_declared::World;
-use cm_tokens::put;
-use std::alloc::Global;
 
 /// A pid and a space.
 #[derive(Clone, Copy, Debug, PartialEq, Eq)]
@@ -18,21 +17,21 @@ pub(crate) struct Place {
     space: SpaceId,
 }
 
-/// The pid and the token of the space.
+/// The pid and the token of the space, where their text has no more than 48 bytes.
 #[derive(Debug, Drop)]
 pub(crate) struct KeptPlace {
     shown: Option<Place>,
-    text: Vec<u8>,
+    text: ShortText,
 }
 
 impl KeptPlace {
-    /// Nothing is kept.
-    pub(crate) fn none(alloc: Global) -> KeptPlace
+    /// Nothing is kept. It takes no memory.
+    pub(crate) fn none() -> KeptPlace
         ensures { (names : List (List ℕ)) → KeepsPlace names result }
     {
         KeptPlace {
             shown: None,
-            text: Vec::new(alloc),
+            text: ShortText::empty(),
         }
     }
 
@@ -50,32 +49,32 @@ impl KeptPlace {
             codes " " ++ space_token w.now.names space.0)) }
         ensures keeps { OrNoMemory result (λ _. KeepsPlace w.now.names self.new) }
     {
-        self.show(pid, space, w)?;
-        put(text, &self.text)
+        if self.shown == Some(Place { pid, space }) {
+            return self.text.put(text);
+        }
+        self.write(text, pid, space, w)
     }
 
-    // Sees to it that the part shows these.
-    #[inline]
-    fn show(&mut self, pid: Pid, space: SpaceId, w: &World) -> Result<(), NoMemory>
-        requires { KeepsPlace w.now.names self.old }
-        ensures text { OrNoMemory result (λ _. self.new.text.items ≡ codes "> " ++ decimal pid ++ codes " " ++
-            space_token w.now.names space.0) }
+    // The pid and the token anew, and their text kept where it is short.
+    fn write(
+        &mut self,
+        text: &mut Vec<u8>,
+        pid: Pid,
+        space: SpaceId,
+        w: &World,
+    ) -> Result<(), NoMemory>
+        ensures text { OrNoMemory result (λ _. Appends text.old.items text.new.items (codes "> " ++ decimal pid ++
+            codes " " ++ space_token w.now.names space.0)) }
         ensures keeps { OrNoMemory result (λ _. KeepsPlace w.now.names self.new) }
     {
-        if self.shown == Some(Place { pid, space }) {
+        let from = text.len();
+        put_place(text, pid, space, w)?;
+        self.shown = None;
+        if text.len() - from > 48 {
             return Ok(());
         }
-        self.write(pid, space, w)
-    }
-
-    // The text anew.
-    fn write(&mut self, pid: Pid, space: SpaceId, w: &World) -> Result<(), NoMemory>
-        ensures text { OrNoMemory result (λ _. self.new.text.items ≡ codes "> " ++ decimal pid ++ codes " " ++
-            space_token w.now.names space.0) }
-        ensures keeps { OrNoMemory result (λ _. KeepsPlace w.now.names self.new) }
-    {
+        self.text.keep(text, from)?;
         self.shown = Some(Place { pid, space });
-        self.text.clear();
-        put_place(&mut self.text, pid, space, w)
+        Ok(())
     }
 }

@@ -9,15 +9,15 @@ ghost use Rattle.model_report.specs.Replay.{text_of, step_lines, child_lines, cr
 ghost use Rattle.model_text.specs.Print.{event_text};
 
 use cm_base::{NoMemory, Pid, Res};
-use cm_credentials::{KeptLines, put_credentials};
+use cm_credentials::{KeptLines, put_credential_line};
 use cm_declared::{Placed, World};
 use cm_script::put_line;
 use cm_state::{Event, Proc, State};
-use cm_tokens::{put, put_decimal};
+use cm_tokens::put;
 
 /// The lines of a step to the state: the event, the caller's credentials where it lives on, and those of a child that
-/// was born. Where the event's line stands as events are written, it is given as `own`, and is copied; the credential
-/// lines are made of those that are kept, and are kept.
+/// was born. Where the event's line stands as events are written, it is given as `own`, and is copied; the number of the
+/// line and the credential lines are made of those that are kept, and are kept.
 pub fn put_step(
     text: &mut Vec<u8>,
     w: &World,
@@ -31,7 +31,7 @@ pub fn put_step(
     ensures text { OrNoMemory result (λ _. text.new.items ≡ text.old.items ++ text_of (step_lines (world_of w.now) state.now event.now)) }
     ensures keeps { OrNoMemory result (λ _. Keeps w.now.names kept.new) }
 {
-    put_event(text, w, event, own)?;
+    put_event(text, w, event, own, kept)?;
     put_living(text, w, state, event.event.pid, kept)?;
     put_child(text, w, state, &event.event.res, kept)
 }
@@ -44,12 +44,14 @@ fn put_event(
     w: &World,
     event: &Placed,
     own: Option<&[u8]>,
+    kept: &mut KeptLines,
 ) -> Result<(), NoMemory>
     requires own { IfSome own (λ line. event_text (world_of w.now) event.now.event ≡ line.now) }
-    ensures { OrNoMemory result (λ _. text.new.items ≡ text.old.items ++ text_of (Told (world_of w.now) event.now ∷ [])) }
+    requires keeps { Keeps w.now.names kept.old }
+    ensures text { OrNoMemory result (λ _. text.new.items ≡ text.old.items ++ text_of (Told (world_of w.now) event.now ∷ [])) }
+    ensures keeps { OrNoMemory result (λ _. Keeps w.now.names kept.new) }
 {
-    put_decimal(text, event.line)?;
-    put(text, b": ")?;
+    kept.put_number(text, event.line)?;
     put_event_text(text, w, &event.event, own)?;
     put(text, b"\n")
 }
@@ -124,6 +126,5 @@ fn put_kept(text: &mut Vec<u8>, w: &World, p: &Proc, kept: &mut KeptLines) -> Re
 pub fn put_process(text: &mut Vec<u8>, w: &World, p: &Proc) -> Result<(), NoMemory>
     ensures { OrNoMemory result (λ _. text.new.items ≡ text.old.items ++ text_of (Credentials (world_of w.now) p.now ∷ [])) }
 {
-    put_credentials(text, &p.cred, p.pid, p.space, w)?;
-    put(text, b"\n")
+    put_credential_line(text, &p.cred, p.pid, p.space, w)
 }

@@ -1,5 +1,5 @@
-use Rattle.std.proofs.Common.{sym, codes, None}
-use Rattle.cm_report.proofs.ReportText.{closed, joined_once}
+use Rattle.std.proofs.Common.{sym, refl, None}
+use Rattle.cm_report.proofs.ReportText.{closed}
 use Rattle.cm_report.proofs.steps.put_process.Goals as goal
 use Rattle.cm_declared.specs.World.{world_of}
 use Rattle.model_report.specs.Replay.{Credentials}
@@ -12,5 +12,4 @@ returns c =
     (closed _ _ _ _
     (Credentials (world_of c.args.w.now)
     (record { pid = c.p.inside.pid; forebear = None; space = c.p.inside.space.0; cred = c.deref.result.now }))
-    c.put.ensures
-    (joined_once _ _ _ (codes "\n") c.in_ok-put_credentials.ensures))
+    c.put_credential_line.ensures refl)

@@ -9,3 +9,10 @@ loop-preserved c =
       simp length-append (omega arith),
       λ names. All-push (KeepsLine names) _ _ (c.loop.invariant.1 names) (c.none.ensures names),
     )
+
+pub returns : goal.returns
+returns c = λ names. record {
+  sixteen = omega (arith, c.loop.invariant.0);
+  lines = c.loop.invariant.1 names;
+  number = c.none-2.ensures;
+}

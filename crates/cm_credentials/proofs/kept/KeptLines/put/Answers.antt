@@ -7,5 +7,5 @@ use Rattle.cm_credentials.proofs.kept.KeptLines.put.Goals as goal
 pub returns-clause-keeps : goal.returns-clause-keeps
 returns-clause-keeps c =
     IfOk-weaker c.put.result (λ _. KeepsLine c.args.w.now.names c.put.new.self) _
-    (λ _ here. Keeps-set c.args.w.now.names c.args.self.now _ _ c.put.new.self c.requires.keeps refl here)
+    (λ _ here. Keeps-set c.args.w.now.names c.args.self.now _ _ c.put.new.self c.requires.keeps refl refl here)
     c.put.ensures.keeps

@@ -1,0 +1,22 @@
+-- What was written last, found at the end of a text.
+use Rattle.std.proofs.Common.{◌≡◌, ℕ, ◌-◌, ◌≤◌, List, ◌++◌, length, drop, refl, ap, ◌∙◌, arith, append_assoc, length-append}
+use Rattle.std.proofs.lemmas.List.{drop_at}
+
+-- there are as many bytes
+pub end_fits : (text front piece : List ℕ) (room : ℕ) → text ≡ front ++ piece → length piece ≡ room → room ≤ length text
+end_fits text front piece room is long = rw is (omega (arith, length-append front piece))
+
+-- and they are the piece
+pub end_is : (text front piece : List ℕ) (room : ℕ) → text ≡ front ++ piece → length piece ≡ room
+    → drop (length text - room) text ≡ piece
+end_is text front piece room is long =
+    let before : length front ≡ length (front ++ piece) - room = omega (arith, length-append front piece) in
+    rw is (drop_at front piece (length (front ++ piece) - room) before)
+
+-- two pieces written one after the other
+pub two_pieces : (front once twice a b : List ℕ) → once ≡ front ++ a → twice ≡ once ++ b → twice ≡ front ++ (a ++ b)
+two_pieces front once twice a b first last = last ∙ ap (λ t. t ++ b) first ∙ append_assoc front a b
+
+-- what stands after the front
+pub after_front : (text front piece : List ℕ) (from : ℕ) → text ≡ front ++ piece → from ≡ length front → drop from text ≡ piece
+after_front text front piece from is start = rw (is, start) (drop_at front piece (length front) refl)
