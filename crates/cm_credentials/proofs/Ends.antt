@@ -1,5 +1,5 @@
 -- What was written last, found at the end of a text.
-use Rattle.std.proofs.Common.{◌≡◌, ℕ, ◌-◌, ◌≤◌, List, ◌++◌, length, drop, refl, ap, ◌∙◌, arith, append_assoc, length-append}
+use Rattle.std.proofs.Common.{◌≡◌, ℕ, ◌-◌, ◌≤◌, List, ◌++◌, length, drop, ap, ◌∙◌, arith, append_assoc, length-append}
 use Rattle.std.proofs.lemmas.List.{drop_at}
 
 -- there are as many bytes
@@ -16,7 +16,3 @@ end_is text front piece room is long =
 -- two pieces written one after the other
 pub two_pieces : (front once twice a b : List ℕ) → once ≡ front ++ a → twice ≡ once ++ b → twice ≡ front ++ (a ++ b)
 two_pieces front once twice a b first last = last ∙ ap (λ t. t ++ b) first ∙ append_assoc front a b
-
--- what stands after the front
-pub after_front : (text front piece : List ℕ) (from : ℕ) → text ≡ front ++ piece → from ≡ length front → drop from text ≡ piece
-after_front text front piece from is start = rw (is, start) (drop_at front piece (length front) refl)

@@ -1,15 +1,13 @@
 -- Pids that stand at the front of a line, digit by digit.
-use Rattle.std.proofs.Common.{◌≡◌, ℕ, ◌+◌, ◌-◌, ◌*◌, ◌<◌, ◌≤◌, ◌==◌, suc, length, take, true, false, List, [], ◌∷◌, Option, Some, None, refl, ap, ◌∙◌, arith, inl, inr}
-use Rattle.std.proofs.lemmas.Bool.{cases_Bool, ne_eqb}
+use Rattle.std.proofs.Common.{◌≡◌, ℕ, ◌+◌, ◌-◌, ◌*◌, ◌<◌, suc, length, take, true, false, List, ◌∷◌, Option, None, refl, ap, ◌∙◌, arith}
 use Rattle.std.specs.List.{list_all, prefix_len}
 use Rattle.std.specs.Prelude.{fold, nat_le, if◌then◌else◌}
-use Rattle.cm_base.specs.Limits.{greatest_number, last_pid}
+use Rattle.cm_base.specs.Limits.{greatest_number}
 use Rattle.cm_base.specs.Number.{is_digit}
 use Rattle.cm_strace_text.proofs.Cuts.{no_blank}
 use Rattle.model_cred.specs.Process.{as_pid}
 use Rattle.model_strace.specs.Marks.{first_word, after_first_word}
 use Rattle.model_text.specs.Cut.{is_blank}
-use Rattle.model_text.specs.Token.{pid_token}
 
 -- the number that digits spell after digits of that value
 abbrev pub number_on : ℕ → List ℕ → ℕ
@@ -21,20 +19,6 @@ pid_on number text =
     if list_all (is_digit 10) text
     then (if nat_le (number_on number text) greatest_number then as_pid (number_on number text) else None)
     else None
-
--- a pid begins with no digit
-pub pid_begins : (text : List ℕ) → pid_token text ≡ pid_on 0 text
-pid_begins [] = refl
-pid_begins (byte ∷ text) =
-    let some : (length (byte ∷ text) == 0) ≡ false = ne_eqb (length (byte ∷ text)) 0 (λ h. omega arith) in
-    elim (cases_Bool (list_all (is_digit 10) (byte ∷ text))) [
-      | inr other ↦ rw (some, other) refl
-      | inl digits ↦
-          elim (cases_Bool (nat_le (number_on 0 (byte ∷ text)) greatest_number)) [
-            | inl small ↦ rw (some, digits, small) refl
-            | inr large ↦ rw (some, digits, large) refl
-          ]
-    ]
 
 -- a digit is no blank
 digit_shows : (digit : ℕ) → digit < 10 → is_blank (48 + digit) ≡ false
@@ -66,7 +50,3 @@ rest_goes_on digit text low =
     let more : 1 + n ≡ suc n = omega arith in
     let longer : length ((48 + digit) ∷ take n text) ≡ suc (length (take n text)) = omega arith in
     rw (digit_shows digit low, more, longer) refl
-
--- and it ends with a word
-pub pid_ends : (number : ℕ) → 1 ≤ number → number ≤ last_pid → pid_on number [] ≡ Some number
-pid_ends number low high = grind arith
