@@ -9,3 +9,4 @@ pub mod Kept
 pub mod Cutting
 pub mod Given
 pub mod Coming
+pub mod Tallies

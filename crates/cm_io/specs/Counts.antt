@@ -1,11 +1,12 @@
 -- What is counted under names: faults, reads, and the bytes that were taken.
 use Rattle.std.specs.Prelude.{◌≡◌, ◌≢◌, ◌≤◌, ◌+◌, ◌-◌, ◌^◌, ℕ, min, Bool, if◌then◌else◌, List, [], ◌∷◌, ◌++◌, map, string_bytes}
-use Rattle.std.specs.Prelude.{Result, Ok, Err, IsTrue}
+use Rattle.std.specs.Prelude.{Result, Ok, Err, Option, None, Some, IsTrue}
 use Rattle.std.specs.Str.{bytes_eq}
 use Rattle.cm_io.specs.Names.{is_among}
 use Rattle.cm_io.specs.Shelf.{ReadFaults, CountsOn, reads_made, bytes_given}
 use Rattle.cm_io.specs.declared.counts.Count.{Count}
 use Rattle.cm_io.specs.declared.counts.Counts.{Counts}
+use Rattle.cm_io.specs.declared.counts.Tally.{Tally}
 use Rattle.cm_io.specs.declared.outside.Outside.{Outside}
 use Rattle.cm_io.specs.declared.outside.Outside.TheVariants.{Failed, NoMemory}
 
@@ -57,6 +58,17 @@ reads_of counts name = count_of (λ row. row.reads) counts.rows.items name
 -- the bytes that were taken under a name
 abbrev pub taken_of : Counts → List ℕ → ℕ
 taken_of counts name = count_of (λ row. row.taken) counts.rows.items name
+
+-- all that is counted under a name, where it has counts
+abbrev pub tally_of : Counts → List ℕ → Option Tally
+tally_of counts name =
+    if counts_name counts name
+    then Some (record {
+      faults = faults_of counts name;
+      reads = reads_of counts name;
+      taken = taken_of counts name;
+    })
+    else None
 
 -- no read was made, no byte was taken, and nothing failed
 pub record StartsCounts (counts : Counts) : Type 0 where

@@ -1,10 +1,20 @@
 // What a shelf counts under the names of files: how often a read failed, how many reads there were, and how
 // many bytes they gave.
 ghost use Rattle.std.specs.Prelude.{◌≡◌, ◌≤◌, length, map, string_bytes, is_ok, IfOk};
+ghost use Rattle.cm_io.specs.Counts.{tally_of};
 ghost use Rattle.cm_io.specs.Names.{place_of};
 
 use crate::{NoMemory, Outside};
 use std::alloc::Global;
+
+/// What a shelf in memory counts of the reads of a name: those that failed, all that were made, and the bytes that they
+/// gave.
+#[derive(Clone, Copy, Debug, PartialEq, Eq)]
+pub struct Tally {
+    pub faults: u64,
+    pub reads: u64,
+    pub taken: u64,
+}
 
 /// A name, and what is counted under it. A count stays at its last value, 2^64 - 1.
 #[derive(Drop)]
@@ -27,6 +37,17 @@ impl Count {
             faults: 0,
             reads: 0,
             taken: 0,
+        }
+    }
+
+    // What is counted.
+    fn tally(&self) -> Tally
+        ensures { result ≡ record { faults = self.now.faults; reads = self.now.reads; taken = self.now.taken } }
+    {
+        Tally {
+            faults: self.faults,
+            reads: self.reads,
+            taken: self.taken,
         }
     }
 
@@ -89,6 +110,18 @@ impl Counts {
             }
         }
         self.rows.len()
+    }
+
+    /// What is counted under a name. None exactly where it has no counts.
+    pub(crate) fn tally(&self, name: &str) -> Option<Tally>
+        ensures { result ≡ tally_of self.now name.now }
+    {
+        let place = self.place_of(name);
+        if place < self.rows.len() {
+            Some(self.rows[place].tally())
+        } else {
+            None
+        }
     }
 
     /// Gives a name that has no counts yet counts of its own, after all others. Where memory runs out nothing changes.

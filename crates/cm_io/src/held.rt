@@ -2,7 +2,7 @@
 ghost use Rattle.std.specs.Prelude.{◌≡◌, ◌≤◌, ◌-◌, [], vec_len, length, take, drop, min, map, string_bytes};
 ghost use Rattle.std.specs.Prelude.{IfOk, IfSome, IfNone, is_ok, is_some};
 
-use crate::counts::Counts;
+use crate::counts::{Counts, Tally};
 use crate::{NoMemory, Outside};
 use std::alloc::Global;
 
@@ -10,14 +10,14 @@ use std::alloc::Global;
 #[derive(Drop)]
 pub(crate) struct Held {
     alloc: Global,
-    pub(crate) counts: Counts,
+    counts: Counts,
     texts: Vec<Vec<u8>>,
     ghost names_first: { vec_len texts ≤ vec_len counts.rows },
 }
 
 impl Held {
     ghost use Rattle.cm_io.specs.Shelf.{bytes_at};
-    ghost use Rattle.cm_io.specs.Counts.{names_of, StartsCounts, NotesName, CountsRead};
+    ghost use Rattle.cm_io.specs.Counts.{names_of, tally_of, StartsCounts, NotesName, CountsRead};
     ghost use Rattle.cm_io.specs.Held.{files_of, held_files, is_held};
 
     /// Files that hold `texts` under `names`. All counts are 0.
@@ -58,6 +58,13 @@ impl Held {
         } else {
             None
         }
+    }
+
+    /// What is counted under a name. None exactly where it has no counts.
+    pub(crate) fn tally(&self, name: &str) -> Option<Tally>
+        ensures { result ≡ tally_of self.now.counts name.now }
+    {
+        self.counts.tally(name)
     }
 
     /// Counts a read under its name, where that has counts.

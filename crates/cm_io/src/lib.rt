@@ -23,6 +23,7 @@ mod sure;
 mod turns;
 mod whole;
 
+pub use counts::Tally;
 pub use cutter::{CutError, LineCutter};
 pub use memory::{MemShelf, MemSink};
 pub use names::are_distinct;
@@ -32,6 +33,3 @@ pub use shelf::Shelf;
 pub use sink::Sink;
 pub use sure::{SureShelf, SureSink};
 pub use whole::{WholeError, read_whole, write_all};
-
-#[cfg(test)]
-mod tests;

@@ -3,6 +3,7 @@
 ghost use Rattle.std.specs.Prelude.{◌≡◌, vec_len};
 
 use crate::breaks::Breaks;
+use crate::counts::Tally;
 use crate::held::{Held, copy_part};
 use crate::turns::Turns;
 use crate::{NoMemory, Outside, Shelf, Sink};
@@ -14,7 +15,7 @@ use std::alloc::Global;
 /// It counts the reads of every name, and the bytes. A name that isn't held is noted at its first read.
 #[derive(Drop)]
 pub struct MemShelf {
-    pub(crate) files: Held,
+    files: Held,
     turns: Turns,
     breaks: Breaks,
     widest: usize,
@@ -24,7 +25,7 @@ impl MemShelf {
     ghost use Rattle.std.specs.Prelude.{◌++◌, ◌∷◌, [], ℕ, List, Some, IfOk, OnErr, IsTrue, true, map, string_bytes};
     ghost use Rattle.cm_io.specs.Names.{are_distinct};
     ghost use Rattle.cm_io.specs.Held.{files_of};
-    ghost use Rattle.cm_io.specs.Counts.{names_of};
+    ghost use Rattle.cm_io.specs.Counts.{names_of, tally_of};
     ghost use Rattle.cm_io.specs.Turns.{StartsTurns};
     ghost use Rattle.cm_io.specs.Memory.{shelf_turns, shelf_counts, shelf_breaks, shelf_widest};
 
@@ -69,6 +70,13 @@ impl MemShelf {
         ensures widest { shelf_widest self.new ≡ shelf_widest self.old }
     {
         self.breaks.add(name, at)
+    }
+
+    /// What is counted under a name; None exactly where it wasn't noted.
+    pub fn tally(&self, name: &str) -> Option<Tally>
+        ensures { result ≡ tally_of (shelf_counts self.now) name.now }
+    {
+        self.files.tally(name)
     }
 
     /// How many bytes the longest buffer has that it was asked to fill, by a read that was made; 0 where none was.

@@ -1,6 +1,7 @@
 // A shelf and a sink in memory whose device never fails.
 ghost use Rattle.std.specs.Prelude.{◌≡◌, vec_len};
 
+use crate::counts::Tally;
 use crate::held::{Held, copy_part};
 use crate::{NoMemory, Outside, Shelf, Sink};
 use std::alloc::Global;
@@ -9,14 +10,14 @@ use std::alloc::Global;
 /// that isn't held is noted at its first read.
 #[derive(Drop)]
 pub struct SureShelf {
-    pub(crate) files: Held,
+    files: Held,
 }
 
 impl SureShelf {
     ghost use Rattle.std.specs.Prelude.{ℕ, List, Some, IfOk, IsTrue, true, map, string_bytes};
     ghost use Rattle.cm_io.specs.Names.{are_distinct};
     ghost use Rattle.cm_io.specs.Held.{files_of};
-    ghost use Rattle.cm_io.specs.Counts.{names_of};
+    ghost use Rattle.cm_io.specs.Counts.{names_of, tally_of};
     ghost use Rattle.cm_io.specs.Sure.{sure_counts};
 
     /// A shelf that holds `texts` under `names`. It takes and gives what `MemShelf::new` does, but for the
@@ -38,6 +39,13 @@ impl SureShelf {
         Ok(SureShelf {
             files: Held::new(alloc, names, texts)?,
         })
+    }
+
+    /// What is counted under a name; None exactly where it wasn't noted.
+    pub fn tally(&self, name: &str) -> Option<Tally>
+        ensures { result ≡ tally_of (sure_counts self.now) name.now }
+    {
+        self.files.tally(name)
     }
 }
 

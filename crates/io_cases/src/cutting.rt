@@ -2,7 +2,11 @@
 ghost use Rattle.std.specs.Prelude.{◌≡◌};
 ghost use Rattle.cm_io.specs.Cutter.{Fits};
 
-use super::*;
+use crate::shelves::check_tally;
+use cm_io::{CutError, LineCutter, MemShelf, Shelf, are_distinct};
+use std::alloc::{AllocError, Global};
+use std::process::Abort;
+use std::test::Fail;
 
 // A shelf in memory with one file, `log`.
 fn shelf_of(rt: &impl Abort, alloc: Global, text: &[u8], fail: &[u64]) -> Result<MemShelf, Fail> {
@@ -154,7 +158,7 @@ fn a_line_is_longer_than_a_piece(rt: HostRuntime) -> Result<(), Fail> {
     assert!(rt; cutter.is_at_hand());
     assert!(rt; shelf.widest() == 65_536);
     // One read for each piece, and one that tells of the end.
-    check_counts(&rt, &shelf.files, "log", Some([0, 3, 70_003]));
+    check_tally(&rt, shelf.tally("log"), Some([0, 3, 70_003]));
     Ok(())
 }
 
