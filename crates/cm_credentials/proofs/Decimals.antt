@@ -1,10 +1,9 @@
--- Decimal numbers and their lengths: the next number, and four ids joined by commas.
+-- Decimal numbers and their lengths: the next number, and ids.
 use Rattle.std.proofs.Common.{◌≡◌, ℕ, ◌+◌, ◌-◌, ◌/◌, ◌%◌, ◌^◌, ◌<◌, ◌≤◌, List, [], ◌∷◌, ◌++◌, inl, inr, codes, decimal, length, set}
 use Rattle.std.proofs.Common.{sym, ap, ◌∙◌, arith, append_assoc, length-append}
 use Rattle.std.proofs.lemmas.Bool.{cases_lt}
 use Rattle.std.proofs.lemmas.List.{set_at}
 use Rattle.std.proofs.lemmas.Fmt.{decimal_digit, decimal_step, length-decimal-le}
-use Rattle.model_text.specs.Print.{comma_list}
 
 -- the last digit before a colon and a space, made another
 last_digit : (front : List ℕ) (x y : ℕ) → set (front ++ x ∷ [] ++ codes ": ") (length (front ++ x ∷ [] ++ codes ": ") - 3) y
@@ -38,12 +37,6 @@ number_length n small =
     let digits : length (decimal n) ≤ 20 = length-decimal-le 20 n (omega arith) (omega arith) small in
     simp length-append (omega arith)
 
--- four ids joined by commas
-pub ids_length : (a b c d : ℕ) → a < 2 ^ 32 → b < 2 ^ 32 → c < 2 ^ 32 → d < 2 ^ 32
-    → length (comma_list (a ∷ b ∷ c ∷ d ∷ [])) ≤ 43
-ids_length a b c d sa sb sc sd =
-    let da : length (decimal a) ≤ 10 = length-decimal-le 10 a (omega arith) (omega arith) (omega arith) in
-    let db : length (decimal b) ≤ 10 = length-decimal-le 10 b (omega arith) (omega arith) (omega arith) in
-    let dc : length (decimal c) ≤ 10 = length-decimal-le 10 c (omega arith) (omega arith) (omega arith) in
-    let dd : length (decimal d) ≤ 10 = length-decimal-le 10 d (omega arith) (omega arith) (omega arith) in
-    simp length-append (omega arith)
+-- an id
+pub id_length : (n : ℕ) → n < 2 ^ 32 → length (decimal n) ≤ 10
+id_length n small = length-decimal-le 10 n (omega arith) (omega arith) (omega arith)

@@ -1,5 +1,5 @@
 -- What was written last, found at the end of a text.
-use Rattle.std.proofs.Common.{◌≡◌, ℕ, ◌-◌, ◌≤◌, List, ◌++◌, length, drop, ap, ◌∙◌, arith, append_assoc, length-append}
+use Rattle.std.proofs.Common.{◌≡◌, ℕ, ◌-◌, ◌≤◌, List, ◌++◌, length, drop, arith, length-append}
 use Rattle.std.proofs.lemmas.List.{drop_at}
 
 -- there are as many bytes
@@ -12,7 +12,3 @@ pub end_is : (text front piece : List ℕ) (room : ℕ) → text ≡ front ++ pi
 end_is text front piece room is long =
     let before : length front ≡ length (front ++ piece) - room = omega (arith, length-append front piece) in
     rw is (drop_at front piece (length (front ++ piece) - room) before)
-
--- two pieces written one after the other
-pub two_pieces : (front once twice a b : List ℕ) → once ≡ front ++ a → twice ≡ once ++ b → twice ≡ front ++ (a ++ b)
-two_pieces front once twice a b first last = last ∙ ap (λ t. t ++ b) first ∙ append_assoc front a b

@@ -3,3 +3,5 @@ pub mod Decimals
 pub mod Ends
 pub mod GroupText
 pub mod Slots
+pub mod TailText
+pub mod Texts

@@ -20,11 +20,11 @@ const LINES: u32 = 16;
 /// A line is kept where it has no more groups than these.
 const MOST_KEPT_GROUPS: usize = 40;
 
-/// The last credential lines of some processes, as text in parts, with the values that each part shows. A report has
-/// such a line after each event, and most of it is the same as the last time: what is the same is copied, what differs
-/// is written anew. Each line is compared with all that it is to show, so that what is kept needs no tie to the state:
-/// whatever process a line was of, the next one is right. Memory is bounded: there are sixteen lines, by the pid's
-/// remainder, and a line of more than forty groups isn't kept. The number of the last line is kept, too.
+/// The last credential lines of some processes, as text in parts, and the number of the last line of the report, each with
+/// the values that the text shows. A report has a credential line after each event, and most of it is the same as the
+/// last time: what is the same is copied, what differs is written anew. Each line is compared with all that it is to show,
+/// so that what is kept needs no tie to the state: whatever process a line was of, the next one is right. Memory is
+/// bounded: there are sixteen lines, by the pid's remainder, and a line of more than forty groups isn't kept.
 #[derive(Debug, Drop)]
 pub struct KeptLines {
     lines: Vec<KeptLine>,

@@ -1,13 +1,15 @@
 // A credential line kept in parts.
 ghost use Rattle.std.specs.Prelude.{◌++◌, ◌≤◌, ◌∷◌, [], ℕ, List, None, length};
 ghost use Rattle.cm_base.specs.Outcome.{OrNoMemory};
-ghost use Rattle.cm_credentials.specs.Kept.{KeepsAllIds, KeepsLine};
+ghost use Rattle.cm_credentials.specs.Kept.{KeepsGroups, KeepsLine};
 ghost use Rattle.cm_tokens.specs.Pieces.{Appends};
 ghost use Rattle.model_text.specs.Print.{all_ids_text, credential_line};
 
-use crate::kept_ids::{KeptGroups, KeptIds};
+use crate::kept_groups::KeptGroups;
 use crate::kept_place::KeptPlace;
-use crate::kept_tail::KeptTail;
+use crate::shown_ids::{LabelledIds, ShownIds};
+use crate::shown_tail::ShownTail;
+use crate::two_shown::TwoShown;
 use cm_base::{NoMemory, Pid, SpaceId};
 use cm_declared::World;
 use cm_state::Cred;
@@ -16,19 +18,19 @@ use std::alloc::Global;
 /// The ids of a process, of the user and of the group, and its supplementary groups, in parts.
 #[derive(Debug, Drop)]
 pub(crate) struct KeptAllIds {
-    user: KeptIds,
-    group: KeptIds,
+    user: TwoShown<ShownIds>,
+    group: TwoShown<ShownIds>,
     groups: KeptGroups,
 }
 
 impl KeptAllIds {
     /// No part is kept. It takes no memory.
     fn none(alloc: Global) -> KeptAllIds
-        ensures { KeepsAllIds result }
+        ensures { KeepsGroups result.groups }
     {
         KeptAllIds {
-            user: KeptIds::none(),
-            group: KeptIds::none(),
+            user: TwoShown::of(ShownIds::none(), ShownIds::none()),
+            group: TwoShown::of(ShownIds::none(), ShownIds::none()),
             groups: KeptGroups::none(alloc),
         }
     }
@@ -37,13 +39,25 @@ impl KeptAllIds {
     #[inline]
     #[tactic(auto, unfolding(model_text::specs::Print::all_ids_text))]
     fn put(&mut self, text: &mut Vec<u8>, cred: &Cred) -> Result<(), NoMemory>
-        requires keeps { KeepsAllIds self.old }
+        requires keeps { KeepsGroups self.old.groups }
         requires few { length cred.now.groups ≤ 40 }
         ensures text { OrNoMemory result (λ _. Appends text.old.items text.new.items (all_ids_text cred.now)) }
-        ensures keeps { OrNoMemory result (λ _. KeepsAllIds self.new) }
+        ensures keeps { OrNoMemory result (λ _. KeepsGroups self.new.groups) }
     {
-        self.user.put(text, b" uid=", cred.user_ids())?;
-        self.group.put(text, b" gid=", cred.group_ids())?;
+        self.user.put(
+            text,
+            &LabelledIds {
+                letter: b'u',
+                ids: cred.user_ids(),
+            },
+        )?;
+        self.group.put(
+            text,
+            &LabelledIds {
+                letter: b'g',
+                ids: cred.group_ids(),
+            },
+        )?;
         self.groups.put(text, cred.groups.items())
     }
 }
@@ -53,7 +67,7 @@ impl KeptAllIds {
 pub(crate) struct KeptLine {
     place: KeptPlace,
     ids: KeptAllIds,
-    tail: KeptTail,
+    tail: TwoShown<ShownTail>,
 }
 
 impl KeptLine {
@@ -64,7 +78,7 @@ impl KeptLine {
         KeptLine {
             place: KeptPlace::none(),
             ids: KeptAllIds::none(alloc),
-            tail: KeptTail::none(),
+            tail: TwoShown::of(ShownTail::none(), ShownTail::none()),
         }
     }
 

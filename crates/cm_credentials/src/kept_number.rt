@@ -6,7 +6,6 @@ ghost use Rattle.cm_tokens.specs.Pieces.{Appends};
 
 use crate::short_text::ShortText;
 use cm_base::NoMemory;
-use cm_tokens::{put, put_decimal};
 
 /// A number in decimal, and a colon and a space. Most numbers are one more than the last one.
 #[derive(Debug, Drop)]
@@ -58,10 +57,10 @@ impl KeptNumber {
         ensures text { OrNoMemory result (λ _. Appends text.old.items text.new.items (decimal number ++ codes ": ")) }
         ensures keeps { OrNoMemory result (λ _. KeepsNumber self.new) }
     {
-        let from = text.len();
-        put_decimal(text, number)?;
-        put(text, b": ")?;
+        self.text.clear();
+        self.text.write_before(b": ");
+        self.text.write_decimal_before(number);
         self.shown = Some(number);
-        self.text.keep(text, from)
+        self.text.put(text)
     }
 }

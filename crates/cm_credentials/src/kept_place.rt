@@ -6,7 +6,7 @@ ghost use Rattle.cm_tokens.specs.Pieces.{Appends};
 ghost use Rattle.model_text.specs.SpaceToken.{space_token};
 
 use crate::credential_line::put_place;
-use crate::short_text::ShortText;
+use crate::short_text::{MOST, ShortText};
 use cm_base::{NoMemory, Pid, SpaceId};
 use cm_declared::World;
 
@@ -70,10 +70,11 @@ impl KeptPlace {
         let from = text.len();
         put_place(text, pid, space, w)?;
         self.shown = None;
-        if text.len() - from > 48 {
+        if text.len() - from > MOST {
             return Ok(());
         }
-        self.text.keep(text, from)?;
+        self.text.clear();
+        self.text.write_before(&text[from..]);
         self.shown = Some(Place { pid, space });
         Ok(())
     }

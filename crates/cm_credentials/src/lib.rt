@@ -3,12 +3,14 @@
 
 mod credential_line;
 mod kept;
-mod kept_ids;
+mod kept_groups;
 mod kept_line;
 mod kept_number;
 mod kept_place;
-mod kept_tail;
 mod short_text;
+mod shown_ids;
+mod shown_tail;
+mod two_shown;
 
 pub use credential_line::{credentials, put_credential_line, put_credentials};
 pub use kept::KeptLines;
