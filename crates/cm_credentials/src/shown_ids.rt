@@ -11,8 +11,18 @@ use std::marker::Model;
 /// Four ids, and the letter of their label: `u` for user ids, `g` for group ids.
 #[derive(Clone, Copy, Debug, PartialEq, Eq)]
 pub(crate) struct LabelledIds {
-    pub(crate) letter: u8,
-    pub(crate) ids: FourIds,
+    letter: u8,
+    ids: FourIds,
+}
+
+impl LabelledIds {
+    /// Those ids.
+    #[inline]
+    pub(crate) fn new(letter: u8, ids: FourIds) -> LabelledIds
+        ensures { result ≡ record { letter = letter; ids = ids } }
+    {
+        LabelledIds { letter, ids }
+    }
 }
 
 /// Four ids with their text.
