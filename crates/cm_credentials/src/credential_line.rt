@@ -94,7 +94,7 @@ fn put_all_ids(text: &mut Vec<u8>, cred: &Cred) -> Result<(), NoMemory>
 
 #[inline]
 #[tactic(auto, unfolding(model_text::specs::Print::ids_text))]
-pub(crate) fn put_ids(text: &mut Vec<u8>, ids: FourIds) -> Result<(), NoMemory>
+fn put_ids(text: &mut Vec<u8>, ids: FourIds) -> Result<(), NoMemory>
     ensures { OrNoMemory result (λ _. Appends text.old.items text.new.items (ids_text ids)) }
 {
     put_decimal(text, ids.real as u64)?;
