@@ -43,16 +43,12 @@ pub fn named_call(text: &[u8]) -> Option<Listed>
 fn read_name(text: &[u8]) -> Option<Listed>
     ensures { option_map listed_is result ≡ listed_named (call_name text.now) }
 {
-    if text.starts_with(b"close(") {
-        return Some(Listed::Close);
+    match text {
+        [b'c', b'l', b'o', b's', b'e', b'(', ..] => Some(Listed::Close),
+        [b'w', b'r', b'i', b't', b'e', b'(', ..] => Some(Listed::Write),
+        [b'o', b'p', b'e', b'n', b'a', b't', b'(', ..] => Some(Listed::OpenAt),
+        _ => Listed::from_name(call_name(text)),
     }
-    if text.starts_with(b"write(") {
-        return Some(Listed::Write);
-    }
-    if text.starts_with(b"openat(") {
-        return Some(Listed::OpenAt);
-    }
-    Listed::from_name(call_name(text))
 }
 
 /// What the text of a call of a process tells.

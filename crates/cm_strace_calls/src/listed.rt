@@ -4,6 +4,8 @@ ghost use Rattle.cm_strace_calls.specs.Told.{listed_is};
 ghost use Rattle.cm_strace_values.specs.Tables.{rows_of};
 ghost use Rattle.model_strace.specs.Calls.{listed_named};
 
+use cm_strace_text::is_word;
+
 /// One of the eight calls that set ids.
 #[derive(Clone, Copy, Debug)]
 pub enum IdCall {
@@ -142,7 +144,7 @@ fn call_named(name: &[u8], table: &[(&str, Listed)]) -> Option<Listed>
         ≡ option_map (λ call. call.1) (find (λ call. bytes_eq call.0 name.now) (rows_of listed_is table.now)) }
 {
     for call in table {
-        if call.0.as_bytes() == name {
+        if is_word(call.0.as_bytes(), name) {
             return Some(call.1);
         }
     }

@@ -6,7 +6,7 @@ ghost use Rattle.model_strace.specs.Written as model;
 ghost use Rattle.model_strace.specs.Written.{opens, closes, depth_after, is_outside, comma_parts, arguments_of, before_closing};
 
 use crate::blanks::trimmed;
-use memchr::memchr2;
+use crate::spans::span_to;
 
 // How deep a reader is in brackets of any kind: in no quotes; in quotes; in quotes, after a backslash.
 #[derive(Clone, Copy)]
@@ -114,10 +114,7 @@ fn quoted_stop(depth: usize, text: &[u8], from: usize) -> usize
     ensures within { result ≤ length text.now }
 {
     let (_, rest) = text.split_at(from);
-    match memchr2(b'"', b'\\', rest) {
-        Some(at) => from + at,
-        None => text.len(),
-    }
+    from + span_to(b'"', b'\\', rest)
 }
 
 // The same byte by byte.

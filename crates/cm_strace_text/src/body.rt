@@ -7,7 +7,7 @@ ghost use Rattle.model_strace.specs.Marks.{without_front, after_mark};
 ghost use Rattle.model_text.specs.Cut.{tokens_of};
 
 use crate::blanks::{cut_word, without_front};
-use crate::marks::{after_mark, before_mark};
+use crate::marks::{after_mark, before_mark, is_word};
 use cm_base::{BadNumber, read_u32};
 use cm_tokens::next_token;
 
@@ -138,7 +138,11 @@ fn after_word<'a>(wanted: &[u8], text: &'a [u8]) -> Option<&'a [u8]>
     ensures { option_map (λ rest. tokens_of rest.now) result ≡ after_words (wanted.now ∷ []) (tokens_of text.now) }
 {
     match next_token(text) {
-        Some((word, rest)) => if word == wanted { Some(rest) } else { None },
+        Some((word, rest)) => if is_word(wanted, word) {
+            Some(rest)
+        } else {
+            None
+        },
         None => None,
     }
 }

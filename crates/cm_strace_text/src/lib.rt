@@ -12,12 +12,13 @@ mod names;
 mod pids;
 mod quoted;
 mod row;
+mod spans;
 mod written;
 
 pub use arguments::{next_argument, read_arguments};
 pub use blanks::{trimmed, without_front};
 pub use body::{Body, read_body};
-pub use marks::{after_mark, before_mark, cut_at};
+pub use marks::{after_mark, before_mark, cut_at, is_word};
 pub use members::{bracketed, bracketed_whole, value_of};
 pub use names::{call_name, cut_name, ends_name, without_32};
 pub use quoted::{Quote, read_quote};

@@ -1,5 +1,5 @@
 // Marks in lines, and what stands before and after them.
-ghost use Rattle.std.specs.Prelude.{◌≡◌, ◌<◌, IfSome, length, option_map};
+ghost use Rattle.std.specs.Prelude.{◌≡◌, bytes_eq, option_map};
 ghost use Rattle.model_strace.specs.Marks.{after_mark, before_mark, cut_at};
 
 /// What follows the mark at the text's front. None exactly where it isn't there.
@@ -7,10 +7,13 @@ ghost use Rattle.model_strace.specs.Marks.{after_mark, before_mark, cut_at};
 pub fn after_mark<'a>(mark: &[u8], text: &'a [u8]) -> Option<&'a [u8]>
     ensures { option_map (λ rest. rest.now) result ≡ after_mark mark.now text.now }
 {
-    if !text.starts_with(mark) {
-        return None;
+    let mut rest = text;
+    for byte in mark {
+        match rest {
+            [first, after @ ..] if *first == *byte => rest = after,
+            _ => return None,
+        }
     }
-    let (_, rest) = text.split_at(mark.len());
     Some(rest)
 }
 
@@ -19,11 +22,20 @@ pub fn after_mark<'a>(mark: &[u8], text: &'a [u8]) -> Option<&'a [u8]>
 pub fn before_mark<'a>(mark: &[u8], text: &'a [u8]) -> Option<&'a [u8]>
     ensures { option_map (λ front. front.now) result ≡ before_mark mark.now text.now }
 {
-    if !text.ends_with(mark) {
-        return None;
+    let (front, end) = text.split_at(text.len().saturating_sub(mark.len()));
+    if is_word(end, mark) {
+        Some(front)
+    } else {
+        None
     }
-    let (front, _) = text.split_at(text.len() - mark.len());
-    Some(front)
+}
+
+/// The text is that word: most texts are told from it by their lengths.
+#[inline]
+pub fn is_word(word: &[u8], text: &[u8]) -> bool
+    ensures { result ≡ bytes_eq text.now word.now }
+{
+    text.len() == word.len() && after_mark(text, word).is_some()
 }
 
 /// What precedes and what follows the first place of a mark. None exactly where it has none.

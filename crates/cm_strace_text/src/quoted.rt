@@ -1,15 +1,17 @@
 // Quoted texts as strace(1) writes them, with its escapes.
-ghost use Rattle.std.specs.Prelude.{◌≡◌, ◌==◌, [], Some, find, option_map};
+ghost use Rattle.std.specs.Prelude.{◌≡◌, ◌≤◌, ◌==◌, [], Some, find, length, option_map};
 ghost use Rattle.cm_base.specs.Outcome.{OrNoMemory};
 ghost use Rattle.cm_strace_text.specs.Quotes.{reach_is, step_is, preceded, quote_is, IsShort, GoesShort};
 ghost use Rattle.cm_strace_text.specs.declared.quoted.Reach.TheVariants.{Octal};
 ghost use Rattle.model_strace.specs.Quoted as model;
 ghost use Rattle.model_strace.specs.Quoted.{escapes, escape_step, is_octal, octal_end, slash_step, step, text_step};
-ghost use Rattle.model_strace.specs.Quoted.{unquoted, quote_of, quote_before, whole_text};
+ghost use Rattle.model_strace.specs.Quoted.{after_bytes, unquoted, quote_of, quote_before, whole_text};
 
 use crate::blanks::trimmed;
-use crate::marks::after_mark;
+use crate::marks::{after_mark, is_word};
+use crate::spans::span_to;
 use cm_base::NoMemory;
+use cm_tokens::put;
 use std::alloc::Global;
 
 /// What an argument is as a quoted text.
@@ -65,9 +67,9 @@ fn quote_before(bytes: Vec<u8>, rest: &[u8]) -> Quote
     ensures { quote_is result ≡ quote_before (Some (bytes.items, rest.now)) }
 {
     let rest = trimmed(rest);
-    if rest == b"".as_slice() {
+    if rest.is_empty() {
         Quote::Bytes(bytes)
-    } else if rest == b"...".as_slice() {
+    } else if is_word(b"...", rest) {
         Quote::Shortened
     } else {
         Quote::NoText
@@ -93,18 +95,42 @@ fn unquote(alloc: Global, text: &[u8]) -> Result<Option<(Vec<u8>, &[u8])>, NoMem
 {
     let mut bytes = Vec::with_capacity(alloc, text.len())?;
     let mut reach = Reach::Text;
-    let mut rest = text;
+    let mut rest = take_run(&mut bytes, text)?;
     while let [byte, after @ ..] = rest {
         match take_byte(&mut bytes, reach, *byte)? {
             Move::Breaks => return Ok(None),
             Move::Closes => return Ok(Some((bytes, after))),
             Move::Goes(next) => {
                 reach = next;
-                rest = after;
+                rest = take_reached(&mut bytes, next, after)?;
             }
         }
     }
     Ok(None)
+}
+
+// Takes the bytes that stand for themselves where the reader is after a whole byte: what is left then.
+#[inline]
+fn take_reached<'a>(bytes: &mut Vec<u8>, reach: Reach, text: &'a [u8]) -> Result<&'a [u8], NoMemory>
+    ensures same { OrNoMemory result (λ rest. option_map (after_bytes bytes.new.items) (unquoted (reach_is reach) rest.now)
+        ≡ option_map (after_bytes bytes.old.items) (unquoted (reach_is reach) text.now)) }
+    ensures shorter { OrNoMemory result (λ rest. length rest.now ≤ length text.now) }
+{
+    match reach {
+        Reach::Text => take_run(bytes, text),
+        Reach::Slash | Reach::Octal(_, _) => Ok(text),
+    }
+}
+
+// The same after a whole byte: all up to a quote or a backslash.
+fn take_run<'a>(bytes: &mut Vec<u8>, text: &'a [u8]) -> Result<&'a [u8], NoMemory>
+    ensures same { OrNoMemory result (λ rest. option_map (after_bytes bytes.new.items) (unquoted model.Text rest.now)
+        ≡ option_map (after_bytes bytes.old.items) (unquoted model.Text text.now)) }
+    ensures shorter { OrNoMemory result (λ rest. length rest.now ≤ length text.now) }
+{
+    let (run, rest) = text.split_at(span_to(b'"', b'\\', text));
+    put(bytes, run)?;
+    Ok(rest)
 }
 
 // One byte more.

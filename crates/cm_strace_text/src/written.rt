@@ -8,8 +8,8 @@ ghost use Rattle.model_text.specs.Cut.{is_blank};
 use crate::blanks::without_front;
 use crate::marks::after_mark;
 use crate::names::cut_name;
+use crate::spans::span_to;
 use cm_tokens::is_blank;
-use memchr::memchr2;
 
 /// What stands between the parentheses, and the result.
 #[derive(Clone, Copy, Debug)]
@@ -71,10 +71,7 @@ fn plain_end(text: &[u8], from: usize) -> usize
     ensures ended { result < length text.now → slice_index text.now result ≢ 34 → slice_index text.now result ≡ 41 }
 {
     let (_, rest) = text.split_at(from);
-    match memchr2(b'"', b')', rest) {
-        Some(at) => from + at,
-        None => text.len(),
-    }
+    from + span_to(b'"', b')', rest)
 }
 
 // The place after the quote that ends a quoted text, which goes on at that place, or the text's end.
@@ -106,10 +103,7 @@ fn quoted_end(text: &[u8], from: usize) -> usize
     ensures ended { result < length text.now → slice_index text.now result ≢ 34 → slice_index text.now result ≡ 92 }
 {
     let (_, rest) = text.split_at(from);
-    match memchr2(b'"', b'\\', rest) {
-        Some(at) => from + at,
-        None => text.len(),
-    }
+    from + span_to(b'"', b'\\', rest)
 }
 
 // The place after a backslash in quotes and the byte that follows it, where one does.

@@ -4,7 +4,7 @@ ghost use Rattle.cm_strace_text.specs.Depths.{arguments_in};
 ghost use Rattle.model_strace.specs.Flags.{has_flag, birth_flags, first_of_list, flags_among, flags_between, flags_in};
 ghost use Rattle.model_strace.specs.Written.{value_of};
 
-use cm_strace_text::{bracketed, next_argument, read_arguments, trimmed, value_of};
+use cm_strace_text::{bracketed, is_word, next_argument, read_arguments, trimmed, value_of};
 use cm_tokens::first_piece;
 
 /// The word stands among the flags.
@@ -13,12 +13,12 @@ pub fn has_flag(word: &[u8], flags: &[u8]) -> bool
 {
     let mut rest = flags;
     while let Some((flag, more)) = first_piece(rest, b'|') {
-        if trimmed(flag) == word {
+        if is_word(word, trimmed(flag)) {
             return true;
         }
         rest = more;
     }
-    trimmed(rest) == word
+    is_word(word, trimmed(rest))
 }
 
 /// The flags of a birth: those of the first argument that has any, an empty text where none has.

@@ -6,7 +6,7 @@ ghost use Rattle.model_strace.specs.Files.{is_process, thread_file, proc_file, f
 ghost use Rattle.model_strace.specs.Files.{is_followed, is_space};
 
 use cm_base::Pid;
-use cm_strace_text::after_mark;
+use cm_strace_text::{after_mark, is_word};
 use cm_tokens::{first_piece, read_pid};
 
 /// A file that is followed.
@@ -65,7 +65,7 @@ pub fn file_at(own: Pid, path: &[u8]) -> Option<Named>
 fn begins_proc(root: &[u8], proc: &[u8]) -> bool
     ensures { result ≡ (bytes_eq root.now [] && bytes_eq proc.now (codes "proc")) }
 {
-    root == b"".as_slice() && proc == b"proc".as_slice()
+    root.is_empty() && is_word(b"proc", proc)
 }
 
 // The file of names, the first of which is a folder of /proc.
@@ -92,7 +92,7 @@ fn process_file(own: Pid, folder: &[u8], names: &[u8]) -> Option<Named>
 fn process_named(own: Pid, name: &[u8]) -> Option<Pid>
     ensures { result ≡ process_named own name.now }
 {
-    if name == b"self".as_slice() || name == b"thread-self".as_slice() {
+    if is_word(b"self", name) || is_word(b"thread-self", name) {
         Some(own)
     } else {
         read_pid(name)
@@ -105,7 +105,7 @@ fn thread_file(process: &[u8], names: &[u8]) -> Option<Named>
 {
     let (task, rest) = first_piece(names, b'/')?;
     let (thread, inside) = first_piece(rest, b'/')?;
-    if !is_process(process) || task != b"task".as_slice() {
+    if !is_process(process) || !is_word(b"task", task) {
         return None;
     }
     let process = read_pid(thread)?;
@@ -117,7 +117,7 @@ fn thread_file(process: &[u8], names: &[u8]) -> Option<Named>
 fn is_process(name: &[u8]) -> bool
     ensures { result ≡ is_process name.now }
 {
-    name == b"self".as_slice() || read_pid(name).is_some()
+    is_word(b"self", name) || read_pid(name).is_some()
 }
 
 // The file of these names in a process's folder.
@@ -145,11 +145,11 @@ fn file_in(folder: &[u8], names: &[u8]) -> Option<Followed>
 fn map_named(name: &[u8]) -> Option<Followed>
     ensures { option_map followed_is result ≡ map_named name.now }
 {
-    if name == b"uid_map".as_slice() {
+    if is_word(b"uid_map", name) {
         Some(Followed::UidMap)
-    } else if name == b"gid_map".as_slice() {
+    } else if is_word(b"gid_map", name) {
         Some(Followed::GidMap)
-    } else if name == b"setgroups".as_slice() {
+    } else if is_word(b"setgroups", name) {
         Some(Followed::SetgroupsWord)
     } else {
         None
@@ -160,7 +160,7 @@ fn map_named(name: &[u8]) -> Option<Followed>
 fn space_named(folder: &[u8], name: &[u8]) -> Option<Followed>
     ensures { option_map followed_is result ≡ space_named folder.now name.now }
 {
-    if folder == b"ns".as_slice() && name == b"user".as_slice() {
+    if is_word(b"ns", folder) && is_word(b"user", name) {
         Some(Followed::UserSpace)
     } else {
         None

@@ -10,7 +10,8 @@ loop-rest-preserved c =
     let taken = rw c.in-Goes.is at c.in_ok-take_byte.ensures in
     record {
       read =
-          byte_more before.bytes.items c.take_byte.new.bytes.items (reach_is before.reach) (reach_is next)
+          c.in_ok-rest-in-Goes.ensures.same
+          ∙ byte_more before.bytes.items c.take_byte.new.bytes.items (reach_is before.reach) (reach_is next)
           before.rest.now c.in-len1-up.len_at_least taken.step
           ∙ before.invariant.read;
       short = taken.short;
