@@ -144,7 +144,7 @@ fn call_named(name: &[u8], table: &[(&str, Listed)]) -> Option<Listed>
         ≡ option_map (λ call. call.1) (find (λ call. bytes_eq call.0 name.now) (rows_of listed_is table.now)) }
 {
     for call in table {
-        if is_word(call.0.as_bytes(), name) {
+        if is_word(name, call.0.as_bytes()) {
             return Some(call.1);
         }
     }

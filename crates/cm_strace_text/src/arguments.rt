@@ -1,5 +1,5 @@
 //! The arguments of a call, which commas part, and the members of a structure, which stand alike between braces.
-ghost use Rattle.std.specs.Prelude.{◌≡◌, ◌<◌, ◌≤◌, ◌^◌, ◌+◌, ◌&&◌, ◌∷◌, [], false, MatchOption, IsTrue, drop, length, option_map};
+ghost use Rattle.std.specs.Prelude.{◌≡◌, ◌<◌, ◌≤◌, ◌^◌, ◌+◌, ◌&&◌, nat_le, ◌∷◌, [], false, MatchOption, IsTrue, drop, length, option_map};
 ghost use Rattle.cm_strace_text.specs.Depths.{depth_is, brackets, ends_at, len_to, parts_in, parts_after, arguments_in};
 ghost use Rattle.cm_strace_text.specs.declared.arguments.End.{End};
 ghost use Rattle.model_strace.specs.Written as model;
@@ -135,17 +135,26 @@ fn first_stop(depth: Depth, text: &[u8], from: usize) -> usize
     text.len()
 }
 
-// The byte leaves the reader where it is, and is no end.
+// The byte leaves the reader where it is, and is no end. Most bytes outside of quotes are capitals, in names of flags.
 #[inline]
 fn is_calm(depth: Depth, byte: u8) -> bool
     ensures stays { IsTrue result → depth_after (depth_is depth) byte ≡ depth_is depth }
     ensures no_end { IsTrue result → (end : End) → (is_outside (depth_is depth) && ends_at end byte) ≡ false }
 {
     match depth {
-        Depth::Open(_) => byte != b'"' && byte != b',' && !opens(byte) && !closes(byte),
+        Depth::Open(_) => {
+            is_capital(byte) || (byte != b'"' && byte != b',' && !opens(byte) && !closes(byte))
+        }
         Depth::InQuotes(_) => byte != b'"' && byte != b'\\',
         Depth::InEscape(_) => false,
     }
+}
+
+#[inline]
+fn is_capital(byte: u8) -> bool
+    ensures { result ≡ (nat_le 65 byte && nat_le byte 90) }
+{
+    b'A' <= byte && byte <= b'Z'
 }
 
 #[inline]

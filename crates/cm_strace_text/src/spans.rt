@@ -4,26 +4,9 @@ ghost use Rattle.memchr.specs.Find.{Nowhere, Passes, is_byte2};
 
 use memchr::memchr2;
 
-// So many bytes are looked at one by one: most such bytes are near.
-const NEAR: usize = 16;
-
 /// How many bytes stand before the first one of these two, or in the whole text where neither stands in it.
 #[inline]
 pub(crate) fn span_to(first: u8, second: u8, text: &[u8]) -> usize
-    ensures before { Nowhere (Passes (is_byte2 first second) text.now) 0 result }
-    ensures within { result ≤ length text.now }
-    ensures ended { result < length text.now → is_byte2 first second (slice_index text.now result) ≡ true }
-{
-    for at in 0..text.len().min(NEAR) {
-        if text[at] == first || text[at] == second {
-            return at;
-        }
-    }
-    far_span(first, second, text)
-}
-
-// The same at once.
-fn far_span(first: u8, second: u8, text: &[u8]) -> usize
     ensures before { Nowhere (Passes (is_byte2 first second) text.now) 0 result }
     ensures within { result ≤ length text.now }
     ensures ended { result < length text.now → is_byte2 first second (slice_index text.now result) ≡ true }
