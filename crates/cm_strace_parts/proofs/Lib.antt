@@ -8,3 +8,5 @@ pub mod ListOrders
 pub mod Counts
 pub mod Slots
 pub mod Noted
+pub mod Undoing
+pub mod Saved

@@ -1,5 +1,5 @@
 -- The lists of processes stay in their orders, and are changed in their places.
-use Rattle.std.proofs.Common.{◌≡◌, ℕ, zero, suc, Bool, true, false, cond, filter, List, [], ◌∷◌}
+use Rattle.std.proofs.Common.{◌≡◌, ◌==◌, ℕ, zero, suc, Bool, true, false, cond, filter, List, [], ◌∷◌}
 use Rattle.std.proofs.Common.{refl, sym, ◌∙◌, ap, arith, get_or, slice_set, subst}
 use Rattle.std.specs.List.{insert, remove}
 use Rattle.std.proofs.lemmas.Bool.{cond-true, cond-false}
@@ -118,6 +118,21 @@ pub changed_here : (change : List Fd → List Fd) (pid : ℕ) (fs : List FdList)
 changed_here change pid fs at f g up cut here is changed =
     ap (λ g. slice_set fs at g) changed ∙ changed_at pid (change f.fds) fs at f up cut here is
     ∙ ap (λ l. put files_before (record { pid = pid; fds = change l }) fs) (sym (own_at pid fs at f up cut here is))
+
+-- one of its process stands there then
+pub set_stands : {A : Type 0} (same : A → Bool) (xs : List A) (at : ℕ) (x : A) → StandsAt same xs at → same x ≡ true
+    → StandsAt same (slice_set xs at x) at
+set_stands same [] at x here is = absurd here
+set_stands same (y ∷ xs) zero x here is = (is, here.1)
+set_stands same (y ∷ xs) (suc at) x here is = (here.0, set_stands same xs at x here.1 is)
+
+pub changed_stands : (pid : ℕ) (fs : List FdList) (at : ℕ) (f g : FdList) → Ascends files_before fs
+    → IsCut (files_below pid) fs at → is_at (is_files pid) fs at ≡ true → f ≡ get_or fs at f → g.pid ≡ f.pid
+    → StandsAt (is_files pid) (slice_set fs at g) at
+changed_stands pid fs at f g up cut here is keeps =
+    let stands : StandsAt (is_files pid) fs at =
+    stands files_before (files_below pid) (is_files pid) fs at (files_place pid) up cut here in
+    set_stands (is_files pid) fs at g stands (ap (λ n. n == pid) keeps ∙ same_at (is_files pid) fs at f stands is)
 
 -- no list stands at its place: the process has no descriptors
 pub none_at : (pid : ℕ) (fs : List FdList) (at : ℕ) → Ascends files_before fs

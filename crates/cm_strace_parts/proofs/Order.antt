@@ -1,5 +1,5 @@
 -- Things in an order, found, changed and put by their places.
-use Rattle.std.proofs.Common.{◌≡◌, ℕ, zero, suc, ◌<◌, ◌≤◌, Bool, true, false, not, cond, filter, find, map, length}
+use Rattle.std.proofs.Common.{◌≡◌, ℕ, zero, suc, ◌<◌, ◌≤◌, ◌+◌, Bool, true, false, not, cond, filter, find, map, length}
 use Rattle.std.proofs.Common.{List, []}
 use Rattle.std.proofs.Common.{◌∷◌, Some, None, refl, sym, ◌∙◌, ap, arith, get_or, slice_set}
 use Rattle.std.specs.Prelude.{Result, Ok, Err, IfOk, IsOk}
@@ -286,6 +286,18 @@ put_between before below same new (x ∷ xs) (suc at) place cut isnt =
     ∙ sym (cond-false (before new x) (new ∷ x ∷ xs) (cond (before x new) (x ∷ put before new xs) (new ∷ xs))
     (place.lower x cut.0).0
     ∙ cond-true (before x new) (x ∷ put before new xs) (new ∷ xs) (place.lower x cut.0).1)
+
+length_insert : {A : Type 0} (xs : List A) (at : ℕ) (x : A) → length (insert xs at x) ≡ length xs + 1
+length_insert xs zero x = omega arith
+length_insert [] (suc at) x = omega arith
+length_insert (y ∷ xs) (suc at) x = let rest = length_insert xs at x in omega (arith, rest)
+
+-- a thing put where none of its number stands is one more
+pub put_adds : {A : Type 0} (before : A → A → Bool) (below same : A → Bool) (new : A) (xs : List A) (at : ℕ)
+    → IsPlaceOf before below same new → IsCut below xs at → is_at same xs at ≡ false
+    → length (put before new xs) ≡ length xs + 1
+put_adds before below same new xs at place cut isnt =
+    ap (λ (l : List _). length l) (sym (put_between before below same new xs at place cut isnt)) ∙ length_insert xs at new
 
 -- what holds if there is an answer holds where there is one
 pub of_ok : {T E : Type 0} (r : Result T E) (P : Type 0) → IfOk r (λ _. P) → IsOk r → P

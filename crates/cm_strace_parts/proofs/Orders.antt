@@ -1,13 +1,16 @@
 -- The orders of processes, descriptors and their lists, and the places in them.
-use Rattle.std.proofs.Common.{◌≡◌, ℕ, Bool, true, false, List, [], ◌∷◌, map, slice_set, arith}
+use Rattle.std.proofs.Common.{◌≡◌, ℕ, ◌+◌, Bool, true, false, List, [], ◌∷◌, length, map, slice_set, arith}
 use Rattle.std.specs.List.{insert}
 use Rattle.cm_strace_parts.specs.Lists.{Fd, FdList, fd_before, is_files, files_before, files_below}
 use Rattle.cm_strace_parts.specs.Order.{AllSay, Ascends, IsCut, is_at, IsOrder, HasPlace, IsPlaceOf}
 use Rattle.cm_strace_parts.specs.Order.{before_by, below_by, has_number}
-use Rattle.cm_strace_parts.proofs.Order.{all_along, put_instead, put_between, put_ascends}
+use Rattle.cm_strace_parts.proofs.Order.{all_along, put_adds, put_instead, put_between, put_ascends}
+use Rattle.cm_strace_parts.specs.Undone.{others_by}
+use Rattle.cm_strace_parts.proofs.Undoing.{others_changed}
+use Rattle.std.proofs.lemmas.Bool.{cond-false}
 use Rattle.model_cred.specs.Process as model
 use Rattle.model_cred.specs.Process.{Process}
-use Rattle.model_strace.specs.Parts.{Task, first_task, task_before, moved_task, sharing_task, put}
+use Rattle.model_strace.specs.Parts.{Task, first_task, is_task, task_before, moved_task, sharing_task, put}
 
 -- ---- by numbers
 pub by_order : {A : Type 0} (number : A → ℕ) → IsOrder (before_by number)
@@ -48,6 +51,14 @@ put_between_by number new n xs at same cut isnt =
     put_between (before_by number) (below_by number n) (has_number number n) new xs at (by_place_of number new n same)
     cut isnt
 
+-- a thing put where none of its number stands is one more
+pub put_adds_by : {A : Type 0} (number : A → ℕ) (new : A) (n : ℕ) (xs : List A) (at : ℕ) → n ≡ number new
+    → IsCut (below_by number n) xs at → is_at (has_number number n) xs at ≡ false
+    → length (put (before_by number) new xs) ≡ length xs + 1
+put_adds_by number new n xs at same cut isnt =
+    put_adds (before_by number) (below_by number n) (has_number number n) new xs at (by_place_of number new n same) cut
+    isnt
+
 -- with one more in its place they ascend
 pub put_ascends_by : {A : Type 0} (number : A → ℕ) (new : A) (xs : List A) → Ascends (before_by number) xs
     → Ascends (before_by number) (put (before_by number) new xs)
@@ -63,6 +74,19 @@ moved_keeps pid space x y = grind arith
 pub sharing_keeps : (pid : ℕ) (shares : Bool) (x y : Task) → task_before (sharing_task pid shares x)
     (sharing_task pid shares y) ≡ task_before x y
 sharing_keeps pid shares x y = grind arith
+
+-- the other ones stay
+pub moved_others : (pid space : ℕ) (ts : List Task)
+    → others_by (λ (t : Task). t.pid) pid (map (moved_task pid space) ts) ≡ others_by (λ (t : Task). t.pid) pid ts
+moved_others pid space ts =
+    others_changed (λ (t : Task). t.pid) pid (moved_task pid space) ts (λ t. grind arith)
+    (λ t h. cond-false (is_task pid t) _ t h)
+
+pub sharing_others : (pid : ℕ) (shares : Bool) (ts : List Task)
+    → others_by (λ (t : Task). t.pid) pid (map (sharing_task pid shares) ts) ≡ others_by (λ (t : Task). t.pid) pid ts
+sharing_others pid shares ts =
+    others_changed (λ (t : Task). t.pid) pid (sharing_task pid shares) ts (λ t. grind arith)
+    (λ t h. cond-false (is_task pid t) _ t h)
 
 task_order : IsOrder task_before
 task_order = by_order (λ (task : Task). task.pid)

@@ -2,6 +2,8 @@
 pub mod Order
 pub mod Lists
 pub mod Slots
+pub mod Undone
 pub mod InOrder
+pub mod Savepoints
 pub use Rattle.model_strace.specs.Parts
 pub use Rattle.model_strace.specs.Files

@@ -1,18 +1,21 @@
 // The descriptors that are followed, in a list for each process that has some, by ascending pids. A copy shares the
-// lists, and so does a child that has copies of its parent's: each is copied once it is changed.
-ghost use Rattle.std.specs.Prelude.{◌≡◌, ◌==◌, ◌+◌, ◌∷◌, [], find, filter, map, not, length, IfSome, IfNone};
-ghost use Rattle.std.specs.Prelude.{if◌then◌else◌, option_map};
+// lists, as what is saved does, and so does a child that has copies of its parent's: each is copied once it is changed.
+ghost use Rattle.std.specs.Prelude.{◌≡◌, ℕ, ◌==◌, ◌+◌, ◌∷◌, [], find, filter, map, not, length, IfSome, IfNone};
+ghost use Rattle.std.specs.Prelude.{◌≤◌, None, if◌then◌else◌, option_map, vec_capacity, IsOk};
 ghost use Rattle.std.specs.List.{list_any};
 ghost use Rattle.cm_base.specs.Outcome.{OrNoMemory, UnchangedOnErr};
-ghost use Rattle.cm_strace_parts.specs.Lists.{is_fd, fd_before, files_before};
+ghost use Rattle.cm_strace_parts.specs.Lists.{is_fd, is_files, fd_before, files_before, of_process};
 ghost use Rattle.cm_strace_parts.specs.Lists.{fds_of, descriptors_in, ListsInOrder};
-ghost use Rattle.cm_strace_parts.specs.Order.{Ascends, is_at};
+ghost use Rattle.cm_strace_parts.specs.Order.{Ascends, StandsAt, is_at};
+ghost use Rattle.cm_strace_parts.specs.Undone.{others_by};
 ghost use Rattle.model_strace.specs.Parts.{is_descriptor, is_of, is_closed_at_exec, copied_to, descriptor_before};
 ghost use Rattle.model_strace.specs.Parts.{put, put_all};
 
 use crate::descriptor::Descriptor;
 use crate::fd::Fd;
 use crate::search::Numbered;
+use crate::tracked::Tracked;
+use crate::undo::Copied;
 use crate::{fd, ordered};
 use cm_base::{NoMemory, Pid};
 use std::alloc::Global;
@@ -57,18 +60,6 @@ impl FdList {
     {
         let len = fd::count(&fds);
         FdList { pid, len, fds }
-    }
-
-    // The same, with the same list. It fails only where memory runs out.
-    fn copy(&self) -> Result<FdList, NoMemory>
-        ensures { OrNoMemory result (λ f. f ≡ self.now) }
-    {
-        let fds = self.fds.clone()?;
-        Ok(FdList {
-            pid: self.pid,
-            len: self.len,
-            fds,
-        })
     }
 
     // The list, shared. It fails only where memory runs out.
@@ -185,19 +176,19 @@ impl Numbered for FdList {
     }
 }
 
-// ---- those of all processes
-
-// The same, with the same lists. It fails only where memory runs out.
-pub(crate) fn copy_list(alloc: Global, list: &[FdList]) -> Result<Vec<FdList>, NoMemory>
-    ensures { OrNoMemory result (λ made. made.items ≡ list.now) }
-{
-    let mut made = Vec::with_capacity(alloc, list.len())?;
-    for files in list {
-        let files = files.copy()?;
-        made.push(files)?;
+// A copy has the same list.
+impl Copied for FdList {
+    fn copy(&self) -> Result<FdList, NoMemory> {
+        let fds = self.fds.clone()?;
+        Ok(FdList {
+            pid: self.pid,
+            len: self.len,
+            fds,
+        })
     }
-    Ok(made)
 }
+
+// ---- those of all processes
 
 // The descriptors of a process, where it has a list.
 fn of_process(list: &[FdList], pid: Pid) -> Option<&FdList>
@@ -282,17 +273,19 @@ pub(crate) fn count_after(list: &[FdList], pid: Pid, all: u128, own: u128) -> u1
 // The descriptor is followed, in the place of any of its number. It fails only where memory runs out, and then leaves
 // all as it was.
 pub(crate) fn follow(
-    list: &mut Vec<FdList>,
+    files: &mut Tracked<FdList>,
     alloc: Global,
     new: &Descriptor,
 ) -> Result<(), NoMemory>
-    requires { ListsInOrder list.old.items }
-    ensures items { OrNoMemory result (λ _. descriptors_in list.new.items
-        ≡ put descriptor_before new.now (descriptors_in list.old.items)) }
-    ensures unchanged { UnchangedOnErr result list.new.items list.old.items }
-    ensures ordered { ListsInOrder list.new.items }
+    requires { ListsInOrder files.old.items }
+    ensures items { OrNoMemory result (λ _. descriptors_in files.new.items
+        ≡ put descriptor_before new.now (descriptors_in files.old.items)) }
+    ensures saved { files.new.saved ≡ files.old.saved }
+    ensures unchanged { UnchangedOnErr result files.new.items files.old.items }
+    ensures ordered { ListsInOrder files.new.items }
 {
-    put_fd(list, alloc, new.pid, Fd::of(new))?;
+    files.undo.save(&files.list, new.pid)?;
+    put_fd(&mut files.list, alloc, new.pid, Fd::of(new))?;
     Ok(())
 }
 
@@ -303,6 +296,7 @@ fn put_fd(list: &mut Vec<FdList>, alloc: Global, pid: Pid, new: Fd) -> Result<()
     ensures items { OrNoMemory result (λ _. list.new.items ≡ put files_before
         (record { pid = pid; fds = put fd_before new (fds_of pid list.old.items) }) list.old.items) }
     ensures unchanged { UnchangedOnErr result list.new.items list.old.items }
+    ensures capacity { vec_capacity list.old ≤ vec_capacity list.new }
 {
     let at = ordered::place(list, pid);
     if ordered::is_at(list, at, pid) {
@@ -315,53 +309,69 @@ fn put_fd(list: &mut Vec<FdList>, alloc: Global, pid: Pid, new: Fd) -> Result<()
 }
 
 // A child has copies of its parent's descriptors. It fails only where memory runs out, and then leaves all as it was.
-pub(crate) fn bear(
-    list: &mut Vec<FdList>,
-    alloc: Global,
-    parent: Pid,
-    child: Pid,
-) -> Result<(), NoMemory>
-    requires { ListsInOrder list.old.items }
-    ensures items { OrNoMemory result (λ _. descriptors_in list.new.items ≡ put_all descriptor_before
-        (map (copied_to child) (filter (is_of parent) (descriptors_in list.old.items)))
-        (descriptors_in list.old.items)) }
-    ensures unchanged { UnchangedOnErr result list.new.items list.old.items }
-    ensures ordered { ListsInOrder list.new.items }
+fn bear(files: &mut Tracked<FdList>, alloc: Global, parent: Pid, child: Pid) -> Result<(), NoMemory>
+    requires { ListsInOrder files.old.items }
+    ensures items { OrNoMemory result (λ _. descriptors_in files.new.items ≡ put_all descriptor_before
+        (map (copied_to child) (filter (is_of parent) (descriptors_in files.old.items)))
+        (descriptors_in files.old.items)) }
+    ensures saved { files.new.saved ≡ files.old.saved }
+    ensures unchanged { UnchangedOnErr result files.new.items files.old.items }
+    ensures ordered { ListsInOrder files.new.items }
 {
-    match of_process(list, parent) {
-        Some(files) => {
-            let news = files.share()?;
-            put_fds(list, alloc, child, news)?;
+    match of_process(files.items(), parent) {
+        Some(own) => {
+            let news = own.share()?;
+            put_copies(files, alloc, child, news)
         }
-        None => {}
+        None => Ok(()),
     }
-    Ok(())
 }
 
 // The same, unless the child shares them.
 pub(crate) fn bear_unless(
-    list: &mut Vec<FdList>,
+    files: &mut Tracked<FdList>,
     alloc: Global,
     parent: Pid,
     child: Pid,
     shares: bool,
 ) -> Result<(), NoMemory>
-    requires { ListsInOrder list.old.items }
-    ensures items { OrNoMemory result (λ _. descriptors_in list.new.items
-        ≡ (if shares then descriptors_in list.old.items else put_all descriptor_before
-        (map (copied_to child) (filter (is_of parent) (descriptors_in list.old.items)))
-        (descriptors_in list.old.items))) }
-    ensures unchanged { UnchangedOnErr result list.new.items list.old.items }
-    ensures ordered { ListsInOrder list.new.items }
+    requires { ListsInOrder files.old.items }
+    ensures items { OrNoMemory result (λ _. descriptors_in files.new.items
+        ≡ (if shares then descriptors_in files.old.items else put_all descriptor_before
+        (map (copied_to child) (filter (is_of parent) (descriptors_in files.old.items)))
+        (descriptors_in files.old.items))) }
+    ensures saved { files.new.saved ≡ files.old.saved }
+    ensures unchanged { UnchangedOnErr result files.new.items files.old.items }
+    ensures ordered { ListsInOrder files.new.items }
 {
     if shares {
         return Ok(());
     }
-    bear(list, alloc, parent, child)
+    bear(files, alloc, parent, child)
 }
 
 // Copies of descriptors in their places among those of the process. It fails only where memory runs out, and then
 // leaves all as it was.
+fn put_copies(
+    files: &mut Tracked<FdList>,
+    alloc: Global,
+    pid: Pid,
+    news: Rc<Vec<Fd>>,
+) -> Result<(), NoMemory>
+    requires ordered { ListsInOrder files.old.items }
+    requires up { Ascends fd_before news.value.items }
+    ensures items { OrNoMemory result (λ _. descriptors_in files.new.items
+        ≡ put_all descriptor_before (map (of_process pid) news.value.items) (descriptors_in files.old.items)) }
+    ensures saved { files.new.saved ≡ files.old.saved }
+    ensures unchanged { UnchangedOnErr result files.new.items files.old.items }
+    ensures ordered { ListsInOrder files.new.items }
+{
+    files.undo.save(&files.list, pid)?;
+    put_fds(&mut files.list, alloc, pid, news)?;
+    Ok(())
+}
+
+// The same in the lists.
 fn put_fds(
     list: &mut Vec<FdList>,
     alloc: Global,
@@ -373,6 +383,7 @@ fn put_fds(
     ensures items { OrNoMemory result (λ _. list.new.items ≡ put files_before
         (record { pid = pid; fds = put_all fd_before news.value.items (fds_of pid list.old.items) }) list.old.items) }
     ensures unchanged { UnchangedOnErr result list.new.items list.old.items }
+    ensures capacity { vec_capacity list.old ≤ vec_capacity list.new }
 {
     let at = ordered::place(list, pid);
     if ordered::is_at(list, at, pid) {
@@ -385,16 +396,32 @@ fn put_fds(
 
 // That descriptor isn't followed any more. It fails only where memory runs out, and then leaves all as it was.
 pub(crate) fn forget(
-    list: &mut Vec<FdList>,
+    files: &mut Tracked<FdList>,
     alloc: Global,
     pid: Pid,
     number: u64,
 ) -> Result<(), NoMemory>
+    requires { ListsInOrder files.old.items }
+    ensures items { OrNoMemory result (λ _. descriptors_in files.new.items
+        ≡ filter (λ d. not (is_descriptor pid number d)) (descriptors_in files.old.items)) }
+    ensures saved { files.new.saved ≡ files.old.saved }
+    ensures unchanged { UnchangedOnErr result files.new.items files.old.items }
+    ensures ordered { ListsInOrder files.new.items }
+{
+    files.undo.save(&files.list, pid)?;
+    forget_in(&mut files.list, alloc, pid, number)?;
+    Ok(())
+}
+
+// The same in the lists.
+fn forget_in(list: &mut Vec<FdList>, alloc: Global, pid: Pid, number: u64) -> Result<(), NoMemory>
     requires { ListsInOrder list.old.items }
     ensures items { OrNoMemory result (λ _. descriptors_in list.new.items
         ≡ filter (λ d. not (is_descriptor pid number d)) (descriptors_in list.old.items)) }
     ensures unchanged { UnchangedOnErr result list.new.items list.old.items }
     ensures ordered { ListsInOrder list.new.items }
+    ensures others { others_by (λ f. f.pid) pid list.new.items ≡ others_by (λ f. f.pid) pid list.old.items }
+    ensures capacity { vec_capacity list.old ≤ vec_capacity list.new }
 {
     let at = ordered::place(list, pid);
     if ordered::is_at(list, at, pid) {
@@ -405,12 +432,28 @@ pub(crate) fn forget(
 }
 
 // What an execve of the process leaves. It fails only where memory runs out, and then leaves all as it was.
-pub(crate) fn execute(list: &mut Vec<FdList>, alloc: Global, pid: Pid) -> Result<(), NoMemory>
+pub(crate) fn execute(files: &mut Tracked<FdList>, alloc: Global, pid: Pid) -> Result<(), NoMemory>
+    requires { ListsInOrder files.old.items }
+    ensures items { OrNoMemory result (λ _. descriptors_in files.new.items
+        ≡ filter (λ d. not (is_closed_at_exec pid d)) (descriptors_in files.old.items)) }
+    ensures saved { files.new.saved ≡ files.old.saved }
+    ensures unchanged { UnchangedOnErr result files.new.items files.old.items }
+    ensures ordered { ListsInOrder files.new.items }
+{
+    files.undo.save(&files.list, pid)?;
+    execute_in(&mut files.list, alloc, pid)?;
+    Ok(())
+}
+
+// The same in the lists.
+fn execute_in(list: &mut Vec<FdList>, alloc: Global, pid: Pid) -> Result<(), NoMemory>
     requires { ListsInOrder list.old.items }
     ensures items { OrNoMemory result (λ _. descriptors_in list.new.items
         ≡ filter (λ d. not (is_closed_at_exec pid d)) (descriptors_in list.old.items)) }
     ensures unchanged { UnchangedOnErr result list.new.items list.old.items }
     ensures ordered { ListsInOrder list.new.items }
+    ensures others { others_by (λ f. f.pid) pid list.new.items ≡ others_by (λ f. f.pid) pid list.old.items }
+    ensures capacity { vec_capacity list.old ≤ vec_capacity list.new }
 {
     let at = ordered::place(list, pid);
     if ordered::is_at(list, at, pid) {
@@ -435,17 +478,26 @@ fn drop_empty(list: &mut Vec<FdList>, at: usize)
     requires { ListsInOrder list.old.items }
     ensures items { descriptors_in list.new.items ≡ descriptors_in list.old.items }
     ensures ordered { ListsInOrder list.new.items }
+    ensures others { (pid : ℕ) → StandsAt (is_files pid) list.old.items at
+        → others_by (λ f. f.pid) pid list.new.items ≡ others_by (λ f. f.pid) pid list.old.items }
+    ensures capacity { vec_capacity list.old ≤ vec_capacity list.new }
 {
     if is_empty_at(list, at) {
         list.remove(at);
     }
 }
 
-// None of the process is followed any more.
-pub(crate) fn remove(list: &mut Vec<FdList>, pid: Pid)
-    requires { ListsInOrder list.old.items }
-    ensures items { descriptors_in list.new.items ≡ filter (λ d. not (is_of pid d)) (descriptors_in list.old.items) }
-    ensures ordered { ListsInOrder list.new.items }
+// None of the process is followed any more. It fails only where memory runs out, and then leaves all as it was; never
+// where no savepoint is set.
+pub(crate) fn remove(files: &mut Tracked<FdList>, pid: Pid) -> Result<(), NoMemory>
+    requires { ListsInOrder files.old.items }
+    ensures items { OrNoMemory result (λ _. descriptors_in files.new.items
+        ≡ filter (λ d. not (is_of pid d)) (descriptors_in files.old.items)) }
+    ensures saved { files.new.saved ≡ files.old.saved }
+    ensures unchanged { UnchangedOnErr result files.new.items files.old.items }
+    ensures ordered { ListsInOrder files.new.items }
+    ensures never { files.old.saved ≡ None → IsOk result }
 {
-    ordered::remove(list, pid);
+    files.remove(pid)?;
+    Ok(())
 }

@@ -3,6 +3,7 @@ ghost use Rattle.std.specs.Prelude.{◌≡◌};
 ghost use Rattle.cm_base.specs.Outcome.{OrNoMemory};
 
 use crate::search::Numbered;
+use crate::undo::Copied;
 use cm_base::{NoMemory, Pid};
 use std::alloc::Global;
 use std::marker::Model;
@@ -33,17 +34,6 @@ impl Kept {
         Ok(Kept { pid, text })
     }
 
-    // The same. It fails only where memory runs out.
-    fn copy(&self) -> Result<Kept, NoMemory>
-        ensures { OrNoMemory result (λ kept. kept ≡ self.now) }
-    {
-        let text = self.text.clone()?;
-        Ok(Kept {
-            pid: self.pid,
-            text,
-        })
-    }
-
     // Its text.
     pub(crate) fn text(&self) -> &[u8]
         ensures { result.now ≡ self.now.text }
@@ -60,14 +50,12 @@ impl Numbered for Kept {
     }
 }
 
-// The same beginnings of calls. It fails only where memory runs out.
-pub(crate) fn copy_list(alloc: Global, list: &[Kept]) -> Result<Vec<Kept>, NoMemory>
-    ensures { OrNoMemory result (λ made. made.items ≡ list.now) }
-{
-    let mut made = Vec::with_capacity(alloc, list.len())?;
-    for kept in list {
-        let kept = kept.copy()?;
-        made.push(kept)?;
+impl Copied for Kept {
+    fn copy(&self) -> Result<Kept, NoMemory> {
+        let text = self.text.clone()?;
+        Ok(Kept {
+            pid: self.pid,
+            text,
+        })
     }
-    Ok(made)
 }

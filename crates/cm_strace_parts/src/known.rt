@@ -35,16 +35,13 @@ impl Known {
         ensures { OrNoMemory result (λ known. NotesKnown known tasks.now) }
     {
         let mut known = Known::empty(alloc, SLOTS)?;
-        for task in tasks {
-            known.note(task.pid);
-        }
+        known.renew(tasks);
         Ok(known)
     }
 
-    // So many slots, which note no pid. It fails only where memory runs out.
+    // So many slots. It fails only where memory runs out.
     fn empty(alloc: Global, slots: usize) -> Result<Known, NoMemory>
         requires { slots ≡ slot_count }
-        ensures { OrNoMemory result (λ known. (pid : ℕ) → notes known pid ≡ false) }
     {
         let slots = vec![in alloc; 0; slots]?;
         Ok(Known { slots })
@@ -56,6 +53,23 @@ impl Known {
     {
         let slots = Vec::from_slice(alloc, &self.slots)?;
         Ok(Known { slots })
+    }
+
+    // The pids of these processes instead of all others, as far as there are slots for them.
+    pub(crate) fn renew(&mut self, tasks: &[Task])
+        ensures { NotesKnown self.new tasks.now }
+    {
+        self.clear();
+        for task in tasks {
+            self.note(task.pid);
+        }
+    }
+
+    // No pid is noted.
+    fn clear(&mut self)
+        ensures { (pid : ℕ) → notes self.new pid ≡ false }
+    {
+        self.slots.fill(0);
     }
 
     // The pid is noted.

@@ -1,7 +1,7 @@
 // Lists of things that have numbers: the numbers ascend, so each stands once. What is looked for is told by what has
 // its number.
-ghost use Rattle.std.specs.Prelude.{◌≡◌, ◌<◌, ℕ, false, find, filter, not, option_map, length, IfSome, IfNone, IsOk};
-ghost use Rattle.std.specs.Prelude.{vec_len, vec_capacity};
+ghost use Rattle.std.specs.Prelude.{◌≡◌, ◌<◌, ◌≤◌, ℕ, false, find, filter, not, option_map, length, IfSome, IfNone, IsOk};
+ghost use Rattle.std.specs.Prelude.{vec_capacity};
 ghost use Rattle.cm_base.specs.Outcome.{OrNoMemory, UnchangedOnErr};
 ghost use Rattle.cm_strace_parts.specs.Order.{Ascends, AllSay, IsCut, StandsAt, is_at, before_by, below_by, has_number};
 ghost use Rattle.model_strace.specs.Parts.{put};
@@ -68,13 +68,14 @@ pub(crate) fn get<T: Numbered, K: Numbered + Copy>(list: &[T], key: K) -> Option
 }
 
 // The thing in its place, instead of any of its number. It fails only where memory runs out, and then leaves all as it
-// was; never where there is room for one more.
+// was; never where there is room for the list as it is then.
 pub(crate) fn put<T: Numbered + Drop>(list: &mut Vec<T>, new: T) -> Result<(), NoMemory>
     requires { Ascends (before_by T.number) list.old.items }
     ensures items { OrNoMemory result (λ _. list.new.items ≡ put (before_by T.number) new list.old.items) }
     ensures unchanged { UnchangedOnErr result list.new.items list.old.items }
     ensures ascends { Ascends (before_by T.number) list.new.items }
-    ensures room { vec_len list.old < vec_capacity list.old → IsOk result }
+    ensures room { length (put (before_by T.number) new list.old.items) ≤ vec_capacity list.old → IsOk result }
+    ensures capacity { vec_capacity list.old ≤ vec_capacity list.new }
 {
     let number = new.number();
     let at = place(list, number);
@@ -91,6 +92,7 @@ pub(crate) fn remove<T: Numbered + Drop, K: Numbered + Copy>(list: &mut Vec<T>, 
     requires { Ascends (before_by T.number) list.old.items }
     ensures items { list.new.items ≡ filter (λ thing. not (has_number T.number (K.number key) thing)) list.old.items }
     ensures ascends { Ascends (before_by T.number) list.new.items }
+    ensures capacity { vec_capacity list.old ≤ vec_capacity list.new }
 {
     match find(list, key) {
         Some(at) => {

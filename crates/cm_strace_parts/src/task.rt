@@ -1,12 +1,13 @@
 // The processes that are known, by ascending pids.
-ghost use Rattle.std.specs.Prelude.{◌≡◌, ◌<◌, map};
-ghost use Rattle.std.specs.Prelude.{vec_len, vec_capacity};
-ghost use Rattle.cm_base.specs.Outcome.{OrNoMemory};
+ghost use Rattle.std.specs.Prelude.{◌≡◌, ◌≤◌, None, map, vec_capacity, IsOk};
+ghost use Rattle.cm_base.specs.Outcome.{OrNoMemory, UnchangedOnErr};
 ghost use Rattle.cm_strace_parts.specs.Order.{Ascends};
-ghost use Rattle.model_strace.specs.Parts.{first_task, task_before, moved_task, sharing_task, put};
+ghost use Rattle.model_strace.specs.Parts.{first_task, task_before, moved_task, sharing_task};
 
 use crate::ordered;
 use crate::search::Numbered;
+use crate::tracked::Tracked;
+use crate::undo::Copied;
 use cm_base::{NoMemory, Pid, SpaceId};
 use cm_state::Proc;
 use std::alloc::Global;
@@ -39,6 +40,12 @@ impl Numbered for Task {
     }
 }
 
+impl Copied for Task {
+    fn copy(&self) -> Result<Task, NoMemory> {
+        Ok(*self)
+    }
+}
+
 // The processes of a world's start. It fails only where memory runs out.
 pub(crate) fn first_tasks(alloc: Global, list: &[Proc]) -> Result<Vec<Task>, NoMemory>
     ensures { OrNoMemory result (λ made. made.items ≡ map first_task list.now) }
@@ -55,20 +62,25 @@ pub(crate) fn first_tasks(alloc: Global, list: &[Proc]) -> Result<Vec<Task>, NoM
     Ok(made)
 }
 
-// The same processes, with room for one more, since a birth comes next. It fails only where memory runs out.
-pub(crate) fn copy_list(alloc: Global, list: &[Task]) -> Result<Vec<Task>, NoMemory>
-    ensures { OrNoMemory result (λ made. made.items ≡ list.now) }
+// The process of that pid in another user namespace. It fails only where memory runs out, and then leaves all as it
+// was; never where no savepoint is set.
+pub(crate) fn move_to(tasks: &mut Tracked<Task>, pid: Pid, space: SpaceId) -> Result<(), NoMemory>
+    ensures items { OrNoMemory result (λ _. tasks.new.items ≡ map (moved_task pid space.0) tasks.old.items) }
+    ensures saved { tasks.new.saved ≡ tasks.old.saved }
+    ensures unchanged { UnchangedOnErr result tasks.new.items tasks.old.items }
+    ensures never { tasks.old.saved ≡ None → IsOk result }
 {
-    let mut made = Vec::with_capacity(alloc, list.len() + 1)?;
-    made.extend_from_slice(list)?;
-    Ok(made)
+    tasks.undo.save(&tasks.list, pid)?;
+    move_in(&mut tasks.list, pid, space);
+    Ok(())
 }
 
-// The process of that pid in another user namespace.
-pub(crate) fn move_to(list: &mut Vec<Task>, pid: Pid, space: SpaceId)
+// The same in the list.
+fn move_in(list: &mut Vec<Task>, pid: Pid, space: SpaceId)
     requires { Ascends task_before list.old.items }
     ensures items { list.new.items ≡ map (moved_task pid space.0) list.old.items }
     ensures ascends { Ascends task_before list.new.items }
+    ensures capacity { vec_capacity list.old ≤ vec_capacity list.new }
 {
     match ordered::find(list, pid) {
         Some(at) => {
@@ -79,13 +91,26 @@ pub(crate) fn move_to(list: &mut Vec<Task>, pid: Pid, space: SpaceId)
     }
 }
 
-// The process of that pid shares its descriptors, if it gives such a birth.
-fn share(list: &mut Vec<Task>, pid: Pid, shares: bool)
+// The process of that pid shares its descriptors, if it gives such a birth. It fails only where memory runs out, and
+// then leaves all as it was; never where no savepoint is set.
+pub(crate) fn share(tasks: &mut Tracked<Task>, pid: Pid, shares: bool) -> Result<(), NoMemory>
+    ensures items { OrNoMemory result (λ _. tasks.new.items ≡ map (sharing_task pid shares) tasks.old.items) }
+    ensures saved { tasks.new.saved ≡ tasks.old.saved }
+    ensures unchanged { UnchangedOnErr result tasks.new.items tasks.old.items }
+    ensures never { tasks.old.saved ≡ None → IsOk result }
+    ensures room { tasks.old.room ≤ tasks.new.room }
+{
+    tasks.undo.save(&tasks.list, pid)?;
+    share_in(&mut tasks.list, pid, shares);
+    Ok(())
+}
+
+// The same in the list.
+fn share_in(list: &mut Vec<Task>, pid: Pid, shares: bool)
     requires { Ascends task_before list.old.items }
     ensures items { list.new.items ≡ map (sharing_task pid shares) list.old.items }
     ensures ascends { Ascends task_before list.new.items }
-    ensures len { vec_len list.new ≡ vec_len list.old }
-    ensures capacity { vec_capacity list.new ≡ vec_capacity list.old }
+    ensures capacity { vec_capacity list.old ≤ vec_capacity list.new }
 {
     match ordered::find(list, pid) {
         Some(at) => {
@@ -94,16 +119,4 @@ fn share(list: &mut Vec<Task>, pid: Pid, shares: bool)
         }
         None => {}
     }
-}
-
-// A process gives birth to this child. There is room for one more.
-pub(crate) fn bear(list: &mut Vec<Task>, parent: Pid, child: Task)
-    requires ascends { Ascends task_before list.old.items }
-    requires room { vec_len list.old < vec_capacity list.old }
-    ensures items { list.new.items ≡ put task_before child (map (sharing_task parent child.shares) list.old.items) }
-    ensures ascends { Ascends task_before list.new.items }
-{
-    let shares = child.shares;
-    share(list, parent, shares);
-    let _ = ordered::put(list, child);
 }

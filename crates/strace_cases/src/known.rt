@@ -64,7 +64,19 @@ impl Known {
         match words {
             ["spaces"] => counted(alloc, u128::from(parts.spaces())),
             ["descriptor_count"] => counted(alloc, parts.descriptor_count()),
-            ["forget_all_kept"] => {
+            ["set_savepoint"] if !parts.has_savepoint() => {
+                parts.set_savepoint();
+                word(alloc, "done")
+            }
+            ["roll_back"] => {
+                parts.roll_back();
+                word(alloc, "done")
+            }
+            ["release"] => {
+                parts.release();
+                word(alloc, "done")
+            }
+            ["forget_all_kept"] if !parts.has_savepoint() => {
                 parts.forget_all_kept();
                 word(alloc, "done")
             }
@@ -101,8 +113,8 @@ fn process_changed(
 ) -> Result<Vec<u8>, Stop> {
     match asked {
         "move_to_new" => move_to_new(parts, pid)?,
-        "forget_kept" => parts.forget_kept(pid),
-        "end" => parts.end(pid),
+        "forget_kept" => parts.forget_kept(pid)?,
+        "end" => parts.end(pid)?,
         "execute" => parts.execute(alloc, pid)?,
         _ => return Err(Stop::Bad),
     }
@@ -113,7 +125,7 @@ fn move_to_new(parts: &mut Parts, pid: Pid) -> Result<(), Stop> {
     if parts.spaces() == u32::MAX {
         return Err(Stop::Bad);
     }
-    parts.move_to_new(pid);
+    parts.move_to_new(pid)?;
     Ok(())
 }
 
@@ -137,7 +149,7 @@ fn changed(
         }
         ("follow", [n, end]) => follow(alloc, parts, pid, number(n)?, end)?,
         ("keep", [text]) => parts.keep(alloc, pid, &bytes_of(alloc, text)?)?,
-        ("move_to", [space]) => parts.move_to(pid, SpaceId(number(space)?)),
+        ("move_to", [space]) => parts.move_to(pid, SpaceId(number(space)?))?,
         _ => bear(alloc, parts, asked, pid, words)?,
     }
     word(alloc, "done")

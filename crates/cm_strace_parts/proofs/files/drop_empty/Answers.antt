@@ -1,7 +1,10 @@
-use Rattle.std.proofs.Common.{sym, ◌∙◌, ap}
-use Rattle.cm_strace_parts.specs.Lists.{descriptors_in}
+use Rattle.std.proofs.Common.{sym, ◌∙◌, ap, ℕ}
+use Rattle.cm_strace_parts.specs.Lists.{FdList, is_files, descriptors_in}
 use Rattle.cm_strace_parts.proofs.ListOrders.{removed_ordered}
 use Rattle.cm_strace_parts.proofs.Lists.{without_empty}
+use Rattle.cm_strace_parts.specs.Undone.{others_by}
+use Rattle.cm_strace_parts.proofs.Order.{keeps_others}
+use Rattle.cm_strace_parts.proofs.Undoing.{others_left}
 use Rattle.cm_strace_parts.proofs.files.drop_empty.Goals as goal
 
 pub returns-then-is_empty_at-clause-items : goal.returns-then-is_empty_at-clause-items
@@ -12,3 +15,9 @@ returns-then-is_empty_at-clause-items c =
 pub returns-then-is_empty_at-clause-ordered : goal.returns-then-is_empty_at-clause-ordered
 returns-then-is_empty_at-clause-ordered c =
     rw c.remove.ensures.items (removed_ordered c.args.list.now.items c.args.at c.requires)
+
+pub returns-then-is_empty_at-clause-others : goal.returns-then-is_empty_at-clause-others
+returns-then-is_empty_at-clause-others c pid stands =
+    ap (others_by (λ (f : FdList). f.pid) pid) (c.remove.ensures.items
+    ∙ keeps_others (is_files pid) c.args.list.now.items c.args.at stands)
+    ∙ others_left (λ (f : FdList). f.pid) pid c.args.list.now.items

@@ -1,49 +1,31 @@
-use Rattle.std.proofs.Common.{sym, ◌∙◌, ap, arith, not, filter}
-use Rattle.cm_strace_parts.specs.Lists.{Fd, is_fd, fd_before, fds_of, descriptors_in}
-use Rattle.cm_strace_parts.proofs.ListOrders.{ascends_at, changed_here, none_at, own_ascends, put_ordered}
-use Rattle.cm_strace_parts.proofs.Lists.{left_in, none_left_in, none_of}
-use Rattle.cm_strace_parts.proofs.Order.{filter_ascends, found_below}
+use Rattle.std.proofs.Common.{◌∙◌, ap}
+use Rattle.cm_strace_parts.specs.Undone.{Tracked}
+use Rattle.cm_strace_parts.proofs.Undoing.{same_still, same_saved, vec_still, vec_saved}
+use Rattle.cm_strace_parts.specs.Lists.{FdList}
 use Rattle.cm_strace_parts.proofs.files.forget.Goals as goal
-use Rattle.model_strace.specs.Parts.{is_descriptor}
 
-pub place-at-requires : goal.place-at-requires
-place-at-requires c = rw c.deref.ensures.value c.requires.processes
+pub invariant_of-files-in_err-forget_in : goal.invariant_of-files-in_err-forget_in
+invariant_of-files-in_err-forget_in c =
+    same_still (λ (f : FdList). f.pid) c.args.pid c.files.inside.list c.forget_in.new.list c.files.inside.undo c.save.new.self
+    c.files.invariant (rw c.deref.ensures.value at c.in_ok-save.ensures.saved)
+    c.in_err-forget_in.ensures.unchanged c.in_err-forget_in.ensures.capacity
 
-pub index_mut-requires : goal.index_mut-requires
-index_mut-requires c =
-    found_below _ c.deref-2.result.now c.place-at.result _ _ c.is_at.ensures c.if-is_at.true c.deref-2.ensures.len
+pub returns-in_err-forget_in-clause-saved : goal.returns-in_err-forget_in-clause-saved
+returns-in_err-forget_in-clause-saved c =
+    same_saved (λ (f : FdList). f.pid) c.args.pid c.files.inside.list c.forget_in.new.list c.files.inside.undo c.save.new.self
+    c.files.invariant (rw c.deref.ensures.value at c.in_ok-save.ensures.saved)
+    c.in_err-forget_in.ensures.unchanged ∙ ap (λ (t : Tracked FdList). t.saved) c.files.view_is
 
-pub forget-requires : goal.forget-requires
-forget-requires c =
-    ascends_at c.args.pid c.args.list.now.items c.place-at.result c.index_mut.result.now c.requires
-    (rw c.deref.ensures.value at c.place-at.ensures)
-    (sym (rw c.deref-2.ensures.value at c.is_at.ensures) ∙ c.if-is_at.true) c.index_mut.ensures.value
+pub invariant_of-files-2 : goal.invariant_of-files-2
+invariant_of-files-2 c =
+    vec_still (λ (f : FdList). f.pid) c.args.pid c.files.inside.list c.forget_in.new.list c.files.inside.undo c.save.new.self
+    c.files.invariant (rw c.deref.ensures.value at c.in_ok-save.ensures.saved)
+    c.in_ok-forget_in.ensures.ordered.processes c.in_ok-forget_in.ensures.others
+    c.in_ok-forget_in.ensures.capacity
 
-pub drop_empty-requires : goal.drop_empty-requires
-drop_empty-requires c =
-    let changed = changed_here (filter (λ (fd : Fd). not (is_fd c.args.number fd))) c.args.pid c.args.list.now.items c.place-at.result
-    c.index_mut.result.now c.forget.new.self c.requires.processes
-    (rw c.deref.ensures.value at c.place-at.ensures)
-    (sym (rw c.deref-2.ensures.value at c.is_at.ensures) ∙ c.if-is_at.true) c.index_mut.ensures.value
-    c.in_ok-forget.ensures.items in
-    rw changed (put_ordered _ c.args.list.now.items (filter_ascends fd_before (λ (fd : Fd). not (is_fd c.args.number fd))
-    (fds_of c.args.pid c.args.list.now.items) (own_ascends c.args.pid c.args.list.now.items c.requires.each)) c.requires)
-
-pub returns-in_ok-forget-clause-items : goal.returns-in_ok-forget-clause-items
-returns-in_ok-forget-clause-items c =
-    let changed = changed_here (filter (λ (fd : Fd). not (is_fd c.args.number fd))) c.args.pid c.args.list.now.items c.place-at.result
-    c.index_mut.result.now c.forget.new.self c.requires.processes
-    (rw c.deref.ensures.value at c.place-at.ensures)
-    (sym (rw c.deref-2.ensures.value at c.is_at.ensures) ∙ c.if-is_at.true) c.index_mut.ensures.value
-    c.in_ok-forget.ensures.items in
-    c.drop_empty.ensures.items ∙ ap descriptors_in changed
-    ∙ left_in c.args.pid (λ (fd : Fd). not (is_fd c.args.number fd)) (λ d. not (is_descriptor c.args.pid c.args.number d)) c.args.list.now.items
-    c.requires.processes (λ fd. grind arith) (λ d h. grind (arith, h))
-
-pub returns-else-is_at-clause-items : goal.returns-else-is_at-clause-items
-returns-else-is_at-clause-items c =
-    none_left_in c.args.pid (λ d. not (is_descriptor c.args.pid c.args.number d)) c.args.list.now.items
-    c.requires.processes (none_of c.args.pid c.args.list.now.items (none_at c.args.pid c.args.list.now.items
-    c.place-at.result c.requires.processes
-    (rw c.deref.ensures.value at c.place-at.ensures)
-    (sym (rw c.deref-2.ensures.value at c.is_at.ensures) ∙ c.if-is_at.false))) (λ d h. grind (arith, h))
+pub returns-clause-saved : goal.returns-clause-saved
+returns-clause-saved c =
+    vec_saved (λ (f : FdList). f.pid) c.args.pid c.files.inside.list c.forget_in.new.list c.files.inside.undo c.save.new.self
+    c.files.invariant (rw c.deref.ensures.value at c.in_ok-save.ensures.saved)
+    c.in_ok-forget_in.ensures.ordered.processes c.in_ok-forget_in.ensures.others
+    ∙ ap (λ (t : Tracked FdList). t.saved) c.files.view_is

@@ -5,7 +5,8 @@ use Rattle.cm_strace_parts.proofs.Lists.{others_in}
 use Rattle.cm_strace_parts.proofs.files.remove.Goals as goal
 
 pub returns-clause-items : goal.returns-clause-items
-returns-clause-items c = ap descriptors_in c.remove.ensures.items ∙ others_in c.args.pid c.args.list.now.items
+returns-clause-items c =
+    ap descriptors_in c.in_ok-remove.ensures.items ∙ others_in c.args.pid c.args.files.now.items
 
 pub returns-clause-ordered : goal.returns-clause-ordered
-returns-clause-ordered c = rw c.remove.ensures.items (left_ordered _ c.args.list.now.items c.requires)
+returns-clause-ordered c = rw c.in_ok-remove.ensures.items (left_ordered _ c.args.files.now.items c.requires)

@@ -1,7 +1,7 @@
-use Rattle.std.proofs.Common.{sym, ◌∙◌}
+use Rattle.std.proofs.Common.{sym, ◌∙◌, arith}
 use Rattle.cm_strace_parts.specs.Order.{below_by}
 use Rattle.cm_strace_parts.proofs.Order.{cut_below}
-use Rattle.cm_strace_parts.proofs.Orders.{put_instead_by, put_between_by, put_ascends_by}
+use Rattle.cm_strace_parts.proofs.Orders.{put_adds_by, put_instead_by, put_between_by, put_ascends_by}
 use Rattle.cm_strace_parts.proofs.ordered.put.Goals as goal
 
 pub insert-requires : goal.insert-requires
@@ -36,3 +36,12 @@ returns-in_ok-insert-clause-ascends g c =
     c.number-number.ensures (rw c.deref.ensures.value at c.place-at.ensures)
     (sym (rw c.deref-2.ensures.value at c.is_at.ensures) ∙ c.if-is_at.false) in
     rw is (put_ascends_by g.T.Numbered.number c.args.new c.args.list.now.items c.requires)
+
+pub returns-in_err-insert-clause-room : goal.returns-in_err-insert-clause-room
+returns-in_err-insert-clause-room g c fits =
+    let adds = put_adds_by g.T.Numbered.number c.args.new c.number-number.result c.args.list.now.items c.place-at.result
+    c.number-number.ensures (rw c.deref.ensures.value at c.place-at.ensures)
+    (sym (rw c.deref-2.ensures.value at c.is_at.ensures) ∙ c.if-is_at.false) in
+    let size = c.args.list.now.ok.0 in
+    let full = c.in_err-insert.ensures.full in
+    absurd (omega (arith, fits, adds, size, full))

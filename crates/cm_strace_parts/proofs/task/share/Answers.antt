@@ -1,29 +1,20 @@
-use Rattle.std.proofs.Common.{sym, ◌||◌}
-use Rattle.cm_strace_parts.proofs.Order.{changes_one, changes_none, map_ascends}
-use Rattle.cm_strace_parts.proofs.Orders.{sharing_keeps}
+use Rattle.std.proofs.Common.{◌∙◌, ap}
+use Rattle.cm_strace_parts.specs.Undone.{Tracked, others_by}
+use Rattle.cm_strace_parts.proofs.Orders.{sharing_others}
+use Rattle.cm_strace_parts.proofs.Undoing.{vec_still, vec_saved}
 use Rattle.cm_strace_parts.proofs.task.share.Goals as goal
-use Rattle.model_strace.specs.Parts.{Task, is_task, task_before, sharing_task}
+use Rattle.model_strace.specs.Parts.{Task}
 
-pub find-requires : goal.find-requires
-find-requires c = rw c.deref.ensures.value c.requires
+pub invariant_of-tasks-2 : goal.invariant_of-tasks-2
+invariant_of-tasks-2 c =
+    vec_still (λ (t : Task). t.pid) c.args.pid c.tasks.inside.list c.share_in.new.list c.tasks.inside.undo c.save.new.self
+    c.tasks.invariant (rw c.deref.ensures.value at c.in_ok-save.ensures.saved) c.share_in.ensures.ascends
+    (ap (others_by (λ (t : Task). t.pid) c.args.pid) c.share_in.ensures.items
+    ∙ sharing_others c.args.pid c.args.shares c.tasks.inside.list.items) c.share_in.ensures.capacity
 
-pub returns-in-Some-clause-items : goal.returns-in-Some-clause-items
-returns-in-Some-clause-items c =
-    changes_one (is_task c.args.pid) (λ (task : Task). record task { shares = task.shares || c.args.shares })
-    c.args.list.now.items _ _ _
-    (rw c.deref.ensures.value at c.in-Some.ensures.found) c.task.view_is c.index_mut-task.ensures.value
-
-pub returns-in-Some-clause-ascends : goal.returns-in-Some-clause-ascends
-returns-in-Some-clause-ascends c =
-    let is = changes_one (is_task c.args.pid) (λ (task : Task). record task {
-      shares = task.shares || c.args.shares;
-    }) c.args.list.now.items _ _ _
-    (rw c.deref.ensures.value at c.in-Some.ensures.found) c.task.view_is c.index_mut-task.ensures.value in
-    rw is (map_ascends task_before (sharing_task c.args.pid c.args.shares) c.args.list.now.items
-    (sharing_keeps c.args.pid c.args.shares) c.requires)
-
-pub returns-in-None-clause-items : goal.returns-in-None-clause-items
-returns-in-None-clause-items c =
-    sym (changes_none (is_task c.args.pid) (λ (task : Task). record task { shares = task.shares || c.args.shares })
-    c.args.list.now.items
-    (rw c.deref.ensures.value at c.in-None.ensures.none))
+pub returns-clause-saved : goal.returns-clause-saved
+returns-clause-saved c =
+    vec_saved (λ (t : Task). t.pid) c.args.pid c.tasks.inside.list c.share_in.new.list c.tasks.inside.undo c.save.new.self
+    c.tasks.invariant (rw c.deref.ensures.value at c.in_ok-save.ensures.saved) c.share_in.ensures.ascends
+    (ap (others_by (λ (t : Task). t.pid) c.args.pid) c.share_in.ensures.items
+    ∙ sharing_others c.args.pid c.args.shares c.tasks.inside.list.items) ∙ ap (λ (t : Tracked Task). t.saved) c.tasks.view_is

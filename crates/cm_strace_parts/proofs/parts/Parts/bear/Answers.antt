@@ -1,26 +1,91 @@
-use Rattle.std.proofs.Common.{◌∙◌, List, ap, arith, filter, length}
+use Rattle.std.proofs.Common.{◌∙◌, sym, List, ap, arith, filter, length}
+use Rattle.std.proofs.lemmas.List.{length-map}
 use Rattle.cm_strace_parts.proofs.Counts.{asks_count, born_counted}
 use Rattle.cm_strace_parts.proofs.Noted.{born_noted, changed_noted}
+use Rattle.cm_strace_parts.proofs.Saved.{none_saved, left_never}
 use Rattle.cm_strace_parts.proofs.parts.Parts.bear.Goals as goal
 use Rattle.cm_strace_parts.specs.Lists.{FdList, descriptors_in}
-use Rattle.model_strace.specs.Parts.{is_of, sharing_task}
+use Rattle.cm_strace_parts.specs.Savepoints.{Saved}
+use Rattle.model_strace.specs.Parts.{Task, is_of, sharing_task}
 
 pub count_after-self-inside-requires-clause-changed : goal.count_after-self-inside-requires-clause-changed
 count_after-self-inside-requires-clause-changed c =
     let ds = descriptors_in c.self.inside.files.items in
-    asks_count c.args.child ds (descriptors_in c.deref-2.result.now) _ c.self.inside.followed c.count_of-own.result
-    (ap descriptors_in c.deref-2.ensures.value ∙ c.in_ok-bear_unless.ensures.items) c.self.invariant.count
-    (c.count_of-own.ensures ∙ ap (λ (fs : List FdList). length (filter (is_of c.args.child) (descriptors_in fs))) c.deref.ensures.value)
+    asks_count c.args.child ds (descriptors_in c.items-2.result.now) _ c.self.inside.followed c.count_of-own.result
+    (ap descriptors_in c.items-2.ensures ∙ c.in_ok-bear_unless.ensures.items) c.self.invariant.counted.count
+    (c.count_of-own.ensures ∙ ap (λ (fs : List FdList). length (filter (is_of c.args.child) (descriptors_in fs))) c.items.ensures)
     (born_counted c.args.shares c.args.child (filter (is_of c.args.parent) ds) ds)
+
+pub invariant_of-self-in_err-bear_unless : goal.invariant_of-self-in_err-bear_unless
+invariant_of-self-in_err-bear_unless c = record {
+  counted = rw c.in_err-bear_unless.ensures.unchanged c.self.invariant.counted;
+  saved = rw (c.in_err-bear_unless.ensures.saved, c.in_ok-reserve_one.ensures.saved) c.self.invariant.saved;
+  noted = rw c.in_ok-reserve_one.ensures.items c.self.invariant.noted;
+}
+
+pub invariant_of-self-in_err-share : goal.invariant_of-self-in_err-share
+invariant_of-self-in_err-share c = record {
+  counted = record {
+    files = c.in_ok-bear_unless.ensures.ordered;
+    count = c.count_after-self-inside.ensures
+        ∙ ap (λ (fs : List FdList). length (descriptors_in fs)) c.items-2.ensures;
+  };
+  saved = rw (c.in_err-share.ensures.saved, c.in_ok-reserve_one.ensures.saved, c.in_ok-bear_unless.ensures.saved)
+      c.self.invariant.saved;
+  noted = rw (c.in_err-share.ensures.unchanged, c.in_ok-reserve_one.ensures.items) c.self.invariant.noted;
+}
+
+pub invariant_of-self-in_err-put : goal.invariant_of-self-in_err-put
+invariant_of-self-in_err-put c = record {
+  counted = record {
+    files = c.in_ok-bear_unless.ensures.ordered;
+    count = c.count_after-self-inside.ensures
+        ∙ ap (λ (fs : List FdList). length (descriptors_in fs)) c.items-2.ensures;
+  };
+  saved = rw (
+    c.in_err-put.ensures.saved,
+    c.in_ok-share.ensures.saved,
+    c.in_ok-reserve_one.ensures.saved,
+    c.in_ok-bear_unless.ensures.saved,
+  ) c.self.invariant.saved;
+  noted = rw (c.in_err-put.ensures.unchanged, c.in_ok-share.ensures.items) (changed_noted c.self.inside.known _
+      (sharing_task c.args.parent c.args.shares) (λ t. grind arith)
+      (rw c.in_ok-reserve_one.ensures.items c.self.invariant.noted));
+}
 
 pub invariant_of-self-2 : goal.invariant_of-self-2
 invariant_of-self-2 c = record {
-  tasks = c.bear.ensures.ascends;
-  kept = c.self.invariant.kept;
-  files = c.in_ok-bear_unless.ensures.ordered;
-  count = c.count_after-self-inside.ensures
-      ∙ ap (λ (fs : List FdList). length (descriptors_in fs)) c.deref-2.ensures.value;
-  noted = rw c.bear.ensures.items (born_noted c.self.inside.known c.note.new.self _ _ c.note.ensures.others
-      (changed_noted c.self.inside.known _ (sharing_task c.args.parent c.args.shares) (λ t. grind arith)
-      (rw c.reserve.ensures.items c.self.invariant.noted)));
+  counted = record {
+    files = c.in_ok-bear_unless.ensures.ordered;
+    count = c.count_after-self-inside.ensures
+        ∙ ap (λ (fs : List FdList). length (descriptors_in fs)) c.items-2.ensures;
+  };
+  saved = rw (
+    c.in_ok-put.ensures.saved,
+    c.in_ok-share.ensures.saved,
+    c.in_ok-reserve_one.ensures.saved,
+    c.in_ok-bear_unless.ensures.saved,
+  ) c.self.invariant.saved;
+  noted = rw (c.in_ok-put.ensures.items, c.in_ok-share.ensures.items) (born_noted c.self.inside.known c.note.new.self
+      _ _ c.note.ensures.others (changed_noted c.self.inside.known _ (sharing_task c.args.parent c.args.shares)
+      (λ t. grind arith) (rw c.in_ok-reserve_one.ensures.items c.self.invariant.noted)));
 }
+
+pub returns-in_err-share-clause-unchanged : goal.returns-in_err-share-clause-unchanged
+returns-in_err-share-clause-unchanged c = left_never _ _ _ (λ none.
+    let free = none_saved _ _ _ _ _ c.self.invariant.saved (ap (λ (s : Saved). s.saved) c.self.view_is ∙ none) in
+    let ok = c.in_err-share.ensures.never (c.in_ok-reserve_one.ensures.saved ∙ free.tasks) in
+    let err = c.in_err-share.was in
+    absurd (cc))
+
+pub returns-in_err-put-clause-unchanged : goal.returns-in_err-put-clause-unchanged
+returns-in_err-put-clause-unchanged c = left_never _ _ _ (λ none.
+    let free = none_saved _ _ _ _ _ c.self.invariant.saved (ap (λ (s : Saved). s.saved) c.self.view_is ∙ none) in
+    let many = ap (λ (ts : List Task). length ts) c.in_ok-share.ensures.items
+    ∙ length-map c.reserve_one.new.self.items (sharing_task c.args.parent c.args.shares) in
+    let room = c.in_ok-reserve_one.ensures.room in
+    let more = c.in_ok-share.ensures.room in
+    let ok = c.in_err-put.ensures.never (c.in_ok-share.ensures.saved ∙ c.in_ok-reserve_one.ensures.saved ∙ free.tasks)
+    (omega (arith, many, room, more)) in
+    let err = c.in_err-put.was in
+    absurd (cc))

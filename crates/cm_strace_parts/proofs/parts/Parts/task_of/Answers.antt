@@ -1,4 +1,0 @@
-use Rattle.cm_strace_parts.proofs.parts.Parts.task_of.Goals as goal
-
-pub get-requires : goal.get-requires
-get-requires c = rw c.deref.ensures.value c.self.invariant.tasks
