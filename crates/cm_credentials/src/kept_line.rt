@@ -44,10 +44,10 @@ impl KeptAllIds {
         ensures text { OrNoMemory result (λ _. Appends text.old.items text.new.items (all_ids_text cred.now)) }
         ensures keeps { OrNoMemory result (λ _. KeepsGroups self.new.groups) }
     {
-        self.user
-            .put(text, &LabelledIds::new(b'u', cred.user_ids()))?;
-        self.group
-            .put(text, &LabelledIds::new(b'g', cred.group_ids()))?;
+        let user = LabelledIds::new(b'u', cred.user_ids());
+        self.user.put(text, &user)?;
+        let group = LabelledIds::new(b'g', cred.group_ids());
+        self.group.put(text, &group)?;
         self.groups.put(text, cred.groups.items())
     }
 }
