@@ -49,10 +49,10 @@ act_waits (deed.Exceeds limit) new old is waits = absurd is
 pub concluded_read : (w : World) (pid : ℕ) (body : List ℕ) (step : Step) (now old : Work) → now
     ≡ record old { parts = now.parts }
     → step_is pid step now.parts ≡ turn w pid body old.parts
-    → concluded w pid step now ≡ read_fed w (record { number = old.count + 1; pid = pid; body = body })
-    (record old { count = old.count + 1 })
+    → concluded w pid step (record now { count = now.count + 1 })
+    ≡ read_fed w (record { number = old.count + 1; pid = pid; body = body }) (record old { count = old.count + 1 })
 concluded_read w pid body step now old others is =
-    ap (concluded w pid step) others
+    ap (λ (t : Work). concluded w pid step (record t { count = t.count + 1 })) others
     ∙ ap (λ (t : Turn). and_then (given_at (old.count + 1) t) (λ r. released w (length old.held) r.born
     (record old { parts = r.parts; count = old.count + 1 }))) is
 

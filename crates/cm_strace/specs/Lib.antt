@@ -8,5 +8,5 @@ pub mod Works
 pub mod Stages
 pub mod Taken
 pub mod Queues
-pub mod Drafts
+pub mod Births
 pub mod Elsewhere

@@ -20,8 +20,8 @@ abbrev pub awaits : List Line → Deed → Bool
 awaits held (deed.Acts (act.Bears birth)) = list_any (is_line_of birth.child) held
 awaits held _ = false
 
--- the next line is counted, its step is done, and after it the held lines of a child are read
+-- the step of the line that was counted last is done, and after it the held lines of a child are read
 abbrev pub concluded : World → ℕ → Step → Work → After Work
 concluded w pid step t =
-    and_then (given_at (t.count + 1) (step_is pid step t.parts))
-    (λ r. released w (length t.held) r.born (record t { parts = r.parts; count = t.count + 1 }))
+    and_then (given_at t.count (step_is pid step t.parts))
+    (λ r. released w (length t.held) r.born (record t { parts = r.parts }))

@@ -33,8 +33,8 @@ pub(crate) fn read_end(alloc: Global, w: &World, t: &Work) -> Result<Fed, NoMemo
 
 // What the held lines give at the log's end, where this is known.
 fn read_held(alloc: Global, w: &World, parts: &mut Parts, held: &[Line]) -> Result<Fed, NoMemory>
-    requires { parts.old.spaces + length held.now ≤ greatest_number }
-    ensures { OrNoMemory result (λ fed. fed ≡ at_end (world_of w.now) held.now parts.old) }
+    requires { parts.old.known.spaces + length held.now ≤ greatest_number }
+    ensures { OrNoMemory result (λ fed. fed ≡ at_end (world_of w.now) held.now parts.old.known) }
 {
     for l in held {
         let mut events = Vec::new(alloc);

@@ -4,8 +4,8 @@
 
 mod acts;
 mod agenda;
+mod births;
 mod deed;
-mod draft;
 mod ending;
 mod line;
 mod opens;

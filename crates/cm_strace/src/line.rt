@@ -70,10 +70,11 @@ impl Line {
         parts: &mut Parts,
         events: &mut Vec<Placed>,
     ) -> Result<Given, NoMemory>
-        requires { parts.old.spaces < greatest_number }
-        ensures given { OrNoMemory result (λ given. given_is given events.new.items parts.new
-            ≡ preceded events.old.items (read_line (world_of w.now) self.now parts.old)) }
-        ensures spaces { parts.new.spaces ≤ parts.old.spaces + 1 }
+        requires { parts.old.known.spaces < greatest_number }
+        ensures given { OrNoMemory result (λ given. given_is given events.new.items parts.new.known
+            ≡ preceded events.old.items (read_line (world_of w.now) self.now parts.old.known)) }
+        ensures saved { parts.new.saved ≡ parts.old.saved }
+        ensures spaces { OrNoMemory result (λ _. parts.new.known.spaces ≤ parts.old.known.spaces + 1) }
     {
         let step = read_step(alloc, w, parts, self.pid, &self.body)?;
         conclude(alloc, parts, self.origin(), step, events)

@@ -1,14 +1,16 @@
 // The open of a file: it is followed where it is one of a process's map files, its setgroups file, or its user
 // namespace.
 ghost use Rattle.std.specs.Prelude.{◌≡◌, ℕ, Some, IsTrue};
-ghost use Rattle.cm_base.specs.Outcome.{OrNoMemory, UnchangedOnErr};
+ghost use Rattle.cm_base.specs.Outcome.{OrNoMemory};
 ghost use Rattle.cm_strace.specs.Deeds.{deed_is, Waits};
 ghost use Rattle.cm_strace.specs.Elsewhere.{IsOther};
 ghost use Rattle.cm_strace_calls.specs.Told.{opening_is};
+ghost use Rattle.cm_strace_parts.specs.Savepoints.{LeftOnErr};
 ghost use Rattle.cm_strace_values.specs.Paths.{followed_is};
 ghost use Rattle.model_strace.specs.Files.{file_at, relative_file};
 ghost use Rattle.model_strace.specs.Calls as model;
-ghost use Rattle.model_strace.specs.Parts.{Parts, task_of, without_descriptor};
+ghost use Rattle.model_strace.specs.Parts as known;
+ghost use Rattle.model_strace.specs.Parts.{task_of, without_descriptor};
 ghost use Rattle.model_strace.specs.Quoted.{quote_of, whole_text};
 ghost use Rattle.model_strace.specs.Turn.{Quiet, follows, opens_of, opens_other, opens_path, opens};
 
@@ -20,7 +22,8 @@ use cm_strace_text::{Quote, read_quote};
 use cm_strace_values::{Named, file_at, relative_file};
 use std::alloc::Global;
 
-/// A path is opened as that descriptor. It fails only where memory runs out, and then leaves the parts as they were.
+/// A path is opened as that descriptor. It fails only where memory runs out, and then leaves the parts as they were, or
+/// to be rolled back.
 pub(crate) fn opens(
     alloc: Global,
     parts: &mut Parts,
@@ -28,11 +31,12 @@ pub(crate) fn opens(
     opening: Opening<'_>,
     number: u64,
 ) -> Result<Deed, NoMemory>
-    ensures turn { OrNoMemory result (λ deed. deed_is pid deed parts.new
-        ≡ opens pid number (opening_is opening.entry) (opening_is opening.entry).path parts.old) }
-    ensures unchanged { UnchangedOnErr result parts.new parts.old }
+    ensures turn { OrNoMemory result (λ deed. deed_is pid deed parts.new.known
+        ≡ opens pid number (opening_is opening.entry) (opening_is opening.entry).path parts.old.known) }
+    ensures saved { parts.new.saved ≡ parts.old.saved }
+    ensures unchanged { LeftOnErr result parts.new parts.old }
     ensures waits { OrNoMemory result (λ deed. Waits deed parts.new parts.old) }
-    ensures spaces { parts.new.spaces ≡ parts.old.spaces }
+    ensures spaces { OrNoMemory result (λ _. parts.new.known.spaces ≡ parts.old.known.spaces) }
 {
     if leads_elsewhere(opening.path) {
         parts.forget_descriptor(alloc, pid, number)?;
@@ -49,7 +53,7 @@ pub(crate) fn opens(
 
 // The path begins as one of a file outside of /proc, which isn't followed.
 fn leads_elsewhere(text: &[u8]) -> bool
-    ensures { IsTrue result → (pid number : ℕ) (o : model.Opening) (p : Parts)
+    ensures { IsTrue result → (pid number : ℕ) (o : model.Opening) (p : known.Parts)
         → opens pid number o (whole_text (quote_of text.now)) p ≡ Quiet (without_descriptor pid number p) }
 {
     match text {
@@ -74,11 +78,12 @@ fn opens_path(
     number: u64,
     path: &[u8],
 ) -> Result<Deed, NoMemory>
-    ensures turn { OrNoMemory result (λ deed. deed_is pid deed parts.new
-        ≡ opens_path pid number (opening_is opening.entry) path.now (file_at pid path.now) parts.old) }
-    ensures unchanged { UnchangedOnErr result parts.new parts.old }
+    ensures turn { OrNoMemory result (λ deed. deed_is pid deed parts.new.known
+        ≡ opens_path pid number (opening_is opening.entry) path.now (file_at pid path.now) parts.old.known) }
+    ensures saved { parts.new.saved ≡ parts.old.saved }
+    ensures unchanged { LeftOnErr result parts.new parts.old }
     ensures waits { OrNoMemory result (λ deed. Waits deed parts.new parts.old) }
-    ensures spaces { parts.new.spaces ≡ parts.old.spaces }
+    ensures spaces { OrNoMemory result (λ _. parts.new.known.spaces ≡ parts.old.known.spaces) }
 {
     match file_at(pid, path) {
         Some(named) => if named.file.is_followed(opening.writes()) {
@@ -100,11 +105,12 @@ fn opens_other(
     writes: bool,
     path: &[u8],
 ) -> Result<Deed, NoMemory>
-    ensures turn { OrNoMemory result (λ deed. deed_is pid deed parts.new
-        ≡ opens_other pid number writes (relative_file path.now) parts.old) }
-    ensures unchanged { UnchangedOnErr result parts.new parts.old }
+    ensures turn { OrNoMemory result (λ deed. deed_is pid deed parts.new.known
+        ≡ opens_other pid number writes (relative_file path.now) parts.old.known) }
+    ensures saved { parts.new.saved ≡ parts.old.saved }
+    ensures unchanged { LeftOnErr result parts.new parts.old }
     ensures waits { OrNoMemory result (λ deed. Waits deed parts.new parts.old) }
-    ensures spaces { parts.new.spaces ≡ parts.old.spaces }
+    ensures spaces { OrNoMemory result (λ _. parts.new.known.spaces ≡ parts.old.known.spaces) }
 {
     match relative_file(path) {
         Some(file) => if file.is_followed(writes) {
@@ -129,11 +135,13 @@ fn opens_of(
     until_exec: bool,
     named: Named,
 ) -> Result<Deed, NoMemory>
-    ensures turn { OrNoMemory result (λ deed. deed_is pid deed parts.new
-        ≡ opens_of pid number until_exec (followed_is named.file) (task_of named.process parts.old) parts.old) }
-    ensures unchanged { UnchangedOnErr result parts.new parts.old }
+    ensures turn { OrNoMemory result (λ deed. deed_is pid deed parts.new.known
+        ≡ opens_of pid number until_exec (followed_is named.file) (task_of named.process parts.old.known)
+        parts.old.known) }
+    ensures saved { parts.new.saved ≡ parts.old.saved }
+    ensures unchanged { LeftOnErr result parts.new parts.old }
     ensures waits { OrNoMemory result (λ deed. Waits deed parts.new parts.old) }
-    ensures spaces { parts.new.spaces ≡ parts.old.spaces }
+    ensures spaces { OrNoMemory result (λ _. parts.new.known.spaces ≡ parts.old.known.spaces) }
 {
     let space = match parts.task_of(named.process) {
         Some(task) => task.space,
@@ -154,10 +162,12 @@ fn opens_of(
 
 // A descriptor more, unless they exceed their limit then.
 fn follows(alloc: Global, parts: &mut Parts, new: Descriptor) -> Result<Deed, NoMemory>
-    ensures turn { OrNoMemory result (λ deed. (pid : ℕ) → deed_is pid deed parts.new ≡ follows new parts.old) }
-    ensures unchanged { UnchangedOnErr result parts.new parts.old }
+    ensures turn { OrNoMemory result (λ deed. (pid : ℕ) → deed_is pid deed parts.new.known
+        ≡ follows new parts.old.known) }
+    ensures saved { parts.new.saved ≡ parts.old.saved }
+    ensures unchanged { LeftOnErr result parts.new parts.old }
     ensures waits { OrNoMemory result (λ deed. Waits deed parts.new parts.old) }
-    ensures spaces { parts.new.spaces ≡ parts.old.spaces }
+    ensures spaces { OrNoMemory result (λ _. parts.new.known.spaces ≡ parts.old.known.spaces) }
 {
     parts.follow(alloc, new)?;
     if parts.descriptor_count() > u128::from(Limited::Descriptors.number()) {

@@ -2,11 +2,12 @@
 ghost use Rattle.std.specs.Prelude.{◌≡◌, ℕ, ◌++◌, false, option_map, IsTrue, List, Some};
 ghost use Rattle.std.specs.declared.vec.Vec.{Vec};
 ghost use Rattle.std.specs.declared.alloc.Global.{Global};
-ghost use Rattle.cm_base.specs.Outcome.{OrNoMemory, UnchangedOnErr};
+ghost use Rattle.cm_base.specs.Outcome.{OrNoMemory};
 ghost use Rattle.cm_strace.specs.Deeds.{begun_text, deed_is, step_is, Waits};
 ghost use Rattle.cm_strace.specs.Heard.{heard_turn};
 ghost use Rattle.cm_strace.specs.Shapes.{is_on_descriptors, shape_turn};
 ghost use Rattle.cm_strace_calls.specs.Told.{listed_is};
+ghost use Rattle.cm_strace_parts.specs.Savepoints.{LeftOnErr};
 ghost use Rattle.cm_strace_text.specs.Lines.{body_is};
 ghost use Rattle.cm_declared.specs.World.{world_of};
 ghost use Rattle.model_cred.specs.World as model;
@@ -63,7 +64,8 @@ fn hear_whole(text: &[u8]) -> Heard<'_>
     }
 }
 
-/// What a line of a process does. It fails only where memory runs out, and then leaves the parts as they were.
+/// What a line of a process does. It fails only where memory runs out, and then leaves the parts as they were, or to be
+/// rolled back.
 pub(crate) fn read_step(
     alloc: Global,
     w: &World,
@@ -71,16 +73,18 @@ pub(crate) fn read_step(
     pid: Pid,
     body: &[u8],
 ) -> Result<Step, NoMemory>
-    ensures turn { OrNoMemory result (λ step. step_is pid step parts.new
-        ≡ turn (world_of w.now) pid body.now parts.old) }
-    ensures unchanged { UnchangedOnErr result parts.new parts.old }
+    ensures turn { OrNoMemory result (λ step. step_is pid step parts.new.known
+        ≡ turn (world_of w.now) pid body.now parts.old.known) }
+    ensures saved { parts.new.saved ≡ parts.old.saved }
+    ensures unchanged { LeftOnErr result parts.new parts.old }
     ensures waits { OrNoMemory result (λ step. Waits step.deed parts.new parts.old) }
-    ensures spaces { parts.new.spaces ≡ parts.old.spaces }
+    ensures spaces { OrNoMemory result (λ _. parts.new.known.spaces ≡ parts.old.known.spaces) }
 {
     heard_step(alloc, w, parts, pid, hear(read_body(body)))
 }
 
-/// What a body of a process does. It fails only where memory runs out, and then leaves the parts as they were.
+/// What a body of a process does. It fails only where memory runs out, and then leaves the parts as they were, or to be
+/// rolled back.
 pub(crate) fn heard_step(
     alloc: Global,
     w: &World,
@@ -88,11 +92,12 @@ pub(crate) fn heard_step(
     pid: Pid,
     heard: Heard<'_>,
 ) -> Result<Step, NoMemory>
-    ensures turn { OrNoMemory result (λ step. step_is pid step parts.new
-        ≡ heard_turn (world_of w.now) pid heard.entry parts.old) }
-    ensures unchanged { UnchangedOnErr result parts.new parts.old }
+    ensures turn { OrNoMemory result (λ step. step_is pid step parts.new.known
+        ≡ heard_turn (world_of w.now) pid heard.entry parts.old.known) }
+    ensures saved { parts.new.saved ≡ parts.old.saved }
+    ensures unchanged { LeftOnErr result parts.new parts.old }
     ensures waits { OrNoMemory result (λ step. Waits step.deed parts.new parts.old) }
-    ensures spaces { parts.new.spaces ≡ parts.old.spaces }
+    ensures spaces { OrNoMemory result (λ _. parts.new.known.spaces ≡ parts.old.known.spaces) }
 {
     match heard {
         Heard::Nothing => Ok(plain(Deed::Quiet)),
@@ -117,11 +122,12 @@ fn plain(deed: Deed) -> Step
 
 // A call whose beginning is this text, unless another one of the process isn't finished.
 fn begin(alloc: Global, parts: &mut Parts, pid: Pid, text: &[u8]) -> Result<Step, NoMemory>
-    ensures turn { OrNoMemory result (λ step. step_is pid step parts.new
-        ≡ begins pid text.now (kept_of pid parts.old) parts.old) }
-    ensures unchanged { UnchangedOnErr result parts.new parts.old }
+    ensures turn { OrNoMemory result (λ step. step_is pid step parts.new.known
+        ≡ begins pid text.now (kept_of pid parts.old.known) parts.old.known) }
+    ensures saved { parts.new.saved ≡ parts.old.saved }
+    ensures unchanged { LeftOnErr result parts.new parts.old }
     ensures waits { OrNoMemory result (λ step. Waits step.deed parts.new parts.old) }
-    ensures spaces { parts.new.spaces ≡ parts.old.spaces }
+    ensures spaces { OrNoMemory result (λ _. parts.new.known.spaces ≡ parts.old.known.spaces) }
 {
     if parts.kept_of(pid).is_some() {
         return Ok(plain(Deed::Refused(LineFault::Unfinished)));
@@ -140,11 +146,12 @@ fn whole(
     call: Listed,
     text: &[u8],
 ) -> Result<Step, NoMemory>
-    ensures turn { OrNoMemory result (λ step. step_is pid step parts.new
-        ≡ told_turn pid (listed_told (world_of w.now) pid (Some (listed_is call)) text.now) parts.old) }
-    ensures unchanged { UnchangedOnErr result parts.new parts.old }
+    ensures turn { OrNoMemory result (λ step. step_is pid step parts.new.known
+        ≡ told_turn pid (listed_told (world_of w.now) pid (Some (listed_is call)) text.now) parts.old.known) }
+    ensures saved { parts.new.saved ≡ parts.old.saved }
+    ensures unchanged { LeftOnErr result parts.new parts.old }
     ensures waits { OrNoMemory result (λ step. Waits step.deed parts.new parts.old) }
-    ensures spaces { parts.new.spaces ≡ parts.old.spaces }
+    ensures spaces { OrNoMemory result (λ _. parts.new.known.spaces ≡ parts.old.known.spaces) }
 {
     if is_idle(parts, pid, call) {
         return Ok(plain(shape_deed(text)));
@@ -158,7 +165,8 @@ fn whole(
 #[tactic(auto, using(crate::proofs::Idle::idle))]
 fn is_idle(parts: &Parts, pid: Pid, call: Listed) -> bool
     ensures { IsTrue result → (w : model.World) (text : List ℕ)
-        → told_turn pid (listed_told w pid (Some (listed_is call)) text) parts.now ≡ shape_turn (written_of text) parts.now }
+        → told_turn pid (listed_told w pid (Some (listed_is call)) text) parts.now.known
+        ≡ shape_turn (written_of text) parts.now.known }
 {
     if parts.has_descriptor(pid) {
         return false;
@@ -195,11 +203,12 @@ fn resume(
     name: &[u8],
     rest: &[u8],
 ) -> Result<Step, NoMemory>
-    ensures turn { OrNoMemory result (λ step. step_is pid step parts.new
-        ≡ resumes (world_of w.now) pid name.now rest.now (kept_of pid parts.old) parts.old) }
-    ensures unchanged { UnchangedOnErr result parts.new parts.old }
+    ensures turn { OrNoMemory result (λ step. step_is pid step parts.new.known
+        ≡ resumes (world_of w.now) pid name.now rest.now (kept_of pid parts.old.known) parts.old.known) }
+    ensures saved { parts.new.saved ≡ parts.old.saved }
+    ensures unchanged { LeftOnErr result parts.new parts.old }
     ensures waits { OrNoMemory result (λ step. Waits step.deed parts.new parts.old) }
-    ensures spaces { parts.new.spaces ≡ parts.old.spaces }
+    ensures spaces { OrNoMemory result (λ _. parts.new.known.spaces ≡ parts.old.known.spaces) }
 {
     if is_unread(parts, pid, name) {
         return Ok(Step {
@@ -216,7 +225,7 @@ fn resume(
 // The call of that name whose beginning is kept isn't read, whatever its rest is.
 fn is_unread(parts: &Parts, pid: Pid, name: &[u8]) -> bool
     ensures { IsTrue result → (w : model.World) (rest : List ℕ) (p : known.Parts)
-        → resumes w pid name.now rest (kept_of pid parts.now) p ≡ Quiet (without_kept pid p) }
+        → resumes w pid name.now rest (kept_of pid parts.now.known) p ≡ Quiet (without_kept pid p) }
 {
     match parts.kept_of(pid) {
         Some(kept) => begins_unread(kept, name),
@@ -242,7 +251,7 @@ fn begun(
     rest: &[u8],
 ) -> Result<Option<Vec<u8>>, NoMemory>
     ensures { OrNoMemory result (λ text. option_map (λ (t : Vec ℕ Global). t.items) text
-        ≡ begun_text name.now rest.now (kept_of pid parts.now)) }
+        ≡ begun_text name.now rest.now (kept_of pid parts.now.known)) }
 {
     match parts.kept_of(pid) {
         Some(kept) => if call_name(kept) == without_32(name) {
@@ -272,11 +281,12 @@ fn whole_resumed(
     pid: Pid,
     text: &[u8],
 ) -> Result<Step, NoMemory>
-    ensures turn { OrNoMemory result (λ step. step_is pid step parts.new
-        ≡ told_turn pid (call_told (world_of w.now) pid text.now) (without_kept pid parts.old)) }
-    ensures unchanged { UnchangedOnErr result parts.new parts.old }
+    ensures turn { OrNoMemory result (λ step. step_is pid step parts.new.known
+        ≡ told_turn pid (call_told (world_of w.now) pid text.now) (without_kept pid parts.old.known)) }
+    ensures saved { parts.new.saved ≡ parts.old.saved }
+    ensures unchanged { LeftOnErr result parts.new parts.old }
     ensures waits { OrNoMemory result (λ step. Waits step.deed parts.new parts.old) }
-    ensures spaces { parts.new.spaces ≡ parts.old.spaces }
+    ensures spaces { OrNoMemory result (λ _. parts.new.known.spaces ≡ parts.old.known.spaces) }
 {
     let told = read_call(alloc, w, pid, text)?;
     let deed = take(alloc, parts, pid, told)?;

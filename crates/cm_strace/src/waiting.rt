@@ -61,7 +61,7 @@ impl<'a> Waiting<'a> {
     /// The next line of these pids is taken.
     pub(crate) fn take_next(&mut self, parts: &Parts) -> Option<&'a Line>
         ensures next { next_is (option_map (λ l. l.now) result) self.new.pids
-            ≡ next_line parts.now self.old.left self.old.pids }
+            ≡ next_line parts.now.known self.old.left self.old.pids }
         ensures left { self.new.left ≡ (without_taken (option_map (λ l. l.now) result) self.old).left }
         ensures all { self.new.all ≡ self.old.all }
         ensures fewer { IfSome result (λ _. length self.new.left + 1 ≡ length self.old.left) }
@@ -93,7 +93,7 @@ impl<'a> Waiting<'a> {
     // The first line of the first pid is taken, where this pid is known.
     fn take_of(&mut self, parts: &Parts, pid: Pid) -> Option<&'a Line>
         ensures line { option_map (λ l. l.now) result
-            ≡ (if is_known pid parts.now then first_line self.old.pids self.old.left else None) }
+            ≡ (if is_known pid parts.now.known then first_line self.old.pids self.old.left else None) }
         ensures rest { self.new ≡ without_taken (option_map (λ l. l.now) result) self.old }
         ensures fewer { IfSome result (λ _. length self.new.left + 1 ≡ length self.old.left) }
     {

@@ -1,11 +1,10 @@
-// A session that goes on: what is known, the held lines, and how many lines came (model_strace/specs, Rest). A line
-// that bears a child with held lines is read on a copy of what is known, and so are these after it, which are read
-// where they stand and go out at the end; all other lines are read in place.
+// A session that goes on: what is known, the held lines, and how many lines came (model_strace/specs, Rest). All lines
+// are read in place. Before a line that bears a child with held lines a savepoint of what is known is set, to which it
+// is rolled back where memory runs out; the held lines are read where they stand and go out at the end.
 ghost use Rattle.std.specs.Prelude.{◌≡◌, [], ◌+◌, ◌<◌, ◌≤◌, ◌^◌, true, false, length, OnErr};
 ghost use Rattle.cm_base.specs.Limits.{greatest_number};
 ghost use Rattle.cm_base.specs.Outcome.{OrNoMemory, UnchangedOnErr};
 ghost use Rattle.cm_strace.specs.Deeds.{IsAct, Waits, step_is};
-ghost use Rattle.cm_strace.specs.Drafts.{work_of};
 ghost use Rattle.cm_strace.specs.Given.{after_is};
 ghost use Rattle.cm_strace.specs.Heard.{heard_turn};
 ghost use Rattle.cm_strace.specs.Works.{awaits, concluded, uses};
@@ -15,8 +14,8 @@ ghost use Rattle.model_strace.specs.After.{preceded};
 ghost use Rattle.model_strace.specs.Rest.{fed, first_work, held_fed, read_fed};
 
 use crate::acts::conclude;
+use crate::births::read_on;
 use crate::deed::{Act, Deed, Given, Origin, Step};
-use crate::draft::Draft;
 use crate::line::{Line, has_line, remove_taken};
 use crate::placed::Stop;
 use crate::step::{Heard, hear, heard_step};
@@ -37,11 +36,14 @@ pub(crate) struct Work {
 }
 
 impl Model for Work {
+    ghost use Rattle.std.specs.Prelude.{◌≡◌, None};
     ghost use Rattle.model_strace.specs.Rest as model;
 
     ghost Value = { model.Work };
 
-    ghost view = { λ t. record { parts = t.parts; held = t.held.items; count = t.count } };
+    ghost view = { λ t. record { parts = t.parts.known; held = t.held.items; count = t.count } };
+
+    ghost invariant = { λ t. t.parts.saved ≡ None };
 }
 
 impl Work {
@@ -54,21 +56,6 @@ impl Work {
             parts,
             held: Vec::new(alloc),
             count: 0,
-        })
-    }
-
-    // The same, with its held lines where they stand. It fails only where memory runs out.
-    fn draft(&self, alloc: Global) -> Result<Draft<'_>, NoMemory>
-        ensures same { OrNoMemory result (λ draft. work_of draft ≡ self.now) }
-        ensures all { OrNoMemory result (λ draft. draft.waiting.all ≡ self.now.held) }
-        ensures fresh { OrNoMemory result (λ draft. draft.waiting.pids ≡ []) }
-    {
-        let parts = self.parts.copy(alloc)?;
-        let waiting = Waiting::new(alloc, &self.held)?;
-        Ok(Draft {
-            parts,
-            waiting,
-            count: self.count,
         })
     }
 
@@ -166,7 +153,7 @@ impl Work {
         }
         let step = self.step(alloc, w, pid, told)?;
         if awaits(&self.held, &step.deed) {
-            self.read_apart(alloc, w, pid, step, events)
+            self.read_birth(alloc, w, pid, step, events)
         } else {
             self.read_here(alloc, pid, step, events)
         }
@@ -210,7 +197,7 @@ impl Work {
         requires few { self.old.count < 2 ^ 63 }
         requires alone { awaits self.old.held step.deed ≡ false }
         ensures done { OrNoMemory result (λ stop. (w : model.World) → after_is stop events.new.items self.new
-            ≡ preceded events.old.items (concluded w pid step self.old)) }
+            ≡ preceded events.old.items (concluded w pid step (record self.old { count = self.old.count + 1 }))) }
         ensures unchanged { UnchangedOnErr result self.new self.old }
         ensures acts { OnErr result (IsAct step.deed) }
         ensures uses { uses self.new ≤ uses self.old + 1 }
@@ -226,9 +213,9 @@ impl Work {
         }
     }
 
-    // The step of a line is done on a copy of what is known, and after it the held lines of a child are read where they
-    // stand; those that were read go out at the end, when nothing fails any more.
-    fn read_apart(
+    // The step of a line is done, and after it the held lines of a child are read where they stand; those that were
+    // read go out at the end, when nothing fails any more. Where memory runs out, what is known is rolled back.
+    fn read_birth(
         &mut self,
         alloc: Global,
         w: &World,
@@ -239,23 +226,38 @@ impl Work {
         requires room { uses self.old < greatest_number }
         requires few { self.old.count < 2 ^ 63 }
         ensures done { OrNoMemory result (λ stop. after_is stop events.new.items self.new
-            ≡ preceded events.old.items (concluded (world_of w.now) pid step self.old)) }
+            ≡ preceded events.old.items (concluded (world_of w.now) pid step
+            (record self.old { count = self.old.count + 1 }))) }
         ensures unchanged { UnchangedOnErr result self.new self.old }
         ensures uses { uses self.new ≤ uses self.old + 1 }
         ensures counted { OrNoMemory result (λ _. self.new.count ≡ self.old.count + 1) }
     {
-        let mut draft = self.draft(alloc)?;
-        let stop = draft.read_on(alloc, w, pid, step, events)?;
-        let Draft {
-            parts,
-            waiting,
-            count,
-        } = draft;
-        let taken = waiting.into_taken();
-        self.parts = parts;
-        self.count = count;
-        remove_taken(&mut self.held, &taken);
-        Ok(stop)
+        let number = self.count + 1;
+        let origin = Origin { line: number, pid };
+        let mut waiting = Waiting::new(alloc, &self.held)?;
+        self.parts.set_savepoint();
+        let read = read_on(
+            alloc,
+            w,
+            &mut self.parts,
+            &mut waiting,
+            origin,
+            step,
+            events,
+        );
+        match read {
+            Ok(stop) => {
+                self.parts.release();
+                let taken = waiting.into_taken();
+                remove_taken(&mut self.held, &taken);
+                self.count = number;
+                Ok(stop)
+            }
+            Err(out) => {
+                self.parts.roll_back();
+                Err(out)
+            }
+        }
     }
 }
 

@@ -7,7 +7,8 @@ ghost use Rattle.cm_strace.specs.Deeds.{deed_is};
 ghost use Rattle.cm_strace_text.specs.Depths.{arguments_in};
 ghost use Rattle.cm_strace_values.specs.Outcomes.{outcome_is};
 ghost use Rattle.cm_strace_text.specs.Quotes.{quote_is};
-ghost use Rattle.model_strace.specs.Parts.{Parts, descriptor_of};
+ghost use Rattle.model_strace.specs.Parts as known;
+ghost use Rattle.model_strace.specs.Parts.{descriptor_of};
 ghost use Rattle.model_strace.specs.Turn.{written_call, wrote, failed_write, writes_text, writes_argument, writes};
 
 use crate::deed::{Act, Deed};
@@ -28,9 +29,9 @@ pub(crate) fn writes(
     left: Option<&[u8]>,
     outcome: Outcome,
 ) -> Result<Deed, NoMemory>
-    ensures { OrNoMemory result (λ deed. deed_is pid deed parts.now
-        ≡ writes pid (descriptor_of pid number parts.now) (slice_get (arguments_in left.entry) 0)
-        (outcome_is outcome) parts.now) }
+    ensures { OrNoMemory result (λ deed. deed_is pid deed parts.now.known
+        ≡ writes pid (descriptor_of pid number parts.now.known) (slice_get (arguments_in left.entry) 0)
+        (outcome_is outcome) parts.now.known) }
 {
     match parts.descriptor_of(pid, u64::from(number)) {
         Some(d) => if d.file.is_space() {
@@ -49,7 +50,7 @@ fn writes_argument(
     left: Option<&[u8]>,
     outcome: Outcome,
 ) -> Result<Deed, NoMemory>
-    ensures { OrNoMemory result (λ deed. (pid : ℕ) (p : Parts) → deed_is pid deed p
+    ensures { OrNoMemory result (λ deed. (pid : ℕ) (p : known.Parts) → deed_is pid deed p
         ≡ writes_argument pid d.now (slice_get (arguments_in left.entry) 0) (outcome_is outcome) p) }
 {
     match next_argument(left) {
@@ -73,7 +74,7 @@ fn writes_text(
     quote: &Quote,
     outcome: Outcome,
 ) -> Result<Deed, NoMemory>
-    ensures { OrNoMemory result (λ deed. (pid : ℕ) (p : Parts) → deed_is pid deed p
+    ensures { OrNoMemory result (λ deed. (pid : ℕ) (p : known.Parts) → deed_is pid deed p
         ≡ writes_text pid d.now (quote_is quote.now) (outcome_is outcome) p) }
 {
     match outcome {
@@ -89,7 +90,7 @@ const PAST: u64 = 4_294_967_296;
 
 // A write that answers a number: a success writes the whole text.
 fn wrote(alloc: Global, d: &Descriptor, n: u64, quote: &Quote) -> Result<Deed, NoMemory>
-    ensures { OrNoMemory result (λ deed. (pid : ℕ) (p : Parts) → deed_is pid deed p
+    ensures { OrNoMemory result (λ deed. (pid : ℕ) (p : known.Parts) → deed_is pid deed p
         ≡ wrote pid d.now n (quote_is quote.now) p) }
 {
     let Quote::Bytes(text) = quote else {
@@ -106,7 +107,7 @@ fn wrote(alloc: Global, d: &Descriptor, n: u64, quote: &Quote) -> Result<Deed, N
 
 // A write that fails.
 fn failed(alloc: Global, d: &Descriptor, e: Errno, quote: &Quote) -> Result<Deed, NoMemory>
-    ensures { OrNoMemory result (λ deed. (pid : ℕ) (p : Parts) → deed_is pid deed p
+    ensures { OrNoMemory result (λ deed. (pid : ℕ) (p : known.Parts) → deed_is pid deed p
         ≡ failed_write pid d.now (res.Err e) (quote_is quote.now) p) }
 {
     let Quote::Bytes(text) = quote else {

@@ -7,6 +7,6 @@ use Rattle.model_strace.specs.Turn.{told_turn}
 
 pub returns-clause-turn : goal.returns-clause-turn
 returns-clause-turn c =
-    resumed_turn c.args.pid c.in_ok-deed.deed (told_is c.in_ok-told.told) c.take.new.parts c.args.parts.now
+    resumed_turn c.args.pid c.in_ok-deed.deed (told_is c.in_ok-told.told) c.take.new.parts.known c.args.parts.now.known
     c.in_ok-deed.ensures.turn
-    ∙ ap (λ told. told_turn c.args.pid told (without_kept c.args.pid c.args.parts.now)) c.in_ok-told.ensures
+    ∙ ap (λ told. told_turn c.args.pid told (without_kept c.args.pid c.args.parts.now.known)) c.in_ok-told.ensures

@@ -7,7 +7,8 @@ abbrev pub invariant-loop-pid : goal.invariant-loop-pid
 invariant-loop-pid l = record {
   all : l.self.all ≡ l.initial.self.all;
   left : l.self.left ≡ l.initial.self.left;
-  next : next_line l.parts l.self.left l.self.pids ≡ next_line l.parts l.initial.self.left l.initial.self.pids;
+  next : next_line l.parts.known l.self.left l.self.pids
+      ≡ next_line l.parts.known l.initial.self.left l.initial.self.pids;
 }
 
 abbrev pub decreases-loop-pid : goal.decreases-loop-pid

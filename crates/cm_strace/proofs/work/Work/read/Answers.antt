@@ -1,4 +1,4 @@
-use Rattle.std.proofs.Common.{◌≡◌, ◌∙◌, sym}
+use Rattle.std.proofs.Common.{◌≡◌, ◌+◌, ◌∙◌, sym}
 use Rattle.cm_strace.specs.Given.{after_is}
 use Rattle.cm_strace.specs.Works.{concluded}
 use Rattle.cm_strace.proofs.Concluded.{concluded_read, at_world}
@@ -20,5 +20,6 @@ returns-else-awaits-clause-read c =
     c.args.self.now c.in_ok-step.ensures.others (rw c.read_body.ensures at (c.in_ok-step.ensures.turn
     ∙ c.hear-told.ensures (world_of c.args.w.now) c.args.pid c.args.self.now.parts)))
     (at_world c.read_here.result (λ w stop. after_is stop c.read_here.new.events.items c.read_here.new.self
-    ≡ preceded c.args.events.now.items (concluded w c.args.pid c.in_ok-step.step c.step.new.self))
+    ≡ preceded c.args.events.now.items (concluded w c.args.pid c.in_ok-step.step
+    (record c.step.new.self { count = c.step.new.self.count + 1 })))
     (world_of c.args.w.now) c.read_here.ensures.done)
