@@ -91,6 +91,20 @@ found rows count order path at index place within is =
     position_is rows count path n index.counted (omega arith) others (λ _. is) in
     sym (rw (first, long) (cond-true (nat_lt n count) (Some n) None (lt-ltb n count low)))
 
+-- a path of a counted row is that of the row of its number
+pub found_row : (rows : List FileRow) (count : ℕ) (order path : List ℕ) (n : ℕ) → IsIndex rows count order → n < count
+    → (get_or rows n no_row).path ≡ path → Some n ≡ row_named (take count rows) path
+found_row rows count order path n index low is =
+    let there = place_of_row rows count order index n low in
+    let at : ℕ = there.0 in
+    let here : path_at rows order at ≡ path = path_of_row rows order at n there.2 ∙ is in
+    let place : IsPlace rows order path at = record {
+      within = omega (arith, there.1);
+      below = λ k less. subst (λ p. IsTrue (is_before (path_at rows order k) p)) here (index.ascend.paths k at less there.1);
+      rest = not_before_from rows order path index.ascend at (ap (λ p. is_before p path) here ∙ before_itself path);
+    } in
+    ap Some (sym there.2) ∙ found rows count order path at index place there.1 here
+
 -- so that one of the counted rows has it
 pub found_path : (rows : List FileRow) (count : ℕ) (order path : List ℕ) (at : ℕ) → IsIndex rows count order
     → at < length order → path_at rows order at ≡ path → true ≡ has_path path (take count rows)

@@ -1,12 +1,14 @@
 // An index of declared files: the numbers of rows in the order of their paths' keys, and of their paths where keys are
-// one. A path is found in it by halves, over the keys alone as long as these differ.
-ghost use Rattle.std.specs.Prelude.{◌≡◌, ◌≢◌, ℕ, ◌+◌, ◌<◌, ◌≤◌, [], true, false, length, take, slice_index_or, is_none, IfOk, IfSome, OnOk};
+// one. Most paths that a row has are found by their slot; the others by halves, over the keys alone as long as these
+// differ.
+ghost use Rattle.std.specs.Prelude.{◌≡◌, ◌≢◌, ℕ, ◌+◌, ◌<◌, ◌≤◌, ◌^◌, [], true, false, length, take, slice_index_or, is_none, IfOk, IfSome, OnOk};
 ghost use Rattle.cm_files.specs.Index.{Ascend, HasKeys, IsIndex, IsPlace, no_row, path_at as model_path_at, path_key as model_path_key, is_before as model_is_before};
 ghost use Rattle.cm_files.specs.Fault.{has_path};
 ghost use Rattle.std.specs.List.{insert};
 ghost use Rattle.model_cred.specs.Files.{row_named};
 
 use crate::FileRow;
+use crate::slots::Slots;
 use std::alloc::{AllocError, Global};
 use std::cmp::Ordering;
 
@@ -17,6 +19,8 @@ pub(crate) struct Index {
     pub order: Vec<u32>,
     // The keys of their paths.
     pub keys: Vec<u64>,
+    // Where a path may be found without a search.
+    slots: Slots,
 }
 
 impl Index {
@@ -28,17 +32,20 @@ impl Index {
         Index {
             order: Vec::new(alloc),
             keys: Vec::new(alloc),
+            slots: Slots::none(alloc),
         }
     }
 
     // The index of no rows, with room for so many.
     pub(crate) fn with_capacity(alloc: Global, count: usize) -> Result<Index, AllocError>
+        requires { count < 2 ^ 32 }
         ensures order { IfOk result (λ index. index.order.items ≡ []) }
         ensures keys { IfOk result (λ index. index.keys.items ≡ []) }
     {
         let order = Vec::with_capacity(alloc, count)?;
         let keys = Vec::with_capacity(alloc, count)?;
-        Ok(Index { order, keys })
+        let slots = Slots::with_capacity(alloc, count)?;
+        Ok(Index { order, keys, slots })
     }
 
     // The row of that number comes to that place.
@@ -50,9 +57,11 @@ impl Index {
         ensures keys { OnOk result (HasKeys rows.now self.new.order.items self.new.keys.items) }
     {
         let row = &rows[n as usize];
-        let key = path_key(row.path.items());
+        let path = row.path.items();
+        let key = path_key(path);
         self.order.insert(place, n)?;
         self.keys.insert(place, key)?;
+        self.slots.put(key, path.len(), n);
         Ok(())
     }
 }
@@ -65,6 +74,9 @@ pub(crate) fn find(rows: &[FileRow], index: &Index, path: &[u8]) -> Option<u32>
     ensures within { IfSome result (λ n. n < length rows.now) }
 {
     let key = path_key(path);
+    if let Some(n) = index.slots.find(rows, key, path) {
+        return Some(n);
+    }
     let place = place_of(rows, index, key, path);
     if stands_at(rows, index, place, key, path) {
         Some(index.order[place])

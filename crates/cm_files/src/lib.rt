@@ -1,4 +1,4 @@
-//! Declared mounts and files: a table of them, in which a path finds its row by halves, and each row as its mount shows it
+//! Declared mounts and files: a table of them, in which a path finds its row, and each row as its mount shows it
 //! (mount_setattr(2), capabilities(7)); `FileRows` are files as they are declared. Contracts see the table as the record of the definitions in model_cred;
 //! `see_files` hands out what each table keeps.
 #![tactic(auto)]
@@ -10,6 +10,7 @@ mod mount;
 mod row;
 mod rows;
 mod seeing;
+mod slots;
 mod table;
 mod text;
 mod view;

@@ -8,7 +8,7 @@ use crate::{NoMemory, Outside};
 use std::alloc::Global;
 
 /// What a shelf in memory counts of the reads of a name: those that failed, all that were made, and the bytes that they
-/// gave.
+/// gave. Each count stays at its last value, 2^64 - 1.
 #[derive(Clone, Copy, Debug, PartialEq, Eq)]
 pub struct Tally {
     pub faults: u64,

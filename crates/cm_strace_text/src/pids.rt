@@ -1,11 +1,11 @@
 // Pids at the front of a line, read digit by digit together with what follows them. None says nothing of the line.
-ghost use Rattle.std.specs.Prelude.{◌≡◌, ◌+◌, ◌<◌, ◌∷◌, IfSome, Some, []};
+ghost use Rattle.std.specs.Prelude.{◌≡◌, IfSome, Some, []};
 ghost use Rattle.model_strace.specs.Marks.{first_word, after_first_word, without_front};
 ghost use Rattle.model_text.specs.Token.{pid_token};
 
 use crate::blanks::without_front;
 use cm_base::Pid;
-use cm_tokens::is_blank;
+use cm_tokens::{is_blank, take_digit};
 
 // No pid has a greater number before its last digit.
 const GREATEST_TENTH: u32 = 419_430;
@@ -17,7 +17,7 @@ pub(crate) fn cut_pid(text: &[u8]) -> Option<(Pid, &[u8])>
 {
     let mut number: u32 = 0;
     let mut rest = text;
-    while let Some((digit, after)) = cut_digit(rest) {
+    while let Some((digit, after)) = take_digit(rest) {
         if number > GREATEST_TENTH {
             return None;
         }
@@ -27,18 +27,6 @@ pub(crate) fn cut_pid(text: &[u8]) -> Option<(Pid, &[u8])>
     let after = cut_blank(rest)?;
     let pid = Pid::new(number)?;
     Some((pid, without_front(after)))
-}
-
-// A decimal digit, and what follows it.
-#[inline]
-fn cut_digit(text: &[u8]) -> Option<(u8, &[u8])>
-    ensures digit { IfSome result (λ cut. text.now ≡ (48 + cut.0) ∷ cut.1.now) }
-    ensures low { IfSome result (λ cut. cut.0 < 10) }
-{
-    match text {
-        [byte, rest @ ..] if b'0' <= *byte && *byte <= b'9' => Some((*byte - b'0', rest)),
-        _ => None,
-    }
 }
 
 // What follows a blank.

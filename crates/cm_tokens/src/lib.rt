@@ -11,7 +11,7 @@ mod pieces;
 mod tokens;
 
 pub use cap_text::read_cap_text;
-pub use digits::hex_value;
+pub use digits::{hex_value, take_digit};
 pub use name_rules::{is_name, is_path};
 pub use numbers::{put, put_decimal, put_hex2, put_hex16, put_id};
 pub use pieces::first_piece;

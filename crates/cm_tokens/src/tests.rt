@@ -1,7 +1,7 @@
 // Each function once, with what docs/FORMATS.md says of lines, tokens and values.
 use crate::{
     begins_comment, first_piece, hex_value, is_blank, next_token, read_cap, read_id, read_number,
-    read_pid, read_word, stands_for_equals, token_len,
+    read_pid, read_word, stands_for_equals, take_digit, token_len,
 };
 use cm_base::Pid;
 use std::process::Abort;
@@ -30,6 +30,16 @@ fn tokens_have_values(rt: HostRuntime) {
     assert_eq!(rt; read_cap(b"CAP_KILL"), Some(5));
     assert_eq!(rt; read_word(b"deny"), Some(true));
     assert_eq!(rt; hex_value(b'F'), Some(15));
+}
+
+// The digit that a text begins with.
+#[test]
+fn digits_are_taken(rt: HostRuntime) {
+    assert_eq!(rt; take_digit(b"70"), Some((7, b"0".as_slice())));
+    assert_eq!(rt; take_digit(b"9"), Some((9, b"".as_slice())));
+    for text in [b"".as_slice(), b"/", b":", b"a", b" 1"] {
+        assert!(rt; take_digit(text).is_none());
+    }
 }
 
 // What tokens are for.

@@ -1,9 +1,10 @@
 // Numbers as events are written, read from the front of a text: each reader gives the number and what follows it. None
 // says nothing of the text.
-ghost use Rattle.std.specs.Prelude.{◌≡◌, ◌+◌, ◌<◌, ◌∷◌, ◌++◌, IfSome, decimal};
+ghost use Rattle.std.specs.Prelude.{◌≡◌, ◌++◌, IfSome, decimal};
 ghost use Rattle.model_text.specs.Token.{id_text};
 
 use cm_base::{MINUS_ONE, Pid};
+use cm_tokens::take_digit;
 
 /// A number in decimal digits, without leading zeros.
 #[inline]
@@ -24,18 +25,6 @@ pub(crate) fn take_decimal(text: &[u8]) -> Option<(u32, &[u8])>
         rest = after;
     }
     Some((number as u32, rest))
-}
-
-// A decimal digit.
-#[inline]
-fn take_digit(text: &[u8]) -> Option<(u8, &[u8])>
-    ensures digit { IfSome result (λ p. text.now ≡ (48 + p.0) ∷ p.1.now) }
-    ensures low { IfSome result (λ p. p.0 < 10) }
-{
-    match text {
-        [byte, rest @ ..] if b'0' <= *byte && *byte <= b'9' => Some((*byte - b'0', rest)),
-        _ => None,
-    }
 }
 
 /// An id: a number, or `-1` for 4294967295.

@@ -2,9 +2,15 @@ use Rattle.std.proofs.Common.{◌≡◌, length, Some, ap, ◌∙◌}
 use Rattle.std.proofs.lemmas.Grind.{get_or_default_zero}
 use Rattle.std.specs.Prelude.{slice_index}
 use Rattle.std.proofs.Math.Seq.{take-length}
-use Rattle.cm_files.proofs.Indexes.{found, absent}
+use Rattle.cm_files.proofs.Indexes.{found, found_row, absent}
 use Rattle.cm_files.proofs.index.find.Goals as goal
 use Rattle.model_cred.specs.Files.{row_named}
+
+pub returns-in-Some-clause-named : goal.returns-in-Some-clause-named
+returns-in-Some-clause-named c =
+    found_row c.args.rows.now (length c.args.rows.now) c.args.index.now.order.items c.args.path.now c.in-Some.n c.requires.index
+    c.in-Some.ensures.within c.in-Some.ensures.path
+    ∙ ap (λ l. row_named l c.args.path.now) (take-length c.args.rows.now)
 
 pub returns-then-stands_at-clause-named : goal.returns-then-stands_at-clause-named
 returns-then-stands_at-clause-named c =
