@@ -16,12 +16,6 @@ pub all_append : {A : Type 0} (test : A → Bool) (answer : Bool) (xs ys : List 
 all_append test answer [] ys all more = more
 all_append test answer (x ∷ xs) ys all more = (all.0, all_append test answer xs ys all.1 more)
 
--- what is said of each is said of all
-pub all_each : {A : Type 0} (test : A → Bool) (answer : Bool) (xs : List A) → ((x : A) → test x ≡ answer)
-    → AllSay test answer xs
-all_each test answer [] each = tt
-all_each test answer (x ∷ xs) each = (each x, all_each test answer xs each)
-
 -- what is said of each changed thing is said of all of them
 pub all_changed : {A B : Type 0} (test : B → Bool) (answer : Bool) (change : A → B) (xs : List A)
     → ((x : A) → test (change x) ≡ answer) → AllSay test answer (map change xs)

@@ -80,12 +80,6 @@ same_at same [] at x here is = absurd here
 same_at same (y ∷ xs) zero x here is = ap same is ∙ here.0
 same_at same (y ∷ xs) (suc at) x here is = same_at same xs at x here.1 is
 
--- what is set to itself is unchanged
-pub set_same : {A : Type 0} (xs : List A) (at : ℕ) (x : A) → x ≡ get_or xs at x → slice_set xs at x ≡ xs
-set_same [] at x is = refl
-set_same (y ∷ xs) zero x is = ap (λ z. z ∷ xs) is
-set_same (y ∷ xs) (suc at) x is = ap (λ l. y ∷ l) (set_same xs at x is)
-
 -- the list is changed at its place
 pub changed_at : (pid : ℕ) (ys : List Fd) (fs : List FdList) (at : ℕ) (f : FdList) → Ascends files_before fs
     → IsCut (files_below pid) fs at → is_at (is_files pid) fs at ≡ true → f ≡ get_or fs at f

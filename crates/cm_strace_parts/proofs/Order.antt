@@ -2,7 +2,6 @@
 use Rattle.std.proofs.Common.{◌≡◌, ℕ, zero, suc, ◌<◌, ◌≤◌, ◌+◌, Bool, true, false, not, cond, filter, find, map, length}
 use Rattle.std.proofs.Common.{List, []}
 use Rattle.std.proofs.Common.{◌∷◌, Some, None, refl, sym, ◌∙◌, ap, arith, get_or, slice_set}
-use Rattle.std.specs.Prelude.{Result, Ok, Err, IfOk, IsOk}
 use Rattle.std.specs.List.{insert, remove}
 use Rattle.std.specs.List.Sorted.{IsPartitionPoint, IsPartitionedBy}
 use Rattle.std.proofs.lemmas.Bool.{cond-true, cond-false, not_from_true, not_from_false}
@@ -298,8 +297,3 @@ pub put_adds : {A : Type 0} (before : A → A → Bool) (below same : A → Bool
     → length (put before new xs) ≡ length xs + 1
 put_adds before below same new xs at place cut isnt =
     ap (λ (l : List _). length l) (sym (put_between before below same new xs at place cut isnt)) ∙ length_insert xs at new
-
--- what holds if there is an answer holds where there is one
-pub of_ok : {T E : Type 0} (r : Result T E) (P : Type 0) → IfOk r (λ _. P) → IsOk r → P
-of_ok (Ok x) P is ok = is
-of_ok (Err e) P is ok = absurd (cc)

@@ -1,5 +1,5 @@
 -- What is known of the lists at a savepoint.
-use Rattle.std.proofs.Common.{◌≡◌, ℕ, Bool, true, false, List, Option, Some, None, is_some, refl, ap}
+use Rattle.std.proofs.Common.{◌≡◌, ℕ, true, List, Option, Some, None, is_some, refl, ap}
 use Rattle.cm_strace_parts.specs.InOrder.{Counted, SavedInOrder, saved_parts}
 use Rattle.cm_strace_parts.specs.Lists.{FdList, descriptors_in}
 use Rattle.cm_strace_parts.specs.Savepoints.{Saved, LeftOnErr}

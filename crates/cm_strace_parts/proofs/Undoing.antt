@@ -1,5 +1,5 @@
 -- What is put back gives the list as it was.
-use Rattle.std.proofs.Common.{◌≡◌, ℕ, ◌≤◌, ◌<◌, ◌+◌, Bool, true, false, not, cond, filter, find, map, length, List, [], ◌∷◌, ◌++◌}
+use Rattle.std.proofs.Common.{◌≡◌, ℕ, ◌≤◌, ◌+◌, Bool, true, false, not, cond, find, map, length, List, [], ◌∷◌, ◌++◌}
 use Rattle.std.proofs.Common.{Option, Some, None, refl, sym, ◌∙◌, ap, arith, subst}
 use Rattle.std.proofs.lemmas.Bool.{cond-true, cond-false}
 use Rattle.std.specs.Prelude.{vec_capacity, Vec}
@@ -179,24 +179,6 @@ can_still number n room more xs ys u can rises same grown fits =
       | false ↦ λ idle. record { ascends = rises; room = λ is. absurd (cc) }
     ]) refl
 
--- ---- lists in memory
--- a list fits in its memory
-pub vec_fits : {X Z : Type 0} (v : Vec X Z) → length v.items ≤ vec_capacity v
-vec_fits v =
-    let size = v.ok.0 in
-    let within = v.ok.1 in
-    omega (arith, size, within)
-
--- ---- whether a savepoint is set
--- none is where nothing is known of it
-pub is_idle : {A : Type 0} (number : A → ℕ) (u : Undo A) (xs : List A) → saved_list number u xs ≡ None
-    → u.saving ≡ false
-is_idle number u xs none =
-    (elim u.saving as (λ b. cond b (Some (undone number u.entries xs)) None ≡ None → b ≡ false) [
-      | true ↦ λ is. absurd (cc)
-      | false ↦ λ is. refl
-    ]) none
-
 -- ---- what is the same but at one number
 -- a thing put in its place is one more at most
 pub put_longer : {A : Type 0} (before : A → A → Bool) (x : A) (ys : List A) → length (put before x ys) ≤ length ys + 1
@@ -227,6 +209,13 @@ others_changed number n change (y ∷ ys) keeps stays =
     grind (arith, rest, here, still)
 
 -- ---- lists in memory
+-- a list fits in its memory
+pub vec_fits : {X Z : Type 0} (v : Vec X Z) → length v.items ≤ vec_capacity v
+vec_fits v =
+    let size = v.ok.0 in
+    let within = v.ok.1 in
+    omega (arith, size, within)
+
 -- it can still be put back after such a change
 pub vec_still : {A Z : Type 0} (number : A → ℕ) (n : ℕ) (v w : Vec A Z) (u t : Undo A)
     → CanUndo number u v.items (vec_capacity v) → t ≡ saving_at number n v.items u → Ascends (before_by number) w.items

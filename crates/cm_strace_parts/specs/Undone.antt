@@ -1,5 +1,5 @@
 -- Lists of things that have numbers, and what puts them back as they were at a savepoint.
-use Rattle.std.specs.Prelude.{◌≡◌, ℕ, ◌≤◌, Bool, true, false, not, filter, find, length, List, [], ◌∷◌, ◌++◌}
+use Rattle.std.specs.Prelude.{◌≡◌, ℕ, ◌≤◌, Bool, true, not, filter, find, length, List, [], ◌∷◌, ◌++◌}
 use Rattle.std.specs.Prelude.{Option, Some, None, if◌then◌else◌}
 use Rattle.cm_strace_parts.specs.Order.{Ascends, before_by, has_number}
 use Rattle.model_strace.specs.Parts.{put}

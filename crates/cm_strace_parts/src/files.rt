@@ -409,8 +409,7 @@ pub(crate) fn forget(
     ensures ordered { ListsInOrder files.new.items }
 {
     files.undo.save(&files.list, pid)?;
-    forget_in(&mut files.list, alloc, pid, number)?;
-    Ok(())
+    forget_in(&mut files.list, alloc, pid, number)
 }
 
 // The same in the lists.
@@ -441,8 +440,7 @@ pub(crate) fn execute(files: &mut Tracked<FdList>, alloc: Global, pid: Pid) -> R
     ensures ordered { ListsInOrder files.new.items }
 {
     files.undo.save(&files.list, pid)?;
-    execute_in(&mut files.list, alloc, pid)?;
-    Ok(())
+    execute_in(&mut files.list, alloc, pid)
 }
 
 // The same in the lists.

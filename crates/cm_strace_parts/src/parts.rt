@@ -29,10 +29,11 @@ pub struct Parts {
     tasks: Tracked<Task>,
     kept: Tracked<Kept>,
     files: Tracked<FdList>,
-    // How many descriptors there are in the lists, and how many there were at the savepoint.
+    // How many descriptors there are in the lists, and how many user namespaces.
     followed: u128,
-    saved_followed: u128,
     spaces: u32,
+    // The same at the savepoint, where one is set.
+    saved_followed: u128,
     saved_spaces: u32,
     // Pids that are noted as known.
     known: Known,

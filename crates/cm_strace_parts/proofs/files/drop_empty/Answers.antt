@@ -1,4 +1,4 @@
-use Rattle.std.proofs.Common.{sym, ◌∙◌, ap, ℕ}
+use Rattle.std.proofs.Common.{sym, ◌∙◌, ap}
 use Rattle.cm_strace_parts.specs.Lists.{FdList, is_files, descriptors_in}
 use Rattle.cm_strace_parts.proofs.ListOrders.{removed_ordered}
 use Rattle.cm_strace_parts.proofs.Lists.{without_empty}

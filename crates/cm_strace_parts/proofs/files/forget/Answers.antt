@@ -1,31 +1,17 @@
 use Rattle.std.proofs.Common.{◌∙◌, ap}
-use Rattle.cm_strace_parts.specs.Undone.{Tracked}
-use Rattle.cm_strace_parts.proofs.Undoing.{same_still, same_saved, vec_still, vec_saved}
 use Rattle.cm_strace_parts.specs.Lists.{FdList}
+use Rattle.cm_strace_parts.specs.Undone.{Tracked}
+use Rattle.cm_strace_parts.proofs.Undoing.{vec_still, vec_saved}
 use Rattle.cm_strace_parts.proofs.files.forget.Goals as goal
-
-pub invariant_of-files-in_err-forget_in : goal.invariant_of-files-in_err-forget_in
-invariant_of-files-in_err-forget_in c =
-    same_still (λ (f : FdList). f.pid) c.args.pid c.files.inside.list c.forget_in.new.list c.files.inside.undo c.save.new.self
-    c.files.invariant (rw c.deref.ensures.value at c.in_ok-save.ensures.saved)
-    c.in_err-forget_in.ensures.unchanged c.in_err-forget_in.ensures.capacity
-
-pub returns-in_err-forget_in-clause-saved : goal.returns-in_err-forget_in-clause-saved
-returns-in_err-forget_in-clause-saved c =
-    same_saved (λ (f : FdList). f.pid) c.args.pid c.files.inside.list c.forget_in.new.list c.files.inside.undo c.save.new.self
-    c.files.invariant (rw c.deref.ensures.value at c.in_ok-save.ensures.saved)
-    c.in_err-forget_in.ensures.unchanged ∙ ap (λ (t : Tracked FdList). t.saved) c.files.view_is
 
 pub invariant_of-files-2 : goal.invariant_of-files-2
 invariant_of-files-2 c =
     vec_still (λ (f : FdList). f.pid) c.args.pid c.files.inside.list c.forget_in.new.list c.files.inside.undo c.save.new.self
-    c.files.invariant (rw c.deref.ensures.value at c.in_ok-save.ensures.saved)
-    c.in_ok-forget_in.ensures.ordered.processes c.in_ok-forget_in.ensures.others
-    c.in_ok-forget_in.ensures.capacity
+    c.files.invariant (rw c.deref.ensures.value at c.in_ok-save.ensures.saved) c.forget_in.ensures.ordered.processes
+    c.forget_in.ensures.others c.forget_in.ensures.capacity
 
 pub returns-clause-saved : goal.returns-clause-saved
 returns-clause-saved c =
     vec_saved (λ (f : FdList). f.pid) c.args.pid c.files.inside.list c.forget_in.new.list c.files.inside.undo c.save.new.self
-    c.files.invariant (rw c.deref.ensures.value at c.in_ok-save.ensures.saved)
-    c.in_ok-forget_in.ensures.ordered.processes c.in_ok-forget_in.ensures.others
-    ∙ ap (λ (t : Tracked FdList). t.saved) c.files.view_is
+    c.files.invariant (rw c.deref.ensures.value at c.in_ok-save.ensures.saved) c.forget_in.ensures.ordered.processes
+    c.forget_in.ensures.others ∙ ap (λ (t : Tracked FdList). t.saved) c.files.view_is

@@ -1,4 +1,4 @@
-use Rattle.std.proofs.Common.{sym, ◌∙◌, ap, arith}
+use Rattle.std.proofs.Common.{sym, ◌∙◌, ap}
 use Rattle.std.specs.Prelude.{vec_capacity}
 use Rattle.cm_strace_parts.specs.Undone.{undone, put_back}
 use Rattle.cm_strace_parts.proofs.Undoing.{undone_last, room_less, room_grown}

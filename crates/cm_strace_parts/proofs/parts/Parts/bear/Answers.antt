@@ -1,4 +1,4 @@
-use Rattle.std.proofs.Common.{◌∙◌, sym, List, ap, arith, filter, length}
+use Rattle.std.proofs.Common.{◌∙◌, List, ap, arith, filter, length}
 use Rattle.std.proofs.lemmas.List.{length-map}
 use Rattle.cm_strace_parts.proofs.Counts.{asks_count, born_counted}
 use Rattle.cm_strace_parts.proofs.Noted.{born_noted, changed_noted}
