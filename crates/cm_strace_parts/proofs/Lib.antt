@@ -10,3 +10,4 @@ pub mod Slots
 pub mod Noted
 pub mod Undoing
 pub mod Saved
+pub mod LeftAt

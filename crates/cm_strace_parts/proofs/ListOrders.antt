@@ -1,15 +1,18 @@
 -- The lists of processes stay in their orders, and are changed in their places.
 use Rattle.std.proofs.Common.{◌≡◌, ◌==◌, ℕ, zero, suc, Bool, true, false, cond, filter, List, [], ◌∷◌}
 use Rattle.std.proofs.Common.{refl, sym, ◌∙◌, ap, arith, get_or, slice_set, subst}
+use Rattle.std.specs.Prelude.{Result, Ok, Err, IfOk, OnErr}
 use Rattle.std.specs.List.{insert, remove}
 use Rattle.std.proofs.lemmas.Bool.{cond-true, cond-false}
 use Rattle.cm_strace_parts.specs.Lists.{Fd, FdList, fd_before, is_files, files_before, files_below, fds_of, EachAscends}
-use Rattle.cm_strace_parts.specs.Lists.{ListsInOrder}
+use Rattle.cm_strace_parts.specs.Lists.{ListsInOrder, descriptors_in}
 use Rattle.cm_strace_parts.specs.Order.{AllSay, Ascends, IsCut, StandsAt, is_at}
 use Rattle.cm_strace_parts.proofs.Lists.{none_of}
 use Rattle.cm_strace_parts.proofs.Order.{filter_ascends, put_ascends, put_instead, put_between, stands, stands_nowhere}
+use Rattle.cm_strace_parts.specs.Undone.{others_by}
+use Rattle.cm_strace_parts.proofs.Undoing.{others_put}
 use Rattle.cm_strace_parts.proofs.Orders.{files_order, files_place, files_place_of}
-use Rattle.model_strace.specs.Parts.{put}
+use Rattle.model_strace.specs.Parts.{Descriptor, put}
 
 -- ---- the orders
 -- the descriptors of a process ascend
@@ -49,6 +52,33 @@ put_ordered new fs up order = record {
   processes = put_ascends files_before new fs files_order order.processes;
   each = each_put new fs up order.each;
 }
+
+-- What a change of one process's descriptors leaves: the lists in their orders, and those of the other processes.
+pub record Leaves (pid : ℕ) (old new : List FdList) : Type 0 where
+  pub ordered : ListsInOrder new
+  pub others : others_by (λ (f : FdList). f.pid) pid new ≡ others_by (λ (f : FdList). f.pid) pid old
+
+-- a list put in its place leaves so
+pub put_leaves : (pid : ℕ) (fds : List Fd) (fs : List FdList) → Ascends fd_before fds → ListsInOrder fs
+    → Leaves pid fs (put files_before (record { pid = pid; fds = fds }) fs)
+put_leaves pid fds fs up order = record {
+  ordered = put_ordered (record { pid = pid; fds = fds }) fs up order;
+  others = others_put (λ (f : FdList). f.pid) pid (record { pid = pid; fds = fds }) fs refl;
+}
+
+-- the same of a change of what stood there, for which memory may have run out
+pub put_may_leave : {T E : Type 0} (r : Result T E) (pid : ℕ) (change : List Fd → List Fd) (fs gs : List FdList)
+    → IfOk r (λ _. gs ≡ put files_before (record { pid = pid; fds = change (fds_of pid fs) }) fs) → OnErr r (gs ≡ fs)
+    → ((fds : List Fd) → Ascends fd_before fds → Ascends fd_before (change fds)) → ListsInOrder fs → Leaves pid fs gs
+put_may_leave (Ok x) pid change fs gs is still rises order =
+    rw is (put_leaves pid (change (fds_of pid fs)) fs (rises (fds_of pid fs) (own_ascends pid fs order.each)) order)
+put_may_leave (Err e) pid change fs gs is still rises order = rw still (record { ordered = order; others = refl })
+
+-- the descriptors are then those of the lists that were made
+pub if_made : {T E : Type 0} (r : Result T E) (gs made : List FdList) (ds : List Descriptor) → IfOk r (λ _. gs ≡ made)
+    → descriptors_in made ≡ ds → IfOk r (λ _. descriptors_in gs ≡ ds)
+if_made (Ok x) gs made ds is are = ap descriptors_in is ∙ are
+if_made (Err e) gs made ds is are = tt
 
 -- and so do those that a filter leaves
 pub left_ordered : (keeps : FdList → Bool) (fs : List FdList) → ListsInOrder fs → ListsInOrder (filter keeps fs)

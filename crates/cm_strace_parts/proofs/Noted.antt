@@ -96,17 +96,17 @@ found_at same (x ∷ xs) (suc at) d within is = found_after same x xs (found_at 
 
 -- ---- the processes
 -- those that a change leaves their pids
-pub changed_noted : (slots : List ℕ) (ts : List Task) (change : Task → Task) → ((t : Task) → (change t).pid ≡ t.pid)
+pub changed_noted : {slots : List ℕ} {ts : List Task} (change : Task → Task) → ((t : Task) → (change t).pid ≡ t.pid)
     → NotesKnown slots ts → NotesKnown slots (map change ts)
-changed_noted slots ts change same noted = record {
+changed_noted {ts = ts} change same noted = record {
   known = λ q is. found_changed (is_task q) change ts (λ t. ap (λ n. n == q) (same t)) (noted.known q is);
 }
 
 -- those that are left by the end of one that isn't noted any more
-pub ended_noted : (old new : List ℕ) (ts : List Task) (pid : ℕ) → notes new pid ≡ false
+pub ended_noted : {old new : List ℕ} {ts : List Task} (pid : ℕ) → notes new pid ≡ false
     → ((q : ℕ) → q ≢ pid → notes new q ≡ notes old q) → NotesKnown old ts
     → NotesKnown new (filter (λ task. not (is_task pid task)) ts)
-ended_noted old new ts pid gone others noted = record {
+ended_noted {new = new} {ts = ts} pid gone others noted = record {
   known = λ q is.
       let apart : q ≢ pid = λ same. true≢false (sym is ∙ ap (notes new) same ∙ gone) in
       found_left (is_task q) (λ task. not (is_task pid task)) ts (λ t left. grind (arith, apart, left))
@@ -114,10 +114,10 @@ ended_noted old new ts pid gone others noted = record {
 }
 
 -- those with one that is born and noted
-pub born_noted : (old new : List ℕ) (ts : List Task) (child : Task)
+pub born_noted : {old new : List ℕ} {ts : List Task} (child : Task)
     → ((q : ℕ) → q ≢ child.pid → notes new q ≡ true → notes old q ≡ true) → NotesKnown old ts
     → NotesKnown new (put task_before child ts)
-born_noted old new ts child others noted = record {
+born_noted {ts = ts} child others noted = record {
   known = λ q is. (elim (child.pid == q) as (λ b. (child.pid == q) ≡ b → finds (is_task q) (put task_before child ts)) [
     | true ↦ λ same. found_put (is_task q) task_before child ts same
     | false ↦ λ differs.

@@ -1,5 +1,5 @@
 -- What is known of the lists at a savepoint.
-use Rattle.std.proofs.Common.{◌≡◌, ℕ, true, List, Option, Some, None, is_some, refl, ap}
+use Rattle.std.proofs.Common.{◌≡◌, ℕ, true, false, List, Option, Some, None, is_some, refl, sym, ◌∙◌, ap}
 use Rattle.cm_strace_parts.specs.InOrder.{Counted, SavedInOrder, saved_parts}
 use Rattle.cm_strace_parts.specs.Lists.{FdList, descriptors_in}
 use Rattle.cm_strace_parts.specs.Savepoints.{Saved, LeftOnErr}
@@ -12,7 +12,7 @@ pub record NoneSaved (ts : Option (List Task)) (ks : Option (List Kept)) (fs : O
   pub kept : ks ≡ None
   pub files : fs ≡ None
 
-pub none_saved : (ts : Option (List Task)) (ks : Option (List Kept)) (fs : Option (List FdList)) (spaces followed : ℕ)
+none_saved : (ts : Option (List Task)) (ks : Option (List Kept)) (fs : Option (List FdList)) (spaces followed : ℕ)
     → SavedInOrder ts ks fs followed → saved_parts ts ks fs spaces ≡ None → NoneSaved ts ks fs
 none_saved None None None spaces followed order none = record { tasks = refl; kept = refl; files = refl }
 none_saved None None (Some fs) spaces followed order none = let h = order.files in absurd (cc)
@@ -20,6 +20,12 @@ none_saved None (Some ks) fs spaces followed order none = let h = order.kept in 
 none_saved (Some ts) None fs spaces followed order none = let h = order.kept in absurd (cc)
 none_saved (Some ts) (Some ks) None spaces followed order none = let h = order.files in absurd (cc)
 none_saved (Some ts) (Some ks) (Some fs) spaces followed order none = absurd (cc)
+
+-- the same of all that is known
+pub unset : {ts : Option (List Task)} {ks : Option (List Kept)} {fs : Option (List FdList)} {followed : ℕ}
+    {known : Parts} {old : Saved} (spaces : ℕ) → SavedInOrder ts ks fs followed
+    → old ≡ record { known = known; saved = saved_parts ts ks fs spaces } → old.saved ≡ None → NoneSaved ts ks fs
+unset spaces order is none = none_saved _ _ _ spaces _ order (ap (λ (s : Saved). s.saved) (sym is) ∙ none)
 
 -- What was known at a savepoint stood in the lists.
 pub record WasSaved (ts : Option (List Task)) (ks : Option (List Kept)) (fs : Option (List FdList)) (spaces : ℕ) (p : Parts) : Type 0 where
@@ -67,6 +73,7 @@ lists_then (Some ts) (Some ks) (Some fs) spaces followed order is = record {
 }
 
 -- a change that never fails where no savepoint is set leaves all where it fails
-pub left_never : {T E : Type 0} (r : Result T E) (new old : Saved) → (old.saved ≡ None → ⊥) → LeftOnErr r new old
+pub left_never : {T E : Type 0} (r : Result T E) (new old : Saved) → (old.saved ≡ None → false ≡ true)
+    → LeftOnErr r new old
 left_never (Ok x) new old never = tt
-left_never (Err e) new old never = λ none. absurd (never none)
+left_never (Err e) new old never = λ none. let ok = never none in absurd (cc)

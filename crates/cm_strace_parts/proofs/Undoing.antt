@@ -217,19 +217,19 @@ vec_fits v =
     omega (arith, size, within)
 
 -- it can still be put back after such a change
-pub vec_still : {A Z : Type 0} (number : A → ℕ) (n : ℕ) (v w : Vec A Z) (u t : Undo A)
+pub vec_still : {A Z : Type 0} {number : A → ℕ} {u t : Undo A} (n : ℕ) (v w : Vec A Z)
     → CanUndo number u v.items (vec_capacity v) → t ≡ saving_at number n v.items u → Ascends (before_by number) w.items
     → others_by number n w.items ≡ others_by number n v.items → vec_capacity v ≤ vec_capacity w
     → CanUndo number t w.items (vec_capacity w)
-vec_still number n v w u t can saved rises same grown =
+vec_still {number = number} {u = u} n v w can saved rises same grown =
     rw saved (can_still number n (vec_capacity v) (vec_capacity w) v.items w.items u can rises same grown (vec_fits w))
 
 -- the list at the savepoint stays
-pub vec_saved : {A Z : Type 0} (number : A → ℕ) (n : ℕ) (v w : Vec A Z) (u t : Undo A)
+pub vec_saved : {A Z : Type 0} {number : A → ℕ} {u t : Undo A} (n : ℕ) (v w : Vec A Z)
     → CanUndo number u v.items (vec_capacity v) → t ≡ saving_at number n v.items u → Ascends (before_by number) w.items
     → others_by number n w.items ≡ others_by number n v.items
     → saved_list number t w.items ≡ saved_list number u v.items
-vec_saved number n v w u t can saved rises same =
+vec_saved {number = number} {u = u} n v w can saved rises same =
     rw saved (saved_stays number n (vec_capacity v) v.items w.items u can rises same)
 
 -- a list that is the same, with more memory
@@ -241,18 +241,3 @@ vec_grown number v w u can same grown =
       room = λ is. room_grown number (vec_capacity v) (vec_capacity w) u.entries v.items grown (can.room is);
     } in
     subst (λ l. CanUndo number u l (vec_capacity w)) (sym same) still
-
--- the same of a list that is the same
-pub same_still : {A Z : Type 0} (number : A → ℕ) (n : ℕ) (v w : Vec A Z) (u t : Undo A)
-    → CanUndo number u v.items (vec_capacity v) → t ≡ saving_at number n v.items u → w.items ≡ v.items
-    → vec_capacity v ≤ vec_capacity w → CanUndo number t w.items (vec_capacity w)
-same_still number n v w u t can saved same grown =
-    vec_still number n v w u t can saved (subst (λ l. Ascends (before_by number) l) (sym same) can.ascends)
-    (ap (others_by number n) same) grown
-
-pub same_saved : {A Z : Type 0} (number : A → ℕ) (n : ℕ) (v w : Vec A Z) (u t : Undo A)
-    → CanUndo number u v.items (vec_capacity v) → t ≡ saving_at number n v.items u → w.items ≡ v.items
-    → saved_list number t w.items ≡ saved_list number u v.items
-same_saved number n v w u t can saved same =
-    vec_saved number n v w u t can saved (subst (λ l. Ascends (before_by number) l) (sym same) can.ascends)
-    (ap (others_by number n) same)

@@ -1,20 +1,16 @@
-// The descriptors that are followed, in a list for each process that has some, by ascending pids. A copy shares the
-// lists, as what is saved does, and so does a child that has copies of its parent's: each is copied once it is changed.
-ghost use Rattle.std.specs.Prelude.{◌≡◌, ℕ, ◌==◌, ◌+◌, ◌∷◌, [], find, filter, map, not, length, IfSome, IfNone};
-ghost use Rattle.std.specs.Prelude.{◌≤◌, None, if◌then◌else◌, option_map, vec_capacity, IsOk};
+// The descriptors that are followed, in a list for each process that has some, by ascending pids, and what is asked of
+// them. A copy shares the lists, as what is saved does, and so does a child that has copies of its parent's: each is
+// copied once it is changed.
+ghost use Rattle.std.specs.Prelude.{◌≡◌, ◌+◌, ◌∷◌, [], find, filter, not, length, IfSome, IfNone, option_map};
 ghost use Rattle.std.specs.List.{list_any};
 ghost use Rattle.cm_base.specs.Outcome.{OrNoMemory, UnchangedOnErr};
-ghost use Rattle.cm_strace_parts.specs.Lists.{is_fd, is_files, fd_before, files_before, of_process};
-ghost use Rattle.cm_strace_parts.specs.Lists.{fds_of, descriptors_in, ListsInOrder};
-ghost use Rattle.cm_strace_parts.specs.Order.{Ascends, StandsAt, is_at};
-ghost use Rattle.cm_strace_parts.specs.Undone.{others_by};
-ghost use Rattle.model_strace.specs.Parts.{is_descriptor, is_of, is_closed_at_exec, copied_to, descriptor_before};
-ghost use Rattle.model_strace.specs.Parts.{put, put_all};
+ghost use Rattle.cm_strace_parts.specs.Lists.{is_fd, fd_before, files_before, fds_of, descriptors_in, ListsInOrder};
+ghost use Rattle.cm_strace_parts.specs.Order.{Ascends};
+ghost use Rattle.model_strace.specs.Parts.{is_descriptor, is_of, put, put_all};
 
 use crate::descriptor::Descriptor;
 use crate::fd::Fd;
 use crate::search::Numbered;
-use crate::tracked::Tracked;
 use crate::undo::Copied;
 use crate::{fd, ordered};
 use cm_base::{NoMemory, Pid};
@@ -45,7 +41,7 @@ impl Model for FdList {
 
 impl FdList {
     // One descriptor of a process. It fails only where memory runs out.
-    fn one(alloc: Global, pid: Pid, new: Fd) -> Result<FdList, NoMemory>
+    pub(crate) fn one(alloc: Global, pid: Pid, new: Fd) -> Result<FdList, NoMemory>
         ensures { OrNoMemory result (λ f. f ≡ record { pid = pid; fds = new ∷ [] }) }
     {
         let mut list = Vec::new(alloc);
@@ -55,7 +51,7 @@ impl FdList {
     }
 
     // That list of a process.
-    fn of(pid: Pid, fds: Rc<Vec<Fd>>) -> FdList
+    pub(crate) fn of(pid: Pid, fds: Rc<Vec<Fd>>) -> FdList
         ensures { result ≡ record { pid = pid; fds = fds.value.items } }
     {
         let len = fd::count(&fds);
@@ -63,7 +59,7 @@ impl FdList {
     }
 
     // The list, shared. It fails only where memory runs out.
-    fn share(&self) -> Result<Rc<Vec<Fd>>, NoMemory>
+    pub(crate) fn share(&self) -> Result<Rc<Vec<Fd>>, NoMemory>
         ensures { OrNoMemory result (λ fds. fds.value.items ≡ self.now.fds) }
     {
         Ok(self.fds.clone()?)
@@ -77,7 +73,7 @@ impl FdList {
     }
 
     // The list.
-    fn list(&self) -> &[Fd]
+    pub(crate) fn list(&self) -> &[Fd]
         ensures { result.now ≡ self.now.fds }
     {
         &self.fds
@@ -85,7 +81,7 @@ impl FdList {
 
     // The descriptor in its place, instead of that of its number. It fails only where memory runs out, and then leaves
     // all as it was.
-    fn put(&mut self, alloc: Global, new: Fd) -> Result<(), NoMemory>
+    pub(crate) fn put(&mut self, alloc: Global, new: Fd) -> Result<(), NoMemory>
         requires { Ascends fd_before self.old.fds }
         ensures items { OrNoMemory result (λ _. self.new ≡ record self.old { fds = put fd_before new self.old.fds }) }
         ensures unchanged { UnchangedOnErr result self.new self.old }
@@ -104,7 +100,7 @@ impl FdList {
 
     // Copies of descriptors, each in its place: their list where there are no other ones. It fails only where memory
     // runs out, and then leaves all as it was.
-    fn put_all(&mut self, alloc: Global, news: Rc<Vec<Fd>>) -> Result<(), NoMemory>
+    pub(crate) fn put_all(&mut self, alloc: Global, news: Rc<Vec<Fd>>) -> Result<(), NoMemory>
         requires ascends { Ascends fd_before self.old.fds }
         requires up { Ascends fd_before news.value.items }
         ensures items { OrNoMemory result (λ _. self.new
@@ -125,7 +121,7 @@ impl FdList {
     }
 
     // That descriptor isn't followed any more. It fails only where memory runs out, and then leaves all as it was.
-    fn forget(&mut self, alloc: Global, number: u64) -> Result<(), NoMemory>
+    pub(crate) fn forget(&mut self, alloc: Global, number: u64) -> Result<(), NoMemory>
         requires { Ascends fd_before self.old.fds }
         ensures items { OrNoMemory result (λ _. self.new
             ≡ record self.old { fds = filter (λ fd. not (is_fd number fd)) self.old.fds }) }
@@ -147,7 +143,7 @@ impl FdList {
     }
 
     // What an execve leaves. It fails only where memory runs out, and then leaves all as it was.
-    fn execute(&mut self, alloc: Global) -> Result<(), NoMemory>
+    pub(crate) fn execute(&mut self, alloc: Global) -> Result<(), NoMemory>
         ensures items { OrNoMemory result (λ _. self.new
             ≡ record self.old { fds = filter (λ fd. not fd.until_exec) self.old.fds }) }
         ensures unchanged { UnchangedOnErr result self.new self.old }
@@ -191,7 +187,7 @@ impl Copied for FdList {
 // ---- those of all processes
 
 // The descriptors of a process, where it has a list.
-fn of_process(list: &[FdList], pid: Pid) -> Option<&FdList>
+pub(crate) fn of_process(list: &[FdList], pid: Pid) -> Option<&FdList>
     requires { Ascends files_before list.now }
     ensures some { IfSome result (λ f. f.now.fds ≡ fds_of pid list.now) }
     ensures none { IfNone result (fds_of pid list.now ≡ []) }
@@ -268,234 +264,4 @@ pub(crate) fn count_after(list: &[FdList], pid: Pid, all: u128, own: u128) -> u1
         Some(sum) => sum - own,
         None => count(list),
     }
-}
-
-// The descriptor is followed, in the place of any of its number. It fails only where memory runs out, and then leaves
-// all as it was.
-pub(crate) fn follow(
-    files: &mut Tracked<FdList>,
-    alloc: Global,
-    new: &Descriptor,
-) -> Result<(), NoMemory>
-    requires { ListsInOrder files.old.items }
-    ensures items { OrNoMemory result (λ _. descriptors_in files.new.items
-        ≡ put descriptor_before new.now (descriptors_in files.old.items)) }
-    ensures saved { files.new.saved ≡ files.old.saved }
-    ensures unchanged { UnchangedOnErr result files.new.items files.old.items }
-    ensures ordered { ListsInOrder files.new.items }
-{
-    files.undo.save(&files.list, new.pid)?;
-    put_fd(&mut files.list, alloc, new.pid, Fd::of(new))?;
-    Ok(())
-}
-
-// The descriptor in its place among those of the process. It fails only where memory runs out, and then leaves all as
-// it was.
-fn put_fd(list: &mut Vec<FdList>, alloc: Global, pid: Pid, new: Fd) -> Result<(), NoMemory>
-    requires { ListsInOrder list.old.items }
-    ensures items { OrNoMemory result (λ _. list.new.items ≡ put files_before
-        (record { pid = pid; fds = put fd_before new (fds_of pid list.old.items) }) list.old.items) }
-    ensures unchanged { UnchangedOnErr result list.new.items list.old.items }
-    ensures capacity { vec_capacity list.old ≤ vec_capacity list.new }
-{
-    let at = ordered::place(list, pid);
-    if ordered::is_at(list, at, pid) {
-        list[at].put(alloc, new)?;
-    } else {
-        let files = FdList::one(alloc, pid, new)?;
-        list.insert(at, files)?;
-    }
-    Ok(())
-}
-
-// A child has copies of its parent's descriptors. It fails only where memory runs out, and then leaves all as it was.
-fn bear(files: &mut Tracked<FdList>, alloc: Global, parent: Pid, child: Pid) -> Result<(), NoMemory>
-    requires { ListsInOrder files.old.items }
-    ensures items { OrNoMemory result (λ _. descriptors_in files.new.items ≡ put_all descriptor_before
-        (map (copied_to child) (filter (is_of parent) (descriptors_in files.old.items)))
-        (descriptors_in files.old.items)) }
-    ensures saved { files.new.saved ≡ files.old.saved }
-    ensures unchanged { UnchangedOnErr result files.new.items files.old.items }
-    ensures ordered { ListsInOrder files.new.items }
-{
-    match of_process(files.items(), parent) {
-        Some(own) => {
-            let news = own.share()?;
-            put_copies(files, alloc, child, news)
-        }
-        None => Ok(()),
-    }
-}
-
-// The same, unless the child shares them.
-pub(crate) fn bear_unless(
-    files: &mut Tracked<FdList>,
-    alloc: Global,
-    parent: Pid,
-    child: Pid,
-    shares: bool,
-) -> Result<(), NoMemory>
-    requires { ListsInOrder files.old.items }
-    ensures items { OrNoMemory result (λ _. descriptors_in files.new.items
-        ≡ (if shares then descriptors_in files.old.items else put_all descriptor_before
-        (map (copied_to child) (filter (is_of parent) (descriptors_in files.old.items)))
-        (descriptors_in files.old.items))) }
-    ensures saved { files.new.saved ≡ files.old.saved }
-    ensures unchanged { UnchangedOnErr result files.new.items files.old.items }
-    ensures ordered { ListsInOrder files.new.items }
-{
-    if shares {
-        return Ok(());
-    }
-    bear(files, alloc, parent, child)
-}
-
-// Copies of descriptors in their places among those of the process. It fails only where memory runs out, and then
-// leaves all as it was.
-fn put_copies(
-    files: &mut Tracked<FdList>,
-    alloc: Global,
-    pid: Pid,
-    news: Rc<Vec<Fd>>,
-) -> Result<(), NoMemory>
-    requires ordered { ListsInOrder files.old.items }
-    requires up { Ascends fd_before news.value.items }
-    ensures items { OrNoMemory result (λ _. descriptors_in files.new.items
-        ≡ put_all descriptor_before (map (of_process pid) news.value.items) (descriptors_in files.old.items)) }
-    ensures saved { files.new.saved ≡ files.old.saved }
-    ensures unchanged { UnchangedOnErr result files.new.items files.old.items }
-    ensures ordered { ListsInOrder files.new.items }
-{
-    files.undo.save(&files.list, pid)?;
-    put_fds(&mut files.list, alloc, pid, news)?;
-    Ok(())
-}
-
-// The same in the lists.
-fn put_fds(
-    list: &mut Vec<FdList>,
-    alloc: Global,
-    pid: Pid,
-    news: Rc<Vec<Fd>>,
-) -> Result<(), NoMemory>
-    requires ordered { ListsInOrder list.old.items }
-    requires up { Ascends fd_before news.value.items }
-    ensures items { OrNoMemory result (λ _. list.new.items ≡ put files_before
-        (record { pid = pid; fds = put_all fd_before news.value.items (fds_of pid list.old.items) }) list.old.items) }
-    ensures unchanged { UnchangedOnErr result list.new.items list.old.items }
-    ensures capacity { vec_capacity list.old ≤ vec_capacity list.new }
-{
-    let at = ordered::place(list, pid);
-    if ordered::is_at(list, at, pid) {
-        list[at].put_all(alloc, news)?;
-    } else {
-        list.insert(at, FdList::of(pid, news))?;
-    }
-    Ok(())
-}
-
-// That descriptor isn't followed any more. It fails only where memory runs out, and then leaves all as it was.
-pub(crate) fn forget(
-    files: &mut Tracked<FdList>,
-    alloc: Global,
-    pid: Pid,
-    number: u64,
-) -> Result<(), NoMemory>
-    requires { ListsInOrder files.old.items }
-    ensures items { OrNoMemory result (λ _. descriptors_in files.new.items
-        ≡ filter (λ d. not (is_descriptor pid number d)) (descriptors_in files.old.items)) }
-    ensures saved { files.new.saved ≡ files.old.saved }
-    ensures unchanged { UnchangedOnErr result files.new.items files.old.items }
-    ensures ordered { ListsInOrder files.new.items }
-{
-    files.undo.save(&files.list, pid)?;
-    forget_in(&mut files.list, alloc, pid, number)
-}
-
-// The same in the lists.
-fn forget_in(list: &mut Vec<FdList>, alloc: Global, pid: Pid, number: u64) -> Result<(), NoMemory>
-    requires { ListsInOrder list.old.items }
-    ensures items { OrNoMemory result (λ _. descriptors_in list.new.items
-        ≡ filter (λ d. not (is_descriptor pid number d)) (descriptors_in list.old.items)) }
-    ensures unchanged { UnchangedOnErr result list.new.items list.old.items }
-    ensures ordered { ListsInOrder list.new.items }
-    ensures others { others_by (λ f. f.pid) pid list.new.items ≡ others_by (λ f. f.pid) pid list.old.items }
-    ensures capacity { vec_capacity list.old ≤ vec_capacity list.new }
-{
-    let at = ordered::place(list, pid);
-    if ordered::is_at(list, at, pid) {
-        list[at].forget(alloc, number)?;
-        drop_empty(list, at);
-    }
-    Ok(())
-}
-
-// What an execve of the process leaves. It fails only where memory runs out, and then leaves all as it was.
-pub(crate) fn execute(files: &mut Tracked<FdList>, alloc: Global, pid: Pid) -> Result<(), NoMemory>
-    requires { ListsInOrder files.old.items }
-    ensures items { OrNoMemory result (λ _. descriptors_in files.new.items
-        ≡ filter (λ d. not (is_closed_at_exec pid d)) (descriptors_in files.old.items)) }
-    ensures saved { files.new.saved ≡ files.old.saved }
-    ensures unchanged { UnchangedOnErr result files.new.items files.old.items }
-    ensures ordered { ListsInOrder files.new.items }
-{
-    files.undo.save(&files.list, pid)?;
-    execute_in(&mut files.list, alloc, pid)
-}
-
-// The same in the lists.
-fn execute_in(list: &mut Vec<FdList>, alloc: Global, pid: Pid) -> Result<(), NoMemory>
-    requires { ListsInOrder list.old.items }
-    ensures items { OrNoMemory result (λ _. descriptors_in list.new.items
-        ≡ filter (λ d. not (is_closed_at_exec pid d)) (descriptors_in list.old.items)) }
-    ensures unchanged { UnchangedOnErr result list.new.items list.old.items }
-    ensures ordered { ListsInOrder list.new.items }
-    ensures others { others_by (λ f. f.pid) pid list.new.items ≡ others_by (λ f. f.pid) pid list.old.items }
-    ensures capacity { vec_capacity list.old ≤ vec_capacity list.new }
-{
-    let at = ordered::place(list, pid);
-    if ordered::is_at(list, at, pid) {
-        list[at].execute(alloc)?;
-        drop_empty(list, at);
-    }
-    Ok(())
-}
-
-// There are no descriptors in the list at the place.
-fn is_empty_at(list: &[FdList], at: usize) -> bool
-    ensures { result ≡ is_at (λ f. length f.fds == 0) list.now at }
-{
-    match list.get(at) {
-        Some(files) => files.list().is_empty(),
-        None => false,
-    }
-}
-
-// The list at the place goes if it has no descriptors.
-fn drop_empty(list: &mut Vec<FdList>, at: usize)
-    requires { ListsInOrder list.old.items }
-    ensures items { descriptors_in list.new.items ≡ descriptors_in list.old.items }
-    ensures ordered { ListsInOrder list.new.items }
-    ensures others { (pid : ℕ) → StandsAt (is_files pid) list.old.items at
-        → others_by (λ f. f.pid) pid list.new.items ≡ others_by (λ f. f.pid) pid list.old.items }
-    ensures capacity { vec_capacity list.old ≤ vec_capacity list.new }
-{
-    if is_empty_at(list, at) {
-        list.remove(at);
-    }
-}
-
-// None of the process is followed any more. It fails only where memory runs out, and then leaves all as it was; never
-// where no savepoint is set.
-pub(crate) fn remove(files: &mut Tracked<FdList>, pid: Pid) -> Result<(), NoMemory>
-    requires { ListsInOrder files.old.items }
-    ensures items { OrNoMemory result (λ _. descriptors_in files.new.items
-        ≡ filter (λ d. not (is_of pid d)) (descriptors_in files.old.items)) }
-    ensures saved { files.new.saved ≡ files.old.saved }
-    ensures unchanged { UnchangedOnErr result files.new.items files.old.items }
-    ensures ordered { ListsInOrder files.new.items }
-    ensures never { files.old.saved ≡ None → IsOk result }
-{
-    files.remove(pid)?;
-    Ok(())
 }

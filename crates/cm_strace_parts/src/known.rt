@@ -30,7 +30,7 @@ impl Model for Known {
 }
 
 impl Known {
-    // The pids of these processes, as far as there are slots for them. It fails only where memory runs out.
+    // The pids of these processes are noted, as far as there are slots for them. It fails only where memory runs out.
     pub(crate) fn of(alloc: Global, tasks: &[Task]) -> Result<Known, NoMemory>
         ensures { OrNoMemory result (λ known. NotesKnown known tasks.now) }
     {
@@ -55,7 +55,7 @@ impl Known {
         Ok(Known { slots })
     }
 
-    // The pids of these processes instead of all others, as far as there are slots for them.
+    // The pids of these processes are noted instead of all others, as far as there are slots for them.
     pub(crate) fn renew(&mut self, tasks: &[Task])
         ensures { NotesKnown self.new tasks.now }
     {

@@ -6,6 +6,7 @@
 
 mod descriptor;
 mod fd;
+mod file_changes;
 mod files;
 mod kept;
 mod known;

@@ -16,7 +16,7 @@ use crate::kept::Kept;
 use crate::known::Known;
 use crate::task::Task;
 use crate::tracked::Tracked;
-use crate::{files, task};
+use crate::{file_changes, files, task};
 use cm_base::{NoMemory, Pid, SpaceId};
 use cm_declared::World;
 use std::alloc::Global;
@@ -196,9 +196,11 @@ impl Parts {
         self.saved_spaces = self.spaces;
     }
 
-    /// All is as it was at the savepoint, which isn't set any more. It takes no memory.
+    /// All is as it was at the savepoint, which isn't set any more. Where none is set all stays as it is. It takes no
+    /// memory.
     pub fn roll_back(&mut self)
-        ensures { (p : model.Parts) → self.old.saved ≡ Some p → self.new ≡ record { known = p; saved = None } }
+        ensures back { (p : model.Parts) → self.old.saved ≡ Some p → self.new ≡ record { known = p; saved = None } }
+        ensures unset { self.old.saved ≡ None → self.new ≡ self.old }
     {
         if !self.has_savepoint() {
             return;
@@ -293,7 +295,7 @@ impl Parts {
         ensures unchanged { LeftOnErr result self.new self.old }
     {
         let own = files::count_of(self.files.items(), new.pid);
-        files::follow(&mut self.files, alloc, &new)?;
+        file_changes::follow(&mut self.files, alloc, &new)?;
         self.followed = files::count_after(self.files.items(), new.pid, self.followed, own);
         Ok(())
     }
@@ -311,7 +313,7 @@ impl Parts {
         ensures unchanged { LeftOnErr result self.new self.old }
     {
         let own = files::count_of(self.files.items(), pid);
-        files::forget(&mut self.files, alloc, pid, number)?;
+        file_changes::forget(&mut self.files, alloc, pid, number)?;
         self.followed = files::count_after(self.files.items(), pid, self.followed, own);
         Ok(())
     }
@@ -324,7 +326,7 @@ impl Parts {
         ensures unchanged { LeftOnErr result self.new self.old }
     {
         let own = files::count_of(self.files.items(), pid);
-        files::execute(&mut self.files, alloc, pid)?;
+        file_changes::execute(&mut self.files, alloc, pid)?;
         self.followed = files::count_after(self.files.items(), pid, self.followed, own);
         Ok(())
     }
@@ -349,7 +351,7 @@ impl Parts {
     {
         self.tasks.reserve_one()?;
         let own = files::count_of(self.files.items(), child);
-        files::bear_unless(&mut self.files, alloc, parent, child, shares)?;
+        file_changes::bear_unless(&mut self.files, alloc, parent, child, shares)?;
         self.followed = files::count_after(self.files.items(), child, self.followed, own);
         let born = Task {
             pid: child,
@@ -392,7 +394,7 @@ impl Parts {
         self.known.forget(pid);
         self.kept.remove(pid)?;
         let own = files::count_of(self.files.items(), pid);
-        files::remove(&mut self.files, pid)?;
+        file_changes::remove(&mut self.files, pid)?;
         self.followed = files::count_after(self.files.items(), pid, self.followed, own);
         Ok(())
     }

@@ -7,14 +7,14 @@ use Rattle.model_strace.specs.Parts.{Task}
 
 pub invariant_of-tasks-2 : goal.invariant_of-tasks-2
 invariant_of-tasks-2 c =
-    vec_still (λ (t : Task). t.pid) c.args.pid c.tasks.inside.list c.share_in.new.list c.tasks.inside.undo c.save.new.self
-    c.tasks.invariant (rw c.deref.ensures.value at c.in_ok-save.ensures.saved) c.share_in.ensures.ascends
+    vec_still c.args.pid c.tasks.inside.list c.share_in.new.list c.tasks.invariant
+    (rw c.deref.ensures.value at c.in_ok-save.ensures.saved) c.share_in.ensures.ascends
     (ap (others_by (λ (t : Task). t.pid) c.args.pid) c.share_in.ensures.items
     ∙ sharing_others c.args.pid c.args.shares c.tasks.inside.list.items) c.share_in.ensures.capacity
 
 pub returns-clause-saved : goal.returns-clause-saved
 returns-clause-saved c =
-    vec_saved (λ (t : Task). t.pid) c.args.pid c.tasks.inside.list c.share_in.new.list c.tasks.inside.undo c.save.new.self
-    c.tasks.invariant (rw c.deref.ensures.value at c.in_ok-save.ensures.saved) c.share_in.ensures.ascends
+    vec_saved c.args.pid c.tasks.inside.list c.share_in.new.list c.tasks.invariant
+    (rw c.deref.ensures.value at c.in_ok-save.ensures.saved) c.share_in.ensures.ascends
     (ap (others_by (λ (t : Task). t.pid) c.args.pid) c.share_in.ensures.items
     ∙ sharing_others c.args.pid c.args.shares c.tasks.inside.list.items) ∙ ap (λ (t : Tracked Task). t.saved) c.tasks.view_is

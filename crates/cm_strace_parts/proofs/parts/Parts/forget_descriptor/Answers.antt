@@ -1,24 +1,14 @@
-use Rattle.std.proofs.Common.{◌∙◌, List, ap, filter, length}
-use Rattle.cm_strace_parts.proofs.Counts.{asks_count, forgotten_counted}
+use Rattle.cm_strace_parts.proofs.Counts.{counted_anew, forgotten_stay, recounted}
 use Rattle.cm_strace_parts.proofs.parts.Parts.forget_descriptor.Goals as goal
-use Rattle.cm_strace_parts.specs.Lists.{FdList, descriptors_in}
-use Rattle.model_strace.specs.Parts.{is_of}
 
 pub count_after-self-inside-requires-clause-changed : goal.count_after-self-inside-requires-clause-changed
 count_after-self-inside-requires-clause-changed c =
-    let ds = descriptors_in c.self.inside.files.items in
-    asks_count c.args.pid ds (descriptors_in c.items-2.result.now) _ c.self.inside.followed c.count_of-own.result
-    (ap descriptors_in c.items-2.ensures ∙ c.in_ok-forget.ensures.items) c.self.invariant.counted.count
-    (c.count_of-own.ensures ∙ ap (λ (fs : List FdList). length (filter (is_of c.args.pid) (descriptors_in fs))) c.items.ensures)
-    (forgotten_counted c.args.pid c.args.number ds)
+    recounted c.args.pid _ _ _ _ _ c.self.invariant.counted c.items.ensures c.items-2.ensures c.count_of-own.ensures
+    c.in_ok-forget.ensures.items (forgotten_stay c.args.pid c.args.number _)
 
 pub invariant_of-self-2 : goal.invariant_of-self-2
 invariant_of-self-2 c = record {
-  counted = record {
-    files = c.in_ok-forget.ensures.ordered;
-    count = c.count_after-self-inside.ensures
-        ∙ ap (λ (fs : List FdList). length (descriptors_in fs)) c.items-2.ensures;
-  };
+  counted = counted_anew c.in_ok-forget.ensures.ordered c.items-2.ensures c.count_after-self-inside.ensures;
   saved = rw c.in_ok-forget.ensures.saved c.self.invariant.saved;
   noted = c.self.invariant.noted;
 }

@@ -7,6 +7,6 @@ pub invariant_of-self-2 : goal.invariant_of-self-2
 invariant_of-self-2 c = record {
   counted = c.self.invariant.counted;
   saved = rw c.in_ok-move_to.ensures.saved c.self.invariant.saved;
-  noted = rw c.in_ok-move_to.ensures.items (changed_noted c.self.inside.known c.self.inside.tasks.items
-      (moved_task c.args.pid c.args.space.0) (λ t. grind arith) c.self.invariant.noted);
+  noted = rw c.in_ok-move_to.ensures.items (changed_noted (moved_task c.args.pid c.args.space.0) (λ t. grind arith)
+      c.self.invariant.noted);
 }

@@ -19,8 +19,8 @@ invariant_of-self c =
       noted = rw (← c.items.ensures) c.renew.ensures;
     }
 
-pub returns : goal.returns
-returns c p is =
+pub returns-clause-back : goal.returns-clause-back
+returns-clause-back c p is =
     let was = was_saved c.self.inside.tasks.saved c.self.inside.kept.saved c.self.inside.files.saved
     c.self.inside.saved_spaces p (ap (λ (s : Saved). s.saved) c.self.view_is ∙ is) in
     rw (

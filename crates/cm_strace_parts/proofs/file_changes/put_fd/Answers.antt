@@ -2,7 +2,7 @@ use Rattle.std.proofs.Common.{sym, ◌∙◌}
 use Rattle.cm_strace_parts.specs.Lists.{fd_before, files_below}
 use Rattle.cm_strace_parts.proofs.ListOrders.{ascends_at, changed_here, inserted_here}
 use Rattle.cm_strace_parts.proofs.Order.{cut_below, found_below}
-use Rattle.cm_strace_parts.proofs.files.put_fd.Goals as goal
+use Rattle.cm_strace_parts.proofs.file_changes.put_fd.Goals as goal
 use Rattle.model_strace.specs.Parts.{put}
 
 pub place-at-requires : goal.place-at-requires

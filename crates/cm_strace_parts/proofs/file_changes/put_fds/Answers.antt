@@ -4,7 +4,7 @@ use Rattle.cm_strace_parts.proofs.Among.{put_all_alone}
 use Rattle.cm_strace_parts.proofs.ListOrders.{ascends_at, changed_here, inserted_here}
 use Rattle.cm_strace_parts.proofs.Order.{cut_below, found_below}
 use Rattle.cm_strace_parts.proofs.Orders.{fd_apart}
-use Rattle.cm_strace_parts.proofs.files.put_fds.Goals as goal
+use Rattle.cm_strace_parts.proofs.file_changes.put_fds.Goals as goal
 use Rattle.model_strace.specs.Parts.{put_all}
 
 pub place-at-requires : goal.place-at-requires

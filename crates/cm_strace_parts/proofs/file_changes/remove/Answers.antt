@@ -2,7 +2,7 @@ use Rattle.std.proofs.Common.{◌∙◌, ap}
 use Rattle.cm_strace_parts.specs.Lists.{descriptors_in}
 use Rattle.cm_strace_parts.proofs.ListOrders.{left_ordered}
 use Rattle.cm_strace_parts.proofs.Lists.{others_in}
-use Rattle.cm_strace_parts.proofs.files.remove.Goals as goal
+use Rattle.cm_strace_parts.proofs.file_changes.remove.Goals as goal
 
 pub returns-clause-items : goal.returns-clause-items
 returns-clause-items c =

@@ -5,7 +5,7 @@ use Rattle.cm_strace_parts.proofs.Lists.{without_empty}
 use Rattle.cm_strace_parts.specs.Undone.{others_by}
 use Rattle.cm_strace_parts.proofs.Order.{keeps_others}
 use Rattle.cm_strace_parts.proofs.Undoing.{others_left}
-use Rattle.cm_strace_parts.proofs.files.drop_empty.Goals as goal
+use Rattle.cm_strace_parts.proofs.file_changes.drop_empty.Goals as goal
 
 pub returns-then-is_empty_at-clause-items : goal.returns-then-is_empty_at-clause-items
 returns-then-is_empty_at-clause-items c =

@@ -2,7 +2,7 @@ use Rattle.std.proofs.Common.{sym, ◌∙◌, ap, map}
 use Rattle.cm_strace_parts.specs.Lists.{of_process, descriptors_in}
 use Rattle.cm_strace_parts.proofs.ListOrders.{own_ascends}
 use Rattle.cm_strace_parts.proofs.Lists.{copies_in}
-use Rattle.cm_strace_parts.proofs.files.bear.Goals as goal
+use Rattle.cm_strace_parts.proofs.file_changes.bear.Goals as goal
 use Rattle.model_strace.specs.Parts.{descriptor_before, put_all}
 
 pub put_copies-requires-clause-up : goal.put_copies-requires-clause-up
