@@ -1,5 +1,5 @@
 use Rattle.std.proofs.Common.{◌∙◌, ap, sym}
-use Rattle.cm_strace_parts.specs.Lists.{FdList, descriptors_in, fd_before, ListsInOrder}
+use Rattle.cm_strace_parts.specs.Lists.{FdList, fd_before, ListsInOrder}
 use Rattle.cm_strace_parts.specs.Undone.{Tracked}
 use Rattle.cm_strace_parts.proofs.Among.{put_all_ascends}
 use Rattle.cm_strace_parts.proofs.ListOrders.{if_made, put_may_leave}
