@@ -1,6 +1,7 @@
 -- What is left of a process's list at its place, where a filter takes some of its descriptors.
 use Rattle.std.proofs.Common.{◌≡◌, ◌∙◌, ℕ, Bool, true, false, filter, List, ap, get_or, slice_set}
-use Rattle.cm_strace_parts.specs.Lists.{Fd, FdList, ListsInOrder, descriptors_in, fd_before, fds_of, files_below, is_files, of_process}
+use Rattle.cm_strace_parts.specs.Lists.{Fd, FdList, ListsInOrder, descriptors_in, fd_before, fds_of, files_below}
+use Rattle.cm_strace_parts.specs.Lists.{is_files, of_process}
 use Rattle.cm_strace_parts.specs.Order.{IsCut, StandsAt, is_at}
 use Rattle.cm_strace_parts.specs.Undone.{others_by}
 use Rattle.cm_strace_parts.proofs.ListOrders.{changed_here, changed_stands, none_at, own_ascends, put_leaves}

@@ -1,6 +1,7 @@
 // The changes of the descriptors that are followed. Each saves first the list of the process whose descriptors change,
 // where a savepoint is set, and leaves those of the other processes as they are.
-ghost use Rattle.std.specs.Prelude.{◌≡◌, ℕ, ◌==◌, filter, map, not, length, None, if◌then◌else◌, ◌≤◌, vec_capacity, IsOk};
+ghost use Rattle.std.specs.Prelude.{◌≡◌, ℕ, ◌==◌, ◌≤◌, filter, map, not, length, None, if◌then◌else◌, vec_capacity};
+ghost use Rattle.std.specs.Prelude.{IsOk};
 ghost use Rattle.cm_base.specs.Outcome.{OrNoMemory, UnchangedOnErr};
 ghost use Rattle.cm_strace_parts.specs.Lists.{fd_before, is_files, files_before, of_process, fds_of, descriptors_in};
 ghost use Rattle.cm_strace_parts.specs.Lists.{ListsInOrder};

@@ -32,8 +32,8 @@ returns-in_ok-execute-clause-items c =
 
 pub returns-else-is_at-clause-items : goal.returns-else-is_at-clause-items
 returns-else-is_at-clause-items c =
-    none_left_at (λ d. not (is_closed_at_exec c.args.pid d)) c.args.pid c.args.list.now.items c.place-at.result c.requires
-    (rw c.deref.ensures.value at c.place-at.ensures)
+    none_left_at (λ d. not (is_closed_at_exec c.args.pid d)) c.args.pid c.args.list.now.items c.place-at.result
+    c.requires (rw c.deref.ensures.value at c.place-at.ensures)
     (sym (rw c.deref-2.ensures.value at c.is_at.ensures) ∙ c.if-is_at.false) (λ d h. grind (arith, h))
 
 pub returns-in_ok-execute-clause-others : goal.returns-in_ok-execute-clause-others

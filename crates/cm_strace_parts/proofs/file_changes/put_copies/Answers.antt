@@ -13,17 +13,20 @@ pub invariant_of-files-2 : goal.invariant_of-files-2
 invariant_of-files-2 c =
     let fs = c.files.inside.list.items in
     let news = c.args.news.value.items in
-    let left = put_may_leave _ c.args.pid (put_all fd_before news) fs _ c.put_fds.ensures.items c.put_fds.ensures.unchanged
-    (λ fds up. put_all_ascends fd_before news fds fd_order up) (rw (sym c.files.view_is) at c.requires.ordered) in
+    let left = put_may_leave _ c.args.pid (put_all fd_before news) fs _ c.put_fds.ensures.items
+    c.put_fds.ensures.unchanged (λ fds up. put_all_ascends fd_before news fds fd_order up)
+    (rw (sym c.files.view_is) at c.requires.ordered) in
     vec_still c.args.pid c.files.inside.list c.put_fds.new.list c.files.invariant
-    (rw c.deref.ensures.value at c.in_ok-save.ensures.saved) left.ordered.processes left.others c.put_fds.ensures.capacity
+    (rw c.deref.ensures.value at c.in_ok-save.ensures.saved) left.ordered.processes left.others
+    c.put_fds.ensures.capacity
 
 pub returns-clause-saved : goal.returns-clause-saved
 returns-clause-saved c =
     let fs = c.files.inside.list.items in
     let news = c.args.news.value.items in
-    let left = put_may_leave _ c.args.pid (put_all fd_before news) fs _ c.put_fds.ensures.items c.put_fds.ensures.unchanged
-    (λ fds up. put_all_ascends fd_before news fds fd_order up) (rw (sym c.files.view_is) at c.requires.ordered) in
+    let left = put_may_leave _ c.args.pid (put_all fd_before news) fs _ c.put_fds.ensures.items
+    c.put_fds.ensures.unchanged (λ fds up. put_all_ascends fd_before news fds fd_order up)
+    (rw (sym c.files.view_is) at c.requires.ordered) in
     vec_saved c.args.pid c.files.inside.list c.put_fds.new.list c.files.invariant
     (rw c.deref.ensures.value at c.in_ok-save.ensures.saved) left.ordered.processes left.others
     ∙ ap (λ (t : Tracked FdList). t.saved) c.files.view_is
@@ -32,8 +35,9 @@ pub returns-clause-ordered : goal.returns-clause-ordered
 returns-clause-ordered c =
     let fs = c.files.inside.list.items in
     let news = c.args.news.value.items in
-    let left = put_may_leave _ c.args.pid (put_all fd_before news) fs _ c.put_fds.ensures.items c.put_fds.ensures.unchanged
-    (λ fds up. put_all_ascends fd_before news fds fd_order up) (rw (sym c.files.view_is) at c.requires.ordered) in
+    let left = put_may_leave _ c.args.pid (put_all fd_before news) fs _ c.put_fds.ensures.items
+    c.put_fds.ensures.unchanged (λ fds up. put_all_ascends fd_before news fds fd_order up)
+    (rw (sym c.files.view_is) at c.requires.ordered) in
     left.ordered
 
 pub returns-clause-items : goal.returns-clause-items

@@ -5,9 +5,9 @@ use Rattle.model_strace.specs.Parts.{Descriptor}
 
 pub count_after-self-inside-requires-clause-changed : goal.count_after-self-inside-requires-clause-changed
 count_after-self-inside-requires-clause-changed c =
-    recounted c.new.inside.pid _ _ _ _ _ c.self.invariant.counted c.items.ensures c.items-2.ensures c.count_of-own.ensures
-    c.in_ok-follow.ensures.items (put_stay c.new.inside.pid c.args.new _
-    (eq-eqb _ _ (sym (ap (λ (d : Descriptor). d.pid) c.new.view_is))))
+    recounted c.new.inside.pid _ _ _ _ _ c.self.invariant.counted c.items.ensures c.items-2.ensures
+    c.count_of-own.ensures c.in_ok-follow.ensures.items
+    (put_stay c.new.inside.pid c.args.new _ (eq-eqb _ _ (sym (ap (λ (d : Descriptor). d.pid) c.new.view_is))))
 
 pub invariant_of-self-2 : goal.invariant_of-self-2
 invariant_of-self-2 c = record {
