@@ -157,9 +157,10 @@ impl<T: Numbered + Drop> Tracked<T> {
         self.undo.begin(true);
     }
 
-    // All is as it was at the savepoint, where one is set, and none is set any more.
+    // All is as it was at the savepoint, which isn't set any more. Where none is set all stays as it is.
     pub(crate) fn roll_back(&mut self)
         ensures items { (xs : List T) → self.old.saved ≡ Some xs → self.new.items ≡ xs }
+        ensures unset { self.old.saved ≡ None → self.new.items ≡ self.old.items }
         ensures saved { self.new.saved ≡ None }
     {
         if self.undo.is_saving() {
