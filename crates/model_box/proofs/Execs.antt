@@ -33,9 +33,9 @@ use Rattle.model_box.specs.Row.{Fresh, space_under, HasMembers}
 use Rattle.model_box.specs.Rule.{ExecUid, ExecGid, ExecCaps, ExecRoot}
 use Rattle.model_box.specs.Files.{IdIn, HasOther, CanRun, SetIdCan, MayBeZero, ZeroIn, ZeroAbove, RootCan, TakesCan, FileGives, FilesFit, is_program}
 use Rattle.model_box.specs.Closed.{Closed}
-use Rattle.model_box.specs.Covers.{RowOf, own, MapsIn}
+use Rattle.model_box.specs.Covers.{RowOf, own, MapsIn, MapsAreIn}
 use Rattle.model_box.proofs.Trees.{any_item, at_or_above_low, row_standing, row_stands, split_chain}
-use Rattle.model_box.proofs.Fits.{SpacesFit, at_or_above_stays}
+use Rattle.model_box.proofs.Fits.{TreeFits, at_or_above_stays}
 use Rattle.model_box.proofs.Ids.{IdsIn, from_each, down_outside, is_real}
 use Rattle.model_box.proofs.Rows.{Fine}
 use Rattle.model_box.proofs.Calls.{with_uid_fine, with_gid_fine, without_keep_caps_fine}
@@ -113,22 +113,22 @@ module _ (row : Part → ℕ → Type 0) (c : Credential) (fine : Fine row c) (s
             inr (inr (inr (cap_here cap_dac_override second.0, ids.0, ids.1, second.1)))
 
 -- ---- the spaces as a file sees them
-module _ (old new : Spaces) (bounds : Row → Part → ℕ → Type 0) (fit : SpacesFit old new bounds) where
+module _ (old new : Spaces) (bounds : Row → Part → ℕ → Type 0) (fit : TreeFits old new) (mapped : MapsAreIn old new bounds) where
   -- a space that stands and is above a member's space is above the standing space of its row
   above_row : (m at : ℕ) (row : Row) → m < length old → RowOf (length old) new at row → IsTrue (is_at_or_above new m at)
       → IsTrue (is_at_or_above old m (space_under row))
-  above_row m at (Standing n) low row above = let two = row_standing row in at_or_above_stays old new bounds fit m n (rw two.0 at two.1) (rw two.0 at above)
+  above_row m at (Standing n) low row above = let two = row_standing row in at_or_above_stays old new fit m n (rw two.0 at two.1) (rw two.0 at above)
   above_row m at (Fresh a) low row above =
       elim (split_chain fit.earlier m row above) [
         | inl row_m ↦ absurd (let late : length old ≤ m = (row_stands row_m).1 in omega arith)
-        | inr up ↦ at_or_above_stays old new bounds fit m a (row_stands row).0 up
+        | inr up ↦ at_or_above_stays old new fit m a (row_stands row).0 up
       ]
 
   -- inside 0 of a standing space
   zero_standing : (m z : ℕ) → m < length old → zero_of (space_of new m) ≡ Some z → ZeroIn old bounds (Standing m) z
   zero_standing m z low zero = go (space_of old m).uids ((fit.stay m low).uids) where
     go : (o : Option (List Extent)) → ((map : List Extent) → o ≡ Some map → (space_of new m).uids ≡ Some map) → MayBeZero o (bounds (Standing m) MappedUids) z
-    go None stays = (fit.mapped m (Standing m) (own m low)).uids z (down_outside (extents_of (space_of new m).uids) 0 z zero)
+    go None stays = (mapped m (Standing m) (own m low)).uids z (down_outside (extents_of (space_of new m).uids) 0 z zero)
     go (Some map) stays =
         let at_zero : down map 0 ≡ Some z = sym (ap (λ (o : Option (List Extent)). down (extents_of o) 0) (stays map refl)) ∙ zero in
         rw at_zero (eq-eqb z z refl)
@@ -136,7 +136,7 @@ module _ (old new : Spaces) (bounds : Row → Part → ℕ → Type 0) (fit : Sp
   -- inside 0 of a member's own space
   zero_own : (at z : ℕ) (row : Row) → RowOf (length old) new at row → zero_of (space_of new at) ≡ Some z → ZeroIn old bounds row z
   zero_own at z (Standing n) row zero = let two = row_standing row in zero_standing n z (rw two.0 at two.1) (rw two.0 at zero)
-  zero_own at z (Fresh a) row zero = (fit.mapped at (Fresh a) row).uids z (down_outside (extents_of (space_of new at).uids) 0 z zero)
+  zero_own at z (Fresh a) row zero = (mapped at (Fresh a) row).uids z (down_outside (extents_of (space_of new at).uids) 0 z zero)
 
   same_id : (a b : Option ℕ) → IsTrue (is_same_id a b) → (z : ℕ) × (a ≡ Some z) × (b ≡ Some z)
   same_id (Some a) (Some b) same = (a, refl, ap Some (sym (eqb-true a b same)))
@@ -147,7 +147,7 @@ module _ (old new : Spaces) (bounds : Row → Part → ℕ → Type 0) (fit : Sp
       → IsTrue (is_at_or_above new m n) → ZeroAbove old bounds n id
   zero_above id m z n is zero low up =
       let m_low : m ≤ n = at_or_above_low new fit.earlier m n up in
-      (m, at_or_above_stays old new bounds fit m n low up, id_from id z (ZeroIn old bounds (Standing m)) is (zero_standing m z (omega arith) zero))
+      (m, at_or_above_stays old new fit m n low up, id_from id z (ZeroIn old bounds (Standing m)) is (zero_standing m z (omega arith) zero))
 
   root_by : (id : Option ℕ) (m z at : ℕ) → id ≡ Some z → zero_of (space_of new m) ≡ Some z → IsTrue (is_at_or_above new m at) → (row : Row)
       → RowOf (length old) new at row → RootCan old bounds row id
@@ -156,7 +156,7 @@ module _ (old new : Spaces) (bounds : Row → Part → ℕ → Type 0) (fit : Sp
       elim (split_chain fit.earlier m row_a up) [
         | inl row_m ↦
             inl (id_from id z (ZeroIn old bounds (Fresh a)) is
-            ((fit.mapped m (Fresh a) row_m).uids z (down_outside (extents_of (space_of new m).uids) 0 z zero)))
+            ((mapped m (Fresh a) row_m).uids z (down_outside (extents_of (space_of new m).uids) 0 z zero)))
         | inr more ↦ inr (zero_above id m z a is zero (row_stands row_a).0 more)
       ]
 
@@ -223,13 +223,13 @@ module _ (permitted : CallKind → Bool) (files : FileTable) (old : Spaces) (bou
 
 -- ---- the credential after execve
 module _ (permitted : CallKind → Bool) (files : FileTable) (old new : Spaces) (bounds : Row → Part → ℕ → Type 0) (closed : Closed permitted files old bounds)
-    (fit : SpacesFit old new bounds) (row : Row) (standing : IsTrue (stands old (space_under row))) (at : ℕ) (row_at : RowOf (length old) new at row)
+    (fit : TreeFits old new) (mapped : MapsAreIn old new bounds) (row : Row) (standing : IsTrue (stands old (space_under row))) (at : ℕ) (row_at : RowOf (length old) new at row)
     (c : Credential) (fine : Fine (bounds row) c) (allowed : IsTrue (permitted kind.Exec)) where
   has_members : HasMembers (bounds row)
   has_members = (c.uid.effective, fine.held.uid.effective c.uid.effective refl)
 
   maps_here : MapsIn (space_of new at) (bounds row)
-  maps_here = fit.mapped at row row_at
+  maps_here = mapped at row row_at
 
   free : not c.no_new_privs ≡ true → bounds row NewPrivs 0
   free clear = fine.held.new_privs (not-true c.no_new_privs clear)
@@ -245,7 +245,7 @@ module _ (permitted : CallKind → Bool) (files : FileTable) (old new : Spaces) 
         no (inr caps) = false≢true (rw plain at caps)
       by (inr low) both =
           and_from (not f.nosuid) (is_at_or_above old f.space (space_under row)) both.0
-          (above_row old new bounds fit f.space at row low row_at both.1)
+          (above_row old new bounds fit mapped f.space at row low row_at both.1)
 
     -- the set-id bits count in the row
     owner_there : (o : Option ℕ) → IdIn o (bounds row MappedUids) → IsTrue (is_some o)
@@ -264,7 +264,7 @@ module _ (permitted : CallKind → Bool) (files : FileTable) (old new : Spaces) 
         let two = and_parts (not c.no_new_privs) (takes_attribute new at f) may in
         let more = and_parts (is_some f.caps && may_raise_in new at f) (list_any (λ m. is_same_id f.root (zero_of (space_of new m))) (chain new at)) two.1 in
         let first = and_parts (is_some f.caps) (may_raise_in new at f) more.0 in
-        (free two.0, first.0, raises (inr first.0) first.1, root_can old new bounds fit at row f.root row_at more.1)
+        (free two.0, first.0, raises (inr first.0) first.1, root_can old new bounds fit mapped at row f.root row_at more.1)
 
     -- ---- the ids
     uid_old : (x : ℕ) → bounds row EffectiveUids x → bounds row Uids x
@@ -349,7 +349,7 @@ module _ (permitted : CallKind → Bool) (files : FileTable) (old new : Spaces) 
           (
             fine.held.root clear,
             may,
-            (z, held, zero_own old new bounds fit at z row row_at (the_zero (zero_of (space_of new at)) zero)),
+            (z, held, zero_own old new bounds fit mapped at z row row_at (the_zero (zero_of (space_of new at)) zero)),
             by gives,
           ),
         ) where

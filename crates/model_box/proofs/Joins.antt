@@ -14,13 +14,13 @@ use Rattle.model_rules.specs.Namespaces.{as_newcomer}
 use Rattle.model_rules.specs.Power.{has_over}
 use Rattle.model_box.specs.Row.{Part, Uids, EffectiveUids, FsUids, Gids, EffectiveGids, FsGids, Groups, MappedUids}
 use Rattle.model_box.specs.Row.{MappedGids, PermittedCaps, InheritableCaps, BoundingCaps, NewPrivs, RootCounts}
-use Rattle.model_box.specs.Row.{LockClear, Row, Standing, Fresh, CredHas}
+use Rattle.model_box.specs.Row.{LockClear, Row, Standing, Fresh, HasMembers, CredHas}
 use Rattle.model_box.specs.Rule.{Join}
 use Rattle.model_box.specs.Spread.{Brings, CanJoin, IsNext}
 use Rattle.model_box.specs.Closed.{Closed}
 use Rattle.model_box.specs.Covers.{RowOf, own, child, deeper}
 use Rattle.model_box.proofs.Trees.{at_or_above_low, next_exists, power_cases, split_chain, row_standing, row_stands}
-use Rattle.model_box.proofs.Fits.{SpacesFit, MemberFits, InRow, next_stays, it_stands}
+use Rattle.model_box.proofs.Fits.{TreeFits, AtAnchors, FilledIfPeopled, Settles, MemberFits, InRow, next_stays, it_stands}
 
 -- ---- what a newcomer brings
 pub newcomer_included : (c : Credential) → Included (as_newcomer c)
@@ -93,8 +93,14 @@ row_parent (deeper m p a late parent up) at owned =
     let one : at ≡ p = cc in
     inl (rw one up)
 
+-- A member of the row comes as a newcomer with that credential.
+record BringsAs (row : Part → ℕ → Type 0) (c : Credential) : Type 0 where
+  peopled : HasMembers row
+  brings : (part : Part) (x : ℕ) → CredHas (as_newcomer c) part x → Brings row part x
+
 module _ (permitted : CallKind → Bool) (files : FileTable) (old new : Spaces) (bounds : Row → Part → ℕ → Type 0)
-    (closed : Closed permitted files old bounds) (fit : SpacesFit old new bounds) (allowed : IsTrue (permitted kind.SetNs))
+    (closed : Closed permitted files old bounds) (fit : TreeFits old new) (allowed : IsTrue (permitted kind.SetNs))
+    (filled : AtAnchors old new (FilledIfPeopled bounds))
     (at : ℕ) (c : Credential) (member : MemberFits old new bounds at c) where
   -- a member above a standing space with power over it can join it
   can_join : (n m : ℕ) → n < length old → IsNext old at n m → at < length old
@@ -112,14 +118,14 @@ module _ (permitted : CallKind → Bool) (files : FileTable) (old new : Spaces) 
   -- so what it then has is in that space's row
   joined_standing : (n : ℕ) → n < length old → at < length old → CanJoin old bounds at n → InRow (bounds (Standing n)) (as_newcomer c)
   joined_standing n low stands joins part x has =
-      closed Join (Standing n) (it_stands old new bounds fit n low) part x
+      closed Join (Standing n) (it_stands old new fit n low) part x
       (allowed, (at, joins, brought (bounds (Standing at)) c (member.held (Standing at) (own at stands)) part x has))
 
   -- power over a standing space from a space above it
   joins_from_above : (n m : ℕ) → n < length old → IsTrue (is_at_or_above new m n) → (space_of new m).parent ≡ Some at
       → (IsTrue (holds c.effective cap_sys_admin) ⊎ ((space_of new m).owner ≡ c.uid.effective)) → InRow (bounds (Standing n)) (as_newcomer c)
   joins_from_above n m low above parent cause =
-      let next : IsNext old at n m = next_stays old new bounds fit at n m low above parent in
+      let next : IsNext old at n m = next_stays old new fit at n m low above parent in
       let m_below : m ≤ n = at_or_above_low new fit.earlier m n above in
       let at_below : at < m = fit.earlier m at parent in
       joined_standing n low (omega arith) (can_join n m low next (omega arith) cause (omega arith))
@@ -139,11 +145,11 @@ module _ (permitted : CallKind → Bool) (files : FileTable) (old new : Spaces) 
         | inr owned ↦ joins_from_above n found.0 low found.1 owned.0 (inr owned.1)
       ]
 
-  -- A later target. Who joins it from above its standing space has the same power over that one, so what joining and then
-  -- making a space add holds this joiner too.
-  join_later : (t a : ℕ) → RowOf (length old) new t (Fresh a) → IsTrue (has_over new at c cap_sys_admin t)
-      → InRow (bounds (Fresh a)) (as_newcomer c)
-  join_later t a row power part x has = by found.2 (split_chain fit.earlier found.0 row found.1) where
+  -- Who joins a later space stands in its row already, or brings what members of the standing row above it bring: it
+  -- stands there, or from above that space it has the same power over that one, so that joining puts it there.
+  comes_from : (t a : ℕ) → RowOf (length old) new t (Fresh a) → IsTrue (has_over new at c cap_sys_admin t)
+      → RowOf (length old) new at (Fresh a) ⊎ BringsAs (bounds (Standing a)) c
+  comes_from t a row power = by found.2 (split_chain fit.earlier found.0 row found.1) where
     found : (m : ℕ) × IsTrue (is_at_or_above new m t)
         × (((m ≡ at) × IsTrue (holds c.effective cap_sys_admin)) ⊎ (((space_of new m).parent ≡ Some at) × ((space_of new m).owner ≡ c.uid.effective)))
     found = power_cases new at c.effective c.uid.effective cap_sys_admin t power
@@ -151,45 +157,55 @@ module _ (permitted : CallKind → Bool) (files : FileTable) (old new : Spaces) 
     a_low : a < length old
     a_low = (row_stands row).0
 
-    filled : (part : Part) (x : ℕ) → Brings (bounds (Standing a)) part x → bounds (Fresh a) part x
-    filled = fit.filled t a row
+    anchor : at ≡ a → BringsAs (bounds (Standing a)) c
+    anchor same =
+        let held : InRow (bounds (Standing a)) c = member.held (Standing a) (rw same (own a a_low)) in
+        record { peopled = (c.uid.effective, held EffectiveUids c.uid.effective refl); brings = brought (bounds (Standing a)) c held }
 
-    inside : RowOf (length old) new at (Fresh a) → bounds (Fresh a) part x
-    inside row_at = filled_again (bounds (Standing a)) (bounds (Fresh a)) filled part x (brought (bounds (Fresh a)) c (member.held (Fresh a) row_at) part x has)
+    above : InRow (bounds (Standing a)) (as_newcomer c) → BringsAs (bounds (Standing a)) c
+    above joined = record { peopled = (c.uid.effective, joined EffectiveUids c.uid.effective refl); brings = brought_again (bounds (Standing a)) c joined }
 
-    anchor : at ≡ a → bounds (Fresh a) part x
-    anchor same = filled part x (brought (bounds (Standing a)) c (member.held (Standing a) (rw same (own a a_low))) part x has)
-
-    above : InRow (bounds (Standing a)) (as_newcomer c) → bounds (Fresh a) part x
-    above joined = filled part x (brought_again (bounds (Standing a)) c joined part x has)
-
-    parent : RowOf (length old) new at (Fresh a) ⊎ (at ≡ a) → bounds (Fresh a) part x
-    parent (inl row_at) = inside row_at
-    parent (inr same) = anchor same
+    parent : RowOf (length old) new at (Fresh a) ⊎ (at ≡ a) → RowOf (length old) new at (Fresh a) ⊎ BringsAs (bounds (Standing a)) c
+    parent (inl row_at) = inl row_at
+    parent (inr same) = inr (anchor same)
 
     by : (((found.0 ≡ at) × IsTrue (holds c.effective cap_sys_admin))
         ⊎ (((space_of new found.0).parent ≡ Some at) × ((space_of new found.0).owner ≡ c.uid.effective)))
-        → RowOf (length old) new found.0 (Fresh a) ⊎ IsTrue (is_at_or_above new found.0 a) → bounds (Fresh a) part x
-    by (inl here) (inl row_at) = inside (rw here.0 at row_at)
+        → RowOf (length old) new found.0 (Fresh a) ⊎ IsTrue (is_at_or_above new found.0 a)
+        → RowOf (length old) new at (Fresh a) ⊎ BringsAs (bounds (Standing a)) c
+    by (inl here) (inl row_at) = inl (rw here.0 at row_at)
     by (inl here) (inr up) =
         elim (cases_eq at a) [
-          | inl same ↦ anchor same
-          | inr other ↦ above (joins_by_set a a_low other (rw here.0 at up) here.1)
+          | inl same ↦ inr (anchor same)
+          | inr other ↦ inr (above (joins_by_set a a_low other (rw here.0 at up) here.1))
         ]
     by (inr owned) (inl row_m) = parent (row_parent row_m at owned.0)
-    by (inr owned) (inr up) = above (joins_from_above a found.0 a_low up owned.0 (inr owned.1))
+    by (inr owned) (inr up) = inr (above (joins_from_above a found.0 a_low up owned.0 (inr owned.1)))
+
+  -- a later target
+  join_later : (t a : ℕ) → RowOf (length old) new t (Fresh a) → RowOf (length old) new at (Fresh a) ⊎ BringsAs (bounds (Standing a)) c
+      → InRow (bounds (Fresh a)) (as_newcomer c)
+  join_later t a row (inl row_at) part x has =
+      member.settled a row_at part x (brought (bounds (Fresh a)) c (member.held (Fresh a) row_at) part x has)
+  join_later t a row (inr from) part x has = filled t a row from.peopled part x (from.brings part x has)
+
+  join_settled : (t a : ℕ) → RowOf (length old) new t (Fresh a) → RowOf (length old) new at (Fresh a) ⊎ BringsAs (bounds (Standing a)) c
+      → Settles (bounds (Fresh a))
+  join_settled t a row (inl row_at) = member.settled a row_at
+  join_settled t a row (inr from) = filled_again (bounds (Standing a)) (bounds (Fresh a)) (filled t a row from.peopled)
 
   in_row : (t : ℕ) → (t ≡ at → ⊥) → IsTrue (has_over new at c cap_sys_admin t)
       → (row : Row) → RowOf (length old) new t row → InRow (bounds row) (as_newcomer c)
   in_row t other power (Standing n) row_t =
       let two = row_standing row_t in
       join_standing n (rw two.0 at two.1) (λ same. other (two.0 ∙ same)) (rw two.0 at power)
-  in_row t other power (Fresh a) row_t = join_later t a row_t power
+  in_row t other power (Fresh a) row_t = join_later t a row_t (comes_from t a row_t power)
 
   -- Joining a space keeps a member covered.
   pub join_fits : (t : ℕ) → t < length new → (t ≡ at → ⊥) → IsTrue (has_over new at c cap_sys_admin t) → MemberFits old new bounds t (as_newcomer c)
   join_fits t low other power = record {
     here = low;
     held = in_row t other power;
+    settled = λ a row. join_settled t a row (comes_from t a row power);
     included = newcomer_included c;
   }

@@ -15,6 +15,7 @@ pub mod Calls
 pub mod Execs
 pub mod Processes
 pub mod Steps
+pub mod Partings
 pub mod Runs
 pub mod Excludes
 pub mod Starts

@@ -1,21 +1,16 @@
 -- Making a space keeps the spaces and the members covered.
-use Rattle.std.proofs.Common.{◌≡◌, ℕ, suc, ◌<◌, ◌≤◌, ◌-◌, ◌||◌, Bool, true, Some, List, ◌∷◌, length, refl, sym, ap, ◌∙◌, inl, inr, arith}
+use Rattle.std.proofs.Common.{◌≡◌, ℕ, suc, ◌<◌, ◌≤◌, ◌-◌, true, Some, List, ◌∷◌, length, refl, sym, ap, ◌∙◌, inl, inr, arith}
 use Rattle.std.specs.Prelude.{◌⊎◌, IsTrue, nat_lt}
 use Rattle.std.proofs.lemmas.Bool.{false≢true, cases_eq, and_parts}
-use Rattle.cm_filter.specs.declared.kind.CallKind.{CallKind}
-use Rattle.cm_filter.specs.declared.kind.CallKind.TheVariants as kind
 use Rattle.model_cred.specs.Credential.{Credential}
-use Rattle.model_cred.specs.Files.{FileTable}
 use Rattle.model_cred.specs.IdMap.{extents_of, is_outside}
 use Rattle.model_cred.specs.Space.{Space, Spaces, space_of, level}
 use Rattle.model_rules.specs.Namespaces.{as_newcomer, created_by, deepest, is_mapped_in}
 use Rattle.model_box.specs.Row.{Part, EffectiveUids, EffectiveGids, Row, Standing, Fresh}
-use Rattle.model_box.specs.Rule.{Create}
-use Rattle.model_box.specs.Spread.{Brings}
-use Rattle.model_box.specs.Closed.{Closed}
-use Rattle.model_box.specs.Covers.{RowOf, own, child, deeper, MapsIn, ParentsEarlier, OwnersIn, FreshFilled}
+use Rattle.model_box.specs.Spread.{CanMake}
+use Rattle.model_box.specs.Covers.{RowOf, own, child, deeper, MapsIn, MapsAreIn, ParentsEarlier, OwnersIn}
 use Rattle.model_box.proofs.Trees.{Earlier, space_of_newest, space_of_older, has_parent_stands, row_standing, row_older}
-use Rattle.model_box.proofs.Fits.{SpacesFit, MemberFits, InRow, chain_stays, it_stands}
+use Rattle.model_box.proofs.Fits.{TreeFits, AtAnchors, FilledAt, Settles, MemberFits, InRow, chain_stays}
 use Rattle.model_box.proofs.Joins.{brought, filled_again, newcomer_included}
 
 pub row_here : {k : ℕ} {spaces : Spaces} → k ≤ length spaces → {n : ℕ} {row : Row} → RowOf k spaces n row → n < length spaces
@@ -23,11 +18,8 @@ row_here grown (own n low) = omega arith
 row_here {spaces = spaces} grown (child n p a late parent up) = has_parent_stands spaces n p parent
 row_here {spaces = spaces} grown (deeper n p a late parent up) = has_parent_stands spaces n p parent
 
-module _ (permitted : CallKind → Bool) (files : FileTable) (old new : Spaces) (bounds : Row → Part → ℕ → Type 0)
-    (closed : Closed permitted files old bounds) (fit : SpacesFit old new bounds)
-    (at : ℕ) (c : Credential) (member : MemberFits old new bounds at c)
-    (allowed : IsTrue (permitted kind.Unshare || permitted kind.CloneUser))
-    (shallow : IsTrue (nat_lt (level new at) deepest)) (mapped : IsTrue (is_mapped_in (space_of new at) c)) where
+-- ---- the spaces alone
+module _ (old new : Spaces) (fit : TreeFits old new) (at : ℕ) (c : Credential) (here : at < length new) where
   newest_is : space_of (created_by new at c ∷ new) (length new) ≡ created_by new at c
   newest_is = space_of_newest (created_by new at c) new
 
@@ -41,7 +33,7 @@ module _ (permitted : CallKind → Bool) (files : FileTable) (old new : Spaces) 
   made_earlier : Earlier (created_by new at c ∷ new)
   made_earlier n p parent =
       elim (cases_eq n (length new)) [
-        | inl same ↦ let p_is : p ≡ at = the_parent p (rw same at parent) in let here : at < length new = member.here in omega arith
+        | inl same ↦ let p_is : p ≡ at = the_parent p (rw same at parent) in omega arith
         | inr other ↦ fit.earlier n p (sym (ap (λ (s : Space). s.parent) (space_of_older (created_by new at c) new n other)) ∙ parent)
       ]
 
@@ -56,45 +48,10 @@ module _ (permitted : CallKind → Bool) (files : FileTable) (old new : Spaces) 
         → RowOf (length old) new at (Standing a) ⊎ RowOf (length old) new at (Fresh a)
     go (child n p a' late parent up) same =
         let p_is : p ≡ at = the_parent p (rw same at parent) in
-        inl (older_row at (Standing a') member.here (rw p_is at up))
+        inl (older_row at (Standing a') here (rw p_is at up))
     go (deeper n p a' late parent up) same =
         let p_is : p ≡ at = the_parent p (rw same at parent) in
-        inr (older_row at (Fresh a') member.here (rw p_is at up))
-
-  -- making a space from a standing one fills its fresh row
-  filled_from : (a : ℕ) → RowOf (length old) new at (Standing a) → (part : Part) (x : ℕ) → Brings (bounds (Standing a)) part x → bounds (Fresh a) part x
-  filled_from a row part x brings =
-      closed Create (Fresh a) (it_stands old new bounds fit a low) part x (
-        allowed,
-        (
-          rw (same ∙ ap (λ k. level old k) (row_standing row).0) at shallow,
-          (
-            c.uid.effective,
-            member.held (Standing a) row EffectiveUids c.uid.effective refl,
-            (fit.mapped at (Standing a) row).uids c.uid.effective
-                (and_parts (is_outside (extents_of (space_of new at).uids) c.uid.effective)
-                (is_outside (extents_of (space_of new at).gids) c.gid.effective) mapped).0,
-          ),
-          (
-            c.gid.effective,
-            member.held (Standing a) row EffectiveGids c.gid.effective refl,
-            (fit.mapped at (Standing a) row).gids c.gid.effective
-                (and_parts (is_outside (extents_of (space_of new at).uids) c.uid.effective)
-                (is_outside (extents_of (space_of new at).gids) c.gid.effective) mapped).1,
-          ),
-        ),
-        brings,
-      ) where
-        low : a < length old
-        low = rw (← (row_standing row).0) (row_standing row).1
-
-        same : level new at ≡ level old at
-        same = ap (λ (chain : List ℕ). length chain - 1) (chain_stays old new bounds fit at (row_standing row).1)
-
-  filled_made : (a : ℕ) → RowOf (length old) new at (Standing a) ⊎ RowOf (length old) new at (Fresh a)
-      → (part : Part) (x : ℕ) → Brings (bounds (Standing a)) part x → bounds (Fresh a) part x
-  filled_made a (inl row) = filled_from a row
-  filled_made a (inr row) = fit.filled at a row
+        inr (older_row at (Fresh a') here (rw p_is at up))
 
   -- the new space has its word from the maker's
   denied_made : (a : ℕ) → RowOf (length old) new at (Standing a) ⊎ RowOf (length old) new at (Fresh a)
@@ -104,25 +61,13 @@ module _ (permitted : CallKind → Bool) (files : FileTable) (old new : Spaces) 
 
   -- a space is the new one or an older one
   new_or_older : (n : ℕ) → n < suc (length new) → (n ≡ length new) ⊎ (n < length new)
-  new_or_older n here = elim (cases_eq n (length new)) [ inl same ↦ inl same | inr other ↦ inr (omega arith) ]
+  new_or_older n low = elim (cases_eq n (length new)) [ inl same ↦ inl same | inr other ↦ inr (omega arith) ]
 
   made_parents : ParentsEarlier old (created_by new at c ∷ new)
-  made_parents n late here =
-      elim (new_or_older n here) [
-        | inl same ↦ rw same (at, ap (λ (s : Space). s.parent) newest_is, member.here)
-        | inr low ↦ let up = fit.parents n late low in (up.0, ap (λ (s : Space). s.parent) (older_is n low) ∙ up.1, up.2)
-      ]
-
-  made_owners : OwnersIn old (created_by new at c ∷ new) bounds
-  made_owners n p row late parent row_p =
-      elim (new_or_older n (has_parent_stands (created_by new at c ∷ new) n p parent)) [
-        | inl same ↦
-            let up : p ≡ at = the_parent p (rw same at parent) in
-            rw (same, newest_is) (member.held row (older_row at row member.here (rw up at row_p)) EffectiveUids c.uid.effective refl)
-        | inr low ↦
-            let up : (space_of new n).parent ≡ Some p = sym (ap (λ (s : Space). s.parent) (older_is n low)) ∙ parent in
-            let p_low : p < n = fit.earlier n p up in
-            rw (older_is n low) (fit.owners n p row late up (older_row p row (omega arith) row_p))
+  made_parents n late low =
+      elim (new_or_older n low) [
+        | inl same ↦ rw same (at, ap (λ (s : Space). s.parent) newest_is, here)
+        | inr older ↦ let up = fit.parents n late older in (up.0, ap (λ (s : Space). s.parent) (older_is n older) ∙ up.1, up.2)
       ]
 
   -- a later space with a row stands
@@ -137,56 +82,113 @@ module _ (permitted : CallKind → Bool) (files : FileTable) (old new : Spaces) 
         | inr low ↦ ap (λ (s : Space). s.deny) (older_is n low) ∙ fit.deny n a (older_row n (Fresh a) low row) word
       ]
 
-  made_filled : FreshFilled old (created_by new at c ∷ new) bounds
-  made_filled n a row =
-      elim (new_or_older n (fresh_here n a row)) [
-        | inl same ↦ filled_made a (made_row a (rw same at row))
-        | inr low ↦ fit.filled n a (older_row n (Fresh a) low row)
-      ]
-
-  no_maps : (row : Row) → MapsIn (created_by new at c) (bounds row)
-  no_maps row = record { uids = λ x wrong. absurd (false≢true wrong); gids = λ x wrong. absurd (false≢true wrong) }
-
-  -- Making a space keeps the spaces covered.
-  pub made_fits : SpacesFit old (created_by new at c ∷ new) bounds
-  made_fits = record {
+  -- Making a space keeps what is said of the spaces alone.
+  pub made_tree : TreeFits old (created_by new at c ∷ new)
+  made_tree = record {
     before = fit.before;
     earlier = made_earlier;
     grown = let grown : length old ≤ length new = fit.grown in omega arith;
     stay = λ n low. let grown : length old ≤ length new = fit.grown in rw (older_is n (omega arith)) (fit.stay n low);
-    mapped = λ n row row_n.
-        let grown : length old ≤ length new = fit.grown in
-        let here : n < suc (length new) = row_here (omega arith) row_n in
-        elim (cases_eq n (length new)) [
-          | inl same ↦ rw (same, newest_is) (no_maps row)
-          | inr other ↦ rw (older_is n (omega arith)) (fit.mapped n row (older_row n row (omega arith) row_n))
-        ];
     deny = made_deny;
     parents = made_parents;
-    owners = made_owners;
-    filled = made_filled;
   }
 
-  made_in : (row : Row) → RowOf (length old) (created_by new at c ∷ new) (length new) row → InRow (bounds row) (as_newcomer c)
-  made_in (Standing n) row part x has =
-      absurd (let two = row_standing row in
-      let grown : length old ≤ length new = fit.grown in
-      let low : length new < length old = two.1 in omega arith)
-  made_in (Fresh a) row part x has = by (made_row a row) where
-    by : RowOf (length old) new at (Standing a) ⊎ RowOf (length old) new at (Fresh a) → bounds (Fresh a) part x
-    by (inl row_at) = filled_from a row_at part x (brought (bounds (Standing a)) c (member.held (Standing a) row_at) part x has)
-    by (inr row_at) =
-        filled_again (bounds (Standing a)) (bounds (Fresh a)) (filled_made a (inr row_at)) part x
-        (brought (bounds (Fresh a)) c (member.held (Fresh a) row_at) part x has)
+  -- What holds of the standing spaces above later ones, and of the one above the maker, holds of them after it.
+  pub made_anchors : (P : ℕ → Type 0) → AtAnchors old new P → ((a : ℕ) → RowOf (length old) new at (Standing a) → P a)
+      → AtAnchors old (created_by new at c ∷ new) P
+  made_anchors P before from n a row =
+      elim (new_or_older n (fresh_here n a row)) [
+        | inl same ↦ by (made_row a (rw same at row))
+        | inr low ↦ before n a (older_row n (Fresh a) low row)
+      ] where
+        by : RowOf (length old) new at (Standing a) ⊎ RowOf (length old) new at (Fresh a) → P a
+        by (inl row_at) = from a row_at
+        by (inr row_at) = before at a row_at
 
-  -- Who stands in the new space is covered.
-  pub maker_fits : MemberFits old (created_by new at c ∷ new) bounds (length new) (as_newcomer c)
-  maker_fits = record { here = omega arith; held = made_in; included = newcomer_included c }
+  -- ---- by bounds
+  module _ (bounds : Row → Part → ℕ → Type 0) where
+    no_maps : (row : Row) → MapsIn (created_by new at c) (bounds row)
+    no_maps row = record { uids = λ x wrong. absurd (false≢true wrong); gids = λ x wrong. absurd (false≢true wrong) }
 
-  -- So is everyone else.
-  pub others_fit : (place : ℕ) (d : Credential) → MemberFits old new bounds place d → MemberFits old (created_by new at c ∷ new) bounds place d
-  others_fit place d other = record {
-    here = let here : place < length new = other.here in omega arith;
-    held = λ row row_n. other.held row (older_row place row other.here row_n);
-    included = other.included;
-  }
+    pub made_mapped : MapsAreIn old new bounds → MapsAreIn old (created_by new at c ∷ new) bounds
+    made_mapped mapped n row row_n =
+        let grown : length old ≤ length new = fit.grown in
+        let low : n < suc (length new) = row_here (omega arith) row_n in
+        elim (cases_eq n (length new)) [
+          | inl same ↦ rw (same, newest_is) (no_maps row)
+          | inr other ↦ rw (older_is n (omega arith)) (mapped n row (older_row n row (omega arith) row_n))
+        ]
+
+    pub made_owners : ((row : Row) → RowOf (length old) new at row → bounds row EffectiveUids c.uid.effective)
+        → OwnersIn old new bounds → OwnersIn old (created_by new at c ∷ new) bounds
+    made_owners maker owners n p row late parent row_p =
+        elim (new_or_older n (has_parent_stands (created_by new at c ∷ new) n p parent)) [
+          | inl same ↦
+              let up : p ≡ at = the_parent p (rw same at parent) in
+              rw (same, newest_is) (maker row (older_row at row here (rw up at row_p)))
+          | inr low ↦
+              let up : (space_of new n).parent ≡ Some p = sym (ap (λ (s : Space). s.parent) (older_is n low)) ∙ parent in
+              let p_low : p < n = fit.earlier n p up in
+              rw (older_is n low) (owners n p row late up (older_row p row (omega arith) row_p))
+        ]
+
+    -- Who is covered stays so.
+    pub others_fit : (place : ℕ) (d : Credential) → MemberFits old new bounds place d → MemberFits old (created_by new at c ∷ new) bounds place d
+    others_fit place d other = record {
+      here = let low : place < length new = other.here in omega arith;
+      held = λ row row_n. other.held row (older_row place row other.here row_n);
+      settled = λ a row_n. other.settled a (older_row place (Fresh a) other.here row_n);
+      included = other.included;
+    }
+
+    -- ---- the maker, or its child
+    module _ (member : MemberFits old new bounds at c) (from : (a : ℕ) → RowOf (length old) new at (Standing a) → FilledAt bounds a) where
+      made_in : (row : Row) → RowOf (length old) (created_by new at c ∷ new) (length new) row → InRow (bounds row) (as_newcomer c)
+      made_in (Standing n) row part x has =
+          absurd (let two = row_standing row in
+          let grown : length old ≤ length new = fit.grown in
+          let low : length new < length old = two.1 in omega arith)
+      made_in (Fresh a) row part x has = by (made_row a row) where
+        by : RowOf (length old) new at (Standing a) ⊎ RowOf (length old) new at (Fresh a) → bounds (Fresh a) part x
+        by (inl row_at) = from a row_at part x (brought (bounds (Standing a)) c (member.held (Standing a) row_at) part x has)
+        by (inr row_at) = member.settled a row_at part x (brought (bounds (Fresh a)) c (member.held (Fresh a) row_at) part x has)
+
+      made_settled : (a : ℕ) → RowOf (length old) (created_by new at c ∷ new) (length new) (Fresh a) → Settles (bounds (Fresh a))
+      made_settled a row = by (made_row a row) where
+        by : RowOf (length old) new at (Standing a) ⊎ RowOf (length old) new at (Fresh a) → Settles (bounds (Fresh a))
+        by (inl row_at) = filled_again (bounds (Standing a)) (bounds (Fresh a)) (from a row_at)
+        by (inr row_at) = member.settled a row_at
+
+      -- Who stands in the new space is covered.
+      pub maker_fits : MemberFits old (created_by new at c ∷ new) bounds (length new) (as_newcomer c)
+      maker_fits = record { here = omega arith; held = made_in; settled = made_settled; included = newcomer_included c }
+
+-- A maker in a standing space shows that its row can make one.
+pub maker_can : (old new : Spaces) → TreeFits old new → (bounds : Row → Part → ℕ → Type 0) → MapsAreIn old new bounds
+    → (at : ℕ) (c : Credential) → MemberFits old new bounds at c
+    → IsTrue (nat_lt (level new at) deepest) → IsTrue (is_mapped_in (space_of new at) c)
+    → (a : ℕ) → RowOf (length old) new at (Standing a) → CanMake old bounds a
+maker_can old new fit bounds maps at c member shallow mapped a row = (
+  rw (same ∙ ap (λ k. level old k) (row_standing row).0) at shallow,
+  (
+    c.uid.effective,
+    member.held (Standing a) row EffectiveUids c.uid.effective refl,
+    (maps at (Standing a) row).uids c.uid.effective both.0,
+  ),
+  (
+    c.gid.effective,
+    member.held (Standing a) row EffectiveGids c.gid.effective refl,
+    (maps at (Standing a) row).gids c.gid.effective both.1,
+  ),
+) where
+  both : IsTrue (is_outside (extents_of (space_of new at).uids) c.uid.effective) × IsTrue (is_outside (extents_of (space_of new at).gids) c.gid.effective)
+  both =
+      and_parts (is_outside (extents_of (space_of new at).uids) c.uid.effective)
+      (is_outside (extents_of (space_of new at).gids) c.gid.effective) mapped
+
+  same : level new at ≡ level old at
+  same = ap (λ (chain : List ℕ). length chain - 1) (chain_stays old new fit at (row_standing row).1)
+
+-- the standing space of a row stands
+pub row_low : {k : ℕ} {spaces : Spaces} {n a : ℕ} → RowOf k spaces n (Standing a) → a < k
+row_low row = rw (← (row_standing row).0) (row_standing row).1

@@ -8,24 +8,22 @@ use Rattle.cm_base.specs.declared.errno.Errno.TheVariants.{EPERM, EINVAL}
 use Rattle.cm_base.proofs.CapSets.{member_of_wider}
 use Rattle.cm_filter.specs.declared.kind.CallKind.{CallKind}
 use Rattle.cm_filter.specs.declared.kind.CallKind.TheVariants as kind
-use Rattle.model_cred.specs.Credential.{Credential}
-use Rattle.model_cred.specs.Files.{FileTable}
+use Rattle.model_cred.specs.Credential.{Credential, Included}
 use Rattle.model_cred.specs.IdMap.{Extent, extents_of, is_outside, is_the, lies_in}
 use Rattle.model_cred.specs.MapFault.{is_map}
-use Rattle.model_cred.specs.Space.{Space, Spaces, space_of, put_space, is_at_or_above}
+use Rattle.model_cred.specs.Space.{Spaces, space_of, put_space, is_at_or_above, stands}
 use Rattle.model_rules.specs.Caps.{cap_setuid, cap_setgid, cap_sys_admin}
 use Rattle.model_rules.specs.Maps.{Written, MapFile, UidMap, GidMap, map_of, with_map, cap_for, effective_id}
 use Rattle.model_rules.specs.Maps.{parent_map, extent_down, list_down, has_over_parent, may_write, setfcap_allows}
 use Rattle.model_rules.specs.Maps.{is_single, word_allows, is_own_map, may_map, write_stored, write_map, write_refused}
 use Rattle.model_rules.specs.Maps.{write_done, write_setgroups, may_say}
 use Rattle.model_rules.specs.Power.{has_over}
-use Rattle.model_box.specs.Row.{Part, EffectiveUids, EffectiveGids, MappedUids, MappedGids, PermittedCaps, Row, Standing, Fresh, HasMembers}
-use Rattle.model_box.specs.Rule.{Maps}
-use Rattle.model_box.specs.Closed.{Closed}
-use Rattle.model_box.specs.Covers.{RowOf, own, child, deeper, Stays, MapsIn}
+use Rattle.model_box.specs.Row.{Part, EffectiveUids, EffectiveGids, MappedUids, MappedGids, PermittedCaps, Row, Standing, Fresh, HasMembers, space_under}
+use Rattle.model_box.specs.Closed.{ByMaps}
+use Rattle.model_box.specs.Covers.{RowOf, own, child, deeper, Stays, MapsAreIn, OwnersIn}
 use Rattle.model_box.proofs.Trees.{Earlier, at_or_above_low, power_cases, row_standing}
-use Rattle.model_box.proofs.Fits.{SpacesFit, MemberFits, InRow, it_stands}
-use Rattle.model_box.proofs.Writing.{choose, put_fits, put_members}
+use Rattle.model_box.proofs.Fits.{TreeFits, AtAnchors, InRow, it_stands}
+use Rattle.model_box.proofs.Writing.{choose}
 
 -- ---- lists of extents
 the_one : (o : Option ℕ) (n : ℕ) → IsTrue (is_the o n) → o ≡ Some n
@@ -102,10 +100,10 @@ single_is (e ∷ f ∷ list) id single x held = absurd (false≢true single)
 -- ---- why an id can come into a map
 -- The target has a parent, whose map holds the id. The writer sits in the parent, with the capability in its effective
 -- set; or the id is its own, it is the owner, and it sits in the parent, or in the target with the capability.
-record Cause (file : MapFile) (new : Spaces) (at : ℕ) (c : Credential) (t q x : ℕ) : Type 0 where
-  parent : (space_of new t).parent ≡ Some q
-  outside : IsTrue (is_outside (extents_of (map_of file (space_of new q))) x)
-  why : ((at ≡ q) × IsTrue (holds c.effective (cap_for file)))
+pub record Cause (file : MapFile) (new : Spaces) (at : ℕ) (c : Credential) (t q x : ℕ) : Type 0 where
+  pub parent : (space_of new t).parent ≡ Some q
+  pub outside : IsTrue (is_outside (extents_of (map_of file (space_of new q))) x)
+  pub why : ((at ≡ q) × IsTrue (holds c.effective (cap_for file)))
       ⊎ ((x ≡ effective_id file c) × ((space_of new t).owner ≡ c.uid.effective) × (((at ≡ t) × IsTrue (holds c.effective (cap_for file))) ⊎ (at ≡ q)))
 
 -- by each of these ways
@@ -164,7 +162,7 @@ over_own new earlier at c cap power = by found.2 where
   by (inl here) = here.1
   by (inr owned) = absurd (let m : found.0 ≤ at = m_low in let up : at < found.0 = earlier found.0 at owned.0 in omega arith)
 
-cause : (file : MapFile) (new : Spaces) → Earlier new → (at : ℕ) (c : Credential) (t : ℕ) (list mapped : List Extent)
+pub cause : (file : MapFile) (new : Spaces) → Earlier new → (at : ℕ) (c : Credential) (t : ℕ) (list mapped : List Extent)
     → IsTrue (may_write file new at c t) → list_down (parent_map file new (space_of new t)) list ≡ Some mapped
     → IsTrue (may_map file new at c (space_of new t) mapped) → (x : ℕ) → IsTrue (is_outside mapped x)
     → (q : ℕ) × Cause file new at c t q x
@@ -219,26 +217,25 @@ unwritten None now stays free = refl
 unwritten (Some map) now stays free = absurd (false≢true (rw (stays map refl) at free))
 
 -- ---- the new ids are in the row
-module _ (permitted : CallKind → Bool) (files : FileTable) (old new : Spaces) (bounds : Row → Part → ℕ → Type 0)
-    (closed : Closed permitted files old bounds) (fit : SpacesFit old new bounds)
-    (at : ℕ) (c : Credential) (member : MemberFits old new bounds at c) (t : ℕ) where
+-- The writer is within the one bounds, as are the owners of later spaces; what these add to the mapped ids of a standing
+-- space's rows is in the other bounds. (The two can be one.)
+module _ (permitted : CallKind → Bool) (old new : Spaces) (bounds wider : Row → Part → ℕ → Type 0) (fit : TreeFits old new)
+    (mapped : MapsAreIn old new bounds) (owners : OwnersIn old new bounds)
+    (peopled : AtAnchors old new (λ a. HasMembers (bounds (Fresh a))))
+    (mapped_wider : MapsAreIn old new wider)
+    (into : (row : Row) → IsTrue (stands old (space_under row)) → (part : Part) (x : ℕ)
+    → ByMaps permitted old bounds row part x → wider row part x)
+    (at : ℕ) (c : Credential) (held : (row : Row) → RowOf (length old) new at row → InRow (bounds row) c) (included : Included c) (t : ℕ) where
   old_parent : (q : ℕ) → t < length old → (space_of new t).parent ≡ Some q → (space_of old t).parent ≡ Some q
   old_parent q low parent = sym (fit.stay t low).parent ∙ parent
 
-  -- a later space's row has members, since its owner is among them
-  fresh_members : (q a : ℕ) → length old ≤ t → (space_of new t).parent ≡ Some q → RowOf (length old) new t (Fresh a)
-      → RowOf (length old) new q (Standing a) ⊎ RowOf (length old) new q (Fresh a) → HasMembers (bounds (Fresh a))
-  fresh_members q a late parent row (inl row_q) =
-      ((space_of new t).owner, fit.filled t a row EffectiveUids (space_of new t).owner (fit.owners t q (Standing a) late parent row_q))
-  fresh_members q a late parent row (inr row_q) = ((space_of new t).owner, fit.owners t q (Fresh a) late parent row_q)
-
   -- what the writer has is in the row of the space that it sits in
   held_at : (n : ℕ) (row : Row) → at ≡ n → RowOf (length old) new n row → InRow (bounds row) c
-  held_at n row here is = member.held row (rw here is)
+  held_at n row here is = held row (rw here is)
 
   cap_at : (capability n : ℕ) (row : Row) → at ≡ n → RowOf (length old) new n row → IsTrue (holds c.effective capability) → bounds row PermittedCaps capability
   cap_at capability n row here is cap =
-      held_at n row here is PermittedCaps capability (member_of_wider c.effective c.permitted member.included.effective capability cap)
+      held_at n row here is PermittedCaps capability (member_of_wider c.effective c.permitted included.effective capability cap)
 
   -- so is the owner of a standing target, where the writer is the owner
   owner_is : t < length old → (space_of new t).owner ≡ c.uid.effective → c.uid.effective ≡ (space_of old t).owner
@@ -254,17 +251,17 @@ module _ (permitted : CallKind → Bool) (files : FileTable) (old new : Spaces) 
 
     -- of a standing space
     uid_standing : IsTrue (permitted kind.WriteUidMap) → t < length old → IsTrue (is_none (space_of new t).uids) → Cause UidMap new at c t q x
-        → bounds (Standing t) MappedUids x
+        → wider (Standing t) MappedUids x
     uid_standing allowed low free cause_ =
         let is_q : RowOf (length old) new q (Standing q) = row_q low cause_.parent in
-        closed Maps (Standing t) (it_stands old new bounds fit t low) MappedUids x (
+        into (Standing t) (it_stands old new fit t low) MappedUids x (
           allowed,
           unwritten (space_of old t).uids (space_of new t).uids (fit.stay t low).uids free,
           (
             q,
             old_parent q low cause_.parent,
             (
-              (fit.mapped q (Standing q) is_q).uids x cause_.outside,
+              (mapped q (Standing q) is_q).uids x cause_.outside,
               by_why cause_
                   (λ here cap. inl (cap_at cap_setuid q (Standing q) here is_q cap))
                   (λ same owner here cap.
@@ -281,17 +278,17 @@ module _ (permitted : CallKind → Bool) (files : FileTable) (old new : Spaces) 
         )
 
     gid_standing : IsTrue (permitted kind.WriteGidMap) → t < length old → IsTrue (is_none (space_of new t).gids) → Cause GidMap new at c t q x
-        → bounds (Standing t) MappedGids x
+        → wider (Standing t) MappedGids x
     gid_standing allowed low free cause_ =
         let is_q : RowOf (length old) new q (Standing q) = row_q low cause_.parent in
-        closed Maps (Standing t) (it_stands old new bounds fit t low) MappedGids x (
+        into (Standing t) (it_stands old new fit t low) MappedGids x (
           allowed,
           unwritten (space_of old t).gids (space_of new t).gids (fit.stay t low).gids free,
           (
             q,
             old_parent q low cause_.parent,
             (
-              (fit.mapped q (Standing q) is_q).gids x cause_.outside,
+              (mapped q (Standing q) is_q).gids x cause_.outside,
               by_why cause_
                   (λ here cap. inl (cap_at cap_setgid q (Standing q) here is_q cap))
                   (λ same owner here cap.
@@ -307,14 +304,14 @@ module _ (permitted : CallKind → Bool) (files : FileTable) (old new : Spaces) 
 
     -- Of a later space whose parent stands.
     uid_child : IsTrue (permitted kind.WriteUidMap) → (a : ℕ) → length old ≤ t → (space_of new t).parent ≡ Some q → RowOf (length old) new q (Standing a)
-        → Cause UidMap new at c t q x → bounds (Fresh a) MappedUids x
+        → Cause UidMap new at c t q x → wider (Fresh a) MappedUids x
     uid_child allowed a late parent is_q cause_ =
-        let owner_in : bounds (Standing a) EffectiveUids (space_of new t).owner = fit.owners t q (Standing a) late parent is_q in
-        closed Maps (Fresh a) (it_stands old new bounds fit a (rw (← (row_standing is_q).0) (row_standing is_q).1)) MappedUids x (
+        let owner_in : bounds (Standing a) EffectiveUids (space_of new t).owner = owners t q (Standing a) late parent is_q in
+        into (Fresh a) (it_stands old new fit a (rw (← (row_standing is_q).0) (row_standing is_q).1)) MappedUids x (
           allowed,
-          fresh_members q a late parent (child t q a late parent is_q) (inl is_q),
+          peopled t a (child t q a late parent is_q),
           (
-            (fit.mapped q (Standing a) is_q).uids x cause_.outside,
+            (mapped q (Standing a) is_q).uids x cause_.outside,
             by_why cause_
                 (λ here cap. inr (cap_at cap_setuid q (Standing a) here is_q cap))
                 (λ same owner here cap. inl (rw (same ∙ sym owner) owner_in))
@@ -323,13 +320,13 @@ module _ (permitted : CallKind → Bool) (files : FileTable) (old new : Spaces) 
         )
 
     gid_child : IsTrue (permitted kind.WriteGidMap) → (a : ℕ) → length old ≤ t → (space_of new t).parent ≡ Some q → RowOf (length old) new q (Standing a)
-        → Cause GidMap new at c t q x → bounds (Fresh a) MappedGids x
+        → Cause GidMap new at c t q x → wider (Fresh a) MappedGids x
     gid_child allowed a late parent is_q cause_ =
-        closed Maps (Fresh a) (it_stands old new bounds fit a (rw (← (row_standing is_q).0) (row_standing is_q).1)) MappedGids x (
+        into (Fresh a) (it_stands old new fit a (rw (← (row_standing is_q).0) (row_standing is_q).1)) MappedGids x (
           allowed,
-          fresh_members q a late parent (child t q a late parent is_q) (inl is_q),
+          peopled t a (child t q a late parent is_q),
           (
-            (fit.mapped q (Standing a) is_q).gids x cause_.outside,
+            (mapped q (Standing a) is_q).gids x cause_.outside,
             by_why cause_
                 (λ here cap. inr (inr (cap_at cap_setgid q (Standing a) here is_q cap)))
                 (λ same owner here cap. inr (inl (held_at t (Fresh a) here (child t q a late parent is_q) EffectiveGids x same)))
@@ -338,10 +335,10 @@ module _ (permitted : CallKind → Bool) (files : FileTable) (old new : Spaces) 
         )
 
   -- Of any space. Below a later parent the ids are in its row already.
-  uid_in : IsTrue (permitted kind.WriteUidMap) → IsTrue (is_none (space_of new t).uids) → (row : Row) → RowOf (length old) new t row
-      → (x q : ℕ) → Cause UidMap new at c t q x → bounds row MappedUids x
+  pub uid_in : IsTrue (permitted kind.WriteUidMap) → IsTrue (is_none (space_of new t).uids) → (row : Row) → RowOf (length old) new t row
+      → (x q : ℕ) → Cause UidMap new at c t q x → wider row MappedUids x
   uid_in allowed free row row_t x q why_ = go row_t refl where
-    go : {n : ℕ} {row : Row} → RowOf (length old) new n row → n ≡ t → bounds row MappedUids x
+    go : {n : ℕ} {row : Row} → RowOf (length old) new n row → n ≡ t → wider row MappedUids x
     go (own n low) same = rw same (uid_standing x q allowed (rw same at low) free why_)
     go (child n p a late parent up) same =
         let both : Some p ≡ Some q = sym parent ∙ ap (λ (k : ℕ). (space_of new k).parent) same ∙ why_.parent in
@@ -350,12 +347,12 @@ module _ (permitted : CallKind → Bool) (files : FileTable) (old new : Spaces) 
     go (deeper n p a late parent up) same =
         let both : Some p ≡ Some q = sym parent ∙ ap (λ (k : ℕ). (space_of new k).parent) same ∙ why_.parent in
         let p_is : p ≡ q = cc in
-        (fit.mapped q (Fresh a) (rw p_is at up)).uids x why_.outside
+        (mapped_wider q (Fresh a) (rw p_is at up)).uids x why_.outside
 
-  gid_in : IsTrue (permitted kind.WriteGidMap) → IsTrue (is_none (space_of new t).gids) → (row : Row) → RowOf (length old) new t row
-      → (x q : ℕ) → Cause GidMap new at c t q x → bounds row MappedGids x
+  pub gid_in : IsTrue (permitted kind.WriteGidMap) → IsTrue (is_none (space_of new t).gids) → (row : Row) → RowOf (length old) new t row
+      → (x q : ℕ) → Cause GidMap new at c t q x → wider row MappedGids x
   gid_in allowed free row row_t x q why_ = go row_t refl where
-    go : {n : ℕ} {row : Row} → RowOf (length old) new n row → n ≡ t → bounds row MappedGids x
+    go : {n : ℕ} {row : Row} → RowOf (length old) new n row → n ≡ t → wider row MappedGids x
     go (own n low) same = rw same (gid_standing x q allowed (rw same at low) free why_)
     go (child n p a late parent up) same =
         let both : Some p ≡ Some q = sym parent ∙ ap (λ (k : ℕ). (space_of new k).parent) same ∙ why_.parent in
@@ -364,24 +361,9 @@ module _ (permitted : CallKind → Bool) (files : FileTable) (old new : Spaces) 
     go (deeper n p a late parent up) same =
         let both : Some p ≡ Some q = sym parent ∙ ap (λ (k : ℕ). (space_of new k).parent) same ∙ why_.parent in
         let p_is : p ≡ q = cc in
-        (fit.mapped q (Fresh a) (rw p_is at up)).gids x why_.outside
+        (mapped_wider q (Fresh a) (rw p_is at up)).gids x why_.outside
 
 -- ---- the writes
--- After a change of the spaces they are covered, and so is each member that was.
-pub record StillFits (old new after : Spaces) (bounds : Row → Part → ℕ → Type 0) : Type 0 where
-  pub spaces : SpacesFit old after bounds
-  pub members : (at : ℕ) (c : Credential) → MemberFits old new bounds at c → MemberFits old after bounds at c
-
-pub nothing_changes : (old new : Spaces) (bounds : Row → Part → ℕ → Type 0) → SpacesFit old new bounds → StillFits old new new bounds
-nothing_changes old new bounds fit = record { spaces = fit; members = λ at c member. member }
-
-one_changes : (old new : Spaces) (bounds : Row → Part → ℕ → Type 0) → SpacesFit old new bounds → (t : ℕ) (s : Space) → Stays (space_of new t) s
-    → ((row : Row) → RowOf (length old) new t row → MapsIn s (bounds row)) → StillFits old new (put_space t s new) bounds
-one_changes old new bounds fit t s stays inside = record {
-  spaces = put_fits old new bounds fit t s stays inside;
-  members = put_members old new bounds fit t s stays inside;
-}
-
 -- A write goes through its tests. That a list which maps 0 asks for CAP_SETFCAP isn't used: without it the rows are only
 -- larger.
 pub write_by : (P : Spaces → Type 0) (file : MapFile) (new : Spaces) (at : ℕ) (c : Credential) (t : ℕ) (list : List Extent) → P new
@@ -407,10 +389,9 @@ write_by P file new at c t list stays written =
           (may_map file new at c (space_of new t) mapped) both).1)
           (λ _. stays)
 
-module _ (permitted : CallKind → Bool) (files : FileTable) (old new : Spaces) (bounds : Row → Part → ℕ → Type 0)
-    (closed : Closed permitted files old bounds) (fit : SpacesFit old new bounds)
-    (at : ℕ) (c : Credential) (member : MemberFits old new bounds at c) (t : ℕ) where
-  free_of : (file : MapFile) → IsTrue (may_write file new at c t) → IsTrue (is_none (map_of file (space_of new t)))
+-- ---- what a write leaves of its space
+module _ (new : Spaces) (at : ℕ) (c : Credential) (t : ℕ) where
+  pub free_of : (file : MapFile) → IsTrue (may_write file new at c t) → IsTrue (is_none (map_of file (space_of new t)))
   free_of file writes =
       (and_parts (is_none (map_of file (space_of new t))) (at == t || is_the (space_of new t).parent at)
       (and_parts (is_none (map_of file (space_of new t)) && (at == t || is_the (space_of new t).parent at)) (has_over new at c (cap_for file) t) writes).0).0
@@ -419,59 +400,44 @@ module _ (permitted : CallKind → Bool) (files : FileTable) (old new : Spaces) 
   written_none None map free same = cc
   written_none (Some m) map free same = false≢true free
 
-  -- Writing uid_map keeps the spaces and the members covered.
-  pub uid_map_fits : IsTrue (permitted kind.WriteUidMap) → (list : List Extent) → StillFits old new (write_map UidMap new at c t list).spaces bounds
-  uid_map_fits allowed list =
-      write_by (λ (after : Spaces). StillFits old new after bounds) UidMap new at c t list (nothing_changes old new bounds fit)
-      (λ may mapped down maps. one_changes old new bounds fit t (record (space_of new t) { uids = Some mapped })
-      (record {
-        parent = refl;
-        owner = refl;
-        uids = λ map written. absurd (written_none (space_of new t).uids map (free_of UidMap may) written);
-        gids = λ map written. written;
-        deny = λ word. word;
-      })
-      (λ row row_t. record {
-        uids = λ x out. let why_ = cause UidMap new fit.earlier at c t list mapped may down maps x out in
-            uid_in permitted files old new bounds closed fit at c member t allowed (free_of UidMap may) row row_t x why_.0 why_.1;
-        gids = (fit.mapped t row row_t).gids;
-      }))
+  pub uid_map_stays : IsTrue (may_write UidMap new at c t) → (mapped : List Extent) → Stays (space_of new t) (with_map UidMap (space_of new t) mapped)
+  uid_map_stays may mapped = record {
+    parent = refl;
+    owner = refl;
+    uids = λ map written. absurd (written_none (space_of new t).uids map (free_of UidMap may) written);
+    gids = λ map written. written;
+    deny = λ word. word;
+  }
 
-  -- Writing gid_map does too.
-  pub gid_map_fits : IsTrue (permitted kind.WriteGidMap) → (list : List Extent) → StillFits old new (write_map GidMap new at c t list).spaces bounds
-  gid_map_fits allowed list =
-      write_by (λ (after : Spaces). StillFits old new after bounds) GidMap new at c t list (nothing_changes old new bounds fit)
-      (λ may mapped down maps. one_changes old new bounds fit t (record (space_of new t) { gids = Some mapped })
-      (record {
-        parent = refl;
-        owner = refl;
-        uids = λ map written. written;
-        gids = λ map written. absurd (written_none (space_of new t).gids map (free_of GidMap may) written);
-        deny = λ word. word;
-      })
-      (λ row row_t. record {
-        uids = (fit.mapped t row row_t).uids;
-        gids = λ x out. let why_ = cause GidMap new fit.earlier at c t list mapped may down maps x out in
-            gid_in permitted files old new bounds closed fit at c member t allowed (free_of GidMap may) row row_t x why_.0 why_.1;
-      }))
+  pub gid_map_stays : IsTrue (may_write GidMap new at c t) → (mapped : List Extent) → Stays (space_of new t) (with_map GidMap (space_of new t) mapped)
+  gid_map_stays may mapped = record {
+    parent = refl;
+    owner = refl;
+    uids = λ map written. written;
+    gids = λ map written. absurd (written_none (space_of new t).gids map (free_of GidMap may) written);
+    deny = λ word. word;
+  }
 
   -- The word "deny" stays once it is there, whoever writes.
   deny_stays : (deny : Bool) → IsTrue (may_say (space_of new t) deny) → (space_of new t).deny ≡ true → deny ≡ true
   deny_stays true may word = refl
   deny_stays false may word = absurd (false≢true (sym (not-true (space_of new t).deny may) ∙ word))
 
-  -- So does writing the setgroups word.
-  pub word_fits : (deny : Bool) → StillFits old new (write_setgroups new at c t deny).spaces bounds
-  word_fits deny =
-      choose (λ (w : Written). StillFits old new w.spaces bounds) (has_over new at c cap_sys_admin t && may_say (space_of new t) deny)
+  pub word_written : (deny : Bool) → IsTrue (may_say (space_of new t) deny) → Stays (space_of new t) (record (space_of new t) { deny = deny })
+  word_written deny may = record {
+    parent = refl;
+    owner = refl;
+    uids = λ map written. written;
+    gids = λ map written. written;
+    deny = deny_stays deny may;
+  }
+
+  -- A written word goes through its tests.
+  pub word_by : (P : Spaces → Type 0) (deny : Bool) → P new
+      → (IsTrue (may_say (space_of new t) deny) → P (put_space t (record (space_of new t) { deny = deny }) new))
+      → P (write_setgroups new at c t deny).spaces
+  word_by P deny stays written =
+      choose (λ (w : Written). P w.spaces) (has_over new at c cap_sys_admin t && may_say (space_of new t) deny)
       (write_done new t (record (space_of new t) { deny = deny })) (write_refused EPERM new)
-      (λ both. one_changes old new bounds fit t (record (space_of new t) { deny = deny })
-      (record {
-        parent = refl;
-        owner = refl;
-        uids = λ map written. written;
-        gids = λ map written. written;
-        deny = deny_stays deny (and_parts (has_over new at c cap_sys_admin t) (may_say (space_of new t) deny) both).1;
-      })
-      (λ row row_t. record { uids = (fit.mapped t row row_t).uids; gids = (fit.mapped t row row_t).gids }))
-      (λ _. nothing_changes old new bounds fit)
+      (λ both. written (and_parts (has_over new at c cap_sys_admin t) (may_say (space_of new t) deny) both).1)
+      (λ _. stays)

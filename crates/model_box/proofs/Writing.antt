@@ -7,9 +7,9 @@ use Rattle.model_cred.specs.Credential.{Credential}
 use Rattle.model_cred.specs.IdMap.{Extent}
 use Rattle.model_cred.specs.Space.{Space, Spaces, space_of, put_space}
 use Rattle.model_box.specs.Row.{Part, Row, Fresh}
-use Rattle.model_box.specs.Covers.{RowOf, Stays, MapsIn}
+use Rattle.model_box.specs.Covers.{RowOf, Stays, MapsIn, MapsAreIn, OwnersIn}
 use Rattle.model_box.proofs.Trees.{space_of_newest, space_of_older, row_same}
-use Rattle.model_box.proofs.Fits.{SpacesFit, MemberFits}
+use Rattle.model_box.proofs.Fits.{TreeFits, AtAnchors, MemberFits}
 
 -- ---- another space in the place of one
 -- a choice, by its two sides
@@ -50,8 +50,7 @@ put_cases t new (s ∷ older) n =
           ]
 
 -- A changed space that keeps what stays, and whose maps are in its row, keeps the spaces covered.
-module _ (old new : Spaces) (bounds : Row → Part → ℕ → Type 0) (fit : SpacesFit old new bounds)
-    (t : ℕ) (s : Space) (stays : Stays (space_of new t) s) (inside : (row : Row) → RowOf (length old) new t row → MapsIn s (bounds row)) where
+module _ (old new : Spaces) (fit : TreeFits old new) (t : ℕ) (s : Space) (stays : Stays (space_of new t) s) where
   put_parent : (n : ℕ) → (space_of (put_space t s new) n).parent ≡ (space_of new n).parent
   put_parent n =
       elim (put_cases t s new n) [
@@ -90,8 +89,8 @@ module _ (old new : Spaces) (bounds : Row → Part → ℕ → Type 0) (fit : Sp
   put_row : (n : ℕ) (row : Row) → RowOf (length old) (put_space t s new) n row → RowOf (length old) new n row
   put_row n row row_n = row_same (put_space t s new) new put_parent row_n
 
-  pub put_fits : SpacesFit old (put_space t s new) bounds
-  put_fits = record {
+  pub put_tree : TreeFits old (put_space t s new)
+  put_tree = record {
     before = fit.before;
     earlier = λ n p parent. fit.earlier n p (sym (put_parent n) ∙ parent);
     grown = rw (length_put t s new) (fit.grown);
@@ -102,20 +101,31 @@ module _ (old new : Spaces) (bounds : Row → Part → ℕ → Type 0) (fit : Sp
       gids = λ map written. put_gids n map ((fit.stay n low).gids map written);
       deny = λ word. put_deny n ((fit.stay n low).deny word);
     };
-    mapped = λ n row row_n.
-        elim (put_cases t s new n) [
-          | inl at ↦ rw at.1 (inside row (rw at.0 at (put_row n row row_n)))
-          | inr same ↦ rw same (fit.mapped n row (put_row n row row_n))
-        ];
     deny = λ n a row word. put_deny n (fit.deny n a (put_row n (Fresh a) row) word);
     parents = λ n late here. let up = fit.parents n late (rw (length_put t s new) at here) in (up.0, put_parent n ∙ up.1, up.2);
-    owners = λ n p row late parent row_p. rw (put_owner n) (fit.owners n p row late (sym (put_parent n) ∙ parent) (put_row p row row_p));
-    filled = λ n a row. fit.filled n a (put_row n (Fresh a) row);
   }
 
-  pub put_members : (at : ℕ) (c : Credential) → MemberFits old new bounds at c → MemberFits old (put_space t s new) bounds at c
-  put_members at c member = record {
-    here = rw (length_put t s new) (member.here);
-    held = λ row row_at. member.held row (put_row at row row_at);
-    included = member.included;
-  }
+  -- No later space comes.
+  pub put_anchors : (P : ℕ → Type 0) → AtAnchors old new P → AtAnchors old (put_space t s new) P
+  put_anchors P before n a row = before n a (put_row n (Fresh a) row)
+
+  -- by bounds
+  module _ (bounds : Row → Part → ℕ → Type 0) where
+    pub put_mapped : ((row : Row) → RowOf (length old) new t row → MapsIn s (bounds row)) → MapsAreIn old new bounds
+        → MapsAreIn old (put_space t s new) bounds
+    put_mapped inside mapped n row row_n =
+        elim (put_cases t s new n) [
+          | inl at ↦ rw at.1 (inside row (rw at.0 at (put_row n row row_n)))
+          | inr same ↦ rw same (mapped n row (put_row n row row_n))
+        ]
+
+    pub put_owners : OwnersIn old new bounds → OwnersIn old (put_space t s new) bounds
+    put_owners owners n p row late parent row_p = rw (put_owner n) (owners n p row late (sym (put_parent n) ∙ parent) (put_row p row row_p))
+
+    pub put_members : (at : ℕ) (c : Credential) → MemberFits old new bounds at c → MemberFits old (put_space t s new) bounds at c
+    put_members at c member = record {
+      here = rw (length_put t s new) (member.here);
+      held = λ row row_at. member.held row (put_row at row row_at);
+      settled = λ a row_at. member.settled a (put_row at (Fresh a) row_at);
+      included = member.included;
+    }

@@ -13,5 +13,6 @@ pub mod Meets
 pub mod Start
 pub mod Firsts
 pub mod Laws
+pub mod Parting
 pub mod Reads
 pub mod Example
