@@ -1,6 +1,6 @@
 """A summary: for each right that a process had at the start of a log, what became of it at the end."""
 from collections.abc import Iterable, Sequence
-from dataclasses import dataclass, field, replace
+from dataclasses import dataclass, field
 
 from . import answering, log_doubts, verifying, world_doubts, worlds
 from .answering import Answers, Broken
@@ -9,6 +9,7 @@ from .command import Failure, Says, silent
 from .end_world import births_of, end_of
 from .explain import process_words
 from .findings import Finding
+from .joining import joined
 from .judged import Family, Judge, same_as_replayed
 from .marks import SCANNED, UNSCANNED, marks_of
 from .names import CAPABILITIES
@@ -38,25 +39,15 @@ class Given:
 # ---- what is looked at -----------------------------------------------------------------------------------------------
 
 
-def with_files(world: World, scan: World) -> World:
-    """A world with the programs of a scan too. What it declares itself stays. Fails where a mount of the scan has the
-    name of another one, or stands in a namespace."""
-    own = {mount.name: mount for mount in world.mounts}
-    for mount in scan.mounts:
-        if mount.space != INITIAL or own.get(mount.name, mount) != mount:
-            raise Failure(f"the mount {mount.name} of the scan can't be declared beside the world's own")
-    mounts = [*world.mounts, *(mount for mount in scan.mounts if mount.name not in own)]
-    paths = {row.path for row in world.files}
-    return replace(world, mounts=mounts, files=[*world.files, *(row for row in scan.files if row.path not in paths)])
-
-
-def scanned_text(given: Given, data: bytes) -> bytes:
-    """The text of the given world with the files of the scan of another one: with the marks and the doubts of both."""
+def with_scan(given: Given, data: bytes) -> tuple[bytes, bytes]:
+    """The texts of the given world and log with the files of the scan of another world: with the marks and the doubts
+    of both. Fails where they can't stand side by side."""
     scan, doubts = marks_of(data)
     _, own = marks_of(given.text)
-    made = with_files(given.world, worlds.read(data))
-    made.remarks = [SCANNED if scan else UNSCANNED, *(f"doubt: {each}" for each in [*own, *doubts])]
-    return worlds.written(made)
+    made = joined(given.world, given.log, worlds.read(data), given.kept is not None)
+    made.world.remarks = [SCANNED if scan else UNSCANNED, *(f"doubt: {each}" for each in [*own, *doubts])]
+    given.notes += made.notes()
+    return worlds.written(made.world), made.log
 
 
 def of_recording(given: Given, report: Report, says: Says = silent) -> None:

@@ -73,9 +73,9 @@ def read_recording(folder: str) -> recording.Recording:
 
 def with_scan(ask: Asking, given: Given, path: str) -> Given:
     """The same with the files of a scan."""
-    text = summary.scanned_text(given, read_regular(path, follow=True))
-    files = Files(ask.put("given.toml", text), given.files.log)
-    return Given(files, worlds.read(text), text, given.log, given.kept, True, given.notes)
+    text, log = summary.with_scan(given, read_regular(path, follow=True))
+    files = Files(ask.put("given.toml", text), ask.put("given.log", log))
+    return Given(files, worlds.read(text), text, log, given.kept, True, given.notes)
 
 
 def summed_up(asked: argparse.Namespace, progress: Progress) -> int:

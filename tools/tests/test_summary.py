@@ -155,7 +155,8 @@ class Whole(Case):
         _, out, _ = self.command(*self.names(world), "100", "--files", path, "--certificates", folder)
         self.assertIn("cap:CAP_KILL@init    gone (", out)
         asked = self.program.worlds["real"]
-        self.assertEqual([(each.path, each.uid) for each in asked.files], [("/usr/bin/su", 0), ("/opt/x", 0)])
+        self.assertEqual([(each.path, each.uid) for each in asked.files],
+                         [("/usr/bin/su#2", 0), ("/usr/bin/su", 5), ("/opt/x", 0)])
         with open(os.path.join(folder, "world.toml"), "rb") as file:
             self.assertEqual(worlds.read(file.read()).files, asked.files)
         for mount in (Mount("root", noexec=True), Mount("nosuid", space="box")):
