@@ -32,11 +32,13 @@ class Broken(Failure):
 
 @dataclass
 class Answers:
-    """What is known of a family's rights, what another start would change, and what is to be said beside it."""
+    """What is known of a family's rights, what another start would change, what is to be said beside it, and what each
+    answer rests on."""
     title: str
     outcomes: list[Outcome] = field(default_factory=list)
     what_ifs: list[WhatIf] = field(default_factory=list)
     notes: list[str] = field(default_factory=list)
+    rows: dict[Right, list[str]] = field(default_factory=dict)      # the premises that touch it, a line each
     kept: dict[Right, str] = field(default_factory=dict)
     made: dict[str, bytes] = field(default_factory=dict)    # the world and the log, where they aren't files of the user
 
@@ -58,6 +60,9 @@ def options(ask: argparse.ArgumentParser) -> None:
     ask.add_argument("--classes", action="store_true", help="write a line RIGHT CLASS for each right, as --expect"
                                                             " reads them, and nothing else")
     ask.add_argument("--json", action="store_true", help="write JSON instead of words")
+    ask.add_argument("--why", metavar="RIGHT", type=right_word, action="append", default=[],
+                     help="write for this right its class and each premise that touches it, with what establishes it or"
+                          " the doubt of it, and nothing else; may be given again")
 
 
 def expected_by(asked: argparse.Namespace) -> Expected | None:
@@ -68,7 +73,7 @@ def expected_by(asked: argparse.Namespace) -> Expected | None:
 def all_rights(asked: argparse.Namespace, own: Sequence[Right], expected: Expected | None) -> list[Right]:
     """The rights that are asked about: those of the process, and those that are named."""
     named = list(expected.rights) if expected is not None else []
-    return list(dict.fromkeys([*own, *asked.right, *named]))
+    return list(dict.fromkeys([*own, *asked.right, *asked.why, *named]))
 
 
 def keep(answers: Answers, folder: str) -> None:
@@ -100,6 +105,13 @@ def words(answers: Answers) -> list[str]:
     return found
 
 
+def why_words(answers: Answers, asked: Sequence[Right]) -> list[str]:
+    """What the classes of these rights rest on."""
+    kinds = {each.right: each.kind for each in answers.outcomes}
+    return [line for right in dict.fromkeys(asked) for line in
+            (f"{right.text()}: {kinds[right]}", *(f"  {row}" for row in answers.rows[right]))]
+
+
 COMMON_SCHEMA: dict[str, object] = {
     "rights": [classes.SCHEMA], "counts": {kind: "number" for kind in classes.CLASSES},
     "what_ifs": [{"with": "text", "gone": "number", "of": "number"}],
@@ -124,6 +136,13 @@ def broken(name: str, failure: Broken) -> int:
     return BROKEN
 
 
+def lines(answers: Answers, asked: argparse.Namespace) -> list[str]:
+    """What is written where no JSON is asked for."""
+    if asked.why:
+        return why_words(answers, asked.why)
+    return expecting.written(answers.outcomes) if asked.classes else words(answers)
+
+
 def told(name: str, asked: argparse.Namespace, answers: Answers, front: dict[str, object],
          expected: Expected | None) -> int:
     """Writes what was asked for; the exit status."""
@@ -133,7 +152,7 @@ def told(name: str, asked: argparse.Namespace, answers: Answers, front: dict[str
     if asked.json:
         print(schemas.written({"format": schemas.FORMAT, **front, **document(answers, new)}))
     else:
-        for line in expecting.written(answers.outcomes) if asked.classes else words(answers):
+        for line in lines(answers, asked):
             print(shown(line))
     for note in answers.notes:
         tell(name, f"note: {note}")

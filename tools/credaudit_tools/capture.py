@@ -8,10 +8,12 @@ from dataclasses import dataclass, field
 
 from . import programs, spaces, worlds
 from .command import Failure, Says
+from .evidence import Evidence
 from .family import Family
 from .kernel import Kernel, Trouble
-from .marks import DOUBT, SCANNED, UNSCANNED
+from .marks import SCANNED, UNSCANNED
 from .members import heads, merged, process_notes, process_rows
+from .premises import BIRTHS, CREDENTIALS, MAPS, SCAN
 from .scan import Scan
 from .shown import few, plural, quoted
 
@@ -20,11 +22,17 @@ MOST_PROCESSES = 4096
 
 @dataclass
 class Capture:
-    """A world, and what is told beside it: `doubts` are what a `yes` may have needed. `looked_at` counts files."""
+    """A world, and what is told beside it: `evidence` has what was established, and the doubts of what a `yes` may have
+    needed. `looked_at` counts files."""
     world: worlds.World
     notes: list[str] = field(default_factory=list)
-    doubts: list[str] = field(default_factory=list)
+    evidence: Evidence = field(default_factory=Evidence)
     looked_at: int = 0
+
+    @property
+    def doubts(self) -> list[str]:
+        """The doubts."""
+        return [each.why for each in self.evidence.doubts]
 
 
 @dataclass(frozen=True)
@@ -41,13 +49,13 @@ def named_spaces(kernel: Kernel, family: Family, own: bool, capture: Capture) ->
     keys = {thread.user for thread in family.threads.values()}
     troubles: list[Trouble] = []
     if own:
-        capture.doubts.append("user namespaces in which no member stands aren't declared, as asked for; a member who"
-                              " owns one can join it")
+        capture.evidence.doubt(MAPS, "user namespaces in which no member stands aren't declared, as asked for; a"
+                                     " member who owns one can join it")
     else:
         others, troubles = kernel.other_spaces()
         keys |= others
-    capture.doubts += [f"the user namespace of {os.fsdecode(trouble.path)} isn't shown: {trouble.why}"
-                       for trouble in troubles]
+    for trouble in troubles:
+        capture.evidence.doubt(MAPS, f"the user namespace of {os.fsdecode(trouble.path)} isn't shown: {trouble.why}")
     made = spaces.rows(kernel, keys, troubles)
     if made.open_maps:
         capture.notes.append("not known: whether the makers of these user namespaces had CAP_SETFCAP; they are taken to"
@@ -68,28 +76,33 @@ def captured(kernel: Kernel, family: Family, wishes: Wishes, says: Says) -> Capt
     """The world of a family that was read."""
     capture = Capture(worlds.World(log="script"))
     made = named_spaces(kernel, family, wishes.own_spaces, capture)
-    world = capture.world
+    world, evidence = capture.world, capture.evidence
+    for premise in (BIRTHS, CREDENTIALS):
+        evidence.establish(premise, f"the family was read from /proc until two of {family.readings} readings agreed")
+    evidence.establish(MAPS, "the kernel showed the user namespaces of the system, with owners and maps")
     world.spaces, world.processes = made.rows, process_rows(family, made.names)
     capture.notes += process_notes(kernel, family)
     if family.ran:
-        capture.doubts.append(f"process {few([str(tid) for tid in family.ran])} ran at each reading: the readings"
-                              " agree, and that the family was so at one instant isn't shown")
+        evidence.doubt(BIRTHS, f"process {few([str(tid) for tid in family.ran])} ran at each reading: the readings"
+                               " agree, and that the family was so at one instant isn't shown")
     if wishes.files:
         scan = Scan(kernel, family, wishes.skip, says)
         rows = scan.rows()
         world.files, world.mounts = rows.files, rows.mounts
         capture.notes += scan.notes
-        capture.doubts += scan.doubts
+        evidence.establish(SCAN, f"{plural(scan.looked_at, 'file')} looked at, on all mounts of the family")
+        for each in scan.doubts:
+            evidence.doubt(SCAN, each)
         capture.looked_at = scan.looked_at
     else:
-        capture.doubts.append("no files are declared: a `yes` holds by the family's own calls alone, without the"
-                              " programs that it can run")
+        evidence.doubt(SCAN, "no files are declared: a `yes` holds by the family's own calls alone, without the"
+                             " programs that it can run")
     if wishes.merge:
         world.processes, world.files = merged(world.processes), programs.merged(world.files)
         capture.notes.append("merged: equal members stand once, and equal programs by their shortest path")
     limits(world)
     world.remarks = [*front(kernel, family), SCANNED if wishes.files else UNSCANNED, *capture.notes,
-                     *(DOUBT.removeprefix("# ") + doubt for doubt in capture.doubts)]
+                     *("doubt: " + doubt for doubt in capture.doubts)]
     return capture
 
 

@@ -6,7 +6,7 @@ import time
 from collections.abc import Iterator, Sequence
 from contextlib import contextmanager, nullcontext
 
-from . import command, family, worlds
+from . import command, evidence_text, family, worlds
 from .capture import Capture, Wishes, captured
 from .command import FOUND, GOOD, Failure, Progress, Says, tell
 from .files import write_new
@@ -85,13 +85,15 @@ def tried(data: bytes) -> None:
                       "--merge declares equal members and equal programs once" if report.status == LIMIT else "")
 
 
-def put(data: bytes, path: str | None) -> None:
-    """Writes the world to a file, or to standard output where none is named."""
+def put(data: bytes, evidence: bytes, path: str | None) -> None:
+    """Writes the world to a file, and its evidence beside it; where none is named the world alone, to standard
+    output."""
     if path is None:
         sys.stdout.buffer.write(data)
         sys.stdout.flush()
         return
     folder, name = os.path.split(os.path.abspath(path))
+    write_new(folder, evidence_text.beside(name), evidence)
     write_new(folder, name, data)
 
 
@@ -114,7 +116,7 @@ def capture(kernel: Kernel, asked: argparse.Namespace) -> int:
     made = captured(kernel, read, wishes, progress.at)
     data = worlds.written(made.world)
     tried(data)
-    put(data, asked.out)
+    put(data, evidence_text.world_text(made.evidence, data), asked.out)
     tell(NAME, f"{plural(len(read.processes()), 'process')} and {plural(len(read.threads), 'thread')} in"
                f" {settled - began:.2f} s, {plural(read.readings, 'reading')}; namespaces and files in"
                f" {time.monotonic() - settled:.2f} s, {plural(made.looked_at, 'file')} looked at")

@@ -3,11 +3,11 @@ import os
 import sys
 from collections.abc import Sequence
 
-from . import command, explain, schemas, worlds
+from . import command, evidence_text, explain, schemas, worlds
 from .command import GOOD, Failure
 from .drawing import svg_of, text_of
 from .files import MOST, read_regular, write_new
-from .marks import marks_of
+from .premises import SCAN
 from .shown import quoted, shown
 
 NAME = "credaudit-explain"
@@ -38,6 +38,12 @@ def put_svg(path: str, text: str) -> None:
     write_new(folder or ".", name, text.encode("ascii"))
 
 
+def is_scanned(path: str, text: bytes) -> bool:
+    """Whether the evidence beside a world says that all files were looked for."""
+    evidence = evidence_text.read_beside(path, text)
+    return evidence is not None and SCAN in evidence.established
+
+
 def main(given: Sequence[str]) -> int:
     """The whole command."""
     ask = command.parser(NAME, SAYS, AFTER)
@@ -50,7 +56,7 @@ def main(given: Sequence[str]) -> int:
     asked = ask.parse_args(given)
     text = None if asked.world is None else read_regular(asked.world, follow=True)
     made = explain.explained(data_of(asked.file), None if text is None else worlds.read(text), asked.events)
-    made.scanned = None if text is None else marks_of(text)[0]
+    made.scanned = None if text is None else is_scanned(asked.world, text)
     box = explain.drawing(made)
     if asked.svg is not None:
         put_svg(asked.svg, svg_of(box))

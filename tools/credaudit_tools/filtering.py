@@ -7,7 +7,7 @@ that the log can't tell, ends the recording: nothing of that kind is passed over
 import re
 from collections.abc import Callable
 
-from . import lines, plain_log
+from . import lines, plain_log, premises
 from .executed import Executed
 from .executing import Executing
 from .filters import of_argument
@@ -182,7 +182,8 @@ class Filtering:
         for pid, held in self.held.items():
             kept = [line for line in held if not line.endswith(b"+++") and b"<detached" not in line]
             if kept:
-                self.taken.doubt(f"{len(held)} lines are of process {pid}, whose birth isn't in the log")
+                self.taken.doubt(premises.BIRTHS, f"{len(held)} lines are of process {pid}, whose birth isn't in the"
+                                                  " log")
 
     # ---- calls
 
@@ -244,8 +245,8 @@ class Filtering:
         found = of_argument(task.pid, argument[0] if argument else b"")
         self.taken.filters.append(found)
         for doubt in found.doubts:
-            self.taken.doubt(f"process {task.pid} installed a filter that {doubt}: what its calls told may not have"
-                             " happened")
+            self.taken.doubt(premises.ANSWERS, f"process {task.pid} installed a filter that {doubt}: what its calls"
+                                               " told may not have happened")
 
     def birth(self, task: Task, made: Call) -> None:
         """fork, vfork, clone and clone3; then come the lines that stood before."""
@@ -255,8 +256,8 @@ class Filtering:
                 raise Stopped(f"{task.pid}: the flags of a birth can't be read")
             return
         if b"CLONE_UNTRACED" in flags and child is not None:
-            self.taken.doubt(f"process {task.pid} gave birth to {child} with CLONE_UNTRACED: what that does isn't in"
-                             " the log")
+            self.taken.doubt(premises.BIRTHS, f"process {task.pid} gave birth to {child} with CLONE_UNTRACED: what that"
+                                              " does isn't in the log")
         if b"CLONE_FILES" in flags:
             self.taken.counted["births are told without their flag CLONE_FILES"] += 1
         self.taken.put(task.pid, plain_log.birth(made, flags, result if child is None else b"%d" % child))

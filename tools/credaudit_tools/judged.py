@@ -1,18 +1,18 @@
-"""The classes of a family's rights after a log: two audits of each, with the declared programs and with none, and what
-stands against a `yes` (docs/KERNEL.md; a world that no scan of files made; doubts of who made it).
+"""The classes of a family's rights after a log: two audits of each, with the declared programs and with none, and for
+each `yes` the evidence of what it rests on (premises.py).
 """
 from collections.abc import Sequence
-from dataclasses import dataclass, field, replace
+from dataclasses import dataclass, replace
 
-from . import classes, touched
+from . import classes
 from .asking import Answer, Asking, Files, right_in, shortened
 from .classes import Outcome
 from .command import Failure
+from .evidence import Evidence, reasons_of
 from .end_world import End, filtered, limited, unbounded, without_files
 from .holding import holders
 from .rights import Right
 from .run_words import parsed
-from .touched import Facts
 from .verdicts import NO, RULES, YES
 from .worlds import INITIAL, World
 
@@ -30,13 +30,11 @@ class WhatIf:
 
 @dataclass
 class Family:
-    """What is asked about: the files, the process, the end of the replay, and what is known against a `yes`."""
+    """What is asked about: the files, the process, the end of the replay, and the evidence for a `yes`."""
     files: Files
     pid: int
     end: End
-    facts: Facts
-    scanned: bool
-    doubts: list[str] = field(default_factory=list)
+    evidence: Evidence
 
     def space(self, right: Right) -> str | None:
         """The name of a right's namespace in the replay: `#N` may name a declared one."""
@@ -50,10 +48,14 @@ class Family:
         found = self.space(Right("cap", 0, name))
         return self.end.token(found if found is not None else INITIAL)
 
-    def reasons(self, right: Right, touches: Sequence[touched.Touch]) -> tuple[str, ...]:
-        """Why a `yes` on a right isn't taken as it is."""
-        own = [f"{each.row} ({each.why})" for each in touches if each.touches(right, self.space(right))]
-        return (*own, *self.doubts)
+    def gone(self, right: Right) -> tuple[str, tuple[str, ...]]:
+        """The class of a right with a `yes`, and why it is no better one."""
+        lacking = self.evidence.lacking(right, self.space(right))
+        if not lacking:
+            return classes.GONE, ()
+        if self.evidence.only_own_calls(lacking):
+            return classes.GONE_BY_OWN_CALLS, ()
+        return classes.DOUBTED, reasons_of(lacking)
 
 
 def programs_of(run: Sequence[bytes], files: set[str]) -> tuple[str, ...]:
@@ -89,11 +91,10 @@ class Judge:
         got = [right for right, told in zip(rights, both) if told.run]
         alone = dict(zip(got, self.ask.audits("audits by own calls", own, self.family.pid,
                                               [right_in(each, self.family.token) for each in got])))
-        touches = touched.touches(self.family.facts)
-        found = [self.outcome(right, told, alone.get(right), touches) for right, told in zip(rights, both)]
+        found = [self.outcome(right, told, alone.get(right)) for right, told in zip(rights, both)]
         return self.ask.side_by_side("runs and certificates", self.settled, found)
 
-    def outcome(self, right: Right, told: Answer, alone: Answer | None, touches: Sequence[touched.Touch]) -> Outcome:
+    def outcome(self, right: Right, told: Answer, alone: Answer | None) -> Outcome:
         """The class of a right, by the verdict on it and, where it can be had, the one without declared programs."""
         verdict = told.verdict
         if verdict.word == NO:
@@ -107,8 +108,7 @@ class Judge:
                 return Outcome(right, classes.OWN_CALLS, run, alone.verdict.holder)
             return Outcome(right, classes.PROGRAM, told.run, verdict.holder)
         if verdict.word == YES:
-            reasons = self.family.reasons(right, touches)
-            kind = classes.DOUBTED if reasons else classes.GONE if self.family.scanned else classes.GONE_BY_OWN_CALLS
+            kind, reasons = self.family.gone(right)
             certificate = None if verdict.certificate is None else verdict.certificate.encode("ascii")
             return Outcome(right, kind, reasons=reasons, certificate=certificate)
         lets, advice = RULES.get(verdict.rule or "", ("a rule that isn't known here", "see docs/VERDICT.md"))

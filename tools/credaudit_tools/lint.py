@@ -2,10 +2,10 @@
 from collections.abc import Callable, Iterator
 from dataclasses import dataclass
 
-from . import log_doubts, log_faults, other_faults, world_doubts, world_faults, worlds
+from . import evidence_text, log_doubts, log_faults, other_faults, world_doubts, world_faults, worlds
 from .command import Failure, Says, silent
 from .files import read_regular
-from .findings import LOG, WORLD, Finding
+from .findings import LOG, WORLD, Finding, doubt
 from .recording import Recording
 from .report import Report
 from .world_faults import as_row
@@ -52,10 +52,13 @@ def refusal(report: Report, world: bytes, log: bytes, says: Says = silent) -> li
     return [Finding(LOG, None, f"the program ends with status {report.status}", told)]
 
 
-def suspicion(report: Report, world: bytes, log: bytes, recording: Recording | None, says: Says) -> Iterator[Finding]:
+def suspicion(report: Report, world: bytes, log: bytes, given: Given, says: Says) -> Iterator[Finding]:
     """What is odd of what the program accepts."""
-    read = worlds.read(world)
-    yield from world_doubts.of_world(world, read, report)
+    read, recording = worlds.read(world), given.recording
+    try:
+        yield from world_doubts.of_world(world, read, report, evidence_text.read_beside(given.world, world))
+    except Failure as failure:
+        yield doubt(WORLD, None, str(failure), failure.advice)
     if read.log == "strace":
         yield from log_doubts.of_strace(log, report, read, says)
     else:
@@ -75,4 +78,4 @@ def findings(given: Given, replay: Callable[[], Report], says: Says = silent) ->
     report = replay()
     if report.status != ACCEPTED:
         return refusal(report, world, log, says)
-    return list(suspicion(report, world, log, given.recording, says))
+    return list(suspicion(report, world, log, given, says))

@@ -11,6 +11,7 @@ from . import lines, plain_log
 from .followed import UNKNOWN, Followed, Place, Task
 from .lines import Call
 from .map_files import MapFile, Unclear, Unseen
+from .premises import MAPS, RINGS
 from .shown import shown
 from .taken import Stopped, Taken
 
@@ -185,8 +186,8 @@ class Maps:
         try:
             return self.system.bound_map(task, path, self.followed)
         except Unseen:
-            self.taken.doubt(f"process {task.pid} wrote what looks like a map to {shown(path)}, and whether that is one"
-                             " isn't known")
+            self.taken.doubt(MAPS, f"process {task.pid} wrote what looks like a map to {shown(path)}, and whether that"
+                                   " is one isn't known")
             return None
         except Unclear as unclear:
             raise unclear_map(task, path) from unclear
@@ -247,7 +248,8 @@ class Maps:
     def io_uring(self, task: Task, made: Call) -> None:
         """io_uring_setup(2)."""
         if made.done is not None:
-            self.taken.doubt(f"process {task.pid} uses io_uring: what it opens and writes by that isn't in the log")
+            self.taken.doubt(RINGS, f"process {task.pid} uses io_uring: what it opens and writes by that isn't in the"
+                                    " log")
 
 
 def unclear_map(task: Task, path: bytes) -> Stopped:

@@ -23,6 +23,7 @@ from .lines import call_of, parted
 from .live import Live
 from .map_files import RunningSystem
 from .namespaces import INITIAL_INODE
+from .premises import BIRTHS, CREDENTIALS
 from .recording import Made, Recording, SpaceSeen
 from .shown import few, quoted, shown
 from .statuses import Status, from_file
@@ -214,7 +215,7 @@ class Recorder:
         found = watching.bring_to_stop(lambda: self.members(tracer.pid), stream.pump, is_idle)
         for tid, each in sorted(found.items()):
             if each.tracer != tracer.pid:
-                self.doubt(f"process {tid} is of the family and isn't traced: what it did isn't in the log")
+                self.doubt(BIRTHS, f"process {tid} is of the family and isn't traced: what it did isn't in the log")
         statuses = self.statuses(sorted(found))
         seen, numbers = self.spaces_seen({status.space for status in statuses.values()})
         kept = [replace(each, space=numbers[each.space]) for each in statuses.values()]
@@ -234,10 +235,13 @@ class Recorder:
                           own.setgroups) for key, own in ((key, found[key]) for key in order)]
         return seen, numbers
 
-    def doubt(self, text: str) -> None:
-        """A reason why the log may not be the whole truth."""
-        if text not in self.made.doubts:
-            self.made.doubts.append(text)
+    def doubt(self, premise: str, why: str) -> None:
+        """A reason why a premise may not be so (premises.py)."""
+        self.made.evidence.doubt(premise, why)
+
+    def establish(self, premise: str, by: str) -> None:
+        """What was seen of a premise."""
+        self.made.evidence.establish(premise, by)
 
     def let_go(self, tracer: subprocess.Popen[bytes], stream: Stream) -> None:
         """Strace lets go, and the rest of its lines is read."""
@@ -312,11 +316,13 @@ class Recorder:
             living |= found
         self.let_go(tracer, stream)
         if stream.stopped is not None:
-            self.doubt(f"the recording was stopped: {stream.stopped}")
+            self.doubt(BIRTHS, f"the recording was stopped: {stream.stopped}")
         if stream.rest:
-            self.doubt("strace's last line is cut")
+            self.doubt(BIRTHS, "strace's last line is cut")
         if self.made.end == "program":
             living |= self.doubt_ends(tracer)
+        self.establish(BIRTHS, "all that descends from the processes at the start was traced, to its end or until it"
+                               " was looked at")
         self.release(living)
         self.filter.finish()
         self.check_began()
@@ -334,17 +340,18 @@ class Recorder:
     def doubt_ends(self, tracer: subprocess.Popen[bytes]) -> set[int]:
         """Doubts that strace's lines ended with the program; the processes that live on."""
         if tracer.returncode not in (0, None):
-            self.doubt(f"strace ended with status {tracer.returncode}, before the program did")
+            self.doubt(BIRTHS, f"strace ended with status {tracer.returncode}, before the program did")
         found = self.members(tracer.pid)
         for tid in sorted(found):
-            self.doubt(f"process {tid} lives on and isn't traced: what it did isn't in the log")
+            self.doubt(BIRTHS, f"process {tid} lives on and isn't traced: what it did isn't in the log")
         return watching.processes(found.values())
 
     def recording(self, statuses: list[Status], seen: list[SpaceSeen]) -> Recording:
         """What is kept."""
         taken, executed = self.filter.taken, self.filter.executed
-        for text in (*taken.doubts, *executed.doubts):
-            self.doubt(text)
+        self.made.evidence.add(taken.evidence)
+        for text in executed.doubts:
+            self.doubt(CREDENTIALS, text)
         self.rows.files = list(executed.files.values())
         self.rows.mounts = list(executed.mounts.values())
         self.rows.remarks = self.made.remarks()

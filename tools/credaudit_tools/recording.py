@@ -4,21 +4,22 @@
   log             what strace wrote, made plain (docs/STRACE.md)
   status.txt      what the kernel showed of each thread that lived at the log's end, a line for each
   spaces.txt      their user namespaces, with owner, maps and setgroups word, a line for each but the initial one
-  recording.toml  how and with what it was recorded, and its doubts
+  recording.toml  how and with what it was recorded, what is established and what is in doubt, and sums of all files
   changes.txt     what was changed in the log or left out, with counts
   filters.txt     the filters of system calls that were installed meanwhile
 
 Of an older recording only the first three stand.
 """
-import hashlib
 import os
 import tomllib
 from collections.abc import Iterator
 from contextlib import contextmanager
-from dataclasses import dataclass, field, replace
+from dataclasses import dataclass, field
 
-from . import worlds
+from . import premises, worlds
 from .command import Failure
+from .evidence import Doubt, Evidence
+from .evidence_text import SUMS, evidence_lines, evidence_of, is_whole, sealed, sum_of
 from .files import read_regular, write_new
 from .marks import UNSCANNED
 from .namespaces import Extents
@@ -27,6 +28,8 @@ from .statuses import Status, from_line, line_of
 
 WORLD, LOG, STATUS, SPACES, MADE, CHANGES, FILTERS = (
     "world.toml", "log", "status.txt", "spaces.txt", "recording.toml", "changes.txt", "filters.txt")
+ALL = (WORLD, LOG, STATUS, SPACES, MADE, CHANGES, FILTERS)
+FORMAT, OLDER = 2, 1        # of recording.toml; an older one tells no evidence
 
 
 @dataclass(frozen=True)
@@ -43,21 +46,26 @@ class SpaceSeen:
 
 @dataclass
 class Made:
-    """How a recording was made. `end` is why it ended: program, line, time, signal. `doubts` are reasons why the log
-    may not be the whole truth; a recording with one gets no clean bill. `notes` are what isn't known and does no
-    harm; `sums` are the SHA-256 sums of the files that the kernel's own words stand in."""
+    """How a recording was made. `end` is why it ended: program, line, time, signal, stopped. `evidence` is what the
+    recorder established, and its doubts; a recording with one gets no clean bill. `notes` are what isn't known and does
+    no harm; `sums` are the SHA-256 sums of its files. `whole` says whether its own last line fits it."""
     strace: str = ""
     kernel: str = ""
     end: str = ""
-    doubts: list[str] = field(default_factory=list)
+    evidence: Evidence = field(default_factory=Evidence)
     notes: list[str] = field(default_factory=list)
     sums: dict[str, str] = field(default_factory=dict)
+    format: int = FORMAT
+    whole: bool = True
+
+    @property
+    def doubts(self) -> list[Doubt]:
+        """The recorder's doubts."""
+        return self.evidence.doubts
 
     def remarks(self) -> list[str]:
-        """What a world tells of its recording, as comments."""
-        return [f"recorded by credaudit-trace: strace {self.strace}, Linux {self.kernel}",
-                UNSCANNED,
-                *self.notes, *(f"doubt: {each}" for each in self.doubts)]
+        """What a world tells of its recording, as comments, which nobody reads but people."""
+        return [f"recorded by credaudit-trace: strace {self.strace}, Linux {self.kernel}", UNSCANNED, *self.notes]
 
 
 @dataclass
@@ -104,38 +112,55 @@ def space_of(line: str) -> SpaceSeen:
 
 
 def made_of(data: bytes) -> Made:
-    """What recording.toml tells."""
+    """What recording.toml tells. Of an older form the doubts are of the whole log, and nothing is established."""
     table = tomllib.loads(data.decode())
-    return Made(strace=str(table["strace"]), kernel=str(table["kernel"]), end=str(table["end"]),
-                doubts=[str(each) for each in table["doubts"]], notes=[str(each) for each in table["notes"]],
-                sums={str(name): str(told) for name, told in table["sums"].items()})
+    made = Made(strace=str(table["strace"]), kernel=str(table["kernel"]), end=str(table["end"]),
+                notes=[str(each) for each in table["notes"]], format=int(table.get("format", OLDER)),
+                sums={str(name): str(told) for name, told in table[SUMS].items()})
+    if made.format == OLDER:
+        for each in table.get("doubts", []):
+            made.evidence.doubt(premises.BIRTHS, str(each))
+    elif made.format == FORMAT:
+        made.evidence, made.whole = evidence_of(table), is_whole(data, MADE)
+        made.sums.pop(MADE, None)
+    else:
+        raise ValueError(f"its format {made.format} isn't known")
+    return made
 
 
-def made_text(made: Made) -> str:
+def made_text(made: Made) -> bytes:
     """The text of recording.toml."""
-    lines = [f"{key} = {worlds.text(told)}" for key, told in
-             (("strace", made.strace), ("kernel", made.kernel), ("end", made.end))]
-    for key, texts in (("doubts", made.doubts), ("notes", made.notes)):
-        lines += [f"{key} = [", *(f"    {worlds.text(each)}," for each in texts), "]"] if texts else [f"{key} = []"]
-    lines += ["", "[sums]", *(f"{worlds.text(name)} = {worlds.text(told)}" for name, told in made.sums.items())]
-    return "\n".join(lines) + "\n"
+    lines = [f"format = {made.format}"]
+    lines += [f"{key} = {worlds.text(told)}" for key, told in
+              (("strace", made.strace), ("kernel", made.kernel), ("end", made.end))]
+    lines += ["notes = [", *(f"    {worlds.text(each)}," for each in made.notes), "]"] if made.notes else ["notes = []"]
+    return sealed([*lines, *evidence_lines(made.evidence)], MADE, made.sums)
 
 
 def texts_of(kept: Recording) -> dict[str, bytes]:
-    """The files that the kernel's own words stand in."""
-    texts = {LOG: kept.log, STATUS: "".join(line_of(each) + "\n" for each in kept.statuses).encode()}
+    """All files but recording.toml, as they are written."""
+    texts = {WORLD: kept.world, LOG: kept.log,
+             STATUS: "".join(line_of(each) + "\n" for each in kept.statuses).encode()}
     if kept.spaces is not None:
         texts[SPACES] = "".join(space_line(each) + "\n" for each in kept.spaces).encode()
-    return texts
+    rest = (CHANGES, kept.changes), (FILTERS, kept.filters)
+    return {**texts, **{name: told.encode() for name, told in rest if told}}
+
+
+def sums_of(kept: Recording) -> dict[str, str]:
+    """The sums of all files but recording.toml."""
+    return {name: sum_of(data) for name, data in texts_of(kept).items()}
 
 
 def altered(kept: Recording) -> list[str]:
-    """Which of its files aren't as they were recorded."""
+    """Which of its files aren't as they were recorded. An older form has the sums of some alone."""
     if kept.made is None:
         return []
-    now = {name: hashlib.sha256(data).hexdigest() for name, data in texts_of(kept).items()}
-    return [f"{name} isn't as it was recorded: its sum differs" for name in sorted(set(now) | set(kept.made.sums))
-            if now.get(name) != kept.made.sums.get(name)]
+    now, told = sums_of(kept), kept.made.sums
+    names = set(told) | (set(now) if kept.made.format != OLDER else {LOG, STATUS})
+    found = [f"{name} isn't as it was recorded: its sum differs" for name in sorted(names)
+             if now.get(name) != told.get(name)]
+    return found if kept.made.whole else [*found, f"{MADE} isn't as it was written: its last line doesn't fit it"]
 
 
 def optional(folder: str, name: str) -> bytes | None:
@@ -202,15 +227,12 @@ def write(folder: str, recording: Recording) -> None:
     """Puts a recording into a folder, which is made where it isn't there; only its owner can read it then. Of one
     that was there before nothing stays."""
     os.makedirs(folder, mode=0o700, exist_ok=True)
-    write_new(folder, WORLD, recording.world)
     texts = texts_of(recording)
-    for name, data in texts.items():
-        write_new(folder, name, data)
     if recording.made is not None:
-        sums = {name: hashlib.sha256(data).hexdigest() for name, data in texts.items()}
-        write_new(folder, MADE, made_text(replace(recording.made, sums=sums)).encode())
-    for name, text in ((CHANGES, recording.changes), (FILTERS, recording.filters)):
-        if text:
-            write_new(folder, name, text.encode())
+        recording.made.sums = sums_of(recording)
+        texts[MADE] = made_text(recording.made)
+    for name in ALL:
+        if name in texts:
+            write_new(folder, name, texts[name])
         elif os.path.lexists(os.path.join(folder, name)):
             os.remove(os.path.join(folder, name))

@@ -2,35 +2,37 @@
 from collections.abc import Iterable, Sequence
 from dataclasses import dataclass, field
 
-from . import answering, log_doubts, verifying, world_doubts, worlds
+from . import answering, log_doubts, premises, touched, verifying, world_doubts, worlds
 from .answering import Answers, Broken
 from .asking import Asking, Files
 from .command import Failure, Says, silent
 from .end_world import births_of, end_of
+from .evidence import AS_BEFORE, Evidence
 from .explain import process_words
 from .findings import Finding
 from .joining import joined
 from .judged import Family, Judge, same_as_replayed
-from .marks import SCANNED, UNSCANNED, marks_of
 from .names import CAPABILITIES
-from .recording import Recording
+from .recording import FORMAT, MADE, Recording, altered
 from .report import BIRTHS, Report
 from .rights import Right
 from .shown import few, plural
-from .touched import facts_of
+from .touched import Facts, facts_of
 from .worlds import INITIAL, World
 
 SUSPECT = 3         # of the findings of a lint so many are told
+BY_HAND = "the word of who wrote the world and the log"
 
 
 @dataclass
 class Given:
-    """What is looked at: a world and a log by their paths and texts, and of a recording what else it has. `world` is
-    the one that is asked about; `made` whether it isn't the text of its path."""
+    """What is looked at: a world and a log by their paths and texts, of a recording what else it has, and the evidence
+    for what a `yes` rests on. `world` is the one that is asked about; `made` whether it isn't the text of its path."""
     files: Files
     world: World
     text: bytes
     log: bytes
+    evidence: Evidence
     kept: Recording | None = None
     made: bool = False
     notes: list[str] = field(default_factory=list)
@@ -40,14 +42,35 @@ class Given:
 
 
 def with_scan(given: Given, data: bytes) -> tuple[bytes, bytes]:
-    """The texts of the given world and log with the files of the scan of another world: with the marks and the doubts
-    of both. Fails where they can't stand side by side."""
-    scan, doubts = marks_of(data)
-    _, own = marks_of(given.text)
+    """The texts of the given world and log with the files of the scan of another world. Fails where they can't stand
+    side by side."""
     made = joined(given.world, given.log, worlds.read(data), given.kept is not None)
-    made.world.remarks = [SCANNED if scan else UNSCANNED, *(f"doubt: {each}" for each in [*own, *doubts])]
     given.notes += made.notes()
     return worlds.written(made.world), made.log
+
+
+def by_hand() -> Evidence:
+    """The evidence of a world and a log that nobody recorded: the word of who wrote them, and no scan."""
+    found = Evidence()
+    for each in premises.TABLE:
+        if not each.of_files():
+            found.establish(each.name, BY_HAND)
+    return found
+
+
+def unaltered(given: Given) -> None:
+    """Fails where a file of a recording isn't as it was written."""
+    changed = altered(given.kept) if given.kept is not None else []
+    if changed:
+        raise Broken(f"the recording isn't true: {few(changed, SUSPECT)}", "record it anew")
+
+
+def of_older(given: Given) -> None:
+    """Notes what a recording of before lacks."""
+    made = given.kept.made if given.kept is not None else None
+    if given.kept is not None and (made is None or made.format != FORMAT):
+        given.notes.append(f"this recording is of an older form: its {MADE} doesn't tell what was established, so"
+                           " nothing is called gone; record it anew")
 
 
 def of_recording(given: Given, report: Report, says: Says = silent) -> None:
@@ -57,6 +80,7 @@ def of_recording(given: Given, report: Report, says: Says = silent) -> None:
     told = verifying.verify(given.kept, report, says)
     if told.differences:
         raise Broken(f"the recording isn't true: {few(told.differences, SUSPECT)}", "credaudit-verify tells more")
+    given.evidence.add(told.evidence)
     given.notes += [*told.faults(), *told.notes]
 
 
@@ -140,16 +164,18 @@ def accepted(ask: Asking, given: Given) -> Report:
     return report
 
 
-def doubts_of(given: Given) -> tuple[bool, list[str]]:
-    """Whether a scan of all files made the world, and what stands against every `yes`: the doubts of who made the world
-    or the recording, and a declared filter that not every member of the recording had."""
-    scanned, doubts = marks_of(given.text)
-    kept = given.kept
-    if kept is not None and kept.made is not None:
-        doubts += kept.made.doubts
-    if kept is not None and given.world.exclude:
-        doubts += [each.why for each in world_doubts.filter_doubts(kept, given.world)]
-    return scanned, doubts
+def evidence_of(given: Given, facts: Facts) -> Evidence:
+    """The evidence for the family of one process: what goes for the whole, what the kernel showed of its filters, and
+    the rows of docs/KERNEL.md."""
+    found = given.evidence.copy()
+    if given.kept is not None and given.world.exclude:
+        for each in world_doubts.filter_doubts(given.kept, given.world):
+            found.doubt(premises.FILTERS, each.why)
+    for premise in premises.NOT_YET:
+        if premise not in premises.OF_FILES or premises.SCAN in found.established:
+            found.establish(premise, AS_BEFORE)
+    touched.tell(found, facts)
+    return found
 
 
 @dataclass(frozen=True)
@@ -162,15 +188,16 @@ class Summary:
 
 def summed_up(ask: Asking, given: Given, pid: int | None, more: Sequence[Right]) -> Summary:
     """What the program says of each right of the process, and of those that are named beside."""
+    unaltered(given)
     report = accepted(ask, given)
+    of_older(given)
     of_recording(given, report, ask.says)
     pid = chosen(given.world, report, pid)
     first = at_start(given.world, report, pid)
     own = rights_of(report, first) if any(each.pid == first for each in report.start) else []
     end = end_of(given.world, report, pid)
-    scanned, doubts = doubts_of(given)
-    family = Family(given.files, pid, end, facts_of(given.world, report, given.log, end), scanned,
-                    [f"a doubt: {each}" for each in dict.fromkeys(doubts)])
+    evidence = evidence_of(given, facts_of(given.world, report, given.log, end))
+    family = Family(given.files, pid, end, evidence)
     same_as_replayed(ask, family)
     judge = Judge(ask, family)
     outcomes = judge.outcomes(list(dict.fromkeys([*own, *more])))
@@ -183,7 +210,9 @@ def summed_up(ask: Asking, given: Given, pid: int | None, more: Sequence[Right])
              *(f"suspect: {each.why}" for each in found[:SUSPECT])]
     if len(found) > SUSPECT:
         notes.append(f"credaudit-lint tells {len(found) - SUSPECT} more suspect things")
-    return Summary(Answers(title, outcomes, judge.what_ifs(outcomes), notes), pid, scanned)
+    rows = {each.right: list(evidence.rows(each.right, family.space(each.right))) for each in outcomes}
+    return Summary(Answers(title, outcomes, judge.what_ifs(outcomes), notes, rows), pid,
+                   premises.SCAN in evidence.established)
 
 
 SCHEMA: dict[str, object] = {"format": "number", "process": "number", "about": "text", "scanned": "flag",

@@ -3,10 +3,11 @@ import argparse
 import os
 from collections.abc import Sequence
 
-from . import answering, command, recording, summary, worlds
+from . import answering, command, evidence_text, premises, recording, summary, worlds
 from .answering import Broken
 from .asking import Asking, Files, asking
 from .command import Failure, Progress
+from .evidence import Evidence
 from .files import read_regular
 from .program import Program
 from .shown import quoted
@@ -60,7 +61,16 @@ def given_by(ask: Asking, names: Sequence[str]) -> Given:
         read = worlds.read(text)
     except Failure as failure:
         raise Broken(str(failure), failure.advice) from failure
-    return Given(ask.named("given", world, log), read, text, told, kept)
+    return Given(ask.named("given", world, log), read, text, told, evidence_by(kept, world, text, told), kept)
+
+
+def evidence_by(kept: recording.Recording | None, world: str, text: bytes, log: bytes) -> Evidence:
+    """The evidence that goes with a world and a log: the recorder's; of a captured world, which has an empty log, the
+    capture's; else the word of who wrote them."""
+    if kept is not None:
+        return kept.made.evidence.copy() if kept.made is not None else Evidence()
+    captured = evidence_text.read_beside(world, text) if not log else None
+    return summary.by_hand() if captured is None else captured
 
 
 def read_recording(folder: str) -> recording.Recording:
@@ -73,9 +83,15 @@ def read_recording(folder: str) -> recording.Recording:
 
 def with_scan(ask: Asking, given: Given, path: str) -> Given:
     """The same with the files of a scan."""
-    text, log = summary.with_scan(given, read_regular(path, follow=True))
+    data = read_regular(path, follow=True)
+    text, log = summary.with_scan(given, data)
+    scan = evidence_text.read_beside(path, data)
+    if scan is None:
+        given.notes.append(f"beside {path} no evidence stands: it isn't known that all files were looked for")
+    elif given.kept is not None:
+        given.evidence.add(scan, premises.OF_FILES)
     files = Files(ask.put("given.toml", text), ask.put("given.log", log))
-    return Given(files, worlds.read(text), text, log, given.kept, True, given.notes)
+    return Given(files, worlds.read(text), text, log, given.evidence, given.kept, True, given.notes)
 
 
 def summed_up(asked: argparse.Namespace, progress: Progress) -> int:

@@ -4,6 +4,7 @@ import collections
 from dataclasses import dataclass, field
 
 from . import plain_log
+from .evidence import Evidence
 from .filters import Filter
 from .lines import Call
 
@@ -22,7 +23,7 @@ class Taken:
     counted: collections.Counter[str] = field(default_factory=collections.Counter)
     changed: list[str] = field(default_factory=list)
     filters: list[Filter] = field(default_factory=list)
-    doubts: list[str] = field(default_factory=list)
+    evidence: Evidence = field(default_factory=Evidence)
 
     def put(self, pid: int, body: bytes) -> None:
         """A line of the log."""
@@ -33,10 +34,9 @@ class Taken:
         if text not in self.changed:
             self.changed.append(text)
 
-    def doubt(self, text: str) -> None:
-        """A reason why the log may not be the whole truth, told once."""
-        if text not in self.doubts:
-            self.doubts.append(text)
+    def doubt(self, premise: str, why: str) -> None:
+        """A reason why a premise may not be so (premises.py), told once."""
+        self.evidence.doubt(premise, why)
 
     def fails_unread(self, made: Call) -> bool:
         """Leaves out a failed call whose arguments can't be told: it changed nothing."""

@@ -78,7 +78,7 @@ def traced(options: argparse.Namespace, asked: Asked) -> int:
         recording.write(options.output, made)
     doubts = found.made.doubts if found.made else []
     for doubt in doubts:
-        tell(NAME, f"doubt: {doubt}")
+        tell(NAME, f"doubt: {doubt.text()}")
     end = found.made.end if found.made else ""
     if end == "stopped":
         tell(NAME, ADVICE)

@@ -3,20 +3,20 @@ import argparse
 import os
 from collections.abc import Sequence
 
-from . import answering, command, unit_files, unit_settings, unit_world, users, worlds
+from . import (answering, command, evidence_text, premises, touched, unit_files, unit_settings, unit_world, users,
+               worlds)
 from .answering import Answers, Broken
 from .asking import Asking, asking
 from .command import Failure, Progress, Says, tell
 from .end_world import end_of
+from .evidence import AS_BEFORE
 from .expecting import Expected
 from .explain import process_words
 from .files import read_regular
 from .judged import Family, Judge, same_as_replayed
-from .marks import marks_of
 from .names import CAPABILITIES
 from .program import Program
 from .rights import Right
-from .touched import facts_of
 from .unit_files import SUFFIX, Unit
 from .unit_world import Made
 from .worlds import INITIAL
@@ -68,13 +68,13 @@ def made_by(asked: argparse.Namespace, unit: Unit) -> Made:
         raise
     except Failure as failure:
         raise Broken(str(failure), failure.advice) from failure
-    files, data, scanned = None, b"", False
+    files, data, scan = None, b"", None
     if asked.files is not None:
         data = read_regular(asked.files, follow=True)
-        files, (scanned, doubts) = worlds.read(data), marks_of(data)
-        settings.notes += [f"doubt of {asked.files}: {each}" for each in doubts]
-        scanned = scanned and not doubts
-    made = unit_world.world_of(unit, settings, files, data.decode("utf-8", "replace"), scanned, asked.root)
+        files, scan = worlds.read(data), evidence_text.read_beside(asked.files, data)
+        settings.notes += [f"doubt of {asked.files}: {each.text()}" for each in scan.doubts] if scan is not None else \
+            [f"beside {asked.files} no evidence stands: it isn't known that all files were looked for"]
+    made = unit_world.world_of(unit, settings, files, data.decode("utf-8", "replace"), scan, asked.root)
     made.notes = [*settings.notes, *made.notes]
     return made
 
@@ -95,13 +95,19 @@ def judged(ask: Asking, made: Made, rights: Sequence[Right]) -> Answers:
     if read.status != 0:
         raise Failure(f"credaudit refuses the world of the unit, status {read.status}: {' '.join(read.ending)}")
     end = end_of(made.world, read, unit_world.PID)
-    family = Family(files, unit_world.PID, end, facts_of(made.world, read, made.log, end), made.scanned)
+    evidence = made.evidence.copy()
+    touched.tell(evidence, touched.facts_of(made.world, read, made.log, end))
+    for premise in premises.NOT_YET:
+        if premises.SCAN in evidence.established:
+            evidence.establish(premise, AS_BEFORE)
+    family = Family(files, unit_world.PID, end, evidence)
     same_as_replayed(ask, family)
     judge = Judge(ask, family)
     outcomes = judge.outcomes(rights)
     one = end.family[0]
     title = process_words(one, end.spaces.named[one.space] if one.space != INITIAL else None)
-    return Answers(title, outcomes, judge.what_ifs(outcomes), [*made.notes, *ask.notes])
+    rows = {each.right: list(evidence.rows(each.right, family.space(each.right))) for each in outcomes}
+    return Answers(title, outcomes, judge.what_ifs(outcomes), [*made.notes, *ask.notes], rows)
 
 
 def answered(asked: argparse.Namespace, says: Says) -> int:
@@ -119,7 +125,7 @@ def answered(asked: argparse.Namespace, says: Says) -> int:
     answers.title = f"unit {unit.name}: {answers.title}"
     answers.made = {"world.toml": worlds.written(made.world), "log": made.log}
     front: dict[str, object] = {"unit": unit.name, "files": unit.files, "world": worlds.written(made.world).decode(),
-                                "log": made.log.decode(), "scanned": made.scanned}
+                                "log": made.log.decode(), "scanned": premises.SCAN in made.evidence.established}
     return answering.told(NAME, asked, answers, front, expected)
 
 

@@ -5,7 +5,9 @@ import os
 from collections.abc import Iterable
 from dataclasses import dataclass, field, replace
 
+from . import premises
 from .credential import Credential
+from .evidence import Evidence
 from .marks import SCANNED, UNSCANNED
 from .names import ALL, NUMBERS
 from .shown import escaped, few
@@ -14,6 +16,7 @@ from .unit_files import Unit
 from .worlds import INITIAL, File, Map, Mount, Process, Space, World
 
 PID, PRIVATE = 100, "private"
+SETTINGS = "the settings of the unit, as the service manager carries them out (systemd.exec(5))"
 SEARCH = ("/usr/local/sbin", "/usr/local/bin", "/usr/sbin", "/usr/bin", "/sbin", "/bin")
 CHROOT = 1 << NUMBERS["CAP_SYS_CHROOT"]
 EVERY_ID = 4294967295
@@ -21,10 +24,10 @@ EVERY_ID = 4294967295
 
 @dataclass
 class Made:
-    """A world and its log, whether all files were looked for, and what isn't counted."""
+    """A world and its log, the evidence for it, and what isn't counted."""
     world: World
     log: bytes
-    scanned: bool
+    evidence: Evidence
     notes: list[str] = field(default_factory=list)
 
 
@@ -150,8 +153,20 @@ def executed(tree: Tree, made: Settings, command: str) -> str:
     return "-"
 
 
-def world_of(unit: Unit, made: Settings, files: World | None, text: str, scanned: bool, root: str = "/") -> Made:
-    """The world and the log of a unit; `files` is the world of a scan, `text` its text."""
+def evidence_of(scan: Evidence | None) -> Evidence:
+    """What the world of a unit rests on: its settings, and for its files a scan without doubts."""
+    found = Evidence()
+    for premise in premises.TABLE:
+        if not premise.of_files() and premise.name != premises.KERNEL:
+            found.establish(premise.name, SETTINGS)
+    if scan is not None and all(map(scan.holds, (premises.SCAN, premises.RECORDING))):
+        found.add(scan, premises.OF_FILES)
+    return found
+
+
+def world_of(unit: Unit, made: Settings, files: World | None, text: str, scan: Evidence | None,
+             root: str = "/") -> Made:
+    """The world and the log of a unit; `files` is the world of a scan, `text` its text, `scan` its evidence."""
     tree = Tree(root, list(files.files) if files else [], list(files.mounts) if files else [])
     if files is not None and merged_rows(files, text) and (made.root or made.no_exec_paths):
         tree.notes.append("RootDirectory=, ExecPaths=, NoExecPaths=: not counted, since the scan declares equal"
@@ -170,7 +185,9 @@ def world_of(unit: Unit, made: Settings, files: World | None, text: str, scanned
             for number in range(len(programs))]
     log = "".join(f"{PID + number} execve {path} = 0\n" for number, path in enumerate(programs))
     mounts = [each for each in tree.mounts if any(row.mount == each.name for row in tree.rows)]
-    remarks = [f"made by credaudit-unit of {escaped(unit.name)}", SCANNED if scanned else UNSCANNED]
+    evidence = evidence_of(scan)
+    remarks = [f"made by credaudit-unit of {escaped(unit.name)}",
+               SCANNED if premises.SCAN in evidence.established else UNSCANNED]
     excluded = made.filter.excluded() if made.native else []
     world = World("script", spaces, mounts, tree.rows, rows, excluded or None, remarks)
-    return Made(world, log.encode(), scanned, tree.notes)
+    return Made(world, log.encode(), evidence, tree.notes)

@@ -43,7 +43,7 @@ def verified(name: str, folder: str, tell_doubts: bool = True) -> int:
     report = Program().replay(os.path.join(folder, recording.WORLD), os.path.join(folder, recording.LOG))
     if report.status in (6, 7, 8, 10):
         raise Failure(f"credaudit ended with status {report.status}: {STATUSES[report.status]}")
-    doubts = kept.made.doubts if kept.made and tell_doubts else []
+    doubts = [each.text() for each in kept.made.doubts] if kept.made and tell_doubts else []
     return tell_verdict(name, folder, verify(kept, report, Progress(name).at), doubts)
 
 

@@ -8,7 +8,9 @@ from . import answers, kernel_rows, lines, recording, report, worlds
 from .answers import At
 from .command import Says, silent
 from .credential import WORDS, differences
+from .evidence import Evidence
 from .kernel_rows import Made
+from .premises import CREDENTIALS, MAPS, RECORDING
 from .recording import Recording, SpaceSeen
 from .report import Report, Standing
 from .shown import plural, shown
@@ -29,6 +31,7 @@ class Verdict:
     unread: int = 0         # answers that can't be compared
     lived: bool = False     # a process lived at the end, for the kernel or in the replay
     refused: bool = False   # the replay doesn't come to the log's end
+    evidence: Evidence = field(default_factory=Evidence)
 
     def no_process(self) -> str:
         """Why no process was compared."""
@@ -189,6 +192,8 @@ def compare_spaces(kept: Recording, now: Replayed, verdict: Verdict) -> None:
         if len(pairs) > 1:
             verdict.notes.append("the recording doesn't tell the maps of its user namespaces: they aren't compared")
         return
+    verdict.evidence.establish(MAPS, f"{plural(len(kept.spaces), 'user namespace')} that processes stand in at the end"
+                                     " compared with the kernel's, but for the initial one")
     seen = {space.number: space for space in kept.spaces}
     names = {number: name for name, number in pairs}
     for name, number in sorted(pairs - {(INITIAL, 0)}):
@@ -256,4 +261,16 @@ def verify(kept: Recording, told: Report, says: Says = silent) -> Verdict:
         verdict.notes.append("the program had ended: what its calls answered is compared, and who lives")
     compare_processes(kept, now, verdict)
     compare_spaces(kept, now, verdict)
+    establish(kept, verdict)
     return verdict
+
+
+def establish(kept: Recording, verdict: Verdict) -> None:
+    """What the comparison establishes, where it found no difference."""
+    if kept.made is not None and kept.made.format == recording.FORMAT and not recording.altered(kept):
+        verdict.evidence.establish(RECORDING, f"the sums in {recording.MADE} fit all files")
+    if verdict.processes:
+        what = plural(verdict.processes, "process")
+        verdict.evidence.establish(CREDENTIALS, f"{what} compared with what the kernel showed at the end")
+    for text in verdict.differences:
+        verdict.evidence.doubt(CREDENTIALS, text)

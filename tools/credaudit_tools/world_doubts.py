@@ -2,9 +2,10 @@
 files."""
 from collections.abc import Iterator
 
+from .evidence import Evidence
 from .findings import RECORDING, WORLD, Finding, doubt
-from .marks import DOUBT, SCANNED
-from .recording import Recording
+from .premises import SCAN
+from .recording import Recording, altered
 from .report import Report
 from .shown import few, quoted
 from .toml_places import Places, places
@@ -19,22 +20,20 @@ def is_interpreter(path: str) -> bool:
     return name.rstrip("0123456789.") in INTERPRETERS
 
 
-def of_world(data: bytes, world: World, report: Report) -> Iterator[Finding]:
+def of_world(data: bytes, world: World, report: Report, evidence: Evidence | None) -> Iterator[Finding]:
     """Doubts about an accepted world, with the report of a log in it."""
-    yield from of_marks(data)
+    yield from of_evidence(evidence)
     yield from of_rows(data, world, report)
 
 
-def of_marks(data: bytes) -> Iterator[Finding]:
-    """What a world says of itself: that no scan made it, and the doubts of who made it."""
-    text = data.decode("utf-8", "replace")
-    if "# " + SCANNED not in text.split("\n"):
+def of_evidence(evidence: Evidence | None) -> Iterator[Finding]:
+    """What stands beside a world: whether a scan made it, and the doubts of who made it."""
+    if evidence is None or SCAN not in evidence.established:
         yield doubt(WORLD, None,
-                    "the world doesn't say that all files were looked for: a `yes` holds by the family's own calls"
-                    " alone", "credaudit-capture looks for all programs with set-id bits or capabilities")
-    for number, line in enumerate(text.split("\n"), 1):
-        if line.startswith(DOUBT):
-            yield doubt(WORLD, number, line.removeprefix(DOUBT), "the doubt of who made the world")
+                    "nothing says that all files were looked for: a `yes` holds by the family's own calls alone",
+                    "credaudit-capture looks for all programs with set-id bits or capabilities")
+    for each in evidence.doubts if evidence is not None else []:
+        yield doubt(WORLD, None, each.text(), "the doubt of who made the world")
 
 
 def of_rows(data: bytes, world: World, report: Report) -> Iterator[Finding]:
@@ -107,7 +106,9 @@ def of_recording(recording: Recording, world: World, report: Report) -> Iterator
     yield from filter_doubts(recording, world)
     yield from space_doubts(recording, report)
     for told in recording.made.doubts if recording.made is not None else []:
-        yield doubt(RECORDING, None, told, "the recorder's own doubt: recording.toml")
+        yield doubt(RECORDING, None, told.text(), "the recorder's own doubt: recording.toml")
+    for altered_one in altered(recording):
+        yield doubt(RECORDING, None, altered_one, "record anew; what was altered can't be told")
 
 
 def filter_doubts(recording: Recording, world: World) -> Iterator[Finding]:

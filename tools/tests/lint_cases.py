@@ -23,12 +23,13 @@ LOG = "100 setuid 1000 = 0\n"
 
 @dataclass
 class Case:
-    """A case: texts are None for files that aren't there."""
+    """A case: texts are None for files that aren't there; `scan` has the doubts of a scan that made the world."""
     name: str
     world: bytes | None = WORLD.encode()
     log: bytes | None = LOG.encode()
     status: bytes | None = None
     answer: str | None = None
+    scan: list[str] | None = None
     tells: list[tuple[str, str]] = field(default_factory=list)
 
 
@@ -75,6 +76,8 @@ def put_line(case: Case, word: str, rest: str) -> None:
         setattr(case, rest, None)
     elif word == "answer":
         case.answer = rest
+    elif word == "scan":
+        case.scan = [rest] if rest else []
     elif word == "tells":
         place, _, told = rest.partition(" ")
         case.tells.append((place, told))

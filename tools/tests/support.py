@@ -11,8 +11,10 @@ import unittest
 from collections.abc import Callable, Iterator, Sequence
 from unittest import mock
 
-from credaudit_tools import command
+from credaudit_tools import command, evidence_text, premises, worlds
+from credaudit_tools.evidence import Evidence
 from credaudit_tools.program import Program, tail_of
+from credaudit_tools.worlds import World
 
 from . import stored_program
 
@@ -67,6 +69,12 @@ class Case(unittest.TestCase):
         os.chmod(path, mode)
         return os.fsdecode(path)
 
+    def put_scan(self, name: str, world: World, *doubts: str) -> str:
+        """A captured world below the folder, with its evidence beside it."""
+        data = worlds.written(world)
+        self.put(evidence_text.beside(name), evidence_text.world_text(scanned(*doubts), data))
+        return self.put(name, data)
+
     def link(self, name: str, target: str) -> None:
         """A symbolic link below the folder."""
         path = os.path.join(self.work, name.lstrip("/"))
@@ -82,6 +90,16 @@ class Case(unittest.TestCase):
             except SystemExit as ended:
                 status = ended.code if isinstance(ended.code, int) else 1
         return status, out.getvalue(), errors.getvalue()
+
+
+def scanned(*doubts: str) -> Evidence:
+    """The evidence that a capture gives, with these doubts of what its scan looked at."""
+    found = Evidence()
+    for premise in (premises.BIRTHS, premises.CREDENTIALS, premises.MAPS, premises.SCAN, premises.RECORDING):
+        found.establish(premise, "the test says so")
+    for each in doubts:
+        found.doubt(premises.SCAN, each)
+    return found
 
 
 def cases(name: str) -> Iterator[tuple[str, list[tuple[str, str]]]]:

@@ -8,10 +8,10 @@ from credaudit_tools import end_world, report, worlds
 from credaudit_tools.asking import Asking, Files
 from credaudit_tools.command import Failure
 from credaudit_tools.end_world import End, births_of, end_of
+from credaudit_tools.evidence import Evidence
 from credaudit_tools.judged import Family, same_as_replayed
 from credaudit_tools.program import Program
 from credaudit_tools.report import Report
-from credaudit_tools.touched import facts_of
 from credaudit_tools.worlds import World
 
 from . import support
@@ -73,7 +73,7 @@ class Ends(unittest.TestCase):
         self.assertEqual(rows, [("made-2", "init", 5, ((0, 1000, 10),), False),
                                 ("made-2x", "made-2", 1000, ((0, 0, 1),), True)])
         self.assertEqual([row.space for row in made.world.processes], ["made-2x", "made-2x"])
-        family = Family(Files("", ""), 100, made, facts_of(*replayed(BOXED, log), b"", made), False)
+        family = Family(Files("", ""), 100, made, Evidence())
         for name, told in (("#0", "init"), ("#1", "made-2"), ("#2", "made-2x"), ("init", "init"), ("made-2", "made-2"),
                            ("#9", "#9")):
             self.assertEqual(family.token(name), told)
@@ -95,7 +95,7 @@ class Same(support.Case):
     def family(self, log: str) -> Family:
         world, read = replayed(BOXED, log)
         made = end_of(world, read, 100)
-        return Family(Files("", ""), 100, made, facts_of(world, read, b"", made), False)
+        return Family(Files("", ""), 100, made, Evidence())
 
     def test_the_same(self) -> None:
         family = self.family("100 unshare = 0\n100 setresuid 1001 -1 -1 = EINVAL\n")

@@ -5,8 +5,8 @@ import tempfile
 import unittest
 from unittest import mock
 
-from credaudit_tools import (hints, lint, lint_command, log_doubts, log_faults, other_faults, recording, report,
-                             toml_faults)
+from credaudit_tools import (evidence_text, hints, lint, lint_command, log_doubts, log_faults, other_faults, recording,
+                             report, toml_faults)
 from credaudit_tools.command import FAILED, FOUND, GOOD, USAGE, Failure
 from credaudit_tools.findings import WORLD, Finding
 from credaudit_tools.lint import Given
@@ -34,6 +34,9 @@ def put(work: str, case: Case) -> Given:
         if data is not None:
             with open(os.path.join(work, name), "wb") as file:
                 file.write(data)
+    if case.scan is not None and case.world is not None:
+        with open(evidence_text.beside(os.path.join(work, recording.WORLD)), "wb") as file:
+            file.write(evidence_text.world_text(support.scanned(*case.scan), case.world))
     kept = recording.read(work) if case.status is not None else None
     return Given(os.path.join(work, recording.WORLD), os.path.join(work, recording.LOG), kept)
 

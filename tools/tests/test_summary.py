@@ -7,7 +7,8 @@ import unittest
 from collections.abc import Callable
 from unittest import mock
 
-from credaudit_tools import answering, classes, expecting, rights, schemas, summary, summary_command, worlds
+from credaudit_tools import (answering, classes, expecting, recording, rights, schemas, summary, summary_command,
+                             worlds)
 from credaudit_tools.answering import BROKEN
 from credaudit_tools.asking import Asking, Files, shortened
 from credaudit_tools.classes import Outcome
@@ -69,9 +70,9 @@ class Whole(Case):
             "gid:4                open: a set-group-ID program that a member may run lets it in, in user namespaces"
             " that are made later in init (rule exec_gid, row fresh(init)): set no_new_privs in every member; mount"
             " nosuid; exclude execve",
-            "cap:CAP_KILL@init    gone", "cap:CAP_SETUID@init  gone",
+            "cap:CAP_KILL@init    gone by its own calls", "cap:CAP_SETUID@init  gone by its own calls",
             "uid:33               held by process 100 (effective user id)",
-            "6 rights: 1 held, 1 own-calls, 1 program, 2 gone, 1 open", "with no_new_privs 3 of 3 gone",
+            "6 rights: 1 held, 1 own-calls, 1 program, 2 gone-by-own-calls, 1 open", "with no_new_privs 3 of 3 gone",
             "with an empty bounding set 2 of 3 gone",
             "with a filter of the calls that take ids, capabilities or user namespaces 2 of 3 gone", ""])
         self.assertTrue(out.startswith("process 100: real user 33 (inside: none), effective user 33 (inside: none),"
@@ -91,14 +92,31 @@ class Whole(Case):
         self.assertEqual(unbounded.processes[0].credential.bnd, 0)
         self.assertIn("setresuid", filtered.exclude or [])
 
-    def test_a_world_that_was_not_scanned(self) -> None:
-        _, out, _ = self.command(*self.names(WORLD.replace(SCANNED, "Files: by hand.")), "100")
-        self.assertIn("cap:CAP_KILL@init    gone by its own calls\n", out)
-        self.assertNotIn(" gone\n", out.split("5 rights")[0])
+    def captured(self, *doubts: str) -> str:
+        """What is told of a captured world, which has no log."""
+        scan = self.put_scan("captured.toml", worlds.read(WORLD.encode()), *doubts)
+        return self.command(scan, self.put("empty"), "100", "--right", "cap:CAP_FOWNER@init")[1]
 
-    def test_a_world_with_a_doubt(self) -> None:
-        _, out, _ = self.command(*self.names("# doubt: /srv can't be read\n" + WORLD), "100")
-        self.assertIn("cap:CAP_KILL@init    not called gone: a doubt: /srv can't be read\n", out)
+    def test_a_captured_world(self) -> None:
+        self.assertIn("cap:CAP_FOWNER@init  gone\n", self.captured())
+
+    def test_a_captured_world_with_a_doubt(self) -> None:
+        self.assertIn("cap:CAP_FOWNER@init  not called gone: scan: /srv can't be read\n",
+                      self.captured("/srv can't be read"))
+
+    def test_a_captured_world_with_another_log(self) -> None:
+        scan = self.put_scan("captured.toml", worlds.read(WORLD.encode()))
+        _, out, _ = self.command(scan, self.put("log", LOG.encode()), "100")
+        self.assertIn("cap:CAP_KILL@init    gone by its own calls\n", out)
+
+    def test_the_word_of_a_writer(self) -> None:
+        status, out, _ = self.command(*self.names(), "100", "--why", "cap:CAP_KILL@init")
+        lines = out.split("\n")[:-1]
+        self.assertEqual((status, lines[0]), (GOOD, "cap:CAP_KILL@init: gone-by-own-calls"))
+        self.assertIn("  births: each process of the family is in the log from its birth to its end. Established: the"
+                      " word of who wrote the world and the log", lines)
+        self.assertIn("  scan: all programs with set-id bits or capabilities were looked for. Doubted: nothing"
+                      " establishes it", lines)
 
     def test_a_child_had_what_its_ancestor_had(self) -> None:
         log = "100 fork = 101\n101 fork = 102\n101 exit = 0\n102 setresuid 5 5 5 = 0\n"
@@ -128,7 +146,7 @@ class Whole(Case):
         status, out, _ = self.command(*self.names(), "100")
         self.assertEqual(status, GOOD)
         self.assertIn(f"regained by its own calls: {RAISE}; {OWN} (holder 100)", out)
-        self.assertIn("cap:CAP_KILL@init    gone\n", out)
+        self.assertIn("cap:CAP_KILL@init    gone by its own calls\n", out)
 
     def test_a_run_that_needs_no_program(self) -> None:
         self.program.confirms = lambda right, run: 100 if OWN in run else None
@@ -145,15 +163,14 @@ class Whole(Case):
         folder = os.path.join(self.work, "kept")
         _, out, _ = self.command(*self.names(), "100", "--certificates", folder)
         self.assertEqual(sorted(os.listdir(folder)), ["cap:CAP_KILL@init.json", "cap:CAP_SETUID@init.json"])
-        self.assertIn(f"cap:CAP_KILL@init    gone (certificate {folder}/cap:CAP_KILL@init.json)", out)
+        self.assertIn(f"cap:CAP_KILL@init    gone by its own calls (certificate {folder}/cap:CAP_KILL@init.json)", out)
 
     def test_the_files_of_a_scan(self) -> None:
-        scan = World("script", mounts=[Mount("nosuid", nosuid=True)], remarks=[SCANNED],
+        scan = World("script", mounts=[Mount("nosuid", nosuid=True)],
                      files=[File("/usr/bin/su", 5, 5, 0o4755), File("/opt/x", 0, 0, 0o2755, mount="nosuid")])
-        path, folder = self.put("scan.toml", worlds.written(scan)), os.path.join(self.work, "kept")
-        world = WORLD.replace(SCANNED, "Files: by hand.")
-        _, out, _ = self.command(*self.names(world), "100", "--files", path, "--certificates", folder)
-        self.assertIn("cap:CAP_KILL@init    gone (", out)
+        path, folder = self.put_scan("scan.toml", scan), os.path.join(self.work, "kept")
+        _, out, _ = self.command(*self.names(), "100", "--files", path, "--certificates", folder)
+        self.assertIn("cap:CAP_KILL@init    gone by its own calls (", out)
         asked = self.program.worlds["real"]
         self.assertEqual([(each.path, each.uid) for each in asked.files],
                          [("/usr/bin/su#2", 0), ("/usr/bin/su", 5), ("/opt/x", 0)])
@@ -161,7 +178,7 @@ class Whole(Case):
             self.assertEqual(worlds.read(file.read()).files, asked.files)
         for mount in (Mount("root", noexec=True), Mount("nosuid", space="box")):
             scan.mounts = [mount]
-            own = world.replace("[[file]]", '[[mount]]\nname = "root2"\n[[file]]').replace("root2", mount.name)
+            own = WORLD.replace("[[file]]", '[[mount]]\nname = "root2"\n[[file]]').replace("root2", mount.name)
             self.assertEqual(self.command(*self.names(own), "100", "--files",
                                           self.put("scan.toml", worlds.written(scan)))[0], FAILED)
 
@@ -219,18 +236,18 @@ class Statuses(Case):
         self.assertEqual(self.command(*names, "100")[0], FAILED)
 
     def test_the_rights_of_the_expected_classes_are_asked_for(self) -> None:
-        path = self.put("expect", b"uid:33 held\n# a remark\ncap:CAP_KILL@#1 gone,held # another\n"
-                                  b"* gone,open,own-calls\n")
+        path = self.put("expect", b"uid:33 held\n# a remark\ncap:CAP_KILL@#1 gone-by-own-calls,held # another\n"
+                                  b"* gone-by-own-calls,open,own-calls\n")
         status, out, errors = self.command(*self.names(), "100", "--expect", path)
         self.assertIn("uid:33               held by process 100 (effective user id)", out)
-        told = "credaudit-summary: gid:0 is program, and expected is gone or open or own-calls\n"
+        told = "credaudit-summary: gid:0 is program, and expected is gone-by-own-calls or open or own-calls\n"
         self.assertEqual((status, errors), (FOUND, SUSPECT + told))
 
 
 class Recordings(Case):
-    def folder(self, name: str) -> str:
+    def folder(self, name: str, stored: str | None = None) -> str:
         path = os.path.join(self.work, name)
-        shutil.copytree(os.path.join(support.DATA, "recordings", name), path)
+        shutil.copytree(os.path.join(support.DATA, "recordings", stored or name), path)
         return path
 
     def test_a_recording(self) -> None:
@@ -251,26 +268,69 @@ class Recordings(Case):
             file.write(data[:-9])
         status, out, errors = self.command(folder)
         self.assertEqual((status, out), (BROKEN, ""))
-        self.assertIn("the recording isn't true: the log ends within a line: it was cut", errors)
+        self.assertIn("the recording isn't true: log isn't as it was recorded: its sum differs", errors)
         os.remove(os.path.join(folder, "status.txt"))
         self.assertEqual(self.command(folder)[0], BROKEN)
 
     def test_its_doubts(self) -> None:
         folder = self.folder("daemon")
-        path = os.path.join(folder, "recording.toml")
-        with open(path, encoding="utf-8") as file:
-            text = file.read()
-        with open(path, "w", encoding="utf-8") as file:
-            file.write(text.replace("doubts = []", 'doubts = ["a child went on untraced"]'))
+        kept = recording.read(folder)
+        assert kept.made is not None
+        kept.made.evidence.doubt("births", "a child went on untraced")
+        recording.write(folder, kept)
         _, out, _ = self.command(folder)
-        self.assertIn("not called gone: a doubt: a child went on untraced", out)
+        self.assertIn("not called gone: births: a child went on untraced", out)
+
+    def test_one_that_was_altered(self) -> None:
+        folder = self.folder("daemon")
+        for name in ("recording.toml", "world.toml", "changes.txt"):
+            path = os.path.join(folder, name)
+            with open(path, "rb") as file:
+                data = file.read()
+            self.put("daemon/" + name, data.replace(b"a", b"e", 1))
+            with self.subTest(name):
+                status, out, errors = self.command(folder)
+                self.assertEqual((status, out), (BROKEN, ""))
+                self.assertIn("isn't as it was", errors)
+            self.put("daemon/" + name, data)
+
+    def test_one_of_an_older_form(self) -> None:
+        """Nothing of it is called gone, with a scan or without."""
+        folder = self.folder("daemon")
+        kept = recording.read(folder)
+        assert kept.made is not None
+        sums = [f'"{name}" = "{told}"' for name, told in kept.made.sums.items() if name in ("log", "status.txt")]
+        older = ['strace = "6.1"', 'kernel = "6.18.44"', 'end = "time"', "doubts = []", "notes = []", "[sums]", *sums]
+        self.put("daemon/recording.toml", "".join(line + "\n" for line in older).encode())
+        scan = ["--files", self.put_scan("scan.toml", World("script"))]
+        for words in ([folder], [folder, *scan]):
+            status, out, errors = self.command(*words)
+            self.assertEqual(status, GOOD, errors)
+            self.assertNotIn("  gone", out)
+            self.assertIn("not called gone: births: nothing establishes it; ", out)
+            self.assertIn("this recording is of an older form", errors)
+        os.remove(os.path.join(folder, "recording.toml"))
+        status, out, errors = self.command(folder, *scan)
+        self.assertNotIn("  gone", out)
+        self.assertIn("this recording is of an older form", errors)
+
+    def test_with_a_scan(self) -> None:
+        scan = self.put_scan("scan.toml", World("script"))
+        _, out, errors = self.command(self.folder("daemon"), "--files", scan)
+        self.assertIn("cap:CAP_CHOWN@init               gone\n", out)
+        self.assertNotIn("scan.toml", errors)
+        os.remove(scan + ".evidence")
+        _, out, errors = self.command(self.folder("daemon2", "daemon"), "--files", scan)
+        self.assertIn("cap:CAP_CHOWN@init               gone by its own calls\n", out)
+        self.assertIn("beside " + scan + " no evidence stands", errors)
 
     def test_a_filter_that_not_every_member_had(self) -> None:
         folder = self.folder("daemon")
-        with open(os.path.join(folder, "world.toml"), "a", encoding="utf-8") as file:
-            file.write('\n[filter]\nexclude = ["setuid"]\n')
+        kept = recording.read(folder)
+        kept.world += b'\n[filter]\nexclude = ["setuid"]\n'
+        recording.write(folder, kept)
         _, out, _ = self.command(folder)
-        self.assertIn("not called gone: a doubt: the world declares a [filter], and the kernel showed none", out)
+        self.assertIn("not called gone: filters: the world declares a [filter], and the kernel showed none", out)
 
     def test_one_whose_processes_ended(self) -> None:
         self.assertEqual(self.command(self.folder("ended"))[0], FAILED)

@@ -141,7 +141,7 @@ class Traced(Case):
         if "(program)" in out:
             self.skipTest("user namespaces can't be made here")
         self.assertEqual(status, 1)
-        self.assertIn("doubt: the recording was stopped", errors)
+        self.assertIn("doubt: births: the recording was stopped", errors)
         self.assertIn("of which user namespace that is isn't known", errors)
 
     def test_an_older_recording_is_written_over(self) -> None:

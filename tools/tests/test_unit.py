@@ -369,7 +369,8 @@ class Calls(unittest.TestCase):
 class Worlds(support.Case):
     def made(self, text: str, *files: File, mounts: Sequence[Mount] = (), remark: str = "") -> unit_world.Made:
         scan = World("script", files=list(files), mounts=list(mounts)) if files else None
-        return unit_world.world_of(unit_of(text), made_of(text), scan, remark, bool(files), self.work)
+        evidence = support.scanned() if files else None
+        return unit_world.world_of(unit_of(text), made_of(text), scan, remark, evidence, self.work)
 
     def test_what_stands_before_the_execve(self) -> None:
         made = self.made("User=web\nAmbientCapabilities=CAP_KILL\nCapabilityBoundingSet=CAP_KILL\nSecureBits=noroot\n"
@@ -479,7 +480,7 @@ class Worlds(support.Case):
         scan = World("script", spaces=[worlds.Space("private", "init", 5)], mounts=[Mount("noexec", space="private")],
                      files=[File("/a", 0, 0, 0o4755, mount="noexec")])
         made = unit_world.world_of(unit_of("PrivateUsers=1\nNoExecPaths=/"), made_of("PrivateUsers=1\nNoExecPaths=/"),
-                                   scan, "", True, self.work).world
+                                   scan, "", support.scanned(), self.work).world
         self.assertEqual([each.name for each in made.spaces], ["private", "private-2"])
         self.assertEqual((made.files[0].mount, made.processes[0].space), ("noexec-2", "private-2"))
 

@@ -8,7 +8,6 @@ from unittest import mock
 from credaudit_tools import report, schemas, unit_command, worlds
 from credaudit_tools.answering import BROKEN
 from credaudit_tools.command import FAILED, FOUND, GOOD, USAGE
-from credaudit_tools.marks import SCANNED
 from credaudit_tools.worlds import File, World
 
 from . import support
@@ -38,8 +37,7 @@ class Whole(support.Case):
             return self.told(unit_command.main, "--root", self.work, *given)
 
     def scan(self) -> str:
-        world = World("script", files=[File("/usr/bin/su", 0, 0, 0o4755)], remarks=[SCANNED])
-        return self.put("host.toml", worlds.written(world))
+        return self.put_scan("host.toml", World("script", files=[File("/usr/bin/su", 0, 0, 0o4755)]))
 
     def test_a_word_for_each_right(self) -> None:
         self.program = Told(REPLAY, {key: told for key, told in ANSWERS.items() if key[1] != "uid:0"})
@@ -67,7 +65,7 @@ class Whole(support.Case):
         self.assertEqual(self.program.worlds["own"].files, [])
 
     def test_a_scan_with_doubts_is_none(self) -> None:
-        path = self.put("host.toml", worlds.written(World("script", remarks=[SCANNED, "doubt: /srv can't be read"])))
+        path = self.put_scan("host.toml", World("script"), "/srv can't be read")
         _, out, errors = self.command("web.service", "--files", path)
         self.assertIn("cap:CAP_CHOWN@init               gone by its own calls", out)
         self.assertIn("/srv can't be read", errors)

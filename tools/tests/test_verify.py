@@ -214,8 +214,8 @@ class Failing(Case):
     def test_a_doubt_is_no_clean_bill(self) -> None:
         kept = recording.read(os.path.join(RECORDINGS, "daemon"))
         assert kept.made is not None
-        kept.made.doubts.append("something")
+        kept.made.evidence.doubt("births", "something")
         recording.write(self.work, kept)
         status, _, errors = self.told(verify_command.main, self.work)
         self.assertEqual(status, 1)
-        self.assertIn("doubt: something", errors)
+        self.assertIn("doubt: births: something", errors)

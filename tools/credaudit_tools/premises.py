@@ -1,0 +1,91 @@
+"""What must be so for a right to be gone: one table of premises, a row for each. docs/PREMISES.md is made from it.
+
+The program's `yes` is about a world and a log. That these are what the machine was, and that nothing acts beside them,
+are the premises. Each is established by evidence (evidence.py), or isn't; a right is called gone only where each that
+touches it is.
+"""
+from dataclasses import dataclass
+
+from .rights import Right
+
+BIRTHS, ANSWERS, CREDENTIALS, MAPS, FILTERS, SECUREBITS, FS_IDS, GROUPS, POWER, RINGS = (
+    "births", "answers", "credentials", "maps", "filters", "securebits", "fs-ids", "groups", "power", "rings")
+SCAN, MOUNTS, FILES, BINFMT, KERNEL, RECORDING = "scan", "mounts", "files", "binfmt", "kernel", "recording"
+OF_FILES = (SCAN, MOUNTS, FILES, BINFMT)        # what programs may give, and not the family's own calls
+
+
+@dataclass(frozen=True)
+class Premise:
+    """A row. `holds` is what must be so, `by` what establishes it, `lost` what takes it away, in words. It touches the
+    rights of `kinds`: user ids, group ids, capabilities."""
+    name: str
+    holds: str
+    by: str
+    lost: str
+    kinds: tuple[str, ...] = ("uid", "gid", "cap")
+
+    def touches(self, right: Right) -> bool:
+        """Whether a right can be there after all where this isn't so."""
+        return right.kind in self.kinds
+
+    def of_files(self) -> bool:
+        """Whether it is about programs, so that it tells nothing of the family's own calls."""
+        return self.name in OF_FILES
+
+
+TABLE = (
+    Premise(BIRTHS, "each process of the family is in the log from its birth to its end",
+            "the recorder: all that descends from the processes at the start was traced until it ended, or until it was"
+            " looked at; at the end the same processes live for the kernel as in the replay",
+            "a process that wasn't traced, a birth that isn't told, strace's lines cut or stopped"),
+    Premise(ANSWERS, "the answers in the log are the kernel's",
+            "the recorder: no filter of system calls, tracer or notification could answer a listed call in its place",
+            "a filter that can answer success without making the call, or one that can't be read"),
+    Premise(CREDENTIALS, "at the end each member is for the kernel what it is in the replay",
+            "the comparison of the replay with /proc/PID/status of each thread that lives at the end",
+            "a difference, or no process that could be compared"),
+    Premise(MAPS, "user namespaces, their owners and their maps are as in the replay",
+            "the comparison of the replay with the namespaces of all that lives at the end",
+            "a difference, a map whose writing couldn't be told"),
+    Premise(FILTERS, "what [filter] of the world declares holds for every member",
+            "the kernel showed the same filters for all members, or the world declares none",
+            "members with different filters, or a declared one that the kernel doesn't show"),
+    Premise(SECUREBITS, "no member has securebits by which it keeps more than in the replay",
+            "the recorder: read before the start, or counted as 0",
+            "securebits that a call set and nothing confirms"),
+    Premise(FS_IDS, "the fs ids of each member are among its effective ones",
+            "the replay's end",
+            "a member whose fs user id or fs group id is another one"),
+    Premise(GROUPS, "supplementary groups were seen, so that a forgotten setgroups shows",
+            "a process with groups at the start, or a call of setgroups",
+            "none of both", ("gid",)),
+    Premise(POWER, "no member can have a capability over the initial namespace that acts without a listed call",
+            "audits of the family at the end",
+            "one of these capabilities that can be had"),
+    Premise(RINGS, "nothing acts for a member through io_uring",
+            "the recorder: no call of io_uring_setup, no descriptor and no thread of a ring",
+            "a ring"),
+    Premise(SCAN, "all programs with set-id bits or capabilities were looked for",
+            "credaudit-capture, which looked at each mount of the family",
+            "a place that couldn't be looked at, or that was left out"),
+    Premise(MOUNTS, "each member stands in a mount namespace that was looked at",
+            "the mount namespaces of the members and of the scan",
+            "a mount, or a mount namespace that was left or made, while it was recorded"),
+    Premise(FILES, "nothing that the scan saw changed after it",
+            "the recorder: no call that changes set-id bits, owners, attributes or names of such files",
+            "such a call, or a scan that is older than it"),
+    Premise(BINFMT, "no other rule than those of ELF files and scripts gives a program its credentials",
+            "the entries of binfmt_misc",
+            "an entry with the flag C or F"),
+    Premise(KERNEL, "no row of docs/KERNEL.md touches the right",
+            "the rows of docs/KERNEL.md, against the log and the family at its end",
+            "a row that touches it"),
+    Premise(RECORDING, "the files are as they were written",
+            "the sums in recording.toml, and its own last line",
+            "a file that was altered"),
+)
+BY_NAME = {each.name: each for each in TABLE}
+
+# Rows whose evidence isn't there yet: summary.py establishes them as it always did. Whoever adds the evidence takes the
+# name out.
+NOT_YET = (ANSWERS, FILTERS, SECUREBITS, FS_IDS, GROUPS, POWER, RINGS, MOUNTS, FILES, BINFMT)
