@@ -23,7 +23,7 @@ from .judged import WhatIf
 from .rights import Right
 from .shown import plural, quoted, shown
 
-BROKEN = 4
+BROKEN, FORMAT = 4, 2       # FORMAT of the JSON of both commands
 
 
 class Broken(Failure):
@@ -101,7 +101,8 @@ def words(answers: Answers) -> list[str]:
               for each in answers.outcomes]
     counts = ", ".join(f"{count} {kind}" for kind, count in classes.counted(answers.outcomes) if count)
     found.append(f"{plural(len(answers.outcomes), 'right')}: {counts or 'none'}")
-    found += [f"with {each.with_} {each.gone} of {each.of} gone" for each in answers.what_ifs if each.of]
+    found += [f"with {each.with_} {each.gone} of {each.of} {classes.SHORT[each.kind]}"
+              for each in answers.what_ifs if each.of]
     return found
 
 
@@ -114,7 +115,7 @@ def why_words(answers: Answers, asked: Sequence[Right]) -> list[str]:
 
 COMMON_SCHEMA: dict[str, object] = {
     "rights": [classes.SCHEMA], "counts": {kind: "number" for kind in classes.CLASSES},
-    "what_ifs": [{"with": "text", "gone": "number", "of": "number"}],
+    "what_ifs": [{"with": "text", "gone": "number", "of": "number", "class": "text"}],
     "unexpected": [{"right": "text", "class": "text", "expected": ["text"]}], "notes": ["text"]}
 
 
@@ -122,7 +123,8 @@ def document(answers: Answers, new: Sequence[tuple[Outcome, tuple[str, ...]]]) -
     """All of it for other programs."""
     return {"rights": [classes.document(each, answers.kept.get(each.right)) for each in answers.outcomes],
             "counts": dict(classes.counted(answers.outcomes)),
-            "what_ifs": [{"with": each.with_, "gone": each.gone, "of": each.of} for each in answers.what_ifs],
+            "what_ifs": [{"with": each.with_, "gone": each.gone, "of": each.of, "class": each.kind}
+                         for each in answers.what_ifs],
             "unexpected": [{"right": each.right.text(), "class": each.kind, "expected": list(wanted)}
                            for each, wanted in new],
             "notes": answers.notes}
@@ -150,7 +152,7 @@ def told(name: str, asked: argparse.Namespace, answers: Answers, front: dict[str
         keep(answers, asked.certificates)
     new = expected.new(answers.outcomes) if expected is not None else []
     if asked.json:
-        print(schemas.written({"format": schemas.FORMAT, **front, **document(answers, new)}))
+        print(schemas.written({"format": FORMAT, **front, **document(answers, new)}))
     else:
         for line in lines(answers, asked):
             print(shown(line))

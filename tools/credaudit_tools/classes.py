@@ -10,6 +10,7 @@ from .shown import few
 HELD, OWN_CALLS, PROGRAM = "held", "own-calls", "program"
 GONE, GONE_BY_OWN_CALLS, DOUBTED, OPEN = "gone", "gone-by-own-calls", "doubted", "open"
 TO_BE_HAD = (OWN_CALLS, PROGRAM, OPEN)
+SHORT = {GONE: "gone", GONE_BY_OWN_CALLS: "gone by its own calls"}
 MOST_HOLDERS = 3        # that are told in a line
 CLASSES = {
     HELD: "a member has it",
@@ -57,8 +58,8 @@ def words(outcome: Outcome, kept: str | None = None) -> str:
     return {HELD: f"held by {few(list(outcome.reasons), MOST_HOLDERS) or f'process {outcome.holder}'}",
             OWN_CALLS: f"regained by its own calls: {calls} (holder {outcome.holder})",
             PROGRAM: f"regained through {few(list(outcome.programs))}: {calls} (holder {outcome.holder})",
-            GONE: f"gone{where}",
-            GONE_BY_OWN_CALLS: f"gone by its own calls{where}",
+            GONE: f"{SHORT[GONE]}{where}",
+            GONE_BY_OWN_CALLS: f"{SHORT[GONE_BY_OWN_CALLS]}{where}",
             DOUBTED: f"not called gone{where}: {'; '.join(outcome.reasons)}",
             OPEN: f"open: {outcome.lets} lets it in, {row_words(outcome.row or '')} (rule {outcome.rule}, row"
                   f" {outcome.row}): {outcome.advice}",

@@ -1,16 +1,18 @@
 """The classes of a family's rights after a log: two audits of each, with the declared programs and with none, and for
 each `yes` the evidence of what it rests on (premises.py).
 """
-from collections.abc import Sequence
+from collections.abc import Callable, Sequence
 from dataclasses import dataclass, replace
 
-from . import classes
+from . import classes, touched
 from .asking import Answer, Asking, Files, right_in, shortened
 from .classes import Outcome
 from .command import Failure
 from .evidence import Evidence, reasons_of
-from .end_world import End, filtered, limited, unbounded, without_files
+from .end_world import End, end_of, filtered, limited, unbounded, without_files
 from .holding import holders
+from .premises import SCAN
+from .report import Report, Standing
 from .rights import Right
 from .run_words import parsed
 from .verdicts import NO, RULES, YES
@@ -22,10 +24,12 @@ WHAT_IFS = {"no_new_privs": limited, "an empty bounding set": unbounded,
 
 @dataclass(frozen=True)
 class WhatIf:
-    """What would change: so many rights, of those that nobody holds and that aren't gone, would be gone."""
+    """What would change: so many rights, of those that nobody holds and that aren't gone, would be of a class, `gone`
+    or, without a scan, `gone-by-own-calls`."""
     with_: str
     gone: int
     of: int
+    kind: str = classes.GONE
 
 
 @dataclass
@@ -56,6 +60,15 @@ class Family:
         if self.evidence.only_own_calls(lacking):
             return classes.GONE_BY_OWN_CALLS, ()
         return classes.DOUBTED, reasons_of(lacking)
+
+    def changed(self, ask: Asking, name: str, change: Callable[[World], World]) -> "Family":
+        """The family as it would be in a world that is changed: what is doubted stays so, and rows of docs/KERNEL.md
+        that arise there are doubts too."""
+        world, evidence = change(self.end.world), self.evidence.copy()
+        start = [Standing(row.pid, row.space, row.credential) for row in world.processes]
+        told = Report(start)
+        touched.tell(evidence, touched.facts_of(world, told, b"", end_of(world, told, self.pid)), self.end.names)
+        return replace(self, files=ask.files(name, world), evidence=evidence)
 
 
 def programs_of(run: Sequence[bytes], files: set[str]) -> tuple[str, ...]:
@@ -130,14 +143,25 @@ class Judge:
 
     def what_ifs(self, outcomes: Sequence[Outcome]) -> list[WhatIf]:
         """How many of the rights that nobody holds, and that aren't gone, would be gone if the family were otherwise
-        from its end on."""
-        found, left = [], [each.right for each in outcomes if each.kind in classes.TO_BE_HAD]
-        for number, (words, change) in enumerate(WHAT_IFS.items()):
-            files = self.ask.files(f"if-{number}", change(self.family.end.world))
-            told = self.ask.audits(f"audits with {words}", files, self.family.pid,
-                                   [right_in(each, self.family.token) for each in left])
-            found.append(WhatIf(words, sum(each.verdict.word == YES for each in told), len(told)))
-        return found
+        from its end on: by the evidence for that world, and with a certificate that the program's check accepts."""
+        left = [each.right for each in outcomes if each.kind in classes.TO_BE_HAD]
+        kind = classes.GONE if SCAN in self.family.evidence.established else classes.GONE_BY_OWN_CALLS
+        return [WhatIf(words, sum(each == kind for each in self.changed(number, words, change, left)), len(left), kind)
+                for number, (words, change) in enumerate(WHAT_IFS.items())]
+
+    def changed(self, number: int, words: str, change: Callable[[World], World], left: Sequence[Right]) -> list[str]:
+        """The classes of the rights with a `yes` in a world that is changed."""
+        family = self.family.changed(self.ask, f"if-{number}", change)
+        told = self.ask.audits(f"audits with {words}", family.files, family.pid,
+                               [right_in(each, self.family.token) for each in left])
+        yes = [(right, each) for right, each in zip(left, told) if each.verdict.word == YES]
+
+        def kind(pair: tuple[Right, Answer]) -> str:
+            right, answer = pair
+            text, certificate = right_in(right, self.family.token), (answer.verdict.certificate or "").encode()
+            return family.gone(right)[0] if self.ask.holds(family.files, family.pid, text, certificate) else \
+                classes.DOUBTED
+        return self.ask.side_by_side(f"certificates with {words}", kind, yes)
 
 
 def same_as_replayed(ask: Asking, family: Family) -> None:

@@ -1,6 +1,6 @@
 """What the commands write with `--json`: the fields of each object and their kinds, as the manual pages have them.
 
-Each document begins with `"format": 1`. A field that goes, comes or changes makes the format a new number.
+Each document begins with its format, a number. A field that goes, comes or changes makes it a new one.
 """
 import json
 from collections.abc import Iterator

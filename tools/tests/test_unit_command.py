@@ -54,7 +54,7 @@ class Whole(support.Case):
                       " in init (rule exec_gid, row init): set no_new_privs in every member; mount nosuid; exclude"
                       " execve", lines)
         self.assertIn("43 rights: 1 held, 41 gone-by-own-calls, 1 open", lines)
-        self.assertIn("with no_new_privs 1 of 1 gone", lines)
+        self.assertIn("with no_new_privs 1 of 1 gone by its own calls", lines)
 
     def test_with_the_files_of_a_scan(self) -> None:
         _, out, _ = self.command("web.service", "--files", self.scan())
@@ -84,7 +84,7 @@ class Whole(support.Case):
     def test_json(self) -> None:
         status, out, _ = self.command("web", "--json", "--expect", self.put("expect", b"* gone\n"))
         self.assertEqual(status, FOUND)
-        self.assertTrue(out.startswith('{\n "format": 1,'))
+        self.assertTrue(out.startswith('{\n "format": 2,'))
         self.assertTrue(schemas.fits(json.loads(out), unit_command.SCHEMA), out)
 
     def test_statuses(self) -> None:
