@@ -114,6 +114,8 @@ PASSED_OVER: list[Row] = [
     ("-X verbose", ["100 prctl(0x8 /* PR_SET_KEEPCAPS */, 1) = 0"], [], "end"),
     ("-X verbose", ["100 unshare(0x10000000 /* CLONE_NEWUSER */) = 0"], [], "end"),
     ("-qq, --quiet=exit", ["100 fork()                            = 101"], ["1: 100 fork = 101"], "end"),
+    ("-e signal=none, or a set without a signal that ends a process", ["100 fork()                            = 101"],
+     ["1: 100 fork = 101"], "end"),
     ("-Z, -e status=failed", ["100 setuid(0)                         = -1 EPERM (Operation not permitted)"],
      ["1: 100 setuid 0 = EPERM"], "end"),
     ("fewer calls than CALLS", ['100 write(1, "hello\\n", 6)             = 6'], [], "end"),

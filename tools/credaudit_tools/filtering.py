@@ -5,9 +5,9 @@ text that of maps and setgroups words alone. Other lines are left out and counte
 that the log can't tell, ends the recording: nothing of that kind is passed over.
 """
 import re
-from collections.abc import Callable
+from collections.abc import Callable, Collection
 
-from . import lines, plain_log, premises
+from . import births, lines, plain_log, premises
 from .executed import Executed
 from .executing import Executing
 from .filters import of_argument
@@ -40,12 +40,13 @@ class Filtering:
     """Feeds on strace's lines. `followed` has the processes at the start."""
 
     def __init__(self, followed: Followed, executed: Executed, system: System) -> None:
-        self.followed, self.executed, self.taken = followed, executed, Taken()
+        self.followed, self.executed, self.taken, self.system = followed, executed, Taken(), system
         self.maps = Maps(followed, self.taken, system)
         self.executing = Executing(followed, self.taken, system, executed)
         self.begun: dict[int, bytes | None] = {}          # None: a call that is left out
         self.changing: dict[int, int] = {}                # by a leader's pid the thread that takes it
         self.held: dict[int, list[bytes]] = {}
+        self.early: dict[int, int] = {}                   # by a parent that waits its child, whose birth is told
         self.handlers = self.table()
 
     def table(self) -> dict[bytes, Callable[[Task, Call], None]]:
@@ -71,7 +72,9 @@ class Filtering:
         if found is None:
             raise Stopped("a line of strace can't be read: it begins with no pid")
         pid, body = found
-        if pid not in self.followed.tasks:
+        if body.startswith(b"---"):
+            return
+        if pid not in self.followed.tasks and not self.is_born(pid):
             self.held.setdefault(pid, []).append(line)
             return
         self.body(pid, body)
@@ -135,6 +138,29 @@ class Filtering:
             raise Stopped(f"{pid}: a call begins as {shown(lines.name_of(front))} and ends as {shown(found.group(1))}")
         return front.rstrip(lines.BLANKS) + found.group(2)
 
+    def is_born(self, pid: int) -> bool:
+        """Whether the parent of a process that isn't known waits for it: then its birth is told now."""
+        waiting = births.waiting(self.begun, self.early)
+        parent = self.system.mother_of(pid, sorted(waiting)) if waiting else None
+        if parent is None:
+            return False
+        made = waiting[parent]
+        self.birth(self.followed.tasks[parent], Call(made.name, made.arguments, b"%d" % pid))
+        self.early[parent] = pid
+        return True
+
+    def tell_births(self, living: Collection[int]) -> None:
+        """Tells the births of those whose parents wait for them, also where they did nothing yet."""
+        for pid in sorted(living):
+            if pid not in self.followed.tasks:
+                self.is_born(pid)
+
+    def tell_end(self, pid: int) -> None:
+        """The end of a main thread whose other threads live: strace tells it with theirs."""
+        self.taken.change(f"the main thread of {pid} had ended before its other threads: its end is told at the log's"
+                          " end")
+        self.end(pid, b"+++ exited with 0 +++")
+
     def without_begin(self, pid: int, name: bytes) -> bytes | None:
         """A call that was under way as the recording began."""
         if name in (*OPENS, *COPIES, *WRITES, *ANSWERS, b"chdir", b"fchdir"):
@@ -157,6 +183,7 @@ class Filtering:
         self.taken.put(pid, body)
         self.followed.ends(pid)
         self.begun.pop(pid, None)
+        self.early.pop(pid, None)
 
     def superseded(self, leader: int, thread: int) -> None:
         """A thread that executes a file takes the leader's pid (execve(2)): the leader ends, and the thread goes on
@@ -251,6 +278,10 @@ class Filtering:
     def birth(self, task: Task, made: Call) -> None:
         """fork, vfork, clone and clone3; then come the lines that stood before."""
         flags, child, result = lines.flags_of(made), made.done, made.result
+        if task.pid in self.early:
+            if self.early.pop(task.pid) != child:
+                raise Stopped(f"{task.pid}: a birth that was under way answers {shown(result)}, which isn't its child")
+            return
         if flags is None:
             if not self.taken.fails_unread(made):
                 raise Stopped(f"{task.pid}: the flags of a birth can't be read")

@@ -3,7 +3,7 @@ may be a second one, a part of one, or one of another PID namespace (proc(5), pi
 """
 import os
 import re
-from collections.abc import Iterable
+from collections.abc import Iterable, Sequence
 from dataclasses import dataclass
 
 from .command import Failure
@@ -148,3 +148,9 @@ class RunningSystem:
     def bound_map(self, task: Task, path: bytes, followed: Followed) -> MapFile | None:
         """As MapFiles.bound, for what is followed."""
         return self.maps.bound(task.pid, self.top_of(task, followed), path, {*followed.tasks, *followed.maps})
+
+    def mother_of(self, pid: int, among: Sequence[int]) -> int | None:
+        """By the children that the kernel lists of each thread (/proc/TID/task/TID/children, proc(5))."""
+        word = b"%d" % pid
+        return next((tid for tid in among if word in (self.proc.read(tid, f"task/{tid}/children") or b"").split()),
+                    None)

@@ -5,6 +5,7 @@ A write of a map is told as an open under a number of its own, a write and a clo
 namespace that is joined. What isn't certain ends the recording.
 """
 import re
+from collections.abc import Sequence
 from typing import Protocol
 
 from . import lines, plain_log
@@ -38,6 +39,9 @@ class System(Protocol):
     def bound_map(self, task: Task, path: bytes, followed: Followed) -> MapFile | None:
         """The map file that is mounted at a path of another name, None where none is. Unclear as above, Unseen where
         the mounts can't be read."""
+
+    def mother_of(self, pid: int, among: Sequence[int]) -> int | None:
+        """The thread among these that gave birth to a process, None where none did or that isn't shown any more."""
 
 
 class Maps:

@@ -7,34 +7,38 @@ import fcntl
 import os
 import re
 import signal
-import subprocess
-import tempfile
 import time
-from collections.abc import Sequence
+from collections.abc import Iterator
+from contextlib import contextmanager
 from dataclasses import dataclass, field, replace
 from types import FrameType
 
-from . import spaces, strace_command, watching, worlds
+from . import starting, strace_command, watching, worlds
+from .awaited import Awaited
 from .command import Failure, Progress
+from .ending import Ending, Seen
 from .executed import Executed
 from .filtering import Filtering
-from .followed import Files, Followed, Place, Task
+from .followed import Followed
 from .lines import call_of, parted
 from .live import Live
+from .looks import statuses
 from .map_files import RunningSystem
-from .namespaces import INITIAL_INODE
 from .premises import BIRTHS, CREDENTIALS
-from .recording import Made, Recording, SpaceSeen
+from .recording import Made, Recording
 from .shown import few, quoted, shown
-from .statuses import Status, from_file
+from .statuses import Status
 from .stream import Stream
 from .stub import PR_SET_CHILD_SUBREAPER, begin, prctl
 from .taken import changes_text, filters_text
+from .tracing import Tracer
+from .watchdog import Watchdog
 from .watching import Glance
 
 PIPE_SIZE = 1 << 20
-ATTACH_PATIENCE, END_PATIENCE = 20.0, 2.0
+END_PATIENCE = 2.0
 POLL = 0.2
+ENDING = (signal.SIGINT, signal.SIGTERM, signal.SIGHUP)
 
 
 @dataclass
@@ -45,6 +49,7 @@ class Asked:
     user: str | None = None
     seconds: float | None = None
     until: re.Pattern[bytes] | None = None
+    until_each: re.Pattern[bytes] | None = None
     strace: str | None = None
     keep: bool = False              # the program goes on after the recording
 
@@ -61,130 +66,69 @@ class Recorder:
         self.made = Made(strace_command.version(self.strace), os.uname().release.split("-")[0])
         self.live = Live()
         self.filter = Filtering(Followed(), Executed(), RunningSystem(self.live.proc))
-        self.signalled = False
+        self.signals = 0
         self.start: dict[int, Status] = {}
+        self.living: set[int] = set()       # the processes that have to go on, or to end, after the recording
         self.rows = worlds.World()
 
     # ---- the start
 
-    def statuses(self, tids: Sequence[int]) -> dict[int, Status]:
-        """What the kernel shows of threads that don't run; `space` is the kernel's own number."""
-        found = {}
-        for tid in tids:
-            data = self.live.proc.read(tid, "status")
-            status = None if data is None else from_file(data)
-            if status is None:
-                raise Failure(f"process {tid} ended while it was looked at")
-            key = self.live.space_of(status.tgid, tid, "user")
-            found[tid] = replace(status, space=INITIAL_INODE if key is None else key)
-        return found
-
     def begin(self) -> list[int]:
-        """The processes to be attached, which have stopped."""
+        """A thread of each process to be attached; all have stopped."""
         if self.asked.words:
-            prctl(PR_SET_CHILD_SUBREAPER, 1)
-            pid, bits = begin(self.asked.words, self.asked.user)
-            self.start = self.statuses([pid])
-            own = self.start[pid]
-            self.start[pid] = replace(own, credential=replace(own.credential, sec=bits))
-            return [pid]
+            return [self.begin_program()]
         roots = self.asked.pids
-        for pid in roots:
-            self.check_is_there(pid)
-        self.check_runs(roots)
-        found = watching.bring_to_stop(
-            lambda: watching.family(watching.all_threads(self.live.proc), roots, [os.getpid()]), time.sleep)
-        self.start = self.statuses(sorted(found))
+        starting.check(self.live.proc, roots)
+        halt = watching.bring_to_stop(
+            lambda: watching.family(watching.all_threads(self.live.proc), roots, [os.getpid()]), time.sleep,
+            note=self.note_stops, is_over=self.is_signalled)
+        self.check_goes_on()
+        if halt.moving:
+            raise Failure(f"these can't be stopped, so that they could be looked at: "
+                          f"{few([str(tid) for tid in halt.moving])}")
+        self.start = statuses(self.live, sorted(halt.threads))
         self.made.notes.append("the securebits of a process that ran already can't be read: 0 is taken")
-        return sorted(watching.processes(found.values()))
+        return watching.leading(halt.threads.values())
 
-    def check_is_there(self, pid: int) -> None:
-        """Fails where a process that is asked for isn't there, or is a thread of one."""
-        seen = watching.glance(self.live.proc, pid)
-        if seen is None:
-            raise Failure(f"there is no process {pid}")
-        if seen.tgid != pid:
-            raise Failure(f"{pid} is a thread of process {seen.tgid}", f"-p {seen.tgid} records all its threads")
+    def begin_program(self) -> int:
+        """The program's process, which has stopped right before its execve."""
+        prctl(PR_SET_CHILD_SUBREAPER, 1)
+        pid, bits = begin(self.asked.words, self.asked.user, [self.watchdog.writing], self.note_own)
+        self.start = statuses(self.live, [pid])
+        own = self.start[pid]
+        self.start[pid] = replace(own, credential=replace(own.credential, sec=bits))
+        return pid
 
-    def check_runs(self, roots: Sequence[int]) -> None:
-        """Fails where a process was stopped before: the recording would let it go on in the end."""
-        threads = watching.family(watching.all_threads(self.live.proc), roots, [os.getpid()])
-        halted = sorted(watching.processes(each for each in threads.values() if each.state == watching.HALTED))
-        if halted:
-            raise Failure(f"process {few([str(pid) for pid in halted])} is stopped already, and would go on after the"
-                          " recording", "let it go on (kill -CONT), or end it")
+    def note_own(self, pid: int) -> None:
+        """The program has this process."""
+        self.watchdog.owns(pid)
+        self.living.add(pid)
 
-    def follow(self) -> None:
-        """The processes at the start, for the filter."""
-        standings: dict[int, int] = {INITIAL_INODE: 0}
-        own_mounts = os.stat("/proc/self/ns/mnt").st_ino
-        views: dict[int, int] = {own_mounts: 0}
-        followed, proc = self.filter.followed, self.live.proc
-        for tid, status in self.start.items():
-            if status.filters:
-                self.made.notes.append(f"process {tid} had {status.filters} filters of system calls before: they aren't"
-                                       " known")
-            standing = standings.setdefault(status.space, len(standings))
-            followed.spaces[status.space] = standing
-            mounts = self.live.space_of(status.tgid, tid, "mnt") or own_mounts
-            view = views.setdefault(mounts, len(views))
-            cwd, root, exe = (proc.link(tid, name) for name in ("cwd", "root", "exe"))
-            place = Place(None if cwd is None else os.fsencode(cwd), b"/", view)
-            if view == 0 and root is not None:
-                place.root = os.fsencode(root)
-            files = Files({number: os.fsencode(told) for number, told in proc.descriptors(tid).items()})
-            followed.add(Task(tid, standing, place, files, None if exe is None else os.fsencode(exe)))
-        followed.last_standing, followed.last_view = len(standings) - 1, len(views) - 1
-
-    def world(self) -> None:
-        """The rows of the processes and spaces at the start."""
-        keys = {status.space for status in self.start.values()}
-        declared = spaces.rows(self.live, keys, [])
-        self.rows.spaces = declared.rows
-        order = sorted(self.start.values(), key=lambda own: (self.depth(own), own.pid))
-        for status in order:
-            above = self.above(status)
-            space = declared.names[status.space]
-            self.rows.processes.append(worlds.Process(status.pid, status.credential, above, space))
-
-    def above(self, status: Status) -> int | None:
-        """The process's parent among those that are recorded; of a thread the leader."""
-        if status.tgid != status.pid and status.tgid in self.start:
-            return status.tgid
-        return status.parent if status.parent in self.start and status.tgid == status.pid else None
-
-    def depth(self, status: Status) -> int:
-        """How many recorded processes stand above one."""
-        above = self.above(status)
-        return 0 if above is None else 1 + self.depth(self.start[above])
+    def note_stops(self, pids: set[int]) -> None:
+        """These processes are about to be stopped."""
+        self.watchdog.stops(pids)
+        self.living |= pids
 
     # ---- the middle
 
-    def attach(self, pids: list[int], out: int, errors: int) -> subprocess.Popen[bytes]:
-        """Strace, once it traces all threads of the processes."""
-        tracer = subprocess.Popen(
-            strace_command.words(self.strace, out, pids), pass_fds=[out], stdin=subprocess.DEVNULL,
-            stdout=subprocess.DEVNULL, stderr=errors, start_new_session=True)
-        ends = time.monotonic() + ATTACH_PATIENCE
-        while True:
-            found = [watching.glance(self.live.proc, tid) for tid in self.start]
-            if all(each is not None and each.tracer == tracer.pid for each in found):
-                return tracer
-            if tracer.poll() is not None or time.monotonic() > ends:
-                tracer.kill()
-                raise Failure(f"strace can't attach: {shown(said(errors))}",
-                              "another tracer may be there, or a rule against ptrace (ptrace(2), Yama)")
-            time.sleep(0.01)
-
     def note_signal(self, _number: int, _frame: FrameType | None) -> None:
-        """A signal ends the recording."""
-        self.signalled = True
+        """A signal ends the recording; one more ends its end."""
+        self.signals += 1
 
-    def wait_for_end(self, stream: Stream) -> str:
+    def is_signalled(self) -> bool:
+        """Whether a signal came."""
+        return self.signals > 0
+
+    def check_goes_on(self) -> None:
+        """Fails where a signal came before the recording began."""
+        if self.is_signalled():
+            raise Failure("a signal ended it before the recording began")
+
+    def wait_for_end(self, tracer: Tracer, stream: Stream) -> str:
         """Reads until an end comes; which one."""
         ends = None if self.asked.seconds is None else time.monotonic() + self.asked.seconds
         how = "; Ctrl-C ends the recording" if ends is None else ""
-        while not stream.ended:
+        while not stream.ended and not (tracer.has_ended() and stream.is_empty()):
             left = POLL if ends is None else max(0.0, min(POLL, ends - time.monotonic()))
             stream.pump(left)
             self.progress.at(f"{stream.count} lines of strace, {len(self.filter.taken.lines)} kept{how}")
@@ -192,7 +136,7 @@ class Recorder:
                 return "stopped"
             if stream.reached:
                 return "line"
-            if self.signalled:
+            if self.is_signalled():
                 return "signal"
             if ends is not None and time.monotonic() >= ends:
                 return "time"
@@ -204,36 +148,9 @@ class Recorder:
         """What is traced, and what descends from the processes at the start and isn't."""
         threads = watching.all_threads(self.live.proc)
         roots = [*self.start, *([os.getpid()] if self.asked.words else [])]
-        found = watching.family(threads, roots, [tracer])
+        found = watching.family(threads, roots, [tracer, self.watchdog.pid])
         found = {tid: each for tid, each in found.items() if each.tgid != os.getpid()}
         return {**found, **watching.traced(threads, tracer)}
-
-    def look(self, tracer: subprocess.Popen[bytes], stream: Stream) -> tuple[list[Status], list[SpaceSeen], set[int]]:
-        """Stops all that lives, and looks at it: statuses, their namespaces, and the processes."""
-        def is_idle() -> bool:
-            return stream.is_empty() and self.sleeps(tracer.pid)
-        found = watching.bring_to_stop(lambda: self.members(tracer.pid), stream.pump, is_idle)
-        for tid, each in sorted(found.items()):
-            if each.tracer != tracer.pid:
-                self.doubt(BIRTHS, f"process {tid} is of the family and isn't traced: what it did isn't in the log")
-        statuses = self.statuses(sorted(found))
-        seen, numbers = self.spaces_seen({status.space for status in statuses.values()})
-        kept = [replace(each, space=numbers[each.space]) for each in statuses.values()]
-        return kept, seen, watching.processes(found.values())
-
-    def sleeps(self, pid: int) -> bool:
-        """Whether strace waits for what it traces."""
-        one = watching.glance(self.live.proc, pid)
-        return one is None or one.state == "S"
-
-    def spaces_seen(self, keys: set[int]) -> tuple[list[SpaceSeen], dict[int, int]]:
-        """The namespaces of these numbers and those above them, numbered: parents first."""
-        found = spaces.with_parents(self.live, keys)
-        order = sorted(found, key=lambda key: (spaces.depth(found, key), key))
-        numbers = {INITIAL_INODE: 0, **{key: number for number, key in enumerate(order, 1)}}
-        seen = [SpaceSeen(numbers[key], numbers.get(own.parent or INITIAL_INODE), own.owner, own.uid_map, own.gid_map,
-                          own.setgroups) for key, own in ((key, found[key]) for key in order)]
-        return seen, numbers
 
     def doubt(self, premise: str, why: str) -> None:
         """A reason why a premise may not be so (premises.py)."""
@@ -243,30 +160,28 @@ class Recorder:
         """What was seen of a premise."""
         self.made.evidence.establish(premise, by)
 
-    def let_go(self, tracer: subprocess.Popen[bytes], stream: Stream) -> None:
-        """Strace lets go, and the rest of its lines is read."""
-        if tracer.poll() is None:
-            tracer.terminate()
-        while not stream.ended:
-            stream.pump(POLL)
-        tracer.wait()
+    def ask_untraced(self, seen: Seen) -> None:
+        """What is asked of the processes once strace has let go of them, while they have stopped."""
 
-    def release(self, living: set[int]) -> None:
+    def release(self) -> None:
         """What was followed goes on, or ends."""
-        if self.asked.words and not self.asked.keep:
+        living, self.living = self.living, set()
+        ends_too = bool(self.asked.words) and not self.asked.keep
+        if ends_too:
             watching.send(living, signal.SIGTERM)
         watching.send(living, signal.SIGCONT)
-        if self.asked.words and not self.asked.keep:
-            ends = time.monotonic() + END_PATIENCE
-            while self.some_live(living) and time.monotonic() < ends:
+        self.watchdog.went_on()
+        if ends_too:
+            ends, before = time.monotonic() + END_PATIENCE, self.signals
+            while self.some_live(living) and time.monotonic() < ends and self.signals == before:
                 time.sleep(0.02)
-            watching.send(living, signal.SIGKILL)
+            watching.send({pid for pid in living if watching.lives(self.live.proc, pid)}, signal.SIGKILL)
             self.reap()
 
     def some_live(self, pids: set[int]) -> bool:
         """Whether some of these live."""
         self.reap()
-        return any(watching.glance(self.live.proc, pid) for pid in pids)
+        return any(watching.lives(self.live.proc, pid) for pid in pids)
 
     def reap(self) -> None:
         """Takes note of the ends of children, which were given to this process too."""
@@ -278,55 +193,80 @@ class Recorder:
 
     # ---- all of it
 
+    @contextmanager
+    def heard(self) -> Iterator[None]:
+        """Signals end the recording meanwhile. SIGHUP doesn't where it was ignored, as under nohup(1)."""
+        before = {number: signal.getsignal(number) for number in ENDING}
+        for number, handler in before.items():
+            if handler != signal.SIG_IGN or number != signal.SIGHUP:
+                signal.signal(number, self.note_signal)
+        try:
+            yield
+        finally:
+            for number, handler in before.items():
+                signal.signal(number, signal.SIG_DFL if handler is None else handler)
+
     def record(self) -> Recording:
         """The recording. What was stopped goes on, whatever happens."""
-        pids = self.begin()
-        living = set(pids)
-        with tempfile.TemporaryFile() as errors:
-            reading, writing = os.pipe()
-            fcntl.fcntl(writing, fcntl.F_SETPIPE_SZ, PIPE_SIZE)
-            tracer = None
+        with self.heard():
+            self.watchdog = Watchdog()
             try:
-                self.follow()
-                self.world()
-                tracer = self.attach(pids, writing, errors.fileno())
-                os.close(writing)
-                writing = -1
-                stream = Stream(reading, self.filter, self.asked.until)
-                for number in (signal.SIGINT, signal.SIGTERM, signal.SIGHUP):
-                    signal.signal(number, self.note_signal)
-                watching.send(living, signal.SIGCONT)
-                return self.followed_to_end(tracer, stream, living)
+                return self.recorded(self.begin())
             finally:
-                if tracer is not None and tracer.poll() is None:
-                    tracer.terminate()
-                self.release(living)
-                for handle in (reading, writing):
-                    if handle >= 0:
-                        os.close(handle)
+                self.release()
+                self.watchdog.leave()
                 self.live.close()
 
-    def followed_to_end(self, tracer: subprocess.Popen[bytes], stream: Stream, living: set[int]) -> Recording:
+    def recorded(self, tids: list[int]) -> Recording:
+        """The recording of processes that have stopped."""
+        self.made.notes += starting.follow(self.live, self.start, self.filter.followed)
+        self.rows = starting.rows(self.live, self.start)
+        reading, writing = os.pipe()
+        fcntl.fcntl(writing, fcntl.F_SETPIPE_SZ, PIPE_SIZE)
+        try:
+            tracer = Tracer(self.live.proc, self.strace, writing, tids)
+        finally:
+            os.close(writing)
+        try:
+            self.watchdog.traces(tracer.pid)
+            tracer.wait_until_attached(self.start, self.is_signalled)
+            watching.send(self.living, signal.SIGCONT)
+            self.watchdog.went_on()
+            if self.asked.keep:
+                self.watchdog.keeps()
+            return self.followed_to_end(tracer, Stream(reading, self.filter, self.awaited()))
+        finally:
+            tracer.close()
+            os.close(reading)
+
+    def awaited(self) -> Awaited:
+        """The lines that end it."""
+        return Awaited(self.asked.until, self.asked.until_each, lambda: self.filter.followed.tasks,
+                       lambda pid: watching.is_dead(self.live.proc, pid))
+
+    def followed_to_end(self, tracer: Tracer, stream: Stream) -> Recording:
         """The middle and the end."""
-        self.made.end = self.wait_for_end(stream)
-        statuses: list[Status] = []
-        seen: list[SpaceSeen] = []
-        if not stream.ended:
-            statuses, seen, found = self.look(tracer, stream)
-            living |= found
-        self.let_go(tracer, stream)
+        self.made.end = self.wait_for_end(tracer, stream)
+        before = self.signals
+        ending = Ending(self.live, self.filter, self.members, self.made.evidence, self.note_stops,
+                        lambda: self.signals > before)
+        seen = Seen()
+        if self.made.end == "program":
+            tracer.finish()
+            ending.read_rest(stream)
+            self.living = self.doubt_ends(tracer)
+        else:
+            seen = ending.look(tracer, stream)
+            self.living |= watching.processes(seen.threads.values())
+            self.ask_untraced(seen)
+        self.release()
         if stream.stopped is not None:
             self.doubt(BIRTHS, f"the recording was stopped: {stream.stopped}")
-        if stream.rest:
+        if stream.rest and self.made.end == "program":
             self.doubt(BIRTHS, "strace's last line is cut")
-        if self.made.end == "program":
-            living |= self.doubt_ends(tracer)
-        self.establish(BIRTHS, "all that descends from the processes at the start was traced, to its end or until it"
-                               " was looked at")
-        self.release(living)
         self.filter.finish()
         self.check_began()
-        return self.recording(statuses, seen)
+        return self.recording(seen)
 
     def check_began(self) -> None:
         """Fails where the program that was to be recorded was never executed."""
@@ -337,16 +277,17 @@ class Recorder:
             raise Failure(f"{quoted(self.asked.words[0])} can't be executed: {why}",
                           "name its interpreter before it, as sh" if "ENOEXEC" in why else "")
 
-    def doubt_ends(self, tracer: subprocess.Popen[bytes]) -> set[int]:
+    def doubt_ends(self, tracer: Tracer) -> set[int]:
         """Doubts that strace's lines ended with the program; the processes that live on."""
-        if tracer.returncode not in (0, None):
-            self.doubt(BIRTHS, f"strace ended with status {tracer.returncode}, before the program did")
+        if tracer.status not in (0, None):
+            self.doubt(BIRTHS, f"strace ended with status {tracer.status}, before the program did")
         found = self.members(tracer.pid)
         for tid in sorted(found):
             self.doubt(BIRTHS, f"process {tid} lives on and isn't traced: what it did isn't in the log")
+        self.establish(BIRTHS, "all that descends from the processes at the start was traced to its end")
         return watching.processes(found.values())
 
-    def recording(self, statuses: list[Status], seen: list[SpaceSeen]) -> Recording:
+    def recording(self, seen: Seen) -> Recording:
         """What is kept."""
         taken, executed = self.filter.taken, self.filter.executed
         self.made.evidence.add(taken.evidence)
@@ -356,11 +297,5 @@ class Recorder:
         self.rows.mounts = list(executed.mounts.values())
         self.rows.remarks = self.made.remarks()
         log = b"".join(line + b"\n" for line in taken.lines)
-        return Recording(worlds.written(self.rows), log, statuses, seen, self.made, changes_text(taken),
+        return Recording(worlds.written(self.rows), log, seen.statuses, seen.spaces, self.made, changes_text(taken),
                          filters_text(taken))
-
-
-def said(errors: int) -> bytes:
-    """What strace wrote to standard error."""
-    os.lseek(errors, 0, os.SEEK_SET)
-    return os.read(errors, 4096).replace(b"\n", b"; ").strip(b"; ") or b"it says nothing"

@@ -3,6 +3,7 @@ import os
 import re
 import shutil
 import subprocess
+from collections.abc import Sequence
 
 from .command import Failure
 
@@ -15,7 +16,7 @@ CALLS = ("(set(re|res)?[ug]id|setfs[ug]id|get(e|res)?[ug]id|[gs]etgroups|cap[gs]
 TRACE = f"trace=/^{CALLS}(32|64)?$"
 LONGEST = 65535
 OPTIONS = ("-f", "-v", "-yy", "--pidns-translation", "-s", str(LONGEST), "-e", "abbrev=execve,execveat",
-           "-e", "signal=none", "--quiet=attach,personality,path-resolution", "-e", TRACE)
+           "--quiet=attach,personality,path-resolution", "-e", TRACE)
 
 
 def find(asked: str | None = None) -> str:
@@ -38,7 +39,7 @@ def version(path: str) -> str:
     return found.group(0).decode().removeprefix("version ")
 
 
-def words(path: str, out: int, pids: list[int]) -> list[str]:
+def words(path: str, out: int, pids: Sequence[int]) -> list[str]:
     """The words that attach strace to processes; it writes to the descriptor `out`."""
     attached = [word for pid in pids for word in ("-p", str(pid))]
     return [path, *OPTIONS, "-o", f"/dev/fd/{out}", *attached]

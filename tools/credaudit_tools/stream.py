@@ -7,6 +7,7 @@ import struct
 import termios
 import time
 
+from .awaited import Awaited
 from .command import Failure
 from .filtering import Filtering
 from .taken import Stopped
@@ -14,16 +15,22 @@ from .taken import Stopped
 CHUNK = 1 << 20
 FULL, GATHER = 1 << 18, 0.01        # bytes that are worth a reading at once; else so many seconds are waited for more
 LONGEST_LINE = 1 << 26
+SIGNAL = re.compile(rb"[0-9]+ +---")    # a signal's line: no rule reads it, and there may be many
 
 
 class Stream:
     """The lines of strace, as they come."""
 
-    def __init__(self, handle: int, filter_: Filtering, until: re.Pattern[bytes] | None) -> None:
-        self.handle, self.filter, self.until = handle, filter_, until
-        self.rest, self.count, self.looked = b"", 0, 0
-        self.ended, self.reached = False, False
+    def __init__(self, handle: int, filter_: Filtering, awaited: Awaited) -> None:
+        self.handle, self.filter, self.awaited = handle, filter_, awaited
+        self.rest, self.count = b"", 0
+        self.ended = False
         self.stopped: str | None = None
+
+    @property
+    def reached(self) -> bool:
+        """Whether a line came that is waited for."""
+        return self.awaited.reached
 
     def pump(self, seconds: float) -> None:
         """Reads what there is, or waits so long for something."""
@@ -49,21 +56,27 @@ class Stream:
             return
         try:
             for line in whole:
-                self.filter.feed(line)
+                if SIGNAL.match(line) is None:
+                    self.filter.feed(line)
         except Stopped as stopped:
             self.stopped = str(stopped)
-        self.look()
-
-    def look(self) -> None:
-        """Whether a line came that is waited for."""
-        made = self.filter.taken.lines
-        if self.until is not None and not self.reached:
-            self.reached = any(self.until.search(line) for line in made[self.looked:])
-        self.looked = len(made)
+        self.awaited.look(self.filter.taken.lines)
 
     def waiting(self) -> int:
         """The bytes that strace wrote and that aren't read yet."""
         return int(struct.unpack("i", fcntl.ioctl(self.handle, termios.FIONREAD, b"\0\0\0\0"))[0])
+
+    def drain(self) -> None:
+        """Reads what strace left behind, once it has ended, and no more: another process may have the pipe too, so its
+        end may never come. Then `ended` says whether nobody has it any more."""
+        left = 0 if self.ended else self.waiting()
+        while left > 0:
+            data = os.read(self.handle, min(left, CHUNK))
+            left -= len(data)
+            self.take(data)
+        asked = select.poll()
+        asked.register(self.handle, select.POLLIN)
+        self.ended = any(events & select.POLLHUP for _, events in asked.poll(0))
 
     def is_empty(self) -> bool:
         """Whether all that strace wrote is read."""

@@ -6,12 +6,12 @@ import pwd
 import shutil
 import signal
 import struct
-from collections.abc import Sequence
+from collections.abc import Callable, Collection, Sequence
 
 from .command import Failure
 from .shown import quoted
 
-PR_GET_SECUREBITS, PR_SET_CHILD_SUBREAPER = 27, 36
+PR_SET_PDEATHSIG, PR_GET_SECUREBITS, PR_SET_CHILD_SUBREAPER = 1, 27, 36
 
 
 def prctl(option: int, value: int = 0) -> int:
@@ -27,9 +27,10 @@ def user_of(name: str) -> pwd.struct_passwd:
         raise Failure(f"there is no user {quoted(name)}") from error
 
 
-def begin(words: Sequence[str], user: str | None) -> tuple[int, int]:
+def begin(words: Sequence[str], user: str | None, without: Collection[int] = (),
+          note: Callable[[int], None] = lambda _: None) -> tuple[int, int]:
     """A process that is the program's user and has stopped right before it executes the program: its pid and
-    securebits."""
+    securebits. It doesn't have the descriptors of `without`; `note` is told of it as soon as it is there."""
     path = shutil.which(words[0]) if "/" not in words[0] else words[0]
     if path is None or not os.path.exists(path):
         raise Failure(f"{quoted(words[0])} can't be executed: it isn't there")
@@ -37,7 +38,10 @@ def begin(words: Sequence[str], user: str | None) -> tuple[int, int]:
     reading, writing = os.pipe()
     pid = os.fork()
     if pid == 0:
+        for handle in without:
+            os.close(handle)
         become(path, words, entry, writing)
+    note(pid)
     os.close(writing)
     with os.fdopen(reading, "rb") as told:
         bits = told.read(4)

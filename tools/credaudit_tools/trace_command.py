@@ -1,6 +1,7 @@
 """credaudit-trace: records a program under strace as a world, a log, and what the kernel showed at its end."""
 import argparse
 import re
+import sys
 from collections.abc import Sequence
 from dataclasses import replace
 
@@ -20,6 +21,9 @@ AFTER = """exit status:
   2  the words are wrong
   3  not recorded: the reason is told"""
 
+UNATTENDED = 60.0               # seconds of a recording that nobody can end by Ctrl-C, and for which no end was named
+UNATTENDED_SAYS = ("ended after 60 s: no terminal is there from which it could be ended, and neither --for nor --until"
+                   " says when (--for 0 records to the program's own end)")
 ADVICE = ('what was recorded ends there; docs/STRACE.md, "What stops a log", tells more. -p PID records from a later'
           ' moment on')
 
@@ -40,9 +44,12 @@ def words() -> argparse.ArgumentParser:
                      help="a process that runs already, with its threads and all that descends from it; can stand"
                           " repeatedly")
     ask.add_argument("-u", "--user", help="the user who runs the program, by name or number")
-    ask.add_argument("--for", type=command.seconds, dest="seconds", metavar="SECONDS", help="ends after this time")
+    ask.add_argument("--for", type=command.seconds, dest="seconds", metavar="SECONDS",
+                     help="ends after this time; 0: at the program's own end")
     ask.add_argument("--until", type=pattern, metavar="EXPR",
                      help="ends after a line of the log that this regular expression fits")
+    ask.add_argument("--until-each", type=pattern, metavar="EXPR",
+                     help="ends once each living process has had such a line, or comes of one that had it before")
     ask.add_argument("--keep", action="store_true", help="lets the program run on after the recording")
     ask.add_argument("--pids-from", type=command.pid_word, metavar="FIRST",
                      help="numbers the pids by birth, from FIRST on")
@@ -64,7 +71,19 @@ def main(given: Sequence[str]) -> int:
     if asked.user and asked.pid:
         tell(NAME, "-u goes with a program alone")
         return USAGE
-    return traced(asked, Asked(told, asked.pid, asked.user, asked.seconds, asked.until, asked.strace, asked.keep))
+    return traced(asked, Asked(told, asked.pid, asked.user, limit(asked), asked.until, asked.until_each, asked.strace,
+                               asked.keep))
+
+
+def is_unattended(options: argparse.Namespace) -> bool:
+    """Whether nothing says when the recording ends, and nobody is there to end it."""
+    says = any(each is not None for each in (options.seconds, options.until, options.until_each))
+    return not says and not any(each.isatty() for each in (sys.stdin, sys.stdout, sys.stderr))
+
+
+def limit(options: argparse.Namespace) -> float | None:
+    """The most seconds of a recording, None where the program's end is waited for."""
+    return UNATTENDED if is_unattended(options) else options.seconds or None
 
 
 def traced(options: argparse.Namespace, asked: Asked) -> int:
@@ -82,6 +101,8 @@ def traced(options: argparse.Namespace, asked: Asked) -> int:
     end = found.made.end if found.made else ""
     if end == "stopped":
         tell(NAME, ADVICE)
+    if end == "time" and is_unattended(options):
+        tell(NAME, UNATTENDED_SAYS)
     print(f"{shown(options.output)}: {plural(len(made.log.splitlines()), 'line')},"
           f" {plural(len(made.statuses), 'process')} at the end ({end})")
     status = GOOD if options.no_verify else verify_command.verified(NAME, options.output, tell_doubts=False)

@@ -6,7 +6,6 @@ import time
 from collections.abc import Callable, Iterable
 from dataclasses import dataclass
 
-from .command import Failure
 from .proc import Proc
 from .statuses import parts_of_file
 
@@ -14,7 +13,7 @@ DEAD = ("Z", "X", "x")
 HALTED = "T"                    # by a signal, and not by a tracer
 STOPPED = (HALTED, "t")
 STUCK = "D"
-PATIENCE, STUCK_PATIENCE, PAUSE = 10.0, 2.0, 0.03
+PATIENCE, STUCK_PATIENCE, SECOND_PATIENCE, PAUSE = 10.0, 2.0, 2.0, 0.03
 
 
 @dataclass(frozen=True)
@@ -38,6 +37,18 @@ def glance(proc: Proc, tid: int) -> Glance | None:
         return None
     switches = sum(int(parts.get(name, "0")) for name in ("voluntary_ctxt_switches", "nonvoluntary_ctxt_switches"))
     return Glance(tid, int(parts["Tgid"]), int(parts["PPid"]), parts["State"][:1], int(parts["TracerPid"]), switches)
+
+
+def lives(proc: Proc, pid: int) -> bool:
+    """Whether some thread of a process lives: its main thread may have ended before the others (pthread_exit(3))."""
+    found = (glance(proc, tid) for tid in proc.tasks(pid))
+    return any(each is not None and each.tgid == pid for each in found)
+
+
+def is_dead(proc: Proc, tid: int) -> bool:
+    """Whether a thread has ended and is still shown, as a main thread is whose other threads live."""
+    data = proc.read(tid, "status")
+    return data is not None and parts_of_file(data).get("State", "")[:1] in DEAD
 
 
 def all_threads(proc: Proc) -> dict[int, Glance]:
@@ -64,8 +75,8 @@ def family(threads: dict[int, Glance], roots: Iterable[int], without: Iterable[i
 
 
 def traced(threads: dict[int, Glance], tracer: int) -> dict[int, Glance]:
-    """The threads that a tracer traces."""
-    return {tid: each for tid, each in threads.items() if each.tracer == tracer}
+    """The threads that a tracer traces; none of nobody (0)."""
+    return {tid: each for tid, each in threads.items() if each.tracer == tracer != 0}
 
 
 def send(pids: Iterable[int], number: signal.Signals) -> None:
@@ -82,26 +93,43 @@ def processes(threads: Iterable[Glance]) -> set[int]:
     return {each.tgid for each in threads}
 
 
+@dataclass(frozen=True)
+class Halt:
+    """What came of bringing processes to a stop: their threads, and those of them that still move."""
+    threads: dict[int, Glance]
+    moving: tuple[int, ...] = ()
+
+
+def leading(threads: Iterable[Glance]) -> list[int]:
+    """A thread of each process, the main one where it lives."""
+    found: dict[int, int] = {}
+    for each in sorted(threads, key=lambda one: one.tid):
+        if each.tgid not in found or each.tid == each.tgid:
+            found[each.tgid] = each.tid
+    return sorted(found.values())
+
+
 def bring_to_stop(members: Callable[[], dict[int, Glance]], wait: Callable[[float], None],
-                  is_idle: Callable[[], bool] = lambda: True) -> dict[int, Glance]:
+                  is_idle: Callable[[], bool] = lambda: True, note: Callable[[set[int]], None] = lambda _: None,
+                  is_over: Callable[[], bool] = lambda: False, patience: float | None = None) -> Halt:
     """Stops all processes of `members`, and those that are born meanwhile, until none of their threads runs any
-    more; `wait` passes some time, `is_idle` says whether nothing is left to be told of them. Fails where one doesn't
-    stop; then all go on."""
+    more, but not longer than `patience` (PATIENCE), and not once `is_over` says so. `wait` passes some time, `is_idle`
+    says whether nothing is left to be told of them, `note` is told of the processes before they are stopped."""
     told: set[int] = set()
     last: dict[int, Glance] = {}
     begun = time.monotonic()
     while True:
         now = members()
         fresh = processes(now.values()) - told
+        note(fresh)
         send(fresh, signal.SIGSTOP)
         told |= fresh
         waited = time.monotonic() - begun
-        if not fresh and now == last and is_idle() and all(is_quiet(each, waited) for each in now.values()):
-            return now
-        if waited > PATIENCE:
-            moving = sorted(each.tid for each in now.values() if not is_quiet(each, waited))
-            send(told, signal.SIGCONT)
-            raise Failure(f"these can't be stopped, so that they could be looked at: {', '.join(map(str, moving[:8]))}")
+        moving = tuple(sorted(each.tid for each in now.values() if not is_quiet(each, waited)))
+        if not fresh and now == last and not moving and is_idle():
+            return Halt(now)
+        if waited > (PATIENCE if patience is None else patience) or is_over():
+            return Halt(now, moving)
         last = now
         wait(PAUSE)
 

@@ -52,6 +52,7 @@ class Filtered(Case):
         for pid, inner in ((100, ""), (101, ""), (102, ""), (104, "\t1")):
             self.put(f"/proc/{pid}/status", f"Name:\tx\nNSpid:\t{pid}{inner}\n".encode())
             self.put(f"/proc/{pid}/mountinfo", MOUNTS)
+        self.put("/proc/100/task/100/children", b"99 105 ")
 
     def filtering(self) -> Filtering:
         followed = Followed()

@@ -9,13 +9,14 @@ import time
 import unittest
 from unittest import mock
 
-from credaudit_tools import proc, recording, trace_command
+from credaudit_tools import proc, recording, trace_command, watching
 from credaudit_tools.command import Failure
 from credaudit_tools.stub import user_of
 
 from .support import Case
 
 MARK = "hunter-two-three"
+KILLS = os.path.join(os.path.dirname(os.path.abspath(__file__)), "..", "kill_recorder.py")
 
 
 def why_not() -> str | None:
@@ -89,6 +90,90 @@ class Traced(Case):
             self.assertEqual((status, out), (3, ""))
             self.assertIn("can't be executed: " + why, errors)
             self.assertFalse(os.path.exists(self.out))
+
+    def family(self, program: str) -> subprocess.Popen[bytes]:
+        """A program in Python that was begun before, once it has written a line."""
+        running = subprocess.Popen([sys.executable, "-u", "-c", program], stdout=subprocess.PIPE)
+        self.addCleanup(running.wait)
+        self.addCleanup(running.kill)
+        assert running.stdout is not None
+        running.stdout.readline()
+        self.addCleanup(running.stdout.close)
+        return running
+
+    def goes_on(self, pid: int) -> bool:
+        """Whether a thread of a process lives, and all of them run or wait, untraced."""
+        seen = [each for each in watching.all_threads(proc.Proc()).values() if each.tgid == pid]
+        return bool(seen) and all(each.state not in watching.STOPPED and each.tracer == 0 for each in seen)
+
+    def test_ends_by_signals(self) -> None:
+        """A process that a signal ends has its end in the log."""
+        status, out, errors = self.trace("--", "sh", "-c", "sh -c 'kill -KILL $$'; sleep 0.1; kill -TERM $$")
+        self.assertEqual((status, errors), (0, ""))
+        ends = [line.partition(b" ")[2] for line in recording.read(self.out).log.splitlines() if b"+++" in line]
+        self.assertEqual(ends, [b"+++ killed by SIGKILL +++", b"+++ exited with 0 +++", b"+++ killed by SIGTERM +++"])
+
+    def test_a_child_that_is_waited_for(self) -> None:
+        """posix_spawn of a child that opens a FIFO to which nobody writes: its parent waits in the kernel."""
+        fifo = os.path.join(self.work, "fifo")
+        os.mkfifo(fifo)
+        program = (f"import os\nos.posix_spawn('/bin/true', ['true'], {{}}, file_actions=[(os.POSIX_SPAWN_OPEN, 0,"
+                   f" {fifo!r}, os.O_RDONLY, 0)])")
+        begun = time.monotonic()
+        status, out, errors = self.trace("--for", "0.5", "--", sys.executable, "-c", program)
+        self.assertEqual((status, errors), (0, ""))
+        self.assertIn("2 processes at the end (time)", out)
+        self.assertLess(time.monotonic() - begun, 30)
+
+    def test_a_line_of_a_child_that_is_waited_for(self) -> None:
+        program = "\n".join(["import ctypes, os, time", "libc = ctypes.CDLL(None)", "libc.getegid()",
+                             "if libc.syscall(56, 0x4100 | 17, 0, 0, 0, 0) == 0:",      # CLONE_VM | CLONE_VFORK
+                             " libc.geteuid()", " time.sleep(60)"])
+        status, out, errors = self.trace("--until", "geteuid", "--for", "20", "--", sys.executable, "-c", program)
+        self.assertEqual((status, errors), (0, ""))
+        self.assertIn("(line)", out)
+
+    def test_a_main_thread_that_ends(self) -> None:
+        """Before the recording, and meanwhile; 60 is exit(2), which ends a thread alone."""
+        front = "import ctypes, threading, time\nthreading.Thread(target=time.sleep, args=(60,)).start()\n"
+        before = self.family(front + "print()\nctypes.CDLL(None).syscall(60, 0)")
+        time.sleep(0.3)
+        status, out, errors = self.trace("--for", "0.3", "-p", str(before.pid))
+        self.assertEqual((status, errors), (0, ""))
+        self.assertIn("1 process at the end (time)", out)
+        self.assertTrue(self.goes_on(before.pid))
+        meanwhile = self.family(front + "print()\ntime.sleep(1)\nctypes.CDLL(None).syscall(60, 0)")
+        shutil.rmtree(self.out)
+        status, out, errors = self.trace("--for", "2", "-p", str(meanwhile.pid))
+        self.assertEqual((status, errors), (0, ""))
+        self.assertIn("1 process at the end (time)", out)
+        self.assertTrue(self.goes_on(meanwhile.pid))
+        self.assertTrue(recording.read(self.out).log.endswith(b"%d +++ exited with 0 +++\n" % meanwhile.pid))
+
+    def test_a_recorder_that_is_killed(self) -> None:
+        """At drawn moments; tools/kill_recorder.py draws more of them."""
+        done = subprocess.run([sys.executable, KILLS, "--count", "3", "--without-root"], stdout=subprocess.PIPE,
+                              stderr=subprocess.STDOUT, check=False)
+        self.assertEqual(done.returncode, 0, done.stdout.decode())
+
+    def test_a_line_of_each(self) -> None:
+        program = "\n".join(["import os, time", "for k in range(2):", " if os.fork() == 0:", "  time.sleep(0.3 * k)",
+                             "  os.getgroups()", "  time.sleep(60)", "os.getgroups()",
+                             "time.sleep(60)"])
+        status, out, errors = self.trace("--until-each", "getgroups", "--for", "20", "--", sys.executable, "-c",
+                                         program)
+        self.assertEqual((status, errors), (0, ""))
+        self.assertIn("3 processes at the end (line)", out)
+        seen = [line.split()[0] for line in recording.read(self.out).log.splitlines() if b"getgroups" in line]
+        self.assertEqual(len(set(seen)), 3)
+
+    def test_nobody_is_there_to_end_it(self) -> None:
+        with mock.patch.object(trace_command, "UNATTENDED", 0.4), \
+                mock.patch.object(trace_command, "is_unattended", lambda _: True):
+            status, out, errors = self.trace("--", "sleep", "60")
+        self.assertEqual(status, 0)
+        self.assertIn("(time)", out)
+        self.assertIn("ended after 60 s: no terminal is there", errors)
 
     def test_a_process_that_was_stopped(self) -> None:
         running = subprocess.Popen(["sleep", "60"])

@@ -1,0 +1,41 @@
+"""What the kernel shows of threads that have stopped: their statuses, and the user namespaces in which they stand."""
+from collections.abc import Sequence
+from dataclasses import replace
+
+from . import spaces
+from .command import Failure
+from .live import Live
+from .namespaces import INITIAL_INODE
+from .recording import SpaceSeen
+from .statuses import Status, from_file
+
+
+def status_of(live: Live, tid: int) -> Status | None:
+    """What the kernel shows of a thread, None where it is gone; `space` is the kernel's own number."""
+    data = live.proc.read(tid, "status")
+    status = None if data is None else from_file(data)
+    if status is None:
+        return None
+    key = live.space_of(status.tgid, tid, "user")
+    return replace(status, space=INITIAL_INODE if key is None else key)
+
+
+def spaces_seen(live: Live, keys: set[int]) -> tuple[list[SpaceSeen], dict[int, int]]:
+    """The namespaces of these numbers and those above them, numbered: parents first."""
+    found = spaces.with_parents(live, keys)
+    order = sorted(found, key=lambda key: (spaces.depth(found, key), key))
+    numbers = {INITIAL_INODE: 0, **{key: number for number, key in enumerate(order, 1)}}
+    seen = [SpaceSeen(numbers[key], numbers.get(own.parent or INITIAL_INODE), own.owner, own.uid_map, own.gid_map,
+                      own.setgroups) for key, own in ((key, found[key]) for key in order)]
+    return seen, numbers
+
+
+def statuses(live: Live, tids: Sequence[int]) -> dict[int, Status]:
+    """What the kernel shows of threads that have stopped. Fails where one has ended."""
+    found = {}
+    for tid in tids:
+        status = status_of(live, tid)
+        if status is None:
+            raise Failure(f"process {tid} ended while it was looked at")
+        found[tid] = status
+    return found

@@ -1,0 +1,85 @@
+"""The start of a recording: what is to be recorded, checked and looked at while nothing of it runs, as the world
+declares it and as the filter of lines follows it."""
+import os
+from collections.abc import Mapping, Sequence
+
+from . import spaces, watching, worlds
+from .command import Failure
+from .followed import Files, Followed, Place, Task
+from .live import Live
+from .namespaces import INITIAL_INODE
+from .proc import Proc
+from .shown import few
+from .statuses import Status
+
+
+def check(proc: Proc, roots: Sequence[int]) -> None:
+    """Fails where a process that is asked for can't be recorded."""
+    for pid in roots:
+        check_is_there(proc, pid)
+    check_runs(proc, roots)
+
+
+def check_is_there(proc: Proc, pid: int) -> None:
+    """Fails where a process that is asked for isn't there, or is a thread of one."""
+    seen = watching.glance(proc, pid)
+    if seen is None and not watching.lives(proc, pid):
+        raise Failure(f"there is no process {pid}")
+    if seen is not None and seen.tgid != pid:
+        raise Failure(f"{pid} is a thread of process {seen.tgid}", f"-p {seen.tgid} records all its threads")
+
+
+def check_runs(proc: Proc, roots: Sequence[int]) -> None:
+    """Fails where a process was stopped before: the recording would let it go on in the end."""
+    threads = watching.family(watching.all_threads(proc), roots, [os.getpid()])
+    halted = sorted(watching.processes(each for each in threads.values() if each.state == watching.HALTED))
+    if halted:
+        raise Failure(f"process {few([str(pid) for pid in halted])} is stopped already, and would go on after the"
+                      " recording", "let it go on (kill -CONT), or end it")
+
+
+def follow(live: Live, start: Mapping[int, Status], followed: Followed) -> list[str]:
+    """Takes what lives at the start, for the filter of lines; notes on what isn't known of it."""
+    standings: dict[int, int] = {INITIAL_INODE: 0}
+    own_mounts = os.stat("/proc/self/ns/mnt").st_ino
+    views: dict[int, int] = {own_mounts: 0}
+    proc, notes = live.proc, []
+    for tid, status in start.items():
+        if status.filters:
+            notes.append(f"process {tid} had {status.filters} filters of system calls before: they aren't known")
+        standing = standings.setdefault(status.space, len(standings))
+        followed.spaces[status.space] = standing
+        mounts = live.space_of(status.tgid, tid, "mnt") or own_mounts
+        view = views.setdefault(mounts, len(views))
+        cwd, root, exe = (proc.link(tid, name) for name in ("cwd", "root", "exe"))
+        place = Place(None if cwd is None else os.fsencode(cwd), b"/", view)
+        if view == 0 and root is not None:
+            place.root = os.fsencode(root)
+        files = Files({number: os.fsencode(told) for number, told in proc.descriptors(tid).items()})
+        followed.add(Task(tid, standing, place, files, None if exe is None else os.fsencode(exe)))
+    followed.last_standing, followed.last_view = len(standings) - 1, len(views) - 1
+    return notes
+
+
+def rows(live: Live, start: Mapping[int, Status]) -> worlds.World:
+    """The rows of the processes and spaces at the start."""
+    declared = spaces.rows(live, {status.space for status in start.values()}, [])
+    made = worlds.World()
+    made.spaces = declared.rows
+    for status in sorted(start.values(), key=lambda own: (depth(start, own), own.pid)):
+        space = declared.names[status.space]
+        made.processes.append(worlds.Process(status.pid, status.credential, above(start, status), space))
+    return made
+
+
+def above(start: Mapping[int, Status], status: Status) -> int | None:
+    """The process's parent among those that are recorded; of a thread the leader."""
+    if status.tgid != status.pid and status.tgid in start:
+        return status.tgid
+    return status.parent if status.parent in start and status.tgid == status.pid else None
+
+
+def depth(start: Mapping[int, Status], status: Status) -> int:
+    """How many recorded processes stand above one."""
+    parent = above(start, status)
+    return 0 if parent is None else 1 + depth(start, start[parent])
