@@ -11,7 +11,7 @@ as lines or as JSON, the folder of certificates, and the exit statuses.
 """
 import argparse
 import os
-from collections.abc import Sequence
+from collections.abc import Callable, Sequence
 from dataclasses import dataclass, field
 
 from . import classes, expecting, rights, schemas
@@ -33,12 +33,14 @@ class Broken(Failure):
 @dataclass
 class Answers:
     """What is known of a family's rights, what another start would change, what is to be said beside it, and what each
-    answer rests on."""
+    answer rests on. `pid` is the process that is asked about, `members` all of the family."""
     title: str
     outcomes: list[Outcome] = field(default_factory=list)
     what_ifs: list[WhatIf] = field(default_factory=list)
     notes: list[str] = field(default_factory=list)
     rows: dict[Right, list[str]] = field(default_factory=dict)      # the premises that touch it, a line each
+    pid: int = 0
+    members: frozenset[int] = frozenset()
     kept: dict[Right, str] = field(default_factory=dict)
     made: dict[str, bytes] = field(default_factory=dict)    # the world and the log, where they aren't files of the user
 
@@ -113,21 +115,33 @@ def why_words(answers: Answers, asked: Sequence[Right]) -> list[str]:
             (f"{right.text()}: {kinds[right]}", *(f"  {row}" for row in answers.rows[right]))]
 
 
-COMMON_SCHEMA: dict[str, object] = {
+@dataclass(frozen=True)
+class Unexpected:
+    """A right of an answer whose class isn't expected, and those that are."""
+    answers: Answers
+    outcome: Outcome
+    wanted: tuple[str, ...]
+
+
+RIGHTS_SCHEMA: dict[str, object] = {
     "rights": [classes.SCHEMA], "counts": {kind: "number" for kind in classes.CLASSES},
-    "what_ifs": [{"with": "text", "gone": "number", "of": "number", "class": "text"}],
-    "unexpected": [{"right": "text", "class": "text", "expected": ["text"]}], "notes": ["text"]}
+    "what_ifs": [{"with": "text", "gone": "number", "of": "number", "class": "text"}]}
+END_SCHEMA: dict[str, object] = {
+    "unexpected": [{"process": "number", "right": "text", "class": "text", "expected": ["text"]}], "notes": ["text"]}
 
 
-def document(answers: Answers, new: Sequence[tuple[Outcome, tuple[str, ...]]]) -> dict[str, object]:
-    """All of it for other programs."""
+def rights_document(answers: Answers) -> dict[str, object]:
+    """The rights of an answer for other programs."""
     return {"rights": [classes.document(each, answers.kept.get(each.right)) for each in answers.outcomes],
             "counts": dict(classes.counted(answers.outcomes)),
             "what_ifs": [{"with": each.with_, "gone": each.gone, "of": each.of, "class": each.kind}
-                         for each in answers.what_ifs],
-            "unexpected": [{"right": each.right.text(), "class": each.kind, "expected": list(wanted)}
-                           for each, wanted in new],
-            "notes": answers.notes}
+                         for each in answers.what_ifs]}
+
+
+def end_document(new: Sequence[Unexpected], notes: Sequence[str]) -> dict[str, object]:
+    """What isn't expected, and the notes."""
+    return {"unexpected": [{"process": each.answers.pid, "right": each.outcome.right.text(), "class": each.outcome.kind,
+                            "expected": list(each.wanted)} for each in new], "notes": list(notes)}
 
 
 def broken(name: str, failure: Broken) -> int:
@@ -138,26 +152,37 @@ def broken(name: str, failure: Broken) -> int:
     return BROKEN
 
 
-def lines(answers: Answers, asked: argparse.Namespace) -> list[str]:
-    """What is written where no JSON is asked for."""
-    if asked.why:
-        return why_words(answers, asked.why)
-    return expecting.written(answers.outcomes) if asked.classes else words(answers)
+def lines(every: Sequence[Answers], asked: argparse.Namespace) -> list[str]:
+    """What is written where no JSON is asked for: of several answers a part each, with an empty line between."""
+    if asked.classes:
+        return expecting.written([outcome for each in every for outcome in each.outcomes])
+    parts = [words(each) if not asked.why else [*([each.title] if len(every) > 1 else []), *why_words(each, asked.why)]
+             for each in every]
+    return "\n\n".join("\n".join(part) for part in parts).split("\n")
 
 
-def told(name: str, asked: argparse.Namespace, answers: Answers, front: dict[str, object],
-         expected: Expected | None) -> int:
+def unexpected(every: Sequence[Answers], expected: Expected | None) -> list[Unexpected]:
+    """The rights whose class isn't expected, of each answer."""
+    return [Unexpected(each, outcome, wanted) for each in every
+            for outcome, wanted in (expected.new(each.outcomes) if expected is not None else [])]
+
+
+def told(name: str, asked: argparse.Namespace, every: Sequence[Answers], notes: Sequence[str],
+         expected: Expected | None, document: Callable[[Sequence[Unexpected]], dict[str, object]]) -> int:
     """Writes what was asked for; the exit status."""
+    several = len(every) > 1
     if asked.certificates is not None:
-        keep(answers, asked.certificates)
-    new = expected.new(answers.outcomes) if expected is not None else []
+        for each in every:
+            keep(each, os.path.join(asked.certificates, str(each.pid)) if several else asked.certificates)
+    new = unexpected(every, expected)
     if asked.json:
-        print(schemas.written({"format": FORMAT, **front, **document(answers, new)}))
+        print(schemas.written({"format": FORMAT, **document(new)}))
     else:
-        for line in lines(answers, asked):
+        for line in lines(every, asked):
             print(shown(line))
-    for note in answers.notes:
+    for note in [*notes, *dict.fromkeys(note for each in every for note in each.notes)]:
         tell(name, f"note: {note}")
-    for each, wanted in new:
-        tell(name, f"{each.right.text()} is {each.kind}, and expected is {' or '.join(wanted)}")
+    for odd in new:
+        right = odd.outcome.right.text() + (f" of process {odd.answers.pid}" if several else "")
+        tell(name, f"{right} is {odd.outcome.kind}, and expected is {' or '.join(odd.wanted)}")
     return FOUND if new else GOOD

@@ -50,5 +50,8 @@ def read(data: bytes) -> Expected:
 
 
 def written(outcomes: Iterable[Outcome]) -> list[str]:
-    """The lines of a text that expects what is."""
-    return [f"{each.right.text()} {each.kind}" for each in outcomes]
+    """The lines of a text that expects what is: of a right that several answers have each class."""
+    kinds = dict[Right, dict[str, None]]()
+    for each in outcomes:
+        kinds.setdefault(each.right, {})[each.kind] = None
+    return [f"{right.text()} {','.join(own)}" for right, own in kinds.items()]

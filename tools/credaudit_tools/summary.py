@@ -3,7 +3,7 @@ from collections.abc import Iterable, Sequence
 from dataclasses import dataclass, field
 
 from . import answering, log_doubts, premises, touched, verifying, world_doubts, worlds
-from .answering import Answers, Broken
+from .answering import Answers, Broken, Unexpected
 from .asking import Asking, Files
 from .command import Failure, Says, silent
 from .end_world import births_of, end_of
@@ -138,17 +138,21 @@ def unseen_groups(report: Report, first: int, family: Iterable[int]) -> list[str
             " seen; record it with the groups that it has in earnest"]
 
 
-def chosen(world: World, report: Report, pid: int | None) -> int:
-    """The process that is asked about: the named one, or the first of the world that lives. Fails where it doesn't
-    live at the end."""
+def chosen(world: World, report: Report, pid: int | None) -> list[int]:
+    """The processes that are asked about: the named one, or so many that each which lives is one of them or descends
+    from one: those without a living ancestor, those of the world first. Fails where none of them lives at the end."""
     alive = report.alive()
     if pid is None:
-        pid = next((row.pid for row in world.processes if row.pid in alive), min(alive, default=None))
-    if pid is None or pid not in alive:
+        parents = births_of(world, report).parents
+        found = [each for each, above in parents.items() if above is None and each in alive]
+        found += sorted(set(alive) - {each for root in found for each in births_of(world, report).family(root)})
+    else:
+        found = [pid] if pid in alive else []
+    if not found:
         who = "no process lives" if pid is None else f"process {pid} doesn't live"
         living = few([str(each) for each in sorted(alive)])
         raise Failure(f"{who} at the log's end", f"these do: {living}" if alive else "there is nothing to ask about")
-    return pid
+    return found
 
 
 # ---- the whole -------------------------------------------------------------------------------------------------------
@@ -178,26 +182,20 @@ def evidence_of(given: Given, facts: Facts) -> Evidence:
     return found
 
 
-@dataclass(frozen=True)
+@dataclass
 class Summary:
-    """The answers, and of which process."""
-    answers: Answers
-    pid: int
+    """The answers, a process with its family each, and what is to be said beside them."""
+    answers: list[Answers]
     scanned: bool
+    notes: list[str]
 
 
-def summed_up(ask: Asking, given: Given, pid: int | None, more: Sequence[Right]) -> Summary:
-    """What the program says of each right of the process, and of those that are named beside."""
-    unaltered(given)
-    report = accepted(ask, given)
-    of_older(given)
-    of_recording(given, report, ask.says)
-    pid = chosen(given.world, report, pid)
+def answer(ask: Asking, given: Given, report: Report, pid: int, more: Sequence[Right]) -> Answers:
+    """What the program says of each right of a process, and of those that are named beside."""
     first = at_start(given.world, report, pid)
     own = rights_of(report, first) if any(each.pid == first for each in report.start) else []
     end = end_of(given.world, report, pid)
-    evidence = evidence_of(given, facts_of(given.world, report, given.log, end))
-    family = Family(given.files, pid, end, evidence)
+    family = Family(given.files, pid, end, evidence_of(given, facts_of(given.world, report, given.log, end)))
     same_as_replayed(ask, family)
     judge = Judge(ask, family)
     outcomes = judge.outcomes(list(dict.fromkeys([*own, *more])))
@@ -205,15 +203,40 @@ def summed_up(ask: Asking, given: Given, pid: int | None, more: Sequence[Right])
     title = process_words(one, end.spaces.named[one.space] if one.space != INITIAL else None)
     if len(end.family) > 1:
         title += f"; with {plural(len(end.family) - 1, 'process')} that it started"
+    members = [each.pid for each in end.family]
+    rows = {each.right: list(family.evidence.rows(each.right, family.space(each.right))) for each in outcomes}
+    return Answers(title, outcomes, judge.what_ifs(outcomes), unseen_groups(report, first, members), rows, pid,
+                   frozenset(members))
+
+
+def summed_up(ask: Asking, given: Given, pid: int | None, more: Sequence[Right]) -> Summary:
+    """What the program says of the rights of a process, or, where none is named, of all that live at the log's end."""
+    unaltered(given)
+    report = accepted(ask, given)
+    of_older(given)
+    of_recording(given, report, ask.says)
+    answers = [answer(ask, given, report, each, more) for each in chosen(given.world, report, pid)]
+    without = set(report.alive()) - {member for each in answers for member in each.members}
     found = suspicion(given, report)
-    notes = [*given.notes, *ask.notes, *unseen_groups(report, first, [each.pid for each in end.family]),
-             *(f"suspect: {each.why}" for each in found[:SUSPECT])]
+    notes = [*given.notes, *ask.notes, *(f"suspect: {each.why}" for each in found[:SUSPECT])]
     if len(found) > SUSPECT:
         notes.append(f"credaudit-lint tells {len(found) - SUSPECT} more suspect things")
-    rows = {each.right: list(evidence.rows(each.right, family.space(each.right))) for each in outcomes}
-    return Summary(Answers(title, outcomes, judge.what_ifs(outcomes), notes, rows), pid,
-                   premises.SCAN in evidence.established)
+    if without:
+        names = few([str(each) for each in sorted(without)])
+        if pid is None:
+            raise Failure(f"process {names} lives at the log's end, and stands in no answer")
+        notes.append(f"nothing is said of process {names}, which lives too")
+    return Summary(answers, premises.SCAN in given.evidence.established, notes)
 
 
-SCHEMA: dict[str, object] = {"format": "number", "process": "number", "about": "text", "scanned": "flag",
-                             **answering.COMMON_SCHEMA}
+SCHEMA: dict[str, object] = {
+    "format": "number", "scanned": "flag",
+    "answers": [dict[str, object](process="number", about="text", **answering.RIGHTS_SCHEMA, notes=["text"])],
+    **answering.END_SCHEMA}
+
+
+def document(made: Summary, new: Sequence[Unexpected]) -> dict[str, object]:
+    """All of it for other programs."""
+    answers = [{"process": each.pid, "about": each.title, **answering.rights_document(each), "notes": each.notes}
+               for each in made.answers]
+    return {"scanned": made.scanned, "answers": answers, **answering.end_document(new, made.notes)}

@@ -16,7 +16,8 @@ from .summary import Given, Summary
 NAME = "credaudit-summary"
 SAYS = """Tells for each right that a process had at the start of a log what became of it: held, regained by its own
 calls or through a program, gone, or open. Every verdict is credaudit's. RECORDING is a folder that credaudit-trace
-wrote; of it the first process that lives at the end is asked about, where PID isn't given."""
+wrote; where PID isn't given, each process that lives at its end stands in an answer: it is asked about, or one of its
+ancestors is."""
 AFTER = """exit status:
   0  it is told, and each class is an expected one
   1  a right has another class than expected
@@ -102,11 +103,10 @@ def summed_up(asked: argparse.Namespace, progress: Progress) -> int:
         if asked.files is not None:
             given = with_scan(ask, given, asked.files)
         made: Summary = summary.summed_up(ask, given, asked.pid, answering.all_rights(asked, (), expected))
-    answers = made.answers
     if given.made:
-        answers.made = {recording.WORLD: given.text, recording.LOG: given.log}
-    front: dict[str, object] = {"process": made.pid, "about": answers.title, "scanned": made.scanned}
-    return answering.told(NAME, asked, answers, front, expected)
+        for each in made.answers:
+            each.made = {recording.WORLD: given.text, recording.LOG: given.log}
+    return answering.told(NAME, asked, made.answers, made.notes, expected, lambda new: summary.document(made, new))
 
 
 def main(given: Sequence[str]) -> int:

@@ -5,7 +5,7 @@ from collections.abc import Sequence
 
 from . import (answering, command, evidence_text, premises, touched, unit_files, unit_settings, unit_world, users,
                worlds)
-from .answering import Answers, Broken
+from .answering import Answers, Broken, Unexpected
 from .asking import Asking, asking
 from .command import Failure, Progress, Says, tell
 from .end_world import end_of
@@ -33,7 +33,7 @@ AFTER = """exit status:
   4  the unit isn't there, is masked, or wouldn't start as it is written"""
 IMPOSSIBLE = 3          # the program's status for a line that the rules refuse
 SCHEMA: dict[str, object] = {"format": "number", "unit": "text", "files": ["text"], "world": "text", "log": "text",
-                             "scanned": "flag", **answering.COMMON_SCHEMA}
+                             "scanned": "flag", **answering.RIGHTS_SCHEMA, **answering.END_SCHEMA}
 
 
 def words_of(given: Sequence[str]) -> argparse.Namespace:
@@ -107,7 +107,7 @@ def judged(ask: Asking, made: Made, rights: Sequence[Right]) -> Answers:
     one = end.family[0]
     title = process_words(one, end.spaces.named[one.space] if one.space != INITIAL else None)
     rows = {each.right: list(evidence.rows(each.right, family.space(each.right))) for each in outcomes}
-    return Answers(title, outcomes, judge.what_ifs(outcomes), [*made.notes, *ask.notes], rows)
+    return Answers(title, outcomes, judge.what_ifs(outcomes), [*made.notes, *ask.notes], rows, unit_world.PID)
 
 
 def answered(asked: argparse.Namespace, says: Says) -> int:
@@ -126,7 +126,10 @@ def answered(asked: argparse.Namespace, says: Says) -> int:
     answers.made = {"world.toml": worlds.written(made.world), "log": made.log}
     front: dict[str, object] = {"unit": unit.name, "files": unit.files, "world": worlds.written(made.world).decode(),
                                 "log": made.log.decode(), "scanned": premises.SCAN in made.evidence.established}
-    return answering.told(NAME, asked, answers, front, expected)
+
+    def document(new: Sequence[Unexpected]) -> dict[str, object]:
+        return {**front, **answering.rights_document(answers), **answering.end_document(new, answers.notes)}
+    return answering.told(NAME, asked, [answers], [], expected, document)
 
 
 def main(given: Sequence[str]) -> int:

@@ -192,8 +192,9 @@ def compare_spaces(kept: Recording, now: Replayed, verdict: Verdict) -> None:
         if len(pairs) > 1:
             verdict.notes.append("the recording doesn't tell the maps of its user namespaces: they aren't compared")
         return
-    verdict.evidence.establish(MAPS, f"{plural(len(kept.spaces), 'user namespace')} that processes stand in at the end"
-                                     " compared with the kernel's, but for the initial one")
+    others = f"{plural(len(kept.spaces), 'user namespace')} compared with what the kernel showed at the end"
+    none = "at the end all processes stand in the initial user namespace, for the kernel too"
+    verdict.evidence.establish(MAPS, others if kept.spaces else none)
     seen = {space.number: space for space in kept.spaces}
     names = {number: name for name, number in pairs}
     for name, number in sorted(pairs - {(INITIAL, 0)}):

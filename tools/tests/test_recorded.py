@@ -82,7 +82,7 @@ class Told(support.Case):
             with self.subTest(name, pid=pid), mock.patch.object(summary_command, "Program", program):
                 status, out, errors = self.told(summary_command.main, "--json", *asked, os.path.join(FOLDER, name), pid)
                 self.assertEqual(status, GOOD, errors)
-                told = {each["right"]: each for each in json.loads(out)["rights"]}
+                told = {each["right"]: each for each in json.loads(out)["answers"][0]["rights"]}
                 self.assertEqual({right: told[right]["class"] for right in wanted}, wanted)
                 for each in told.values():      # of what is held it is known by what
                     front = f"process {each['holder']} (" if each["class"] == HELD else ""
