@@ -25,11 +25,9 @@ HERE = os.path.dirname(os.path.abspath(__file__))
 TOOLS = os.path.normpath(os.path.join(HERE, "..", "..", "tools"))
 sys.path.insert(0, TOOLS)
 
-from credaudit_tools import strace_command, verify_command, watching  # noqa: E402
+from credaudit_tools import recording, strace_command, verify_command, watching  # noqa: E402
 from credaudit_tools.command import Failure  # noqa: E402
-from credaudit_tools.files import read_regular, write_new  # noqa: E402
 from credaudit_tools.proc import Proc, needs_root  # noqa: E402
-from credaudit_tools.recording import WORLD  # noqa: E402
 from credaudit_tools.statuses import from_file  # noqa: E402
 from credaudit_tools.worlds import remark  # noqa: E402
 from programs import PROGRAMS, USERS, Program  # noqa: E402
@@ -160,8 +158,9 @@ def record(recorder: Recorder, program: Program) -> int:
     if tracing.returncode not in (0, 1):
         raise Failed(said.strip())
     # What the program is told stands above the rest of the world.
-    world = read_regular(os.path.join(folder, WORLD))
-    write_new(folder, WORLD, remark(program.says).encode() + b"\n" + world)
+    kept = recording.read(folder)
+    kept.world = remark(program.says).encode() + b"\n" + kept.world
+    recording.write(folder, kept)
     return verify_command.verified("record.py", folder)
 
 

@@ -6,14 +6,14 @@ What may be missing for a `yes` is a doubt.
 import os
 from dataclasses import dataclass, field
 
-from . import programs, spaces, worlds
+from . import programs, rings, spaces, worlds
 from .command import Failure, Says
 from .evidence import Evidence
 from .family import Family
 from .kernel import Kernel, Trouble
 from .marks import SCANNED, UNSCANNED
 from .members import heads, merged, process_notes, process_rows
-from .premises import BIRTHS, CREDENTIALS, MAPS, SCAN
+from .premises import ANSWERS, BIRTHS, CREDENTIALS, MAPS, RINGS, SCAN, SECUREBITS
 from .scan import Scan
 from .shown import few, plural, quoted
 
@@ -80,6 +80,9 @@ def captured(kernel: Kernel, family: Family, wishes: Wishes, says: Says) -> Capt
     for premise in (BIRTHS, CREDENTIALS):
         evidence.establish(premise, f"the family was read from /proc until two of {family.readings} readings agreed")
     evidence.establish(MAPS, "the kernel showed the user namespaces of the system, with owners and maps")
+    evidence.establish(ANSWERS, "nothing was followed: the family is as the kernel shows it")
+    evidence.establish(SECUREBITS, "counted as 0, by which a member can get more")
+    look_for_rings(kernel, family, evidence)
     world.spaces, world.processes = made.rows, process_rows(family, made.names)
     capture.notes += process_notes(kernel, family)
     if family.ran:
@@ -104,6 +107,13 @@ def captured(kernel: Kernel, family: Family, wishes: Wishes, says: Says) -> Capt
     world.remarks = [*front(kernel, family), SCANNED if wishes.files else UNSCANNED, *capture.notes,
                      *("doubt: " + doubt for doubt in capture.doubts)]
     return capture
+
+
+def look_for_rings(kernel: Kernel, family: Family, evidence: Evidence) -> None:
+    """Whether a ring of io_uring acts for a member."""
+    evidence.establish(RINGS, "no member has a descriptor, memory or a thread of a ring of io_uring")
+    for text in rings.doubts(kernel.proc, sorted(family.threads), "now"):
+        evidence.doubt(RINGS, text)
 
 
 def limits(world: worlds.World) -> None:

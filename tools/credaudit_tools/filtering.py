@@ -8,13 +8,15 @@ import re
 from collections.abc import Callable, Collection
 
 from . import births, lines, plain_log, premises
+from .call_numbers import numbers_of
 from .executed import Executed
 from .executing import Executing
-from .filters import of_argument
-from .followed import Followed, Task
+from .filters import installing, of_argument
+from .followed import UNKNOWN, Followed, Task
 from .lines import Call
 from .map_files import NAMES
 from .map_writes import LIKE_MAP, TRANSFERS, Maps, System
+from .names import securebits_value
 from .shown import shown
 from .taken import Stopped, Taken
 
@@ -24,6 +26,9 @@ ANSWERS = (b"getuid", b"geteuid", b"getgid", b"getegid", b"getresuid", b"getresg
 WRITES = (b"write", b"writev", b"pwrite64", b"pwritev", b"pwritev2")
 OPENS = (b"open", b"openat", b"openat2", b"creat")
 COPIES = (b"dup", b"dup2", b"dup3", b"fcntl", b"fcntl64")
+RINGS = (b"io_uring_setup", b"io_uring_enter", b"io_uring_register")
+ANSWER_ZERO = (b"setuid", b"setreuid", b"setresuid", b"setgid", b"setregid", b"setresgid", b"setgroups", b"capset",
+               b"prctl", b"unshare", b"setns", b"execve", b"execveat", b"chdir", b"fchdir", b"chroot", b"pivot_root")
 PRCTLS = (b"PR_SET_KEEPCAPS", b"PR_SET_NO_NEW_PRIVS", b"PR_SET_SECUREBITS", b"PR_CAPBSET_DROP", b"PR_CAP_AMBIENT",
           b"PR_GET_KEEPCAPS", b"PR_GET_NO_NEW_PRIVS", b"PR_GET_SECUREBITS", b"PR_CAPBSET_READ")
 QUOTED = rb'"(?:[^"\\]|\\.)*"(?:\.\.\.)?'
@@ -57,7 +62,7 @@ class Filtering:
             ((b"prctl",), self.prctl), ((b"seccomp",), self.seccomp), ((b"unshare",), self.unshare),
             ((b"fork", b"vfork", b"clone", b"clone3"), self.birth), ((b"setns",), maps.setns), (OPENS, maps.open),
             (COPIES, maps.copy), (WRITES, maps.write), (tuple(TRANSFERS), maps.transfer),
-            ((b"io_uring_setup",), maps.io_uring), ((b"execve", b"execveat"), executing.execve),
+            (RINGS, maps.io_uring), ((b"execve", b"execveat"), executing.execve),
             ((b"chdir", b"fchdir"), executing.chdir), ((b"chroot",), executing.chroot),
             ((b"pivot_root",), executing.pivot_root)]
         return {name: handler for names, handler in kinds for name in names}
@@ -223,6 +228,9 @@ class Filtering:
             self.taken.left_out["calls that never answered"] += 1
             return
         made = Call(made.name.removesuffix(b"32"), made.arguments, made.result)
+        if is_trapped(made):
+            self.taken.left_out["calls that a filter answered by a trap"] += 1
+            return
         handler = self.handlers.get(made.name)
         if handler is None:
             self.taken.left_out["calls that no rule reads"] += 1
@@ -251,26 +259,23 @@ class Filtering:
         """prctl(2): the options that set or show credentials stay."""
         option = made.arguments[0] if made.arguments else b""
         if option == b"PR_SET_SECCOMP":
-            if b"SECCOMP_MODE_FILTER" in made.arguments[1:2]:
-                self.installed(task, made, made.arguments[2:3])
+            self.seccomp(task, made)
         elif option not in PRCTLS:
             self.taken.left_out["prctl of other options"] += 1
         elif all(re.fullmatch(rb"[0-9]{11,}", argument) is None for argument in made.arguments[1:2]):
             self.keep(task, made)
+            note_securebits(task, made)
         elif not self.taken.fails_unread(made):
             raise Stopped(f"{task.pid}: the number of a prctl can't be read")
 
     def seccomp(self, task: Task, made: Call) -> None:
-        """seccomp(2): filters that are installed are noted."""
-        if made.arguments[:1] == (b"SECCOMP_SET_MODE_FILTER",):
-            self.installed(task, made, made.arguments[2:3])
-
-    def installed(self, task: Task, made: Call, argument: tuple[bytes, ...]) -> None:
-        """A filter of system calls was installed."""
-        if made.done is None:
+        """seccomp(2) and prctl(2): filters that are installed are noted."""
+        told = installing(made)
+        if told is None:
             return
-        found = of_argument(task.pid, argument[0] if argument else b"")
+        found = of_argument(task.pid, told.argument, len(self.followed.tasks) == 1)
         self.taken.filters.append(found)
+        self.followed.installed(task, found, told.for_all)
         for doubt in found.doubts:
             self.taken.doubt(premises.ANSWERS, f"process {task.pid} installed a filter that {doubt}: what its calls"
                                                " told may not have happened")
@@ -304,3 +309,22 @@ class Filtering:
         self.keep(task, made)
         if made.done is not None and made.arguments:
             self.followed.unshared(task, lines.words(made.arguments[0]))
+
+
+def is_trapped(made: Call) -> bool:
+    """Whether a filter trapped a call that answers 0 where it is made: strace writes the call's own number then
+    (SECCOMP_RET_TRAP of seccomp(2))."""
+    name = made.name.decode("ascii", "replace")
+    return bool(made.done) and made.name in ANSWER_ZERO and made.done in [each for _, each in numbers_of(name)]
+
+
+def note_securebits(task: Task, made: Call) -> None:
+    """Takes note of securebits that were set, and of those that a later call showed to be so
+    (PR_SET_SECUREBITS(2const), PR_GET_SECUREBITS(2const))."""
+    if made.done is None:
+        return
+    if made.arguments[0] == b"PR_SET_SECUREBITS" and len(made.arguments) > 1:
+        bits = securebits_value(made.arguments[1].decode("ascii", "replace"))
+        task.securebits = UNKNOWN if bits is None else bits
+    elif made.arguments[0] == b"PR_GET_SECUREBITS" and task.securebits == made.done:
+        task.securebits = None

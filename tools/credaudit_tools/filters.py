@@ -1,35 +1,75 @@
-"""Filters of system calls (seccomp(2)) as strace writes them: what an installed one may answer."""
-import re
+"""Filters of system calls (seccomp(2)) as a log tells of them: what each may answer in the kernel's place, and which
+stand for each thread."""
 from dataclasses import dataclass
 
-RETURN = re.compile(rb"BPF_STMT\(BPF_RET\|(BPF_[AKX]), ([^)]*)\)")
-ACTIONS = {b"SECCOMP_RET_USER_NOTIF": "hands calls to another process (user notification), which may answer anything",
-           b"SECCOMP_RET_TRACE": "hands calls to a tracer, which may answer anything"}
+from .bpf import Program, of_text
+from .filter_verdicts import fakes
+from .lines import Call, words
+from .shown import few
+
+SHOWN_NAMES = 3
+NOT_WHOLE = "isn't shown whole"
 
 
 @dataclass(frozen=True)
 class Filter:
-    """An installed filter: its text, and why what it answers can't be trusted."""
+    """A filter that was installed: by whom, its text, its program where it is shown whole, and why what it answers
+    can't be trusted. `before` is set where it stood before the recording began, `alone` where nobody else of the
+    recording lived as it was installed: then nothing of it could be exchanged while strace read it."""
     pid: int
     text: str
+    program: Program | None
     doubts: tuple[str, ...]
+    before: bool = False
+    alone: bool = True
 
 
-def doubt_of(kind: bytes, told: bytes) -> str | None:
-    """Why a return may hide a call that wasn't made; None where it doesn't."""
-    if kind != b"BPF_K":
-        return "answers what it works out, which isn't known"
-    words = told.split(b"|")
-    if words[0] == b"SECCOMP_RET_ERRNO" and all(word in (b"0", b"0x0") for word in words[1:]):
-        return "answers calls with success, without making them"
-    return ACTIONS.get(words[0])
+def doubts_of(program: Program) -> tuple[str, ...]:
+    """Why what a filter answers can't be trusted, with the calls."""
+    names: dict[str, list[str]] = {}
+    for name, why in fakes((program,)).items():
+        names.setdefault(why, []).append(name)
+    return tuple(f"{why} ({few(told, SHOWN_NAMES)})" for why, told in sorted(names.items()))
 
 
-def of_argument(pid: int, argument: bytes) -> Filter:
+def of_argument(pid: int, argument: bytes, alone: bool = True) -> Filter:
     """The filter of the argument that strace decoded."""
-    returns = RETURN.findall(argument)
-    whole = argument.startswith(b"{len=") and b"filter=[" in argument and b"..." not in argument and returns
-    doubts = {doubt for kind, told in returns if (doubt := doubt_of(kind, told)) is not None}
-    if not whole:
-        doubts.add("isn't shown whole")
-    return Filter(pid, argument.decode("ascii", "backslashreplace"), tuple(sorted(doubts)))
+    program = of_text(argument)
+    doubts = (NOT_WHOLE,) if program is None else doubts_of(program)
+    return Filter(pid, argument.decode("ascii", "backslashreplace"), program, doubts, alone=alone)
+
+
+def before(pid: int, program: Program | None) -> Filter:
+    """A filter that stood before the recording began; None where it isn't known."""
+    return Filter(pid, "", program, () if program is None else doubts_of(program), before=True)
+
+
+# ---- calls that install one ------------------------------------------------------------------------------------------
+
+
+@dataclass(frozen=True)
+class Installing:
+    """A call that installed a filter: its argument, and whether all threads of the process have it."""
+    argument: bytes
+    for_all: bool
+
+
+def installing(call: Call) -> Installing | None:
+    """What a call installed, None where it installed no filter. With SECCOMP_FILTER_FLAG_TSYNC and without a listener a
+    positive number is that of a thread which kept it from being installed."""
+    if call.done is None:
+        return None
+    if call.name == b"prctl" and call.arguments[:2] == (b"PR_SET_SECCOMP", b"SECCOMP_MODE_FILTER"):
+        return Installing(argument_of(call), False)
+    if call.name != b"seccomp" or call.arguments[:1] != (b"SECCOMP_SET_MODE_FILTER",):
+        return None
+    flags = words(call.arguments[1]) if len(call.arguments) > 1 else []
+    for_all = b"SECCOMP_FILTER_FLAG_TSYNC" in flags
+    if for_all and call.done > 0 and b"SECCOMP_FILTER_FLAG_NEW_LISTENER" not in flags:
+        return None
+    return Installing(argument_of(call), for_all)
+
+
+def argument_of(call: Call) -> bytes:
+    """The text of a filter."""
+    return call.arguments[2] if len(call.arguments) > 2 else b""

@@ -5,7 +5,9 @@ User namespaces are told apart by numbers of this module's own, called standings
 """
 from dataclasses import dataclass, field, replace
 
-UNKNOWN = -1        # the standing of a process that isn't followed
+from .filters import Filter
+
+UNKNOWN = -1        # the standing of a process that isn't followed; securebits that can't be read
 
 
 @dataclass
@@ -58,12 +60,16 @@ class Files:
 
 @dataclass
 class Task:
-    """A thread."""
+    """A thread. `process` is the one to which it belongs, `filters` are those that stand for it, the first installed
+    first, `securebits` those that a call set and no later one showed, UNKNOWN where its words can't be read."""
     pid: int
     standing: int
     place: Place
     files: Files
     exe: bytes | None = None
+    process: int = 0
+    filters: tuple[Filter, ...] = ()
+    securebits: int | None = None
 
 
 @dataclass
@@ -99,7 +105,15 @@ class Followed:
             place.view = self.new_view()
         files = parent.files if b"CLONE_FILES" in flags else parent.files.copied()
         standing = self.new_standing() if b"CLONE_NEWUSER" in flags else parent.standing
-        self.add(Task(pid, standing, place, files, parent.exe))
+        process = parent.process if b"CLONE_THREAD" in flags else pid
+        self.add(Task(pid, standing, place, files, parent.exe, process, parent.filters, parent.securebits))
+
+    def installed(self, task: Task, found: Filter, for_all: bool) -> None:
+        """A filter was installed; for all threads of its process they have what its own has then (seccomp(2))."""
+        task.filters = (*task.filters, found)
+        for other in self.tasks.values():
+            if for_all and other.process == task.process:
+                other.filters = task.filters
 
     def stands(self, task: Task, standing: int) -> None:
         """A process stands in another user namespace."""

@@ -137,7 +137,7 @@ def transferred(line: Line) -> Iterator[Doubt]:
     if call is not None and call.done is not None and (call.name == b"pidfd_getfd" or b"SCM_RIGHTS" in line.body):
         yield ("transferred", "a descriptor comes from another process: what is written to it isn't followed",
                "record with credaudit-trace, which tells whether it is a map")
-    if call is not None and call.done is not None and call.name == b"io_uring_setup":
+    if call is not None and call.done is not None and call.name.startswith(b"io_uring_"):
         yield ("io_uring", "calls by io_uring leave no line",
                "record where io_uring is off (sysctl kernel.io_uring_disabled=2)")
 
@@ -152,23 +152,11 @@ def untraced(line: Line) -> Iterator[Doubt]:
                "declare it in a world of its own, or run the program without that flag")
 
 
-def filter_argument(call: Call) -> bytes | None:
-    """The text of the filter that a call installs."""
-    if call.done is None:
-        return None
-    if call.name == b"seccomp" and call.arguments[:1] == (b"SECCOMP_SET_MODE_FILTER",) and len(call.arguments) > 2:
-        return call.arguments[2]
-    by_prctl = call.name == b"prctl" and call.arguments[:2] == (b"PR_SET_SECCOMP", b"SECCOMP_MODE_FILTER")
-    if by_prctl and len(call.arguments) > 2:
-        return call.arguments[2]
-    return None
-
-
 def filtered(line: Line) -> Iterator[Doubt]:
     """Filters that answer in the kernel's place."""
-    argument = filter_argument(line.call) if line.call is not None else None
-    if argument is not None:
-        for why in filters.of_argument(line.pid, argument).doubts:
+    told = filters.installing(line.call) if line.call is not None else None
+    if told is not None:
+        for why in filters.of_argument(line.pid, told.argument).doubts:
             yield ("filter: " + why, f"a filter of system calls {why}",
                    "what its process seemed to do afterwards isn't certain")
 

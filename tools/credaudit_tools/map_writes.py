@@ -250,7 +250,7 @@ class Maps:
         return 0 < count < PAGE and path.startswith(b"/") and self.bound_map(task, path) is not None
 
     def io_uring(self, task: Task, made: Call) -> None:
-        """io_uring_setup(2)."""
+        """io_uring_setup(2), io_uring_enter(2), io_uring_register(2)."""
         if made.done is not None:
             self.taken.doubt(RINGS, f"process {task.pid} uses io_uring: what it opens and writes by that isn't in the"
                                     " log")

@@ -1,5 +1,6 @@
 """Names that worlds, logs, reports and /proc share: capabilities (capabilities(7)), the fields of a credential,
 errors."""
+import re
 
 CAPABILITIES = (
     "CHOWN DAC_OVERRIDE DAC_READ_SEARCH FOWNER FSETID KILL SETGID SETUID SETPCAP LINUX_IMMUTABLE NET_BIND_SERVICE"
@@ -11,6 +12,21 @@ NUMBERS = {"CAP_" + name: number for number, name in enumerate(CAPABILITIES)}
 SECUREBITS = {"NOROOT": 0x01, "NO_SETUID_FIXUP": 0x04, "KEEP_CAPS": 0x10, "NO_CAP_AMBIENT_RAISE": 0x40}
 BIRTHS = ("fork", "vfork", "clone", "clone3")
 MAP_FILES = ("uid_map", "gid_map", "setgroups")
+
+
+def securebits_value(text: str) -> int | None:
+    """The number of securebits as strace writes them: names SECBIT_.. and numbers between bars; None for other
+    texts."""
+    bits = 0
+    for word in text.split("|"):
+        name = word.removeprefix("SECBIT_")
+        if name.removesuffix("_LOCKED") in SECUREBITS and name != word:
+            bits |= SECUREBITS[name.removesuffix("_LOCKED")] << name.endswith("_LOCKED")
+        elif re.fullmatch("0|0x[0-9a-f]+", word):
+            bits |= int(word, 0)
+        else:
+            return None
+    return bits
 
 
 def capability_text(text: str) -> int | None:

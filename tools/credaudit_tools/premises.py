@@ -39,8 +39,10 @@ TABLE = (
             " looked at; at the end the same processes live for the kernel as in the replay",
             "a process that wasn't traced, a birth that isn't told, strace's lines cut or stopped"),
     Premise(ANSWERS, "the answers in the log are the kernel's",
-            "the recorder: no filter of system calls, tracer or notification could answer a listed call in its place",
-            "a filter that can answer success without making the call, or one that can't be read"),
+            "the recorder: the filters of all that lived at the end, as the kernel shows them, are the log's, and none"
+            " can answer a call of the log in its place; where they aren't shown, as many stand as the log tells",
+            "a filter that can answer success without making the call, one that was exchanged as it was read, or one"
+            " that can't be read"),
     Premise(CREDENTIALS, "at the end each member is for the kernel what it is in the replay",
             "the comparison of the replay with /proc/PID/status of each thread that lives at the end",
             "a difference, or no process that could be compared"),
@@ -48,10 +50,12 @@ TABLE = (
             "the comparison of the replay with the namespaces of all that lives at the end",
             "a difference, a map whose writing couldn't be told"),
     Premise(FILTERS, "what [filter] of the world declares holds for every member",
-            "the kernel showed the same filters for all members, or the world declares none",
+            "the world declares none; or the kernel showed as many filters for each member of the family that is asked"
+            " about",
             "members with different filters, or a declared one that the kernel doesn't show"),
     Premise(SECUREBITS, "no member has securebits by which it keeps more than in the replay",
-            "the recorder: read before the start, or counted as 0",
+            "the recorder: read before the start, or counted as 0, by which a member can get more; what a call set was"
+            " shown by a later one, or no filter of its process could answer it",
             "securebits that a call set and nothing confirms"),
     Premise(FS_IDS, "the fs ids of each member are among its effective ones",
             "the replay's end",
@@ -63,7 +67,7 @@ TABLE = (
             "audits of the family at the end",
             "one of these capabilities that can be had"),
     Premise(RINGS, "nothing acts for a member through io_uring",
-            "the recorder: no call of io_uring_setup, no descriptor and no thread of a ring",
+            "the recorder: no call of io_uring that succeeded, and no descriptor, memory or thread of a ring",
             "a ring"),
     Premise(SCAN, "all programs with set-id bits or capabilities were looked for",
             "credaudit-capture, which looked at each mount of the family",
@@ -88,4 +92,4 @@ BY_NAME = {each.name: each for each in TABLE}
 
 # Rows whose evidence isn't there yet: summary.py establishes them as it always did. Whoever adds the evidence takes the
 # name out.
-NOT_YET = (ANSWERS, FILTERS, SECUREBITS, FS_IDS, GROUPS, POWER, RINGS, MOUNTS, FILES, BINFMT)
+NOT_YET = (FS_IDS, GROUPS, POWER, MOUNTS, FILES, BINFMT)

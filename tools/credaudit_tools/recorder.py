@@ -18,6 +18,7 @@ from .awaited import Awaited
 from .command import Failure, Progress
 from .ending import Ending, Seen
 from .executed import Executed
+from .filter_look import FilterLook
 from .filtering import Filtering
 from .followed import Followed
 from .lines import call_of, parted
@@ -66,6 +67,7 @@ class Recorder:
         self.made = Made(strace_command.version(self.strace), os.uname().release.split("-")[0])
         self.live = Live()
         self.filter = Filtering(Followed(), Executed(), RunningSystem(self.live.proc))
+        self.filters = FilterLook(self.live.proc, self.made.evidence)
         self.signals = 0
         self.start: dict[int, Status] = {}
         self.living: set[int] = set()       # the processes that have to go on, or to end, after the recording
@@ -87,7 +89,8 @@ class Recorder:
             raise Failure(f"these can't be stopped, so that they could be looked at: "
                           f"{few([str(tid) for tid in halt.moving])}")
         self.start = statuses(self.live, sorted(halt.threads))
-        self.made.notes.append("the securebits of a process that ran already can't be read: 0 is taken")
+        self.made.notes.append("the securebits of a process that ran already can't be read: 0 is taken, by which it"
+                               " can get more")
         return watching.leading(halt.threads.values())
 
     def begin_program(self) -> int:
@@ -160,9 +163,6 @@ class Recorder:
         """What was seen of a premise."""
         self.made.evidence.establish(premise, by)
 
-    def ask_untraced(self, seen: Seen) -> None:
-        """What is asked of the processes once strace has let go of them, while they have stopped."""
-
     def release(self) -> None:
         """What was followed goes on, or ends."""
         living, self.living = self.living, set()
@@ -219,7 +219,7 @@ class Recorder:
 
     def recorded(self, tids: list[int]) -> Recording:
         """The recording of processes that have stopped."""
-        self.made.notes += starting.follow(self.live, self.start, self.filter.followed)
+        starting.follow(self.live, self.start, self.filter.followed, self.filters.at_start(self.start.values()))
         self.rows = starting.rows(self.live, self.start)
         reading, writing = os.pipe()
         fcntl.fcntl(writing, fcntl.F_SETPIPE_SZ, PIPE_SIZE)
@@ -258,7 +258,7 @@ class Recorder:
         else:
             seen = ending.look(tracer, stream)
             self.living |= watching.processes(seen.threads.values())
-            self.ask_untraced(seen)
+        self.filters.at_end(self.filter.followed.tasks, seen.statuses, self.filter.taken.filters, ending.is_over)
         self.release()
         if stream.stopped is not None:
             self.doubt(BIRTHS, f"the recording was stopped: {stream.stopped}")

@@ -5,6 +5,7 @@ from collections.abc import Mapping, Sequence
 
 from . import spaces, watching, worlds
 from .command import Failure
+from .filters import Filter
 from .followed import Files, Followed, Place, Task
 from .live import Live
 from .namespaces import INITIAL_INODE
@@ -38,15 +39,14 @@ def check_runs(proc: Proc, roots: Sequence[int]) -> None:
                       " recording", "let it go on (kill -CONT), or end it")
 
 
-def follow(live: Live, start: Mapping[int, Status], followed: Followed) -> list[str]:
-    """Takes what lives at the start, for the filter of lines; notes on what isn't known of it."""
+def follow(live: Live, start: Mapping[int, Status], followed: Followed,
+           filters: Mapping[int, tuple[Filter, ...]]) -> None:
+    """Takes what lives at the start, for the filter of lines, with the filters of system calls that stood before."""
     standings: dict[int, int] = {INITIAL_INODE: 0}
     own_mounts = os.stat("/proc/self/ns/mnt").st_ino
     views: dict[int, int] = {own_mounts: 0}
-    proc, notes = live.proc, []
+    proc = live.proc
     for tid, status in start.items():
-        if status.filters:
-            notes.append(f"process {tid} had {status.filters} filters of system calls before: they aren't known")
         standing = standings.setdefault(status.space, len(standings))
         followed.spaces[status.space] = standing
         mounts = live.space_of(status.tgid, tid, "mnt") or own_mounts
@@ -56,9 +56,9 @@ def follow(live: Live, start: Mapping[int, Status], followed: Followed) -> list[
         if view == 0 and root is not None:
             place.root = os.fsencode(root)
         files = Files({number: os.fsencode(told) for number, told in proc.descriptors(tid).items()})
-        followed.add(Task(tid, standing, place, files, None if exe is None else os.fsencode(exe)))
+        followed.add(Task(tid, standing, place, files, None if exe is None else os.fsencode(exe), status.tgid,
+                          filters.get(tid, ())))
     followed.last_standing, followed.last_view = len(standings) - 1, len(views) - 1
-    return notes
 
 
 def rows(live: Live, start: Mapping[int, Status]) -> worlds.World:

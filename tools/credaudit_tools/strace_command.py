@@ -12,7 +12,7 @@ OLDEST = (5, 10)
 # don't matter. Calls that show credentials are there too: what they answered is held against the replay.
 CALLS = ("(set(re|res)?[ug]id|setfs[ug]id|get(e|res)?[ug]id|[gs]etgroups|cap[gs]et|prctl|seccomp|v?fork|clone3?"
          "|unshare|setns|execve(at)?|f?chdir|chroot|pivot_root|open(at2?)?|creat|dup[23]?|fcntl|p?writev?2?|sendfile"
-         "|splice|copy_file_range|io_uring_setup)")
+         "|splice|copy_file_range|io_uring_(setup|enter|register))")
 TRACE = f"trace=/^{CALLS}(32|64)?$"
 LONGEST = 65535
 OPTIONS = ("-f", "-v", "-yy", "--pidns-translation", "-s", str(LONGEST), "-e", "abbrev=execve,execveat",

@@ -168,13 +168,26 @@ def accepted(ask: Asking, given: Given) -> Report:
     return report
 
 
-def evidence_of(given: Given, facts: Facts) -> Evidence:
+def of_filters(given: Given, family: Iterable[int]) -> Evidence:
+    """What is known of the world's [filter] for the family of one process, by what the kernel showed of its filters."""
+    found, pids = Evidence(), set(family)
+    if given.world.exclude is None:
+        found.establish(premises.FILTERS, "the world declares none")
+    elif given.kept is None:
+        found.establish(premises.FILTERS, BY_HAND)
+    else:
+        own = [status for status in given.kept.statuses if status.pid in pids]
+        found.establish(premises.FILTERS, f"the kernel showed as many filters for each of {plural(len(own), 'member')}")
+        for each in world_doubts.filter_doubts(own, given.world):
+            found.doubt(premises.FILTERS, each.why)
+    return found
+
+
+def evidence_of(given: Given, facts: Facts, family: Iterable[int]) -> Evidence:
     """The evidence for the family of one process: what goes for the whole, what the kernel showed of its filters, and
     the rows of docs/KERNEL.md."""
     found = given.evidence.copy()
-    if given.kept is not None and given.world.exclude:
-        for each in world_doubts.filter_doubts(given.kept, given.world):
-            found.doubt(premises.FILTERS, each.why)
+    found.add(of_filters(given, family))
     for premise in premises.NOT_YET:
         if premise not in premises.OF_FILES or premises.SCAN in found.established:
             found.establish(premise, AS_BEFORE)
@@ -195,7 +208,8 @@ def answer(ask: Asking, given: Given, report: Report, pid: int, more: Sequence[R
     first = at_start(given.world, report, pid)
     own = rights_of(report, first) if any(each.pid == first for each in report.start) else []
     end = end_of(given.world, report, pid)
-    family = Family(given.files, pid, end, evidence_of(given, facts_of(given.world, report, given.log, end)))
+    facts = facts_of(given.world, report, given.log, end)
+    family = Family(given.files, pid, end, evidence_of(given, facts, [each.pid for each in end.family]))
     same_as_replayed(ask, family)
     judge = Judge(ask, family)
     outcomes = judge.outcomes(list(dict.fromkeys([*own, *more])))

@@ -120,9 +120,11 @@ def numbered(found: recording.Recording, first: int) -> recording.Recording:
     world.remarks = found.made.remarks() if found.made else []
     statuses = [replace(each, pid=numbers[each.pid]) for each in found.statuses]
     lines = renumbered(log, numbers)
+    filters = [line.partition(":") for line in found.filters.splitlines()]
     changes = "pids below are those that the system had\n" + found.changes
     return replace(found, world=worlds.written(world), log=b"".join(line + b"\n" for line in lines), changes=changes,
-                   statuses=sorted(statuses, key=pid_of))
+                   statuses=sorted(statuses, key=pid_of),
+                   filters="".join(f"{numbers.get(int(pid), int(pid))}:{text}\n" for pid, _, text in filters))
 
 
 def pid_of(status: Status) -> int:

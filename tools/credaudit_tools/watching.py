@@ -7,6 +7,7 @@ from collections.abc import Callable, Iterable
 from dataclasses import dataclass
 
 from .proc import Proc
+from .rings import is_kernels_own
 from .statuses import parts_of_file
 
 DEAD = ("Z", "X", "x")
@@ -28,12 +29,14 @@ class Glance:
 
 
 def glance(proc: Proc, tid: int) -> Glance | None:
-    """None where the thread is gone or dead."""
+    """None where the thread is gone or dead, or is the kernel's own: such a one makes no calls, and can't be traced."""
     data = proc.read(tid, "status")
     if data is None:
         return None
     parts = parts_of_file(data)
     if "State" not in parts or parts["State"][:1] in DEAD:
+        return None
+    if int(parts["Tgid"]) != tid and is_kernels_own(proc, tid):
         return None
     switches = sum(int(parts.get(name, "0")) for name in ("voluntary_ctxt_switches", "nonvoluntary_ctxt_switches"))
     return Glance(tid, int(parts["Tgid"]), int(parts["PPid"]), parts["State"][:1], int(parts["TracerPid"]), switches)

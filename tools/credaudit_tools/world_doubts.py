@@ -1,13 +1,15 @@
 """What makes a world, or a recording, suspect that the program accepts: what it may leave out of the family and its
 files."""
-from collections.abc import Iterator
+from collections.abc import Iterator, Sequence
 
+from .end_world import births_of
 from .evidence import Evidence
 from .findings import RECORDING, WORLD, Finding, doubt
 from .premises import SCAN
 from .recording import Recording, altered
 from .report import Report
 from .shown import few, quoted
+from .statuses import Status
 from .toml_places import Places, places
 from .worlds import World
 
@@ -103,7 +105,8 @@ def of_recording(recording: Recording, world: World, report: Report) -> Iterator
         yield doubt(RECORDING, None,
                     f"process {few([str(pid) for pid in ended])} lives by the log, and wasn't there at the end",
                     "lines of exits are missing (-qq), or the log is cut")
-    yield from filter_doubts(recording, world)
+    for pids in families(world, report):
+        yield from filter_doubts([status for status in recording.statuses if status.pid in pids], world)
     yield from space_doubts(recording, report)
     for told in recording.made.doubts if recording.made is not None else []:
         yield doubt(RECORDING, None, told.text(), "the recorder's own doubt: recording.toml")
@@ -111,17 +114,22 @@ def of_recording(recording: Recording, world: World, report: Report) -> Iterator
         yield doubt(RECORDING, None, altered_one, "record anew; what was altered can't be told")
 
 
-def filter_doubts(recording: Recording, world: World) -> Iterator[Finding]:
-    """What is doubtful of the filter, by what the kernel showed of filters."""
+def families(world: World, report: Report) -> list[list[int]]:
+    """The families that live at a log's end, each by its first process: those from which no living one descends."""
+    births = births_of(world, report)
+    return [births.family(pid) for pid in report.alive() if births.parents.get(pid) is None]
+
+
+def filter_doubts(statuses: Sequence[Status], world: World) -> Iterator[Finding]:
+    """What is doubtful of a declared filter, by what the kernel showed of those of one family."""
     counts: dict[tuple[int | None, int | None], list[str]] = {}
-    for status in recording.statuses:
+    for status in statuses if world.exclude is not None else []:
         counts.setdefault((status.seccomp, status.filters), []).append(str(status.pid))
     if len(counts) > 1:
         told = "; ".join(f"{filters or 0} of process {few(pids)}" for (_, filters), pids in counts.items())
-        hint = "the world's [filter] would hold for all of them: leave it out" if world.exclude is not None else \
-            "declare no [filter]: it would hold for all of them"
-        yield doubt(RECORDING, None, f"the members have different filters of system calls: {told}", hint)
-    elif world.exclude is not None and all(status.filters in (None, 0) for status in recording.statuses):
+        yield doubt(RECORDING, None, f"the members have different filters of system calls: {told}",
+                    "the world's [filter] would hold for all of them: leave it out")
+    elif counts and all(status.filters in (None, 0) for status in statuses):
         yield doubt(RECORDING, None, "the world declares a [filter], and the kernel showed none", "leave [filter] out")
 
 

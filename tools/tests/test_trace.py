@@ -236,6 +236,36 @@ class Traced(Case):
         self.assertIn("has a recording already: it is written over", self.trace("--", "true")[2])
         self.assertEqual(recording.read(self.out).filters, "")
 
+    def test_a_filter(self) -> None:
+        """One that refuses, in a program that is alone: as root it is read from the kernel, else there is one as in the
+        log. It is kept under the log's pid."""
+        program = "\n".join((
+            "import ctypes, struct, time", "c = ctypes.CDLL(None); c.prctl(38, 1, 0, 0, 0)",
+            "f = struct.pack('HBBIHBBIHBBIHBBI', 32, 0, 0, 0, 21, 0, 1, 250, 6, 0, 0, 0x50001, 6, 0, 0, 0x7fff0000)",
+            "b = ctypes.create_string_buffer(f); p = struct.pack('HxxxxxxP', 4, ctypes.addressof(b))",
+            "c.prctl(22, 2, ctypes.create_string_buffer(p), 0, 0)", "c.setfsuid(-1)", "time.sleep(60)"))
+        status, _, errors = self.trace("--pids-from", "100", "--until", r"setfsuid\(", "--", sys.executable, "-c",
+                                       program)
+        self.assertEqual((status, errors), (0, ""))
+        kept = recording.read(self.out)
+        assert kept.made is not None
+        self.assertTrue(kept.filters.startswith("100: {len=4, filter=[BPF_STMT(BPF_LD"), kept.filters)
+        self.assertEqual(kept.statuses[0].filters, 1)
+        told = kept.made.evidence.established["answers"]
+        self.assertTrue("read from the kernel" in told or "as many filters stood" in told, told)
+
+    def test_a_filter_that_answers_in_the_kernels_place(self) -> None:
+        """Written so that strace calls its return a jump."""
+        program = "\n".join((
+            "import ctypes, struct, time", "c = ctypes.CDLL(None); c.prctl(38, 1, 0, 0, 0)",
+            "f = struct.pack('HBBIHBBIHBBIHBBI', 32, 0, 0, 0, 21, 0, 1, 122, 6, 1, 0, 0x50000, 6, 0, 0, 0x7fff0000)",
+            "b = ctypes.create_string_buffer(f); p = struct.pack('HxxxxxxP', 4, ctypes.addressof(b))",
+            "c.prctl(22, 2, ctypes.create_string_buffer(p), 0, 0)", "c.setfsuid(7)", "time.sleep(60)"))
+        status, _, errors = self.trace("--until", r"setfsuid\(", "--", sys.executable, "-c", program)
+        self.assertEqual(status, 1)
+        self.assertIn("doubt: answers: ", errors)
+        self.assertIn("answers calls with success, without making them (setfsuid)", errors)
+
     def test_verified_at_the_end(self) -> None:
         with mock.patch("credaudit_tools.verify_command.verified", return_value=1) as verified:
             status, _, _ = self.told(trace_command.main, "-o", self.out, "--", "true")
