@@ -58,8 +58,9 @@ TABLE = (
             " shown by a later one, or no filter of its process could answer it",
             "securebits that a call set and nothing confirms"),
     Premise(FS_IDS, "the fs ids of each member are among its effective ones",
-            "the replay's end",
-            "a member whose fs user id or fs group id is another one"),
+            "the end of the replay",
+            "a member whose fs user id is another than its effective one, or whose fs group id is none of its own: it"
+            " can make itself a set-id file of that id"),
     Premise(GROUPS, "supplementary groups were seen, so that a forgotten setgroups shows",
             "a process with groups at the start, or a call of setgroups",
             "none of both", ("gid",)),
@@ -92,4 +93,4 @@ BY_NAME = {each.name: each for each in TABLE}
 
 # Rows whose evidence isn't there yet: summary.py establishes them as it always did. Whoever adds the evidence takes the
 # name out.
-NOT_YET = (FS_IDS, GROUPS, POWER, MOUNTS, FILES, BINFMT)
+NOT_YET = (GROUPS, POWER, MOUNTS, FILES, BINFMT)

@@ -2,7 +2,7 @@
 from collections.abc import Iterable, Sequence
 from dataclasses import dataclass, field
 
-from . import answering, log_doubts, premises, touched, verifying, world_doubts, worlds
+from . import answering, fs_ids, log_doubts, premises, touched, verifying, world_doubts, worlds
 from .answering import Answers, Broken, Unexpected
 from .asking import Asking, Files
 from .command import Failure, Says, silent
@@ -192,6 +192,7 @@ def evidence_of(given: Given, facts: Facts, family: Iterable[int]) -> Evidence:
         if premise not in premises.OF_FILES or premises.SCAN in found.established:
             found.establish(premise, AS_BEFORE)
     touched.tell(found, facts)
+    fs_ids.tell(found, facts)
     return found
 
 

@@ -3,8 +3,8 @@ import argparse
 import os
 from collections.abc import Sequence
 
-from . import (answering, command, evidence_text, premises, touched, unit_files, unit_settings, unit_world, users,
-               worlds)
+from . import (answering, command, evidence_text, fs_ids, premises, touched, unit_files, unit_settings, unit_world,
+               users, worlds)
 from .answering import Answers, Broken, Unexpected
 from .asking import Asking, asking
 from .command import Failure, Progress, Says, tell
@@ -96,7 +96,9 @@ def judged(ask: Asking, made: Made, rights: Sequence[Right]) -> Answers:
         raise Failure(f"credaudit refuses the world of the unit, status {read.status}: {' '.join(read.ending)}")
     end = end_of(made.world, read, unit_world.PID)
     evidence = made.evidence.copy()
-    touched.tell(evidence, touched.facts_of(made.world, read, made.log, end))
+    facts = touched.facts_of(made.world, read, made.log, end)
+    touched.tell(evidence, facts)
+    fs_ids.tell(evidence, facts)
     for premise in premises.NOT_YET:
         if premises.SCAN in evidence.established:
             evidence.establish(premise, AS_BEFORE)
