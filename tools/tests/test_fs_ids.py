@@ -33,7 +33,7 @@ class FsIds(support.Case):
                 mock.patch.object(Told, "run", Plain().run):
             status, out, errors = self.told(summary_command.main, *names, "100", *asked)
         self.assertEqual(status, GOOD, errors)
-        return {line.split()[0] for line in out.split("\n") if " not called gone: fs-ids: process 100 has the fs " in line}
+        return {line.split()[0] for line in out.split("\n") if " not called gone: fs-ids: process 100 has the" in line}
 
     def test_rows(self) -> None:
         for keys, more, wanted in ROWS:
