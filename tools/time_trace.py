@@ -67,7 +67,7 @@ def main() -> int:
         with open(log, "rb") as file:
             lines = sum(1 for _ in file)
         own = seconds([sys.executable, os.path.join(HERE, "credaudit-trace"), "-o", os.path.join(work, "recording"),
-                       "--no-verify", "--", program, calls])
+                       "--no-verify", "--for", "0", "--", program, calls])
     print(f"{lines} lines")
     for what, one, other in zip(("by the clock", "of processors"), alone, own):
         print(f"{what:14} strace alone {one:6.1f} s, credaudit-trace {other:6.1f} s, ratio {other / one:.2f}")

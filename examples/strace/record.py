@@ -120,7 +120,7 @@ class Recorder:
 
 def begin(recorder: Recorder, program: Program, place: str, folder: str) -> subprocess.Popen[bytes]:
     """The credaudit-trace that runs a program."""
-    words = [sys.executable, TRACE, "-o", folder, "--no-verify", "--pids-from", str(FIRST_PID),
+    words = [sys.executable, TRACE, "-o", folder, "--no-verify", "--for", "0", "--pids-from", str(FIRST_PID),
              "--strace", recorder.strace, *program.as_user(), "--",
              *(word.replace("PLACE", place) for word in program.words)]
     tracing = subprocess.Popen(words, env=CLEAN, stdin=subprocess.PIPE, stdout=subprocess.DEVNULL, cwd="/",

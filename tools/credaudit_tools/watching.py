@@ -14,7 +14,7 @@ DEAD = ("Z", "X", "x")
 HALTED = "T"                    # by a signal, and not by a tracer
 STOPPED = (HALTED, "t")
 STUCK = "D"
-PATIENCE, STUCK_PATIENCE, SECOND_PATIENCE, PAUSE = 10.0, 2.0, 2.0, 0.03
+PATIENCE, STUCK_PATIENCE, SECOND_PATIENCE, PAUSE = 10.0, 2.0, 3.0, 0.03
 
 
 @dataclass(frozen=True)
