@@ -4,7 +4,7 @@ import shutil
 from dataclasses import replace
 from unittest import mock
 
-from credaudit_tools import recording, report, verify_command, verifying
+from credaudit_tools import lint_command, recording, report, verify_command, verifying
 from credaudit_tools.program import Program
 from credaudit_tools.verifying import Verdict, verify
 
@@ -13,7 +13,7 @@ from .support import DATA, EXAMPLES, Case, cases
 
 RECORDINGS = os.path.join(DATA, "recordings")
 ALL = (1 << 41) - 1
-SUMMED = (recording.LOG, recording.STATUS, recording.SPACES)
+SUMMED = set(recording.ALL) - {recording.MADE}
 
 
 def change(data: bytes, word: str, rest: str) -> bytes:
@@ -75,12 +75,35 @@ class Altered(Case):
                     self.assertTrue(any(wanted[0].removeprefix("told ") in each for each in told), told)
                 else:
                     self.assertEqual(told, [])
-                for name in changed & set(SUMMED):
+                for name in changed & SUMMED:
                     self.assertIn(f"{name} isn't as it was recorded: its sum differs",
                                   self.verdict(folder, sums=True).differences)
 
     def test_there_are_enough(self) -> None:
         self.assertGreaterEqual(len(list(cases("altered.txt"))), 30)
+
+    def test_what_the_recorder_says_is_summed_too(self) -> None:
+        """By its own last line; and a file that came or went is told."""
+        folder = os.path.join(self.work, "x")
+        shutil.copytree(os.path.join(RECORDINGS, "daemon"), folder)
+        path = os.path.join(folder, recording.MADE)
+        with open(path, encoding="utf-8") as file:
+            text = file.read()
+        for old, new in (('end = "', 'end = "x'), ("[established]\n", "[established]\n# a remark\n"), ("\n\n", "\n")):
+            self.put("x/" + recording.MADE, text.replace(old, new, 1).encode())
+            with self.subTest(old):
+                self.assertEqual(recording.altered(recording.read(folder)),
+                                 [f"{recording.MADE} isn't as it was written: its last line doesn't fit it"])
+                for main, name in ((verify_command.main, "credaudit-verify"), (lint_command.main, "credaudit-lint")):
+                    status, out, errors = self.told(main, folder)
+                    self.assertEqual(status, 1, name)
+                    self.assertIn("its last line doesn't fit it", out + errors)
+        self.put("x/" + recording.MADE, text.encode())
+        os.remove(os.path.join(folder, recording.SPACES))
+        self.put("x/" + recording.FILTERS, b"more\n")
+        self.assertEqual(recording.altered(recording.read(folder)),
+                         [f"{name} isn't as it was recorded: its sum differs" for name in
+                          (recording.FILTERS, recording.SPACES)])
 
 
 class Stored(Case):
