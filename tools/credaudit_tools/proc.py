@@ -9,6 +9,7 @@ from .command import Failure
 from .files import SAFE
 
 MOST = 1 << 24
+PROCESSOR = "x86_64"     # as uname(2) names it
 GONE = (FileNotFoundError, ProcessLookupError, NotADirectoryError, PermissionError)
 
 
@@ -74,3 +75,11 @@ def needs_root(advice: str = "") -> None:
     with open("/proc/self/uid_map") as file:
         if file.read().split() != ["0", "0", "4294967295"]:
             raise Failure("this is to be run in the initial user namespace, whose ids worlds have")
+
+
+def needs_processor() -> None:
+    """Fails on another processor than x86-64: numbers of calls and what strace writes of them are of that one alone."""
+    machine = os.uname().machine
+    if machine != PROCESSOR:
+        raise Failure(f"this is to be run on {PROCESSOR.replace('_', '-')}, and the processor here is {machine}",
+                      "lines of strace and numbers of calls are read as they are on x86-64; record there")

@@ -88,6 +88,7 @@ def limit(options: argparse.Namespace) -> float | None:
 
 def traced(options: argparse.Namespace, asked: Asked) -> int:
     """Records, writes, and verifies; the exit status."""
+    proc.needs_processor()
     proc.needs_root("an ordinary user's tracer takes the effect from set-user-ID bits (execve(2))")
     if recording.is_folder(options.output):
         tell(NAME, f"{options.output} has a recording already: it is written over")

@@ -310,6 +310,14 @@ class Refused(Case):
             old = self.put("strace", b"#!/bin/sh\necho 'strace -- version 4.26'\n", 0o755)
             self.assertIn("is too old", self.trace("--strace", old, "true")[2])
 
+    def test_another_processor(self) -> None:
+        """It is refused by its name, before anything is asked of the system."""
+        for name in ("aarch64", "riscv64", "i686"):
+            with mock.patch("os.uname", return_value=os.uname_result(("Linux", "host", "6.18", "1", name))):
+                status, _, errors = self.trace("true")
+            self.assertEqual(status, 3, name)
+            self.assertIn(f"the processor here is {name}", errors)
+
     def test_a_folder_that_can_not_be_one(self) -> None:
         with mock.patch.object(proc, "needs_root", lambda _: None), \
                 mock.patch.object(trace_command, "Recorder") as recorder:

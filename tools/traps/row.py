@@ -1,0 +1,29 @@
+"""What a trap is: a program and its case, the danger that it shows, how it is spelled there, and what must tell it."""
+from dataclasses import dataclass
+
+LAUNCHED, ATTACHED, CAPTURED = "launched", "attached", "captured"
+NONE, ALL = "none", "all"
+
+
+@dataclass(frozen=True)
+class Trap:
+    """A case of a program of this folder. `told` has what must be seen, each a text of tools/traps/judging.py; `gone`
+    which rights may be called gone: none, all, or a regular expression. `options` are those of credaudit-trace, which
+    must end within `limit` seconds. `go` is when SIGUSR1 is sent, in seconds from where the service is traced. `asked`
+    says whether rights are asked about, which takes a scan and a summary."""
+    program: str
+    case: str
+    danger: str
+    spelling: str
+    told: tuple[str, ...]
+    gone: str = NONE
+    how: str = LAUNCHED
+    options: tuple[str, ...] = ("--for", "1.5")
+    limit: float = 60.0
+    asked: bool = True
+    go: float | None = None
+
+    @property
+    def name(self) -> str:
+        """The word that names the case."""
+        return f"{self.program}/{self.case}"
