@@ -38,6 +38,7 @@ OTHER_WRITE = re.compile(rb"([0-9]+) +p?writev?(?:64|2)?\([0-9]+" + PLAIN_DESCRI
                          re.S)
 OTHER_OPEN = re.compile(rb"([0-9]+) +open(?:at)?\((?:AT_FDCWD" + PLAIN_DESCRIPTOR + rb", )?" + QUOTED
                         + rb", [A-Z_|]+(?:, 0[0-7]*)?\) += (?:-1 E.*|([0-9]+)" + PLAIN_DESCRIPTOR + rb")", re.S)
+SUPERSEDED = re.compile(rb"\+\+\+ superseded by execve in pid ([0-9]+)")
 CHANGED = re.compile(rb"<pid changed to ([0-9]+) \.\.\.>$")
 
 
@@ -79,7 +80,7 @@ class Filtering:
         pid, body = found
         if body.startswith(b"---"):
             return
-        if pid not in self.followed.tasks and not self.is_born(pid):
+        if pid not in self.followed.tasks and not self.takes_pid(body) and not self.is_born(pid):
             self.held.setdefault(pid, []).append(line)
             return
         self.body(pid, body)
@@ -178,7 +179,7 @@ class Filtering:
         if body.startswith((b"+++ exited with ", b"+++ killed by ")):
             self.end(pid, body)
             return
-        found = re.match(rb"\+\+\+ superseded by execve in pid ([0-9]+)", body)
+        found = SUPERSEDED.match(body)
         if found is None:
             raise Stopped(f"{pid}: strace wrote {shown(body)}")
         self.superseded(pid, int(found.group(1)))
@@ -190,13 +191,20 @@ class Filtering:
         self.begun.pop(pid, None)
         self.early.pop(pid, None)
 
+    def takes_pid(self, body: bytes) -> bool:
+        """Whether a thread that is known takes the pid of this line by an execve, whose main thread had ended before
+        the recording."""
+        found = SUPERSEDED.match(body)
+        return found is not None and int(found.group(1)) in self.followed.tasks
+
     def superseded(self, leader: int, thread: int) -> None:
-        """A thread that executes a file takes the leader's pid (execve(2)): the leader ends, and the thread goes on
-        as a child of its own with that pid."""
+        """A thread that executes a file takes the leader's pid (execve(2)): the leader ends, where it lived, and the
+        thread goes on as a child of its own with that pid."""
         task = self.followed.tasks.get(thread)
         if task is None:
             raise Stopped(f"{leader}: a thread that isn't known, {thread}, took its place")
-        self.end(leader, b"+++ exited with 0 +++")
+        if leader in self.followed.tasks:
+            self.end(leader, b"+++ exited with 0 +++")
         self.taken.put(thread, b"fork() = %d" % leader)
         self.followed.born(task, leader, [])
         front = self.begun.pop(thread, None)
@@ -204,8 +212,8 @@ class Filtering:
         self.end(thread, b"+++ exited with 0 +++")
         if front is not None:
             self.begun[leader] = front
-        self.taken.change(f"{thread} took the pid of {leader} by an execve: told as an exit of {leader}, a birth of"
-                          f" {leader} by {thread}, and an exit of {thread}")
+        self.taken.change(f"{thread} took the pid of {leader} by an execve: told as an exit of {leader} where it lived,"
+                          f" a birth of {leader} by {thread}, and an exit of {thread}")
 
     def finish(self) -> None:
         """The end of strace's lines: what is held belongs to processes whose birth isn't told."""
