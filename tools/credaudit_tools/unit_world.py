@@ -7,7 +7,7 @@ from dataclasses import dataclass, field, replace
 
 from . import premises
 from .credential import Credential
-from .evidence import Evidence
+from .evidence import AS_BEFORE, Evidence
 from .marks import SCANNED, UNSCANNED
 from .names import ALL, NUMBERS
 from .shown import escaped, few
@@ -16,7 +16,19 @@ from .unit_files import Unit
 from .worlds import INITIAL, File, Map, Mount, Process, Space, World
 
 PID, PRIVATE = 100, "private"
-SETTINGS = "the settings of the unit, as the service manager carries them out (systemd.exec(5))"
+
+# By what each premise that isn't of files, nor worked out by the answer itself, holds of a unit (systemd.exec(5)).
+BY_SETTINGS = {
+    premises.BIRTHS: "the processes are those that the service manager starts: what they start is asked about",
+    premises.ANSWERS: "nothing was recorded: the log is the execve of each program, as the rules have it",
+    premises.CREDENTIALS: "what the settings of the unit say, as the service manager carries them out",
+    premises.MAPS: "PrivateUsers=, and the user namespaces of the scan",
+    premises.FILTERS: "SystemCallFilter= holds for each process of the unit",
+    premises.SECUREBITS: "SecureBits=",
+    premises.GROUPS: "SupplementaryGroups=, and the groups of the user",
+    premises.POWER: AS_BEFORE,
+    premises.RINGS: "nothing of the unit runs yet, so none is there",
+    premises.RECORDING: "the world is made at this call"}
 SEARCH = ("/usr/local/sbin", "/usr/local/bin", "/usr/sbin", "/usr/bin", "/sbin", "/bin")
 CHROOT = 1 << NUMBERS["CAP_SYS_CHROOT"]
 EVERY_ID = 4294967295
@@ -156,9 +168,8 @@ def executed(tree: Tree, made: Settings, command: str) -> str:
 def evidence_of(scan: Evidence | None) -> Evidence:
     """What the world of a unit rests on: its settings, and for its files a scan without doubts."""
     found = Evidence()
-    for premise in premises.TABLE:
-        if not premise.of_files() and premise.name != premises.KERNEL:
-            found.establish(premise.name, SETTINGS)
+    for premise, by in BY_SETTINGS.items():
+        found.establish(premise, by)
     if scan is not None and all(map(scan.holds, (premises.SCAN, premises.RECORDING))):
         found.add(scan, premises.OF_FILES)
     return found

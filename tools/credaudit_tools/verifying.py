@@ -258,6 +258,9 @@ def verify(kept: Recording, told: Report, says: Says = silent) -> Verdict:
     if kept.made is None:
         verdict.notes.append(f"there is no {recording.MADE}: whether the recording had doubts, and whether its files"
                              " were changed since, isn't known")
+    elif kept.made.format != recording.FORMAT:
+        verdict.notes.append(f"its {recording.MADE} is of an older form: it tells nothing of what was established, and"
+                             " has sums of some files alone")
     elif kept.made.end == "program" and verdict.answers:
         verdict.notes.append("the program had ended: what its calls answered is compared, and who lives")
     compare_processes(kept, now, verdict)

@@ -6,7 +6,7 @@ from .end_world import births_of
 from .evidence import Evidence
 from .findings import RECORDING, WORLD, Finding, doubt
 from .premises import SCAN
-from .recording import Recording, altered
+from .recording import FORMAT, Recording, altered
 from .report import Report
 from .shown import few, quoted
 from .statuses import Status
@@ -110,6 +110,9 @@ def of_recording(recording: Recording, world: World, report: Report) -> Iterator
     yield from space_doubts(recording, report)
     for told in recording.made.doubts if recording.made is not None else []:
         yield doubt(RECORDING, None, told.text(), "the recorder's own doubt: recording.toml")
+    if recording.made is not None and recording.made.format != FORMAT:
+        yield doubt(RECORDING, None, "recording.toml is of an older form: nothing tells what was established",
+                    "record anew; until then no right of it is called gone")
     for altered_one in altered(recording):
         yield doubt(RECORDING, None, altered_one, "record anew; what was altered can't be told")
 

@@ -11,7 +11,7 @@ from pathlib import Path
 from unittest import mock
 
 import premises_page
-from credaudit_tools import evidence_text, premises, recording, rights, summary, summary_command
+from credaudit_tools import evidence_text, premises, recording, rights, summary, summary_command, unit_command
 from credaudit_tools.asking import Asking
 from credaudit_tools.classes import GONE, GONE_BY_OWN_CALLS
 from credaudit_tools.command import GOOD
@@ -192,6 +192,33 @@ class Taken(Case):
         world = Path(self.scan).read_bytes()
         Path(self.scan).write_bytes(world.replace(b"4755", b"0755"))
         self.assertEqual(self.gone(folder), set())
+
+
+class Unit(Case):
+    """A unit, whose world is made of its settings."""
+
+    def of_unit(self, *words: str) -> set[str]:
+        """The rights that are called gone."""
+        self.put("/etc/passwd", b"web:x:33:34::/:/x\n")
+        self.put("/etc/group", b"web:x:34:\n")
+        unit = self.put("web.service", b"[Service]\nExecStart=/usr/sbin/web\nUser=web\n")
+        with mock.patch.object(unit_command, "Program", lambda: self.program):
+            status, out, _ = self.told(unit_command.main, "--root", self.work, "--classes", *words, unit)
+        self.assertEqual(status, GOOD)
+        return {line.split()[0] for line in out.split("\n")[:-1] if line.split()[1] == GONE}
+
+    def test_the_evidence_of_each_row(self) -> None:
+        whole = self.of_unit("--files", self.scan)
+        self.assertLessEqual({"uid:0", "gid:0", "cap:CAP_SYS_ADMIN@init"}, whole)
+        self.assertEqual(self.of_unit(), set())
+        for row in TABLE:
+            kept = {word for word in whole if not row.kinds.count(word.split(":")[0])}
+            with self.subTest(row.name), mock.patch.object(Evidence, "establish", without(row.name)):
+                self.assertEqual(self.of_unit("--files", self.scan), kept)
+
+    def test_a_doubt_of_the_scan(self) -> None:
+        self.scan = self.put_scan("doubted.toml", World("script"), "/srv can't be read")
+        self.assertEqual(self.of_unit("--files", self.scan), set())
 
 
 class Told(Case):

@@ -8,8 +8,8 @@ from collections.abc import Callable
 from dataclasses import replace
 from unittest import mock
 
-from credaudit_tools import (answering, classes, expecting, recording, rights, schemas, summary, summary_command,
-                             worlds)
+from credaudit_tools import (answering, classes, expecting, lint_command, recording, rights, schemas, summary,
+                             summary_command, verify_command, worlds)
 from credaudit_tools.answering import BROKEN
 from credaudit_tools.asking import Asking, Files, shortened
 from credaudit_tools.classes import Outcome
@@ -337,6 +337,10 @@ class Recordings(Case):
             self.assertNotIn("  gone", out)
             self.assertIn("not called gone: births: nothing establishes it; ", out)
             self.assertIn("this recording is of an older form", errors)
+        for main, status in ((verify_command.main, GOOD), (lint_command.main, FOUND)):
+            told = self.told(main, folder)
+            self.assertEqual(told[0], status)
+            self.assertIn("is of an older form", "".join(told[1:]))
         os.remove(os.path.join(folder, "recording.toml"))
         status, out, errors = self.command(folder, *scan)
         self.assertNotIn("  gone", out)
