@@ -62,7 +62,8 @@ def unaltered(given: Given) -> None:
     """Fails where a file of a recording isn't as it was written."""
     changed = altered(given.kept) if given.kept is not None else []
     if changed:
-        raise Broken(f"the recording isn't true: {few(changed, SUSPECT)}", "record it anew")
+        raise Broken(f"the recording isn't true: {few(changed, SUSPECT)}",
+                     "record it anew; as WORLD, LOG and PID its files count as written by hand")
 
 
 def of_older(given: Given) -> None:
