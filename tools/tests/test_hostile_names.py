@@ -5,8 +5,8 @@ import shutil
 import tomllib
 from unittest import mock
 
-from credaudit_tools import (family, lint_command, mounts, proc, programs, shown, strace_command, trace_command,
-                             verify_command, worlds)
+from credaudit_tools import (evidence_text, family, lint_command, mounts, proc, programs, shown, strace_command,
+                             trace_command, verify_command, worlds)
 from credaudit_tools.capture import Capture, Wishes, captured
 from credaudit_tools.command import FAILED, FOUND
 from credaudit_tools.kernel import Program
@@ -49,6 +49,9 @@ class Hostile(support.Case):
         self.assertEqual(len(HEADS.findall(data.decode())), len(read.files) + len(read.processes) + len(read.spaces))
         marks = [line for line in data.decode().split("\n") if line == "# " + SCANNED]
         self.assertEqual(len(marks), 1)
+        evidence = evidence_text.world_text(made.evidence, data)
+        self.assertFalse(set(evidence) - set(range(0x20, 0x7f)) - {0x0a}, evidence)
+        self.assertEqual(evidence_text.of_world(evidence, data, "x").doubts, made.evidence.doubts)
         for told in made.notes + made.doubts:
             self.assertFalse(set(shown.shown(told)) - set(map(chr, range(0x20, 0x7f))), told)
         return read

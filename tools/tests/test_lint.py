@@ -6,7 +6,7 @@ import unittest
 from unittest import mock
 
 from credaudit_tools import (evidence_text, hints, lint, lint_command, log_doubts, log_faults, other_faults, recording,
-                             report, toml_faults)
+                             report, toml_faults, worlds)
 from credaudit_tools.command import FAILED, FOUND, GOOD, USAGE, Failure
 from credaudit_tools.findings import WORLD, Finding
 from credaudit_tools.lint import Given
@@ -124,6 +124,18 @@ class Command(support.Case):
     def test_nothing_is_found_of_a_scanned_world(self) -> None:
         status, out, _ = self.run_case("world that a scan made")
         self.assertEqual((status, out), (GOOD, ""))
+
+    def test_a_scanned_world_that_was_altered(self) -> None:
+        """Its evidence tells it, also where nothing of the rows changed."""
+        stored = Stored(self.answers["world that a scan made"])
+        world = self.put_scan("world.toml", worlds.World("script", processes=[worlds.process_of({"pid": 100})]))
+        with mock.patch.object(lint_command, "Program", lambda: stored):
+            self.assertEqual(self.called(world, self.put("log", lint_cases.LOG.encode())), (GOOD, "", ""))
+            with open(world, "ab") as file:
+                file.write(b"# a remark\n")
+            status, out, _ = self.called(world, self.put("log", lint_cases.LOG.encode()))
+        self.assertEqual(status, FOUND)
+        self.assertIn("isn't as it was written: its sum differs", out)
 
     def test_a_recording_is_a_folder(self) -> None:
         status, out, _ = self.run_case("thread left out of the world", folder=True)
