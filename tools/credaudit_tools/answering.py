@@ -3,8 +3,8 @@ as lines or as JSON, the folder of certificates, and the exit statuses.
 
 | Status | Means |
 |---|---|
-| 0 | all is told, and each class is an expected one |
-| 1 | a right has another class than expected |
+| 0 | all is told, and is as expected |
+| 1 | a right has another class than expected, or no line; groups weren't seen |
 | 2 | the words are wrong |
 | 3 | it couldn't be done |
 | 4 | what is looked at is broken: a recording, a log that is refused, a unit that doesn't start |
@@ -14,16 +14,18 @@ import os
 from collections.abc import Callable, Sequence
 from dataclasses import dataclass, field
 
-from . import classes, expecting, rights, schemas
+from . import classes, expecting, rights, schemas, typed_files
 from .classes import Outcome
 from .command import FOUND, GOOD, Failure, tell
-from .expecting import Expected
-from .files import read_regular, write_new
+from .expecting import Expected, Unexpected
+from .files import write_new
 from .judged import WhatIf
-from .rights import Right
+from .rights import Reading, Right
 from .shown import plural, quoted, shown
+from .whose import Member
 
 BROKEN, FORMAT = 4, 2       # FORMAT of the JSON of both commands
+STANDARD = "-"      # as a file's name: standard output
 
 
 class Broken(Failure):
@@ -41,41 +43,70 @@ class Answers:
     rows: dict[Right, list[str]] = field(default_factory=dict)      # the premises that touch it, a line each
     pid: int = 0
     members: frozenset[int] = frozenset()
+    held_by: dict[Right, list[Member]] = field(default_factory=dict)    # of each right that is held
+    unseen: list[Member] = field(default_factory=list)                  # the members whose groups weren't seen
     kept: dict[Right, str] = field(default_factory=dict)
     made: dict[str, bytes] = field(default_factory=dict)    # the world and the log, where they aren't files of the user
 
 
-def right_word(word: str) -> Right:
-    """A right of the words."""
-    right = rights.parse(word)
-    if right is None:
+@dataclass(frozen=True)
+class Wanted:
+    """What a user asks for: rights beside those that are asked about anyway, those of which it is told why, and the
+    classes that are expected, None where none are; `notes` say what names stood for."""
+    rights: list[Right]
+    why: list[Right]
+    expected: Expected | None
+    notes: list[str]
+
+    def of_process(self, pid: int) -> list[Right]:
+        """The rights that are asked for in the answer about a process, each once."""
+        expected = () if self.expected is None else self.expected.lines(pid).rights
+        return list(dict.fromkeys([*self.rights, *self.why, *expected]))
+
+
+def right_word(word: str) -> str:
+    """A right of the words; a name in it is looked up later."""
+    if not rights.is_right(word):
         raise argparse.ArgumentTypeError(f"{word!r} is no right")
-    return right
+    return word
 
 
 def options(ask: argparse.ArgumentParser) -> None:
     """The options of both commands."""
     ask.add_argument("--right", metavar="RIGHT", type=right_word, action="append", default=[],
                      help="ask for this right too")
-    ask.add_argument("--expect", metavar="FILE", help="the classes that are expected; any other one is status 1")
+    ask.add_argument("--expect", metavar="FILE",
+                     help="the classes that are expected; what isn't as expected is status 1")
     ask.add_argument("--certificates", metavar="FOLDER", help="keep the certificates of the rights that are gone here")
-    ask.add_argument("--classes", action="store_true", help="write a line RIGHT CLASS for each right, as --expect"
-                                                            " reads them, and nothing else")
+    ask.add_argument("--classes", metavar="FILE",
+                     help="put a line RIGHT CLASS for each right into this file, as --expect reads them, where the"
+                          " status is 0; - is standard output, and then nothing else is written there")
     ask.add_argument("--json", action="store_true", help="write JSON instead of words")
     ask.add_argument("--why", metavar="RIGHT", type=right_word, action="append", default=[],
                      help="write for this right its class and each premise that touches it, with what establishes it or"
                           " the doubt of it, and nothing else; may be given again")
 
 
-def expected_by(asked: argparse.Namespace) -> Expected | None:
-    """The expected classes of the words; None where none are given."""
-    return None if asked.expect is None else expecting.read(read_regular(asked.expect, expecting.MOST, follow=True))
+def parsed(ask: argparse.ArgumentParser, given: Sequence[str]) -> argparse.Namespace:
+    """The words of a command with these options. Ends it where they don't go together."""
+    asked = ask.parse_args(given)
+    if asked.classes == STANDARD and asked.json:
+        ask.error("--classes - and --json both write to standard output: --classes FILE goes with --json")
+    return asked
 
 
-def all_rights(asked: argparse.Namespace, own: Sequence[Right], expected: Expected | None) -> list[Right]:
-    """The rights that are asked about: those of the process, and those that are named."""
-    named = list(expected.rights) if expected is not None else []
-    return list(dict.fromkeys([*own, *asked.right, *asked.why, *named]))
+def wanted(asked: argparse.Namespace, lookup: rights.Lookup) -> Wanted:
+    """What the words ask for, with names looked up. Fails where a name is nobody's, where the expected classes can't be
+    read, and where the classes can't be put."""
+    if asked.classes not in (None, STANDARD):
+        typed_files.check_can_be_put(asked.classes)
+    reading = Reading(lookup)
+    more, why = ([right for word in words if (right := reading.right(word)) is not None]
+                 for words in (asked.right, asked.why))
+    expected = None
+    if asked.expect is not None:
+        expected = expecting.read(typed_files.read_typed(asked.expect, expecting.MOST), reading)
+    return Wanted(more, why, expected, list(reading.notes()))
 
 
 def keep(answers: Answers, folder: str) -> None:
@@ -115,14 +146,6 @@ def why_words(answers: Answers, asked: Sequence[Right]) -> list[str]:
             (f"{right.text()}: {kinds[right]}", *(f"  {row}" for row in answers.rows[right]))]
 
 
-@dataclass(frozen=True)
-class Unexpected:
-    """A right of an answer whose class isn't expected, and those that are."""
-    answers: Answers
-    outcome: Outcome
-    wanted: tuple[str, ...]
-
-
 RIGHTS_SCHEMA: dict[str, object] = {
     "rights": [classes.SCHEMA], "counts": {kind: "number" for kind in classes.CLASSES},
     "what_ifs": [{"with": "text", "gone": "number", "of": "number", "class": "text"}]}
@@ -140,8 +163,8 @@ def rights_document(answers: Answers) -> dict[str, object]:
 
 def end_document(new: Sequence[Unexpected], notes: Sequence[str]) -> dict[str, object]:
     """What isn't expected, and the notes."""
-    return {"unexpected": [{"process": each.answers.pid, "right": each.outcome.right.text(), "class": each.outcome.kind,
-                            "expected": list(each.wanted)} for each in new], "notes": list(notes)}
+    return {"unexpected": [{"process": each.process, "right": each.right, "class": each.kind,
+                            "expected": list(each.expected)} for each in new], "notes": list(notes)}
 
 
 def broken(name: str, failure: Broken) -> int:
@@ -152,37 +175,49 @@ def broken(name: str, failure: Broken) -> int:
     return BROKEN
 
 
-def lines(every: Sequence[Answers], asked: argparse.Namespace) -> list[str]:
+def class_lines(every: Sequence[Answers]) -> list[str]:
+    """The lines of a text that expects what is: of several answers a part each."""
+    return [line for each in every for line in
+            ([f"{expecting.PROCESS} {each.pid}"] if len(every) > 1 else []) + expecting.written(each.outcomes)]
+
+
+def lines(every: Sequence[Answers], asked: argparse.Namespace, given: Wanted) -> list[str]:
     """What is written where no JSON is asked for: of several answers a part each, with an empty line between."""
-    if asked.classes:
-        return expecting.written([outcome for each in every for outcome in each.outcomes])
-    parts = [words(each) if not asked.why else [*([each.title] if len(every) > 1 else []), *why_words(each, asked.why)]
+    if asked.classes == STANDARD:
+        return class_lines(every)
+    parts = [words(each) if not given.why else [*([each.title] if len(every) > 1 else []), *why_words(each, given.why)]
              for each in every]
     return "\n\n".join("\n".join(part) for part in parts).split("\n")
 
 
-def unexpected(every: Sequence[Answers], expected: Expected | None) -> list[Unexpected]:
-    """The rights whose class isn't expected, of each answer."""
-    return [Unexpected(each, outcome, wanted) for each in every
-            for outcome, wanted in (expected.new(each.outcomes) if expected is not None else [])]
+def unexpected(every: Sequence[Answers], expected: Expected | None, all_living: bool) -> list[Unexpected]:
+    """What isn't as expected of each answer; where they are of all that live, of processes without an answer too."""
+    if expected is None:
+        return []
+    found = [odd for each in every for odd in expected.new(each.pid, each.outcomes, each.held_by, each.unseen)]
+    return found + (expected.without_answer([each.pid for each in every]) if all_living else [])
 
 
-def told(name: str, asked: argparse.Namespace, every: Sequence[Answers], notes: Sequence[str],
-         expected: Expected | None, document: Callable[[Sequence[Unexpected]], dict[str, object]]) -> int:
+def told(name: str, asked: argparse.Namespace, every: Sequence[Answers], notes: Sequence[str], given: Wanted,
+         document: Callable[[Sequence[Unexpected]], dict[str, object]]) -> int:
     """Writes what was asked for; the exit status."""
     several = len(every) > 1
     if asked.certificates is not None:
         for each in every:
             keep(each, os.path.join(asked.certificates, str(each.pid)) if several else asked.certificates)
-    new = unexpected(every, expected)
+    new = unexpected(every, given.expected, vars(asked).get("pid") is None)
     if asked.json:
         print(schemas.written({"format": FORMAT, **document(new)}))
     else:
-        for line in lines(every, asked):
+        for line in lines(every, asked, given):
             print(shown(line))
     for note in [*notes, *dict.fromkeys(note for each in every for note in each.notes)]:
         tell(name, f"note: {note}")
     for odd in new:
-        right = odd.outcome.right.text() + (f" of process {odd.answers.pid}" if several else "")
-        tell(name, f"{right} is {odd.outcome.kind}, and expected is {' or '.join(odd.wanted)}")
+        tell(name, (f"process {odd.process}: " if several else "") + odd.why)
+    if asked.classes not in (None, STANDARD):
+        if new:
+            tell(name, f"{quoted(asked.classes)} isn't written: the classes aren't those that are expected")
+        else:
+            typed_files.put_typed(asked.classes, "".join(line + "\n" for line in class_lines(every)).encode())
     return FOUND if new else GOOD

@@ -13,7 +13,7 @@ from .family import Family
 from .kernel import Kernel, Trouble
 from .marks import SCANNED, UNSCANNED
 from .members import heads, merged, process_notes, process_rows
-from .premises import ANSWERS, BIRTHS, CREDENTIALS, MAPS, RINGS, SCAN, SECUREBITS
+from .premises import ANSWERS, BIRTHS, CREDENTIALS, GROUPS, MAPS, RINGS, SCAN, SECUREBITS
 from .scan import Scan
 from .shown import few, plural, quoted
 
@@ -77,7 +77,7 @@ def captured(kernel: Kernel, family: Family, wishes: Wishes, says: Says) -> Capt
     capture = Capture(worlds.World(log="script"))
     made = named_spaces(kernel, family, wishes.own_spaces, capture)
     world, evidence = capture.world, capture.evidence
-    for premise in (BIRTHS, CREDENTIALS):
+    for premise in (BIRTHS, CREDENTIALS, GROUPS):
         evidence.establish(premise, f"the family was read from /proc until two of {family.readings} readings agreed")
     evidence.establish(MAPS, "the kernel showed the user namespaces of the system, with owners and maps")
     evidence.establish(ANSWERS, "nothing was followed: the family is as the kernel shows it")

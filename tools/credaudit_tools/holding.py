@@ -8,19 +8,25 @@ from .rights import Right
 from .spaces_of_report import SpaceTold
 
 
+def way_down(above: str, space: str, named: Mapping[str, SpaceTold]) -> list[str] | None:
+    """The namespaces from one down to another, both of them too; None where the second isn't below the first."""
+    way = [space]
+    while way[-1] != above:
+        parent = named[way[-1]].parent if way[-1] in named else None
+        if parent is None:
+            return None
+        way.append(parent)
+    return way[::-1]
+
+
 def over(one: Standing, right: Right, space: str, named: Mapping[str, SpaceTold]) -> Iterator[str]:
     """By what a process has a capability over a namespace: the effective set of its own one, where that is it or above
     it, and its effective user id, where that owns the one on the way down from its own."""
-    way, own = [space], one.credential      # from the namespace up to the process's own
-    while way[-1] != one.space:
-        above = named[way[-1]].parent if way[-1] in named else None
-        if above is None:
-            return
-        way.append(above)
-    if own.eff >> right.number & 1:
+    way, own = way_down(one.space, space, named), one.credential
+    if way is not None and own.eff >> right.number & 1:
         yield "effective set" if len(way) == 1 else f"effective set in {one.space}, above {space}"
-    if len(way) > 1 and named[way[-2]].owner == own.uid[1]:
-        yield f"effective user id {own.uid[1]}, owner of {way[-2]}"
+    if way is not None and len(way) > 1 and named[way[1]].owner == own.uid[1]:
+        yield f"effective user id {own.uid[1]}, owner of {way[1]}"
 
 
 def ways(one: Standing, right: Right, space: str | None, named: Mapping[str, SpaceTold]) -> list[str]:

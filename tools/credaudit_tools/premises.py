@@ -61,9 +61,10 @@ TABLE = (
             "the end of the replay",
             "a member whose fs user id is another than its effective one, or whose fs group id is none of its own: it"
             " can make itself a set-id file of that id"),
-    Premise(GROUPS, "supplementary groups were seen, so that a forgotten setgroups shows",
-            "a process with groups at the start, or a call of setgroups",
-            "none of both", ("gid",)),
+    Premise(GROUPS, "supplementary groups were seen of each member, so that a forgotten setgroups shows",
+            "of each member groups with which it, or a forebear of it, began, or a call of setgroups, its own or one of"
+            " a forebear before its birth",
+            "a member of which none of both was seen", ("gid",)),
     Premise(POWER, "no member can have a capability over the initial namespace that acts without a listed call",
             "audits of the family at the end",
             "one of these capabilities that can be had"),
@@ -93,4 +94,4 @@ BY_NAME = {each.name: each for each in TABLE}
 
 # Rows whose evidence isn't there yet: summary.py establishes them as it always did. Whoever adds the evidence takes the
 # name out.
-NOT_YET = (GROUPS, POWER, MOUNTS, FILES, BINFMT)
+NOT_YET = (POWER, MOUNTS, FILES, BINFMT)

@@ -1,20 +1,21 @@
-"""A summary: for each right that a process had at the start of a log, what became of it at the end."""
-from collections.abc import Iterable, Sequence
+"""A summary: for each right that a family had in a log, what became of it at the end."""
+from collections.abc import Callable, Iterable, Sequence
 from dataclasses import dataclass, field
 
-from . import answering, fs_ids, log_doubts, premises, touched, verifying, world_doubts, worlds
-from .answering import Answers, Broken, Unexpected
+from . import answering, fs_ids, groups_seen, log_doubts, premises, touched, verifying, whose, world_doubts, worlds
+from .answering import Answers, Broken
 from .asking import Asking, Files
 from .command import Failure, Says, silent
 from .end_world import births_of, end_of
 from .evidence import AS_BEFORE, Evidence
+from .expecting import Unexpected
 from .explain import process_words
 from .findings import Finding
+from .had import rights_had
 from .joining import joined
 from .judged import Family, Judge, same_as_replayed
-from .names import CAPABILITIES
 from .recording import FORMAT, MADE, Recording, altered
-from .report import BIRTHS, Report
+from .report import Report
 from .rights import Right
 from .shown import few, plural
 from .touched import Facts, facts_of
@@ -53,7 +54,7 @@ def by_hand() -> Evidence:
     """The evidence of a world and a log that nobody recorded: the word of who wrote them, and no scan."""
     found = Evidence()
     for each in premises.TABLE:
-        if not each.of_files():
+        if not each.of_files() and each.name != premises.GROUPS:
             found.establish(each.name, BY_HAND)
     return found
 
@@ -93,50 +94,7 @@ def suspicion(given: Given, report: Report) -> list[Finding]:
     return found
 
 
-# ---- the rights ------------------------------------------------------------------------------------------------------
-
-
-def at_start(world: World, report: Report, pid: int) -> int:
-    """The process of the world from which a process descends, itself where the world has it."""
-    makers, at, seen = births_of(world, report).makers, pid, set[int]()
-    first = {row.pid for row in world.processes}
-    while at not in first and at in makers and at not in seen:
-        seen.add(at)
-        at = makers[at][-1]
-    return at
-
-
-def rights_of(report: Report, pid: int) -> list[Right]:
-    """What a process had at the start of the log: each of its user ids, of its group ids and of its groups, and each
-    permitted capability over its user namespace."""
-    [one] = [each for each in report.start if each.pid == pid]
-    own = one.credential
-    ids = [Right("uid", each) for each in (own.uid[1], *own.uid)]
-    ids += [Right("gid", each) for each in (own.gid[1], *own.gid, *sorted(own.groups))]
-    caps = [Right("cap", number, one.space) for number in range(len(CAPABILITIES)) if own.prm >> number & 1]
-    return list(dict.fromkeys([*ids, *caps]))
-
-
-def with_groups_set(report: Report) -> set[int]:
-    """The processes that called setgroups, or descend from one that had."""
-    found = set[int]()
-    for event in report.events:
-        if event.call == "setgroups":
-            found.add(event.pid)
-        elif event.call in BIRTHS and event.result.isdigit():
-            child = int(event.result)
-            found = found | {child} if event.pid in found else found - {child}
-    return found
-
-
-def unseen_groups(report: Report, first: int, family: Iterable[int]) -> list[str]:
-    """A note where a forgotten setgroups isn't seen: the process began without groups, and none of the family, and
-    nobody before it, called setgroups."""
-    groups = next((each.credential.groups for each in report.start if each.pid == first), None)
-    if groups != frozenset() or with_groups_set(report) & set(family):
-        return []
-    return [f"process {first} began without supplementary groups, and setgroups was never called: a forgotten one isn't"
-            " seen; record it with the groups that it has in earnest"]
+# ---- the process ----------------------------------------------------------------------------------------------------
 
 
 def chosen(world: World, report: Report, pid: int | None) -> list[int]:
@@ -206,12 +164,13 @@ class Summary:
 
 
 def answer(ask: Asking, given: Given, report: Report, pid: int, more: Sequence[Right]) -> Answers:
-    """What the program says of each right of a process, and of those that are named beside."""
-    first = at_start(given.world, report, pid)
-    own = rights_of(report, first) if any(each.pid == first for each in report.start) else []
+    """What the program says of each right that the family of a process had, and of those that are named beside."""
+    own = rights_had(given.world, report, pid)
     end = end_of(given.world, report, pid)
-    facts = facts_of(given.world, report, given.log, end)
-    family = Family(given.files, pid, end, evidence_of(given, facts, [each.pid for each in end.family]))
+    members = [each.pid for each in end.family]
+    evidence = evidence_of(given, facts_of(given.world, report, given.log, end), members)
+    unseen = groups_seen.tell(evidence, report, members)
+    family = Family(given.files, pid, end, evidence)
     same_as_replayed(ask, family)
     judge = Judge(ask, family)
     outcomes = judge.outcomes(list(dict.fromkeys([*own, *more])))
@@ -219,19 +178,21 @@ def answer(ask: Asking, given: Given, report: Report, pid: int, more: Sequence[R
     title = process_words(one, end.spaces.named[one.space] if one.space != INITIAL else None)
     if len(end.family) > 1:
         title += f"; with {plural(len(end.family) - 1, 'process')} that it started"
-    members = [each.pid for each in end.family]
-    rows = {each.right: list(family.evidence.rows(each.right, family.space(each.right))) for each in outcomes}
-    return Answers(title, outcomes, judge.what_ifs(outcomes), unseen_groups(report, first, members), rows, pid,
-                   frozenset(members))
+    executed = whose.programs(given.log, given.world.log == "strace", report)
+    rows = {each.right: list(evidence.rows(each.right, family.space(each.right))) for each in outcomes}
+    return Answers(title, outcomes, judge.what_ifs(outcomes), [groups_seen.note(unseen)] if unseen else [], rows, pid,
+                   frozenset(members), whose.held_by(end, outcomes, family.space, executed),
+                   whose.members(unseen, executed))
 
 
-def summed_up(ask: Asking, given: Given, pid: int | None, more: Sequence[Right]) -> Summary:
-    """What the program says of the rights of a process, or, where none is named, of all that live at the log's end."""
+def summed_up(ask: Asking, given: Given, pid: int | None, more: Callable[[int], Sequence[Right]]) -> Summary:
+    """What the program says of the rights of a process, or, where none is named, of all that live at the log's end;
+    `more` gives the rights that are named beside for the answer about a process."""
     unaltered(given)
     report = accepted(ask, given)
     of_older(given)
     of_recording(given, report, ask.says)
-    answers = [answer(ask, given, report, each, more) for each in chosen(given.world, report, pid)]
+    answers = [answer(ask, given, report, each, more(each)) for each in chosen(given.world, report, pid)]
     without = set(report.alive()) - {member for each in answers for member in each.members}
     found = suspicion(given, report)
     notes = [*given.notes, *ask.notes, *(f"suspect: {each.why}" for each in found[:SUSPECT])]

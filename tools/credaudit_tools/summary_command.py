@@ -3,7 +3,7 @@ import argparse
 import os
 from collections.abc import Sequence
 
-from . import answering, command, evidence_text, premises, recording, summary, worlds
+from . import answering, command, evidence_text, premises, recording, rights, summary, users, worlds
 from .answering import Broken
 from .asking import Asking, Files, asking
 from .command import Failure, Progress
@@ -14,13 +14,13 @@ from .shown import quoted
 from .summary import Given, Summary
 
 NAME = "credaudit-summary"
-SAYS = """Tells for each right that a process had at the start of a log what became of it: held, regained by its own
-calls or through a program, gone, or open. Every verdict is credaudit's. RECORDING is a folder that credaudit-trace
-wrote; where PID isn't given, each process that lives at its end stands in an answer: it is asked about, or one of its
-ancestors is."""
+SAYS = """Tells for each right that a process, or one that it started, had in a log what became of it: held, regained
+by its own calls or through a program, gone, or open. Every verdict is credaudit's. RECORDING is a folder that
+credaudit-trace wrote; where PID isn't given, each process that lives at its end stands in an answer: it is asked about,
+or one of its ancestors is."""
 AFTER = """exit status:
-  0  it is told, and each class is an expected one
-  1  a right has another class than expected
+  0  it is told, and all is as expected
+  1  a right has another class than expected or no line, or groups weren't seen
   2  the words are wrong
   3  it can't be told: no program, a file that can't be read; the reason is told
   4  the recording is broken: the log or the world is refused, or isn't what the kernel showed"""
@@ -33,8 +33,10 @@ def words_of(given: Sequence[str]) -> argparse.Namespace:
     ask.usage = f"{NAME} [OPTION ..] WORLD LOG PID\n       {NAME} [OPTION ..] RECORDING [PID]"
     ask.add_argument("names", metavar="WORLD LOG PID | RECORDING [PID]", nargs="+")
     ask.add_argument("--files", metavar="SCAN", help="a world of credaudit-capture, whose files are declared too")
+    ask.add_argument("--of-root", action="store_true",
+                     help="ask for root's rights too: user and group 0, root's groups, each capability over init")
     answering.options(ask)
-    asked = ask.parse_args(given)
+    asked = answering.parsed(ask, given)
     if len(asked.names) > THREE:
         ask.error("a world, a log and a pid, or a recording and a pid")
     asked.pid = None
@@ -97,16 +99,19 @@ def with_scan(ask: Asking, given: Given, path: str) -> Given:
 
 def summed_up(asked: argparse.Namespace, progress: Progress) -> int:
     """The whole command."""
-    expected = answering.expected_by(asked)
+    wanted = answering.wanted(asked, users.on_machine)
+    if asked.of_root:
+        wanted.rights[:0] = rights.of_root(users.of_machine())
     with asking(Program(), progress.at) as ask:
         given = given_by(ask, asked.names)
         if asked.files is not None:
             given = with_scan(ask, given, asked.files)
-        made: Summary = summary.summed_up(ask, given, asked.pid, answering.all_rights(asked, (), expected))
+        made: Summary = summary.summed_up(ask, given, asked.pid, wanted.of_process)
     if given.made:
         for each in made.answers:
             each.made = {recording.WORLD: given.text, recording.LOG: given.log}
-    return answering.told(NAME, asked, made.answers, made.notes, expected, lambda new: summary.document(made, new))
+    return answering.told(NAME, asked, made.answers, [*made.notes, *wanted.notes], wanted,
+                          lambda new: summary.document(made, new))
 
 
 def main(given: Sequence[str]) -> int:

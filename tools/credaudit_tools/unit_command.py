@@ -4,21 +4,21 @@ import os
 from collections.abc import Sequence
 
 from . import (answering, command, evidence_text, fs_ids, premises, touched, unit_files, unit_settings, unit_world,
-               users, worlds)
-from .answering import Answers, Broken, Unexpected
+               users, whose, worlds)
+from .answering import Answers, Broken
 from .asking import Asking, asking
 from .command import Failure, Progress, Says, tell
 from .end_world import end_of
 from .evidence import AS_BEFORE
-from .expecting import Expected
+from .expecting import Unexpected
 from .explain import process_words
 from .files import read_regular
 from .judged import Family, Judge, same_as_replayed
-from .names import CAPABILITIES
 from .program import Program
-from .rights import Right
+from .rights import Right, of_root
 from .unit_files import SUFFIX, Unit
 from .unit_world import Made
+from .users import Users
 from .worlds import INITIAL
 
 NAME = "credaudit-unit"
@@ -26,8 +26,8 @@ SAYS = """Tells for each right of root whether the processes of a service can ge
 drop-ins, or of the file of one. The settings of systemd.exec(5) make a world; every verdict on it is credaudit's. What
 isn't counted is told on standard error."""
 AFTER = """exit status:
-  0  it is told, and each class is an expected one
-  1  a right has another class than expected
+  0  it is told, and all is as expected
+  1  a right has another class than expected, or no line
   2  the words are wrong
   3  it can't be told: no program, a file that can't be read; the reason is told
   4  the unit isn't there, is masked, or wouldn't start as it is written"""
@@ -44,7 +44,7 @@ def words_of(given: Sequence[str]) -> argparse.Namespace:
     ask.add_argument("--root", metavar="FOLDER", default="/", help="look for units and users below this folder")
     ask.add_argument("--world", action="store_true", help="write the world that is made, and ask nothing")
     answering.options(ask)
-    return ask.parse_args(given)
+    return answering.parsed(ask, given)
 
 
 def unit_by(word: str, root: str) -> Unit:
@@ -59,9 +59,8 @@ def unit_by(word: str, root: str) -> Unit:
         raise Broken(str(failure), failure.advice) from failure
 
 
-def made_by(asked: argparse.Namespace, unit: Unit) -> Made:
+def made_by(asked: argparse.Namespace, unit: Unit, known: Users) -> Made:
     """The world of a unit. Fails where it wouldn't start."""
-    known = users.of_machine() if asked.root == "/" else users.of_root(asked.root)
     try:
         settings = unit_settings.settings(unit, known)
     except unit_settings.NotKnown:
@@ -77,13 +76,6 @@ def made_by(asked: argparse.Namespace, unit: Unit) -> Made:
     made = unit_world.world_of(unit, settings, files, data.decode("utf-8", "replace"), scan, asked.root)
     made.notes = [*settings.notes, *made.notes]
     return made
-
-
-def rights_of(made: Made) -> list[Right]:
-    """What root has: user and group 0, and each capability over the initial namespace and over the unit's own."""
-    spaces = dict.fromkeys([INITIAL, made.world.processes[0].space])
-    return [Right("uid", 0), Right("gid", 0),
-            *(Right("cap", number, space) for space in spaces for number in range(len(CAPABILITIES)))]
 
 
 def judged(ask: Asking, made: Made, rights: Sequence[Right]) -> Answers:
@@ -105,25 +97,29 @@ def judged(ask: Asking, made: Made, rights: Sequence[Right]) -> Answers:
     family = Family(files, unit_world.PID, end, evidence)
     same_as_replayed(ask, family)
     judge = Judge(ask, family)
-    outcomes = judge.outcomes(rights)
+    outcomes = judge.outcomes(list(dict.fromkeys(rights)))
     one = end.family[0]
     title = process_words(one, end.spaces.named[one.space] if one.space != INITIAL else None)
     rows = {each.right: list(evidence.rows(each.right, family.space(each.right))) for each in outcomes}
-    return Answers(title, outcomes, judge.what_ifs(outcomes), [*made.notes, *ask.notes], rows, unit_world.PID)
+    held_by = whose.held_by(end, outcomes, family.space, whose.programs(made.log, made.world.log == "strace", read))
+    return Answers(title, outcomes, judge.what_ifs(outcomes), [*made.notes, *ask.notes], rows, unit_world.PID,
+                   held_by=held_by)
 
 
 def answered(asked: argparse.Namespace, says: Says) -> int:
     """The whole command."""
-    expected: Expected | None = answering.expected_by(asked)
+    known = users.of_machine() if asked.root == "/" else users.of_root(asked.root)
+    wanted = answering.wanted(asked, users.on_machine if asked.root == "/" else known.id_of)
     unit = unit_by(asked.unit, asked.root)
-    made = made_by(asked, unit)
+    made = made_by(asked, unit, known)
     if asked.world:
         print(worlds.written(made.world).decode("ascii"), end="")
         for note in made.notes:
             tell(NAME, f"note: {note}")
         return command.GOOD
     with asking(Program(), says) as ask:
-        answers = judged(ask, made, answering.all_rights(asked, rights_of(made), expected))
+        own = of_root(known, (INITIAL, made.world.processes[0].space))
+        answers = judged(ask, made, [*own, *wanted.of_process(unit_world.PID)])
     answers.title = f"unit {unit.name}: {answers.title}"
     answers.made = {"world.toml": worlds.written(made.world), "log": made.log}
     front: dict[str, object] = {"unit": unit.name, "files": unit.files, "world": worlds.written(made.world).decode(),
@@ -131,7 +127,7 @@ def answered(asked: argparse.Namespace, says: Says) -> int:
 
     def document(new: Sequence[Unexpected]) -> dict[str, object]:
         return {**front, **answering.rights_document(answers), **answering.end_document(new, answers.notes)}
-    return answering.told(NAME, asked, [answers], [], expected, document)
+    return answering.told(NAME, asked, [answers], [], wanted, document)
 
 
 def main(given: Sequence[str]) -> int:

@@ -39,6 +39,13 @@ class Users:
             return number
         return self.groups.get(word, {"root": 0, "nogroup": NOBODY}.get(word))
 
+    def id_of(self, kind: str, name: str) -> int | None:
+        """The id of a user (kind `uid`) or of a group (`gid`) of this name; None where nobody has it."""
+        if kind == "gid":
+            return self.group(name)
+        user = self.user(name)
+        return None if user is None else user.uid
+
     def groups_of(self, name: str) -> set[int]:
         """The groups of which a user is a member (initgroups(3))."""
         return {gid for gid, names in self.members.items() if name in names}
@@ -49,6 +56,15 @@ def number_of(word: str) -> int | None:
     if not word.isascii() or not word.isdigit() or len(word) > len(str(LAST_ID)):
         return None
     return int(word) if int(word) <= LAST_ID and int(word) != NO_ID else None
+
+
+def on_machine(kind: str, name: str) -> int | None:
+    """The id of a user (kind `uid`) or of a group (`gid`) of the machine (getpwnam(3), getgrnam(3)); None where nobody
+    has the name. Nobody is looked for by going through all of them, which a directory service may not allow."""
+    try:
+        return pwd.getpwnam(name).pw_uid if kind == "uid" else grp.getgrnam(name).gr_gid
+    except (KeyError, ValueError):
+        return None
 
 
 def of_machine() -> Users:

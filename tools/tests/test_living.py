@@ -40,7 +40,30 @@ class Living(support.Case):
         self.assertEqual(self.command(SIBLING, "101", "--expect", path)[0], GOOD)
         status, _, errors = self.command(SIBLING, "--expect", path)
         self.assertEqual(status, FOUND)
-        self.assertIn("uid:0 of process 102 is held, and expected is gone-by-own-calls\n", errors)
+        self.assertIn("process 102: uid:0 is held, and expected is gone-by-own-calls\n", errors)
+
+    def test_lines_for_each_process(self) -> None:
+        """What one of them may, another one needn't."""
+        path = os.path.join(self.work, "classes")
+        self.assertEqual(self.command(SIBLING, "--classes", path)[0], GOOD)
+        with open(path, encoding="ascii") as file:
+            text = "groups unseen:102\n" + file.read()
+        rows: list[tuple[list[str], str, int, str]] = [
+            ([], text, GOOD, ""), (["101"], text, GOOD, ""), (["102"], text, GOOD, ""),
+            ([], text.replace("101", "103").replace("102", "101").replace("103", "102"), FOUND,
+             "process 101: uid:0 is gone-by-own-calls, and expected is held\n"),
+            ([], "uid:0 held\n* held\n" + text.replace("uid:0 gone-by-own-calls\n", ""), FOUND,
+             "process 101: uid:0 is gone-by-own-calls, and expected is held\n"),
+            ([], text.split("process 102\n")[0], FOUND,
+             "process 102: process 102 lives, and no line `process 102` of the expected classes is for it\n"),
+            ([], text + "process 103\nuid:0 gone\n", FOUND,
+             "process 103 of the expected classes isn't asked about"),
+            (["101"], text + "process 103\nuid:0 gone\n", GOOD, "")]
+        for pids, texts, status, told in rows:
+            with self.subTest(texts, pids=pids):
+                found, _, errors = self.command(SIBLING, *pids, "--expect", self.put("expect", texts.encode()))
+                self.assertEqual(found, status, errors)
+                self.assertIn(told, errors)
 
     def test_one_that_stands_in_no_answer_is_no_clean_bill(self) -> None:
         with mock.patch.object(end_world.Births, "family", lambda _, root: [root]), \
@@ -59,9 +82,10 @@ class Living(support.Case):
         told = json.loads(self.command(SIBLING, "--json")[1])
         self.assertTrue(schemas.fits(told, summary.SCHEMA), told)
         self.assertEqual([each["process"] for each in told["answers"]], [101, 102])
-        _, out, _ = self.command(SIBLING, "--classes")
-        self.assertIn("uid:0 gone-by-own-calls,held\n", out)
-        self.assertEqual(self.command(SIBLING, "--expect", self.put("all", out.encode()))[0], GOOD)
+        _, out, _ = self.command(SIBLING, "--classes", "-")
+        first, second = out.split("process 102\n")
+        self.assertTrue(first.startswith("process 101\nuid:0 gone-by-own-calls\n"), first)
+        self.assertTrue(second.startswith("uid:0 held\n"), second)
         _, out, _ = self.command(SIBLING, "--why", "uid:0")
         self.assertEqual([line for line in out.split("\n") if line.startswith("uid:0: ")],
                          ["uid:0: gone-by-own-calls", "uid:0: held"])

@@ -71,7 +71,7 @@ class Pages(Case):
         folder = os.path.join(EXAMPLES, "real_id_left")
         answers = {("real", f"{kind}:33"): no(100) for kind in ("uid", "gid")}
         with mock.patch.object(summary_command, "Program", lambda: Told(None, answers)):
-            _, told, _ = self.told(summary_command.main, "--classes", os.path.join(folder, "world.toml"),
+            _, told, _ = self.told(summary_command.main, "--classes", "-", os.path.join(folder, "world.toml"),
                                    os.path.join(folder, "log"), "100")
         self.assertIn("log 100\n" + told, page("credaudit-summary"))
 

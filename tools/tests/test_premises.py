@@ -63,17 +63,21 @@ class Case(support.Case):
     def setUp(self) -> None:
         super().setUp()
         self.scan = self.put_scan("scan.toml", World("script", files=[File("/usr/bin/su", 0, 0, 0o4755)]))
-        self.enterContext(mock.patch.object(summary, "rights_of", lambda *_: ASKED))
+        self.enterContext(mock.patch.object(summary, "rights_had", lambda *_: ASKED))
         self.enterContext(mock.patch.object(summary_command, "Program", lambda: self.program))
         self.enterContext(mock.patch.object(summary, "suspicion", lambda *_: []))      # a lint, which judges nothing
         self.enterContext(mock.patch.object(Asking, "side_by_side", lambda _, what, ask, items: list(map(ask, items))))
 
     def classes(self, folder: str, *words: str) -> dict[Right, set[str]]:
         """The classes of the rights that are asked about, of all families; none where nothing is answered."""
-        status, out, _ = self.told(summary_command.main, "--classes", "--files", self.scan, *words, folder)
+        status, out, _ = self.told(summary_command.main, "--classes", "-", "--files", self.scan, *words, folder)
         self.assertEqual(status == GOOD, out != "")
-        pairs = [line.split() for line in out.split("\n")[:-1]]
-        return {right: set(kinds.split(",")) for word, kinds in pairs if (right := rights.parse(word)) is not None}
+        found = dict[Right, set[str]]()
+        for word, kind in (line.split() for line in out.split("\n")[:-1]):
+            right = rights.parse(word)
+            if right is not None:
+                found.setdefault(right, set()).add(kind)
+        return found
 
     def gone(self, folder: str) -> set[Right]:
         """The rights that are called gone, of whichever family."""
@@ -203,7 +207,7 @@ class Unit(Case):
         self.put("/etc/group", b"web:x:34:\n")
         unit = self.put("web.service", b"[Service]\nExecStart=/usr/sbin/web\nUser=web\n")
         with mock.patch.object(unit_command, "Program", lambda: self.program):
-            status, out, _ = self.told(unit_command.main, "--root", self.work, "--classes", *words, unit)
+            status, out, _ = self.told(unit_command.main, "--root", self.work, "--classes", "-", *words, unit)
         self.assertEqual(status, GOOD)
         return {line.split()[0] for line in out.split("\n")[:-1] if line.split()[1] == GONE}
 

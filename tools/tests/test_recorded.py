@@ -90,7 +90,7 @@ class Told(support.Case):
 
     def test_by_plain_python(self) -> None:
         """The named rights alone: all that a process had would take minutes."""
-        with mock.patch.object(summary, "rights_of", lambda *_: []):
+        with mock.patch.object(summary, "rights_had", lambda *_: []):
             self.compare(Plain)
 
     @unittest.skipIf(BUILT is None, "CREDAUDIT_BUILT names no program")

@@ -8,13 +8,14 @@ from collections.abc import Callable
 from dataclasses import replace
 from unittest import mock
 
-from credaudit_tools import (answering, classes, expecting, lint_command, recording, rights, schemas, summary,
-                             summary_command, verify_command, worlds)
+from credaudit_tools import (answering, classes, lint_command, recording, rights, schemas, summary, summary_command,
+                             verify_command, worlds)
 from credaudit_tools.answering import BROKEN
 from credaudit_tools.asking import Asking, Files, shortened
 from credaudit_tools.classes import Outcome
 from credaudit_tools.command import FAILED, FOUND, GOOD, USAGE, Failure
 from credaudit_tools.marks import SCANNED
+from credaudit_tools.names import CAPABILITIES
 from credaudit_tools.program import PIECE, Program, tail_of
 from credaudit_tools.rights import Right
 from credaudit_tools.worlds import File, Mount, World
@@ -27,13 +28,14 @@ from .told_rows import file_row, space_row
 # A daemon that root starts, with two capabilities; it becomes the user 33 and keeps its saved user id.
 WORLD = f"""# {SCANNED}
 log = "script"
-{space_row("box", 0, [[0, 7, 1]], [[0, 7, 1]])}{file_row("/usr/bin/su", "4755")}[[process]]
+{file_row("/usr/bin/su", "4755")}[[process]]
 pid = 100
 groups = [4]
 permitted = "CAP_KILL,CAP_SETUID"
 effective = "CAP_KILL,CAP_SETUID"
 """
-LOG = "100 setresuid 33 33 0 = 0\n100 unshare = 0\n"
+LOG = "100 setresuid 33 33 0 = 0\n"
+BOX = space_row("box", 0, [[0, 7, 1]], [[0, 7, 1]])
 RAISE = "100 capset 0000000000000080 0000000000000080 0000000000000000 = 0"
 OWN, SU = "100 setresuid -1 0 -1 = 0", "100 execve /usr/bin/su = 0"
 ANSWERS: Answers = {
@@ -41,9 +43,10 @@ ANSWERS: Answers = {
     ("real", "gid:0"): no(101, RAISE, SU, OWN),
     ("real", "gid:4"): f"undecided exec_gid fresh(init)\n{CERTIFICATE}\n",
     ("if-1", "gid:4"): f"undecided exec_gid fresh(init)\n{CERTIFICATE}\n", ("if-2", "uid:0"): no(100, OWN)}
-SUSPECT = "credaudit-summary: note: suspect: user namespaces are declared, and no process stands in one\n"
 NEEDED = {"uid:0": OWN, "gid:0": SU}       # without which the program doesn't confirm a run
 START = ["uid:0", "gid:0", "gid:4", "cap:CAP_KILL@init", "cap:CAP_SETUID@init"]
+HAD = ["uid:0", "uid:33", *START[1:]]
+MADE = [f"cap:CAP_{name}@#2" for name in CAPABILITIES]
 
 
 class Case(support.Case):
@@ -63,31 +66,30 @@ class Case(support.Case):
 
 class Whole(Case):
     def test_one_line_for_each_right(self) -> None:
-        status, out, errors = self.command(*self.names(), "100", "--right", "uid:33")
-        self.assertEqual((status, errors), (GOOD, SUSPECT))
+        status, out, errors = self.command(*self.names(), "100")
+        self.assertEqual((status, errors), (GOOD, ""))
         self.assertEqual(out.split("\n")[1:], [
             f"uid:0                regained by its own calls: {OWN} (holder 100)",
+            "uid:33               held by process 100 (effective user id)",
             f"gid:0                regained through /usr/bin/su: {SU} (holder 100)",
             "gid:4                open: a set-group-ID program that a member may run lets it in, in user namespaces"
             " that are made later in init (rule exec_gid, row fresh(init)): set no_new_privs in every member; mount"
             " nosuid; exclude execve",
             "cap:CAP_KILL@init    gone by its own calls", "cap:CAP_SETUID@init  gone by its own calls",
-            "uid:33               held by process 100 (effective user id)",
             "6 rights: 1 held, 1 own-calls, 1 program, 2 gone-by-own-calls, 1 open",
-            # The log leaves a user namespace without maps: a row of docs/KERNEL.md touches all three.
-            "with no_new_privs 0 of 3 gone by its own calls",
-            "with an empty bounding set 0 of 3 gone by its own calls",
-            "with a filter of the calls that take ids, capabilities or user namespaces 0 of 3 gone by its own calls",
+            "with no_new_privs 3 of 3 gone by its own calls", "with an empty bounding set 2 of 3 gone by its own calls",
+            "with a filter of the calls that take ids, capabilities or user namespaces 2 of 3 gone by its own calls",
             ""])
-        self.assertTrue(out.startswith("process 100: real user 33 (inside: none), effective user 33 (inside: none),"
-                                       " saved user 0 (inside: none), fs user 33 (inside: none); group 0 (inside:"
-                                       " none);"))
+        self.assertTrue(out.startswith("process 100: real user 33, effective user 33, saved user 0, fs user 33; group"
+                                       " 0; groups 4; "))
 
     def test_the_questions(self) -> None:
-        self.command(*self.names(), "100")
+        self.command(*self.names(WORLD.replace("[[file]]", BOX + "[[file]]"), LOG + "100 unshare = 0\n"), "100")
         asked = self.program.asked
         self.assertEqual({right for word, kind, right in asked if (word, kind) == ("audit", "own")}, {"uid:0", "gid:0"})
-        self.assertEqual({right for word, kind, right in asked if (word, kind) == ("audit", "real")}, set(START))
+        box = {right.replace("#2", "box") for right in MADE}
+        self.assertEqual({right for word, kind, right in asked if (word, kind) == ("audit", "real")},
+                         {*HAD, *MADE, *box})
         own = self.program.worlds["own"]
         self.assertEqual((own.files, own.processes[0].space), ([], "made-2"))
         [limited, unbounded, filtered] = [self.program.worlds[f"if-{number}"] for number in range(3)]
@@ -147,15 +149,16 @@ class Whole(Case):
 
     def test_a_child_had_what_its_ancestor_had(self) -> None:
         log = "100 fork = 101\n101 fork = 102\n101 exit = 0\n102 setresuid 5 5 5 = 0\n"
-        _, out, _ = self.command(*self.names(WORLD, log), "102", "--classes")
-        self.assertEqual([line.split(" ")[0] for line in out.split("\n")[:-1]], START)
+        _, out, _ = self.command(*self.names(WORLD, log), "102", "--classes", "-")
+        self.assertEqual([line.split(" ")[0] for line in out.split("\n")[:-1]], ["uid:0", "uid:5", *START[1:]])
 
     def test_ids_of_all_kinds(self) -> None:
-        world = WORLD.replace("groups = [4]", "groups = [4]\nuid = [1, 2, 3, 4]\ngid = [5, 6, 7, 5]\nspace = \"box\"")
-        _, out, _ = self.command(*self.names(world, ""), "100", "--classes")
+        world = WORLD.replace("[[file]]", BOX + "[[file]]").replace(
+            "groups = [4]", 'groups = [4]\nuid = [1, 2, 3, 4]\ngid = [5, 6, 7, 5]\nspace = "box"')
+        _, out, _ = self.command(*self.names(world, ""), "100", "--classes", "-")
         self.assertEqual([line.split(" ")[0] for line in out.split("\n")[:-1]],
-                         ["uid:2", "uid:1", "uid:3", "uid:4", "gid:6", "gid:5", "gid:7", "gid:4", "cap:CAP_KILL@box",
-                          "cap:CAP_SETUID@box"])
+                         ["uid:2", "uid:1", "uid:3", "uid:4", "uid:7", "gid:6", "gid:5", "gid:7", "gid:4",
+                          "cap:CAP_KILL@box", "cap:CAP_SETUID@box"])
 
     def test_who_started_others(self) -> None:
         _, out, _ = self.command(*self.names(WORLD, "100 fork = 101\n100 fork = 102\n"), "100")
@@ -165,8 +168,9 @@ class Whole(Case):
         join = "100 setns made-2 = 0"
         answers = {("real", "uid:0"): no(100, "100 setns #2 = 0", SU), ("own", "uid:0"): no(100, join)}
         self.program = Told(None, answers)
-        _, out, _ = self.command(*self.names(), "100")
-        self.assertIn("uid:0                regained by its own calls: 100 setns #2 = 0 (holder 100)", out)
+        _, out, _ = self.command(*self.names(WORLD.replace("[[file]]", BOX + "[[file]]"), LOG + "100 unshare = 0\n"),
+                                 "100")
+        self.assertIn("uid:0                           regained by its own calls: 100 setns #2 = 0 (holder 100)", out)
 
     def test_a_run_that_needs_all_its_calls(self) -> None:
         self.program.confirms = lambda right, run: None
@@ -205,37 +209,42 @@ class Whole(Case):
             self.assertEqual(worlds.read(file.read()).files, asked.files)
         for mount in (Mount("root", noexec=True), Mount("nosuid", space="box")):
             scan.mounts = [mount]
-            own = WORLD.replace("[[file]]", '[[mount]]\nname = "root2"\n[[file]]').replace("root2", mount.name)
+            own = WORLD.replace("[[file]]", BOX + '[[mount]]\nname = "root2"\n[[file]]').replace("root2", mount.name)
             self.assertEqual(self.command(*self.names(own), "100", "--files",
                                           self.put("scan.toml", worlds.written(scan)))[0], FAILED)
 
     def test_json(self) -> None:
-        status, out, _ = self.command(*self.names(), "100", "--json", "--expect", self.put("expect", b"uid:0 gone\n"))
+        expected = b"uid:0 gone\n* gone-by-own-calls,held,program,open\n"
+        status, out, _ = self.command(*self.names(), "100", "--json", "--expect", self.put("expect", expected))
         self.assertEqual(status, FOUND)
         self.assertTrue(out.startswith('{\n "format": 2,'))
         told = json.loads(out)
         self.assertTrue(schemas.fits(told, summary.SCHEMA), out)
         self.assertEqual(told["unexpected"], [{"process": 100, "right": "uid:0", "class": "own-calls",
                                                "expected": ["gone"]}])
-        self.assertEqual(told["answers"][0]["rights"][1]["programs"], ["/usr/bin/su"])
-        _, out, _ = self.command(*self.names(), "100", "--json", "--right", "uid:33")
+        self.assertEqual(told["answers"][0]["rights"][2]["programs"], ["/usr/bin/su"])
+        _, out, _ = self.command(*self.names(), "100", "--json")
         [held] = [each for each in json.loads(out)["answers"][0]["rights"] if each["class"] == classes.HELD]
         self.assertEqual((held["right"], held["holder"], held["reasons"]),
                          ("uid:33", 100, ["process 100 (effective user id)"]))
 
     def test_a_forgotten_setgroups_that_is_not_seen(self) -> None:
         world = WORLD.replace("groups = [4]\n", "").replace("CAP_KILL,CAP_SETUID", "CAP_KILL,CAP_SETGID")
-        note = "note: process 100 began without supplementary groups, and setgroups was never called"
+        note = " began without supplementary groups, and setgroups was never called"
         for log, pid, told in (
-                ("", "100", True), ("100 setgroups = 0\n", "100", False), ("100 setgroups 7 = 0\n", "100", False),
-                ("100 fork = 101\n101 fork = 102\n101 setgroups = 0\n", "102", True),
-                ("100 fork = 101\n101 setgroups = 0\n101 fork = 102\n", "102", False),
-                ("100 fork = 101\n101 setgroups = 0\n", "100", False),
-                ("100 fork = 101\n101 setgroups = 0\n101 exit = 0\n", "100", True),
-                ("100 fork = 101\n101 setgroups = 0\n101 exit = 0\n100 fork = 101\n", "101", True)):
+                ("", "100", "100"), ("100 setgroups = 0\n", "100", ""), ("100 setgroups 7 = 0\n", "100", ""),
+                ("100 setgroups = ENOMEM\n", "100", "100"),
+                ("100 fork = 101\n101 fork = 102\n101 setgroups = 0\n", "102", "102"),
+                ("100 fork = 101\n101 setgroups = 0\n101 fork = 102\n", "102", ""),
+                ("100 fork = 101\n101 setgroups = 0\n", "100", "100"),
+                ("100 fork = 101\n100 fork = 102\n101 setgroups = 0\n100 setgroups = 0\n", "100", "102"),
+                ("100 fork = 101\n100 setgroups 4 = 0\n100 fork = 102\n", "100", "101"),
+                ("100 fork = 101\n101 setgroups = 0\n101 exit = 0\n", "100", "100"),
+                ("100 fork = 101\n101 setgroups = 0\n101 exit = 0\n100 fork = 101\n", "101", "101")):
             with self.subTest(log), mock.patch.object(Told, "run", Plain().run):
                 _, _, errors = self.command(*self.names(world, log), pid)
-                self.assertEqual(note in errors, told, errors)
+                self.assertEqual(f"note: process {told}{note}" in errors, bool(told), errors)
+                self.assertEqual(note in errors, bool(told), errors)
         self.assertNotIn(note, self.command(*self.names(), "100")[2])
 
     def test_what_is_suspect_is_told(self) -> None:
@@ -248,7 +257,7 @@ class Whole(Case):
 class Statuses(Case):
     def test_statuses(self) -> None:
         names = self.names()
-        good = self.put("good", self.command(*names, "100", "--classes")[1].encode())
+        good = self.put("good", self.command(*names, "100", "--classes", "-")[1].encode())
         odd, cut = self.put("odd", b"log = 1\n"), self.put("bad", b"100 jump = 0\n")
         rows: list[tuple[int, list[str]]] = [
             (GOOD, [*names, "100", "--expect", good]), (FOUND, [*names, "100", "--expect", self.put("x", b"* gone\n")]),
@@ -264,12 +273,12 @@ class Statuses(Case):
         self.assertEqual(self.command(*names, "100")[0], FAILED)
 
     def test_the_rights_of_the_expected_classes_are_asked_for(self) -> None:
-        path = self.put("expect", b"uid:33 held\n# a remark\ncap:CAP_KILL@#1 gone-by-own-calls,held # another\n"
+        path = self.put("expect", b"uid:33 held\n# a remark\ncap:CAP_KILL@init gone-by-own-calls,held # another\n"
                                   b"* gone-by-own-calls,open,own-calls\n")
         status, out, errors = self.command(*self.names(), "100", "--expect", path)
         self.assertIn("uid:33               held by process 100 (effective user id)", out)
         told = "credaudit-summary: gid:0 is program, and expected is gone-by-own-calls or open or own-calls\n"
-        self.assertEqual((status, errors), (FOUND, SUSPECT + told))
+        self.assertEqual((status, errors), (FOUND, told))
 
 
 class Recordings(Case):
@@ -394,15 +403,6 @@ class Pieces(support.Case):
                             ("cap:CAP_KILL@a b", None), ("uid:0\n", None), ("uid:-1", None)):
             self.assertEqual(rights.parse(text), right, text)
 
-    def test_expected_classes(self) -> None:
-        for text in (b"uid:0\n", b"uid:0 gon\n", b"uid:0 gone held\n", b"uid gone\n", b"uid:0 gone\nuid:0 held\n",
-                     b"* gone\n* held\n", b"uid:0 gone,\n", b"\xff gone\n"):
-            with self.subTest(text), self.assertRaises(Failure):
-                expecting.read(text)
-        self.assertEqual(expecting.read(b"").new([Outcome(Right("uid", 0), classes.HELD)]), [])
-        told = [Outcome(Right("uid", 0), classes.HELD), Outcome(Right("uid", 1), classes.GONE)]
-        self.assertEqual(expecting.read("\n".join(expecting.written(told)).encode()).new(told), [])
-
     def test_each_class_has_words(self) -> None:
         for kind in classes.CLASSES:
             self.assertTrue(classes.words(Outcome(Right("uid", 0), kind, holder=1)))
@@ -478,7 +478,7 @@ class OfTheProgram(support.Case):
 
     def classes(self, *given: str) -> dict[str, str]:
         with mock.patch.object(summary_command, "Program", lambda: Program(REAL)):
-            status, out, errors = self.told(summary_command.main, "--classes", *given)
+            status, out, errors = self.told(summary_command.main, "--classes", "-", *given)
         self.assertEqual(status, GOOD, errors)
         return dict((line.split()[0], line.split()[1]) for line in out.split("\n")[:-1])
 
@@ -493,12 +493,12 @@ class OfTheProgram(support.Case):
             with self.subTest(name):
                 self.assertEqual(self.classes(*names, pid, "--right", "uid:0")["uid:0"], kind)
 
-    def test_a_scanned_world_and_a_right_drop(self) -> None:
+    def test_a_right_drop(self) -> None:
         names = [self.put("world.toml", WORLD.encode()),
                  self.put("log", b"100 setresuid 33 33 33 = 0\n100 no_new_privs 1 = 0\n")]
         told = self.classes(*names, "100", "--right", "uid:33", "--certificates", os.path.join(self.work, "kept"))
         kept = dict.fromkeys(("gid:0", "gid:4", "uid:33"), classes.HELD)
-        self.assertEqual(told, {**dict.fromkeys(START, classes.GONE), **kept})
+        self.assertEqual(told, {**dict.fromkeys(START, classes.GONE_BY_OWN_CALLS), **kept})
 
     def test_a_recording(self) -> None:
         # Its last process is root again (test_examples).

@@ -77,9 +77,9 @@ class Whole(support.Case):
         self.assertEqual(only.credential.uid, (33,) * 4)
 
     def test_a_file(self) -> None:
-        self.assertEqual(self.command(self.put("x.service", UNIT), "--classes")[0], GOOD)
+        self.assertEqual(self.command(self.put("x.service", UNIT), "--classes", "-")[0], GOOD)
         with contextlib.chdir(self.work):
-            self.assertEqual(self.command("x.service", "--classes")[0], GOOD)
+            self.assertEqual(self.command("x.service", "--classes", "-")[0], GOOD)
 
     def test_json(self) -> None:
         status, out, _ = self.command("web", "--json", "--expect", self.put("expect", b"* gone\n"))
@@ -88,7 +88,7 @@ class Whole(support.Case):
         self.assertTrue(schemas.fits(json.loads(out), unit_command.SCHEMA), out)
 
     def test_statuses(self) -> None:
-        classes = self.command("web", "--classes")[1]
+        classes = self.command("web", "--classes", "-")[1]
         good, other = self.put("good", classes.encode()), self.put("new", b"uid:0 gone\n")
         rows: list[tuple[int, list[str]]] = [
             (GOOD, ["web", "--expect", good]), (FOUND, ["web", "--expect", other]), (USAGE, []),
