@@ -21,9 +21,12 @@ from .row import ATTACHED, Trap
 
 TOOLS = os.path.dirname(os.path.dirname(os.path.abspath(__file__)))
 PR_SET_PDEATHSIG, PR_CAPBSET_DROP = 1, 24
-# The capabilities that the cases have at their start: chown, dac_override, fowner, fsetid, kill, setgid, setuid,
-# setpcap, net_raw, sys_chroot, sys_ptrace, sys_admin, mknod, setfcap. Fewer rights are asked about in less time.
-KEPT = (0, 1, 3, 4, 5, 6, 7, 8, 13, 18, 19, 21, 27, 31)
+# The capabilities that a case has at its start, since fewer rights are asked about in less time: dac_override, kill,
+# setgid, setuid, setpcap, sys_ptrace, sys_admin; and where files are made chown, fowner, fsetid, net_raw, sys_chroot,
+# mknod, setfcap too.
+FEW = {1, 5, 6, 7, 8, 19, 21}
+MORE = FEW | {0, 3, 4, 13, 18, 27, 31}
+WITH_FEW = ("ends", "filters", "rings", "siblings", "waits")
 PREMISE = re.compile(r"[a-z][a-z-]*(?=: )")
 
 
@@ -200,7 +203,7 @@ def run(trap: Trap, phase: str, folder: str) -> None:
     prctl = ctypes.CDLL(None).prctl
     prctl(PR_SET_PDEATHSIG, signal.SIGKILL)
     for capability in range(64):
-        if capability not in KEPT:
+        if capability not in (FEW if trap.program in WITH_FEW else MORE):
             prctl(PR_CAPBSET_DROP, capability, 0, 0, 0)
     room = Room(trap, folder)
     seen = room.show() if phase == "show" else room.record()
