@@ -25,7 +25,7 @@ from traps.row import Trap
 HERE = os.path.dirname(os.path.abspath(__file__))
 SOURCES = os.path.join(HERE, "traps")
 ALONE = ["unshare", "--mount", "--pid", "--fork", "--kill-child", "--mount-proc"]
-PATIENCE = 120.0
+PATIENCE = 300.0
 
 
 def compiled(folder: str) -> None:
@@ -51,8 +51,12 @@ def seen_of(trap: Trap, folder: str) -> Seen:
     found = []
     for phase in ("show", "record"):
         path = os.path.join(folder, "kept", trap.name.replace("/", "-"), f"{phase}.seen")
-        done = subprocess.run([*ALONE, sys.executable, __file__, "--inside", phase, "--folder", folder, trap.name],
-                              stdin=subprocess.DEVNULL, capture_output=True, text=True, timeout=PATIENCE, check=False)
+        asked = [*ALONE, sys.executable, __file__, "--inside", phase, "--folder", folder, trap.name]
+        try:
+            done = subprocess.run(asked, stdin=subprocess.DEVNULL, capture_output=True, text=True, timeout=PATIENCE,
+                                  check=False)
+        except subprocess.TimeoutExpired:
+            return Seen(shown=f"it takes more than {PATIENCE:g} s", ended=True)
         if done.returncode or not os.path.exists(path):
             return Seen(shown=f"it can't be run: {done.stderr.strip()[-200:]}", ended=True)
         with open(path, encoding="utf-8") as file:

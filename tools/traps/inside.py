@@ -22,10 +22,10 @@ from .row import ATTACHED, Trap
 TOOLS = os.path.dirname(os.path.dirname(os.path.abspath(__file__)))
 PR_SET_PDEATHSIG, PR_CAPBSET_DROP = 1, 24
 # The capabilities that a case has at its start, since fewer rights are asked about in less time: dac_override, kill,
-# setgid, setuid, setpcap, sys_ptrace, sys_admin; and where files are made chown, fowner, fsetid, net_raw, sys_chroot,
+# setgid, setuid, setpcap, sys_chroot, sys_ptrace, sys_admin; and where files are made chown, fowner, fsetid, net_raw,
 # mknod, setfcap too.
-FEW = {1, 5, 6, 7, 8, 19, 21}
-MORE = FEW | {0, 3, 4, 13, 18, 27, 31}
+FEW = {1, 5, 6, 7, 8, 18, 19, 21}
+MORE = FEW | {0, 3, 4, 13, 27, 31}
 WITH_FEW = ("ends", "filters", "rings", "siblings", "waits")
 PREMISE = re.compile(r"[a-z][a-z-]*(?=: )")
 
