@@ -5,6 +5,7 @@ import glob
 import os
 import re
 import sys
+import tempfile
 import unittest
 from dataclasses import replace
 
@@ -15,7 +16,7 @@ from . import support
 TOOLS = os.path.dirname(support.HERE)
 sys.path.insert(0, TOOLS)
 
-from traps import judging, table  # noqa: E402
+from traps import altering, judging, table  # noqa: E402
 from traps.inside import collect  # noqa: E402
 from traps.judging import Seen, faults  # noqa: E402
 from traps.row import ALL, Trap  # noqa: E402
@@ -43,7 +44,8 @@ class Table(unittest.TestCase):
     def test_each_case_of_a_program_has_a_row(self) -> None:
         for name in SOURCES.keys() - {TELLS}:
             cases = CASE.findall(source(name)[source(name).rindex("TRAPS("):])
-            self.assertEqual(sorted(cases), sorted(each.case for each in table.TRAPS if each.program == name), name)
+            self.assertEqual(set(cases), {each.case for each in table.TRAPS if each.program == name}, name)
+            self.assertEqual(len(cases), len(set(cases)), name)
         self.assertLessEqual({each.program for each in table.TRAPS}, SOURCES.keys())
 
     def test_names_and_spellings_are_of_one_case_each(self) -> None:
@@ -112,6 +114,24 @@ class Judging(unittest.TestCase):
                 (Seen(what_ifs=[("no_new_privs", 41, 41)]), "no change", False)]:
             self.assertEqual(seen.has(word), so, word)
         self.assertIn("1 doubted", judging.words(self.seen))
+
+    def test_what_is_altered(self) -> None:
+        """Each change takes out what it is to take out, and no more; where there is nothing, it fails."""
+        doubts = 'end = "time"\n\n[[doubt]]\npremise = "answers"\nwhy = "a filter"\n\n[sums]\nlog = "0"\n'
+        with tempfile.TemporaryDirectory() as folder:
+            for name, text in (("recording.toml", doubts), ("world.toml", "[[process]]\npid = 1\n"),
+                               ("scan", 'log = "script"\n\n[[file]]\npath = "/x"\n\n[[process]]\npid = 1\n')):
+                with open(os.path.join(folder, name), "w", encoding="utf-8") as file:
+                    file.write(text)
+            scan = os.path.join(folder, "scan")
+            for kind, name, told in (("doubts", "recording.toml", 'end = "time"\n\n[sums]\nlog = "0"\n'),
+                                     ("world", "world.toml", "[[process]]\npid = 1\n" + altering.FILTER),
+                                     ("scan", "scan", 'log = "script"\n\n[[process]]\npid = 1\n')):
+                altering.alter(kind, folder, scan)
+                with open(os.path.join(folder, name), encoding="utf-8") as file:
+                    self.assertEqual(file.read(), told)
+            with self.assertRaises(SystemExit):
+                altering.alter("doubts", folder, scan)
 
     def test_what_a_summary_tells(self) -> None:
         """Of one process, and of several."""

@@ -16,8 +16,9 @@ from collections.abc import Iterator
 from dataclasses import asdict
 from typing import IO
 
+from .altering import alter
 from .judging import Seen
-from .row import ATTACHED, Trap
+from .row import CAPTURED, LAUNCHED, Trap
 
 TOOLS = os.path.dirname(os.path.dirname(os.path.abspath(__file__)))
 PR_SET_PDEATHSIG, PR_CAPBSET_DROP = 1, 24
@@ -26,7 +27,7 @@ PR_SET_PDEATHSIG, PR_CAPBSET_DROP = 1, 24
 # mknod, setfcap too.
 FEW = {1, 5, 6, 7, 8, 18, 19, 21}
 MORE = FEW | {0, 3, 4, 13, 27, 31}
-WITH_FEW = ("ends", "filters", "rings", "siblings", "waits")
+WITH_FEW = ("ends", "filters", "rings", "siblings", "tracers", "waits")
 PREMISE = re.compile(r"[a-z][a-z-]*(?=: )")
 
 
@@ -84,14 +85,10 @@ class Room:
         """What the recorder and the summary tell."""
         if self.trap.asked:
             self.scan()
-        seen, target, service = Seen(), self.words(), None
-        if self.trap.how == ATTACHED:
-            service = subprocess.Popen(target, stdin=subprocess.DEVNULL, stdout=subprocess.PIPE)
-            assert service.stdout is not None
-            service.stdout.readline()
-            target = ["-p", str(service.pid)]
-        else:
-            target = ["--", *target]
+        seen, service = Seen(), None if self.trap.how == LAUNCHED else self.service()
+        target = ["--", *self.words()] if service is None else ["-p", str(service.pid)]
+        if service is not None and self.trap.how == CAPTURED:
+            return self.capture(service.pid)
         before = self.halted()
         with open(self.file("traced"), "w+", encoding="utf-8", errors="replace") as out:
             began = time.monotonic()
@@ -103,9 +100,29 @@ class Room:
         if service is not None and service.poll() is not None:
             seen.left.append(f"the service has ended, with status {service.returncode}, and isn't there")
         if seen.ended and seen.status in (0, 1):
+            if self.trap.altered:
+                alter(self.trap.altered, self.file("recording"), self.file("scan.toml"))
             self.sum_up(seen)
         seen.secret = any(b"SECRET" in data for data in self.recorded())
         return seen
+
+    def service(self) -> subprocess.Popen[bytes]:
+        """The program, begun before the recorder, as far as it says that it is ready."""
+        begun = subprocess.Popen(self.words(), stdin=subprocess.DEVNULL, stdout=subprocess.PIPE)
+        assert begun.stdout is not None
+        begun.stdout.readline()
+        return begun
+
+    def capture(self, pid: int) -> Seen:
+        """A world of what lives, and whether each thread has a row with the kernel's ids and capabilities."""
+        began, path = time.monotonic(), self.file("captured.toml")
+        with open(self.file("traced"), "w", encoding="utf-8") as out:
+            status = self.tool("credaudit-capture", ["-o", path, str(pid)], out).wait(self.trap.limit)
+        with open(path, "rb") as file:
+            rows = {row["pid"]: row for row in tomllib.load(file)["process"]}
+        wrong = [str(task) for task, told in threads_below(pid).items() if differs(rows.get(task), told)]
+        return Seen(ended=True, seconds=time.monotonic() - began, status=status, left=self.halted(),
+                    broken=f"other rows than the kernel shows: {', '.join(wrong)}" if wrong else "")
 
     def recorded(self) -> Iterator[bytes]:
         """The files of the recording, and what was said."""
@@ -172,13 +189,34 @@ class Room:
             collect(json.loads(text), seen)
 
 
-def status_of(pid: int) -> dict[str, str]:
+def status_of(pid: int | str) -> dict[str, str]:
     """The lines of a process's status by their names, none where it has ended (proc(5))."""
     try:
         with open(f"/proc/{pid}/status", encoding="utf-8", errors="replace") as file:
             return dict(line.split(":\t", 1) for line in file.read().splitlines() if ":\t" in line)
     except OSError:
         return {}
+
+
+def threads_below(pid: int) -> dict[int, dict[str, str]]:
+    """The threads of a process and of all that descends from it, each with its status."""
+    found, family = dict[int, dict[str, str]](), {pid}
+    for each in sorted(int(name) for name in os.listdir("/proc") if name.isdigit()):
+        if each in family or int(status_of(each).get("PPid", "0")) in family:
+            family.add(each)
+            found |= {int(task): status_of(f"{each}/task/{task}") for task in os.listdir(f"/proc/{each}/task")}
+    return found
+
+
+def differs(row: dict[str, object] | None, told: dict[str, str]) -> bool:
+    """Whether a row of a captured world has other ids or capabilities than a status; in a user namespace of its own
+    ids have other names, which are those of the initial one."""
+    if row is None:
+        return True
+    sets = {"permitted": "CapPrm", "effective": "CapEff", "inheritable": "CapInh", "bounding": "CapBnd"}
+    ids = {"uid": "Uid", "gid": "Gid"}
+    return any(row[key] != told[name] for key, name in sets.items()) or any(
+        row[key] != [int(word) for word in told[name].split()] for key, name in ids.items())
 
 
 def collect(told: object, seen: Seen) -> None:

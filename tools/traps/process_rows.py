@@ -1,11 +1,13 @@
 """Traps of processes: their ends, their filters, their power, their rings, and who lives."""
-from .row import ALL, ATTACHED, Trap
+from .row import ALL, ATTACHED, CAPTURED, Trap
 
 ENDS = "a process that a signal ended lives on in the replay, and what it had counts as held"
 FILTERS = "a filter answers success and does nothing, so that the log says what the kernel never did"
 POWER = "who has dropped acts as root without a call that sets credentials"
 RINGS = "a ring of io_uring acts as root for who has dropped, without a line of the log"
 SIBLINGS = "one process has dropped and is asked about alone, while another one is root"
+ALTERED = "a line of a recording or of a scan is lost afterwards, and a doubt or a program with it"
+LIVE = "a captured world lacks a thread, or has it otherwise than the kernel"
 SAVED = "a saved user id is forgotten"
 
 TRAPS = (
@@ -31,8 +33,9 @@ TRAPS = (
          "uid:0|cap:.*"),
     *(Trap("power", case, POWER, spelling, ("doubt power",)) for case, spelling in (
         ("fowner", "CAP_FOWNER sets the bit"), ("setfcap", "CAP_SETFCAP gives cap_setuid to a file"),
-        ("fsetid", "CAP_FSETID writes a set-user-ID program, which stays one"), ("chown", "CAP_CHOWN takes root's file"),
-        ("dac_override", "CAP_DAC_OVERRIDE writes it"), ("sys_ptrace", "CAP_SYS_PTRACE writes a process of root"),
+        ("fsetid", "CAP_FSETID writes a set-user-ID program, which stays one"),
+        ("chown", "CAP_CHOWN takes root's file"), ("dac_override", "CAP_DAC_OVERRIDE writes it"),
+        ("sys_ptrace", "CAP_SYS_PTRACE writes a process of root"),
         ("mknod", "CAP_MKNOD opens a device of root"), ("sys_admin", "CAP_SYS_ADMIN mounts over root's file"),
         ("inheritable", "CAP_FOWNER comes by an inheritable bit and a program"))),
     Trap("rings", "own", RINGS, "made in the recording", ("doubt rings",)),
@@ -44,5 +47,13 @@ TRAPS = (
     *(Trap("siblings", case, SIBLINGS, spelling, ("uid:0 held",), ALL) for case, spelling in (
         ("orphans", "two children of a parent that ended"), ("twice", "a double fork"),
         ("taken", "an orphan that a subreaper takes"), ("parent", "CLONE_PARENT"), ("thread", "a thread stays root"))),
+    Trap("filters", "plain", ALTERED, "the doubts of the recording", ("doubt recording or difference",),
+         altered="doubts"),
+    Trap("siblings", "saved", ALTERED, "its world gets a filter that nobody has", ("doubt recording or difference",),
+         altered="world"),
+    Trap("shadow", "exchanged", ALTERED, "the programs of the scan", ("doubt recording or doubt scan or refused",),
+         altered="scan"),
+    Trap("live", "daemon", LIVE, "threads with ids of their own, children, nested namespaces, a filter, a name",
+         ("right",), ALL, how=CAPTURED),
     Trap("siblings", "saved", SAVED, "setresuid(33, 33, 0)", ("right", "uid:0 own-calls"), ALL),
 )

@@ -10,7 +10,8 @@ class Trap:
     """A case of a program of this folder. `told` has what must be seen, each a text of tools/traps/judging.py; `gone`
     which rights may be called gone: none, all, or a regular expression. `options` are those of credaudit-trace, which
     must end within `limit` seconds. `go` is when SIGUSR1 is sent, in seconds from where the service is traced. `asked`
-    says whether rights are asked about, which takes a scan and a summary."""
+    says whether rights are asked about, which takes a scan and a summary. `altered` names a change of the files after
+    the recording (tools/traps/altering.py)."""
     program: str
     case: str
     danger: str
@@ -22,8 +23,9 @@ class Trap:
     limit: float = 60.0
     asked: bool = True
     go: float | None = None
+    altered: str = ""
 
     @property
     def name(self) -> str:
         """The word that names the case."""
-        return f"{self.program}/{self.case}"
+        return f"{self.program}/{self.case}{f'-{self.altered}' if self.altered else ''}"
