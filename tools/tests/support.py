@@ -96,7 +96,7 @@ def scanned(*doubts: str) -> Evidence:
     """The evidence that a capture gives, with these doubts of what its scan looked at."""
     found = Evidence()
     for premise in (premises.BIRTHS, premises.ANSWERS, premises.CREDENTIALS, premises.MAPS, premises.SECUREBITS,
-                    premises.RINGS, premises.SCAN, premises.RECORDING):
+                    premises.GROUPS, premises.RINGS, premises.SCAN, premises.RECORDING):
         found.establish(premise, "the test says so")
     for each in doubts:
         found.doubt(premises.SCAN, each)
