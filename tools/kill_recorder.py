@@ -26,7 +26,7 @@ from credaudit_tools import proc, trace_command, watching
 from credaudit_tools.command import Failure, run
 
 NAME = "kill_recorder.py"
-PATIENCE = 10.0
+PATIENCE = 20.0
 FAMILY = """
 import os, sys, threading, time
 marks = sys.argv[1]

@@ -104,7 +104,7 @@ class Ended(Case):
         self.filter = Filtering(Followed(), Executed(), RunningSystem(self.live.proc))
         self.evidence = Evidence()
         self.sent: list[tuple[int, signal.Signals]] = []
-        for name, value in (("PATIENCE", 0.3), ("STUCK_PATIENCE", 0.05), ("SECOND_PATIENCE", 0.1),
+        for name, value in (("PATIENCE", 60.0), ("STUCK_PATIENCE", 0.05), ("SECOND_PATIENCE", 0.1),
                             ("PAUSE", 0.005), ("send", self.send)):
             self.enterContext(mock.patch.object(watching, name, value))
         self.tracer = StoredTracer(self.live.proc, "S")
@@ -199,20 +199,21 @@ class Doubted(Ended):
     def test_strace_tells_on_and_on(self) -> None:
         self.thread(100, "t")
         self.tracer.told = "R"
-        self.look()
+        with mock.patch.object(watching, "PATIENCE", 0.1):
+            self.look()
         self.assertEqual(self.premises(), ["births", "credentials"])
 
     def test_what_can_not_be_stopped(self) -> None:
         self.thread(100, "R")
-        self.look()
+        with mock.patch.object(watching, "PATIENCE", 0.1):
+            self.look()
         self.assertEqual(self.premises(), ["births", "credentials", "credentials"])
         self.assertIn("these can't be stopped: 100", self.evidence.doubts[-1].why)
 
     def test_a_signal_cuts_it_short(self) -> None:
         self.thread(100, "R")
         begun = time.monotonic()
-        with mock.patch.object(watching, "PATIENCE", 60.0):
-            seen = self.look(is_over=lambda: True)
+        seen = self.look(is_over=lambda: True)
         self.assertLess(time.monotonic() - begun, 30.0)
         self.assertEqual((seen.statuses, self.premises()), ([], ["births", "credentials"]))
 
