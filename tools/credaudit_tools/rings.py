@@ -33,23 +33,26 @@ def is_of_ring(proc: Proc, tid: int) -> bool:
     return bool(flags_of(proc, tid) & IO_WORKER)
 
 
-def marks_of(proc: Proc, tid: int) -> Iterator[str]:
-    """By what a thread shows that a ring acts for it."""
-    if RING in proc.descriptors(tid).values():
-        yield "a descriptor"
+def marks_of_process(proc: Proc, tid: int, tasks: Sequence[int]) -> Iterator[str]:
+    """By what a process of these threads shows that a ring acts for it, beside descriptors."""
     maps = proc.read(tid, "maps") or b""
     if any(line.endswith(b" " + RING.encode()) for line in maps.split(b"\n")):
         yield "memory"
-    if any(is_of_ring(proc, task) for task in proc.tasks(tid)):
+    if any(is_of_ring(proc, task) for task in tasks):
         yield "a thread"
 
 
 def doubts(proc: Proc, tids: Sequence[int], when: str) -> list[str]:
-    """Of each thread that has a ring a doubt. `when` says at which moment it was looked at."""
-    found = []
+    """Of each thread that has a ring a doubt; what its whole process has is told of the first of them. `when` says at
+    which moment it was looked at."""
+    found, known = [], set[int]()
     for tid in tids:
-        marks = list(marks_of(proc, tid))
+        marks = ["a descriptor"] if RING in proc.descriptors(tid).values() else []
+        if tid not in known:
+            tasks = proc.tasks(tid)
+            known.update(tasks)
+            marks += marks_of_process(proc, tid, tasks)
         if marks:
-            found.append(f"process {tid} has a ring of io_uring {when}, by {' and '.join(marks)}: what that does"
-                         " isn't seen")
+            found.append(f"process {tid} has a ring of io_uring {when}, by {' and '.join(marks)}: what that does isn't"
+                         " seen")
     return found

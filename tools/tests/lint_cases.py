@@ -1,9 +1,9 @@
 """The stored cases of the lint: worlds, logs and recordings, what the program answers, and what has to be told.
 
 `CREDAUDIT_STORE=PROGRAM python3 -m tests.lint_cases`, in tools/, asks the program for its answer to each case anew, and
-keeps them in data/lint/answers.json. data/lint/mistakes.txt says how its cases are written; doubts.txt has two things
-more: `status` is a recording's status.txt, and `tells nothing` says that there is no finding but that of a world that
-no scan made.
+keeps them in data/lint/answers.json. data/lint/mistakes.txt says how its cases are written; doubts.txt has three things
+more: `status` is a recording's status.txt, `tells nothing` says that there is no finding but that of a world that no
+scan made, and `tells not TEXT` that none has this text.
 """
 import json
 import os

@@ -67,6 +67,8 @@ class Cases(unittest.TestCase):
                 for where, text in case.tells:
                     if where == "nothing":
                         self.assertEqual([each for each in found if UNSCANNED not in each.why], [])
+                    elif where == "not":
+                        self.assertEqual([each for each in found if text in each.why], [])
                     else:
                         self.assertTrue(has(found, where, text), f"{where} {text!r} isn't in {found}")
 
