@@ -8,7 +8,6 @@ from dataclasses import dataclass
 
 from .bpf_walk import ARGUMENTS, Bits, exact
 
-MACHINE = "x86_64"               # as uname(2) has it
 X86_64, I386, X32_BIT = 0xc000003e, 0x40000003, 0x40000000
 CLONE_NEWUSER = 0x10000000
 

@@ -1,18 +1,14 @@
 """Looks at what may act beside the calls of a log, in processes that are recorded: filters of system calls and rings of
 io_uring, before the log's first line and after its last one."""
-import os
 from collections.abc import Callable, Collection, Mapping, Sequence
 
 from . import filter_evidence, rings, shown_filters
-from .call_numbers import MACHINE
 from .evidence import Evidence
 from .filter_evidence import has_filters
-from .filter_verdicts import can_fake
 from .filters import Filter, before
 from .followed import Task
 from .premises import ANSWERS, RINGS
 from .proc import Proc
-from .shown import plural
 from .shown_filters import Shown
 from .statuses import Status
 
@@ -46,9 +42,7 @@ class FilterLook:
         """Looks at threads that have stopped, and that nobody traces any more, beside the filters of the log; not
         longer than `is_over` lets it."""
         told = [*(each for own in self.old.values() for each in own), *installed]
-        shown = looked_at(statuses, is_over)
-        self.evidence.add(filter_evidence.of_end(tasks, statuses, shown, told))
-        self.doubt_other_machine(shown, told)
+        self.evidence.add(filter_evidence.of_end(tasks, statuses, looked_at(statuses, is_over), told))
         self.evidence.establish(RINGS, NO_RING)
         self.doubt_rings(statuses, "at the end")
 
@@ -56,16 +50,6 @@ class FilterLook:
         """Doubts of those that have a ring."""
         for text in rings.doubts(self.proc, sorted(each.pid for each in statuses), when):
             self.evidence.doubt(RINGS, text)
-
-    def doubt_other_machine(self, shown: Mapping[int, Shown], told: Sequence[Filter]) -> None:
-        """A doubt where the numbers of calls aren't those of this processor, and some filter may answer in the
-        kernel's place."""
-        programs = {program for each in shown.values() if not isinstance(each, str) for program in each}
-        programs |= {each.program for each in told if each.program is not None}
-        count = sum(map(can_fake, programs))
-        if count and os.uname().machine != MACHINE:
-            self.evidence.doubt(ANSWERS, f"{plural(count, 'filter')} of system calls may answer in the kernel's place:"
-                                         f" of which calls isn't known, but on {MACHINE}")
 
 
 def looked_at(statuses: Collection[Status], is_over: Callable[[], bool] = lambda: False) -> dict[int, Shown]:
