@@ -24,7 +24,7 @@ from traps.row import ALL, Trap  # noqa: E402
 SOURCES = {os.path.basename(path)[:-2]: path for path in glob.glob(os.path.join(TOOLS, "traps", "*.c"))}
 TELLS = "tell"              # the program that others execute
 CASE = re.compile(r'\{"([a-z0-9_-]+)", ')
-PLAIN = {"right", "difference", "stopped", "refused", "told", "no change", "no secret"}
+PLAIN = {"right", "difference", "stopped", "refused", "told", "no change", "no secret", "altered"}
 KINDS = {"held", "own-calls", "program", "gone", "gone-by-own-calls", "doubted", "open"}
 
 
@@ -110,6 +110,7 @@ class Judging(unittest.TestCase):
                 (right, "right", True), (right, "told", False), (self.seen, "right", False), (self.seen, "told", True),
                 (Seen(status=0, end="stopped"), "stopped", True), (Seen(status=3), "refused", True),
                 (self.seen, "uid:0 doubted", True), (self.seen, "uid:0 gone", False),
+                (Seen(status=0, broken="the world w isn't as it was written: its sum differs"), "altered", True),
                 (Seen(what_ifs=[("no_new_privs", 0, 41)]), "no change", True),
                 (Seen(what_ifs=[("no_new_privs", 41, 41)]), "no change", False)]:
             self.assertEqual(seen.has(word), so, word)

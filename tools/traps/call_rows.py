@@ -17,7 +17,7 @@ TRAPS = (
         ("chroot", "the root directory is /proc"), ("mount", "a second mount of proc"), ("copy", "dup(2), dup2(2)"),
         ("message", "SCM_RIGHTS"), ("thread", "a thread"), ("shell", "a shell's redirection"),
         ("execve", "a descriptor that outlives an execve"))),
-    *(Trap("maps", case, HIDDEN, spelling, ("right or doubt maps or stopped",), ALL, asked=False)
+    *(Trap("maps", case, HIDDEN, spelling, ("right or told",), ALL, asked=False)
       for case, spelling in (
         ("bind", "the file is mounted elsewhere, and unmounted"), ("bind-folder", "its folder, likewise"),
         ("tree", "open_tree(2)"), ("detached", "a proc that is unmounted while the file is open"),

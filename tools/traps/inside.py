@@ -122,7 +122,7 @@ class Room:
             rows = {row["pid"]: row for row in tomllib.load(file)["process"]}
         wrong = [str(task) for task, told in threads_below(pid).items() if differs(rows.get(task), told)]
         return Seen(ended=True, seconds=time.monotonic() - began, status=status, left=self.halted(),
-                    broken=f"other rows than the kernel shows: {', '.join(wrong)}" if wrong else "")
+                    said=f": {len(wrong)} differences\n" if wrong else "")
 
     def recorded(self) -> Iterator[bytes]:
         """The files of the recording, and what was said."""
@@ -183,8 +183,8 @@ class Room:
             out.seek(0)
             errors.seek(0)
             text, said = out.read(), errors.read()
-        if done.returncode == 4:
-            seen.broken = said.strip().splitlines()[0] if said.strip() else "broken"
+        if done.returncode in (3, 4):
+            seen.broken = said.strip() or "no rights are told"
         if text.strip():
             collect(json.loads(text), seen)
 

@@ -7,6 +7,7 @@ What must be seen is said in these words, several with " or " between them where
   difference          the recording isn't what the kernel showed
   stopped, refused    the recording stopped at a line; the recorder did nothing (status 3), and said why
   told                anything of these but `right`
+  altered             the summary says which file isn't as it was written
   no secret           no file of the recording, and nothing that was said, has the word SECRET
   no change           with no_new_privs, an empty bounding set or a filter no right is said to be gone either
   RIGHT CLASS         the summary calls this right so, of some process
@@ -31,7 +32,7 @@ class Seen:
     doubts: list[str] = field(default_factory=list)
     classes: dict[str, list[str]] = field(default_factory=dict)
     what_ifs: list[tuple[str, int, int]] = field(default_factory=list)
-    broken: str = ""                # why the summary calls the recording broken
+    broken: str = ""                # why the summary tells no rights
     left: list[str] = field(default_factory=list)
     secret: bool = False
 
@@ -41,7 +42,7 @@ class Seen:
 
     def difference(self) -> bool:
         """Whether the replay isn't what the kernel showed."""
-        return bool(self.broken) or bool(re.search(r": [1-9]\d* differences?$", self.said, re.MULTILINE))
+        return "isn't true" in self.broken or bool(re.search(r": [1-9]\d* differences?$", self.said, re.MULTILINE))
 
     def stopped(self) -> bool:
         """Whether the recording ended at a line that can't be told truly."""
@@ -58,7 +59,7 @@ class Seen:
         if word.startswith("doubt "):
             return word.removeprefix("doubt ") in self.doubts
         plain = {"difference": self.difference(), "stopped": self.stopped(), "refused": self.status == 3,
-                 "told": self.told(), "no secret": not self.secret,
+                 "told": self.told(), "altered": "isn't as it was written" in self.broken, "no secret": not self.secret,
                  "no change": not any(count for _, count, _ in self.what_ifs)}
         if word in plain:
             return plain[word]
