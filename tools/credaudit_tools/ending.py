@@ -55,7 +55,7 @@ class Ending:
             return Seen()
         if why is not None:
             halt = watching.bring_to_stop(lambda: self.still(halt.threads, tracer), time.sleep, note=self.note,
-                                          is_over=self.is_over, patience=watching.SECOND_PATIENCE)
+                                          is_over=self.is_over, patience=watching.SECOND_PATIENCE, tracer=tracer.pid)
             self.evidence.doubt(CREDENTIALS, LATER)
         if halt.moving:
             told = few([str(tid) for tid in halt.moving])
@@ -75,7 +75,7 @@ class Ending:
             return stream.is_empty() and tracer.is_waiting()
 
         halt = watching.bring_to_stop(lambda: self.members(tracer.pid), stream.pump, is_idle, self.note,
-                                      lambda: self.is_over() or stuck.is_so())
+                                      lambda: self.is_over() or stuck.is_so(), tracer=tracer.pid)
         if stuck.found:
             return halt, ("strace waited for one of the processes that it traces (as userfaultfd(2) makes it), and was"
                           " ended: what came after the log's last line isn't in it")

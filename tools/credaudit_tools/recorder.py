@@ -85,6 +85,7 @@ class Recorder:
             lambda: watching.family(watching.all_threads(self.live.proc), roots, [os.getpid()]), time.sleep,
             note=self.note_stops, is_over=self.is_signalled)
         self.check_goes_on()
+        starting.check_untraced(halt.threads.values())
         if halt.moving:
             raise Failure(f"these can't be stopped, so that they could be looked at: "
                           f"{few([str(tid) for tid in halt.moving])}")
@@ -163,15 +164,18 @@ class Recorder:
         """What was seen of a premise."""
         self.made.evidence.establish(premise, by)
 
+    def ends_program(self) -> bool:
+        """Whether the program ends with the recording."""
+        return bool(self.asked.words) and not self.asked.keep
+
     def release(self) -> None:
         """What was followed goes on, or ends."""
         living, self.living = self.living, set()
-        ends_too = bool(self.asked.words) and not self.asked.keep
-        if ends_too:
+        if self.ends_program():
             watching.send(living, signal.SIGTERM)
         watching.send(living, signal.SIGCONT)
         self.watchdog.went_on()
-        if ends_too:
+        if self.ends_program():
             ends, before = time.monotonic() + END_PATIENCE, self.signals
             while self.some_live(living) and time.monotonic() < ends and self.signals == before:
                 time.sleep(0.02)
@@ -254,10 +258,11 @@ class Recorder:
         if self.made.end == "program":
             tracer.finish()
             ending.read_rest(stream)
-            self.living = self.doubt_ends(tracer)
+            left = self.doubt_ends(tracer)
+            self.living = left if self.ends_program() else set()
         else:
             seen = ending.look(tracer, stream)
-            self.living |= watching.processes(seen.threads.values())
+            self.living |= watching.processes(seen.threads.values()) if self.ends_program() else set()
         self.filters.at_end(self.filter.followed.tasks, seen.statuses, self.filter.taken.filters, ending.is_over)
         self.release()
         if stream.stopped is not None:

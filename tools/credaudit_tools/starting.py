@@ -1,7 +1,7 @@
 """The start of a recording: what is to be recorded, checked and looked at while nothing of it runs, as the world
 declares it and as the filter of lines follows it."""
 import os
-from collections.abc import Mapping, Sequence
+from collections.abc import Collection, Mapping, Sequence
 
 from . import spaces, watching, worlds
 from .command import Failure
@@ -12,13 +12,16 @@ from .namespaces import INITIAL_INODE
 from .proc import Proc
 from .shown import few
 from .statuses import Status
+from .watching import Glance
 
 
 def check(proc: Proc, roots: Sequence[int]) -> None:
     """Fails where a process that is asked for can't be recorded."""
     for pid in roots:
         check_is_there(proc, pid)
-    check_runs(proc, roots)
+    threads = watching.family(watching.all_threads(proc), roots, [os.getpid()])
+    check_runs(threads.values())
+    check_untraced(threads.values())
 
 
 def check_is_there(proc: Proc, pid: int) -> None:
@@ -30,13 +33,21 @@ def check_is_there(proc: Proc, pid: int) -> None:
         raise Failure(f"{pid} is a thread of process {seen.tgid}", f"-p {seen.tgid} records all its threads")
 
 
-def check_runs(proc: Proc, roots: Sequence[int]) -> None:
+def check_runs(threads: Collection[Glance]) -> None:
     """Fails where a process was stopped before: the recording would let it go on in the end."""
-    threads = watching.family(watching.all_threads(proc), roots, [os.getpid()])
-    halted = sorted(watching.processes(each for each in threads.values() if each.state == watching.HALTED))
+    halted = sorted(watching.processes(each for each in threads if each.state == watching.HALTED))
     if halted:
         raise Failure(f"process {few([str(pid) for pid in halted])} is stopped already, and would go on after the"
                       " recording", "let it go on (kill -CONT), or end it")
+
+
+def check_untraced(threads: Collection[Glance]) -> None:
+    """Fails where a process has a tracer: it can't have another, and a stop of it would last as long as that one
+    likes."""
+    traced = sorted(watching.aliens(threads, 0))
+    if traced:
+        raise Failure(f"process {few([str(pid) for pid in traced])} has another tracer, so it can't be recorded",
+                      "end that one first (TracerPid of /proc/PID/status names it)")
 
 
 def follow(live: Live, start: Mapping[int, Status], followed: Followed,

@@ -103,6 +103,11 @@ class Halt:
     moving: tuple[int, ...] = ()
 
 
+def aliens(threads: Iterable[Glance], tracer: int) -> set[int]:
+    """The processes that somebody else traces."""
+    return {each.tgid for each in threads if each.tracer not in (0, tracer)}
+
+
 def leading(threads: Iterable[Glance]) -> list[int]:
     """A thread of each process, the main one where it lives."""
     found: dict[int, int] = {}
@@ -114,21 +119,24 @@ def leading(threads: Iterable[Glance]) -> list[int]:
 
 def bring_to_stop(members: Callable[[], dict[int, Glance]], wait: Callable[[float], None],
                   is_idle: Callable[[], bool] = lambda: True, note: Callable[[set[int]], None] = lambda _: None,
-                  is_over: Callable[[], bool] = lambda: False, patience: float | None = None) -> Halt:
+                  is_over: Callable[[], bool] = lambda: False, patience: float | None = None, tracer: int = 0) -> Halt:
     """Stops all processes of `members`, and those that are born meanwhile, until none of their threads runs any
     more, but not longer than `patience` (PATIENCE), and not once `is_over` says so. `wait` passes some time, `is_idle`
-    says whether nothing is left to be told of them, `note` is told of the processes before they are stopped."""
+    says whether nothing is left to be told of them, `note` is told of the processes before they are stopped. Those that
+    another one than `tracer` traces are left alone: they would stay stopped as long as that one likes."""
     told: set[int] = set()
     last: dict[int, Glance] = {}
     begun = time.monotonic()
     while True:
         now = members()
-        fresh = processes(now.values()) - told
+        alien = aliens(now.values(), tracer)
+        fresh = processes(now.values()) - told - alien
         note(fresh)
         send(fresh, signal.SIGSTOP)
         told |= fresh
         waited = time.monotonic() - begun
-        moving = tuple(sorted(each.tid for each in now.values() if not is_quiet(each, waited)))
+        moving = tuple(sorted(each.tid for each in now.values()
+                              if each.tgid not in alien and not is_quiet(each, waited)))
         if not fresh and now == last and not moving and is_idle():
             return Halt(now)
         if waited > (PATIENCE if patience is None else patience) or is_over():

@@ -10,8 +10,9 @@ import unittest
 from collections.abc import Callable
 from unittest import mock
 
-from credaudit_tools import trace_command, watching
+from credaudit_tools import starting, trace_command, watching
 from credaudit_tools.awaited import Awaited
+from credaudit_tools.command import Failure
 from credaudit_tools.ending import Ending, Seen
 from credaudit_tools.evidence import Evidence
 from credaudit_tools.executed import Executed
@@ -238,6 +239,28 @@ class Doubted(Ended):
         self.assertEqual(self.premises(), ["births"] * 3)
 
 
+    def test_what_another_one_traces(self) -> None:
+        """A signal would stop it for as long as its tracer likes."""
+        self.thread(100, "t")
+        self.thread(103, "S", tracer=7)
+        self.look()
+        self.assertEqual((self.sent, self.premises()), ([(100, signal.SIGSTOP)], ["births"]))
+
+
+class Begun(Ended):
+    def test_what_can_not_be_recorded(self) -> None:
+        self.thread(100, "S", tracer=0)
+        self.thread(102, "Z", tracer=0)
+        self.thread(103, "S", tgid=102, tracer=0)           # its main thread has ended
+        starting.check(self.live.proc, [100, 102])
+        self.thread(104, "S", parent=100, tracer=7)
+        self.thread(105, "T", parent=102, tracer=0)
+        for pid, why in ((100, "process 104 has another tracer"), (102, "process 105 is stopped already"),
+                         (103, "103 is a thread of process 102"), (999, "there is no process 999")):
+            with self.assertRaisesRegex(Failure, why):
+                starting.check(self.live.proc, [pid])
+
+
 class Signals(Ended):
     def test_lines_of_signals_are_dropped(self) -> None:
         """Also those of a process whose birth isn't told yet: they tell nothing of it."""
@@ -295,7 +318,7 @@ class Outlives(Case):
         second, target = self.killed("watchdog.stops([pid])\nwatchdog.went_on()\nwatchdog.owns(pid)\nwatchdog.keeps()\n"
                                      "os.kill(pid, signal.SIGSTOP)")
         self.assertTrue(self.comes(lambda: self.state(second) == ""))
-        self.assertEqual(self.state(target.pid), "T")
+        self.assertTrue(self.comes(lambda: self.state(target.pid) == "T"), self.state(target.pid))
 
     def test_it_ends_with_its_work(self) -> None:
         second, _ = self.killed("watchdog.leave()")
