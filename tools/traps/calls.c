@@ -214,6 +214,7 @@ static void map_of(const char *name, const void *text, size_t length, int own)
     int reason = errno;
     if (showing)
         shown(result < 0, "the answer is %zd (%s)", result, strerrorname_np(reason));
+    (void)!geteuid();
     usleep(1000);
 }
 static void map_of_all(void)
