@@ -4,9 +4,10 @@ Where something can't be known, what allows the family more is taken, so that a 
 What may be missing for a `yes` is a doubt.
 """
 import os
+import time
 from dataclasses import dataclass, field
 
-from . import programs, rings, spaces, worlds
+from . import binfmt, programs, rings, scan_fits, spaces, worlds
 from .command import Failure, Says
 from .evidence import Evidence
 from .family import Family
@@ -89,13 +90,15 @@ def captured(kernel: Kernel, family: Family, wishes: Wishes, says: Says) -> Capt
         evidence.doubt(BIRTHS, f"process {few([str(tid) for tid in family.ran])} ran at each reading: the readings"
                                " agree, and that the family was so at one instant isn't shown")
     if wishes.files:
-        scan = Scan(kernel, family, wishes.skip, says)
+        scan, began = Scan(kernel, family, wishes.skip, says), time.time()
         rows = scan.rows()
         world.files, world.mounts = rows.files, rows.mounts
         capture.notes += scan.notes
         evidence.establish(SCAN, f"{plural(scan.looked_at, 'file')} looked at, on all mounts of the family")
         for each in scan.doubts:
             evidence.doubt(SCAN, each)
+        scan_fits.tell_scan(evidence, scan.seen, began, time.time())
+        binfmt.tell(evidence, kernel.interpreters)
         capture.looked_at = scan.looked_at
     else:
         evidence.doubt(SCAN, "no files are declared: a `yes` holds by the family's own calls alone, without the"

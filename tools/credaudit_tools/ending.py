@@ -10,7 +10,8 @@ from . import watching
 from .evidence import Evidence
 from .filtering import Filtering
 from .live import Live
-from .looks import spaces_seen, status_of
+from .looks import mounts_seen, spaces_seen, status_of
+from .mount_spaces import MountSpace
 from .premises import ANSWERS, BIRTHS, CREDENTIALS
 from .recording import SpaceSeen
 from .shown import few
@@ -25,10 +26,11 @@ LATER = "what the kernel showed of the processes may be later than the log's las
 
 @dataclass
 class Seen:
-    """What the kernel showed at the end: threads, their statuses and user namespaces. All have stopped."""
+    """What the kernel showed at the end: threads, their statuses, user and mount namespaces. All have stopped."""
     threads: dict[int, Glance] = field(default_factory=dict)
     statuses: list[Status] = field(default_factory=list)
     spaces: list[SpaceSeen] = field(default_factory=list)
+    mounts: dict[int, MountSpace] = field(default_factory=dict)
 
 
 class Ending:
@@ -124,7 +126,8 @@ class Ending:
             else:
                 statuses.append(status)
         found, numbers = spaces_seen(self.live, {status.space for status in statuses})
-        return Seen(halt.threads, [replace(each, space=numbers[each.space]) for each in statuses], found)
+        return Seen(halt.threads, [replace(each, space=numbers[each.space]) for each in statuses], found,
+                    mounts_seen(self.live, statuses))
 
 
 class Stuck:

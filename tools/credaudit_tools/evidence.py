@@ -11,7 +11,6 @@ from .premises import BY_NAME, TABLE, Premise
 from .rights import Right
 
 NOT_SEEN = "nothing establishes it"
-AS_BEFORE = "nothing is known against it"       # of premises.NOT_YET
 
 
 class Reach(Protocol):
@@ -39,9 +38,11 @@ class Doubt:
 
 @dataclass
 class Evidence:
-    """By premise what established it, and all doubts."""
+    """By premise what established it, and all doubts; `seen` is what is compared with other evidence later, such as
+    times and mount namespaces (scan_fits.py)."""
     established: dict[str, str] = field(default_factory=dict)
     doubts: list[Doubt] = field(default_factory=list)
+    seen: dict[str, str] = field(default_factory=dict)
 
     def establish(self, premise: str, by: str) -> None:
         """Something was seen that a premise rests on: told once, the first one first."""
@@ -69,7 +70,13 @@ class Evidence:
 
     def copy(self) -> "Evidence":
         """Another one with the same."""
-        return Evidence(dict(self.established), list(self.doubts))
+        return self.without(())
+
+    def without(self, names: Iterable[str]) -> "Evidence":
+        """Another one with the same, but for these premises."""
+        gone = set(names)
+        return Evidence({name: by for name, by in self.established.items() if name not in gone},
+                        [each for each in self.doubts if each.premise not in gone], dict(self.seen))
 
     def against(self, premise: Premise, right: Right, space: str | None) -> tuple[str, ...]:
         """The doubts of a premise for a right; where nothing established it, that too."""

@@ -1,6 +1,7 @@
 """Evidence as keys of TOML, in recording.toml and in the file beside a captured world:
 
   [established]   for each premise that was established what did it
+  [seen]          what is compared with other evidence: times, mount namespaces (scan_fits.py); may be missing
   [[doubt]]       a doubt: its premise, and why
   [sums]          the SHA-256 sums of the files that it goes with; its last line is the sum of all lines above
 
@@ -32,8 +33,10 @@ def pair(key: str, told: str) -> str:
 
 
 def evidence_lines(evidence: Evidence) -> list[str]:
-    """What is established, and the doubts."""
+    """What is established, what was seen, and the doubts."""
     lines = ["", "[established]", *(pair(premise, by) for premise, by in evidence.established.items())]
+    if evidence.seen:
+        lines += ["", "[seen]", *(pair(key, told) for key, told in evidence.seen.items())]
     for each in evidence.doubts:
         lines += ["", "[[doubt]]", f"premise = {worlds.text(each.premise)}", f"why = {worlds.text(each.why)}"]
     return lines
@@ -56,6 +59,8 @@ def evidence_of(table: Mapping[str, Any]) -> Evidence:
     found = Evidence()
     for premise, by in table["established"].items():
         found.establish(premise, str(by))
+    for key, told in table.get("seen", {}).items():
+        found.seen[key] = str(told)
     for each in table.get("doubt", []):
         found.doubt(each["premise"], str(each["why"]))
     return found

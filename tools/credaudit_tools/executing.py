@@ -1,9 +1,11 @@
 """Files that are executed in a recording, and the folders by which their paths are found (execve(2), chroot(2))."""
-from . import lines, plain_log
+from . import kernel_rows, lines, mount_views, plain_log
 from .executed import Executed
 from .followed import Followed, Task
 from .lines import Call
 from .map_writes import System
+from .premises import KERNEL
+from .programs import SET_IDS
 from .resolving import View, resolved
 from .shown import escaped, shown
 from .taken import Stopped, Taken
@@ -80,7 +82,17 @@ class Executing:
             self.taken.change(f"execve of {escaped(spelled)}: told as {name}")
         self.taken.put(task.pid, plain_log.execve(name.encode(), made.result))
         if made.done is not None:
-            task.exe, task.files = path, task.files.copied()
+            view = mount_views.of_call(task, made)
+            self.doubt_mount(task, view, name)
+            task.exe, task.exe_view, task.files = path, other_view(task, view), task.files.copied()
+
+    def doubt_mount(self, task: Task, view: int, name: str) -> None:
+        """A program with set-id bits or capabilities that isn't of the process's own mount namespace: the rules read
+        these, and the kernel doesn't."""
+        row, why = self.executed.files.get(name), mount_views.foreign(self.followed, task, view)
+        if row is not None and why is not None and (row.mode & SET_IDS or row.caps is not None):
+            self.taken.doubt(KERNEL, f"{kernel_rows.FOREIGN} (line {len(self.taken.lines)}: process {task.pid} executed"
+                                     f" {name}, and {why})")
 
     # ---- folders
 
@@ -92,11 +104,13 @@ class Executing:
         if made.name == b"fchdir":
             at = lines.descriptor(made.arguments[0]) if made.arguments else None
             if at is not None and at[1] is not None:
+                task.place.cwd_view = other_view(task, mount_views.of_descriptor(task, *at))
                 task.place.stands_in(at[1])
             else:
                 task.place.cwd = None
             return
         told = lines.text_of(made.arguments[0]) if made.arguments else None
+        task.place.cwd_view = other_view(task, mount_views.of_call(task, made))
         task.place.cwd = self.real(task, told[0], None) if told is not None and told[1] else None
 
     def chroot(self, task: Task, made: Call) -> None:
@@ -107,6 +121,7 @@ class Executing:
         root = self.real(task, told[0], None) if told is not None and told[1] else None
         if root is None:
             raise Stopped(f"{task.pid}: it changed its root to a folder that isn't known")
+        task.place.root_view = other_view(task, mount_views.of_call(task, made))
         task.place.changes_root(root)
         self.taken.change(f"{task.pid} changed its root to {escaped(root)}: files that it executes are told by their"
                           " paths outside")
@@ -116,3 +131,8 @@ class Executing:
         if made.done is not None:
             task.place.view = task.place.view or self.followed.new_view()
             task.place.changes_root(b"/")
+
+
+def other_view(task: Task, view: int) -> int | None:
+    """The view of a folder where that isn't the process's own."""
+    return None if view == task.place.view else view

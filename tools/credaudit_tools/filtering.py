@@ -7,12 +7,13 @@ that the log can't tell, ends the recording: nothing of that kind is passed over
 import re
 from collections.abc import Callable, Collection
 
-from . import births, lines, plain_log, premises
+from . import births, lines, mount_views, plain_log, premises
 from .call_numbers import numbers_of
+from .changing import Changing
 from .executed import Executed
 from .executing import Executing
 from .filters import installing, of_argument
-from .followed import UNKNOWN, Followed, Task
+from .followed import UNKNOWN, UNKNOWN_VIEW, Followed, Task
 from .lines import Call
 from .map_files import NAMES
 from .map_writes import LIKE_MAP, TRANSFERS, Maps, System
@@ -37,7 +38,7 @@ PLAIN_DESCRIPTOR = rb"<([^<>\\\"]*)(?:<[^<>]*>)?>(?:\(deleted\))?"
 OTHER_WRITE = re.compile(rb"([0-9]+) +p?writev?(?:64|2)?\([0-9]+" + PLAIN_DESCRIPTOR + rb", (?!" + LIKE_MAP + rb").*",
                          re.S)
 OTHER_OPEN = re.compile(rb"([0-9]+) +open(?:at)?\((?:AT_FDCWD" + PLAIN_DESCRIPTOR + rb", )?" + QUOTED
-                        + rb", [A-Z_|]+(?:, 0[0-7]*)?\) += (?:-1 E.*|([0-9]+)" + PLAIN_DESCRIPTOR + rb")", re.S)
+                        + rb", [A-Z_|]+(?:, 0[0-7]{0,3})?\) += (?:-1 E.*|([0-9]+)" + PLAIN_DESCRIPTOR + rb")", re.S)
 SUPERSEDED = re.compile(rb"\+\+\+ superseded by execve in pid ([0-9]+)")
 CHANGED = re.compile(rb"<pid changed to ([0-9]+) \.\.\.>$")
 
@@ -49,10 +50,12 @@ class Filtering:
         self.followed, self.executed, self.taken, self.system = followed, executed, Taken(), system
         self.maps = Maps(followed, self.taken, system)
         self.executing = Executing(followed, self.taken, system, executed)
+        self.changing = Changing(followed, self.taken, system, self.executing)
         self.begun: dict[int, bytes | None] = {}          # None: a call that is left out
-        self.changing: dict[int, int] = {}                # by a leader's pid the thread that takes it
+        self.taking: dict[int, int] = {}                  # by a leader's pid the thread that takes it
         self.held: dict[int, list[bytes]] = {}
         self.early: dict[int, int] = {}                   # by a parent that waits its child, whose birth is told
+        self.view_lines: dict[int, int] = {}              # of a mount namespace that was made or joined the log's line
         self.handlers = self.table()
 
     def table(self) -> dict[bytes, Callable[[Task, Call], None]]:
@@ -61,11 +64,12 @@ class Filtering:
         kinds: list[tuple[tuple[bytes, ...], Callable[[Task, Call], None]]] = [
             (ID_CALLS, self.keep), (ANSWERS, self.keep), ((b"setgroups",), self.setgroups), ((b"capset",), self.capset),
             ((b"prctl",), self.prctl), ((b"seccomp",), self.seccomp), ((b"unshare",), self.unshare),
-            ((b"fork", b"vfork", b"clone", b"clone3"), self.birth), ((b"setns",), maps.setns), (OPENS, maps.open),
+            ((b"fork", b"vfork", b"clone", b"clone3"), self.birth), ((b"setns",), maps.setns), (OPENS, self.open),
             (COPIES, maps.copy), (WRITES, maps.write), (tuple(TRANSFERS), maps.transfer),
             (RINGS, maps.io_uring), ((b"execve", b"execveat"), executing.execve),
             ((b"chdir", b"fchdir"), executing.chdir), ((b"chroot",), executing.chroot),
-            ((b"pivot_root",), executing.pivot_root)]
+            ((b"open_tree", b"fsmount"), self.mount_descriptor), *self.changing.handlers(),
+            ((b"pivot_root",), self.pivot_root), ((b"move_mount",), self.move_mount)]
         return {name: handler for names, handler in kinds for name in names}
 
     # ---- lines
@@ -101,7 +105,8 @@ class Filtering:
             task = self.followed.tasks.get(int(found.group(1)))
             if task is None or path.endswith(NAMES):
                 return False
-            task.files.opened(int(found.group(3)), path)
+            view = task.place.view if task.place.cwd_view is task.place.root_view is None else UNKNOWN_VIEW
+            task.files.opened(int(found.group(3)), path, view)
             if found.group(2) is not None:
                 task.place.stands_in(found.group(2))
         self.taken.left_out["opens of other files"] += 1
@@ -126,15 +131,15 @@ class Filtering:
         """The whole text of a call: of one in two lines at the second, else None."""
         changed = CHANGED.search(body)
         if changed:
-            self.changing[int(changed.group(1))] = pid
+            self.taking[int(changed.group(1))] = pid
         if body.endswith(lines.UNFINISHED) or changed:
             self.begun[pid] = body[:changed.start()] if changed else body[:-len(lines.UNFINISHED)]
             return None
         found = lines.RESUMED.fullmatch(body)
         if found is None:
             return body
-        if pid not in self.begun and pid in self.changing:
-            self.superseded(pid, self.changing[pid])
+        if pid not in self.begun and pid in self.taking:
+            self.superseded(pid, self.taking[pid])
         if pid not in self.begun:
             return self.without_begin(pid, found.group(1))
         front = self.begun.pop(pid)
@@ -208,7 +213,7 @@ class Filtering:
         self.taken.put(thread, b"fork() = %d" % leader)
         self.followed.born(task, leader, [])
         front = self.begun.pop(thread, None)
-        self.changing.pop(leader, None)
+        self.taking.pop(leader, None)
         self.end(thread, b"+++ exited with 0 +++")
         if front is not None:
             self.begun[leader] = front
@@ -243,7 +248,10 @@ class Filtering:
         if handler is None:
             self.taken.left_out["calls that no rule reads"] += 1
             return
+        before = self.followed.last_view
         handler(self.followed.tasks[pid], made)
+        for view in range(before + 1, self.followed.last_view + 1):
+            self.view_lines[view] = len(self.taken.lines)
 
     def keep(self, task: Task, made: Call) -> None:
         """A call that stays as it is."""
@@ -287,6 +295,26 @@ class Filtering:
         for doubt in found.doubts:
             self.taken.doubt(premises.ANSWERS, f"process {task.pid} installed a filter that {doubt}: what its calls"
                                                " told may not have happened")
+
+    def open(self, task: Task, made: Call) -> None:
+        """open and its like: which file it is, and whether it is a program that is made."""
+        self.maps.open(task, made)
+        self.changing.created(task, made)
+
+    def mount_descriptor(self, task: Task, made: Call) -> None:
+        """open_tree(2) and fsmount(2)."""
+        mount_views.learn_mount(self.followed, task, made)
+        self.taken.left_out["descriptors of mounts"] += 1
+
+    def move_mount(self, task: Task, made: Call) -> None:
+        """move_mount(2)."""
+        self.changing.mount(task, made)
+        mount_views.learn_move(task, made)
+
+    def pivot_root(self, task: Task, made: Call) -> None:
+        """pivot_root(2): it changes the mounts, and where paths begin."""
+        self.changing.mount(task, made)
+        self.executing.pivot_root(task, made)
 
     def birth(self, task: Task, made: Call) -> None:
         """fork, vfork, clone and clone3; then come the lines that stood before."""

@@ -8,17 +8,21 @@ from dataclasses import dataclass, field, replace
 from .filters import Filter
 
 UNKNOWN = -1        # the standing of a process that isn't followed; securebits that can't be read
+DETACHED, UNKNOWN_VIEW = -1, -2     # views of files on a mount of no namespace, and of those of which it isn't known
 
 
 @dataclass
 class Place:
     """What processes born with CLONE_FS share: paths as the tracer's own root has them. `view` numbers mount
     namespaces, 0 is the tracer's own. In another one paths begin at the process's root; where that was changed
-    there, strace's paths begin elsewhere, and `apart` is set: the working directory isn't known then."""
+    there, strace's paths begin elsewhere, and `apart` is set: the working directory isn't known then. `cwd_view` and
+    `root_view` are the views of these folders where they lie in another mount namespace than the process's."""
     cwd: bytes | None
     root: bytes = b"/"
     view: int = 0
     apart: bool = False
+    cwd_view: int | None = None
+    root_view: int | None = None
 
     def stands_in(self, cwd: bytes) -> None:
         """The working directory, as strace tells it."""
@@ -39,14 +43,20 @@ class Place:
 @dataclass
 class Files:
     """A table of descriptors, which processes born with CLONE_FILES share: by number the paths that strace told, and
-    of map files that were seen to be opened the standing that each is for."""
+    of map files that were seen to be opened the standing that each is for; the views of files that don't lie in the
+    tracer's own mount namespace."""
     paths: dict[int, bytes] = field(default_factory=dict)
     standings: dict[int, int] = field(default_factory=dict)
+    views: dict[int, int] = field(default_factory=dict)
 
-    def opened(self, number: int, path: bytes) -> None:
+    def opened(self, number: int, path: bytes, view: int = 0) -> None:
         """A number has another file from now on."""
         self.paths[number] = path
         self.standings.pop(number, None)
+        if view != 0:
+            self.views[number] = view
+        else:
+            self.views.pop(number, None)
 
     def copy_of(self, number: int, source: int) -> None:
         """A number is a copy of another one."""
@@ -55,7 +65,7 @@ class Files:
 
     def copied(self) -> "Files":
         """A copy that goes its own way."""
-        return Files(dict(self.paths), dict(self.standings))
+        return Files(dict(self.paths), dict(self.standings), dict(self.views))
 
 
 @dataclass
@@ -70,18 +80,23 @@ class Task:
     process: int = 0
     filters: tuple[Filter, ...] = ()
     securebits: int | None = None
+    exe_view: int | None = None     # of a program that lies in another mount namespace than the process
 
 
 @dataclass
 class Followed:
     """All of it. `maps` has of each process whose map files were opened the standings that these were for, `spaces` of
-    each user namespace's number in the kernel the standing, `stood` of each pid all that it had."""
+    each user namespace's number in the kernel the standing, `stood` of each pid all that it had. Views up to
+    `first_view` are mount namespaces in which something stood at the start; `detached` says whether a mount of none was
+    made."""
     tasks: dict[int, Task] = field(default_factory=dict)
     maps: dict[int, set[int]] = field(default_factory=dict)
     spaces: dict[int, int] = field(default_factory=dict)
     stood: dict[int, set[int]] = field(default_factory=dict)
     last_standing: int = 0
     last_view: int = 0
+    first_view: int = 0
+    detached: bool = False
 
     def add(self, task: Task) -> None:
         """A thread at the start, or that was born."""
@@ -106,7 +121,8 @@ class Followed:
         files = parent.files if b"CLONE_FILES" in flags else parent.files.copied()
         standing = self.new_standing() if b"CLONE_NEWUSER" in flags else parent.standing
         process = parent.process if b"CLONE_THREAD" in flags else pid
-        self.add(Task(pid, standing, place, files, parent.exe, process, parent.filters, parent.securebits))
+        self.add(Task(pid, standing, place, files, parent.exe, process, parent.filters, parent.securebits,
+                      parent.exe_view))
 
     def installed(self, task: Task, found: Filter, for_all: bool) -> None:
         """A filter was installed; for all threads of its process they have what its own has then (seccomp(2))."""

@@ -1,44 +1,50 @@
-"""Fs ids that aren't among the effective ones: who has such a one makes files of that id, also one with its set-id bit,
-and executes it (setfsuid(2), chmod(2), execve(2)). No listed call shows it.
-"""
-from dataclasses import dataclass
+"""Members whose fs ids aren't among their effective ones: they make files of these ids (credentials(7), setfsuid(2)).
 
-from .evidence import Evidence
-from .premises import FS_IDS
+A file that a process makes has its fs user id and its fs group id, and its owner may set its set-id bits (chmod(2)). So
+such a process can give itself the ids by an execve, which the rules know only of declared files. What that gives is for
+the program to say: it is asked with such a file declared.
+"""
+from collections.abc import Sequence
+from dataclasses import dataclass, replace
+
+from .programs import name_for
 from .report import Standing
 from .rights import Right
-from .touched import Facts, owned_spaces
+from .worlds import File, World
 
-ROOT = 0
+MODE = 0o6777
 
 
 @dataclass(frozen=True)
-class OnDisk:
-    """What files of an id can give: the id itself; of root, and of who owns a user namespace, anything."""
-    kind: str
-    number: int
-    anything: bool
+class Among:
+    """Some rights."""
+    rights: frozenset[Right]
 
-    def touches(self, right: Right, space: str | None) -> bool:
-        """Whether it touches a right."""
-        return self.anything or (right.kind, right.number) == (self.kind, self.number)
+    def touches(self, right: Right, _space: str | None) -> bool:
+        """Whether a right is one of them."""
+        return right in self.rights
 
 
-def of_member(evidence: Evidence, facts: Facts, one: Standing) -> None:
-    """The doubts of one member."""
-    own = one.credential
-    user, group = own.uid[3], own.gid[3]
-    if user != own.uid[1]:
-        anything = user == ROOT or bool(owned_spaces(facts, frozenset([user])))
-        evidence.doubt(FS_IDS, f"process {one.pid} has the fs user id {user} and the effective {own.uid[1]}: it can"
-                               " make itself a set-user-ID file of the former", OnDisk("uid", user, anything))
-    if group != own.gid[1] and group not in own.groups:
-        evidence.doubt(FS_IDS, f"process {one.pid} has the fs group id {group} and the effective {own.gid[1]}: it can"
-                               " make itself a set-group-ID file of the former", OnDisk("gid", group, False))
+def apart(one: Standing) -> list[str]:
+    """The fs ids of a process that aren't among its effective ids and its groups, in words."""
+    uid, gid = one.credential.uid, one.credential.gid
+    found = [] if uid[3] == uid[1] else [f"fs user id {uid[3]}"]
+    return found + ([] if gid[3] == gid[1] or gid[3] in one.credential.groups else [f"fs group id {gid[3]}"])
 
 
-def tell(evidence: Evidence, facts: Facts) -> None:
-    """Holds the fs ids of the family at the end of the replay against the effective ones."""
-    evidence.establish(FS_IDS, "the end of the replay")
-    for one in facts.end.family:
-        of_member(evidence, facts, one)
+def reasons(family: Sequence[Standing]) -> list[str]:
+    """Who has such ids, each in a sentence."""
+    return [f"process {one.pid} has the {' and the '.join(apart(one))} beside other effective ids: it makes files of"
+            " it, and gives these set-id bits (setfsuid(2), chmod(2))" for one in family if apart(one)]
+
+
+def with_files_of(world: World, family: Sequence[Standing]) -> World:
+    """The world where each member with such ids has made a file of them, with set-id bits, that everybody may
+    execute."""
+    taken, made = {row.path for row in world.files}, dict[tuple[int, int], File]()
+    for one in family:
+        ids = one.credential.uid[3], one.credential.gid[3]
+        if apart(one) and ids not in made:
+            made[ids] = File(name_for(b"/made", taken), *ids, MODE)
+            taken.add(made[ids].path)
+    return replace(world, files=[*world.files, *made.values()])

@@ -4,14 +4,14 @@ each `yes` the evidence of what it rests on (premises.py).
 from collections.abc import Callable, Sequence
 from dataclasses import dataclass, replace
 
-from . import classes, touched
+from . import classes, fs_ids, power, touched
 from .asking import Answer, Asking, Files, right_in, shortened
 from .classes import Outcome
 from .command import Failure
 from .evidence import Evidence, reasons_of
 from .end_world import End, end_of, filtered, limited, unbounded, without_files
 from .holding import holders
-from .premises import SCAN
+from .premises import FS_IDS, POWER, SCAN
 from .report import Report, Standing
 from .rights import Right
 from .run_words import parsed
@@ -63,12 +63,12 @@ class Family:
 
     def changed(self, ask: Asking, name: str, change: Callable[[World], World]) -> "Family":
         """The family as it would be in a world that is changed: what is doubted stays so, and rows of docs/KERNEL.md
-        that arise there are doubts too."""
-        world, evidence = change(self.end.world), self.evidence.copy()
+        that arise there are doubts too. What it may do without a listed call is for the program to say anew."""
+        world, evidence = change(self.end.world), self.evidence.without((POWER, FS_IDS))
         start = [Standing(row.pid, row.space, row.credential) for row in world.processes]
         told = Report(start)
         touched.tell(evidence, touched.facts_of(world, told, b"", end_of(world, told, self.pid)), self.end.names)
-        return replace(self, files=ask.files(name, world), evidence=evidence)
+        return replace(self, files=ask.files(name, world), end=replace(self.end, world=world), evidence=evidence)
 
 
 def programs_of(run: Sequence[bytes], files: set[str]) -> tuple[str, ...]:
@@ -100,12 +100,37 @@ class Judge:
     def outcomes(self, rights: Sequence[Right]) -> list[Outcome]:
         """What is known of each right."""
         both = self.ask.audits("audits", self.family.files, self.family.pid, [each.text() for each in rights])
+        self.tell_power(dict(zip(rights, both)))
         own = self.ask.files("own", without_files(self.family.end.world))
         got = [right for right, told in zip(rights, both) if told.run]
         alone = dict(zip(got, self.ask.audits("audits by own calls", own, self.family.pid,
                                               [right_in(each, self.family.token) for each in got])))
         found = [self.outcome(right, told, alone.get(right)) for right, told in zip(rights, both)]
         return self.ask.side_by_side("runs and certificates", self.settled, found)
+
+    def tell_power(self, told: dict[Right, Answer]) -> None:
+        """What the family may do without a listed call, as evidence: by capabilities, and by files of fs ids."""
+        missing = [right for right in power.RIGHTS if right not in told]
+        more = dict(zip(missing, self.ask.audits("audits of power", self.family.files, self.family.pid,
+                                                 [each.text() for each in missing])))
+        power.tell(self.family.evidence, [told.get(right) or more[right] for right in power.RIGHTS])
+        self.tell_fs_ids([right for right, answer in told.items() if answer.verdict.word == YES])
+
+    def tell_fs_ids(self, gone: Sequence[Right]) -> None:
+        """Members with fs ids of their own, as evidence: for each right that a file of such ids gives. Where it gives
+        a capability that acts without a call, that is each right."""
+        evidence, end = self.family.evidence, self.family.end
+        evidence.establish(FS_IDS, "the fs ids of each member at the end are among its effective ones")
+        odd = fs_ids.reasons(end.family)
+        if not odd:
+            return
+        asked = list(dict.fromkeys([*gone, *power.RIGHTS]))
+        files = self.ask.files("fs-ids", fs_ids.with_files_of(end.world, end.family))
+        answers = self.ask.audits("audits with files of fs ids", files, self.family.pid,
+                                  [right_in(each, self.family.token) for each in asked])
+        had = frozenset(right for right, answer in zip(asked, answers) if answer.verdict.word != YES)
+        for why in odd:
+            evidence.doubt(FS_IDS, why, None if had & set(power.RIGHTS) else fs_ids.Among(had))
 
     def outcome(self, right: Right, told: Answer, alone: Answer | None) -> Outcome:
         """The class of a right, by the verdict on it and, where it can be had, the one without declared programs."""
@@ -154,6 +179,7 @@ class Judge:
         family = self.family.changed(self.ask, f"if-{number}", change)
         told = self.ask.audits(f"audits with {words}", family.files, family.pid,
                                [right_in(each, self.family.token) for each in left])
+        Judge(self.ask, family).tell_power(dict(zip(left, told)))
         yes = [(right, each) for right, each in zip(left, told) if each.verdict.word == YES]
 
         def kind(pair: tuple[Right, Answer]) -> str:

@@ -4,7 +4,7 @@ a stored tree, for tests that need no root.
 Namespaces are known by the numbers of their files in /proc/PID/ns; who answers keeps each that it once named, so that
 no number comes to stand for another one.
 """
-from collections.abc import Iterator
+from collections.abc import Iterator, Mapping
 from dataclasses import dataclass
 from typing import Protocol
 
@@ -50,6 +50,12 @@ class Kernel(Protocol):
 
     def owner_of_mounts(self, key: int) -> int:
         """The user namespace that owns a mount namespace."""
+
+    def count_of_mounts(self, key: int) -> int:
+        """The number that a mount namespace has for good, 0 where the kernel tells none (ioctl_nsfs(2))."""
+
+    def interpreters(self) -> Mapping[str, str]:
+        """The entries of binfmt_misc. OSError where they can't be read."""
 
     def mount_table(self, key: int) -> bytes:
         """The text of mountinfo (proc(5)) of a mount namespace, from its own root."""

@@ -6,10 +6,11 @@ files is opened, nothing waits, no walk leaves its mount.
 import errno
 import os
 import stat
-from collections.abc import Iterator
+import sys
+from collections.abc import Iterator, Mapping
 from contextlib import contextmanager
 
-from . import mounts
+from . import binfmt, mount_spaces, mounts
 from .command import Failure
 from .kernel import Program, Trouble
 from .namespaces import UserSpace, ioctl_owner, ioctl_parent, map_text
@@ -18,7 +19,7 @@ from .programs import EXECUTE, SET_IDS
 from .safe_open import LISTING, PLACE, PLAIN, ROOTED, WITHIN, mount_number, safe_open
 from .standing import CLONE_NEWNS, CLONE_NEWUSER, Standing
 
-NS_GET_USERNS = 0xb701
+NS_GET_USERNS, NS_GET_MNTNS_ID = 0xb701, 0x8008b705
 ATTRIBUTE, ACCESS_LIST = "security.capability", "system.posix_acl_access"
 FRONT = 256                     # bytes of a script's first line (execve(2))
 EVERY = 1024                    # entries between two counts
@@ -36,11 +37,16 @@ class Live:
 
     def close(self) -> None:
         """Gives back what was kept: waiting processes and open namespaces."""
-        for stander in self.standing.values():
-            stander.leave()
+        self.leave()
         for handle in self.handles.values():
             os.close(handle)
-        self.standing, self.handles = {}, {}
+        self.handles = {}
+
+    def leave(self) -> None:
+        """Ends the waiting processes."""
+        for stander in self.standing.values():
+            stander.leave()
+        self.standing = {}
 
     # ---- namespaces
 
@@ -129,7 +135,20 @@ class Live:
         import fcntl
         return self.keep(fcntl.ioctl(self.handles[key], NS_GET_USERNS))
 
+    def count_of_mounts(self, key: int) -> int:
+        """The number that a mount namespace has for good, 0 where the kernel tells none."""
+        import fcntl
+        try:
+            told = fcntl.ioctl(self.handles[key], NS_GET_MNTNS_ID, bytes(8))
+        except OSError:
+            return mount_spaces.UNKNOWN
+        return int.from_bytes(told, sys.byteorder)
+
     # ---- mounts and files
+
+    def interpreters(self) -> Mapping[str, str]:
+        """The entries of binfmt_misc. OSError where they can't be read."""
+        return binfmt.entries()
 
     def root_of(self, key: int) -> str:
         """The root of a mount namespace: that of a process which stands there."""

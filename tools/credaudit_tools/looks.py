@@ -1,10 +1,12 @@
-"""What the kernel shows of threads that have stopped: their statuses, and the user namespaces in which they stand."""
+"""What the kernel shows of threads that have stopped: their statuses, and the user and mount namespaces in which they
+stand."""
 from collections.abc import Sequence
 from dataclasses import replace
 
-from . import spaces
+from . import mount_spaces, spaces
 from .command import Failure
 from .live import Live
+from .mount_spaces import MountSpace
 from .namespaces import INITIAL_INODE
 from .recording import SpaceSeen
 from .statuses import Status, from_file
@@ -28,6 +30,14 @@ def spaces_seen(live: Live, keys: set[int]) -> tuple[list[SpaceSeen], dict[int, 
     seen = [SpaceSeen(numbers[key], numbers.get(own.parent or INITIAL_INODE), own.owner, own.uid_map, own.gid_map,
                       own.setgroups) for key, own in ((key, found[key]) for key in order)]
     return seen, numbers
+
+
+def mounts_seen(live: Live, found: Sequence[Status]) -> dict[int, MountSpace]:
+    """The mount namespace of each of these threads; those that aren't shown are left out."""
+    keys = {status.pid: live.space_of(status.tgid, status.pid, "mnt") for status in found}
+    seen = {key: mount_spaces.of_key(live, key) for key in set(keys.values()) if key is not None}
+    live.leave()
+    return {tid: space for tid, key in keys.items() if key is not None and (space := seen[key]) is not None}
 
 
 def statuses(live: Live, tids: Sequence[int]) -> dict[int, Status]:

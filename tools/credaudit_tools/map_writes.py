@@ -8,7 +8,7 @@ import re
 from collections.abc import Sequence
 from typing import Protocol
 
-from . import lines, plain_log
+from . import lines, mount_views, plain_log
 from .followed import UNKNOWN, Followed, Place, Task
 from .lines import Call
 from .map_files import MapFile, Unclear, Unseen
@@ -155,7 +155,7 @@ class Maps:
         """What descriptors and the working directory are, as strace decorates them."""
         told = lines.descriptor(made.result)
         if told is not None and told[1] is not None and made.done is not None:
-            task.files.opened(made.done, told[1])
+            task.files.opened(made.done, told[1], mount_views.opened(task, made))
         for argument in made.arguments[:1]:
             at = lines.descriptor(argument)
             if at is not None and at[0] == b"AT_FDCWD" and at[1] is not None:

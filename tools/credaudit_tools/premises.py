@@ -91,7 +91,3 @@ TABLE = (
             "a file that was altered"),
 )
 BY_NAME = {each.name: each for each in TABLE}
-
-# Rows whose evidence isn't there yet: summary.py establishes them as it always did. Whoever adds the evidence takes the
-# name out.
-NOT_YET = (POWER, MOUNTS, FILES, BINFMT)

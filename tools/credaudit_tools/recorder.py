@@ -13,7 +13,7 @@ from contextlib import contextmanager
 from dataclasses import dataclass, field, replace
 from types import FrameType
 
-from . import starting, strace_command, watching, worlds
+from . import binfmt, scan_fits, starting, strace_command, watching, worlds
 from .awaited import Awaited
 from .command import Failure, Progress
 from .ending import Ending, Seen
@@ -292,10 +292,18 @@ class Recorder:
         self.establish(BIRTHS, "all that descends from the processes at the start was traced to its end")
         return watching.processes(found.values())
 
+    def tell_files(self, seen: Seen) -> None:
+        """What is known of programs and mounts, for a scan to be held against (scan_fits.py)."""
+        left = {tid: self.filter.view_lines[task.place.view] for tid, task in self.filter.followed.tasks.items()
+                if tid in seen.mounts and task.place.view in self.filter.view_lines}
+        scan_fits.tell_end(self.made.evidence, seen.mounts, left, self.filter.changing.changed_at, time.time())
+        binfmt.tell(self.made.evidence, self.live.interpreters)
+
     def recording(self, seen: Seen) -> Recording:
         """What is kept."""
         taken, executed = self.filter.taken, self.filter.executed
         self.made.evidence.add(taken.evidence)
+        self.tell_files(seen)
         for text in executed.doubts:
             self.doubt(CREDENTIALS, text)
         self.rows.files = list(executed.files.values())

@@ -4,10 +4,11 @@ import time
 from collections.abc import Callable, Iterator
 from dataclasses import dataclass, field
 
-from . import mounts, programs
+from . import mount_spaces, mounts, programs
 from .command import Failure, Says
 from .family import Family, Thread
 from .kernel import Kernel, Program, Trouble
+from .mount_spaces import MountSpace
 from .mounts import Area, Mount
 from .namespaces import INITIAL_INODE
 from .shown import escaped, few, plural, quoted, shown
@@ -28,6 +29,7 @@ class Scan:
     looked_at: int = 0
     began: float = 0.0
     by_number: dict[int, Mount] = field(default_factory=dict)
+    seen: list[MountSpace] = field(default_factory=list)
 
     def namespaces(self) -> dict[int, bytes]:
         """The mount namespaces, the asked process's first, and how paths of each begin."""
@@ -40,7 +42,9 @@ class Scan:
 
     def tables(self, keys: list[int]) -> dict[int, list[Mount]]:
         """The mounts of these mount namespaces; they are kept by number too."""
-        tables = {key: mounts.table(self.kernel.mount_table(key)) for key in keys}
+        texts = {key: self.kernel.mount_table(key) for key in keys}
+        self.seen = [mount_spaces.of_table(key, self.kernel.count_of_mounts(key), text) for key, text in texts.items()]
+        tables = {key: mounts.table(text) for key, text in texts.items()}
         self.by_number = {mount.number: mount for table in tables.values() for mount in table}
         return tables
 

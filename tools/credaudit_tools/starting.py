@@ -3,7 +3,7 @@ declares it and as the filter of lines follows it."""
 import os
 from collections.abc import Collection, Mapping, Sequence
 
-from . import spaces, watching, worlds
+from . import mount_views, spaces, watching, worlds
 from .command import Failure
 from .filters import Filter
 from .followed import Files, Followed, Place, Task
@@ -67,9 +67,13 @@ def follow(live: Live, start: Mapping[int, Status], followed: Followed,
         if view == 0 and root is not None:
             place.root = os.fsencode(root)
         files = Files({number: os.fsencode(told) for number, told in proc.descriptors(tid).items()})
+        files.views = {number: view for number in files.paths}
+        files.views |= mount_views.at_start(files.paths, proc.read(tid, "mountinfo") or b"",
+                                            {number: proc.read(tid, f"fdinfo/{number}") for number in files.paths})
         followed.add(Task(tid, standing, place, files, None if exe is None else os.fsencode(exe), status.tgid,
                           filters.get(tid, ())))
-    followed.last_standing, followed.last_view = len(standings) - 1, len(views) - 1
+    followed.last_standing = len(standings) - 1
+    followed.first_view = followed.last_view = len(views) - 1
 
 
 def rows(live: Live, start: Mapping[int, Status]) -> worlds.World:

@@ -13,7 +13,10 @@ OLDEST = (5, 10)
 CALLS = ("(set(re|res)?[ug]id|setfs[ug]id|get(e|res)?[ug]id|[gs]etgroups|cap[gs]et|prctl|seccomp|v?fork|clone3?"
          "|unshare|setns|execve(at)?|f?chdir|chroot|pivot_root|open(at2?)?|creat|dup[23]?|fcntl|p?writev?2?|sendfile"
          "|splice|copy_file_range|io_uring_(setup|enter|register))")
-TRACE = f"trace=/^{CALLS}(32|64)?$"
+# Calls that change programs or mounts. No rule reads them: one that seems to succeed is a doubt and no more.
+CHANGING = ("(f?chmod(at2?)?|[lf]?chown|fchownat|[lf]?(set|remove)xattr(at)?|link(at)?|rename(at2?)?|mknod(at)?"
+            "|u?mount2?|move_mount|mount_setattr|fsmount|open_tree)")
+TRACE = f"trace=/^({CALLS}|{CHANGING})(32|64)?$"
 LONGEST = 65535
 OPTIONS = ("-f", "-v", "-yy", "--pidns-translation", "-s", str(LONGEST), "-e", "abbrev=execve,execveat",
            "--quiet=attach,personality,path-resolution", "-e", TRACE)

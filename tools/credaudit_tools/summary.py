@@ -2,12 +2,12 @@
 from collections.abc import Callable, Iterable, Sequence
 from dataclasses import dataclass, field
 
-from . import answering, fs_ids, groups_seen, log_doubts, premises, touched, verifying, whose, world_doubts, worlds
+from . import answering, groups_seen, log_doubts, premises, scan_fits, touched, verifying, whose, world_doubts, worlds
 from .answering import Answers, Broken
 from .asking import Asking, Files
 from .command import Failure, Says, silent
 from .end_world import births_of, end_of
-from .evidence import AS_BEFORE, Evidence
+from .evidence import Evidence
 from .expecting import Unexpected
 from .explain import process_words
 from .findings import Finding
@@ -36,6 +36,7 @@ class Given:
     evidence: Evidence
     kept: Recording | None = None
     made: bool = False
+    scan: Evidence | None = None
     notes: list[str] = field(default_factory=list)
 
 
@@ -54,7 +55,7 @@ def by_hand() -> Evidence:
     """The evidence of a world and a log that nobody recorded: the word of who wrote them, and no scan."""
     found = Evidence()
     for each in premises.TABLE:
-        if not each.of_files() and each.name != premises.GROUPS:
+        if not each.of_files() and each.name not in (premises.GROUPS, premises.POWER, premises.FS_IDS):
             found.establish(each.name, BY_HAND)
     return found
 
@@ -147,11 +148,9 @@ def evidence_of(given: Given, facts: Facts, family: Iterable[int]) -> Evidence:
     the rows of docs/KERNEL.md."""
     found = given.evidence.copy()
     found.add(of_filters(given, family))
-    for premise in premises.NOT_YET:
-        if premise not in premises.OF_FILES or premises.SCAN in found.established:
-            found.establish(premise, AS_BEFORE)
+    if given.scan is not None and given.kept is not None and given.kept.made is not None:
+        scan_fits.tell(found, given.kept.made.evidence, given.scan, family)
     touched.tell(found, facts)
-    fs_ids.tell(found, facts)
     return found
 
 

@@ -92,9 +92,9 @@ def with_scan(ask: Asking, given: Given, path: str) -> Given:
     if scan is None:
         given.notes.append(f"beside {path} no evidence stands: it isn't known that all files were looked for")
     elif given.kept is not None:
-        given.evidence.add(scan, premises.OF_FILES)
+        given.evidence.add(scan, (premises.SCAN,))
     files = Files(ask.put("given.toml", text), ask.put("given.log", log))
-    return Given(files, worlds.read(text), text, log, given.evidence, given.kept, True, given.notes)
+    return Given(files, worlds.read(text), text, log, given.evidence, given.kept, True, scan, given.notes)
 
 
 def summed_up(asked: argparse.Namespace, progress: Progress) -> int:

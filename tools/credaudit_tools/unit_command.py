@@ -3,13 +3,12 @@ import argparse
 import os
 from collections.abc import Sequence
 
-from . import (answering, command, evidence_text, fs_ids, premises, touched, unit_files, unit_settings, unit_world,
-               users, whose, worlds)
+from . import (answering, command, evidence_text, premises, touched, unit_files, unit_settings, unit_world, users,
+               whose, worlds)
 from .answering import Answers, Broken
 from .asking import Asking, asking
 from .command import Failure, Progress, Says, tell
 from .end_world import end_of
-from .evidence import AS_BEFORE
 from .expecting import Unexpected
 from .explain import process_words
 from .files import read_regular
@@ -88,12 +87,7 @@ def judged(ask: Asking, made: Made, rights: Sequence[Right]) -> Answers:
         raise Failure(f"credaudit refuses the world of the unit, status {read.status}: {' '.join(read.ending)}")
     end = end_of(made.world, read, unit_world.PID)
     evidence = made.evidence.copy()
-    facts = touched.facts_of(made.world, read, made.log, end)
-    touched.tell(evidence, facts)
-    fs_ids.tell(evidence, facts)
-    for premise in premises.NOT_YET:
-        if premises.SCAN in evidence.established:
-            evidence.establish(premise, AS_BEFORE)
+    touched.tell(evidence, touched.facts_of(made.world, read, made.log, end))
     family = Family(files, unit_world.PID, end, evidence)
     same_as_replayed(ask, family)
     judge = Judge(ask, family)

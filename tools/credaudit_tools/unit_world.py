@@ -7,7 +7,7 @@ from dataclasses import dataclass, field, replace
 
 from . import premises
 from .credential import Credential
-from .evidence import AS_BEFORE, Evidence
+from .evidence import Evidence
 from .marks import SCANNED, UNSCANNED
 from .names import ALL, NUMBERS
 from .shown import escaped, few
@@ -26,7 +26,6 @@ BY_SETTINGS = {
     premises.FILTERS: "SystemCallFilter= holds for each process of the unit",
     premises.SECUREBITS: "SecureBits=",
     premises.GROUPS: "SupplementaryGroups=, and the groups of the user",
-    premises.POWER: AS_BEFORE,
     premises.RINGS: "nothing of the unit runs yet, so none is there",
     premises.RECORDING: "the world is made at this call"}
 SEARCH = ("/usr/local/sbin", "/usr/local/bin", "/usr/sbin", "/usr/bin", "/sbin", "/bin")

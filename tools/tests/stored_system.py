@@ -7,11 +7,12 @@ A system is a TOML text. Its texts are Latin-1, so that each byte can stand in t
                seccomp, filters, state, user and mounts (numbers of namespaces), switches, waits (what syscall shows),
                group
   [[space]]    key, parent, owner, uid_map, gid_map, setgroups
-  [[mounts]]   key, owner, table (the text of mountinfo)
+  [[mounts]]   key, owner, count, table (the text of mountinfo)
   [[file]]     path, mounts (the namespace), mount (the number), uid, gid, mode, caps, start, listed
   [[link]]     path, to; of symbolic links
   [[folder]]   path, uid, gid, mode; others are 0 0 0755; inodes, those in use on its filesystem, else not known
   [[trouble]]  path, why; what can't be looked at
+  [[binfmt]]   name, text; an entry of binfmt_misc
   [[hidden]]   name, why; whose user namespace isn't shown
 """
 import os
@@ -127,6 +128,12 @@ class StoredSystem:
         owners: dict[int,
                      int] = {row.get("key", OWN_MOUNTS): row.get("owner", INITIAL_INODE) for row in self.rows("mounts")}
         return owners[key]
+
+    def count_of_mounts(self, key: int) -> int:
+        return int(next(row.get("count", 0) for row in self.rows("mounts") if row.get("key", OWN_MOUNTS) == key))
+
+    def interpreters(self) -> dict[str, str]:
+        return {row["name"]: row["text"] for row in self.rows("binfmt")}
 
     def mount_table(self, key: int) -> bytes:
         return data(next(row["table"] for row in self.rows("mounts") if row.get("key", OWN_MOUNTS) == key))

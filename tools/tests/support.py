@@ -11,13 +11,15 @@ import unittest
 from collections.abc import Callable, Iterator, Sequence
 from unittest import mock
 
-from credaudit_tools import command, evidence_text, premises, worlds
+from credaudit_tools import command, evidence_text, premises, scan_fits, worlds
 from credaudit_tools.evidence import Evidence
+from credaudit_tools.mount_spaces import MountSpace
 from credaudit_tools.program import Program, tail_of
 from credaudit_tools.worlds import World
 
 from . import stored_program
 
+SPACE = MountSpace(4026531832, 4, "0" * 32)        # in which the threads and scans of tests stand
 HERE = os.path.dirname(os.path.abspath(__file__))
 DATA = os.path.join(HERE, "data")
 EXAMPLES = os.path.normpath(os.path.join(HERE, "..", "..", "examples"))
@@ -96,11 +98,18 @@ def scanned(*doubts: str) -> Evidence:
     """The evidence that a capture gives, with these doubts of what its scan looked at."""
     found = Evidence()
     for premise in (premises.BIRTHS, premises.ANSWERS, premises.CREDENTIALS, premises.MAPS, premises.SECUREBITS,
-                    premises.GROUPS, premises.RINGS, premises.SCAN, premises.RECORDING):
+                    premises.GROUPS, premises.RINGS, premises.SCAN, premises.BINFMT, premises.RECORDING):
         found.establish(premise, "the test says so")
+    scan_fits.tell_scan(found, [SPACE], 500.0, 600.0)
     for each in doubts:
         found.doubt(premises.SCAN, each)
     return found
+
+
+def stand(evidence: Evidence, tids: Sequence[int], changed: float | None = None, space: MountSpace = SPACE) -> None:
+    """What a recording tells of its files: it ended at 1000, its threads stand in a mount namespace."""
+    scan_fits.tell_end(evidence, dict.fromkeys(tids, space), {}, changed, 1000.0)
+    evidence.establish(premises.BINFMT, "the test says so")
 
 
 def cases(name: str) -> Iterator[tuple[str, list[tuple[str, str]]]]:

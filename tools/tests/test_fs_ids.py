@@ -1,41 +1,48 @@
 """Fs ids that aren't among the effective ones: what files of such an id can give isn't called gone. By hand, from
-setfsuid(2), chmod(2) and execve(2)."""
+setfsuid(2), chmod(2) and execve(2); the program is asked what a file of the id gives."""
 from unittest import mock
 
-from credaudit_tools import summary_command
+from credaudit_tools import power, summary, summary_command
 from credaudit_tools.command import GOOD
+from credaudit_tools.judged import Judge
+from credaudit_tools.rights import parse
 
 from . import support
-from .plain_program import Plain
-from .told_program import Told
 from .told_rows import space_row
 
-ASKED = ["uid:0", "uid:33", "uid:1000", "gid:0", "gid:7", "cap:CAP_CHOWN@init"]
-# Keys of the process, more rows, and the rights that are doubted.
-ROWS: list[tuple[str, str, set[str]]] = [
-    ("uid = [33, 33, 33, 33]", "", set()),
-    ("uid = [33, 33, 33, 0]", "", set(ASKED)),                              # root's files give anything
-    ("uid = [33, 33, 33, 1000]", "", {"uid:1000"}),
-    ("uid = [0, 0, 0, 33]", "", {"uid:33"}),
-    ("uid = [33, 33, 33, 1000]", space_row("box", 1000, [[0, 1000, 1]], [[0, 1000, 1]]), set(ASKED)),
-    ("gid = [33, 33, 33, 7]", "", {"gid:7"}),
-    ("gid = [33, 33, 33, 7]\ngroups = [7]", "", set()),
-    ("gid = [33, 33, 33, 0]\ngroups = [7]", "", {"gid:0"})]
+ASKED = ["uid:0", "uid:1000", "gid:0", "gid:7", "cap:CAP_CHOWN@init"]
+BOX = space_row("box", 1000, [[0, 1000, 1]], [[0, 1000, 1]])
+# Keys of the process, more rows, more rights that are asked about, and the rights that are doubted.
+ROWS: list[tuple[str, str, list[str], set[str]]] = [
+    ("uid = [33, 33, 33, 33]", "", [], set()),
+    ("uid = [33, 33, 33, 0]", "", [], set(ASKED)),                          # root's files give anything
+    ("uid = [33, 33, 33, 0]\nno_new_privs = true", "", [], set()),          # and nothing to who executes without gain
+    ("uid = [33, 33, 33, 1000]", "", [], {"uid:1000"}),
+    ("uid = [33, 33, 33, 1000]", BOX, ["cap:CAP_KILL@box"], {"uid:1000", "cap:CAP_KILL@box"}),
+    ("gid = [33, 33, 33, 7]", "", [], {"gid:7"}),
+    ("gid = [33, 33, 33, 7]\ngroups = [7]", "", [], set()),
+    ("gid = [33, 33, 33, 0]\ngroups = [7]", "", [], {"gid:0"})]
 
 
 class FsIds(support.Case):
-    def doubted(self, keys: str, more: str) -> set[str]:
+    def doubted(self, keys: str, more: str, rights: list[str]) -> set[str]:
         """The rights of which this row is a doubt, of a process without capabilities."""
-        world = f'log = "script"\n{more}[[process]]\npid = 100\n{keys}\npermitted = "none"\neffective = "none"\n'
+        ids = "" if keys.startswith("uid") else "uid = 33\n"
+        ids += "" if keys.startswith("gid") else "gid = 33\n"
+        world = f'log = "script"\n{more}[[process]]\npid = 100\n{keys}\n{ids}permitted = "none"\neffective = "none"\n'
         names = self.put("world.toml", world.encode()), self.put("log")
-        asked = [word for right in ASKED for word in ("--right", right)]
-        with mock.patch.object(summary_command, "Program", lambda: Told(None, {})), \
-                mock.patch.object(Told, "run", Plain().run):
-            status, out, errors = self.told(summary_command.main, *names, "100", *asked)
+        asked = [right for text in [*ASKED, *rights] if (right := parse(text)) is not None]
+        # As few questions as go: each answer of the program is stored.
+        with mock.patch.object(summary, "rights_had", lambda *_: asked), \
+                mock.patch.object(power, "RIGHTS", power.RIGHTS[:1]), \
+                mock.patch.object(Judge, "settled", lambda _, outcome: outcome), \
+                mock.patch.object(Judge, "what_ifs", lambda *_: []):
+            status, out, errors = self.told(summary_command.main, *names, "100")
         self.assertEqual(status, GOOD, errors)
-        return {line.split()[0] for line in out.split("\n") if " not called gone: fs-ids: process 100 has the" in line}
+        return {line.split()[0] for line in out.split("\n")
+                if " not called gone: fs-ids: process 100 has the fs " in line}
 
     def test_rows(self) -> None:
-        for keys, more, wanted in ROWS:
-            with self.subTest(keys):
-                self.assertEqual(self.doubted(keys, more), wanted)
+        for keys, more, rights, wanted in ROWS:
+            with self.subTest(keys, more=more):
+                self.assertEqual(self.doubted(keys, more, rights), wanted)

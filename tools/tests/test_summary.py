@@ -8,8 +8,8 @@ from collections.abc import Callable
 from dataclasses import replace
 from unittest import mock
 
-from credaudit_tools import (answering, classes, lint_command, recording, rights, schemas, summary, summary_command,
-                             verify_command, worlds)
+from credaudit_tools import (answering, classes, lint_command, power, recording, rights, schemas, summary,
+                             summary_command, verify_command, worlds)
 from credaudit_tools.answering import BROKEN
 from credaudit_tools.asking import Asking, Files, shortened
 from credaudit_tools.classes import Outcome
@@ -89,7 +89,7 @@ class Whole(Case):
         self.assertEqual({right for word, kind, right in asked if (word, kind) == ("audit", "own")}, {"uid:0", "gid:0"})
         box = {right.replace("#2", "box") for right in MADE}
         self.assertEqual({right for word, kind, right in asked if (word, kind) == ("audit", "real")},
-                         {*HAD, *MADE, *box})
+                         {*HAD, *MADE, *box, *(each.text() for each in power.RIGHTS)})
         own = self.program.worlds["own"]
         self.assertEqual((own.files, own.processes[0].space), ([], "made-2"))
         [limited, unbounded, filtered] = [self.program.worlds[f"if-{number}"] for number in range(3)]
@@ -355,13 +355,22 @@ class Recordings(Case):
         self.assertNotIn("  gone", out)
         self.assertIn("this recording is of an older form", errors)
 
+    def scanned(self, name: str, folder: str | None = None) -> str:
+        """A stored recording in a folder, which tells where its threads stood, as the scans of tests do."""
+        path = self.folder(name, *([] if folder is None else [folder]))
+        kept = recording.read(path)
+        assert kept.made is not None
+        support.stand(kept.made.evidence, [status.pid for status in kept.statuses])
+        recording.write(path, kept)
+        return path
+
     def test_with_a_scan(self) -> None:
         scan = self.put_scan("scan.toml", World("script"))
-        _, out, errors = self.command(self.folder("daemon"), "--files", scan)
+        _, out, errors = self.command(self.scanned("daemon"), "--files", scan)
         self.assertIn("cap:CAP_CHOWN@init               gone\n", out)
         self.assertNotIn("scan.toml", errors)
         os.remove(scan + ".evidence")
-        _, out, errors = self.command(self.folder("daemon2", "daemon"), "--files", scan)
+        _, out, errors = self.command(self.scanned("daemon2", "daemon"), "--files", scan)
         self.assertIn("cap:CAP_CHOWN@init               gone by its own calls\n", out)
         self.assertIn("beside " + scan + " no evidence stands", errors)
 
