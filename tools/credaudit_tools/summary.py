@@ -103,9 +103,9 @@ def chosen(world: World, report: Report, pid: int | None) -> list[int]:
     from one: those without a living ancestor, those of the world first. Fails where none of them lives at the end."""
     alive = report.alive()
     if pid is None:
-        parents = births_of(world, report).parents
-        found = [each for each, above in parents.items() if above is None and each in alive]
-        found += sorted(set(alive) - {each for root in found for each in births_of(world, report).family(root)})
+        births = births_of(world, report)
+        found = [each for each, above in births.parents.items() if above is None and each in alive]
+        found += sorted(set(alive) - {each for root in found for each in births.family(root)})
     else:
         found = [pid] if pid in alive else []
     if not found:

@@ -73,7 +73,16 @@ def evidence_by(kept: recording.Recording | None, world: str, text: bytes, log: 
     if kept is not None:
         return kept.made.evidence.copy() if kept.made is not None else Evidence()
     captured = evidence_text.read_beside(world, text) if not log else None
-    return summary.by_hand() if captured is None else captured
+    return by_hand_in(os.path.dirname(world)) if captured is None else captured
+
+
+def by_hand_in(folder: str) -> Evidence:
+    """The word of who wrote a world. Where it lies in a recording, it may be the recording's: its doubts count."""
+    found = summary.by_hand()
+    made = read_recording(folder).made if recording.is_folder(folder) else None
+    for each in made.doubts if made is not None else []:
+        found.doubt(each.premise, each.why)
+    return found
 
 
 def read_recording(folder: str) -> recording.Recording:

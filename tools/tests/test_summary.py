@@ -318,6 +318,17 @@ class Recordings(Case):
         _, out, _ = self.command(folder)
         self.assertIn("not called gone: births: a child went on untraced", out)
 
+    def test_its_files_by_their_names(self) -> None:
+        """They count as written by hand, and what the recorder doubted stays."""
+        folder = self.folder("daemon")
+        names = [os.path.join(folder, name) for name in ("world.toml", "log")]
+        self.assertIn("cap:CAP_CHOWN@init               gone by its own calls\n", self.command(*names, "100")[1])
+        kept = recording.read(folder)
+        assert kept.made is not None
+        kept.made.evidence.doubt("births", "a child went on untraced")
+        recording.write(folder, kept)
+        self.assertIn("not called gone: births: a child went on untraced", self.command(*names, "100")[1])
+
     def test_one_that_was_altered(self) -> None:
         folder = self.folder("daemon")
         for name in ("recording.toml", "world.toml", "changes.txt"):
