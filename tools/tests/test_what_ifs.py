@@ -22,7 +22,8 @@ ROWS: list[tuple[str, Credential, list[File], list[str], int, int]] = [
     ("two programs are left", NOBODY, [SU, GROUP], [], 5, 5),
     ("the real user id is root's, and comes back", replace(NOBODY, uid=(0, 33, 33, 33)), [SU], [], 4, 5),
     ("the scan has a doubt", NOBODY, [SU], ["/srv can't be read"], 0, 5),
-    ("the fs user id is root's", replace(NOBODY, uid=(33, 33, 33, 0)), [SU], [], 0, 5)]
+    ("the fs user id is root's, and set-id bits of its files don't count", replace(NOBODY, uid=(33, 33, 33, 0)), [SU],
+     [], 5, 5)]
 
 
 class WhatIfs(support.Case):
