@@ -25,6 +25,16 @@ def spaces(seen: dict[str, str]) -> dict[str, MountSpace]:
     return {key.removeprefix(SPACE): of_text(told) for key, told in seen.items() if key.startswith(SPACE)}
 
 
+def renumbered(seen: Mapping[str, str], numbers: Mapping[int, int]) -> dict[str, str]:
+    """The same of threads with other numbers."""
+    found = dict[str, str]()
+    for key, told in seen.items():
+        front = next((front for front in (SPACE, LEFT) if key.startswith(front)), None)
+        tid = -1 if front is None else int(key.removeprefix(front))
+        found[f"{front}{numbers.get(tid, tid)}" if front is not None else key] = told
+    return found
+
+
 def later(scan: Evidence, recorded: Evidence) -> bool:
     """Whether a scan began after the recording's last change of programs and mounts."""
     changed, began = recorded.seen.get(CHANGED), scan.seen.get(BEGAN)

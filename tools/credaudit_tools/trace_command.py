@@ -2,10 +2,10 @@
 import argparse
 import re
 import sys
-from collections.abc import Sequence
+from collections.abc import Mapping, Sequence
 from dataclasses import replace
 
-from . import command, proc, recording, verify_command, worlds
+from . import command, proc, recording, scan_fits, verify_command, worlds
 from .command import FOUND, GOOD, USAGE, Progress, tell
 from .plain_log import numbers_of, renumbered
 from .recorder import Asked, Recorder
@@ -123,9 +123,17 @@ def numbered(found: recording.Recording, first: int) -> recording.Recording:
     lines = renumbered(log, numbers)
     filters = [line.partition(":") for line in found.filters.splitlines()]
     changes = "pids below are those that the system had\n" + found.changes
-    return replace(found, world=worlds.written(world), log=b"".join(line + b"\n" for line in lines), changes=changes,
+    return replace(found, made=made_numbered(found.made, numbers), world=worlds.written(world),
+                   log=b"".join(line + b"\n" for line in lines), changes=changes,
                    statuses=sorted(statuses, key=pid_of),
                    filters="".join(f"{numbers.get(int(pid), int(pid))}:{text}\n" for pid, _, text in filters))
+
+
+def made_numbered(made: recording.Made | None, numbers: Mapping[int, int]) -> recording.Made | None:
+    """How it was made, with what was seen of threads under their new numbers; texts keep those that the system had."""
+    if made is None:
+        return None
+    return replace(made, evidence=replace(made.evidence, seen=scan_fits.renumbered(made.evidence.seen, numbers)))
 
 
 def pid_of(status: Status) -> int:

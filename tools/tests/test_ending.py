@@ -238,7 +238,6 @@ class Doubted(Ended):
             "process 103 is of the family and isn't traced: what it did isn't in the log"])
         self.assertEqual(self.premises(), ["births"] * 3)
 
-
     def test_what_another_one_traces(self) -> None:
         """A signal would stop it for as long as its tracer likes."""
         self.thread(100, "t")

@@ -14,7 +14,7 @@ from unittest import mock
 
 import premises_page
 from credaudit_tools import (evidence_text, premises, recording, rights, scan_fits, summary, summary_command,
-                             unit_command)
+                             trace_command, unit_command)
 from credaudit_tools.asking import Asking
 from credaudit_tools.classes import GONE, GONE_BY_OWN_CALLS
 from credaudit_tools.command import GOOD
@@ -174,6 +174,18 @@ class Taken(Case):
                     if name in BY_NAME:
                         changed(copy, recording.MADE, fewer, sums=True)
                         self.assertEqual(self.gone(copy), {each for each in gone if not BY_NAME[name].touches(each)})
+
+    def test_pids_that_are_numbered_anew(self) -> None:
+        """What was seen of a thread is of it under its new number."""
+        folder, gone = self.one()
+        made = trace_command.numbered(recording.read(folder), 500)
+        recording.write(os.path.join(self.work, "numbered"), made)
+        self.assertIn(500, [status.pid for status in made.statuses])
+        self.assertEqual(self.gone(os.path.join(self.work, "numbered")), gone)
+        assert made.made is not None
+        made.made.evidence.seen = {f"{scan_fits.LEFT}7": "3", f"{scan_fits.SPACE}8": "x", scan_fits.BOOT: "y"}
+        self.assertEqual(scan_fits.renumbered(made.made.evidence.seen, {7: 500, 8: 501}),
+                         {f"{scan_fits.LEFT}500": "3", f"{scan_fits.SPACE}501": "x", scan_fits.BOOT: "y"})
 
     def test_each_line_of_what_the_kernel_showed(self) -> None:
         for folder, _ in self.recordings():
