@@ -37,15 +37,16 @@ TABLE = (
     Premise(BIRTHS, "each process of the family is in the log from its birth to its end",
             "the recorder: all that descends from the processes at the start was traced until it ended, or until it was"
             " looked at; at the end the same processes live for the kernel as in the replay",
-            "a process that wasn't traced, a birth that isn't told, strace's lines cut or stopped"),
+            "a process that wasn't traced, a birth or an end that isn't told, strace's lines cut or stopped, strace"
+            " that was ended before all had stopped"),
     Premise(ANSWERS, "the answers in the log are the kernel's",
             "the recorder: the filters of all that lived at the end, as the kernel shows them, are the log's, and none"
             " can answer a call of the log in its place; where they aren't shown, as many stand as the log tells",
             "a filter that can answer success without making the call, one that was exchanged as it was read, or one"
-            " that can't be read"),
+            " that can't be read; another process that has the pipe of strace's lines"),
     Premise(CREDENTIALS, "at the end each member is for the kernel what it is in the replay",
             "the comparison of the replay with /proc/PID/status of each thread that lives at the end",
-            "a difference, or no process that could be compared"),
+            "a difference, no process that could be compared, or one that couldn't be stopped while it was looked at"),
     Premise(MAPS, "user namespaces, their owners and their maps are as in the replay",
             "the comparison of the replay with the namespaces of all that lives at the end",
             "a difference, a map whose writing couldn't be told"),
