@@ -77,7 +77,8 @@ sys.path.append(os.path.join(HERE, "..", "tools"))
 from credaudit_tools.program import BUILT  # noqa: E402
 
 PARTS = ("ratio", "linear", "scan", "start", "world", "bounds", "audit")
-STORED = [os.path.join(HERE, "..", "crates", "credaudit", "data", name) for name in ("world.toml", "setresuid.log")]
+DATA = os.path.join(HERE, "..", "crates", "credaudit", "data")
+STORED = os.path.join(DATA, "world.toml"), os.path.join(DATA, "setresuid.log")
 # How long a world of 1 MiB may take; and how often as long as `tuned` those of maps may take: 0.6 of what they took
 # before ids were looked for by halves.
 MOST_WORLD_SECONDS = 0.3

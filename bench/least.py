@@ -91,7 +91,8 @@ def measure(judge: str, runs: int, work: str) -> bool:
     rows, rounds = both(judge, MORE, write(os.path.join(work, "chain.toml"), links(64, 16).text), runs)
     print(f"chain: {1000 * rows:.2f} ms, by rounds {1000 * rounds:.2f} ms")
     good.append(shown("chain of 64 links in 16 spaces, of by rounds", rows / rounds, MOST_OF_ROUNDS_ON_CHAIN))
-    orders = {"in order": None, "reversed": "reversed", **{f"shuffled, draw {n}": n for n in range(DRAWS)}}
+    orders: dict[str, int | str | None] = {"in order": None, "reversed": "reversed"}
+    orders |= {f"shuffled, draw {n}": n for n in range(DRAWS)}
     for name, order in orders.items():
         world = write(os.path.join(work, "hostile.toml"), links(2048, 256, order).text)
         seconds = min(found(judge, "least", 0, world)[1] for _ in range(min(runs, 2)))

@@ -50,7 +50,7 @@ def started(words: Sequence[str], nothing: int) -> float:
     """The seconds from the start of a command to its end, by the clock. Ends the measuring where it fails."""
     files = [(os.POSIX_SPAWN_DUP2, nothing, 0), (os.POSIX_SPAWN_DUP2, nothing, 1)]
     begin = time.perf_counter()
-    pid = os.posix_spawnp(words[0], words, os.environ, file_actions=files)
+    pid = os.posix_spawnp(words[0], list(words), os.environ, file_actions=files)
     _, status = os.waitpid(pid, 0)
     seconds = time.perf_counter() - begin
     if status != 0:
