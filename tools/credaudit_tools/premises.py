@@ -60,15 +60,17 @@ TABLE = (
             "securebits that a call set and nothing confirms"),
     Premise(FS_IDS, "the fs ids of each member are among its effective ones",
             "the end of the replay",
-            "a member whose fs user id is another than its effective one, or whose fs group id is none of its own: it"
-            " can make itself a set-id file of that id"),
+            "a member with another one, which can make itself a set-id file of that id: audits with such files tell"
+            " which rights they give"),
     Premise(GROUPS, "supplementary groups were seen of each member, so that a forgotten setgroups shows",
             "of each member groups with which it, or a forebear of it, began, or a call of setgroups, its own or one of"
             " a forebear before its birth",
             "a member of which none of both was seen", ("gid",)),
     Premise(POWER, "no member can have a capability over the initial namespace that acts without a listed call",
-            "audits of the family at the end",
-            "one of these capabilities that can be had"),
+            "audits of the family at the end: no member ever has CAP_CHOWN, CAP_DAC_OVERRIDE, CAP_FOWNER, CAP_FSETID,"
+            " CAP_SETFCAP, CAP_MKNOD, CAP_SYS_ADMIN, CAP_SYS_MODULE, CAP_SYS_PTRACE, CAP_SYS_RAWIO, CAP_SYS_BOOT or"
+            " CAP_BPF",
+            "one of these that can be had: the reason says what it does"),
     Premise(RINGS, "nothing acts for a member through io_uring",
             "the recorder: no call of io_uring that succeeded, and no descriptor, memory or thread of a ring",
             "a ring"),
@@ -76,11 +78,14 @@ TABLE = (
             "credaudit-capture, which looked at each mount of the family",
             "a place that couldn't be looked at, or that was left out"),
     Premise(MOUNTS, "each member stands in a mount namespace that was looked at",
-            "the mount namespaces of the members and of the scan",
-            "a mount, or a mount namespace that was left or made, while it was recorded"),
+            "the mount namespaces of the members at the end are those of the scan, with the same mounts, since the same"
+            " start of the machine",
+            "a change of mounts while it was recorded, after which no scan was made; a member in a mount namespace that"
+            " the scan didn't look at"),
     Premise(FILES, "nothing that the scan saw changed after it",
-            "the recorder: no call that changes set-id bits, owners, attributes or names of such files",
-            "such a call, or a scan that is older than it"),
+            "the recorder looked at each call that can change set-id bits, owners, attributes or names of such files,"
+            " or the scan began after the last of them",
+            "such a call, and no scan after it"),
     Premise(BINFMT, "no other rule than those of ELF files and scripts gives a program its credentials",
             "the entries of binfmt_misc",
             "an entry with the flag C or F"),
