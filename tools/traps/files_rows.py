@@ -11,8 +11,10 @@ TRAPS = (
       for case, spelling in (
         ("nosuid", "the same file on a mount with nosuid, in a child's mount namespace"),
         ("other", "another file in a child's mount namespace"), ("root", "another file in a changed root directory"),
-        ("covered", "covered by a mount for a while"), ("exchanged", "exchanged by renameat2(2), and back"),
-        ("bwrap", "what bubblewrap shows"))),
+        ("covered", "covered by a mount for a while"), ("exchanged", "exchanged by renameat2(2), and back"))),
+    Trap("shadow", "bwrap", SHADOW, "what bubblewrap shows",
+         ("uid:0 program or doubt files or doubt scan or doubt mounts",),
+         options=("--until", r"setresuid\(33", "--for", "30")),
     Trap("shadow", "plain", SHADOW, "a plain file in a child's mount namespace: the recording is true",
          ("right or doubt mounts or doubt files",)),
     *(Trap("files", case, MADE, spelling, ("doubt files or doubt scan or uid:0 program",)) for case, spelling in (
