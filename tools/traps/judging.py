@@ -7,7 +7,7 @@ What must be seen is said in these words, several with " or " between them where
   difference          the recording isn't what the kernel showed
   stopped, refused    the recording stopped at a line; the recorder did nothing (status 3), and said why
   told                anything of these but `right`
-  altered             the summary says which file isn't as it was written
+  altered             the summary says which file isn't as it was
   no secret           no file of the recording, and nothing that was said, has the word SECRET
   no change           with no_new_privs, an empty bounding set or a filter no right is said to be gone either
   RIGHT CLASS         the summary calls this right so, of some process
@@ -59,7 +59,7 @@ class Seen:
         if word.startswith("doubt "):
             return word.removeprefix("doubt ") in self.doubts
         plain = {"difference": self.difference(), "stopped": self.stopped(), "refused": self.status == 3,
-                 "told": self.told(), "altered": "isn't as it was written" in self.broken, "no secret": not self.secret,
+                 "told": self.told(), "altered": "isn't as it was" in self.broken, "no secret": not self.secret,
                  "no change": not any(count for _, count, _ in self.what_ifs)}
         if word in plain:
             return plain[word]
