@@ -27,6 +27,18 @@ def user_of(name: str) -> pwd.struct_passwd:
         raise Failure(f"there is no user {quoted(name)}") from error
 
 
+def own_groups(own: Collection[int], of_root: Collection[int]) -> list[int]:
+    """The supplementary groups of this command that root doesn't have: it was given them, as by setpriv(1), and hands
+    all of its own on. Where there are none, nothing is handed on."""
+    return sorted(own) if set(own) - set(of_root) else []
+
+
+def groups_of(entry: pwd.struct_passwd) -> list[int]:
+    """The supplementary groups with which the program of a user begins: those that this command was given, else the
+    user's (initgroups(3))."""
+    return own_groups(os.getgroups(), os.getgrouplist("root", 0)) or os.getgrouplist(entry.pw_name, entry.pw_gid)
+
+
 def begin(words: Sequence[str], user: str | None, without: Collection[int] = (),
           note: Callable[[int], None] = lambda _: None) -> tuple[int, int]:
     """A process that is the program's user and has stopped right before it executes the program: its pid and
@@ -57,7 +69,7 @@ def become(path: str, words: Sequence[str], entry: pwd.struct_passwd | None, wri
         for number in (signal.SIGINT, signal.SIGTERM, signal.SIGPIPE, signal.SIGXFSZ):
             signal.signal(number, signal.SIG_DFL)
         if entry is not None:
-            os.initgroups(entry.pw_name, entry.pw_gid)
+            os.setgroups(groups_of(entry))
             os.setresgid(entry.pw_gid, entry.pw_gid, entry.pw_gid)
             os.setresuid(entry.pw_uid, entry.pw_uid, entry.pw_uid)
         os.write(writing, struct.pack("i", prctl(PR_GET_SECUREBITS)))

@@ -1,10 +1,11 @@
 """Expected classes: their text, what fails by them, the file of them that a summary writes, and pipes."""
 import os
+import re
 import threading
 import unittest
 from unittest import mock
 
-from credaudit_tools import classes, expecting, rights, typed_files, users
+from credaudit_tools import classes, expecting, rights, summary_command, typed_files, users
 from credaudit_tools.answering import BROKEN
 from credaudit_tools.classes import Outcome
 from credaudit_tools.command import FAILED, FOUND, GOOD, USAGE, Failure
@@ -12,6 +13,7 @@ from credaudit_tools.expecting import Expected, Lines
 from credaudit_tools.rights import Reading, Right
 from credaudit_tools.whose import Member
 
+from . import support
 from .plain_program import Plain
 from .test_summary import HAD, WORLD, Case
 from .told_program import Told
@@ -260,6 +262,29 @@ class Command(Case):
                          sorted(each.text() for each in rights.of_root(known) if each.text() not in HAD))
         self.assertEqual([each.text() for each in rights.of_root(known)][:3], ["uid:0", "gid:0", "gid:4"])
         self.assertEqual(len(rights.of_root(known)), 3 + 41)
+
+
+class Tutorial(support.Case):
+    """The job for CI of docs/TUTORIAL.md, by the stored answers of the program."""
+
+    def summary(self, *given: str) -> tuple[int, str]:
+        status, out, errors = self.told(summary_command.main, *given, name="credaudit-summary")
+        return status, out + errors
+
+    def test_its_lines(self) -> None:
+        with open(os.path.join(support.EXAMPLES, "..", "docs", "TUTORIAL.md"), encoding="utf-8") as file:
+            page = file.read().split("## In CI")[1].split("```")[1]
+        wrong, right = (os.path.join(support.EXAMPLES, "first_try", name) for name in ("recording", "recording-fixed"))
+        path = os.path.join(self.work, "rights.expected")
+        self.assertEqual(self.summary("--classes", path, right)[0], GOOD)
+        with open(path, encoding="ascii") as file:
+            ids = "".join(line for line in file if "id:" in line)
+        self.assertIn("rights.expected\n" + ids + "$ ", page)
+        self.assertEqual(self.summary("--expect", path, right)[0], GOOD)
+        status, told = self.summary("--expect", path, wrong)
+        self.assertEqual(status, FOUND)
+        [line] = [line for line in told.split("\n") if re.search("uid:.* is", line)]
+        self.assertTrue(page.endswith(line + "\n"), line)
 
 
 if __name__ == "__main__":

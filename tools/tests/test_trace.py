@@ -11,7 +11,7 @@ from unittest import mock
 
 from credaudit_tools import proc, recording, trace_command, watching
 from credaudit_tools.command import Failure
-from credaudit_tools.stub import user_of
+from credaudit_tools.stub import own_groups, user_of
 
 from .support import Case
 
@@ -332,6 +332,13 @@ class Refused(Case):
             self.assertIn("nothing can be put into", errors)
             self.assertEqual(recorder.call_count, 0)
             os.rmdir(folder)
+
+    def test_groups_that_were_given(self) -> None:
+        rows: list[tuple[list[int], list[int], list[int]]] = [
+            ([], [0], []), ([0], [0], []), ([0, 1], [0, 1], []), ([24, 4], [0], [4, 24]), ([0, 4], [0], [0, 4]),
+            ([4], [0, 4], [])]
+        for own, of_root, wanted in rows:
+            self.assertEqual(own_groups(own, of_root), wanted)
 
     def test_users(self) -> None:
         self.assertEqual(user_of("0").pw_uid, 0)
