@@ -5,6 +5,7 @@ SHADOW = "one path is two files, so that one row of the world stands for both"
 MADE = "a set-user-ID program comes between the scan and the drop"
 MOUNTED = "a mount brings a set-user-ID program that no scan saw"
 FOREIGN = "a file of another mount namespace, or of a detached mount, gives nothing, and the replay gives its ids"
+TO_THE_DROP = ("--until", r"setresuid\(33", "--for", "30")
 
 TRAPS = (
     *(Trap("shadow", case, SHADOW, spelling, ("uid:0 program or doubt files or doubt scan or doubt mounts",))
@@ -14,10 +15,11 @@ TRAPS = (
         ("covered", "covered by a mount for a while"), ("exchanged", "exchanged by renameat2(2), and back"))),
     Trap("shadow", "bwrap", SHADOW, "what bubblewrap shows",
          ("uid:0 program or doubt files or doubt scan or doubt mounts",),
-         options=("--until", r"setresuid\(33", "--for", "30")),
+         options=TO_THE_DROP),
     Trap("shadow", "plain", SHADOW, "a plain file in a child's mount namespace: the recording is true",
          ("right or doubt mounts or doubt files",)),
-    *(Trap("files", case, MADE, spelling, ("doubt files or doubt scan or uid:0 program",)) for case, spelling in (
+    *(Trap("files", case, MADE, spelling, ("doubt files or doubt scan or uid:0 program",), options=TO_THE_DROP)
+      for case, spelling in (
         ("made", "chmod(2) of its own copy"), ("descriptor", "fchmod(2)"), ("proc", "chmod(2) of /proc/self/fd/N"),
         ("fchmodat2", "fchmodat2, of Linux 6.6"), ("int80", "chmod by the gate of 32-bit programs"),
         ("attribute", "fsetxattr(2) of security.capability"), ("setxattrat", "setxattrat, of Linux 6.13"),
@@ -25,13 +27,15 @@ TRAPS = (
         ("unnamed", "O_TMPFILE, named by linkat(2)"), ("folder", "a folder is opened for all"),
         ("owner", "another owner by chown(2)"), ("copied", "cp -p"))),
     Trap("files", "deleted", MADE, "a program of the scan is deleted, and held open",
-         ("uid:0 program or doubt files or doubt scan",)),
-    *(Trap("mounts", case, MOUNTED, spelling, ("doubt mounts or doubt files or doubt scan or uid:0 program",))
-      for case, spelling in (
+         ("uid:0 program or doubt files or doubt scan",), options=TO_THE_DROP),
+    *(Trap("mounts", case, MOUNTED, spelling, ("doubt mounts or doubt files or doubt scan or uid:0 program",),
+           options=TO_THE_DROP) for case, spelling in (
         ("own", "a tmpfs in a mount namespace of its own"), ("remounted", "mount(2) takes nosuid away"),
         ("setattr", "mount_setattr(2) takes nosuid away"), ("bound", "a second mount without nosuid"),
-        ("overlay", "an overlay over a closed folder"), ("parts", "fsopen(2) and move_mount(2)"),
-        ("space", "a tmpfs of a user namespace in which user 0 is user 0"))),
+        ("overlay", "an overlay over a closed folder"), ("parts", "fsopen(2) and move_mount(2)"))),
+    Trap("mounts", "space", MOUNTED, "a tmpfs of a user namespace in which user 0 is user 0",
+         ("doubt mounts or doubt files or doubt scan or uid:0 program",),
+         options=("--until-each", r"setresuid\(33", "--for", "30")),
     *(Trap("mounts", case, FOREIGN, spelling, ("difference or doubt mounts or doubt files or stopped",), ALL)
       for case, spelling in (
         ("behind", "opened before unshare(2)"), ("behind-attribute", "a file with an attribute, likewise"),

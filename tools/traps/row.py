@@ -19,7 +19,7 @@ class Trap:
     told: tuple[str, ...]
     gone: str = NONE
     how: str = LAUNCHED
-    options: tuple[str, ...] = ("--for", "1.5")
+    options: tuple[str, ...] = ("--for", "2")
     limit: float = 60.0
     asked: bool = True
     go: float | None = None
