@@ -73,7 +73,7 @@ def evidence_by(kept: recording.Recording | None, world: str, text: bytes, log: 
     if kept is not None:
         return kept.made.evidence.copy() if kept.made is not None else Evidence()
     captured = evidence_text.read_beside(world, text) if not log else None
-    return by_hand_in(os.path.dirname(world)) if captured is None else captured
+    return by_hand_in(os.path.dirname(os.path.abspath(world))) if captured is None else captured
 
 
 def by_hand_in(folder: str) -> Evidence:

@@ -1,4 +1,5 @@
 """credaudit-summary on answers of the program that are told by hand from the formats, and on stored recordings."""
+import contextlib
 import json
 import os
 import shutil
@@ -328,6 +329,8 @@ class Recordings(Case):
         kept.made.evidence.doubt("births", "a child went on untraced")
         recording.write(folder, kept)
         self.assertIn("not called gone: births: a child went on untraced", self.command(*names, "100")[1])
+        with contextlib.chdir(folder):
+            self.assertIn("not called gone: births: a child", self.command("world.toml", "log", "100")[1])
 
     def test_one_that_was_altered(self) -> None:
         folder = self.folder("daemon")
