@@ -62,13 +62,13 @@ class Reading:
         number = self.lookup(found["kind"], found["name"])
         if number is None:
             who = "user" if found["kind"] == "uid" else "group"
-            raise Failure(f"there is no {who} {quoted(found['name'])} on this machine",
+            raise Failure(f"there is no {who} {quoted(found['name'])} here",
                           f"write its number: {found['kind']}:ID")
         return self.named.setdefault(text, Right(found["kind"], number))
 
     def notes(self) -> Iterator[str]:
         """What the names stood for."""
-        return (f"{text} is {right.text()} on this machine" for text, right in self.named.items())
+        return (f"{text} is {right.text()} here" for text, right in self.named.items())
 
 
 def of_root(known: Users, spaces: tuple[str, ...] = (INITIAL,)) -> list[Right]:

@@ -115,6 +115,7 @@ def answered(asked: argparse.Namespace, says: Says) -> int:
         own = of_root(known, (INITIAL, made.world.processes[0].space))
         answers = judged(ask, made, [*own, *wanted.of_process(unit_world.PID)])
     answers.title = f"unit {unit.name}: {answers.title}"
+    answers.notes += wanted.notes
     answers.made = {"world.toml": worlds.written(made.world), "log": made.log}
     front: dict[str, object] = {"unit": unit.name, "files": unit.files, "world": worlds.written(made.world).decode(),
                                 "log": made.log.decode(), "scanned": premises.SCAN in made.evidence.established}

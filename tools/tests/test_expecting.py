@@ -72,7 +72,7 @@ class Text(unittest.TestCase):
     def test_names_that_were_looked_up_are_told(self) -> None:
         reading = Reading(lookup)
         expecting.read(b"gid:adm gone\nuid:7 gone\n", reading)
-        self.assertEqual(list(reading.notes()), ["gid:adm is gid:4 on this machine"])
+        self.assertEqual(list(reading.notes()), ["gid:adm is gid:4 here"])
 
     def test_what_is_written_is_expected(self) -> None:
         told = [HELD, Outcome(Right("uid", 1), classes.GONE)]
@@ -237,14 +237,14 @@ class Command(Case):
             status, out, errors = self.command(*self.names(), "100", "--right", "uid:www-data", "--expect", expected)
         self.assertEqual(status, FOUND)
         self.assertIn("uid:33               held by process 100", out)
-        for told in ("note: uid:www-data is uid:33 on this machine\n", "note: gid:adm is gid:4 on this machine\n",
+        for told in ("note: uid:www-data is uid:33 here\n", "note: gid:adm is gid:4 here\n",
                      "gid:4 is open, and expected is gone\n"):
             self.assertIn(told, errors)
         status, _, errors = self.command(*self.names(), "100", "--right", "uid:nobody has this")
         self.assertEqual(status, USAGE)
         status, _, errors = self.command(*self.names(), "100", "--right", "uid:nobody-has-this")
         self.assertEqual((status, self.program.asked == []), (FAILED, False))
-        self.assertIn("there is no user 'nobody-has-this' on this machine", errors)
+        self.assertIn("there is no user 'nobody-has-this' here", errors)
 
     def test_names_of_the_machine(self) -> None:
         self.assertEqual((users.on_machine("uid", "root"), users.on_machine("gid", "root")), (0, 0))

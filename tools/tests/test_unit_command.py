@@ -81,6 +81,16 @@ class Whole(support.Case):
         with contextlib.chdir(self.work):
             self.assertEqual(self.command("x.service", "--classes", "-")[0], GOOD)
 
+    def test_names_below_the_root_directory(self) -> None:
+        """Users and groups are those of the root directory; root's groups are asked about."""
+        self.put("/etc/group", b"web:x:34:\nbackup:x:35:root,x\n")
+        status, out, errors = self.command("web", "--classes", "-", "--right", "uid:web", "--right", "gid:web")
+        self.assertEqual(status, GOOD, errors)
+        self.assertEqual([line.split()[0] for line in out.split("\n") if line.startswith(("uid", "gid"))],
+                         ["uid:0", "gid:0", "gid:35", "uid:33", "gid:34"])
+        self.assertIn("note: uid:web is uid:33 here\n", errors)
+        self.assertEqual(self.command("web", "--right", "gid:nobody-has-this")[0], FAILED)
+
     def test_json(self) -> None:
         status, out, _ = self.command("web", "--json", "--expect", self.put("expect", b"* gone\n"))
         self.assertEqual(status, FOUND)
