@@ -103,7 +103,7 @@ class Changing:
         folder = lines.descriptor(arguments[0]) if arguments else None
         name = lines.text_of(arguments[1]) if len(arguments) > 1 else None
         if folder is None or folder[1] is None:
-            return b"a file", None
+            return b"something", None
         if name is None or name[0] == b"":
             return folder[1], self.place(task, folder[1], None)
         return name[0], self.place(task, name[0], folder[1]) if name[1] else None
@@ -190,7 +190,7 @@ class Changing:
         told = next((lines.member(b"mode", each) for each in made.arguments if each.startswith(b"{")), None)
         mode = told or (b"0" if made.name == b"openat2" else made.arguments[-1])
         found = lines.descriptor(made.result)
-        path = found[1] if found is not None and found[1] is not None else b"a file"
+        path = found[1] if found is not None and found[1] is not None else b"something"
         place = self.place(task, path, None)
         if sets_ids(mode) and (place is None or self.counts(place)):
             self.doubt(FILES, task, f"made {escaped(path)} with the mode {escaped(mode)}")

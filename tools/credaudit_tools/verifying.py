@@ -68,10 +68,18 @@ class Verdict:
 
 @dataclass
 class Replayed:
-    """A replay, with the state at its end and of each process its events."""
+    """A replay, with the state at its end and of each process its events; `foreign` are those that executed a program
+    of another mount namespace."""
     standing: dict[int, Standing]
     spaces: SpacesTold
     history: dict[int, list[Made]]
+    foreign: frozenset[int] = frozenset()
+
+    def row(self, pid: int, name: str, told: str, seen: str) -> str | None:
+        """The row of docs/KERNEL.md for a field of a process that differs."""
+        if pid in self.foreign:
+            return kernel_rows.FOREIGN
+        return kernel_rows.of_field(name, self.history.get(pid, []), told, seen)
 
 
 def changed_at(history: list[Made], field: str | None = None) -> str:
@@ -93,7 +101,7 @@ def changes(made: Made, field: str) -> bool:
 def through(kept: Recording, told: Report, verdict: Verdict, says: Says) -> Replayed:
     """Goes through the log beside the replay, and compares each answer at its line."""
     now = Replayed({one.pid: one for one in told.start}, of_world(worlds.read(kept.world)),
-                   {one.pid: [] for one in told.start})
+                   {one.pid: [] for one in told.start}, foreign_of(kept))
     events = iter(told.events)
     event = next(events, None)
     log = kept.log.split(b"\n")[:-1]
@@ -110,6 +118,12 @@ def through(kept: Recording, told: Report, verdict: Verdict, says: Says) -> Repl
         take(now, event)
         event = next(events, None)
     return now
+
+
+def foreign_of(kept: Recording) -> frozenset[int]:
+    """The processes that executed a program of another mount namespace, by the recorder's doubts."""
+    doubts = [each.why for each in kept.made.doubts if each.why.startswith(kernel_rows.FOREIGN)] if kept.made else []
+    return frozenset(int(found.group(1)) for why in doubts if (found := re.search(r"process ([0-9]+) executed", why)))
 
 
 def take(now: Replayed, event: report.Event) -> None:
@@ -139,7 +153,7 @@ def compare_answer(now: Replayed, number: int, line: bytes, verdict: Verdict) ->
         name = next((key for key in WORDS if each.field.endswith(key)), "")
         verdict.differences.append(with_row(
             f"process {pid}, {each.field}, line {number}: the replay has {each.told}, the kernel answered {each.seen}",
-            kernel_rows.of_field(name, now.history.get(pid, []), each.told, each.seen)))
+            now.row(pid, name, each.told, each.seen)))
 
 
 def with_row(text: str, row: str | None) -> str:
@@ -173,7 +187,7 @@ def compare_one(status: Status, now: Replayed, verdict: Verdict) -> None:
     for name, told, seen in differences(now.standing[status.pid].credential, status.credential):
         verdict.differences.append(with_row(
             f"process {status.pid} ({shown(status.name)}), {WORDS[name]}: the replay has {told}, the kernel showed"
-            f" {seen}; {changed_at(history, name)}", kernel_rows.of_field(name, history, told, seen)))
+            f" {seen}; {changed_at(history, name)}", now.row(status.pid, name, told, seen)))
 
 
 def compare_spaces(kept: Recording, now: Replayed, verdict: Verdict) -> None:
