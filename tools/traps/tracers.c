@@ -153,7 +153,8 @@ static void traced(void)
         need(ptrace(PTRACE_SEIZE, child, 0, 0) == 0, "seize");
         hold();
     }
-    usleep(200000);
+    while (atoi(status_of(child, "TracerPid")) != other)
+        usleep(10000);
     if (showing)
         shown(atoi(status_of(child, "TracerPid")) == other && ptrace(PTRACE_ATTACH, child, 0, 0) < 0,
               "process %d has the tracer %d; another gets %s", child, other, strerror(errno));
