@@ -87,13 +87,13 @@ def doubts(found: Mapping[str, str]) -> list[str]:
     return told
 
 
-def tell(evidence: Evidence, read: Callable[[], Mapping[str, str]] = entries) -> None:
-    """What a kernel has, as evidence."""
+def tell(evidence: Evidence, read: Callable[[], Mapping[str, str]] = entries) -> list[str]:
+    """What a kernel has, as evidence. Where it can't be read nothing is established, and a note says why."""
     try:
         found = read()
     except OSError as error:
-        evidence.doubt(BINFMT, f"the entries of binfmt_misc can't be read: {error.strerror}")
-        return
+        return [f"the entries of binfmt_misc can't be read ({error.strerror}): what they make of a program isn't known"]
     for why in doubts(found):
         evidence.doubt(BINFMT, why)
     evidence.establish(BINFMT, f"the entries of binfmt_misc were read: {len(set(found) - {STATUS})}")
+    return []

@@ -98,7 +98,7 @@ def captured(kernel: Kernel, family: Family, wishes: Wishes, says: Says) -> Capt
         for each in scan.doubts:
             evidence.doubt(SCAN, each)
         scan_fits.tell_scan(evidence, scan.seen, began, time.time())
-        binfmt.tell(evidence, kernel.interpreters)
+        capture.notes += binfmt.tell(evidence, kernel.interpreters)
         capture.looked_at = scan.looked_at
     else:
         evidence.doubt(SCAN, "no files are declared: a `yes` holds by the family's own calls alone, without the"

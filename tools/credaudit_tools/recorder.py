@@ -297,7 +297,7 @@ class Recorder:
         left = {tid: self.filter.view_lines[task.place.view] for tid, task in self.filter.followed.tasks.items()
                 if tid in seen.mounts and task.place.view in self.filter.view_lines}
         scan_fits.tell_end(self.made.evidence, seen.mounts, left, self.filter.changing.changed_at, time.time())
-        binfmt.tell(self.made.evidence, self.live.interpreters)
+        self.made.notes += binfmt.tell(self.made.evidence, self.live.interpreters)
 
     def recording(self, seen: Seen) -> Recording:
         """What is kept."""

@@ -25,8 +25,8 @@ class Entries(support.Case):
         for read, holds in ((dict[str, str], True), (lambda: {"tool": ENTRY.format("P")}, True),
                             (lambda: {"tool": ENTRY.format("C")}, False), (fails, False)):
             evidence = Evidence()
-            tell(evidence, read)
-            self.assertEqual(evidence.holds(BINFMT), holds)
+            notes = tell(evidence, read)
+            self.assertEqual((evidence.holds(BINFMT), bool(notes)), (holds, read is fails))
 
     def test_kinds(self) -> None:
         self.assertEqual(kinds(b"nodev\tproc\n\text4\nnodev\tbinfmt_misc\n"), {b"proc", b"ext4", b"binfmt_misc"})
