@@ -30,7 +30,8 @@ class AccountClauses(Case):
         self.assertEqual(account_clauses.counted_in(TEXT), {"read": 2, "give": 1})
 
     def test_what_is_promised_stands_apart(self) -> None:
-        rows = [account_clauses.Clauses("cm_io", "real.rt", "read_at", 6), account_clauses.Clauses("cm_cli", "commands.rt", "run", 9),
+        rows = [account_clauses.Clauses("cm_io", "real.rt", "read_at", 6),
+                account_clauses.Clauses("cm_cli", "commands.rt", "run", 9),
                 account_clauses.Clauses("cm_io", "whole.rt", "read_whole", 6)]
         self.assertEqual([row.promised for row in rows], [True, True, False])
 
