@@ -144,7 +144,7 @@ def killed(family: Family, moment: float, session: int) -> tuple[str, list[str]]
 def record(folder: str, pid: str) -> int:
     """Is a recorder: the command's own, without its question for root."""
     setattr(proc, "needs_root", lambda _: None)
-    return trace_command.main(["-o", folder, "--no-verify", "--for", "0.6", "-p", pid])
+    return trace_command.main(["-o", folder, "--force", "--no-verify", "--for", "0.6", "-p", pid])
 
 
 def tried(count: int, seed: int) -> int:

@@ -29,6 +29,7 @@ OUTSIDE = (("crates/cm_io/src/shelf.rt", "Shelf"), ("crates/cm_io/src/sink.rt", 
 HEAD = re.compile(r"(?:abbrev |unfoldable |opaque )?(?:pub )?(?:(record|data) )?([^\s:(]+)\s*[:(]")
 WORD = re.compile(r"[^\W\d][\w']*(?:\.[^\W\d][\w']*)*|◌[^\s(){},;]+◌")
 USE = re.compile(r"^(pub )?use Rattle\.([\w.]+?)(?:\.\{([^}]*)\})?(?: as (\w+))?$")
+NAMED = re.compile(r"pattern abbrev (?:pub )?(\w+) : (?:.* → )?(\w+)$")
 CODE_ITEM = re.compile(r"^\s*pub(?:\([^)]*\))? (?:enum|struct|trait) (\w+)")
 
 
@@ -63,7 +64,7 @@ class Module:
     """A file of definitions: what it defines, and what it takes from others."""
     path: str
     definitions: dict[str, Definition] = field(default_factory=dict)
-    parts: dict[str, str] = field(default_factory=dict)             # a constructor or a field, and its type
+    parts: dict[str, str] = field(default_factory=dict)             # a constructor, a name of values, a field: its type
     names: dict[str, tuple[str, str]] = field(default_factory=dict)  # a name here, and the module and name that it is
     modules: dict[str, str] = field(default_factory=dict)           # a name for a module, and its path
 
@@ -127,6 +128,7 @@ def definitions_of(module: Module, lines: list[str]) -> None:
                 part = re.match(r"\s+(?:pub )?(\w+)\s*:", line)
                 if part:
                     module.parts.setdefault(part.group(1), name)
+    module.parts.update((match[1], match[2]) for match in map(NAMED.match, lines) if match)
 
 
 def modules_of_specs() -> dict[str, Module]:

@@ -86,7 +86,7 @@ def main() -> int:
                 assert family.stdout is not None
                 family.stdout.readline()
                 capture = [sys.executable, os.path.join(HERE, "credaudit-capture"), "--no-files", "-o", world]
-                clock, used = seconds([*capture, str(family.pid)], most=1)
+                clock, used = seconds([*capture, str(family.pid)], work, most=1)
             finally:
                 family.kill()
         rows = len(worlds.read(read_regular(world)).processes)

@@ -1,35 +1,24 @@
 """What credaudit-summary and credaudit-unit share: their options, the classes of rights on standard output, in words,
-as lines or as JSON, the folder of certificates, and the exit statuses.
-
-| Status | Means |
-|---|---|
-| 0 | all is told, and is as expected |
-| 1 | a right has another class than expected, or no line; groups weren't seen |
-| 2 | the words are wrong |
-| 3 | it couldn't be done |
-| 4 | what is looked at is broken: a recording, a log that is refused, a unit that doesn't start |
-"""
+as lines or as JSON, and the folder of certificates."""
 import argparse
 import os
 from collections.abc import Callable, Sequence
 from dataclasses import dataclass, field
 
-from . import classes, expecting, rights, schemas, typed_files
+from . import answer_words, case_reports, classes, expecting, rights, run_words, schemas, typed_files
 from .classes import Outcome
 from .command import FOUND, GOOD, Failure, tell
+from .end_world import End
 from .expecting import Expected, Unexpected
 from .files import write_new
 from .judged import WhatIf
 from .rights import Reading, Right
-from .shown import plural, quoted, shown
+from .run_words import place_at
+from .shown import folded, quoted, shown
 from .whose import Member
 
-BROKEN, FORMAT = 4, 2       # FORMAT of the JSON of both commands
+FORMAT = 2      # of the JSON of both commands
 STANDARD = "-"      # as a file's name: standard output
-
-
-class Broken(Failure):
-    """What is looked at can't be trusted to tell anything."""
 
 
 @dataclass
@@ -46,6 +35,8 @@ class Answers:
     held_by: dict[Right, list[Member]] = field(default_factory=dict)    # of each right that is held
     unseen: list[Member] = field(default_factory=list)                  # the members whose groups weren't seen
     kept: dict[Right, str] = field(default_factory=dict)
+    runs: dict[Right, str] = field(default_factory=dict)    # of each right that comes back its run in words
+    who: str = ""                                           # who is judged, where that isn't the process
     made: dict[str, bytes] = field(default_factory=dict)    # the world and the log, where they aren't files of the user
 
 
@@ -77,6 +68,10 @@ def options(ask: argparse.ArgumentParser) -> None:
                      help="ask for this right too")
     ask.add_argument("--expect", metavar="FILE",
                      help="the classes that are expected; what isn't as expected is status 1")
+    ask.add_argument("--tap", action="store_true",
+                     help="with --expect: write a test for each right instead of words, as prove(1) reads them")
+    ask.add_argument("--junit", metavar="FILE",
+                     help="with --expect: put a test for each right into this file, as XML of JUnit's form")
     ask.add_argument("--certificates", metavar="FOLDER", help="keep the certificates of the rights that are gone here")
     ask.add_argument("--classes", metavar="FILE",
                      help="put a line RIGHT CLASS for each right into this file, as --expect reads them, where the"
@@ -92,14 +87,19 @@ def parsed(ask: argparse.ArgumentParser, given: Sequence[str]) -> argparse.Names
     asked = ask.parse_args(given)
     if asked.classes == STANDARD and asked.json:
         ask.error("--classes - and --json both write to standard output: --classes FILE goes with --json")
+    if asked.expect is None and (asked.tap or asked.junit is not None):
+        ask.error("--tap and --junit tell what is as expected: --expect FILE says what is")
+    if asked.tap and (asked.json or asked.classes == STANDARD):
+        ask.error("--tap, --json and --classes - all write to standard output")
     return asked
 
 
 def wanted(asked: argparse.Namespace, lookup: rights.Lookup) -> Wanted:
     """What the words ask for, with names looked up. Fails where a name is nobody's, where the expected classes can't be
     read, and where the classes can't be put."""
-    if asked.classes not in (None, STANDARD):
-        typed_files.check_can_be_put(asked.classes)
+    for path in (asked.classes, asked.junit):
+        if path not in (None, STANDARD):
+            typed_files.check_can_be_put(path)
     reading = Reading(lookup)
     more, why = ([right for word in words if (right := reading.right(word)) is not None]
                  for words in (asked.right, asked.why))
@@ -127,23 +127,26 @@ def keep(answers: Answers, folder: str) -> None:
 
 
 def words(answers: Answers) -> list[str]:
-    """All of it for the eye: one line for each right."""
-    wide = max((len(each.right.text()) for each in answers.outcomes), default=0)
-    found = [answers.title]
-    found += [f"{each.right.text():{wide}}  {classes.words(each, answers.kept.get(each.right))}"
-              for each in answers.outcomes]
-    counts = ", ".join(f"{count} {kind}" for kind, count in classes.counted(answers.outcomes) if count)
-    found.append(f"{plural(len(answers.outcomes), 'right')}: {counts or 'none'}")
-    found += [f"with {each.with_} {each.gone} of {each.of} {classes.SHORT[each.kind]}"
-              for each in answers.what_ifs if each.of]
-    return found
+    """All of it for the eye."""
+    what_ifs = [f"with {each.with_} {each.gone} of {each.of} {classes.SHORT[each.kind]}"
+                for each in answers.what_ifs if each.of]
+    folder = next((os.path.dirname(path) for path in answers.kept.values()), None)
+    who = answers.who or f"process {answers.pid}"
+    return answer_words.lines(who, answers.title, answers.outcomes, what_ifs, folder, answers.runs)
+
+
+def runs_of(end: End, outcomes: Sequence[Outcome]) -> dict[Right, str]:
+    """The runs of the rights that come back, in words."""
+    return {each.right: run_words.sentence(each.calls(), place_at(end.spaces, end.world.files, end.family), each.holder)
+            for each in outcomes if each.run}
 
 
 def why_words(answers: Answers, asked: Sequence[Right]) -> list[str]:
     """What the classes of these rights rest on."""
     kinds = {each.right: each.kind for each in answers.outcomes}
     return [line for right in dict.fromkeys(asked) for line in
-            (f"{right.text()}: {kinds[right]}", *(f"  {row}" for row in answers.rows[right]))]
+            (f"{right.text()}: {kinds[right]}", *(part for row in answers.rows[right]
+                                                  for part in folded(shown("  " + row), "      ")))]
 
 
 RIGHTS_SCHEMA: dict[str, object] = {
@@ -167,26 +170,21 @@ def end_document(new: Sequence[Unexpected], notes: Sequence[str]) -> dict[str, o
                             "expected": list(each.expected)} for each in new], "notes": list(notes)}
 
 
-def broken(name: str, failure: Broken) -> int:
-    """Tells that what is looked at is broken; the exit status."""
-    tell(name, str(failure))
-    if failure.advice:
-        tell(name, failure.advice)
-    return BROKEN
-
-
 def class_lines(every: Sequence[Answers]) -> list[str]:
     """The lines of a text that expects what is: of several answers a part each."""
     return [line for each in every for line in
             ([f"{expecting.PROCESS} {each.pid}"] if len(every) > 1 else []) + expecting.written(each.outcomes)]
 
 
-def lines(every: Sequence[Answers], asked: argparse.Namespace, given: Wanted) -> list[str]:
+def lines(every: Sequence[Answers], asked: argparse.Namespace, given: Wanted,
+          tests: Sequence[case_reports.Case]) -> list[str]:
     """What is written where no JSON is asked for: of several answers a part each, with an empty line between."""
     if asked.classes == STANDARD:
         return class_lines(every)
-    parts = [words(each) if not given.why else [*([each.title] if len(every) > 1 else []), *why_words(each, given.why)]
-             for each in every]
+    if asked.tap:
+        return case_reports.tap(tests)
+    parts = [words(each) if not given.why else
+             [*(folded(shown(each.title)) if len(every) > 1 else []), *why_words(each, given.why)] for each in every]
     return "\n\n".join("\n".join(part) for part in parts).split("\n")
 
 
@@ -206,10 +204,13 @@ def told(name: str, asked: argparse.Namespace, every: Sequence[Answers], notes: 
         for each in every:
             keep(each, os.path.join(asked.certificates, str(each.pid)) if several else asked.certificates)
     new = unexpected(every, given.expected, vars(asked).get("pid") is None)
+    tests = case_reports.cases(((each.pid, each.outcomes) for each in every), new)
+    if asked.junit is not None:
+        typed_files.put_typed(asked.junit, case_reports.junit(name, tests))
     if asked.json:
         print(schemas.written({"format": FORMAT, **document(new)}))
     else:
-        for line in lines(every, asked, given):
+        for line in lines(every, asked, given, tests):
             print(shown(line))
     for note in [*notes, *dict.fromkeys(note for each in every for note in each.notes)]:
         tell(name, f"note: {note}")

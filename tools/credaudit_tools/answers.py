@@ -3,13 +3,15 @@ the kernel answered. Each is held against the replay at its line (getuid(2), get
 prctl(2)).
 """
 import re
-from collections.abc import Callable
+from collections.abc import Callable, Collection
 from dataclasses import dataclass
 
 from . import lines
+from .credential import WORDS
 from .lines import Call
 from .names import NUMBERS, SECUREBITS
 from .report import Standing
+from .set_texts import set_of
 from .spaces_of_report import SpacesTold, inside
 
 LEAST_SHORT = 1 << 16           # ids from here on don't fit the oldest calls of 32-bit programs (getuid(2))
@@ -18,10 +20,12 @@ KEEP_CAPS = SECUREBITS["KEEP_CAPS"]
 
 @dataclass(frozen=True)
 class Asked:
-    """An answer that differs: the field, what the replay has and what the kernel answered."""
+    """An answer that differs: the field in words, what the replay has and what the kernel answered, and the field of a
+    credential that it is."""
     field: str
     told: str
     seen: str
+    name: str
 
 
 @dataclass(frozen=True)
@@ -46,16 +50,16 @@ def bracketed(argument: bytes) -> int | None:
     return int(found.group(1)) if found else None
 
 
-def differs(field: str, told: int, seen: int) -> list[Asked]:
+def differs(field: str, told: int, seen: int, name: str) -> list[Asked]:
     """A difference, if there is one. The oldest calls of 32-bit programs answer 65534 for an id that is too large."""
-    return [] if told == seen or (seen == 65534 and told >= LEAST_SHORT) else [Asked(field, str(told), str(seen))]
+    return [] if told == seen or (seen == 65534 and told >= LEAST_SHORT) else [Asked(field, str(told), str(seen), name)]
 
 
 def one_id(kind: str, place: int) -> Callable[[At, Call], list[Asked] | None]:
     """getuid and its like: one of the four ids."""
     def compare(at: At, made: Call) -> list[Asked] | None:
         told = at.id_seen(kind, getattr(at.own().credential, kind)[place])
-        return None if made.done is None else differs(f"{('real', 'effective')[place]} {kind}", told, made.done)
+        return None if made.done is None else differs(f"{('real', 'effective')[place]} {kind}", told, made.done, kind)
     return compare
 
 
@@ -70,39 +74,30 @@ def three_ids(kind: str) -> Callable[[At, Call], list[Asked] | None]:
         for name, one, other in zip(("real", "effective", "saved"), told, seen):
             if other is None:
                 return None
-            found += differs(f"{name} {kind}", one, other)
+            found += differs(f"{name} {kind}", one, other, kind)
         return found
     return compare
 
 
+def ids_text(ids: Collection[int]) -> str:
+    """Ids for the eye."""
+    return ",".join(map(str, sorted(ids))) or "-"
+
+
 def groups(at: At, made: Call) -> list[Asked] | None:
-    """getgroups: the list, or their count alone. The kernel counts repeats."""
+    """getgroups: the list, or their count alone, which is all that the size 0 asks for. The kernel counts repeats."""
     told = at.own().credential.groups
     if made.done is None or len(made.arguments) != 2:
         return None
-    if made.arguments[1].startswith(b"[") and b"..." not in made.arguments[1]:
+    if made.arguments[0] != b"0" and made.arguments[1].startswith(b"[") and b"..." not in made.arguments[1]:
         seen = {int(word) for word in lines.pieces(made.arguments[1][1:-1]) or ()}
         if seen == {at.id_seen("gid", number) for number in told}:
             return []
-        return [Asked("groups", ",".join(map(str, sorted(told))) or "-", ",".join(map(str, sorted(seen))) or "-")]
+        return [Asked("groups", ids_text(told), ids_text(seen), "groups")]
     count = made.done
     if count >= len(told) and (count == 0) == (not told):
         return []
-    return [Asked("number of groups", str(len(told)), str(count))]
-
-
-def set_of(text: bytes) -> int | None:
-    """A set as strace writes it."""
-    bits = 0
-    for word in lines.words(text):
-        name = word.removeprefix(b"1<<").decode("ascii", "replace")
-        if name in NUMBERS:
-            bits |= 1 << NUMBERS[name]
-        elif re.fullmatch("0|0x[0-9a-f]+", name):
-            bits |= int(name, 0)
-        else:
-            return None
-    return bits
+    return [Asked("number of groups", str(len(told)), str(count), "groups")]
 
 
 def capabilities(at: At, made: Call) -> list[Asked] | None:
@@ -119,7 +114,7 @@ def capabilities(at: At, made: Call) -> list[Asked] | None:
         seen = set_of(lines.member(name, made.arguments[1]) or b"?")
         told = getattr(standing.credential, field)
         if seen is not None and seen != (told & 0xffffffff if few else told):
-            found.append(Asked(f"{name.decode()} set", f"{told:016x}", f"{seen:016x}"))
+            found.append(Asked(f"{name.decode()} set", f"{told:016x}", f"{seen:016x}", field))
     return found
 
 
@@ -135,22 +130,22 @@ def option(at: At, made: Call) -> list[Asked] | None:
     own, word = at.own().credential, made.arguments[0]
     secure = own.sec or 0
     if word == b"PR_GET_KEEPCAPS":
-        return differs("keep_caps", int(secure & KEEP_CAPS != 0), made.done)
+        return differs("keep_caps", int(secure & KEEP_CAPS != 0), made.done, "sec")
     if word == b"PR_GET_SECUREBITS":
-        return differs("securebits", secure, made.done)
+        return differs("securebits", secure, made.done, "sec")
     if word == b"PR_GET_NO_NEW_PRIVS":
-        return differs("no_new_privs", int(bool(own.nnp)), made.done)
+        return differs("no_new_privs", int(bool(own.nnp)), made.done, "nnp")
     if word == b"PR_CAPBSET_READ" and len(made.arguments) > 1:
-        return bit(made.arguments[1], own.bnd, "bounding set", made.done)
+        return bit(made.arguments[1], own.bnd, "bnd", made.done)
     if made.arguments[:2] == (b"PR_CAP_AMBIENT", b"PR_CAP_AMBIENT_IS_SET") and len(made.arguments) > 2:
-        return bit(made.arguments[2], own.amb, "ambient set", made.done)
+        return bit(made.arguments[2], own.amb, "amb", made.done)
     return None
 
 
-def bit(argument: bytes, told: int, field: str, seen: int) -> list[Asked] | None:
+def bit(argument: bytes, told: int, name: str, seen: int) -> list[Asked] | None:
     """A capability that was asked for, in a set."""
     number = capability_of(argument)
-    return None if number is None else differs(f"{field}, {argument.decode()}", told >> number & 1, seen)
+    return None if number is None else differs(f"{WORDS[name]}, {argument.decode()}", told >> number & 1, seen, name)
 
 
 ASKING: dict[bytes, Callable[[At, Call], list[Asked] | None]] = {

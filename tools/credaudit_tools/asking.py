@@ -17,6 +17,7 @@ from .rights import Right
 from .verdicts import Verdict
 from .worlds import World
 
+WORKERS = max(os.cpu_count() or 1, 1)     # calls of the program at a time
 HOLDS, CONFIRMED, REFUSED = b"holds\n", b"confirmed ", 11
 Asked = TypeVar("Asked")
 Told = TypeVar("Told")
@@ -31,9 +32,11 @@ class Files:
 
 @dataclass(frozen=True)
 class Answer:
-    """An audit's answer: the verdict, and the bytes of its lines: those of the run."""
+    """An audit's answer: the verdict, and the bytes of its lines: those of the run. `checked` says that the program's
+    check accepted the certificate for this right."""
     verdict: Verdict
     run: tuple[bytes, ...] = ()
+    checked: bool = False
 
 
 @dataclass
@@ -96,18 +99,38 @@ class Asking:
         os.remove(path)
         return status == 0 and text == HOLDS
 
-    def side_by_side(self, what: str, ask: Callable[[Asked], Told], items: Iterable[Asked]) -> list[Told]:
-        """The answers to many questions, in their order; several calls of the program run at a time."""
+    def side_by_side(self, what: str, ask: Callable[[Asked], Told], items: Iterable[Asked], done: int = 0,
+                     of: int = 0) -> list[Told]:
+        """The answers to many questions, in their order; several calls of the program run at a time. Where they are a
+        part of more questions, `done` of which are answered, these are `of`."""
         every, found = list(items), list[Told]()
-        with ThreadPoolExecutor(max_workers=max(os.cpu_count() or 1, 1)) as workers:
+        with ThreadPoolExecutor(max_workers=WORKERS) as workers:
             for answer in workers.map(ask, every):
                 found.append(answer)
-                self.says(f"{what}: {len(found)} of {len(every)}")
+                self.says(f"{what}: {done + len(found)} of {of or len(every)}")
         return found
 
     def audits(self, what: str, files: Files, pid: int, rights: Iterable[str]) -> list[Answer]:
-        """The verdicts on rights."""
-        return self.side_by_side(what, lambda right: self.audit(files, pid, right), rights)
+        """The verdicts on rights. First a few of them are audited; where one is gone, its certificate is tried on all
+        others: a family has one for all its rights, and the check of it, which is a `yes` of the program too, takes
+        less than an audit."""
+        every, found = list(rights), dict[str, Answer]()
+        asked = list(dict.fromkeys(every))
+
+        def audits(some: list[str]) -> None:
+            found.update(zip(some, self.side_by_side(what, lambda right: self.audit(files, pid, right), some,
+                                                     len(found), len(asked))))
+        audits(asked[::max(len(asked) // WORKERS, 1)][:WORKERS])
+        certificate = next((each.verdict.certificate for each in found.values() if each.verdict.word == verdicts.YES),
+                           None)
+        left = [right for right in asked if right not in found]
+        if certificate is not None:
+            text, same = certificate.encode("ascii"), Verdict(verdicts.YES, certificate=certificate)
+            holds = self.side_by_side(what, lambda right: self.holds(files, pid, right, text), left, len(found),
+                                      len(asked))
+            found.update((right, Answer(same, checked=True)) for right, good in zip(left, holds) if good)
+        audits([right for right in left if right not in found])
+        return [found[right] for right in every]
 
 
 @contextmanager

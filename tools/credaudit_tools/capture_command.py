@@ -8,7 +8,7 @@ from contextlib import contextmanager, nullcontext
 
 from . import command, evidence_text, family, worlds
 from .capture import Capture, Wishes, captured
-from .command import FOUND, GOOD, Failure, Progress, Says, tell
+from .command import FOUND, GOOD, Broken, Failure, Progress, Says, tell
 from .files import write_new
 from .freezer import frozen
 from .kernel import Kernel
@@ -22,8 +22,12 @@ FIRST = -20             # the priority that runs first (setpriority(2))
 LIMIT = 9               # the program's status where a limit is exceeded
 SAYS = """Writes the world of a live process, of all that descends from it and of their threads: credentials, user
 namespaces, and the programs with set-id bits or capabilities that they can run. To be run as root."""
-AFTER = """Exit status: 0 the world is written; 1 it is written, but something that a `yes` may rest on
-couldn't be looked at (each is told); 2 the words are wrong; 3 nothing is written."""
+AFTER = """exit status:
+  0  the world is written
+  1  it is written, but something that a `yes` may rest on couldn't be looked at; each is told
+  2  the words are wrong
+  3  nothing is written: no right, no such process; the reason is told
+  4  nothing is written: credaudit refuses the world"""
 
 
 def place_word(word: str) -> bytes:
@@ -81,7 +85,7 @@ def tried(data: bytes) -> None:
         return
     report = program.replay_texts(data, b"")
     if report.status != 0:
-        raise Failure(f"the program refuses the world, status {report.status}: {' '.join(report.ending)}",
+        raise Broken(f"the program refuses the world, status {report.status}: {' '.join(report.ending)}",
                       "--merge declares equal members and equal programs once" if report.status == LIMIT else "")
 
 

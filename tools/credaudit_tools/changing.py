@@ -34,6 +34,7 @@ MOUNTING = (b"mount", b"umount", b"umount2", b"move_mount", b"mount_setattr", b"
 UNNAMED = {b"syscall_0x1c4": b"fchmodat2", b"syscall_0x1cf": b"setxattrat", b"syscall_0x1d2": b"removexattrat"}
 PROPAGATION = frozenset((b"MS_PRIVATE", b"MS_SHARED", b"MS_SLAVE", b"MS_UNBINDABLE", b"MS_REC", b"MS_SILENT",
                          b"MS_MGC_VAL"))
+UNSEEN, TRIES = b"\0", 3         # what no place is; looks, since who is looked at may end meanwhile
 SET_ID_NAMES = re.compile(rb"S_ISUID|S_ISGID")
 NUMBER_IN_MODE = re.compile(rb"(?:^|\|)(0x[0-9a-f]+|0[0-7]*)(?:$|\|)")
 
@@ -64,6 +65,14 @@ def shows_programs(made: Call) -> bool:
     if flags & {b"MS_NOSUID", b"MS_NOEXEC"}:
         return False
     return b"MS_REMOUNT" in flags or kind is None or kind[0] not in WITHOUT_PROGRAMS
+
+
+def moves_mounts(made: Call) -> bool:
+    """Whether a change of mounts can show a file at another place, or no longer (mount(2))."""
+    if made.name == b"mount_setattr":
+        return False
+    flags = set(lines.words(made.arguments[3])) if made.name == b"mount" and len(made.arguments) > 3 else {b"?"}
+    return not flags <= PROPAGATION and b"MS_REMOUNT" not in flags
 
 
 class Changing:
@@ -105,18 +114,35 @@ class Changing:
         if folder is None or folder[1] is None:
             return b"something", None
         if name is None or name[0] == b"":
-            return folder[1], self.place(task, folder[1], None)
+            return folder[1], self.place_of_descriptor(task, folder[1])
         return name[0], self.place(task, name[0], folder[1]) if name[1] else None
 
+    def place_of_descriptor(self, task: Task, path: bytes) -> bytes | None:
+        """Where the file of a descriptor can be looked at. Its path has no links, so that of one's own mount namespace
+        is taken as it is."""
+        if task.place.view == 0 and task.place.root == b"/" and path.startswith(b"/"):
+            place = self.system.top_of(task, self.followed) + path
+            return place if os.path.lexists(place) else None
+        return self.place(task, path, None)
+
     def place(self, task: Task, path: bytes, folder: bytes | None) -> bytes | None:
-        """Where a file can be looked at, None where that isn't known or nothing stands there any more."""
-        found = self.executing.real(task, path, folder)
-        return None if found is None else self.system.top_of(task, self.followed) + found
+        """Where a file can be looked at, None where that isn't known or nothing stands there any more; UNSEEN where
+        none of its files can be: its root isn't known, or its mount namespace is gone."""
+        for _ in range(TRIES):
+            view = self.executing.view(task)
+            if view is None:
+                break
+            found = self.executing.real_in(view, path, folder)
+            if found is not None:
+                return view.top + found
+            if os.path.exists(view.top + b"/."):
+                return None
+        return UNSEEN
 
     def counts(self, place: bytes | None) -> bool:
-        """Whether there is a file that has set-id bits or capabilities."""
+        """Whether there is a file that has set-id bits or capabilities, or may be one."""
         mode, powers = kind_of(place)
-        return mode is not None and stat.S_ISREG(mode) and (bool(mode & SET_IDS) or powers)
+        return place == UNSEEN or (mode is not None and stat.S_ISREG(mode) and (bool(mode & SET_IDS) or powers))
 
     # ---- files
 
@@ -205,6 +231,7 @@ class Changing:
     def mount(self, task: Task, made: Call) -> None:
         """mount and its like, in a mount namespace that stood at the start. Of others the end tells: who stands in one
         then, and whether the mounts of the scan are as they were."""
+        self.followed.remounted |= made.done is not None and moves_mounts(made)
         if made.done is None or task.place.view > self.followed.first_view or not shows_programs(made):
             self.left_out("mounts")
             return
@@ -215,8 +242,8 @@ class Changing:
 def kind_of(place: bytes | None) -> tuple[int | None, bool]:
     """The mode of what stands at a place, None where it can't be looked at, and whether it has capabilities."""
     try:
-        if place is None:
-            return None, False
+        if place is None or place == UNSEEN:
+            return None, place == UNSEEN
         mode = os.stat(place).st_mode
         return mode, stat.S_ISREG(mode) and CAPABILITY in [os.fsencode(name) for name in os.listxattr(place)]
     except OSError:

@@ -51,13 +51,13 @@ def row_words(row: str) -> str:
     return f"in {row}" if later == row else f"in user namespaces that are made later in {later}"
 
 
-def words(outcome: Outcome, kept: str | None = None) -> str:
-    """What is known of a right, in one line; `kept` is where its certificate was put."""
-    calls = "; ".join(outcome.calls())
-    where = f" (certificate {kept})" if kept is not None else ""
+def words(outcome: Outcome, folder: str | None = None, run: str | None = None) -> str:
+    """What is known of a right, in one sentence; `folder` is where its certificate was put, `run` its run in words."""
+    calls = "; ".join(outcome.calls()) if run is None else run
+    where = f" (certificate in {folder})" if folder is not None else ""
     return {HELD: f"held by {few(list(outcome.reasons), MOST_HOLDERS) or f'process {outcome.holder}'}",
-            OWN_CALLS: f"regained by its own calls: {calls} (holder {outcome.holder})",
-            PROGRAM: f"regained through {few(list(outcome.programs))}: {calls} (holder {outcome.holder})",
+            OWN_CALLS: f"regained by its own calls: {calls}",
+            PROGRAM: f"regained through {few(list(outcome.programs))}: {calls}",
             GONE: f"{SHORT[GONE]}{where}",
             GONE_BY_OWN_CALLS: f"{SHORT[GONE_BY_OWN_CALLS]}{where}",
             DOUBTED: f"not called gone{where}: {'; '.join(outcome.reasons)}",

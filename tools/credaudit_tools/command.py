@@ -5,7 +5,10 @@
 | 0 | done, and nothing was found |
 | 1 | done, and something was found: a difference, a doubt |
 | 2 | the words of the command are wrong |
-| 3 | it couldn't be done: no right, no program, a file that can't be read |
+| 3 | it couldn't be done: no right, no program, a file that isn't there or can't be read |
+| 4 | what is looked at is refused: a world or a log by credaudit, a unit, a recording that isn't what was shown |
+
+docs/STATUSES.md has the causes, command by command. credaudit-audit alone has others: those of the program.
 """
 import argparse
 import os
@@ -17,7 +20,7 @@ from typing import NoReturn
 from . import VERSION
 from .shown import shown
 
-GOOD, FOUND, USAGE, FAILED = range(4)
+GOOD, FOUND, USAGE, FAILED, BROKEN = range(5)
 Says = Callable[[str], None]    # takes how far a long job is
 LAST_PID, MOST_SECONDS = 4194304, 1e9
 PATIENCE, PACE = 1.0, 5.0       # seconds before the first word of progress, and between two of them
@@ -29,6 +32,10 @@ class Failure(Exception):
     def __init__(self, why: str, advice: str = "") -> None:
         super().__init__(why)
         self.advice = advice
+
+
+class Broken(Failure):
+    """What is looked at is refused, so nothing can be told of it."""
 
 
 def parser(name: str, says: str, after: str = "") -> argparse.ArgumentParser:
@@ -80,13 +87,14 @@ class Progress:
 
 
 def carried_out(name: str, job: Callable[[Sequence[str]], int], words: Sequence[str]) -> int:
-    """The status of a job; a failure, and what the system refuses, becomes a message and status 3."""
+    """The status of a job; a failure, and what the system refuses, becomes a message and its status."""
     try:
         return job(words)
     except Failure as failure:
         tell(name, str(failure))
         if failure.advice:
             tell(name, failure.advice)
+        return BROKEN if isinstance(failure, Broken) else FAILED
     except BrokenPipeError:
         # Nobody reads on: nothing more can be told, also not when Python closes its files.
         os.dup2(os.open(os.devnull, os.O_WRONLY), sys.stdout.fileno())

@@ -8,42 +8,13 @@ from dataclasses import dataclass, field
 
 from . import worlds
 from .kernel import Program, Trouble
-from .live import program
+from .looked_up import Found, look_up
+from .new_program import NewProgram
 from .programs import EXECUTE, attribute_fault, counts, interpreter_of, name_for
-from .safe_open import ROOTED, mount_number, safe_open
 from .shown import escaped
 
 NO_SET_ID, NO_EXECUTE = os.ST_NOSUID, os.ST_NOEXEC
 ELF = b"\x7fELF"
-
-
-@dataclass(frozen=True)
-class Found:
-    """An executed file: its mount's flags beside what it is itself."""
-    program: Program
-    flags: int
-
-
-def look_up(top: bytes, path: bytes) -> Found | Trouble:
-    """The file of a path below `top`, through symbolic links that stay below it."""
-    try:
-        root = os.open(top or b"/", os.O_PATH | os.O_DIRECTORY | os.O_CLOEXEC)
-    except OSError as error:
-        return Trouble(path, error.strerror)
-    try:
-        handle = safe_open(root, path.lstrip(b"/"), os.O_PATH | os.O_CLOEXEC, ROOTED)
-    except OSError as error:
-        return Trouble(path, error.strerror)
-    finally:
-        os.close(root)
-    try:
-        if not stat.S_ISREG(os.fstat(handle).st_mode):
-            return Trouble(path, "it is no regular file")
-        return Found(program(handle, path, mount_number(handle)), os.fstatvfs(handle).f_flag)
-    except OSError as error:
-        return Trouble(path, error.strerror)
-    finally:
-        os.close(handle)
 
 
 @dataclass
@@ -54,6 +25,7 @@ class Executed:
     names: dict[tuple[bytes, bytes], str] = field(default_factory=dict)
     seen: dict[str, worlds.File | None] = field(default_factory=dict)      # None for a file that needs no row
     doubts: list[str] = field(default_factory=list)
+    variants: dict[bytes, list[str]] = field(default_factory=dict)         # the names of the files of one path
 
     def name_of(self, top: bytes, path: bytes) -> str:
         """The name by which the world and the log have a file: the path, escaped where a world can't have it."""
@@ -78,13 +50,58 @@ class Executed:
         if isinstance(inner, str):
             self.doubts.append(f"the script {escaped(path)} was executed: {inner}")
         elif isinstance(inner, Program):
-            self.script(top, name, found, inner)
+            self.interpreted(top, name, found, inner)
         else:
             self.binary(path, name, found)
         return name
 
+    def add_running(self, found: Found) -> str | None:
+        """A file that a process executes and that no path leads to any more: its name. None for a script."""
+        if interpreter_of(found.program, lambda other: Trouble(other, "")) is not None:
+            return None
+        name = self.name_of(b"", found.program.path)
+        self.binary(found.program.path, name, found)
+        return name
+
+    def refused(self, top: bytes, path: bytes) -> bool:
+        """Whether a file has an attribute, or runs by one that has: an execve may fail for it. Then it has a row."""
+        found = self.runs(top, path)
+        if found is None or found.caps is None or attribute_fault(found.caps) is not None:
+            return False
+        self.add(top, path)
+        return True
+
+    def runs(self, top: bytes, path: bytes) -> Program | None:
+        """The program that an execve of a path runs in the end, None where that can't be told."""
+        found = self.interpreter(top, path)
+        if isinstance(found, Trouble):
+            return None
+        inner = interpreter_of(found, lambda other: self.interpreter(top, other))
+        return None if isinstance(inner, str) else inner or found
+
+    def add_new(self, new: NewProgram) -> str:
+        """A file that was looked at as it was executed: its name. What a rule reads of it becomes a row."""
+        inner = self.new_name(new.path, new.found)
+        if new.script is None or new.script_found is None:
+            self.binary(new.path, inner, new.found)
+            return inner
+        name = self.new_name(new.script, new.script_found, inner)
+        self.script(name, new.script_found, inner, new.found)
+        return name
+
+    def new_name(self, path: bytes, found: Found, interpreter: str | None = None) -> str:
+        """A name for a file that was looked at as it was executed: what stood at its path before, or in another mount
+        namespace, and gives other credentials, has another one."""
+        names = self.variants.setdefault(path, [self.name_of(b"", path)])
+        for name in names:
+            told = self.told(name, found, interpreter)
+            if self.seen.get(name, told) == told:
+                return name
+        names.append(name_for(path, {*self.seen, *self.names.values()}))
+        return names[-1]
+
     def interpreter(self, top: bytes, path: bytes) -> Program | Trouble:
-        """The interpreter of a script, as the same process sees it."""
+        """A file as the same process sees it, such as the interpreter of a script."""
         found = look_up(top, path)
         return found if isinstance(found, Trouble) else found.program
 
@@ -95,34 +112,43 @@ class Executed:
                                " known")
         self.put(name, found, None)
 
-    def script(self, top: bytes, name: str, found: Found, inner: Program) -> None:
-        """A script: with a row of its own where a rule reads its interpreter or its mode."""
+    def interpreted(self, top: bytes, name: str, found: Found, inner: Program) -> None:
+        """A script and its interpreter, which is looked up."""
         below = look_up(top, inner.path)
         if isinstance(below, Trouble):
             self.doubts.append(f"{escaped(inner.path)} interprets a script, and can't be looked up: {below.why}")
-            return
+        else:
+            self.script(name, found, self.name_of(top, inner.path), below)
+
+    def script(self, name: str, found: Found, interpreter: str, below: Found) -> None:
+        """A script: with a row of its own where a rule reads its interpreter or its mode."""
         if is_plain(below) and found.program.mode & EXECUTE == EXECUTE and not found.flags & NO_EXECUTE:
             return
-        interpreter = self.name_of(top, inner.path)
         self.put(interpreter, below, None, always=True)
         self.put(name, found, interpreter, always=True)
 
     def put(self, name: str, found: Found, interpreter: str | None, always: bool = False) -> None:
         """A row, where a rule reads it. A name that had another row before can't have both."""
-        own = found.program
-        caps = own.caps
+        caps = found.program.caps
         fault = attribute_fault(caps) if caps is not None else None
         if fault is not None:
             self.doubts.append(f"{name} was executed: {fault}")
-            caps = None
-        row = worlds.File(path=name, uid=own.uid, gid=own.gid, mode=stat.S_IMODE(own.mode),
-                          mount=self.mount(found.flags), caps=None if caps is None else caps.hex(),
-                          interpreter=interpreter)
-        told = None if is_plain(found) else row
+        row, told = self.row(name, found, interpreter), self.told(name, found, interpreter)
         if self.seen.setdefault(name, told) != told:
             self.doubts.append(f"{name} was executed as two files: they differ in owner, mode or attribute")
         elif always or told is not None:
             self.files[name] = row
+
+    def row(self, name: str, found: Found, interpreter: str | None) -> worlds.File:
+        """The row of a file. One with an attribute that a world can't have stands without it."""
+        own = found.program
+        caps = None if own.caps is None or attribute_fault(own.caps) is not None else own.caps.hex()
+        return worlds.File(path=name, uid=own.uid, gid=own.gid, mode=stat.S_IMODE(own.mode),
+                           mount=self.mount(found.flags), caps=caps, interpreter=interpreter)
+
+    def told(self, name: str, found: Found, interpreter: str | None) -> worlds.File | None:
+        """What a rule reads of a file, None where it reads nothing."""
+        return None if is_plain(found) else self.row(name, found, interpreter)
 
     def mount(self, flags: int) -> str:
         """The mount of a file: one for each combination of its flags."""

@@ -2,7 +2,7 @@
 allows, and who stands where at the end. Nothing is judged: the words are those of the program's own lines.
 """
 from collections.abc import Iterable
-from dataclasses import dataclass, field, replace
+from dataclasses import dataclass, field
 
 from . import certificates, report, rows_words, run_words, verdicts, worlds
 from .certificates import Row
@@ -12,8 +12,8 @@ from .drawing import Box, Line
 from .names import CAPABILITIES
 from .naming import map_lines, seen_id, securebits_words, set_words
 from .report import Report, Standing
-from .run_words import Place
-from .shown import plural
+from .run_words import Place, known, place_at
+from .shown import folded, plural, shown
 from .spaces_of_report import SpacesTold, SpaceTold, at_end, of_world
 from .verdicts import NO, RULES, UNDECIDED, YES, Verdict
 from .worlds import INITIAL, World
@@ -54,8 +54,7 @@ class Explained:
 
     def place(self) -> Place:
         """Where the run begins."""
-        spaces = {name: replace(space) for name, space in self.spaces.named.items()}
-        return Place(SpacesTold(spaces) if self.certain else None, files=self.files).at(self.standing.values())
+        return place_at(self.spaces if self.certain else None, self.files.values(), self.standing.values())
 
     def row_space(self, row: Row) -> SpaceTold | None:
         """The namespace of a row, where its maps are known."""
@@ -64,11 +63,6 @@ class Explained:
 
 
 # ---- reading ---------------------------------------------------------------------------------------------------------
-
-
-def known(path: str) -> str:
-    """A path as a report that was read shows it."""
-    return path.encode("utf-8", "surrogateescape").decode("ascii", "backslashreplace")
 
 
 def spaces_of(read: Report, world: World | None) -> SpacesTold:
@@ -192,15 +186,15 @@ def replay_lines(made: Explained) -> list[str]:
 
 
 def rows_lines(made: Explained) -> list[str]:
-    """What each row still allows."""
+    """What each row still allows; rows that allow the same stand together."""
     if not made.rows:
         return []
-    found = [ALONE if made.verdict is None else BEFORE if made.verdict.word == UNDECIDED else BOUNDS]
+    told: dict[tuple[str, ...], list[str]] = {}
     for row in made.rows:
-        name = made.names[row.space]
-        found.append(f"  {certificates.row_name(row, made.names)}: members {rows_words.title(row, name)}")
-        found += [f"      {line}" for line in rows_words.lines(row, made.row_space(row))]
-    return found
+        head = f"  {certificates.row_name(row, made.names)}: members {rows_words.title(row, made.names[row.space])}"
+        told.setdefault(tuple(rows_words.lines(row, made.row_space(row))), []).append(head)
+    found = [ALONE if made.verdict is None else BEFORE if made.verdict.word == UNDECIDED else BOUNDS]
+    return found + [line for lines, heads in told.items() for line in (*heads, *(f"      {each}" for each in lines))]
 
 
 def process_words(one: Standing, space: SpaceTold | None) -> str:
@@ -314,6 +308,7 @@ def document(made: Explained) -> dict[str, object]:
 
 
 def lines(made: Explained) -> list[str]:
-    """All that is told, for the eye."""
-    parts = [replay_lines(made), verdict_lines(made), rows_lines(made)]
-    return [line for part in parts if part for line in (*part, "")][:-1]
+    """All that is told, for the eye: the verdict first, then how the log was replayed."""
+    parts = [verdict_lines(made), replay_lines(made), rows_lines(made)]
+    told = [line for part in parts if part for line in (*part, "")][:-1]
+    return [part for line in told for part in folded(shown(line), " " * (len(line) - len(line.lstrip()) + 4))]

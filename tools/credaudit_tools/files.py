@@ -39,13 +39,17 @@ def kind(mode: int) -> str:
     return kinds.get(stat.S_IFMT(mode), "another kind of file")
 
 
-def write_new(folder: str, name: str, data: bytes, mode: int = 0o600) -> None:
+def write_new(folder: str, name: str, data: bytes, mode: int = 0o600, owner: tuple[int, int] | None = None) -> None:
     """Puts a file into a folder, in the place of one of that name; readable by its owner alone, unless another mode is
-    given. It is a new one, whoever put something there before."""
+    given, and given to `owner`, a user id and a group id, once it is written. It is a new one, whoever put something
+    there before."""
     path = os.path.join(folder, name)
     part = path + ".part"
     if os.path.lexists(part):
         os.unlink(part)
     with open(os.open(part, os.O_WRONLY | os.O_CREAT | os.O_EXCL | os.O_NOFOLLOW | os.O_CLOEXEC, mode), "wb") as file:
         file.write(data)
+        if owner is not None:
+            file.flush()
+            os.fchown(file.fileno(), *owner)
     os.replace(part, path)

@@ -88,3 +88,10 @@ def fakes(programs: Sequence[Program], calls: Iterable[Asked] = LISTED) -> dict[
             if told:
                 found.setdefault(asked.name, told[0])
     return found
+
+
+def refuses(programs: Sequence[Program], asked: Asked) -> bool:
+    """Whether filters may answer a call with an error, without making it."""
+    return any(fake_of(answer) is not None or (answer is not None and answer & bpf.ACTION == bpf.ERRNO)
+               for architecture, number in asked.numbers
+               for answer in answers(programs, architecture, number, asked))

@@ -7,19 +7,19 @@ that the log can't tell, ends the recording: nothing of that kind is passed over
 import re
 from collections.abc import Callable, Collection
 
-from . import births, lines, mount_views, plain_log, premises
+from . import births, failures, lines, mount_views, plain_log, premises, set_texts
 from .call_numbers import numbers_of
 from .changing import Changing
 from .executed import Executed
 from .executing import Executing
-from .filters import installing, of_argument
-from .followed import UNKNOWN, UNKNOWN_VIEW, Followed, Task
+from .filters import installing, may_refuse, of_argument
+from .first_sight import FirstSight
+from .followed import UNKNOWN, Followed, Task
 from .lines import Call
-from .map_files import NAMES
-from .map_writes import LIKE_MAP, TRANSFERS, Maps, System
+from .map_writes import TRANSFERS, Maps, System
 from .names import securebits_value
 from .shown import shown
-from .taken import Stopped, Taken
+from .taken import UNSPOKEN, Stopped, Taken
 
 ID_CALLS = tuple(b"set" + name for name in
                  (b"uid", b"reuid", b"resuid", b"fsuid", b"gid", b"regid", b"resgid", b"fsgid"))
@@ -32,13 +32,6 @@ ANSWER_ZERO = (b"setuid", b"setreuid", b"setresuid", b"setgid", b"setregid", b"s
                b"prctl", b"unshare", b"setns", b"execve", b"execveat", b"chdir", b"fchdir", b"chroot", b"pivot_root")
 PRCTLS = (b"PR_SET_KEEPCAPS", b"PR_SET_NO_NEW_PRIVS", b"PR_SET_SECUREBITS", b"PR_CAPBSET_DROP", b"PR_CAP_AMBIENT",
           b"PR_GET_KEEPCAPS", b"PR_GET_NO_NEW_PRIVS", b"PR_GET_SECUREBITS", b"PR_CAPBSET_READ")
-QUOTED = rb'"(?:[^"\\]|\\.)*"(?:\.\.\.)?'
-PLAIN_DESCRIPTOR = rb"<([^<>\\\"]*)(?:<[^<>]*>)?>(?:\(deleted\))?"
-# The two kinds of lines of which a log has most, where nothing in them is odd.
-OTHER_WRITE = re.compile(rb"([0-9]+) +p?writev?(?:64|2)?\([0-9]+" + PLAIN_DESCRIPTOR + rb", (?!" + LIKE_MAP + rb").*",
-                         re.S)
-OTHER_OPEN = re.compile(rb"([0-9]+) +open(?:at)?\((?:AT_FDCWD" + PLAIN_DESCRIPTOR + rb", )?" + QUOTED
-                        + rb", [A-Z_|]+(?:, 0[0-7]{0,3})?\) += (?:-1 E.*|([0-9]+)" + PLAIN_DESCRIPTOR + rb")", re.S)
 SUPERSEDED = re.compile(rb"\+\+\+ superseded by execve in pid ([0-9]+)")
 CHANGED = re.compile(rb"<pid changed to ([0-9]+) \.\.\.>$")
 
@@ -52,6 +45,7 @@ class Filtering:
         self.executing = Executing(followed, self.taken, system, executed)
         self.changing = Changing(followed, self.taken, system, self.executing)
         self.begun: dict[int, bytes | None] = {}          # None: a call that is left out
+        self.first_sight = FirstSight(followed, self.taken, self.begun)
         self.taking: dict[int, int] = {}                  # by a leader's pid the thread that takes it
         self.held: dict[int, list[bytes]] = {}
         self.early: dict[int, int] = {}                   # by a parent that waits its child, whose birth is told
@@ -76,7 +70,7 @@ class Filtering:
 
     def feed(self, line: bytes) -> None:
         """One line of strace, without its line feed. Stopped where the recording can't go on."""
-        if self.is_left_out(line):
+        if self.first_sight.leaves_out(line):
             return
         found = lines.parted(line)
         if found is None:
@@ -88,29 +82,6 @@ class Filtering:
             self.held.setdefault(pid, []).append(line)
             return
         self.body(pid, body)
-
-    def is_left_out(self, line: bytes) -> bool:
-        """Whether a line is a write to another file, or an open of one, at first sight."""
-        found = OTHER_WRITE.fullmatch(line)
-        if found and not found.group(2).endswith(NAMES):
-            if line.endswith(lines.UNFINISHED):
-                self.begun[int(found.group(1))] = None
-            self.taken.left_out["writes to other files"] += 1
-            return True
-        found = OTHER_OPEN.fullmatch(line)
-        if found is None or b"/ns/user" in line:
-            return False
-        path = found.group(4)
-        if path is not None:
-            task = self.followed.tasks.get(int(found.group(1)))
-            if task is None or path.endswith(NAMES):
-                return False
-            view = task.place.view if task.place.cwd_view is task.place.root_view is None else UNKNOWN_VIEW
-            task.files.opened(int(found.group(3)), path, view)
-            if found.group(2) is not None:
-                task.place.stands_in(found.group(2))
-        self.taken.left_out["opens of other files"] += 1
-        return True
 
     def body(self, pid: int, body: bytes) -> None:
         """The body of a line of a process that lives."""
@@ -193,6 +164,7 @@ class Filtering:
         """An exit."""
         self.taken.put(pid, body)
         self.followed.ends(pid)
+        self.system.let_go(pid, self.followed)
         self.begun.pop(pid, None)
         self.early.pop(pid, None)
 
@@ -241,17 +213,30 @@ class Filtering:
             self.taken.left_out["calls that never answered"] += 1
             return
         made = Call(made.name.removesuffix(b"32"), made.arguments, made.result)
+        task = self.followed.tasks[pid]
         if is_trapped(made):
             self.taken.left_out["calls that a filter answered by a trap"] += 1
+            return
+        if pid not in self.early and self.is_unspoken(task, made):
             return
         handler = self.handlers.get(made.name)
         if handler is None:
             self.taken.left_out["calls that no rule reads"] += 1
             return
         before = self.followed.last_view
-        handler(self.followed.tasks[pid], made)
+        handler(task, made)
         for view in range(before + 1, self.followed.last_view + 1):
             self.view_lines[view] = len(self.taken.lines)
+
+    def is_unspoken(self, task: Task, made: Call) -> bool:
+        """Leaves out a failed call of which no rule speaks: it changed nothing."""
+        if failures.is_unspoken(task.pid, made):
+            self.taken.left_out[UNSPOKEN] += 1
+            return True
+        if task.filters and failures.is_judged(made) and may_refuse(task.filters, made):
+            self.taken.left_out["failed calls that a filter of system calls may have refused"] += 1
+            return True
+        return False
 
     def keep(self, task: Task, made: Call) -> None:
         """A call that stays as it is."""
@@ -267,7 +252,11 @@ class Filtering:
     def capset(self, task: Task, made: Call) -> None:
         """capset(2)."""
         if len(made.arguments) == 2 and all(argument.startswith(b"{") for argument in made.arguments):
-            self.keep(task, made)
+            last = self.system.last_capability()
+            cut = None if last is None else set_texts.within(made, last)
+            if cut is not None:
+                self.taken.counted["sets of capset are told without bits past the last capability"] += 1
+            self.keep(task, cut or made)
         elif not self.taken.fails_unread(made):
             raise Stopped(f"{task.pid}: the sets of a capset can't be read")
 
@@ -348,10 +337,18 @@ class Filtering:
 
 
 def is_trapped(made: Call) -> bool:
-    """Whether a filter trapped a call that answers 0 where it is made: strace writes the call's own number then
-    (SECCOMP_RET_TRAP of seccomp(2))."""
-    name = made.name.decode("ascii", "replace")
-    return bool(made.done) and made.name in ANSWER_ZERO and made.done in [each for _, each in numbers_of(name)]
+    """Whether a filter trapped a call that answers 0 where it is made, or a descriptor that strace shows: strace writes
+    the call's own number then (SECCOMP_RET_TRAP of seccomp(2))."""
+    if not made.done or not answers_otherwise(made):
+        return False
+    return made.done in [each for _, each in numbers_of(made.name.decode("ascii", "replace"))]
+
+
+def answers_otherwise(made: Call) -> bool:
+    """Whether a call that is made never answers a bare number above 0."""
+    if made.name == b"seccomp":
+        return not any(b"NEW_LISTENER" in each for each in made.arguments[1:2])
+    return made.name in ANSWER_ZERO or (made.name in OPENS and made.result == b"%d" % (made.done or 0))
 
 
 def note_securebits(task: Task, made: Call) -> None:

@@ -1,9 +1,11 @@
 """Filters of system calls (seccomp(2)) as a log tells of them: what each may answer in the kernel's place, and which
 stand for each thread."""
+from collections.abc import Sequence
 from dataclasses import dataclass
 
 from .bpf import Program, of_text
-from .filter_verdicts import fakes
+from .call_numbers import LISTED
+from .filter_verdicts import fakes, refuses
 from .lines import Call, words
 from .shown import few
 
@@ -37,6 +39,16 @@ def of_argument(pid: int, argument: bytes, alone: bool = True) -> Filter:
     program = of_text(argument)
     doubts = (NOT_WHOLE,) if program is None else doubts_of(program)
     return Filter(pid, argument.decode("ascii", "backslashreplace"), program, doubts, alone=alone)
+
+
+def may_refuse(standing: Sequence[Filter], call: Call) -> bool:
+    """Whether filters may answer a call with an error: then that may be theirs, and no rule tells it. One that isn't
+    known may."""
+    name = call.name.decode("ascii", "replace")
+    option = call.arguments[0].decode("ascii", "replace") if call.arguments else ""
+    asked = [each for each in LISTED if each.name in (name, f"{name}({option})", f"{name}(CLONE_NEWUSER)")]
+    programs = [each.program for each in standing if each.program is not None]
+    return len(programs) < len(standing) or any(refuses(programs, each) for each in asked)
 
 
 def before(pid: int, program: Program | None) -> Filter:

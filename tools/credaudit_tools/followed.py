@@ -16,9 +16,10 @@ class Place:
     """What processes born with CLONE_FS share: paths as the tracer's own root has them. `view` numbers mount
     namespaces, 0 is the tracer's own. In another one paths begin at the process's root; where that was changed
     there, strace's paths begin elsewhere, and `apart` is set: the working directory isn't known then. `cwd_view` and
-    `root_view` are the views of these folders where they lie in another mount namespace than the process's."""
+    `root_view` are the views of these folders where they lie in another mount namespace than the process's. A root
+    that isn't known is None: it stays so until the process stands in another mount namespace."""
     cwd: bytes | None
-    root: bytes = b"/"
+    root: bytes | None = b"/"
     view: int = 0
     apart: bool = False
     cwd_view: int | None = None
@@ -28,9 +29,9 @@ class Place:
         """The working directory, as strace tells it."""
         self.cwd = None if self.apart else cwd
 
-    def changes_root(self, root: bytes) -> None:
+    def changes_root(self, root: bytes | None) -> None:
         """A chroot; in another mount namespace the working directory isn't known then."""
-        if self.view == 0:
+        if self.view == 0 or root is None:
             self.root = root
         else:
             self.cwd, self.apart = None, True
@@ -44,15 +45,18 @@ class Place:
 class Files:
     """A table of descriptors, which processes born with CLONE_FILES share: by number the paths that strace told, and
     of map files that were seen to be opened the standing that each is for; the views of files that don't lie in the
-    tracer's own mount namespace."""
+    tracer's own mount namespace; the numbers of files that are named as map files are, and were none as they were
+    opened."""
     paths: dict[int, bytes] = field(default_factory=dict)
     standings: dict[int, int] = field(default_factory=dict)
     views: dict[int, int] = field(default_factory=dict)
+    plain: set[int] = field(default_factory=set)
 
     def opened(self, number: int, path: bytes, view: int = 0) -> None:
         """A number has another file from now on."""
         self.paths[number] = path
         self.standings.pop(number, None)
+        self.plain.discard(number)
         if view != 0:
             self.views[number] = view
         else:
@@ -60,12 +64,16 @@ class Files:
 
     def copy_of(self, number: int, source: int) -> None:
         """A number is a copy of another one."""
-        if source in self.standings and self.paths.get(source) == self.paths.get(number):
+        if self.paths.get(source) != self.paths.get(number):
+            return
+        if source in self.standings:
             self.standings[number] = self.standings[source]
+        if source in self.plain:
+            self.plain.add(number)
 
     def copied(self) -> "Files":
         """A copy that goes its own way."""
-        return Files(dict(self.paths), dict(self.standings), dict(self.views))
+        return Files(dict(self.paths), dict(self.standings), dict(self.views), set(self.plain))
 
 
 @dataclass
@@ -88,7 +96,7 @@ class Followed:
     """All of it. `maps` has of each process whose map files were opened the standings that these were for, `spaces` of
     each user namespace's number in the kernel the standing, `stood` of each pid all that it had. Views up to
     `first_view` are mount namespaces in which something stood at the start; `detached` says whether a mount of none was
-    made."""
+    made, `remounted` whether mounts may have changed by which a file of proc is seen at another place."""
     tasks: dict[int, Task] = field(default_factory=dict)
     maps: dict[int, set[int]] = field(default_factory=dict)
     spaces: dict[int, int] = field(default_factory=dict)
@@ -97,6 +105,11 @@ class Followed:
     last_view: int = 0
     first_view: int = 0
     detached: bool = False
+    remounted: bool = False
+
+    def mounts_vary(self) -> bool:
+        """Whether a descriptor's file may lie on a mount that its process doesn't show, now or any more."""
+        return self.remounted or self.detached or self.last_view > 0
 
     def add(self, task: Task) -> None:
         """A thread at the start, or that was born."""

@@ -2,7 +2,7 @@
 each `yes` the evidence of what it rests on (premises.py).
 """
 from collections.abc import Callable, Sequence
-from dataclasses import dataclass, replace
+from dataclasses import dataclass, field, replace
 
 from . import classes, fs_ids, power, touched
 from .asking import Answer, Asking, Files, right_in, shortened
@@ -96,6 +96,7 @@ class Judge:
     """Puts the program's answers about a family together."""
     ask: Asking
     family: Family
+    checked: set[Right] = field(default_factory=set)        # whose certificate the program's check accepted already
 
     def outcomes(self, rights: Sequence[Right]) -> list[Outcome]:
         """What is known of each right."""
@@ -147,6 +148,7 @@ class Judge:
             return Outcome(right, classes.PROGRAM, told.run, verdict.holder)
         if verdict.word == YES:
             kind, reasons = self.family.gone(right)
+            self.checked |= {right} if told.checked else set()
             certificate = None if verdict.certificate is None else verdict.certificate.encode("ascii")
             return Outcome(right, kind, reasons=reasons, certificate=certificate)
         lets, advice = RULES.get(verdict.rule or "", ("a rule that isn't known here", "see docs/VERDICT.md"))
@@ -155,7 +157,8 @@ class Judge:
     def settled(self, outcome: Outcome) -> Outcome:
         """With its run as short as the program confirms it; with a certificate that its check accepts."""
         files, pid, right = self.family.files, self.family.pid, outcome.right.text()
-        if outcome.certificate is not None and not self.ask.holds(files, pid, right, outcome.certificate):
+        if outcome.certificate is not None and outcome.right not in self.checked and \
+                not self.ask.holds(files, pid, right, outcome.certificate):
             why = "the program's check doesn't accept the program's certificate"
             return replace(outcome, kind=classes.DOUBTED, reasons=(*outcome.reasons, why))
         if not outcome.run:
@@ -185,8 +188,8 @@ class Judge:
         def kind(pair: tuple[Right, Answer]) -> str:
             right, answer = pair
             text, certificate = right_in(right, self.family.token), (answer.verdict.certificate or "").encode()
-            return family.gone(right)[0] if self.ask.holds(family.files, family.pid, text, certificate) else \
-                classes.DOUBTED
+            good = answer.checked or self.ask.holds(family.files, family.pid, text, certificate)
+            return family.gone(right)[0] if good else classes.DOUBTED
         return self.ask.side_by_side(f"certificates with {words}", kind, yes)
 
 

@@ -20,6 +20,9 @@ ESCAPE = re.compile(rb"\\(?:x([0-9a-f]{2})|([0-7]{1,3})|(.))", re.S)
 SOCKET = rb'<[A-Za-z0-9_-]+:\[(?:[^"\\]|\\.|"(?:[^"\\]|\\.)*")*?\]>'
 DECORATION = re.compile(SOCKET + rb"|<(?:[^<>\\]|\\.)*(?:<[^<>]*>)?>", re.S)
 CLOSING = {0x28: 0x29, 0x5b: 0x5d, 0x7b: 0x7d}
+IN_QUOTES = re.compile(rb'[^"\\]*(?:\\.[^"\\]*)*', re.S)
+PARTING = re.compile(rb'[][(){}",<]')            # where a text may part into pieces
+PAIRED = {each: re.compile(b'["<' + re.escape(bytes([each, end])) + b"]") for each, end in CLOSING.items()}
 
 
 @dataclass(frozen=True)
@@ -44,10 +47,8 @@ def parted(line: bytes) -> tuple[int, bytes] | None:
 
 def after_quote(text: bytes, at: int) -> int:
     """The place behind the quoted text that begins at `at`; the text's end where the quote isn't closed."""
-    at += 1
-    while at < len(text) and text[at] != 0x22:
-        at += 2 if text[at] == 0x5c else 1
-    return min(at + 1, len(text))
+    found = IN_QUOTES.match(text, at + 1)
+    return found.end() + 1 if found and text[found.end():found.end() + 1] == b'"' else len(text)
 
 
 def after_decoration(text: bytes, at: int) -> int | None:
@@ -76,7 +77,8 @@ def skip(text: bytes, at: int) -> int:
 def pieces(text: bytes) -> tuple[bytes, ...] | None:
     """What commas outside of brackets, quotes and decorations part; None where brackets don't fit."""
     found, open_ones, begin, at = [], bytearray(), 0, 0
-    while at < len(text):
+    while (hit := PARTING.search(text, at)) is not None:
+        at = hit.start()
         byte = text[at]
         if byte in CLOSING:
             open_ones.append(CLOSING[byte])
@@ -93,8 +95,9 @@ def pieces(text: bytes) -> tuple[bytes, ...] | None:
 
 def closing(text: bytes, at: int) -> int | None:
     """The place of what closes the parenthesis or brace at `at`."""
-    depth, opening, end = 0, text[at], CLOSING[text[at]]
-    while at < len(text):
+    depth, opening, end, pattern = 0, text[at], CLOSING[text[at]], PAIRED[text[at]]
+    while (hit := pattern.search(text, at)) is not None:
+        at = hit.start()
         if text[at] == opening:
             depth += 1
         elif text[at] == end:

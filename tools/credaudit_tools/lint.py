@@ -61,19 +61,22 @@ def suspicion(report: Report, world: bytes, log: bytes, given: Given, says: Says
         yield doubt(WORLD, None, str(failure), failure.advice)
     if read.log == "strace":
         yield from log_doubts.of_strace(log, report, read, says)
+        if recording is None:
+            yield from log_doubts.living(log, report)
     else:
         yield from log_doubts.front_doubts(log, report)
     if recording is not None:
         yield from world_doubts.of_recording(recording, read, report)
 
 
+def unread(given: Given) -> list[Finding]:
+    """The files that can't be read, each with the reason. A pipe would keep the program waiting."""
+    return [found for path, file in ((given.world, WORLD), (given.log, LOG))
+            if (found := other_faults.unreadable(path, file)) is not None]
+
+
 def findings(given: Given, replay: Callable[[], Report], says: Says = silent) -> list[Finding]:
-    """All that is to be told of two files and of what the program answers about them. It is asked about files alone
-    that can be read: a pipe would keep it waiting."""
-    unread = [found for path, file in ((given.world, WORLD), (given.log, LOG))
-              if (found := other_faults.unreadable(path, file)) is not None]
-    if unread:
-        return unread
+    """All that is to be told of two files that can be read, and of what the program answers about them."""
     world, log = (read_regular(path, other_faults.LOG_MOST, follow=True) for path in (given.world, given.log))
     report = replay()
     if report.status != ACCEPTED:

@@ -9,10 +9,10 @@ from dataclasses import dataclass, field
 
 from . import filters
 from .command import Says, silent
-from .findings import LOG, Finding, doubt
+from .findings import LOG, Finding, doubt, note
 from .lines import RESUMED, UNFINISHED, Call, call_of, flags_of, name_of, parted, text_of
 from .report import Report
-from .shown import quoted, shown
+from .shown import few, quoted, shown
 from .worlds import World
 
 SHOWN, STEP = 100, 4096         # bytes of a line that are told; lines between two words of progress
@@ -36,6 +36,7 @@ SHAPES = (
 )
 RAW_FLAGS = re.compile(rb"clone\(.*\bflags=0x|clone3\(\{flags=0x")
 RAW = re.compile(rb"(prctl|unshare|clone|clone3|setns)\((0x[0-9a-f]+)(?! *\|)|openat\((-100|0xffffff9c),")
+REAPED = re.compile(rb"--- SIGCHLD \{.*\bsi_code=CLD_(?:EXITED|KILLED|DUMPED), si_pid=([0-9]{1,9})\b")
 NOTED = re.compile(rb"0x[0-9a-f]+ /\* [A-Z][A-Z0-9_|]* \*/")      # with `???` strace says that it knows no name
 
 
@@ -220,6 +221,7 @@ class Reader:
     seen: dict[int, int] = field(default_factory=dict)          # of each pid its first line
     ended: set[int] = field(default_factory=set)
     leaving: dict[int, int] = field(default_factory=dict)       # of each pid the line of its exit_group
+    reaped: dict[int, int] = field(default_factory=dict)        # of each pid the line of a signal that tells its end
     failed: int = 0                                             # calls that failed, and calls that didn't
     done: int = 0
 
@@ -232,6 +234,8 @@ class Reader:
         self.seen.setdefault(pid, number)
         if body.startswith(b"+++"):
             self.ended.add(pid)
+        if reaped := REAPED.match(body):
+            self.reaped.setdefault(int(reaped[1]), number)
         if body.endswith(UNFINISHED):
             self.begun[pid] = number, body.removesuffix(UNFINISHED)
             return None
@@ -291,6 +295,27 @@ def whole_doubts(log: bytes, reader: Reader, report: Report, world: World) -> It
         if pid not in reader.ended:
             yield doubt(LOG, number, f"process {pid} leaves, and its end isn't told: it is taken to live on",
                         "at most -q, and not -qq or --quiet=exit; the log may be cut")
+
+
+    for pid, number in sorted(reader.reaped.items()):
+        if pid not in reader.ended and pid in known:
+            yield doubt(LOG, number, f"SIGCHLD tells that process {pid} ended, and no line of its own does: it is taken"
+                        " to live on", "at most -q, and not -qq or --quiet=exit; the log may be cut")
+
+
+def living(log: bytes, report: Report) -> Iterator[Finding]:
+    """Who lives on because no line tells an end: of a log that strace wrote to a program's end, that is odd, and of one
+    that ended before, it isn't. Which of both it is, the log doesn't say."""
+    alive = [str(pid) for pid in sorted(report.alive())]
+    if not alive or not log.strip():
+        return
+    if not re.search(rb"^ *[0-9]+ +\+\+\+ ", log, re.MULTILINE):
+        yield note(LOG, None, f"no line tells an end: process {few(alive, 5)} is taken to live on",
+                   "-qq and --quiet=exit leave ends out, and a log that was cut at a line's end has none either; if the"
+                   " recording ended while they lived, all is well")
+    else:
+        yield note(LOG, None, f"process {few(alive, 5)} lives on at the log's end",
+                   "if the program had ended before, the log was cut at a line's end")
 
 
 def front_doubts(log: bytes, report: Report) -> Iterator[Finding]:

@@ -9,8 +9,10 @@ from dataclasses import dataclass
 from .command import Failure
 from .files import read_regular
 from .followed import Followed, Task
+from .held_mounts import HeldMounts
 from .mounts import Mount, table
 from .names import MAP_FILES
+from .new_program import NewProgram, of_process
 from .proc import Proc
 
 INSIDE = re.compile(rb"/([1-9][0-9]*)(?:/task/([1-9][0-9]*))?/(uid_map|gid_map|setgroups)")
@@ -50,9 +52,10 @@ class MapFiles:
     def __init__(self, proc: Proc) -> None:
         self.proc = proc
 
-    def find(self, pid: int, top: bytes, path: bytes, family: Iterable[int]) -> MapFile | None:
+    def find(self, pid: int, top: bytes, path: bytes, family: Iterable[int], remounted: bool = True) -> MapFile | None:
         """The map file of a descriptor's path; None where it is another file. Unclear where that can't be said. `pid`
-        is the process that has the descriptor, `top` where its paths can be looked up.
+        is the process that has the descriptor, `top` where its paths can be looked up, `remounted` whether mounts may
+        have changed since.
 
         A path below /proc is taken for one of proc, whatever is mounted by now: tools that make containers leave
         their mounts behind at once. If it was none, the end shows it: the kernel's maps are compared with those that
@@ -63,7 +66,7 @@ class MapFiles:
         if INSIDE.fullmatch(inner) is None or inner == path:
             mount = self.mount_of(pid, top, path)
             if mount.kind != b"proc":
-                if os.path.lexists(top + path):
+                if not remounted or os.path.lexists(top + path):
                     return None
                 raise Unclear
             point = mount.point.rstrip(b"/")
@@ -131,26 +134,63 @@ class RunningSystem:
     """What a filter asks, answered by the running system."""
 
     def __init__(self, proc: Proc) -> None:
-        self.maps, self.proc = MapFiles(proc), proc
+        self.maps, self.proc, self.held = MapFiles(proc), proc, HeldMounts(proc)
 
     def top_of(self, task: Task, followed: Followed) -> bytes:
-        """A process of the same mount namespace that lives has its root."""
+        """A process of the same mount namespace that lives has its root; where none lives, the namespace may be held.
+        Of one that changed its root there no other has the same."""
         if task.place.view == 0:
             return b""
         same = [pid for pid, other in followed.tasks.items() if other.place.view == task.place.view]
-        alive = [pid for pid in (task.pid, *same) if os.path.exists(self.proc.path(pid, "root", "."))]
-        return os.fsencode(self.proc.path(alive[0] if alive else task.pid, "root"))
+        alive = [pid for pid in (task.pid, *(() if task.place.apart else same))
+                 if os.path.exists(self.proc.path(pid, "root", "."))]
+        held = None if alive or task.place.apart else self.held.top(task.place.view)
+        return os.fsencode(self.proc.path(alive[0] if alive else task.pid, "root")) if held is None else held
 
     def map_file(self, task: Task, path: bytes, followed: Followed) -> MapFile | None:
         """As MapFiles.find, for what is followed."""
-        return self.maps.find(task.pid, self.top_of(task, followed), path, {*followed.tasks, *followed.maps})
+        return self.maps.find(task.pid, self.top_of(task, followed), path, {*followed.tasks, *followed.maps},
+                              followed.mounts_vary())
 
     def bound_map(self, task: Task, path: bytes, followed: Followed) -> MapFile | None:
         """As MapFiles.bound, for what is followed."""
         return self.maps.bound(task.pid, self.top_of(task, followed), path, {*followed.tasks, *followed.maps})
+
+    def exe_of(self, task: Task) -> str:
+        """The link to what a process executes."""
+        return self.proc.path(task.pid, "exe")
+
+    def user_space(self, pid: int) -> int | None:
+        """By its link in /proc (namespaces(7))."""
+        found = re.fullmatch(r"user:\[([0-9]+)\]", self.proc.link(pid, "ns/user") or "")
+        return int(found.group(1)) if found else None
+
+    def last_capability(self) -> int | None:
+        """The number of the kernel's last capability (/proc/sys/kernel/cap_last_cap, proc(5))."""
+        try:
+            with open(self.proc.path("sys", "kernel", "cap_last_cap"), "rb") as file:
+                return int(file.read(MOST_STAT))
+        except (OSError, ValueError):
+            return None
 
     def mother_of(self, pid: int, among: Sequence[int]) -> int | None:
         """By the children that the kernel lists of each thread (/proc/TID/task/TID/children, proc(5))."""
         word = b"%d" % pid
         return next((tid for tid in among if word in (self.proc.read(tid, f"task/{tid}/children") or b"").split()),
                     None)
+
+    def new_program(self, pid: int) -> NewProgram | None:
+        """As the kernel shows it now."""
+        return of_process(self.proc, pid)
+
+    def hold(self, pid: int) -> None:
+        """As HeldMounts.hold."""
+        self.held.hold(pid)
+
+    def holds(self, task: Task) -> None:
+        """As HeldMounts.is_of."""
+        self.held.is_of(task.pid, task.place.view)
+
+    def let_go(self, pid: int, followed: Followed) -> None:
+        """As HeldMounts.keep."""
+        self.held.keep(pid, {task.place.view for task in followed.tasks.values()} if self.held.handles else ())

@@ -8,21 +8,27 @@ import re
 from collections.abc import Sequence
 from typing import Protocol
 
-from . import lines, mount_views, plain_log
+from . import lines, map_texts, mount_views, plain_log
+from .failures import is_unspoken_write
 from .followed import UNKNOWN, Followed, Place, Task
 from .lines import Call
-from .map_files import MapFile, Unclear, Unseen
-from .premises import MAPS, RINGS
+from .map_files import MapFile, Unclear, Unseen, may_be
+from .new_program import NewProgram
+from .premises import ANSWERS, MAPS, RINGS
 from .shown import shown
-from .taken import Stopped, Taken
+from .taken import UNSPOKEN, Stopped, Taken
 
 TRANSFERS = {b"sendfile": 0, b"sendfile64": 0, b"splice": 2, b"copy_file_range": 2}       # which argument is written to
 USER_SPACE = re.compile(rb"user:\[([0-9]+)\]")
 PIDFD = re.compile(rb"pid:([0-9]+)")
 SPACE_PATH = re.compile(rb"/proc/([1-9][0-9]*|self|thread-self)(?:/task/([1-9][0-9]*))?/ns/user")
+UNREACHABLE = b"(unreachable)"
 WRITING = (b"O_WRONLY", b"O_RDWR")
-# How what is written begins where it may be a map or a setgroups word, in strace's spelling.
-LIKE_MAP = rb'(?:\[\{iov_base=)?"(?: |\\[nrtvf])*(?:[0-9]+(?: |\\t)+[0-9]+(?: |\\t)+[0-9]|allow|deny)'
+# How what is written begins where it may be a map or a setgroups word, in strace's spelling: its first line, as the
+# kernel takes it (map_texts.py).
+BLANK = rb"(?: |\\[trvf]|\\240)"
+LIKE_MAP = (rb'(?:\[\{iov_base=)?"(?:' + BLANK + rb"*[0-9]+" + BLANK + rb"+[0-9]+" + BLANK + rb"+[0-9]+" + BLANK
+            + rb'*(?:\\n|\\0|")|(?:allow|deny)(?:[ \\][^"]{0,12})?")')
 FIRST_DESCRIPTOR = 1000000
 PAGE = 4096
 
@@ -40,8 +46,29 @@ class System(Protocol):
         """The map file that is mounted at a path of another name, None where none is. Unclear as above, Unseen where
         the mounts can't be read."""
 
+    def exe_of(self, task: Task) -> str:
+        """The link to what a process executes."""
+
+    def user_space(self, pid: int) -> int | None:
+        """The number of the user namespace in which a process stands now, None where that isn't shown."""
+
+    def last_capability(self) -> int | None:
+        """The number of the kernel's last capability, None where that isn't known."""
+
     def mother_of(self, pid: int, among: Sequence[int]) -> int | None:
         """The thread among these that gave birth to a process, None where none did or that isn't shown any more."""
+
+    def new_program(self, pid: int) -> NewProgram | None:
+        """The program of a process that stands still right after its execve, None where it is gone."""
+
+    def hold(self, pid: int) -> None:
+        """Holds the mount namespace of a process that stands still."""
+
+    def holds(self, task: Task) -> None:
+        """The mount namespace that was held at the last stop of a process is the one in which it stands by the log."""
+
+    def let_go(self, pid: int, followed: Followed) -> None:
+        """A process has ended by the log: namespaces in which nobody stands aren't held any more."""
 
 
 class Maps:
@@ -50,6 +77,7 @@ class Maps:
     def __init__(self, followed: Followed, taken: Taken, system: System) -> None:
         self.followed, self.taken, self.system = followed, taken, system
         self.next_descriptor = FIRST_DESCRIPTOR
+        self.written: set[tuple[int, bytes]] = set()        # of namespaces' standings the files that were written
 
     # ---- namespaces that are joined
 
@@ -65,7 +93,7 @@ class Maps:
         if what.startswith(b"mnt:[") or b"CLONE_NEWNS" in flags:
             if made.done is not None:
                 task.place = Place(b"/", b"/", self.followed.new_view())
-        standing = self.joined(what, flags)
+        standing = self.joined(task, what, flags)
         if standing is None:
             self.taken.left_out["setns of other namespaces"] += 1
         elif standing < 0:
@@ -74,15 +102,24 @@ class Maps:
         else:
             self.join(task, made, standing)
 
-    def joined(self, what: bytes, flags: list[bytes]) -> int | None:
+    def joined(self, task: Task, what: bytes, flags: list[bytes]) -> int | None:
         """The standing that a setns is for: None where it is for none, -1 where it isn't known."""
         space, pid = USER_SPACE.fullmatch(what), PIDFD.fullmatch(what)
         if space:
-            return self.followed.spaces.get(int(space.group(1)), -1)
+            number = int(space.group(1))
+            return self.followed.spaces.get(number, self.standing_of_space(task, number))
         if pid is None or b"CLONE_NEWUSER" not in flags:
             return None
         other = self.followed.tasks.get(int(pid.group(1)))
         return -1 if other is None else other.standing
+
+    def standing_of_space(self, task: Task, number: int) -> int:
+        """The standing of a user namespace that nobody opened by a path (ioctl_ns(2), NS_GET_USERNS), by those who
+        stand in it now for the kernel: they all have one by the log, and nobody else has it. UNKNOWN else."""
+        numbers = {pid: self.system.user_space(pid) for pid in self.followed.tasks if pid != task.pid}
+        within = {self.followed.tasks[pid].standing for pid, found in numbers.items() if found == number}
+        without = {self.followed.tasks[pid].standing for pid, found in numbers.items() if found not in (None, number)}
+        return within.pop() if len(within) == 1 and not within & without else UNKNOWN
 
     def join(self, task: Task, made: Call, standing: int) -> None:
         """A user namespace that is joined."""
@@ -114,6 +151,17 @@ class Maps:
         except Unclear as unclear:
             raise unclear_map(task, path) from unclear
 
+    def opened_map(self, task: Task, number: int, path: bytes) -> MapFile | None:
+        """The map file of a descriptor that was opened for writing. Of one that isn't, its write needn't be asked: the
+        file may be gone by then."""
+        try:
+            named = self.system.map_file(task, path, self.followed)
+        except Unclear:
+            return None         # its write is told, or a doubt
+        if named is None and may_be(path):
+            task.files.plain.add(number)
+        return named
+
     def open(self, task: Task, made: Call) -> None:
         """open, openat, openat2 and creat."""
         self.learn(task, made)
@@ -123,7 +171,7 @@ class Maps:
         told = lines.descriptor(made.result)
         if told is None or told[1] is None:
             raise Stopped(f"{task.pid}: a file was opened, and strace doesn't tell which")
-        named = self.map_of(task, told[1]) if is_for_writing(made) else None
+        named = self.opened_map(task, made.done, told[1]) if is_for_writing(made) else None
         if named is not None:
             self.followed.opened_map(task, made.done, named.pid)
             self.taken.left_out["opens of map files, which are told where they are written"] += 1
@@ -171,9 +219,11 @@ class Maps:
                 raise Stopped(f"{task.pid}: a file was written to, and strace doesn't tell which")
             self.taken.left_out["writes to other files"] += 1
             return
-        named = self.map_of(task, told[1])
-        if named is None and made.done is not None and re.match(LIKE_MAP, b"".join(made.arguments[1:2])):
-            named = self.bound_map(task, told[1])
+        try:
+            named = self.written_map(task, made, told[0], told[1])
+        except Unclear:
+            self.doubt_write(task, made, told[1])
+            return
         if named is None:
             self.taken.left_out["writes to other files"] += 1
             return
@@ -185,16 +235,29 @@ class Maps:
         number = int(told[0]) if told[0].isdigit() else UNKNOWN
         self.map_write(task, made, named, self.followed.standing_of_map(task, number, told[1], named.pid), text)
 
-    def bound_map(self, task: Task, path: bytes) -> MapFile | None:
-        """The map file that is mounted under another name, of what may be one."""
-        try:
-            return self.system.bound_map(task, path, self.followed)
-        except Unseen:
+    def written_map(self, task: Task, made: Call, number: bytes, path: bytes) -> MapFile | None:
+        """The map file to which a call wrote; None where that is another file. Unclear where it isn't certain."""
+        plain = number.isdigit() and int(number) in task.files.plain and task.files.paths.get(int(number)) == path
+        named = None if plain else self.system.map_file(task, path, self.followed)
+        if named is not None or not self.is_like_map(made, path):
+            return named
+        named = self.system.bound_map(task, path, self.followed)
+        if named is None and self.followed.mounts_vary():
+            raise Unclear           # a mount of a map file may have stood there, and be gone
+        return named
+
+    def is_like_map(self, made: Call, path: bytes) -> bool:
+        """Whether a map or a setgroups word may have been written to a file of another name. A pipe or a socket has
+        no path."""
+        return made.done is not None and made.done < PAGE and path.startswith((b"/", UNREACHABLE)) \
+            and re.match(LIKE_MAP, b"".join(made.arguments[1:2])) is not None
+
+    def doubt_write(self, task: Task, made: Call, path: bytes) -> None:
+        """A write to what may be a map file, and whose isn't certain: one that failed changed nothing."""
+        if not self.taken.fails_unread(made):
+            self.taken.left_out["writes to what may be a map file"] += 1
             self.taken.doubt(MAPS, f"process {task.pid} wrote what looks like a map to {shown(path)}, and whether that"
-                                   " is one isn't known")
-            return None
-        except Unclear as unclear:
-            raise unclear_map(task, path) from unclear
+                                   " is one, and whose, isn't known")
 
     def text(self, made: Call) -> bytes | None:
         """The text of a write; of a writev the parts that were taken. The kernel writes these one by one, so what
@@ -207,6 +270,8 @@ class Maps:
         texts = []
         for part in parts or ():
             told = lines.text_of(lines.member(b"iov_base", part) or b"")
+            if lines.member(b"iov_len", part) == b"0":
+                told = b"", True            # such a piece may have no address, as the last one of musl's stdio
             if told is None or not told[1]:
                 return None
             texts.append(told[0])
@@ -223,17 +288,38 @@ class Maps:
                 raise Stopped(f"{task.pid}: it wrote to a {name.decode()} of process {owner}, and of which user"
                               " namespace that is isn't known")
             return
+        length, key = len(text), (standing or 0, name)
+        if is_unspoken_write(made, length, key in self.written):
+            self.taken.left_out[UNSPOKEN] += 1
+            return
+        if made.done is not None and made.done != length:
+            self.taken.left_out["writes to map files whose answer isn't the kernel's"] += 1
+            self.taken.doubt(ANSWERS, f"process {task.pid} wrote {length} bytes to a {name.decode()}, and the answer"
+                                      f" was {made.done}: the kernel takes all of them or none")
+            return
+        text = self.read_of(task, made, of, text)
         number = self.opened(task.pid, inside, name, b"O_WRONLY")
         result = made.result
-        if b"\0" in text:
-            text = text[:text.index(b"\0")]
-            self.taken.change(f"{task.pid} wrote a text with a NUL to a {name.decode()}: told as far as that")
         if made.done is not None:
+            self.written.add(key)
             result = b"%d" % len(text)
         self.taken.put(task.pid, plain_log.call(b"write", [number, lines.quoted(text), b"%d" % len(text)], result))
         self.taken.put(task.pid, plain_log.call(b"close", [number], b"0"))
         self.taken.change(f"{task.pid} wrote a {name.decode()} of {owner} by {made.name.decode()}: told as an open of"
                           f" /proc/{inside}/{name.decode()}, a write and a close")
+
+    def read_of(self, task: Task, made: Call, of: MapFile, text: bytes) -> bytes:
+        """What the kernel read of a text; of one that it refused what stands before a zero byte."""
+        read = text.partition(b"\0")[0]
+        if made.done is not None:
+            told = map_texts.plain(of.name, text)
+            if told is None:
+                raise Stopped(f"{task.pid}: it wrote to a {of.name.decode()} of process {of.pid} what can be none")
+            read = told
+        if read != text:
+            self.taken.change(f"{task.pid} wrote a text to a {of.name.decode()} that isn't plain: told as the kernel"
+                              " reads it")
+        return read
 
     def transfer(self, task: Task, made: Call) -> None:
         """What the kernel copies into a file has no text in the log."""
@@ -247,7 +333,13 @@ class Maps:
         """Whether a file to which so many bytes were written is a map file; one takes less than a page."""
         if self.map_of(task, path) is not None:
             return True
-        return 0 < count < PAGE and path.startswith(b"/") and self.bound_map(task, path) is not None
+        try:
+            return 0 < count < PAGE and path.startswith(b"/") \
+                and self.system.bound_map(task, path, self.followed) is not None
+        except Unseen:
+            return False
+        except Unclear as unclear:
+            raise unclear_map(task, path) from unclear
 
     def io_uring(self, task: Task, made: Call) -> None:
         """io_uring_setup(2), io_uring_enter(2), io_uring_register(2)."""

@@ -3,6 +3,12 @@ import re
 
 from .lines import Call, quoted
 
+# Which errors a line may have that is to be an event (RULES.md, "Errors from outside"): of each call, of an execve, and
+# those that rules give.
+OUTSIDE = (b"ENOMEM", b"EAGAIN", b"EINTR", b"EFAULT", b"EIO")
+FOLDER_ERRORS = (b"ENOENT", b"EACCES", b"ENOTDIR", b"ELOOP", b"ENAMETOOLONG", b"E2BIG", b"ENOEXEC", b"ETXTBSY",
+                 b"ELIBBAD")
+RULED = (b"EPERM", b"EINVAL")
 BIRTH_RESULT = re.compile(rb"((?:v?fork|clone3?)\(.*\) = )([0-9]+)", re.S)
 
 

@@ -2,8 +2,9 @@
 import os
 import shutil
 import subprocess
+import sys
 import tempfile
-from collections.abc import Iterable, Iterator
+from collections.abc import Iterable, Iterator, Sequence
 from typing import IO
 
 from . import report
@@ -90,6 +91,20 @@ class Program:
         if done.returncode < 0:
             raise Failure(f"{self.path} was killed by signal {-done.returncode}")
         return kept, done.returncode
+
+    def passed_on(self, words: Sequence[str]) -> tuple[int, str]:
+        """Has a call write to the standard output of this process; its status, which is negative where a signal ended
+        it, and, of a check and a confirmation, which write a line alone, that line."""
+        keeps = words[:1] in (["check"], ["confirm"])
+        try:
+            done = subprocess.run([self.path, *words], stdout=subprocess.PIPE if keeps else None, check=False)
+        except OSError as error:
+            raise Failure(f"{self.path} can't be started: {error.strerror}") from error
+        text = done.stdout or b""
+        if text:
+            sys.stdout.buffer.write(text)
+            sys.stdout.flush()
+        return done.returncode, text.decode("ascii", "backslashreplace").removesuffix("\n").rpartition("\n")[2]
 
     def run(self, *words: str) -> report.Report:
         """The report and the status of a call."""

@@ -33,7 +33,8 @@ from .stream import Stream
 from .stub import PR_SET_CHILD_SUBREAPER, begin, prctl
 from .taken import changes_text, filters_text
 from .tracing import Tracer
-from .watchdog import Watchdog
+from .unit_start import UnitStart
+from .watchdog import Watchdog, nothing
 from .watching import Glance
 
 PIPE_SIZE = 1 << 20
@@ -53,6 +54,7 @@ class Asked:
     until_each: re.Pattern[bytes] | None = None
     strace: str | None = None
     keep: bool = False              # the program goes on after the recording
+    unit: str | None = None         # a service of systemd, which is started
 
 
 # ---- the recording ---------------------------------------------------------------------------------------------------
@@ -66,12 +68,15 @@ class Recorder:
         self.strace = strace_command.find(asked.strace)
         self.made = Made(strace_command.version(self.strace), os.uname().release.split("-")[0])
         self.live = Live()
-        self.filter = Filtering(Followed(), Executed(), RunningSystem(self.live.proc))
+        self.system = RunningSystem(self.live.proc)
+        self.filter = Filtering(Followed(), Executed(), self.system)
         self.filters = FilterLook(self.live.proc, self.made.evidence)
         self.signals = 0
         self.start: dict[int, Status] = {}
         self.living: set[int] = set()       # the processes that have to go on, or to end, after the recording
         self.rows = worlds.World()
+        self.unit = None if asked.unit is None else UnitStart(asked.unit, self.live.proc)
+        self.changed = False                # there is something to be undone for the unit
 
     # ---- the start
 
@@ -79,7 +84,27 @@ class Recorder:
         """A thread of each process to be attached; all have stopped."""
         if self.asked.words:
             return [self.begin_program()]
-        roots = self.asked.pids
+        if self.unit is not None:
+            return self.begin_unit(self.unit)
+        tids = self.begin_running(self.asked.pids)
+        self.made.notes.append("the securebits of a process that ran already can't be read: 0 is taken, by which it"
+                               " can get more")
+        return tids
+
+    def begin_unit(self, unit: UnitStart) -> list[int]:
+        """The process of a service, which systemd has made, and which waits right before the execve of its program."""
+        self.watchdog.changes()
+        self.changed = True
+        pid = unit.started(self.is_signalled)
+        tids = self.begin_running([pid])
+        own, bits = self.start[pid], unit.securebits()
+        self.start[pid] = replace(own, credential=replace(own.credential, sec=bits))
+        unit.take_back()
+        self.made.notes += unit.notes()
+        return tids
+
+    def begin_running(self, roots: list[int]) -> list[int]:
+        """A thread of each process that runs already; all have stopped."""
         starting.check(self.live.proc, roots)
         halt = watching.bring_to_stop(
             lambda: watching.family(watching.all_threads(self.live.proc), roots, [os.getpid()]), time.sleep,
@@ -90,8 +115,6 @@ class Recorder:
             raise Failure(f"these can't be stopped, so that they could be looked at: "
                           f"{few([str(tid) for tid in halt.moving])}")
         self.start = statuses(self.live, sorted(halt.threads))
-        self.made.notes.append("the securebits of a process that ran already can't be read: 0 is taken, by which it"
-                               " can get more")
         return watching.leading(halt.threads.values())
 
     def begin_program(self) -> int:
@@ -168,6 +191,20 @@ class Recorder:
         """Whether the program ends with the recording."""
         return bool(self.asked.words) and not self.asked.keep
 
+    def let_go_on(self) -> None:
+        """What is stopped goes on; of a unit, with its own program."""
+        if self.unit is not None:
+            self.unit.free()
+        watching.send(self.living, signal.SIGCONT)
+        self.watchdog.went_on()
+
+    def clear_unit(self) -> None:
+        """Nothing is left of how a unit was started."""
+        if self.unit is not None and self.changed:
+            self.unit.clear()
+            self.watchdog.undone()
+            self.changed = False
+
     def release(self) -> None:
         """What was followed goes on, or ends."""
         living, self.living = self.living, set()
@@ -213,13 +250,17 @@ class Recorder:
     def record(self) -> Recording:
         """The recording. What was stopped goes on, whatever happens."""
         with self.heard():
-            self.watchdog = Watchdog()
+            self.watchdog = Watchdog(nothing if self.unit is None else self.unit.clear)
             try:
                 return self.recorded(self.begin())
             finally:
-                self.release()
-                self.watchdog.leave()
-                self.live.close()
+                try:
+                    self.clear_unit()
+                finally:
+                    self.release()
+                    self.watchdog.leave()
+                    self.system.held.close()
+                    self.live.close()
 
     def recorded(self, tids: list[int]) -> Recording:
         """The recording of processes that have stopped."""
@@ -234,11 +275,11 @@ class Recorder:
         try:
             self.watchdog.traces(tracer.pid)
             tracer.wait_until_attached(self.start, self.is_signalled)
-            watching.send(self.living, signal.SIGCONT)
-            self.watchdog.went_on()
+            self.let_go_on()
+            self.clear_unit()
             if self.asked.keep:
                 self.watchdog.keeps()
-            return self.followed_to_end(tracer, Stream(reading, self.filter, self.awaited()))
+            return self.followed_to_end(tracer, Stream(reading, self.filter, self.awaited(), tracer.stops))
         finally:
             tracer.close()
             os.close(reading)
@@ -275,11 +316,13 @@ class Recorder:
 
     def check_began(self) -> None:
         """Fails where the program that was to be recorded was never executed."""
-        first = parted(self.filter.taken.lines[0]) if self.asked.words and self.filter.taken.lines else None
+        begins = bool(self.asked.words) or self.unit is not None
+        first = parted(self.filter.taken.lines[0]) if begins and self.filter.taken.lines else None
         made = call_of(first[1]) if first is not None else None
         if made is not None and made.name == b"execve" and made.done is None:
             why = shown(made.result.removeprefix(b"-1 "))
-            raise Failure(f"{quoted(self.asked.words[0])} can't be executed: {why}",
+            name = self.asked.words[0] if self.unit is None else self.unit.name
+            raise Failure(f"{quoted(name)} can't be executed: {why}",
                           "name its interpreter before it, as sh" if "ENOEXEC" in why else "")
 
     def doubt_ends(self, tracer: Tracer) -> set[int]:
@@ -291,6 +334,15 @@ class Recorder:
             self.doubt(BIRTHS, f"process {tid} lives on and isn't traced: what it did isn't in the log")
         self.establish(BIRTHS, "all that descends from the processes at the start was traced to its end")
         return watching.processes(found.values())
+
+    def unit_doubts(self) -> list[str]:
+        """What systemd's own execve of the program of a unit may have left otherwise than the one that is recorded."""
+        start = [status.credential for status in self.start.values()] if self.unit is not None else []
+        gives = [file.path for file in self.filter.executed.files.values() if file.caps]
+        if gives and any(each.nnp for each in start):
+            return [f"{few(gives)} has capabilities, and the unit has no_new_privs: executed by systemd itself it may"
+                    " keep some of those that the service manager had (--unit has it executed after another program)"]
+        return []
 
     def tell_files(self, seen: Seen) -> None:
         """What is known of programs and mounts, for a scan to be held against (scan_fits.py)."""
@@ -304,7 +356,7 @@ class Recorder:
         taken, executed = self.filter.taken, self.filter.executed
         self.made.evidence.add(taken.evidence)
         self.tell_files(seen)
-        for text in executed.doubts:
+        for text in [*executed.doubts, *self.unit_doubts()]:
             self.doubt(CREDENTIALS, text)
         self.rows.files = list(executed.files.values())
         self.rows.mounts = list(executed.mounts.values())

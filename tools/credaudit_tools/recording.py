@@ -12,8 +12,6 @@ Of an older recording only the first three stand.
 """
 import os
 import tomllib
-from collections.abc import Iterator
-from contextlib import contextmanager
 from dataclasses import dataclass, field
 
 from . import premises, worlds
@@ -83,6 +81,11 @@ class Recording:
 def is_folder(path: str) -> bool:
     """Whether a path is a recording's folder: what it has more than a world or a log."""
     return os.path.isdir(path) and os.path.exists(os.path.join(path, STATUS))
+
+
+def names_in(path: str) -> list[str]:
+    """The files of a folder that have names of a recording's."""
+    return [name for name in ALL if os.path.lexists(os.path.join(path, name))]
 
 
 def space_line(space: SpaceSeen) -> str:
@@ -205,27 +208,9 @@ def read(folder: str) -> Recording:
     return Recording(world, log, kept, seen, told, *rest)
 
 
-@contextmanager
-def room(folder: str) -> Iterator[None]:
-    """The folder of a recording that is made meanwhile. It is made where it isn't there, for its owner alone, and goes
-    again where the recording fails. Fails at once where nothing can be put into it."""
-    if os.path.lexists(folder) and not os.path.isdir(folder):
-        raise Failure(f"{quoted(folder)} is no folder", "name one, or a path at which nothing stands")
-    fresh = not os.path.isdir(folder)
-    os.makedirs(folder, mode=0o700, exist_ok=True)
-    if not os.access(folder, os.W_OK | os.X_OK):
-        raise Failure(f"nothing can be put into {quoted(folder)}")
-    try:
-        yield
-    except BaseException:
-        if fresh and not os.listdir(folder):
-            os.rmdir(folder)
-        raise
-
-
-def write(folder: str, recording: Recording) -> None:
-    """Puts a recording into a folder, which is made where it isn't there; only its owner can read it then. Of one
-    that was there before nothing stays."""
+def write(folder: str, recording: Recording, owner: tuple[int, int] | None = None) -> None:
+    """Puts a recording into a folder, which is made where it isn't there; only its owner can read it then, who is that
+    of the folder's maker, or `owner`. Of one that was there before nothing stays."""
     os.makedirs(folder, mode=0o700, exist_ok=True)
     texts = texts_of(recording)
     if recording.made is not None:
@@ -233,6 +218,6 @@ def write(folder: str, recording: Recording) -> None:
         texts[MADE] = made_text(recording.made)
     for name in ALL:
         if name in texts:
-            write_new(folder, name, texts[name])
+            write_new(folder, name, texts[name], owner=owner)
         elif os.path.lexists(os.path.join(folder, name)):
             os.remove(os.path.join(folder, name))

@@ -24,8 +24,8 @@ def flags_of(proc: Proc, tid: int) -> int:
 
 
 def is_kernels_own(proc: Proc, tid: int) -> bool:
-    """Whether a thread of a process runs in the kernel alone."""
-    return bool(flags_of(proc, tid) & (IO_WORKER | USER_WORKER))
+    """Whether a thread of a process runs in the kernel alone. One that ended meanwhile may have been one."""
+    return bool(flags_of(proc, tid) & (IO_WORKER | USER_WORKER)) or proc.read(tid, "stat") is None
 
 
 def is_of_ring(proc: Proc, tid: int) -> bool:

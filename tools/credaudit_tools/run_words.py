@@ -4,8 +4,8 @@ Who follows a run here keeps where each process stands as far as the run's own l
 with what they are outside. No call is judged: whether a line is a step, `credaudit confirm` says.
 """
 import re
-from collections.abc import Callable, Iterable
-from dataclasses import dataclass, field
+from collections.abc import Callable, Iterable, Sequence
+from dataclasses import dataclass, field, replace
 
 from .credential import Four
 from .names import capability_text
@@ -19,6 +19,8 @@ from .worlds import INITIAL, File
 LINE = re.compile(r"(\d+) ([a-z_]+)((?: \S+)*) = (\S+)")
 KEPT = 4294967295
 SET_ID, SET_GROUP = 0o4000, 0o2000
+# Calls after which the permitted and the inheritable set are what they were, or are told.
+SAME_SETS = ("capset", "fork", "setgroups", "bset_drop", "no_new_privs", "securebits", "keepcaps", "exit")
 
 
 @dataclass
@@ -28,12 +30,14 @@ class Place:
     standing: dict[int, str] = field(default_factory=dict)
     files: dict[str, File] = field(default_factory=dict)
     ids: dict[int, tuple[Four, Four]] = field(default_factory=dict)
+    sets: dict[int, tuple[int, int]] = field(default_factory=dict)      # permitted and inheritable, where known
 
     def at(self, shown_now: Iterable[Standing]) -> "Place":
         """The place with these processes where their credential lines show them."""
         for one in shown_now:
             self.standing[one.pid] = one.space
             self.ids[one.pid] = one.credential.uid, one.credential.gid
+            self.sets[one.pid] = one.credential.prm, one.credential.inh
         return self
 
     def space(self, pid: int) -> SpaceTold | None:
@@ -99,6 +103,8 @@ def sets(said: Said) -> str:
     """capset."""
     told = [capability_text(word) for word in said.words]
     effective, permitted, inheritable = (0 if each is None else each for each in told)
+    if effective == permitted and said.place.sets.get(said.pid) == (permitted, inheritable):
+        return "makes all that is permitted effective"
     if effective == permitted:
         return f"makes all that is permitted effective: {set_words(permitted)}; inheritable {set_words(inheritable)}"
     return (f"sets effective {set_words(effective)}; permitted {set_words(permitted)};"
@@ -170,9 +176,22 @@ def parsed(line: str) -> tuple[int, str, tuple[str, ...], str] | None:
     return int(found[1]), found[2], tuple(found[3].split()), found[4]
 
 
+def turn_sets(place: Place, said: Said) -> None:
+    """Takes the sets of a caller from before a call to after it; they aren't known after one that may change them."""
+    if said.call == "capset":
+        _, permitted, inheritable = (capability_text(word) or 0 for word in said.words)
+        place.sets[said.pid] = permitted, inheritable
+    elif said.call == "fork" and said.pid in place.sets:
+        place.sets[int(said.result)] = place.sets[said.pid]
+    elif said.call not in SAME_SETS:
+        place.sets.pop(said.pid, None)
+
+
 def turned(place: Place, said: Said) -> None:
     """Takes the place from before a call to after it, as far as its line tells: who stands where, and the maps."""
     spaces = place.spaces
+    if said.result.isdigit():
+        turn_sets(place, said)
     if spaces is None or not said.result.isdigit():
         return
     if said.call in ("unshare", "clone_user") and said.pid in place.standing:
@@ -189,18 +208,47 @@ def turned(place: Place, said: Said) -> None:
         setattr(own, key, spaces.taken_down(own.parent, key, triples(said.words[1:])))
 
 
-def told(line: str, place: Place) -> str:
-    """A line of a run in words; the place is taken on."""
+def who_and_what(line: str, place: Place) -> tuple[str, str]:
+    """Who makes the call of a line, and what it does; the place is taken on. Nobody makes what is no line."""
     parts = parsed(line)
     if parts is None:
-        return "no line of a script"
+        return "", "no line of a script"
     said = Said(*parts, place)
     try:
         words = WORDS[said.call](said)
     except (IndexError, ValueError, TypeError):
-        return "its arguments aren't those of the call"
+        return "", "its arguments aren't those of the call"
     where = place.standing.get(said.pid, INITIAL)
     turned(place, said)
     within = f" (in {where})" if where != INITIAL else ""
     refused = f"; refused: {said.result}" if not said.result.isdigit() else ""
-    return f"process {said.pid}{within} {words}{refused}"
+    return f"process {said.pid}{within}", f"{words}{refused}"
+
+
+def told(line: str, place: Place) -> str:
+    """A line of a run in words; the place is taken on."""
+    return " ".join(part for part in who_and_what(line, place) if part)
+
+
+def sentence(run: Sequence[str], place: Place, holder: int | None) -> str:
+    """A whole run in one sentence, and who holds the right after it, where the last call isn't that process's; the
+    place is taken on."""
+    found, last = list[str](), ""
+    for line in run:
+        who, what = who_and_what(line, place)
+        found.append(what if who and who == last else f"{who} {what}".strip())
+        last = who
+    parts = parsed(run[-1]) if run else None
+    held = f"; then process {holder} has it" if holder is not None and (parts is None or parts[0] != holder) else ""
+    return ", then ".join(found) + held
+
+
+def known(path: str) -> str:
+    """A path as a report that was read shows it."""
+    return path.encode("utf-8", "surrogateescape").decode("ascii", "backslashreplace")
+
+
+def place_at(spaces: SpacesTold | None, files: Iterable[File], standing: Iterable[Standing]) -> Place:
+    """Where a run begins, with namespaces of its own: these processes, in these namespaces, with these files."""
+    own = None if spaces is None else SpacesTold({name: replace(space) for name, space in spaces.named.items()})
+    return Place(own, files={known(row.path): row for row in files}).at(standing)

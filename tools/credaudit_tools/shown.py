@@ -5,7 +5,9 @@ backslash, stands as a backslash and three octal digits, as strace(1) and proc(5
 """
 import os
 import re
+import textwrap
 
+WIDE = 100          # columns of what is told in words
 PLAIN = frozenset(range(0x21, 0x7f)) - set(b"\\")
 OCTAL = re.compile(rb"\\([0-7]{3})")
 
@@ -29,6 +31,12 @@ def shown(text: str | bytes) -> str:
     """A text for the eye: blanks stay, and the backslash where it begins no octal number."""
     odd = re.compile(r"[^\x20-\x7e]")
     return odd.sub(lambda found: f"\\{ord(found.group()):03o}", as_bytes(text).decode("latin-1"))
+
+
+def folded(text: str, more: str = "    ") -> list[str]:
+    """A shown text in lines that aren't wider than WIDE, where no single word is: `more` stands in front of all but the
+    first."""
+    return textwrap.wrap(text, WIDE, subsequent_indent=more, break_long_words=False, break_on_hyphens=False) or [""]
 
 
 def quoted(name: str | bytes) -> str:

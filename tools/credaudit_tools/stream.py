@@ -9,6 +9,7 @@ import time
 
 from .awaited import Awaited
 from .command import Failure
+from .exec_stops import ExecStops
 from .filtering import Filtering
 from .taken import Stopped
 
@@ -19,10 +20,10 @@ SIGNAL = re.compile(rb"[0-9]+ +---")    # a signal's line: no rule reads it, and
 
 
 class Stream:
-    """The lines of strace, as they come."""
+    """The lines of strace, as they come, and the stops in which it waits (exec_stops.py)."""
 
-    def __init__(self, handle: int, filter_: Filtering, awaited: Awaited) -> None:
-        self.handle, self.filter, self.awaited = handle, filter_, awaited
+    def __init__(self, handle: int, filter_: Filtering, awaited: Awaited, stops: ExecStops) -> None:
+        self.handle, self.filter, self.awaited, self.stops = handle, filter_, awaited, stops
         self.rest, self.count = b"", 0
         self.ended = False
         self.stopped: str | None = None
@@ -37,14 +38,37 @@ class Stream:
         if self.ended:
             time.sleep(seconds)
             return
-        ready, _, _ = select.select([self.handle], [], [], seconds)
+        ready, _, _ = select.select([self.handle, *self.stops.handles()], [], [], seconds)
         if not ready:
             return
-        if self.waiting() < FULL:
-            time.sleep(GATHER)      # strace writes line by line: to be woken for each would slow it down
-        data = os.read(self.handle, CHUNK)
-        self.ended = not data
-        self.take(data)
+        if ready == [self.handle] and self.waiting() < FULL:
+            self.gather()
+        if self.stops.wait(0):
+            self.look()
+        elif self.handle in ready:
+            data = os.read(self.handle, CHUNK)
+            self.ended = not data
+            self.take(data)
+
+    def gather(self) -> None:
+        """Lets more lines come, but not beyond a stop: strace writes line by line, and to be woken for each would slow
+        it down."""
+        if self.stops.handles():
+            self.stops.wait(GATHER)
+        else:
+            time.sleep(GATHER)
+
+    def look(self) -> None:
+        """At a stop all that strace wrote before is taken first; then the new program is looked at, and strace goes
+        on."""
+        pid = self.stops.process()
+        if pid is None:
+            return
+        while (left := self.waiting()) > 0:
+            self.take(os.read(self.handle, min(left, CHUNK)))
+        if self.stopped is None:
+            self.filter.executing.stands(pid)
+        self.stops.go_on()
 
     def take(self, data: bytes) -> None:
         """Feeds whole lines on; what follows the last line feed waits."""
@@ -79,5 +103,5 @@ class Stream:
         self.ended = any(events & select.POLLHUP for _, events in asked.poll(0))
 
     def is_empty(self) -> bool:
-        """Whether all that strace wrote is read."""
-        return self.ended or self.waiting() == 0
+        """Whether all that strace wrote is read, and it waits in no stop."""
+        return self.ended or (self.waiting() == 0 and not self.stops.wait(0))

@@ -11,7 +11,7 @@ from collections.abc import Callable, Collection, Sequence
 from .command import Failure
 from .shown import quoted
 
-PR_SET_PDEATHSIG, PR_GET_SECUREBITS, PR_SET_CHILD_SUBREAPER = 1, 27, 36
+PR_SET_PDEATHSIG, PR_GET_SECUREBITS, PR_SET_CHILD_SUBREAPER, PR_SET_NO_NEW_PRIVS = 1, 27, 36, 38
 
 
 def prctl(option: int, value: int = 0) -> int:

@@ -3,9 +3,9 @@ from collections.abc import Callable, Iterable, Sequence
 from dataclasses import dataclass, field
 
 from . import answering, groups_seen, log_doubts, premises, scan_fits, touched, verifying, whose, world_doubts, worlds
-from .answering import Answers, Broken
+from .answering import Answers
 from .asking import Asking, Files
-from .command import Failure, Says, silent
+from .command import Broken, Failure, Says, silent
 from .end_world import births_of, end_of
 from .evidence import Evidence
 from .expecting import Unexpected
@@ -181,7 +181,7 @@ def answer(ask: Asking, given: Given, report: Report, pid: int, more: Sequence[R
     rows = {each.right: list(evidence.rows(each.right, family.space(each.right))) for each in outcomes}
     return Answers(title, outcomes, judge.what_ifs(outcomes), [groups_seen.note(unseen)] if unseen else [], rows, pid,
                    frozenset(members), whose.held_by(end, outcomes, family.space, executed),
-                   whose.members(unseen, executed))
+                   whose.members(unseen, executed), runs=answering.runs_of(end, outcomes))
 
 
 def summed_up(ask: Asking, given: Given, pid: int | None, more: Callable[[int], Sequence[Right]]) -> Summary:

@@ -4,9 +4,8 @@ import os
 from collections.abc import Sequence
 
 from . import answering, command, evidence_text, premises, recording, rights, summary, users, worlds
-from .answering import Broken
 from .asking import Asking, Files, asking
-from .command import Failure, Progress
+from .command import Broken, Failure, Progress
 from .evidence import Evidence
 from .files import read_regular
 from .program import Program
@@ -23,7 +22,7 @@ AFTER = """exit status:
   1  a right has another class than expected or no line, or groups weren't seen
   2  the words are wrong
   3  it can't be told: no program, a file that can't be read; the reason is told
-  4  the recording is broken: the log or the world is refused, or isn't what the kernel showed"""
+  4  credaudit refuses the log or the world, or the recording isn't what the kernel showed"""
 TWO, THREE = 2, 3
 
 
@@ -58,7 +57,7 @@ def given_by(ask: Asking, names: Sequence[str]) -> Given:
         if not os.path.isdir(folder):
             raise Failure(f"{quoted(folder)} is no folder", "name WORLD, LOG and PID, or the folder of a recording")
         world, log = os.path.join(folder, recording.WORLD), os.path.join(folder, recording.LOG)
-        kept = read_recording(folder)
+        kept = recording.read(folder)
     text, told = read_regular(world, follow=True), read_regular(log, follow=True)
     try:
         read = worlds.read(text)
@@ -79,18 +78,10 @@ def evidence_by(kept: recording.Recording | None, world: str, text: bytes, log: 
 def by_hand_in(folder: str) -> Evidence:
     """The word of who wrote a world. Where it lies in a recording, it may be the recording's: its doubts count."""
     found = summary.by_hand()
-    made = read_recording(folder).made if recording.is_folder(folder) else None
+    made = recording.read(folder).made if recording.is_folder(folder) else None
     for each in made.doubts if made is not None else []:
         found.doubt(each.premise, each.why)
     return found
-
-
-def read_recording(folder: str) -> recording.Recording:
-    """A recording. Fails where it is broken."""
-    try:
-        return recording.read(folder)
-    except Failure as failure:
-        raise Broken(str(failure), failure.advice) from failure
 
 
 def with_scan(ask: Asking, given: Given, path: str) -> Given:
@@ -125,7 +116,4 @@ def summed_up(asked: argparse.Namespace, progress: Progress) -> int:
 
 def main(given: Sequence[str]) -> int:
     """The command; its exit status (above)."""
-    try:
-        return summed_up(words_of(given), Progress(NAME))
-    except Broken as broken:
-        return answering.broken(NAME, broken)
+    return summed_up(words_of(given), Progress(NAME))

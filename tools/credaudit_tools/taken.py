@@ -9,6 +9,7 @@ from .filters import Filter
 from .lines import Call
 
 MOST_SHOWN = 200
+UNSPOKEN = "failed calls of which no rule speaks"
 
 
 class Stopped(Exception):

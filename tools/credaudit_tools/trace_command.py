@@ -5,21 +5,23 @@ import sys
 from collections.abc import Mapping, Sequence
 from dataclasses import replace
 
-from . import command, proc, recording, scan_fits, verify_command, worlds
-from .command import FOUND, GOOD, USAGE, Progress, tell
+from . import command, proc, recording, room, scan_fits, verify_command, worlds
+from .command import FOUND, GOOD, USAGE, Failure, Progress, tell
 from .plain_log import numbers_of, renumbered
 from .recorder import Asked, Recorder
-from .shown import plural, shown
+from .shown import few, plural, shown
 from .statuses import Status
 
 NAME = "credaudit-trace"
-SAYS = """Records a program, or processes that run already, under strace(1): the world before the first line, a log that
-credaudit reads, and what the kernel showed of each process at the log's end. Then the recording is verified."""
+SAYS = """Records a program, processes that run already, or a service of systemd, under strace(1): the world before the
+first line, a log that credaudit reads, and what the kernel showed of each process at the log's end. Then the recording
+is verified."""
 AFTER = """exit status:
   0  recorded, and the replay agrees with what the kernel showed
   1  recorded, and there is a doubt or a difference, or nothing was compared; each is told
   2  the words are wrong
-  3  not recorded: the reason is told"""
+  3  not recorded: no right, no strace, no such process; the reason is told
+  4  recorded, and credaudit refuses the world or the log"""
 
 UNATTENDED = 60.0               # seconds of a recording that nobody can end by Ctrl-C, and for which no end was named
 UNATTENDED_SAYS = ("ended after 60 s: no terminal is there from which it could be ended, and neither --for nor --until"
@@ -43,6 +45,8 @@ def words() -> argparse.ArgumentParser:
     ask.add_argument("-p", "--pid", type=command.pid_word, action="append", default=[], metavar="PID",
                      help="a process that runs already, with its threads and all that descends from it; can stand"
                           " repeatedly")
+    ask.add_argument("--unit", metavar="NAME",
+                     help="a service of systemd: it is started, and recorded from its program's first execve on")
     ask.add_argument("-u", "--user", help="the user who runs the program, by name or number")
     ask.add_argument("--for", type=command.seconds, dest="seconds", metavar="SECONDS",
                      help="ends after this time; 0: at the program's own end")
@@ -53,6 +57,7 @@ def words() -> argparse.ArgumentParser:
     ask.add_argument("--keep", action="store_true", help="lets the program run on after the recording")
     ask.add_argument("--pids-from", type=command.pid_word, metavar="FIRST",
                      help="numbers the pids by birth, from FIRST on")
+    ask.add_argument("--force", action="store_true", help="writes over a recording that is in the folder already")
     ask.add_argument("--no-verify", action="store_true", help="doesn't compare the replay with what the kernel showed")
     ask.add_argument("--strace", metavar="COMMAND", help="another strace than the one in the PATH")
     ask.add_argument("command", nargs=argparse.REMAINDER, metavar="CMD ..", help="the program and its words")
@@ -64,15 +69,15 @@ def main(given: Sequence[str]) -> int:
     ask = words()
     asked = ask.parse_args(given)
     told = asked.command[1:] if asked.command[:1] == ["--"] else asked.command
-    if bool(told) == bool(asked.pid):
+    if [bool(told), bool(asked.pid), asked.unit is not None].count(True) != 1:
         ask.print_usage()
-        tell(NAME, "name either a program or processes by -p")
+        tell(NAME, "name either a program, processes by -p, or a service by --unit")
         return USAGE
-    if asked.user and asked.pid:
+    if asked.user and not told:
         tell(NAME, "-u goes with a program alone")
         return USAGE
     return traced(asked, Asked(told, asked.pid, asked.user, limit(asked), asked.until, asked.until_each, asked.strace,
-                               asked.keep))
+                               asked.keep, asked.unit))
 
 
 def is_unattended(options: argparse.Namespace) -> bool:
@@ -90,12 +95,17 @@ def traced(options: argparse.Namespace, asked: Asked) -> int:
     """Records, writes, and verifies; the exit status."""
     proc.needs_processor()
     proc.needs_root("an ordinary user's tracer takes the effect from set-user-ID bits (execve(2))")
-    if recording.is_folder(options.output):
-        tell(NAME, f"{options.output} has a recording already: it is written over")
-    with recording.room(options.output):
+    if not options.force and (there := recording.names_in(options.output)):
+        raise Failure(f"{options.output} has {few(there)} already", "--force writes over them; or name another folder")
+    with room.room(options.output) as place:
         found = Recorder(asked, Progress(NAME)).record()
         made = numbered(found, options.pids_from) if options.pids_from else found
-        recording.write(options.output, made)
+        recording.write(place.path, made, place.owner)
+        return told(options, found, made)
+
+
+def told(options: argparse.Namespace, found: recording.Recording, made: recording.Recording) -> int:
+    """Tells of what was recorded, `made` as it was written, and verifies it; the exit status."""
     doubts = found.made.doubts if found.made else []
     for doubt in doubts:
         tell(NAME, f"doubt: {doubt.text()}")

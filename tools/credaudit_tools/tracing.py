@@ -8,6 +8,7 @@ from collections.abc import Callable, Collection, Sequence
 
 from . import strace_command, watching
 from .command import Failure
+from .exec_stops import ExecStops
 from .proc import Proc
 from .shown import shown
 from .stub import PR_SET_PDEATHSIG, prctl
@@ -23,16 +24,20 @@ class Tracer:
         self.proc = proc
         self.errors = tempfile.TemporaryFile()
         self.recorder = os.getpid()
+        self.stops = ExecStops()
         self.process = subprocess.Popen(
             strace_command.words(path, out, pids), pass_fds=[out], stdin=subprocess.DEVNULL, stderr=self.errors,
-            stdout=subprocess.DEVNULL, start_new_session=True, preexec_fn=self.ends_with_recorder)
+            stdout=subprocess.DEVNULL, start_new_session=True, preexec_fn=self.becomes_ours)
+        self.stops.take()
         self.pid = self.process.pid
 
-    def ends_with_recorder(self) -> None:
-        """In the child: the recorder's death, however it comes, is strace's too (PR_SET_PDEATHSIG, prctl(2))."""
+    def becomes_ours(self) -> None:
+        """In the child: the recorder's death, however it comes, is strace's too (PR_SET_PDEATHSIG, prctl(2)); and it
+        waits for the recorder at each execve."""
         prctl(PR_SET_PDEATHSIG, signal.SIGKILL)
         if os.getppid() != self.recorder:
             os._exit(1)
+        self.stops.install()
 
     def wait_until_attached(self, tids: Collection[int], is_over: Callable[[], bool]) -> None:
         """Returns once it traces all these threads. Fails where it doesn't, and where `is_over` says so."""
@@ -97,4 +102,5 @@ class Tracer:
     def close(self) -> None:
         """Ends it, and gives back what was kept."""
         self.end()
+        self.stops.close()
         self.errors.close()

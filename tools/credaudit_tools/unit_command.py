@@ -5,9 +5,9 @@ from collections.abc import Sequence
 
 from . import (answering, command, evidence_text, premises, touched, unit_files, unit_settings, unit_world, users,
                whose, worlds)
-from .answering import Answers, Broken
+from .answering import Answers
 from .asking import Asking, asking
-from .command import Failure, Progress, Says, tell
+from .command import Broken, Failure, Progress, Says, tell
 from .end_world import end_of
 from .expecting import Unexpected
 from .explain import process_words
@@ -28,8 +28,8 @@ AFTER = """exit status:
   0  it is told, and all is as expected
   1  a right has another class than expected, or no line
   2  the words are wrong
-  3  it can't be told: no program, a file that can't be read; the reason is told
-  4  the unit isn't there, is masked, or wouldn't start as it is written"""
+  3  it can't be told: no program, no such unit, a file that can't be read; the reason is told
+  4  the unit is masked, or wouldn't start as it is written"""
 IMPOSSIBLE = 3          # the program's status for a line that the rules refuse
 SCHEMA: dict[str, object] = {"format": "number", "unit": "text", "files": ["text"], "world": "text", "log": "text",
                              "scanned": "flag", **answering.RIGHTS_SCHEMA, **answering.END_SCHEMA}
@@ -52,10 +52,10 @@ def unit_by(word: str, root: str) -> Unit:
         if "/" in word:
             return unit_files.of_file(word)
         return unit_files.named(word if word.endswith(SUFFIX) else word + SUFFIX, root)
-    except Failure as failure:
+    except Failure:
         if "/" not in word and os.path.isfile(word):
             return unit_files.of_file(word)
-        raise Broken(str(failure), failure.advice) from failure
+        raise
 
 
 def made_by(asked: argparse.Namespace, unit: Unit, known: Users) -> Made:
@@ -97,7 +97,7 @@ def judged(ask: Asking, made: Made, rights: Sequence[Right]) -> Answers:
     rows = {each.right: list(evidence.rows(each.right, family.space(each.right))) for each in outcomes}
     held_by = whose.held_by(end, outcomes, family.space, whose.programs(made.log, made.world.log == "strace", read))
     return Answers(title, outcomes, judge.what_ifs(outcomes), [*made.notes, *ask.notes], rows, unit_world.PID,
-                   held_by=held_by)
+                   held_by=held_by, runs=answering.runs_of(end, outcomes))
 
 
 def answered(asked: argparse.Namespace, says: Says) -> int:
@@ -114,7 +114,7 @@ def answered(asked: argparse.Namespace, says: Says) -> int:
     with asking(Program(), says) as ask:
         own = of_root(known, (INITIAL, made.world.processes[0].space))
         answers = judged(ask, made, [*own, *wanted.of_process(unit_world.PID)])
-    answers.title = f"unit {unit.name}: {answers.title}"
+    answers.who = f"unit {unit.name}"
     answers.notes += wanted.notes
     answers.made = {"world.toml": worlds.written(made.world), "log": made.log}
     front: dict[str, object] = {"unit": unit.name, "files": unit.files, "world": worlds.written(made.world).decode(),
@@ -127,7 +127,4 @@ def answered(asked: argparse.Namespace, says: Says) -> int:
 
 def main(given: Sequence[str]) -> int:
     """The command; its exit status (above)."""
-    try:
-        return answered(words_of(given), Progress(NAME).at)
-    except Broken as broken:
-        return answering.broken(NAME, broken)
+    return answered(words_of(given), Progress(NAME).at)

@@ -2,7 +2,7 @@
 import os
 from dataclasses import dataclass, field
 
-from .command import Failure
+from .command import Broken, Failure
 from .files import read_regular
 from .shown import quoted
 from .unit_text import Assignment, assignments
@@ -135,7 +135,7 @@ def named(name: str, root: str = "/") -> Unit:
     """The unit of a name, with its drop-ins. Fails where there is none, or it is masked."""
     path, names = find(root, name)
     if os.path.realpath(path) == os.devnull:
-        raise Failure(f"the unit {quoted(name)} is masked: {path} leads to /dev/null")
+        raise Broken(f"the unit {quoted(name)} is masked: {path} leads to /dev/null")
     unit = Unit(name)
     for each in (path, *drop_ins(root, aliases(root, names))):
         read(unit, each)

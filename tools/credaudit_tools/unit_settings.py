@@ -6,6 +6,7 @@ stays true.
 import re
 from dataclasses import dataclass, field
 
+from . import unit_keys
 from .command import Failure
 from .names import ALL, CAPABILITIES, NUMBERS
 from .shown import quoted
@@ -314,7 +315,9 @@ def settings(unit: Unit, users: Users) -> Settings:
     if made.filter.excluded() and not made.native:
         made.notes.append("SystemCallFilter=: no call is counted as excluded, since other architectures may get round"
                           " it: SystemCallArchitectures=native isn't set")
-    made.notes += [f"{key}=: {why}" for key, why in PASSED_OVER.items() if is_set(unit, key)]
+    made.notes += [f"{key}=: {why}" for key, why in PASSED_OVER.items()
+                   if (truth(unit, key) if key in unit_keys.TRUTHS else is_set(unit, key))]
+    made.notes += [*unit_keys.odd_keys(unit), *unit_keys.odd_values(unit)]
     if made.ambient & ~made.bounding:
         made.notes.append("AmbientCapabilities= has more than CapabilityBoundingSet=: the unit may not start")
     return made

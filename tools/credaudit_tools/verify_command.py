@@ -3,7 +3,7 @@ import os
 from collections.abc import Sequence
 
 from . import command, recording
-from .command import FAILED, FOUND, GOOD, Failure, Progress, tell
+from .command import BROKEN, FAILED, FOUND, GOOD, Failure, Progress, tell
 from .program import STATUSES, Program
 from .shown import plural, shown
 from .verifying import Verdict, verify
@@ -15,8 +15,10 @@ AFTER = """exit status:
   0  something was compared, and agrees
   1  there is a difference, nothing was compared, or the recording has a doubt; each is told
   2  the words are wrong
-  3  it couldn't be compared: the reason is told"""
+  3  it couldn't be compared: no program, a file that can't be read; the reason is told
+  4  credaudit refuses the world or the log"""
 MOST = 50
+REFUSED = (4, 5, 9)     # statuses of the program: a world, a line of a log, a limit
 
 
 def tell_verdict(name: str, folder: str, verdict: Verdict, doubts: list[str]) -> int:
@@ -44,7 +46,8 @@ def verified(name: str, folder: str, tell_doubts: bool = True) -> int:
     if report.status in (6, 7, 8, 10):
         raise Failure(f"credaudit ended with status {report.status}: {STATUSES[report.status]}")
     doubts = [each.text() for each in kept.made.doubts] if kept.made and tell_doubts else []
-    return tell_verdict(name, folder, verify(kept, report, Progress(name).at), doubts)
+    status = tell_verdict(name, folder, verify(kept, report, Progress(name).at), doubts)
+    return BROKEN if report.status in REFUSED else status
 
 
 def main(given: Sequence[str]) -> int:

@@ -4,12 +4,13 @@ and each answer to a call that asks. The replay is the program's own.
 import re
 from dataclasses import dataclass, field
 
-from . import answers, kernel_rows, lines, recording, report, worlds
+from . import answers, kernel_rows, lines, log_marks, recording, report, worlds
 from .answers import At
 from .command import Says, silent
 from .credential import WORDS, differences
 from .evidence import Evidence
 from .kernel_rows import Made
+from .log_marks import Marks
 from .premises import CREDENTIALS, MAPS, RECORDING
 from .recording import Recording, SpaceSeen
 from .report import Report, Standing
@@ -19,6 +20,7 @@ from .statuses import Status
 from .worlds import INITIAL
 
 STEP = 4096                     # lines between two words of progress
+IMPOSSIBLE = 3                  # the program's status of a log that its rules refuse
 
 
 @dataclass
@@ -31,10 +33,13 @@ class Verdict:
     unread: int = 0         # answers that can't be compared
     lived: bool = False     # a process lived at the end, for the kernel or in the replay
     refused: bool = False   # the replay doesn't come to the log's end
+    stopped: bool = False   # the recording ended before what the kernel showed at the end
     evidence: Evidence = field(default_factory=Evidence)
 
     def no_process(self) -> str:
         """Why no process was compared."""
+        if self.stopped:
+            return "the recording stopped before the end"
         return "none lived both for the kernel and in the replay" if self.lived else "none lived at the end"
 
     def no_answer(self) -> str:
@@ -74,12 +79,13 @@ class Replayed:
     spaces: SpacesTold
     history: dict[int, list[Made]]
     foreign: frozenset[int] = frozenset()
+    marks: Marks = field(default_factory=dict)
 
     def row(self, pid: int, name: str, told: str, seen: str) -> str | None:
         """The row of docs/KERNEL.md for a field of a process that differs."""
         if pid in self.foreign:
             return kernel_rows.FOREIGN
-        return kernel_rows.of_field(name, self.history.get(pid, []), told, seen)
+        return kernel_rows.of_field(name, self.history.get(pid, []), told, seen, self.marks.get(pid, ()))
 
 
 def changed_at(history: list[Made], field: str | None = None) -> str:
@@ -101,7 +107,7 @@ def changes(made: Made, field: str) -> bool:
 def through(kept: Recording, told: Report, verdict: Verdict, says: Says) -> Replayed:
     """Goes through the log beside the replay, and compares each answer at its line."""
     now = Replayed({one.pid: one for one in told.start}, of_world(worlds.read(kept.world)),
-                   {one.pid: [] for one in told.start}, foreign_of(kept))
+                   {one.pid: [] for one in told.start}, foreign_of(kept), log_marks.of_log(kept.log))
     events = iter(told.events)
     event = next(events, None)
     log = kept.log.split(b"\n")[:-1]
@@ -150,10 +156,9 @@ def compare_answer(now: Replayed, number: int, line: bytes, verdict: Verdict) ->
         return
     verdict.answers += 1
     for each in differing:
-        name = next((key for key in WORDS if each.field.endswith(key)), "")
         verdict.differences.append(with_row(
             f"process {pid}, {each.field}, line {number}: the replay has {each.told}, the kernel answered {each.seen}",
-            now.row(pid, name, each.told, each.seen)))
+            now.row(pid, each.name, each.told, each.seen)))
 
 
 def with_row(text: str, row: str | None) -> str:
@@ -252,7 +257,9 @@ def failure_of(kept: Recording, told: Report) -> str:
     log = kept.log.split(b"\n")
     line = log[number - 1] if 0 < number <= len(log) else b""
     parts = lines.parted(line)
-    row = kernel_rows.of_impossible(parts[1].decode("latin-1")) if parts and told.status == 3 else None
+    row = kernel_rows.of_impossible(parts[1].decode("latin-1")) if parts else None
+    if told.status != IMPOSSIBLE and row != kernel_rows.BITS:
+        row = None              # a line that can't be read: of what rules know these bits alone aren't
     return with_row(f"line {number}: {ending}: {shown(line[:200])}", row)
 
 
@@ -277,8 +284,13 @@ def verify(kept: Recording, told: Report, says: Says = silent) -> Verdict:
                              " has sums of some files alone")
     elif kept.made.end == "program" and verdict.answers:
         verdict.notes.append("the program had ended: what its calls answered is compared, and who lives")
-    compare_processes(kept, now, verdict)
-    compare_spaces(kept, now, verdict)
+    if kept.made is not None and kept.made.end == "stopped":
+        verdict.stopped = True
+        verdict.notes.append("the recording was stopped at a line that can't be told truly: what calls answered before"
+                             " is compared; who lives, and with what, isn't, since that was seen later")
+    else:
+        compare_processes(kept, now, verdict)
+        compare_spaces(kept, now, verdict)
     establish(kept, verdict)
     return verdict
 

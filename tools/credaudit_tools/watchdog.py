@@ -1,6 +1,8 @@
 """A second process beside a recorder, which outlives it: where the recorder is gone before it has let go of what it
 stopped, this one ends strace, and sends SIGCONT to each process that was about to be stopped.
 
+What else such an end has to undo, as the drop-in of a unit, is undone too.
+
 It is told by a pipe, in lines, before anything is done. The recorder's death, however it comes, is seen by the pipe's
 end, and by a descriptor of its process, since other processes may have the pipe too.
 """
@@ -8,7 +10,7 @@ import os
 import select
 import signal
 import time
-from collections.abc import Iterable
+from collections.abc import Callable, Iterable
 from dataclasses import dataclass
 
 HEARS_NOT = (signal.SIGINT, signal.SIGTERM, signal.SIGHUP, signal.SIGQUIT, signal.SIGPIPE)
@@ -16,10 +18,14 @@ PATIENCE = 2.0                  # seconds between asking a program to end and en
 CHUNK = 1 << 16
 
 
-class Watchdog:
-    """The recorder's side of it."""
+def nothing() -> None:
+    """There is nothing more to undo."""
 
-    def __init__(self) -> None:
+
+class Watchdog:
+    """The recorder's side of it. `undo` is called where the recorder is gone after `changes` and before `undone`."""
+
+    def __init__(self, undo: Callable[[], None] = nothing) -> None:
         recorder = os.getpid()
         reading, self.writing = os.pipe()
         before = signal.pthread_sigmask(signal.SIG_BLOCK, HEARS_NOT)
@@ -27,7 +33,7 @@ class Watchdog:
         if self.pid == 0:
             try:
                 go_apart(reading)
-                Watching(0, recorder).watch()
+                Watching(0, recorder, undo).watch()
             finally:
                 os._exit(0)
         signal.pthread_sigmask(signal.SIG_SETMASK, before)
@@ -57,6 +63,14 @@ class Watchdog:
     def stops(self, pids: Iterable[int]) -> None:
         """These are about to be stopped."""
         self.tell("stop", pids)
+
+    def changes(self) -> None:
+        """Something is about to be changed that has to be undone."""
+        self.tell("changes")
+
+    def undone(self) -> None:
+        """It is undone."""
+        self.tell("undone")
 
     def went_on(self) -> None:
         """All that was stopped goes on."""
@@ -116,8 +130,9 @@ def kept(pid: int) -> Kept | None:
 class Watching:
     """The second process's side."""
 
-    def __init__(self, reading: int, recorder: int) -> None:
-        self.reading, self.recorder = reading, kept(recorder)
+    def __init__(self, reading: int, recorder: int, undo: Callable[[], None] = nothing) -> None:
+        self.reading, self.recorder, self.undo = reading, kept(recorder), undo
+        self.changed = False
         self.stopped: dict[int, Kept] = {}
         self.own: dict[int, Kept] = {}
         self.strace: dict[int, Kept] = {}
@@ -147,6 +162,9 @@ class Watching:
 
     def hear(self, word: str, pids: list[int]) -> None:
         """A line."""
+        if word in ("changes", "undone"):
+            self.changed = word == "changes"
+            return
         if word in ("on", "keep"):
             known = self.stopped if word == "on" else self.own
             for each in known.values():
@@ -169,6 +187,8 @@ class Watching:
             each.send(signal.SIGTERM)
         for each in (*self.stopped.values(), *self.own.values()):
             each.send(signal.SIGCONT)
+        if self.changed:
+            self.undo()
         wait_for(self.own.values(), PATIENCE)
         for each in self.own.values():
             each.send(signal.SIGKILL)

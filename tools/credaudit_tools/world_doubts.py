@@ -4,7 +4,7 @@ from collections.abc import Iterator, Sequence
 
 from .end_world import births_of
 from .evidence import Evidence
-from .findings import RECORDING, WORLD, Finding, doubt
+from .findings import RECORDING, WORLD, Finding, doubt, note
 from .premises import SCAN
 from .recording import FORMAT, Recording, altered
 from .report import Report
@@ -31,9 +31,9 @@ def of_world(data: bytes, world: World, report: Report, evidence: Evidence | Non
 def of_evidence(evidence: Evidence | None) -> Iterator[Finding]:
     """What stands beside a world: whether a scan made it, and the doubts of who made it."""
     if evidence is None or SCAN not in evidence.established:
-        yield doubt(WORLD, None,
-                    "nothing says that all files were looked for: a `yes` holds by the family's own calls alone",
-                    "credaudit-capture looks for all programs with set-id bits or capabilities")
+        yield note(WORLD, None,
+                   "nothing says that all files were looked for: a `yes` holds by the family's own calls alone",
+                   "credaudit-capture looks for all programs with set-id bits or capabilities", scan=True)
     for each in evidence.doubts if evidence is not None else []:
         yield doubt(WORLD, None, each.text(), "the doubt of who made the world")
 

@@ -4,6 +4,7 @@ credaudit, and a command run within the test.
 import contextlib
 import io
 import os
+import re
 import shutil
 import stat
 import tempfile
@@ -92,6 +93,11 @@ class Case(unittest.TestCase):
             except SystemExit as ended:
                 status = ended.code if isinstance(ended.code, int) else 1
         return status, out.getvalue(), errors.getvalue()
+
+
+def unfolded(text: str) -> str:
+    """A text as it was before its lines were folded and its words put in columns."""
+    return re.sub(" +", " ", re.sub(r"\n +", " ", text))
 
 
 def scanned(*doubts: str) -> Evidence:

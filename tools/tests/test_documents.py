@@ -3,7 +3,8 @@ it.
 
 By the stored answers of the program each is run, but those that record a program: of these the stored recordings stand
 for what they make. Where the variable CREDAUDIT_BUILT names a built program, and this runs as root with strace and a C
-compiler there, each block is run as it stands. And what docs/PROVED.md and docs/LIBRARY.md name stands in the crates.
+compiler there, each block is run as an ordinary user with sudo(8) types it. And what docs/PROVED.md and docs/LIBRARY.md
+name stands in the crates.
 """
 import os
 import re
@@ -11,6 +12,7 @@ import shutil
 import subprocess
 import tempfile
 import unittest
+from collections.abc import Callable
 
 from .support import EXAMPLES, STORED
 
@@ -29,9 +31,12 @@ def blocks(document: str) -> list[list[tuple[str, str]]]:
     return found
 
 
-RECORDINGS = {"/tmp/recording": "recording", "/tmp/recording-fixed": "recording-fixed"}
+RECORDINGS = ("recording", "recording-fixed")
 COMMANDS = os.path.join(TOP, "tools")
 BUILT = os.environ.get("CREDAUDIT_BUILT")
+# Words of progress, which a slow machine shows beside what is told.
+PROGRESS = re.compile(r"^credaudit-[a-z]+: .*?\d+ (?:of \d+|lines of strace, \d+ kept)\n", re.MULTILINE)
+USER = 65533             # who may be nobody's: an ordinary user
 # Of a block whose commands call the program many times: test_expecting runs them within the test.
 ELSEWHERE = ("/tmp/rights.expected", "/tmp/told")
 
@@ -41,9 +46,18 @@ def may_record() -> bool:
     return bool(BUILT) and os.geteuid() == 0 and all(shutil.which(name) for name in ("strace", "cc"))
 
 
+def as_user(command: str) -> list[str]:
+    """A command as an ordinary user types it: with sudo root runs it, with the variables that sudo sets, and without
+    that user does."""
+    if command.startswith("sudo "):
+        return ["env", f"SUDO_UID={USER}", f"SUDO_GID={USER}", "bash", "-c", command.removeprefix("sudo ")]
+    return ["setpriv", f"--reuid={USER}", f"--regid={USER}", "--clear-groups", "bash", "-c", command]
+
+
 class Blocks(unittest.TestCase):
     def setUp(self) -> None:
         self.folder = tempfile.mkdtemp(prefix="credaudit-test-")
+        os.chmod(self.folder, 0o1777)
         self.addCleanup(shutil.rmtree, self.folder)
 
     def environment(self, program: str) -> dict[str, str]:
@@ -54,13 +68,15 @@ class Blocks(unittest.TestCase):
         os.symlink(program, os.path.join(self.folder, "credaudit"))
         return {**os.environ, "CREDAUDIT": program, "PATH": self.folder + ":" + os.environ["PATH"]}
 
-    def run_block(self, block: list[tuple[str, str]], environment: dict[str, str]) -> None:
-        """Runs the commands of a block, and compares what they write."""
-        for command, wanted in block:
+    def run_block(self, block: list[tuple[str, str]], environment: dict[str, str],
+                  words: Callable[[str], list[str]] = lambda command: ["bash", "-c", command]) -> None:
+        """Runs the commands of a block, with a folder of this test in the place of /tmp, and compares what they write,
+        to both outputs."""
+        for command, wanted in ((part.replace("/tmp/", self.folder + "/") for part in pair) for pair in block):
             with self.subTest(command=command):
-                done = subprocess.run(["bash", "-c", command.replace("sudo ", "")], cwd=TOP, env=environment, text=True,
-                                      capture_output=True, check=False)
-                self.assertEqual((done.stdout, done.stderr), (wanted, ""))
+                done = subprocess.run(words(command), cwd=TOP, env=environment, text=True, stdout=subprocess.PIPE,
+                                      stderr=subprocess.STDOUT, check=False)
+                self.assertEqual(PROGRESS.sub("", done.stdout), wanted)
 
     def test_there_are_blocks(self) -> None:
         for document, least in DOCUMENTS.items():
@@ -68,10 +84,8 @@ class Blocks(unittest.TestCase):
 
     def test_they_write_what_they_say(self) -> None:
         environment = self.environment(STORED)
-        for place, name in RECORDINGS.items():
-            shutil.rmtree(place, ignore_errors=True)
-            shutil.copytree(os.path.join(TOP, "examples", "first_try", name), place)
-            self.addCleanup(shutil.rmtree, place, True)
+        for name in RECORDINGS:
+            shutil.copytree(os.path.join(TOP, "examples", "first_try", name), os.path.join(self.folder, name))
         for document in DOCUMENTS:
             for block in blocks(document):
                 kept = [part for part in block if not part[0].startswith(("cc ", "sudo "))
@@ -80,12 +94,10 @@ class Blocks(unittest.TestCase):
 
     @unittest.skipUnless(may_record(), "no built program, or programs can't be recorded here")
     def test_they_can_be_pasted(self) -> None:
-        for place in RECORDINGS:
-            shutil.rmtree(place, ignore_errors=True)
         environment = self.environment(os.path.abspath(BUILT or ""))
         for document in DOCUMENTS:
             for block in blocks(document):
-                self.run_block(block, environment)
+                self.run_block(block, environment, as_user)
 
 
 def theorems() -> list[tuple[str, str]]:

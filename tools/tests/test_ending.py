@@ -15,6 +15,7 @@ from credaudit_tools.awaited import Awaited
 from credaudit_tools.command import Failure
 from credaudit_tools.ending import Ending, Seen
 from credaudit_tools.evidence import Evidence
+from credaudit_tools.exec_stops import ExecStops
 from credaudit_tools.executed import Executed
 from credaudit_tools.filtering import Filtering
 from credaudit_tools.followed import Files, Followed, Place, Task
@@ -86,6 +87,7 @@ class StoredTracer(Tracer):
 
     def __init__(self, proc: Proc, state: str) -> None:
         self.proc, self.pid, self.told, self.ended = proc, STRACE, state, False
+        self.stops = ExecStops()
 
     def state(self) -> str:
         return "" if self.ended else self.told
@@ -109,9 +111,10 @@ class Ended(Case):
                             ("PAUSE", 0.005), ("send", self.send)):
             self.enterContext(mock.patch.object(watching, name, value))
         self.tracer = StoredTracer(self.live.proc, "S")
+        self.addCleanup(self.tracer.stops.close)
         reading, self.writing = os.pipe()
         self.addCleanup(os.close, reading)
-        self.stream = Stream(reading, self.filter, Awaited(None, None, list, lambda _: False))
+        self.stream = Stream(reading, self.filter, Awaited(None, None, list, lambda _: False), self.tracer.stops)
 
     def send(self, pids: set[int], number: signal.Signals) -> None:
         self.sent += [(pid, number) for pid in sorted(pids)]
@@ -123,10 +126,11 @@ class Ended(Case):
         self.filter.followed.add(Task(tid, 0, Place(b"/"), Files()))
 
     def shown(self, tid: int, state: str, tgid: int = 0, parent: int = 1, tracer: int = STRACE,
-              children: str = "") -> None:
+              children: str = "", flags: int = 0x400000) -> None:
         """A thread that the kernel shows."""
         text = STATUS.format(tid=tid, state=state, tgid=tgid or tid, parent=parent, tracer=tracer).encode()
         self.put(f"/proc/{tid}/status", text)
+        self.put(f"/proc/{tid}/stat", f"{tid} (x) {state} {parent} 0 0 0 0 {flags}".encode())
         self.put(f"/proc/{tgid or tid}/task/{tid}/status", text)
         self.put(f"/proc/{tid}/task/{tid}/children", children.encode())
 
@@ -224,6 +228,15 @@ class Doubted(Ended):
         self.look(held=True)
         self.assertEqual(self.premises(), ["answers"])
         self.assertEqual(self.filter.taken.lines, [b"100 setuid(0) = 0"])
+
+    def test_threads_of_a_ring(self) -> None:
+        """A worker of io_uring (the flags of 6.18) is no member; one that ends while it is looked at shows none."""
+        self.thread(100, "t")
+        self.shown(101, "S", tgid=100, tracer=0, flags=0x404050)
+        self.shown(102, "S", tgid=100, tracer=0)
+        os.remove(os.path.join(self.work, "proc/102/stat"))
+        seen = self.look()
+        self.assertEqual(([each.pid for each in seen.statuses], self.evidence.doubts), ([100], []))
 
     def test_who_is_not_in_the_log(self) -> None:
         self.thread(100, "t")

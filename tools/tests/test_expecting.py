@@ -6,9 +6,8 @@ import unittest
 from unittest import mock
 
 from credaudit_tools import classes, expecting, rights, summary_command, typed_files, users
-from credaudit_tools.answering import BROKEN
 from credaudit_tools.classes import Outcome
-from credaudit_tools.command import FAILED, FOUND, GOOD, USAGE, Failure
+from credaudit_tools.command import BROKEN, FAILED, FOUND, GOOD, USAGE, Failure
 from credaudit_tools.expecting import Expected, Lines
 from credaudit_tools.rights import Reading, Right
 from credaudit_tools.whose import Member
@@ -236,7 +235,7 @@ class Command(Case):
             expected = self.put("expect", b"gid:adm gone\n" + OTHERS)
             status, out, errors = self.command(*self.names(), "100", "--right", "uid:www-data", "--expect", expected)
         self.assertEqual(status, FOUND)
-        self.assertIn("uid:33               held by process 100", out)
+        self.assertIn("uid:33  held by process 100", out)
         for told in ("note: uid:www-data is uid:33 here\n", "note: gid:adm is gid:4 here\n",
                      "gid:4 is open, and expected is gone\n"):
             self.assertIn(told, errors)

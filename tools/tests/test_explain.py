@@ -10,7 +10,8 @@ import tomllib
 import xml.etree.ElementTree
 from unittest import mock
 
-from credaudit_tools import certificates, explain, explain_command, naming, run_words, schemas, verdicts, worlds
+from credaudit_tools import (certificates, explain, explain_command, naming, run_words, schemas, shown, verdicts,
+                             worlds)
 from credaudit_tools.command import FAILED, GOOD, USAGE, Failure
 from credaudit_tools.drawing import svg_of, text_of
 from credaudit_tools.run_words import Place
@@ -48,7 +49,24 @@ def report_of(*ending: str, space: str = "init", uid: str = "33,33,0,33") -> str
 class Words(support.Case):
     def lines(self, data: str, world: str | None = None, events: bool = False) -> list[str]:
         read = None if world is None else worlds.read(world.encode())
-        return explain.lines(explain.explained(data.encode("latin-1"), read, events))
+        with mock.patch.object(shown, "WIDE", 1000):
+            return explain.lines(explain.explained(data.encode("latin-1"), read, events))
+
+    def test_no_line_is_wide(self) -> None:
+        made = explain.explained(report_of("no 1", "100 execve /opt/su = 0", "holder 100", space="box").encode(),
+                                 worlds.read(BOXED.replace("/opt/su", "/opt/" + "s" * 60).encode()))
+        lines = explain.lines(made)
+        self.assertLessEqual(max(map(len, lines)), 100)
+        made.scanned, made.verdict = False, verdicts.Verdict("yes")
+        self.assertIn("No scan of all files made the world: the right is gone by the family's own calls alone, and"
+                      " programs", explain.lines(made))
+
+    def test_rows_that_allow_the_same_stand_together(self) -> None:
+        told = self.lines(f'{{"format":1,"rows":[{FIRST},{NOBODY},{FIRST},{NOBODY}]}}')
+        self.assertEqual([line for line in told if "members in" in line or "nobody" in line], [
+            "  init: members in init", "  #1: members in #1",
+            "  fresh(init): members in user namespaces that are made later in init",
+            "  fresh(#1): members in user namespaces that are made later in #1", "      nobody can be there"])
 
     def test_a_yes(self) -> None:
         told = self.lines(report_of("yes", CERTIFICATE.strip()))
@@ -70,7 +88,7 @@ class Words(support.Case):
 
     def test_a_no(self) -> None:
         told = self.lines(report_of("no 2", "100 setresuid -1 0 -1 = 0", "100 execve - = EPERM", "holder 100"))
-        self.assertEqual(told[2:], [
+        self.assertEqual(told[:6], [
             "no: the right can be had.", "After these calls process 100 has it:",
             "  100 setresuid -1 0 -1 = 0", "      process 100 takes these user ids: effective 0",
             "  100 execve - = EPERM",

@@ -1,10 +1,14 @@
 """What a recording makes of strace's lines: the stored cases of silent.txt, and hostile names."""
 import os
 import shutil
+from dataclasses import replace
+from unittest import mock
 
+from credaudit_tools import looked_up
 from credaudit_tools.executed import Executed
 from credaudit_tools.filtering import Filtering
 from credaudit_tools.followed import Files, Followed, Place, Task
+from credaudit_tools.live import program
 from credaudit_tools.map_files import RunningSystem
 from credaudit_tools.proc import Proc
 from credaudit_tools.taken import Stopped, changes_text, filters_text
@@ -53,6 +57,9 @@ class Filtered(Case):
             self.put(f"/proc/{pid}/status", f"Name:\tx\nNSpid:\t{pid}{inner}\n".encode())
             self.put(f"/proc/{pid}/mountinfo", MOUNTS)
         self.put("/proc/100/task/100/children", b"99 105 ")
+        self.put("/proc/sys/kernel/cap_last_cap", b"40\n")
+        for pid, number in ((100, 4026531837), (101, 4026532177), (102, 4026531837)):
+            self.link(f"/proc/{pid}/ns/user", f"user:[{number}]")
 
     def filtering(self) -> Filtering:
         followed = Followed()
@@ -100,7 +107,7 @@ class Silent(Filtered):
         filtering = self.filtering()
         self.assertIsNone(self.fed(filtering, ['100 write(3</tmp/a>, "0 0 1\\n", 6) = 6']))
         self.assertEqual(doubts_of(filtering), ["process 100 wrote what looks like a map to /tmp/a, and whether that is"
-                                                " one isn't known"])
+                                                " one, and whose, isn't known"])
 
 
 # Bytes of a name, and how a recording's log and world have it.
@@ -110,6 +117,75 @@ HOSTILE = [
     (b"-", "-"), (b"--help", "--help"), (b"a'b", "a'b"), (b"$(id)", "$(id)"), (b"a;b", "a;b"),
     (b"[[file]]", "[[file]]"), (b"a#b", "a#b"), (b"\xe2\x80\xae", "\u202e"),
 ]
+
+
+class Refusing(Filtered):
+    """An execve that fails for its file's attribute (capabilities(7), "Safety checking for capability-dumb binaries"):
+    the rules know it by the file, so it is declared."""
+
+    def setUp(self) -> None:
+        super().setUp()
+        with_bits = (b"\0\0\0\2" + (1 << 13).to_bytes(4, "little") + bytes(12)).replace(b"\0", b"\1", 1)
+        self.caps = with_bits.hex()
+        self.enterContext(mock.patch.object(looked_up, "program", lambda handle, path, mount: replace(
+            program(handle, path, mount), caps=with_bits if path == b"/opt/ping" else None)))
+        self.put("/opt/ping", ELF, 0o755)
+        self.put("/opt/pings", b"#!/opt/ping\n", 0o755)
+
+    def test_of_a_file_and_of_a_scripts_interpreter(self) -> None:
+        for path, names in (("/opt/ping", ["/opt/ping"]), ("/opt/pings", ["/opt/ping", "/opt/pings"])):
+            filtering, failed = self.filtering(), "= -1 EPERM (Operation not permitted)"
+            self.assertIsNone(self.fed(filtering, [f'100 execve("{path}", ["x"], 0x7ffe /* 3 vars */) {failed}']))
+            self.assertEqual(filtering.taken.lines, [f'100 execve("{path}", [], NULL) {failed}'.encode()])
+            self.assertEqual(sorted(filtering.executed.files), names)
+            self.assertEqual(filtering.executed.files["/opt/ping"].caps, self.caps)
+            self.assertEqual(doubts_of(filtering) + filtering.executed.doubts, [])
+
+    def test_of_a_file_that_is_not_there(self) -> None:
+        filtering = self.filtering()
+        self.assertIsNone(self.fed(filtering, ['100 execve("/gone", ["x"], []) = -1 EPERM (Operation not permitted)']))
+        self.assertEqual(filtering.taken.lines, [])
+        self.assertIn("left out: 1 failed calls of which no rule speaks\n", changes_text(filtering.taken))
+
+
+class Counted(Filtered):
+    def test_what_is_cut_off_is_counted(self) -> None:
+        front = "100 capset({version=_LINUX_CAPABILITY_VERSION_3, pid=0}, {effective=0, permitted=0, inheritable="
+        for told, counts in (("0", []), ("0xfe00 /* CAP_??? */", [1]), ("1<<CAP_MKNOD|0xfe00", [1])):
+            filtering = self.filtering()
+            self.assertIsNone(self.fed(filtering, [front + told + "}) = 0"]))
+            self.assertEqual(list(filtering.taken.counted.values()), counts, told)
+            self.assertEqual("past the last capability" in changes_text(filtering.taken), bool(counts))
+
+
+class Unseen(Filtered):
+    """An execve of a file whose mount is gone as its line comes: it is told by what the process executes."""
+
+    def executed(self, told: str, line: str) -> tuple[str | None, Filtering]:
+        os.remove(os.path.join(self.work, "proc/100/exe"))
+        self.link("/proc/100/exe", told)
+        filtering = self.filtering()
+        return self.fed(filtering, [line]), filtering
+
+    def test_what_the_process_executes(self) -> None:
+        for name, mode in (("rise", 0o4755), ("plain", 0o755)):
+            stopped, filtering = self.executed(f"{self.work}/opt/{name}", f'100 execve("/mnt/gone/{name}", [], []) = 0')
+            self.assertIsNone(stopped)
+            self.assertEqual(filtering.taken.lines, [f'100 execve("/mnt/gone/{name}", [], NULL) = 0'.encode()])
+            self.assertEqual([(row.path, row.mode) for row in filtering.executed.files.values()],
+                             [(f"/mnt/gone/{name}", mode)] if mode & 0o4000 else [])
+            self.assertEqual(doubts_of(filtering) + filtering.executed.doubts, [])
+            self.assertIn(f"execve of /mnt/gone/{name}: its path leads nowhere any more", changes_text(filtering.taken))
+
+    def test_what_is_another_file(self) -> None:
+        """A script, of which its interpreter shows; another name; nothing at all."""
+        for told, line in ((f"{self.work}/opt/rise", '100 execve("/mnt/gone/script", [], []) = 0'),
+                           (f"{self.work}/opt/script", '100 execve("/mnt/gone/script", [], []) = 0'),
+                           (f"{self.work}/opt/rise", '100 execve("gone/rise", [], []) = 0'),
+                           ("/x/rise", '100 execve("/mnt/gone/rise", [], []) = 0')):
+            stopped, filtering = self.executed(told, line)
+            self.assertIn("which file that is isn't known", stopped or "")
+            self.assertEqual(filtering.taken.lines, [])
 
 
 class Hostile(Filtered):

@@ -1,8 +1,9 @@
 """Fs ids that aren't among the effective ones: what files of such an id can give isn't called gone. By hand, from
 setfsuid(2), chmod(2) and execve(2); the program is asked what a file of the id gives."""
+import json
 from unittest import mock
 
-from credaudit_tools import power, summary, summary_command
+from credaudit_tools import classes, power, summary, summary_command
 from credaudit_tools.command import GOOD
 from credaudit_tools.judged import Judge
 from credaudit_tools.rights import parse
@@ -37,10 +38,10 @@ class FsIds(support.Case):
                 mock.patch.object(power, "RIGHTS", power.RIGHTS[:1]), \
                 mock.patch.object(Judge, "settled", lambda _, outcome: outcome), \
                 mock.patch.object(Judge, "what_ifs", lambda *_: []):
-            status, out, errors = self.told(summary_command.main, *names, "100")
+            status, out, errors = self.told(summary_command.main, *names, "100", "--json")
         self.assertEqual(status, GOOD, errors)
-        return {line.split()[0] for line in out.split("\n")
-                if " not called gone: fs-ids: process 100 has the fs " in line}
+        return {each["right"] for each in json.loads(out)["answers"][0]["rights"] if each["class"] == classes.DOUBTED
+                and any(why.startswith("fs-ids: process 100 has the fs ") for why in each["reasons"])}
 
     def test_rows(self) -> None:
         for keys, more, rights, wanted in ROWS:

@@ -7,7 +7,7 @@ from unittest import mock
 
 from credaudit_tools import (evidence_text, hints, lint, lint_command, log_doubts, log_faults, other_faults, recording,
                              report, toml_faults, worlds)
-from credaudit_tools.command import FAILED, FOUND, GOOD, USAGE, Failure
+from credaudit_tools.command import BROKEN, FAILED, FOUND, GOOD, USAGE, Failure
 from credaudit_tools.findings import WORLD, Finding
 from credaudit_tools.lint import Given
 from credaudit_tools.toml_places import places
@@ -58,7 +58,8 @@ class Cases(unittest.TestCase):
     def told(self, case: Case) -> list[Finding]:
         unread = report.Report(status=7)
         with tempfile.TemporaryDirectory() as work:
-            return lint.findings(put(work, case), lambda: self.answers.get(case.name, unread))
+            given = put(work, case)
+            return lint.unread(given) or lint.findings(given, lambda: self.answers.get(case.name, unread))
 
     def test_each_case_is_told(self) -> None:
         for case in lint_cases.every():
@@ -66,7 +67,7 @@ class Cases(unittest.TestCase):
                 found = self.told(case)
                 for where, text in case.tells:
                     if where == "nothing":
-                        self.assertEqual([each for each in found if UNSCANNED not in each.why], [])
+                        self.assertEqual([each for each in found if not each.note], [])
                     elif where == "not":
                         self.assertEqual([each for each in found if text in each.why], [])
                     else:
@@ -120,7 +121,7 @@ class Command(support.Case):
 
     def test_a_refusal_names_file_line_and_key(self) -> None:
         status, out, _ = self.run_case("capability in small letters")
-        self.assertEqual(status, FOUND)
+        self.assertEqual(status, BROKEN)
         self.assertRegex(out, r"world\.toml:5: refused: permitted: .*\n    .*CAP_NET_RAW")
 
     def test_nothing_is_found_of_a_scanned_world(self) -> None:
@@ -139,6 +140,21 @@ class Command(support.Case):
         self.assertEqual(status, FOUND)
         self.assertIn("isn't as it was written: its sum differs", out)
 
+    def test_where_the_scan_alone_lacks(self) -> None:
+        """That is the state of each log that is made by hand: it is told, and is a finding where one asks for it."""
+        names = self.put("world.toml", lint_cases.WORLD.encode()), self.put("log", lint_cases.LOG.encode())
+        stored = Stored(self.answers["world that a scan made"])
+        with mock.patch.object(lint_command, "Program", lambda: stored):
+            for more, kind, wanted in (("", "note", GOOD), ("--scanned", "suspect", FOUND)):
+                status, out, errors = self.called(*names, *more.split())
+                self.assertEqual((status, errors), (wanted, ""))
+                self.assertTrue(out.startswith(f"{names[0]}: {kind}: nothing says that {UNSCANNED}"), out)
+
+    def test_a_file_that_can_not_be_read(self) -> None:
+        status, out, errors = self.called(self.put("world.toml", lint_cases.WORLD.encode()), self.work + "/none")
+        self.assertEqual((status, out), (FAILED, ""))
+        self.assertIn("none' can't be read: No such file", errors)
+
     def test_a_recording_is_a_folder(self) -> None:
         status, out, _ = self.run_case("thread left out of the world", folder=True)
         self.assertEqual(status, FOUND)
@@ -149,9 +165,9 @@ class Command(support.Case):
         os.mkfifo(pipe)
         with mock.patch.object(lint_command, "Program") as program:
             for words in ((world, pipe), (pipe, world)):
-                status, out, _ = self.called(*words)
-                self.assertEqual(status, FOUND)
-                self.assertIn("it is a pipe, no regular file", out)
+                status, out, errors = self.called(*words)
+                self.assertEqual((status, out), (FAILED, ""))
+                self.assertIn("it is a pipe, no regular file", errors)
         self.assertEqual(program.call_count, 0)
 
     def test_progress(self) -> None:
@@ -173,7 +189,7 @@ class Command(support.Case):
     def test_help_tells_the_statuses(self) -> None:
         status, out, _ = self.called("--help")
         self.assertEqual(status, GOOD)
-        self.assertIn("Exit status", out)
+        self.assertIn("exit status:", out)
 
 
 class Unread(support.Case):

@@ -8,7 +8,7 @@ import unittest
 from unittest import mock
 
 from credaudit_tools import capture_command, freezer, live, mounts, standing, worlds
-from credaudit_tools.command import FAILED, FOUND, GOOD, USAGE, Failure
+from credaudit_tools.command import BROKEN, FAILED, FOUND, GOOD, USAGE, Failure
 from credaudit_tools.kernel import Program, Trouble
 from credaudit_tools.live import Live, walk_tree
 from credaudit_tools.namespaces import INITIAL_INODE, UserSpace
@@ -421,7 +421,7 @@ class Command(support.Case):
                       ("--skip", "srv", "100"), ("--skip", "", "100")):
             self.assertEqual(self.called("programs.toml", *words)[0], USAGE, words)
         self.assertEqual(self.called("programs.toml", "--version")[0], GOOD)
-        self.assertIn("Exit status", self.called("programs.toml", "--help")[1])
+        self.assertIn("exit status:", self.called("programs.toml", "--help")[1])
 
     def test_a_world_that_the_program_refuses_is_not_written(self) -> None:
         path = os.path.join(self.work, "world.toml")
@@ -430,7 +430,7 @@ class Command(support.Case):
             refusal = mock.Mock(status=4, ending=["bad world whole 0: WrongType"])
             program.return_value.replay_texts.return_value = refusal
             status, _, errors = self.called("programs.toml", "-o", path, "100")
-        self.assertEqual((status, os.path.exists(path)), (FAILED, False))
+        self.assertEqual((status, os.path.exists(path)), (BROKEN, False))
         self.assertIn("the program refuses the world, status 4", errors)
 
     def test_without_the_program_that_is_told(self) -> None:

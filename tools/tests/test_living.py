@@ -30,10 +30,10 @@ class Living(support.Case):
         status, out, errors = self.command(SIBLING)
         first, second = out.split("\n\n")
         self.assertEqual(status, GOOD, errors)
-        self.assertTrue(first.startswith("process 101: user 33; "), first)
-        self.assertIn("\nuid:0                            gone by its own calls\n", first)
-        self.assertTrue(second.startswith("process 102: user 0; "), second)
-        self.assertIn("\nuid:0                            held by process 102 (effective user id)\n", second)
+        self.assertIn("\nprocess 101: user 33; ", first)
+        self.assertIn("\nuid:0, uid:33  gone by its own calls\n", first)
+        self.assertTrue(second.startswith("process 102: all 42 rights are held\nprocess 102: user 0; "), second)
+        self.assertRegex(second, r"\nuid:0 +held by process 102 \(effective user id\)\n")
 
     def test_the_expected_classes_hold_for_each(self) -> None:
         path = self.put("expect", b"* gone-by-own-calls\n")

@@ -6,7 +6,7 @@ import subprocess
 import unittest
 from unittest import mock
 
-from credaudit_tools import (capture_command, explain, explain_command, lint_command, schemas, summary,
+from credaudit_tools import (audit_command, capture_command, explain, explain_command, lint_command, schemas, summary,
                              summary_command, trace_command, unit_command, verify_command)
 
 from .support import EXAMPLES, Case
@@ -16,9 +16,8 @@ PAGES = os.path.join(EXAMPLES, "..", "man")
 COMMANDS = {"credaudit-trace": trace_command.main, "credaudit-verify": verify_command.main,
             "credaudit-capture": capture_command.main, "credaudit-lint": lint_command.main,
             "credaudit-explain": explain_command.main, "credaudit-unit": unit_command.main,
-            "credaudit-summary": summary_command.main}
-STATUSES = {"credaudit-explain": ["0", "2", "3"], "credaudit-unit": ["0", "1", "2", "3", "4"],
-            "credaudit-summary": ["0", "1", "2", "3", "4"]}
+            "credaudit-summary": summary_command.main, "credaudit-audit": audit_command.main}
+STATUSES = {"credaudit-explain": ["0", "2", "3"], "credaudit-audit": []}
 SCHEMAS = {"credaudit-explain": explain.SCHEMA, "credaudit-unit": unit_command.SCHEMA,
            "credaudit-summary": summary.SCHEMA}
 SECTIONS = ("NAME", "SYNOPSIS", "DESCRIPTION", "EXIT STATUS", "EXAMPLES", "SEE ALSO")
@@ -48,7 +47,7 @@ class Pages(Case):
     def test_statuses(self) -> None:
         for name in COMMANDS:
             statuses = page(name).split(".Sh EXIT STATUS")[1].split(".Sh ")[0]
-            wanted = STATUSES.get(name, ["0", "1", "2", "3"])
+            wanted = STATUSES.get(name, ["0", "1", "2", "3", "4"])
             self.assertEqual(re.findall(r"^\.It (\d)$", statuses, re.MULTILINE), wanted, name)
 
     def test_schemas(self) -> None:

@@ -1,5 +1,6 @@
 """Capabilities that act without a listed call: nothing is gone of a family that can have one over the initial
 namespace, whoever holds it now. The sentences are those of capabilities(7), by hand."""
+import json
 from unittest import mock
 
 from credaudit_tools import summary_command
@@ -30,16 +31,16 @@ class Power(support.Case):
         program = Told(None, answers, confirms=lambda *_: 100)
         with mock.patch.object(summary_command, "Program", lambda: program), \
                 mock.patch.object(Told, "run", Plain().run):
-            status, out, errors = self.told(summary_command.main, *names, "100", "--right", "uid:0")
+            status, out, errors = self.told(summary_command.main, *names, "100", "--right", "uid:0", "--json")
         self.assertEqual(status, GOOD, errors)
-        [found] = [line for line in out.split("\n") if line.startswith("uid:0 ")]
-        return found.removeprefix("uid:0").strip()
+        [told] = [each for each in json.loads(out)["answers"][0]["rights"] if each["right"] == "uid:0"]
+        return f"{told['class']}: {'; '.join(told['reasons'])}"
 
     def test_each_that_is_held(self) -> None:
         for name, words in WORDS.items():
             with self.subTest(name):
                 line = self.line({("real", f"cap:{name}@init"): no(100)}, name)
-                self.assertRegex(line, f"^not called gone: power: {name} over the initial namespace can be had, which"
+                self.assertRegex(line, f"^doubted: power: {name} over the initial namespace can be had, which"
                                        f" [^;]*{words}")
 
     def test_each_that_can_be_had(self) -> None:
@@ -47,10 +48,10 @@ class Power(support.Case):
         for name in WORDS:
             for answer in (no(100, RUN), f"undecided exec_caps init\n{CERTIFICATE}\n"):
                 with self.subTest(name, answer=answer):
-                    self.assertIn(f"not called gone: power: {name} over",
+                    self.assertIn(f"doubted: power: {name} over",
                                   self.line({("real", f"cap:{name}@init"): answer}))
 
     def test_others(self) -> None:
-        self.assertEqual(self.line({}), "gone by its own calls")
+        self.assertEqual(self.line({}), "gone-by-own-calls: ")
         for name in OTHERS:
-            self.assertEqual(self.line({("real", f"cap:{name}@init"): no(100)}, name), "gone by its own calls")
+            self.assertEqual(self.line({("real", f"cap:{name}@init"): no(100)}, name), "gone-by-own-calls: ")

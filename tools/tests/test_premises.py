@@ -13,8 +13,8 @@ from pathlib import Path
 from unittest import mock
 
 import premises_page
-from credaudit_tools import (evidence_text, premises, recording, rights, scan_fits, summary, summary_command,
-                             trace_command, unit_command)
+from credaudit_tools import (evidence_text, premises, recording, rights, scan_fits, shown, summary,
+                             summary_command, trace_command, unit_command)
 from credaudit_tools.asking import Asking
 from credaudit_tools.classes import GONE, GONE_BY_OWN_CALLS
 from credaudit_tools.command import GOOD
@@ -81,7 +81,8 @@ class Case(support.Case):
         self.enterContext(mock.patch.object(summary, "rights_had", lambda *_: ASKED))
         self.enterContext(mock.patch.object(summary_command, "Program", lambda: self.program))
         self.enterContext(mock.patch.object(summary, "suspicion", lambda *_: []))      # a lint, which judges nothing
-        self.enterContext(mock.patch.object(Asking, "side_by_side", lambda _, what, ask, items: list(map(ask, items))))
+        self.enterContext(mock.patch.object(Asking, "side_by_side",
+                                            lambda _, what, ask, items, *of: list(map(ask, items))))
 
     def classes(self, folder: str, *words: str) -> dict[Right, set[str]]:
         """The classes of the rights that are asked about, of all families; none where nothing is answered."""
@@ -256,7 +257,11 @@ class Unit(Case):
 
 
 class Told(Case):
-    """What is told of it."""
+    """What is told of it, each row in one line."""
+
+    def setUp(self) -> None:
+        super().setUp()
+        self.enterContext(mock.patch.object(shown, "WIDE", 10000))
 
     def test_why(self) -> None:
         """Each row that touches the right is told, with what established it."""
@@ -275,7 +280,7 @@ class Told(Case):
         with mock.patch.object(Evidence, "establish", without(premises.RINGS)):
             out = self.told(summary_command.main, "--files", self.scan, folder)[1]
             why = self.told(summary_command.main, "--why", "uid:7", "--files", self.scan, folder)[1]
-        self.assertIn("  not called gone: rings: nothing establishes it\n", out)
+        self.assertIn(" not called gone: rings: nothing establishes it\n", support.unfolded(out))
         self.assertIn("  rings: nothing acts for a member through io_uring. Doubted: nothing establishes it\n", why)
 
 

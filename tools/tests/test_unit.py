@@ -5,7 +5,7 @@ import json
 import unittest
 from collections.abc import Sequence
 
-from credaudit_tools import unit_calls, unit_files, unit_settings, unit_world, users, worlds
+from credaudit_tools import unit_calls, unit_files, unit_keys, unit_settings, unit_world, users, worlds
 from credaudit_tools.command import Failure
 from credaudit_tools.credential import Credential
 from credaudit_tools.marks import SCANNED
@@ -35,6 +35,43 @@ def unit_of(text: str, name: str = "x.service") -> Unit:
 
 def made_of(text: str, name: str = "x.service") -> Settings:
     return unit_settings.settings(unit_of(text, name), known())
+
+
+class Odd(unittest.TestCase):
+    """What systemd passes over with a warning (`systemd-analyze verify` has the same words for it)."""
+
+    def notes(self, text: str) -> list[str]:
+        unit = Unit("x.service", given=assignments(text, "/etc/x.service"))
+        return [*unit_keys.odd_keys(unit), *unit_keys.odd_values(unit)]
+
+    def test_keys(self) -> None:
+        for text, told in (
+                ("[Service]\nNoNewPriviliges=yes\n", "line 2: 'NoNewPriviliges' is no key of [Service] that is known"
+                                                     " here, and is passed over: NoNewPrivileges= may be meant"),
+                ("[Service]\nnonewprivileges=yes\n", ": NoNewPrivileges= may be meant"),
+                ("[Service]\nCapabilityBoundSet=\n", ": CapabilityBoundingSet= may be meant"),
+                ("[Service]\nQwertz=1\n", "'Qwertz' is no key of [Service] that is known here, and is passed over"),
+                ("[Unit]\nNoNewPrivileges=yes\n", "stands in [Unit], and is passed over: [Service] has it"),
+                ("[service]\nUser=web\n", "'User' stands in [service], which is no section of a service")):
+            with self.subTest(text):
+                [note] = self.notes(text)
+                self.assertIn(told, note)
+        for text in ("[Unit]\nDescription=x\nAfter=y\n[Service]\nUser=web\nX-Mine=1\n[X-Own]\nUser=a\n[Install]\n"
+                     "WantedBy=multi-user.target\n", "[Service]\nNoNewPrivileges=yes\nLimitNOFILE=7\n"):
+            self.assertEqual(self.notes(text), [])
+
+    def test_truth_values_that_are_none(self) -> None:
+        """NoNewPrivileges=maybe sets nothing, and that is told."""
+        for value in ("maybe", "2", "yes please"):
+            [note] = self.notes(f"[Service]\nNoNewPrivileges={value}\n")
+            self.assertEqual(note,
+                             f"NoNewPrivileges=: '{value}' is no truth value, and is passed over, as systemd does")
+            self.assertIn(note, made_of(f"NoNewPrivileges={value}\n").notes)
+            self.assertFalse(made_of(f"NoNewPrivileges={value}\n").no_new_privs)
+
+    def test_keys_that_are_counted_are_keys(self) -> None:
+        self.assertEqual(unit_keys.COUNTED - unit_keys.KEYS, set())
+        self.assertEqual(set(unit_settings.PASSED_OVER) - unit_keys.KEYS, set())
 
 
 class Text(unittest.TestCase):

@@ -4,7 +4,7 @@ import shutil
 from dataclasses import replace
 from unittest import mock
 
-from credaudit_tools import lint_command, recording, report, verify_command, verifying
+from credaudit_tools import kernel_rows, lint_command, recording, report, verify_command, verifying
 from credaudit_tools.program import Program
 from credaudit_tools.verifying import Verdict, verify
 
@@ -225,8 +225,47 @@ class Failing(Case):
         with mock.patch.object(Program, "replay", lambda *_: refused):
             status, out, errors = self.told(verify_command.main, folder)
         why = "the replay doesn't come to the log's end"
-        self.assertEqual((status, out), (1, f"{folder}: nothing was compared ({why}): 1 difference\n"))
+        self.assertEqual((status, out), (4, f"{folder}: nothing was compared ({why}): 1 difference\n"))
         self.assertIn("bad log line 1: BadCall", errors)
+
+    def replayed(self, name: str) -> tuple[recording.Recording, report.Report]:
+        """A stored recording, and the program's report of it."""
+        folder = os.path.join(RECORDINGS, name)
+        return recording.read(folder), Program().replay(os.path.join(folder, "world.toml"), os.path.join(folder, "log"))
+
+    def test_of_a_recording_that_was_stopped_answers_alone_are_compared(self) -> None:
+        """What the kernel showed is of a later moment than the log's last line."""
+        kept, told = self.replayed("daemon")
+        assert kept.made is not None
+        later = [replace(each, credential=replace(each.credential, uid=(7, 7, 7, 7))) for each in kept.statuses[1:]]
+        for end, differences, processes in (("time", len(later) + 1, len(later)), ("stopped", 0, 0)):
+            found = verify(replace(kept, statuses=later, made=replace(kept.made, end=end)), told)
+            here = [each for each in found.differences if "isn't as it was" not in each]
+            self.assertEqual((len(here), found.processes), (differences, processes), here)
+            self.assertGreater(found.answers, 0)
+            self.assertEqual("credentials" in found.evidence.established, end == "time")
+        self.assertEqual(found.compared(), f"{found.answers} answers compared, no processes (the recording stopped"
+                                           " before the end)")
+        self.assertEqual([each for each in found.notes if "who lives, and with what, isn't" in each],
+                         found.notes)
+        wrong = replace(kept, log=kept.log + b"100 getuid() = 77\n", made=replace(kept.made, end="stopped"))
+        self.assertIn("the kernel answered 77", "".join(verify(wrong, told).differences))
+
+    def test_the_row_of_an_answer_is_named(self) -> None:
+        kept, told = self.replayed("thread")
+        told.events.append(report.Event(7, 101, "execve", ("/x",), "0", (told.alive()[101],)))
+        shared = b"100 clone(flags=CLONE_FS|SIGCHLD) = 101\n"
+        for front, line, row in (
+                (b"", b"101 prctl(PR_GET_NO_NEW_PRIVS, 0, 0, 0, 0) = 1", kernel_rows.SYNCED),
+                (b"", b"101 prctl(PR_CAP_AMBIENT, PR_CAP_AMBIENT_IS_SET, CAP_CHOWN, 0, 0) = 1", kernel_rows.KEEPS),
+                (shared, b"101 getresuid([7], [7], [7]) = 0", kernel_rows.SHARED),
+                (shared, b"101 capget({version=_LINUX_CAPABILITY_VERSION_3, pid=0}, {effective=1<<CAP_CHOWN,"
+                         b" permitted=0, inheritable=0}) = 0", kernel_rows.SHARED)):
+            found = verify(replace(kept, log=kept.log + front + line + b"\n"), told)
+            answered = [each for each in found.differences if "the kernel answered" in each]
+            self.assertTrue(answered, line)
+            for each in answered:
+                self.assertIn(f"(known: {row})", each)
 
     def test_progress(self) -> None:
         kept = recording.read(os.path.join(RECORDINGS, "daemon"))

@@ -73,6 +73,9 @@ class Told(Program):
         with open(words[5], encoding="ascii") as file:
             text = file.read()
         if words[0] == "check":
-            return (b"holds\n", 0) if self.sound else (b"refused json\n", 11)
+            name = os.path.basename(words[1]).removesuffix(".toml")
+            kind = name if name == "own" or name.startswith("if-") else "real"
+            gone = self.answers.get((kind, words[4]), self.default).startswith("yes")
+            return (b"holds\n", 0) if self.sound and gone else (b"refused json\n", 11)
         holder = self.confirms(words[4], text.split("\n")[:-1])
         return (f"confirmed {holder}\n".encode(), 0) if holder is not None else (b"refused end\n", 11)

@@ -7,7 +7,7 @@ REFUSED = "a call fails or does nothing, and a reader refuses its line, or takes
 ODD = "a program does what a recorder may not expect, and the log says otherwise than the kernel"
 
 TRAPS = (
-    *(Trap("maps", case, MAPS, spelling, ("right or told",), ALL, asked=False) for case, spelling in (
+    *(Trap("maps", case, MAPS, spelling, ("right",), ALL, asked=False) for case, spelling in (
         ("writev", "writev(2)"), ("stdio", "the stdio of musl: a piece is empty"),
         ("pwritev", "pwritev(2), which fails"), ("pwrite", "pwrite(2), which fails"), ("openat2", "openat2(2)"),
         ("creat", "creat(2)"),
@@ -17,19 +17,20 @@ TRAPS = (
         ("chroot", "the root directory is /proc"), ("mount", "a second mount of proc"), ("copy", "dup(2), dup2(2)"),
         ("message", "SCM_RIGHTS"), ("thread", "a thread"), ("shell", "a shell's redirection"),
         ("execve", "a descriptor that outlives an execve"))),
-    *(Trap("maps", case, HIDDEN, spelling, ("right or told",), ALL, asked=False)
+    *(Trap("maps", case, HIDDEN, spelling, ("right or doubt maps",), ALL, asked=False)
       for case, spelling in (
         ("bind", "the file is mounted elsewhere, and unmounted"), ("bind-folder", "its folder, likewise"),
         ("tree", "open_tree(2)"), ("detached", "a proc that is unmounted while the file is open"),
         ("fsmount", "fsmount(2)"))),
-    *(Trap("calls", case, REFUSED, spelling, ("right or told",), ALL, asked=False) for case, spelling in (
+    Trap("calls", "securebits-unknown", REFUSED, "unknown securebits", ("right or difference",), ALL, asked=False),
+    *(Trap("calls", case, REFUSED, spelling, ("right",), ALL, asked=False) for case, spelling in (
         ("clone3-pid", "clone3 with a pid in use"), ("clone3-group", "clone3 into what is no control group"),
         ("clone3-long", "clone3 with arguments of later kernels"), ("setns-none", "setns of no descriptor"),
         ("setns-own", "setns to one's own namespace"), ("setns-dead", "setns to a dead process"),
         ("unshare-unknown", "unshare with an unknown flag"), ("capset-other", "capset of another process"),
         ("capset-version", "capset of an unknown version"),
         ("capset-past", "capset with bits past the last capability"),
-        ("securebits-unknown", "unknown securebits"), ("privs-zero", "PR_SET_NO_NEW_PRIVS with 0"),
+        ("privs-zero", "PR_SET_NO_NEW_PRIVS with 0"),
         ("privs-words", "PR_SET_NO_NEW_PRIVS with spare words"), ("ambient-words", "PR_CAP_AMBIENT_CLEAR_ALL with one"),
         ("ambient-unknown", "an unknown PR_CAP_AMBIENT"), ("keepcaps-two", "PR_SET_KEEPCAPS with 2"),
         ("bounding-unknown", "PR_CAPBSET_DROP of 99"), ("bounding-minus", "PR_CAPBSET_DROP of -1"),
@@ -51,12 +52,12 @@ TRAPS = (
         ("gate-answer", "getuid of 16 bits answers 65534", ("right or told",), ALL),
         ("x32", "a call of x32", ("right or told",), "none"), ("untraced", "CLONE_UNTRACED", ("told",), "none"),
         ("shared", "a set-user-ID program with a shared folder (CLONE_FS)", ("difference or told",), "none"),
-        ("checked", "AT_EXECVE_CHECK, and a saved id", ("uid:0 own-calls or told",), "cap:.*|gid:.*"),
-        ("checked-keepcaps", "AT_EXECVE_CHECK, and KEEPCAPS", ("told",), "none"),
+        ("checked", "AT_EXECVE_CHECK, and a saved id", ("right", "uid:0 own-calls"), "cap:.*|gid:.*"),
+        ("checked-keepcaps", "AT_EXECVE_CHECK, and KEEPCAPS", ("right", "uid:0 own-calls"), "cap:.*"),
         ("flags", "the flags of clone3 are exchanged", ("right or told",), "none"),
         ("pidfd", "setns by a pidfd", ("right or told",), ALL),
-        ("owner", "setns by NS_GET_USERNS", ("right or told",), ALL),
-        ("like-maps", "plain files named uid_map and setgroups", ("right or told",), ALL),
+        ("owner", "setns by NS_GET_USERNS", ("right",), ALL),
+        ("like-maps", "plain files named uid_map and setgroups", ("right",), ALL),
         ("names", "names of processes like lines of a status", ("uid:0 held or told",), ALL),
         ("programs", "names of programs like lines of a log", ("uid:0 held or told",), ALL),
         ("lies", "a status that lies, mounted over its own", ("uid:0 held or told",), "none"),

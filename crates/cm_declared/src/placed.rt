@@ -10,9 +10,13 @@ pub struct Placed {
 }
 
 impl Model for Placed {
+    ghost use Rattle.std.specs.Coded.{codes};
+    ghost use Rattle.cm_state.specs.CallCode.{coded_call};
     ghost use Rattle.model_text.specs.Reading as reading;
 
     ghost Value = { reading.Placed };
+
+    ghost coded = { Prim.hlevel (coded_call, codes) };
 
     ghost view = { λ placed. record { line = placed.line; event = placed.event } };
 }

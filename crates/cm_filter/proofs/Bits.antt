@@ -1,5 +1,5 @@
 -- What the code's operations on the bits of a filter stand on.
-use Rattle.std.proofs.Common.{◌≡◌, ℕ, ◌<◌, ◌*◌, ◌%◌, ◌^◌, arith}
+use Rattle.std.proofs.Common.{ℕ, ◌<◌, ◌*◌, ◌%◌, ◌^◌, arith}
 use Rattle.std.specs.Prelude.{bit_or}
 use Rattle.std.proofs.lemmas.Nat.{or_lt, one_shl, pow_below}
 use Rattle.std.proofs.lemmas.Nat.Bits.{shr_and_one}

@@ -1,5 +1,5 @@
 -- The first unknown one among names.
-use Rattle.std.proofs.Common.{◌≡◌, ℕ, suc, ◌+◌, Bool, not, List, [], ◌∷◌, length, map, refl, ap, cond, arith}
+use Rattle.std.proofs.Common.{◌≡◌, suc, ◌+◌, Bool, not, List, [], ◌∷◌, length, map, refl, ap, cond}
 use Rattle.std.specs.Prelude.{position}
 use Rattle.std.specs.List.{prefix_len}
 

@@ -1,6 +1,9 @@
 // The kinds of calls and their names in script lines, one table.
 ghost use Rattle.std.specs.Prelude.{◌≡◌, ◌==◌, ◌<◌, filter, find, length};
 ghost use Rattle.cm_filter.specs.Kinds.{call_kinds, call_name, has_name, kind_named, kind_number};
+ghost use Rattle.cm_filter.specs.Shapes.{shape_of};
+
+use crate::Shape;
 
 /// A kind of call: the call without its arguments. Their order is that of the table.
 #[derive(Clone, Copy, Debug, PartialEq, Eq)]
@@ -65,6 +68,32 @@ impl CallKind {
             CallKind::WriteSetgroups => "write_setgroups",
             CallKind::Exec => "execve",
             CallKind::Exit => "exit",
+        }
+    }
+
+    /// Which arguments a call of the kind has.
+    pub fn shape(self) -> Shape
+        ensures { result ≡ shape_of self }
+    {
+        match self {
+            CallKind::SetUid | CallKind::SetFsUid | CallKind::SetGid | CallKind::SetFsGid => {
+                Shape::OneId
+            }
+            CallKind::SetReUid | CallKind::SetReGid => Shape::TwoIds,
+            CallKind::SetResUid | CallKind::SetResGid => Shape::ThreeIds,
+            CallKind::SetGroups => Shape::ManyIds,
+            CallKind::CapSet => Shape::ThreeSets,
+            CallKind::BsetDrop | CallKind::AmbRaise | CallKind::AmbLower => Shape::OneCap,
+            CallKind::SecureBits | CallKind::KeepCaps | CallKind::NoNewPrivs => Shape::OneNumber,
+            CallKind::SetNs => Shape::OneSpace,
+            CallKind::WriteSetgroups => Shape::SpaceAndWord,
+            CallKind::WriteUidMap | CallKind::WriteGidMap => Shape::SpaceAndMap,
+            CallKind::Exec => Shape::OneFile,
+            CallKind::AmbClear
+            | CallKind::Fork
+            | CallKind::CloneUser
+            | CallKind::Unshare
+            | CallKind::Exit => Shape::Bare,
         }
     }
 

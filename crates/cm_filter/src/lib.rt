@@ -1,12 +1,14 @@
-//! The kinds of the 26 calls: their names in script lines and their order, which stand here once, for the definitions
-//! and for the code; and filters, which are sets of kinds that are excluded. Nothing here takes memory.
+//! The kinds of the 26 calls: their names in script lines, their order and their shapes, which stand here once, for the
+//! definitions and for the code; and filters, which are sets of kinds that are excluded. Nothing here takes memory.
 #![tactic(auto)]
 
 mod filter;
 mod kind;
+mod shape;
 
 pub use filter::{Filter, NoSuchCall};
 pub use kind::CallKind;
+pub use shape::Shape;
 
 #[cfg(test)]
 mod tests;

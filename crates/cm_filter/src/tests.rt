@@ -1,40 +1,46 @@
-use crate::{CallKind, Filter, NoSuchCall};
+use crate::{CallKind, Filter, NoSuchCall, Shape};
 use std::test::Fail;
 
-// The names of the manual pages, but for prctl(2), clone(2), the files of user_namespaces(7), and _exit(2).
-const NAMES: [(CallKind, &str); 26] = [
-    (CallKind::SetUid, "setuid"),
-    (CallKind::SetReUid, "setreuid"),
-    (CallKind::SetResUid, "setresuid"),
-    (CallKind::SetFsUid, "setfsuid"),
-    (CallKind::SetGid, "setgid"),
-    (CallKind::SetReGid, "setregid"),
-    (CallKind::SetResGid, "setresgid"),
-    (CallKind::SetFsGid, "setfsgid"),
-    (CallKind::SetGroups, "setgroups"),
-    (CallKind::CapSet, "capset"),
-    (CallKind::BsetDrop, "bset_drop"),
-    (CallKind::AmbRaise, "amb_raise"),
-    (CallKind::AmbLower, "amb_lower"),
-    (CallKind::AmbClear, "amb_clear"),
-    (CallKind::SecureBits, "securebits"),
-    (CallKind::KeepCaps, "keepcaps"),
-    (CallKind::NoNewPrivs, "no_new_privs"),
-    (CallKind::Fork, "fork"),
-    (CallKind::CloneUser, "clone_user"),
-    (CallKind::Unshare, "unshare"),
-    (CallKind::SetNs, "setns"),
-    (CallKind::WriteUidMap, "write_uid_map"),
-    (CallKind::WriteGidMap, "write_gid_map"),
-    (CallKind::WriteSetgroups, "write_setgroups"),
-    (CallKind::Exec, "execve"),
-    (CallKind::Exit, "exit"),
+// The names of the manual pages, but for prctl(2), clone(2), the files of user_namespaces(7), and _exit(2); and which
+// arguments these pages give the calls, of prctl(2) those after the operation.
+const NAMES: [(CallKind, &str, Shape); 26] = [
+    (CallKind::SetUid, "setuid", Shape::OneId),
+    (CallKind::SetReUid, "setreuid", Shape::TwoIds),
+    (CallKind::SetResUid, "setresuid", Shape::ThreeIds),
+    (CallKind::SetFsUid, "setfsuid", Shape::OneId),
+    (CallKind::SetGid, "setgid", Shape::OneId),
+    (CallKind::SetReGid, "setregid", Shape::TwoIds),
+    (CallKind::SetResGid, "setresgid", Shape::ThreeIds),
+    (CallKind::SetFsGid, "setfsgid", Shape::OneId),
+    (CallKind::SetGroups, "setgroups", Shape::ManyIds),
+    (CallKind::CapSet, "capset", Shape::ThreeSets),
+    (CallKind::BsetDrop, "bset_drop", Shape::OneCap),
+    (CallKind::AmbRaise, "amb_raise", Shape::OneCap),
+    (CallKind::AmbLower, "amb_lower", Shape::OneCap),
+    (CallKind::AmbClear, "amb_clear", Shape::Bare),
+    (CallKind::SecureBits, "securebits", Shape::OneNumber),
+    (CallKind::KeepCaps, "keepcaps", Shape::OneNumber),
+    (CallKind::NoNewPrivs, "no_new_privs", Shape::OneNumber),
+    (CallKind::Fork, "fork", Shape::Bare),
+    (CallKind::CloneUser, "clone_user", Shape::Bare),
+    (CallKind::Unshare, "unshare", Shape::Bare),
+    (CallKind::SetNs, "setns", Shape::OneSpace),
+    (CallKind::WriteUidMap, "write_uid_map", Shape::SpaceAndMap),
+    (CallKind::WriteGidMap, "write_gid_map", Shape::SpaceAndMap),
+    (
+        CallKind::WriteSetgroups,
+        "write_setgroups",
+        Shape::SpaceAndWord,
+    ),
+    (CallKind::Exec, "execve", Shape::OneFile),
+    (CallKind::Exit, "exit", Shape::Bare),
 ];
 
 #[test]
-fn kinds_have_their_names(rt: HostRuntime) {
-    for (kind, name) in NAMES {
+fn kinds_have_their_names_and_shapes(rt: HostRuntime) {
+    for (kind, name, shape) in NAMES {
         assert_eq!(rt; kind.name(), name);
+        assert_eq!(rt; kind.shape(), shape, "{name}");
         assert_eq!(rt; CallKind::from_name(name.as_bytes()), Some(kind));
     }
 }
@@ -64,7 +70,7 @@ fn filters_exclude_the_calls_that_they_name(rt: HostRuntime) -> Result<(), Fail>
         names.push(String::from_str(alloc, name)?)?;
     }
     let filter = Filter::read(&names);
-    for (kind, _) in NAMES {
+    for (kind, _, _) in NAMES {
         let excluded = kind == CallKind::Unshare || kind == CallKind::Exit;
         match filter {
             Ok(filter) => assert_eq!(rt; filter.permits(kind), !excluded),

@@ -8,3 +8,4 @@ pub mod Leaving
 pub mod Families
 pub mod Errors
 pub mod Chains
+pub mod ChildPids

@@ -27,9 +27,13 @@ pub struct Found {
 }
 
 impl Model for Found {
+    ghost use Rattle.std.specs.Coded.{codes};
+    ghost use Rattle.cm_state.specs.CallCode.{coded_call};
     ghost use Rattle.model_plans.specs.PlanRun as model;
 
     ghost Value = { model.Found };
+
+    ghost coded = { Prim.hlevel (coded_call, codes) };
 
     ghost view = { λ f. record { run = f.run.items; holder = f.holder } };
 }

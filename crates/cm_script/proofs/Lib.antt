@@ -7,5 +7,6 @@ pub mod CallNames
 pub mod OwnNumbers
 pub mod OwnArguments
 pub mod OwnWords
+pub mod Putting
 pub mod OwnHex
 pub mod OwnLines

@@ -1,16 +1,16 @@
 -- Arguments that are read one after the other, each as it is written.
-use Rattle.std.proofs.Common.{◌≡◌, ℕ, List, [], ◌∷◌, ◌++◌, map, flat_map, refl, sym, ap, ◌∙◌, append_assoc}
+use Rattle.std.proofs.Common.{◌≡◌, ℕ, List, [], ◌∷◌, ◌++◌, map, flat_map, refl, sym, ap, subst, ◌∙◌, append_assoc}
 use Rattle.std.proofs.lemmas.Grind.{flat_map-append}
 use Rattle.std.proofs.lemmas.List.{map-append}
 use Rattle.std.proofs.lemmas.List.Elements.{All-nil, All-cons, All-append}
 use Rattle.cm_base.specs.CapSet.{full, meet}
-use Rattle.cm_filter.specs.declared.kind.CallKind.TheVariants as kind
+use Rattle.cm_filter.specs.declared.kind.CallKind.{CallKind}
 use Rattle.cm_script.proofs.OwnHex.{set_kept}
 use Rattle.cm_script.specs.Own.{IsOwn, Takes, TakesAll, TakesCall}
-use Rattle.model_cred.specs.Call as model
+use Rattle.model_cred.specs.Call.{Call, kind_of}
 use Rattle.model_cred.specs.IdMap.{Extent}
 use Rattle.model_cred.specs.World.{World}
-use Rattle.model_text.specs.Arguments.{Argument, Id, Set, triple_of, spaced_text, spaced_texts}
+use Rattle.model_text.specs.Arguments.{Argument, Id, Set, arguments_of, triple_of, spaced_text, spaced_texts}
 
 -- none
 pub takes_none : (w : World) (text : List ℕ) → TakesAll w text [] text
@@ -34,15 +34,23 @@ pub takes_three : (w : World) (text mid later rest : List ℕ) (a b c : Argument
     → TakesAll w text (a ∷ b ∷ c ∷ []) rest
 takes_three w text mid later rest a b c one two three = takes_more w text mid rest a (b ∷ c ∷ []) one (takes_two w mid later rest b c two three)
 
--- the sets of a capset, none of which has bits to be dropped
+-- the call of the kind that has them
+pub taken_call : (w : World) (kind : CallKind) (text : List ℕ) (call : Call) (arguments : List Argument) (rest : List ℕ)
+    → kind_of call ≡ kind → arguments_of call ≡ arguments → TakesAll w text arguments rest → TakesCall w kind text call rest
+taken_call w kind text call arguments rest is from all = record {
+  of_kind = is;
+  arguments = subst (λ (list : List Argument). TakesAll w text list rest) (sym from) all;
+}
+
+-- three sets, none of which has bits to be dropped
 pub sets_taken : (w : World) (text mid later rest : List ℕ) (a b c eff prm inh : ℕ) → Takes w text (Set a) mid → Takes w mid (Set b) later
     → Takes w later (Set c) rest → eff ≡ meet a full → prm ≡ meet b full → inh ≡ meet c full
-    → TakesCall w kind.CapSet text (model.CapSet eff prm inh) rest
+    → TakesAll w text (Set eff ∷ Set prm ∷ Set inh ∷ []) rest
 sets_taken w text mid later rest a b c eff prm inh one two three first second third =
     let e : eff ≡ a = first ∙ set_kept a one.own in
     let p : prm ≡ b = second ∙ set_kept b two.own in
     let i : inh ≡ c = third ∙ set_kept c three.own in
-    record { of_kind = refl; arguments = rw (e, p, i) (takes_three w text mid later rest (Set a) (Set b) (Set c) one two three) }
+    rw (e, p, i) (takes_three w text mid later rest (Set a) (Set b) (Set c) one two three)
 
 -- some, and those after them
 pub takes_append : (w : World) (text mid rest : List ℕ) (first second : List Argument) → TakesAll w text first mid → TakesAll w mid second rest

@@ -1,111 +1,79 @@
--- The arguments of a call, as they are read one by one, tell the call of the definitions.
+-- The arguments of a call, as they are read, tell the call of the definitions.
 use Rattle.std.proofs.Common.{◌≡◌, ℕ, suc, ◌+◌, ◌%◌, true, false, List, [], ◌∷◌, length, map, Option, Some, None}
-use Rattle.std.proofs.Common.{Result, Ok, Err, eqb, refl, sym, ap, ◌∙◌, arith, inl, inr}
+use Rattle.std.proofs.Common.{Result, Ok, Err, refl, sym, ap, subst, ◌∙◌, arith, inl, inr}
 use Rattle.std.proofs.lemmas.Bool.{eqb-true}
-use Rattle.std.specs.Prelude.{ok_or, option_map, flat_map}
+use Rattle.std.specs.Prelude.{option_map, flat_map}
 use Rattle.std.specs.Result.{result_map_both}
 use Rattle.cm_base.specs.declared.faults.LineFault.{LineFault}
 use Rattle.cm_base.specs.declared.faults.LineFault.TheVariants as fault
 use Rattle.cm_filter.specs.declared.kind.CallKind.{CallKind}
-use Rattle.cm_filter.specs.declared.kind.CallKind.TheVariants as kind
-use Rattle.model_cred.specs.Call as model
-use Rattle.model_cred.specs.Call.{Call}
+use Rattle.cm_filter.specs.declared.shape.Shape.{Shape}
+use Rattle.cm_filter.specs.declared.shape.Shape.TheVariants.{Bare, ManyIds, SpaceAndMap}
+use Rattle.cm_filter.specs.Shapes.{Form, ANumber, Just, Ids, Triples, arguments_by, pattern_of, shape_of}
+use Rattle.model_cred.specs.Arguments.{Argument, Id, Number, Space, arguments_of, triple_of}
+use Rattle.model_cred.specs.Call.{Call, kind_of}
 use Rattle.model_cred.specs.IdMap.{Extent}
 use Rattle.model_cred.specs.World.{World}
-use Rattle.model_text.proofs.ReadBack.{ids_back, extents_back}
-use Rattle.model_text.specs.Arguments.{Form, AnId, ANumber, ACap, ASet, ASpace, AWord, AFile, Just, Ids, Triples}
-use Rattle.model_text.specs.Arguments.{pattern_of, takes, form_at}
-use Rattle.model_text.specs.Arguments.{Argument, Id, Number, Cap, Set, Space, Word, File, argument_token, call_with}
-use Rattle.model_text.specs.Arguments.{extents_in, triple_of}
-use Rattle.model_text.specs.CapText.{set_of_text}
-use Rattle.model_text.specs.Line.{Tokens, arguments_from, argument_before, call_read, call_told}
+use Rattle.model_text.proofs.ReadBack.{made_call}
+use Rattle.model_text.specs.Arguments.{takes, form_at, argument_token}
+use Rattle.model_text.specs.Line.{Tokens, arguments_from, argument_before, call_told}
 use Rattle.model_text.specs.SpaceToken.{space_of_token}
-use Rattle.model_text.specs.Token.{number_token, id_token, cap_token, word_token, file_token}
+use Rattle.model_text.specs.Token.{number_token, id_token}
 use Rattle.cm_tokens.proofs.Options.{cases_Option}
-use Rattle.cm_script.specs.Steps.{and_then, and_make, taken, next_told, one_told, two_told, three_told, ids_told}
-use Rattle.cm_script.specs.Steps.{extents_told, map_told, told}
+use Rattle.cm_script.specs.Lines.{IsTold}
+use Rattle.cm_script.specs.declared.error.LineError.{LineError}
+use Rattle.cm_script.specs.declared.error.LineError.TheVariants as error
+use Rattle.cm_state.specs.Call.{call_of}
+use Rattle.cm_script.specs.Steps.{and_then, and_make, taken, ids_told, extents_told, read_in}
 
--- ---- calls of a fixed number of arguments
--- the list has another length
-other_length : {P : Type 0} (tokens : Tokens) (n : ℕ) → eqb (length tokens) n ≡ true → (length tokens ≡ n → ⊥) → P
-other_length tokens n is never = absurd (never (eqb-true (length tokens) n is))
+-- ---- the call
+-- Arguments that are read tell the call of the kind that has them; or the fault of one.
+pub told_call : (w : World) (kind : CallKind) (tokens : Tokens) (arguments : List Argument) (call : Call)
+    → arguments_from w (pattern_of kind) 0 tokens ≡ Ok arguments → kind_of call ≡ kind → arguments_of call ≡ arguments
+    → read_in w kind tokens ≡ Ok call
+told_call w kind tokens arguments call read is from = rw (read, made_call kind arguments call is from) refl
 
-one_law : {A : Type 0} (w : World) (kind : CallKind) (form : Form) (read : List ℕ → Option A) (box : A → Argument) (make : A → Call)
-    → ((token : List ℕ) → argument_token w form token ≡ option_map box (read token))
-    → ((a : A) → call_with kind (box a ∷ []) ≡ Some (make a))
-    → (tokens : Tokens) → eqb (length tokens) 1 ≡ true
-    → one_told read make tokens ≡ call_read kind (arguments_from w (Just (form ∷ [])) 0 tokens)
-one_law w kind form read box make reads makes [] is = absurd (cc)
-one_law {A} w kind form read box make reads makes (t ∷ []) is = rw (reads t) (by_first (read t))
-  where
-    by_first : (a : Option A) → and_make (λ (p : A × Tokens). make p.0) (taken a 0 []) ≡ call_read kind (argument_before 1 (option_map box a) (Ok []))
-    by_first None = refl
-    by_first (Some a) = rw (makes a) refl
-one_law w kind form read box make reads makes (t ∷ u ∷ tokens) is = other_length (t ∷ u ∷ tokens) 1 is (λ same. omega (arith, same))
+pub told_fault : (w : World) (kind : CallKind) (tokens : Tokens) (number : ℕ) → arguments_from w (pattern_of kind) 0 tokens ≡ Err number
+    → read_in w kind tokens ≡ Err (fault.Argument number)
+told_fault w kind tokens number read = rw read refl
 
-two_law : {A B : Type 0} (w : World) (kind : CallKind) (form other : Form) (first : List ℕ → Option A) (second : List ℕ → Option B)
-    (box : A → Argument) (wrap : B → Argument) (make : A → B → Call)
-    → ((token : List ℕ) → argument_token w form token ≡ option_map box (first token))
-    → ((token : List ℕ) → argument_token w other token ≡ option_map wrap (second token))
-    → ((a : A) (b : B) → call_with kind (box a ∷ wrap b ∷ []) ≡ Some (make a b))
-    → (tokens : Tokens) → eqb (length tokens) 2 ≡ true
-    → two_told first second make tokens ≡ call_read kind (arguments_from w (Just (form ∷ other ∷ [])) 0 tokens)
-two_law w kind form other first second box wrap make reads others makes [] is = absurd (cc)
-two_law w kind form other first second box wrap make reads others makes (t ∷ []) is = absurd (cc)
-two_law {A} {B} w kind form other first second box wrap make reads others makes (t ∷ u ∷ []) is =
-    rw (reads t, others u) (by_first (first t))
-  where
-    by_second : (a : A) (b : Option B) → and_make (λ (q : B × Tokens). make a q.0) (taken b 1 [])
-        ≡ call_read kind (argument_before 1 (Some (box a)) (argument_before 2 (option_map wrap b) (Ok [])))
-    by_second a None = refl
-    by_second a (Some b) = rw (makes a b) refl
+-- what isn't read of a part with a fault
+pub is_bad : {A B : Type 0} (show : A → B) (why : LineError) (bad : LineFault) (told : Result B LineFault) → why ≡ error.Bad bad → told ≡ Err bad
+    → IsTold show (Err why) told
+is_bad show why bad told is same = rw is same
 
-    by_first : (a : Option A) → and_then (taken a 0 (u ∷ [])) (λ (p : A × Tokens). and_make (λ (q : B × Tokens). make p.0 q.0) (next_told second 1 p.1))
-        ≡ call_read kind (argument_before 1 (option_map box a) (argument_before 2 (option_map wrap (second u)) (Ok [])))
-    by_first None = refl
-    by_first (Some a) = by_second a (second u)
-two_law w kind form other first second box wrap make reads others makes (t ∷ u ∷ v ∷ tokens) is =
-    other_length (t ∷ u ∷ v ∷ tokens) 2 is (λ same. omega (arith, same))
+-- the same of the argument of that number
+pub is_fault : (w : World) (kind : CallKind) (tokens : Tokens) (number : ℕ) (why : LineError) → why ≡ error.Bad (fault.Argument number)
+    → arguments_from w (pattern_of kind) 0 tokens ≡ Err number → IsTold call_of (Err why) (read_in w kind tokens)
+is_fault w kind tokens number why is read = is_bad call_of why (fault.Argument number) (read_in w kind tokens) is (told_fault w kind tokens number read)
 
-three_law : {A : Type 0} (w : World) (kind : CallKind) (form : Form) (read : List ℕ → Option A) (box : A → Argument) (make : A → A → A → Call)
-    → ((token : List ℕ) → argument_token w form token ≡ option_map box (read token))
-    → ((a b c : A) → call_with kind (box a ∷ box b ∷ box c ∷ []) ≡ Some (make a b c))
-    → (tokens : Tokens) → eqb (length tokens) 3 ≡ true
-    → three_told read make tokens ≡ call_read kind (arguments_from w (Just (form ∷ form ∷ form ∷ [])) 0 tokens)
-three_law w kind form read box make reads makes [] is = absurd (cc)
-three_law w kind form read box make reads makes (t ∷ []) is = absurd (cc)
-three_law w kind form read box make reads makes (t ∷ u ∷ []) is = absurd (cc)
-three_law {A} w kind form read box make reads makes (t ∷ u ∷ v ∷ []) is =
-    rw (reads t, reads u, reads v) (by_first (read t))
-  where
-    by_third : (a b : A) (c : Option A) → and_make (λ (r : A × Tokens). make a b r.0) (taken c 2 [])
-        ≡ call_read kind (argument_before 1 (Some (box a)) (argument_before 2 (Some (box b)) (argument_before 3 (option_map box c) (Ok []))))
-    by_third a b None = refl
-    by_third a b (Some c) = rw (makes a b c) refl
+-- ---- a fixed number of arguments
+-- none, where they are as many as a call has that has none
+pub bare_read : (w : World) (kind : CallKind) (tokens : Tokens) → shape_of kind ≡ Bare → takes (pattern_of kind) (length tokens) ≡ true
+    → arguments_from w (pattern_of kind) 0 tokens ≡ Ok []
+bare_read w kind [] shape counted = refl
+bare_read w kind (token ∷ tokens) shape counted =
+    let counts : takes (arguments_by Bare) (length (token ∷ tokens)) ≡ true =
+    subst (λ (s : Shape). takes (arguments_by s) (length (token ∷ tokens)) ≡ true) shape counted in
+    absurd (omega (arith, eqb-true (length (token ∷ tokens)) 0 counts))
 
-    by_second : (a : A) (b : Option A)
-        → and_then (taken b 1 (v ∷ [])) (λ (q : A × Tokens). and_make (λ (r : A × Tokens). make a q.0 r.0) (next_told read 2 q.1))
-        ≡ call_read kind (argument_before 1 (Some (box a)) (argument_before 2 (option_map box b) (argument_before 3 (option_map box (read v)) (Ok []))))
-    by_second a None = refl
-    by_second a (Some b) = by_third a b (read v)
+pub one_read : (w : World) (kind : CallKind) (tokens : Tokens) (form : Form) (t : List ℕ) (first : Option Argument)
+    → pattern_of kind ≡ Just (form ∷ []) → tokens ≡ t ∷ [] → argument_token w form t ≡ first
+    → arguments_from w (pattern_of kind) 0 tokens ≡ argument_before 1 first (Ok [])
+one_read w kind tokens form t first pattern are read = rw (pattern, are, read) refl
 
-    by_first : (a : Option A)
-        → and_then (taken a 0 (u ∷ v ∷ [])) (λ (p : A × Tokens).
-        and_then (next_told read 1 p.1) (λ (q : A × Tokens).
-        and_make (λ (r : A × Tokens). make p.0 q.0 r.0) (next_told read 2 q.1)))
-        ≡ call_read kind
-        (argument_before 1 (option_map box a)
-        (argument_before 2 (option_map box (read u)) (argument_before 3 (option_map box (read v)) (Ok []))))
-    by_first None = refl
-    by_first (Some a) = by_second a (read u)
-three_law w kind form read box make reads makes (t ∷ u ∷ v ∷ x ∷ tokens) is =
-    other_length (t ∷ u ∷ v ∷ x ∷ tokens) 3 is (λ same. omega (arith, same))
+pub two_read : (w : World) (kind : CallKind) (tokens : Tokens) (form other : Form) (t u : List ℕ) (first second : Option Argument)
+    → pattern_of kind ≡ Just (form ∷ other ∷ []) → tokens ≡ t ∷ u ∷ []
+    → argument_token w form t ≡ first → argument_token w other u ≡ second
+    → arguments_from w (pattern_of kind) 0 tokens ≡ argument_before 1 first (argument_before 2 second (Ok []))
+two_read w kind tokens form other t u first second pattern are read next = rw (pattern, are, read, next) refl
 
--- a call without arguments
-none_law : (w : World) (kind : CallKind) (call : Call) → call_with kind [] ≡ Some call → (tokens : Tokens) → eqb (length tokens) 0 ≡ true
-    → Ok call ≡ call_read kind (arguments_from w (Just []) 0 tokens)
-none_law w kind call makes [] is = rw makes refl
-none_law w kind call makes (t ∷ tokens) is = other_length (t ∷ tokens) 0 is (λ same. omega (arith, same))
+pub three_read : (w : World) (kind : CallKind) (tokens : Tokens) (form : Form) (t u v : List ℕ) (first second third : Option Argument)
+    → pattern_of kind ≡ Just (form ∷ form ∷ form ∷ []) → tokens ≡ t ∷ u ∷ v ∷ []
+    → argument_token w form t ≡ first → argument_token w form u ≡ second → argument_token w form v ≡ third
+    → arguments_from w (pattern_of kind) 0 tokens
+    ≡ argument_before 1 first (argument_before 2 second (argument_before 3 third (Ok [])))
+three_read w kind tokens form t u v first second third pattern are read next last = rw (pattern, are, read, next, last) refl
 
 -- ---- ids
 -- the ids, as arguments
@@ -115,6 +83,17 @@ as_ids told = and_make (map Id) told
 -- arguments, or the fault of the one that has that number
 as_told : Result (List Argument) ℕ → Result (List Argument) LineFault
 as_told read = result_map_both (λ arguments. arguments) fault.Argument read
+
+-- arguments that are read so
+told_ok : (read : Result (List Argument) ℕ) (arguments : List Argument) → Ok arguments ≡ as_told read → read ≡ Ok arguments
+unfolding as_told
+told_ok (Ok others) arguments same = let e : arguments ≡ others = cc in ap Ok (sym e)
+told_ok (Err n) arguments same = absurd (cc)
+
+told_err : (read : Result (List Argument) ℕ) (why : LineFault) → Err why ≡ as_told read → (n : ℕ) × (read ≡ Err n) × (why ≡ fault.Argument n)
+unfolding as_told
+told_err (Ok others) why same = absurd (cc)
+told_err (Err n) why same = (n, refl, cc)
 
 -- one id more in front of ids that are read so
 id_before : (place id : ℕ) (told : Result (List ℕ) LineFault) (read : Result (List Argument) ℕ) → as_ids told ≡ as_told read
@@ -137,18 +116,28 @@ ids_from w place (t ∷ tokens) = by_first (id_token t) (ids_from w (place + 1) 
     by_first (Some id) rest = id_before place id (ids_told (place + 1) tokens) (arguments_from w Ids (place + 1) tokens) rest
 
 -- the call of ids that are read so
-ids_made : (told : Result (List ℕ) LineFault) (read : Result (List Argument) ℕ) → as_ids told ≡ as_told read
-    → and_make model.SetGroups told ≡ call_read kind.SetGroups read
-unfolding as_ids as_told
-ids_made (Ok ids) (Ok arguments) same =
-    let are : map Id ids ≡ arguments = cc in
-    rw (sym are) (ap (λ (found : Option (List ℕ)). ok_or (option_map model.SetGroups found) fault.Count) (sym (ids_back ids)))
-ids_made (Ok ids) (Err n) same = absurd (cc)
-ids_made (Err why) (Ok arguments) same = absurd (cc)
-ids_made (Err why) (Err n) same = let are : why ≡ fault.Argument n = cc in ap Err are
+pub list_call : (w : World) (kind : CallKind) (tokens : Tokens) (ids : List ℕ) (call : Call) → shape_of kind ≡ ManyIds
+    → ids_told 0 tokens ≡ Ok ids → kind_of call ≡ kind → arguments_of call ≡ map Id ids → read_in w kind tokens ≡ Ok call
+unfolding as_ids
+list_call w kind tokens ids call shape told is from =
+    let read : arguments_from w Ids 0 tokens ≡ Ok (map Id ids) =
+    told_ok (arguments_from w Ids 0 tokens) (map Id ids) (sym (ap (and_make (map Id)) told) ∙ ids_from w 0 tokens) in
+    told_call w kind tokens (map Id ids) call (ap (λ pattern. arguments_from w pattern 0 tokens) (ap arguments_by shape) ∙ read) is from
 
-groups_law : (w : World) (tokens : Tokens) → and_make model.SetGroups (ids_told 0 tokens) ≡ call_read kind.SetGroups (arguments_from w Ids 0 tokens)
-groups_law w tokens = ids_made (ids_told 0 tokens) (arguments_from w Ids 0 tokens) (ids_from w 0 tokens)
+pub list_fault : (w : World) (kind : CallKind) (tokens : Tokens) (why : LineFault) → shape_of kind ≡ ManyIds
+    → ids_told 0 tokens ≡ Err why → read_in w kind tokens ≡ Err why
+unfolding as_ids
+list_fault w kind tokens why shape told =
+    let found = told_err (arguments_from w Ids 0 tokens) why (sym (ap (and_make (map Id)) told) ∙ ids_from w 0 tokens) in
+    told_fault w kind tokens found.0 (ap (λ pattern. arguments_from w pattern 0 tokens) (ap arguments_by shape) ∙ found.1)
+    ∙ ap Err (sym found.2)
+
+-- what wasn't read of them
+pub list_untold : {A : Type 0} (show : A → List ℕ) (w : World) (kind : CallKind) (tokens : Tokens) (why : LineError) → shape_of kind ≡ ManyIds
+    → IsTold show (Err why) (ids_told 0 tokens) → IsTold call_of (Err why) (read_in w kind tokens)
+list_untold show w kind tokens (error.Bad why) shape told = list_fault w kind tokens why shape told
+list_untold show w kind tokens (error.Limit limit) shape told = told
+list_untold show w kind tokens error.NoMemory shape told = tt
 
 -- ---- extents
 -- the extents, as arguments
@@ -206,92 +195,50 @@ extents_from w p (a ∷ b ∷ c ∷ tokens) even =
       ]
     ])
 
--- the call of extents that are read so
-extents_made : (make : ℕ → List Extent → Call) (space : ℕ) (told : Result (List Extent) LineFault) (read : Result (List Argument) ℕ)
-    → as_triples told ≡ as_told read
-    → (kind : CallKind) → ((arguments : List Argument) → call_with kind (Space space ∷ arguments) ≡ option_map (make space) (extents_in arguments))
-    → and_make (make space) told ≡ call_read kind (argument_before 1 (Some (Space space)) read)
-unfolding as_triples as_told
-extents_made make space (Ok list) (Ok arguments) same kind makes =
-    let are : flat_map triple_of list ≡ arguments = cc in
-    rw (makes arguments, sym are, extents_back list) refl
-extents_made make space (Ok list) (Err n) same kind makes = absurd (cc)
-extents_made make space (Err why) (Ok arguments) same kind makes = absurd (cc)
-extents_made make space (Err why) (Err n) same kind makes = let are : why ≡ fault.Argument n = cc in ap Err are
+-- the call of a space, and of extents that are read so
+module _ (w : World) (kind : CallKind) (tokens : Tokens) (t : List ℕ) (more : Tokens) (shape : shape_of kind ≡ SpaceAndMap)
+    (counted : takes (pattern_of kind) (length tokens) ≡ true) (are : tokens ≡ t ∷ more) where
+  by_map : (read : Result (List Argument) ℕ) (space : Option ℕ) → space_of_token w.names t ≡ space → arguments_from w Triples 1 more ≡ read
+      → arguments_from w (pattern_of kind) 0 tokens ≡ argument_before 1 (option_map Space space) read
+  by_map read space spaced same =
+      ap (λ pattern. arguments_from w pattern 0 tokens) (ap arguments_by shape) ∙ ap (λ all. arguments_from w Triples 0 all) are ∙ rw (spaced, same) refl
 
-map_law : (w : World) (kind : CallKind) (make : ℕ → List Extent → Call)
-    → ((space : ℕ) (arguments : List Argument) → call_with kind (Space space ∷ arguments) ≡ option_map (make space) (extents_in arguments))
-    → (tokens : Tokens) → eqb (length tokens % 3) 1 ≡ true
-    → map_told w.names make tokens ≡ call_read kind (arguments_from w Triples 0 tokens)
-map_law w kind make makes [] is = absurd (cc)
-map_law w kind make makes (t ∷ tokens) is = by_first (space_of_token w.names t)
-  where
-    after : (space : ℕ) → and_make (make space) (extents_told 1 tokens)
-        ≡ call_read kind (argument_before 1 (Some (Space space)) (arguments_from w Triples 1 tokens))
-    after space =
-        let one : length (t ∷ tokens) % 3 ≡ 1 = eqb-true (length (t ∷ tokens) % 3) 1 is in
-        extents_made make space (extents_told 1 tokens) (arguments_from w Triples 1 tokens)
-        (extents_from w 0 tokens (omega (arith, one))) kind (makes space)
+  whole : length more % 3 ≡ 0
+  whole =
+      let one : length (t ∷ more) % 3 ≡ 1 =
+      eqb-true (length (t ∷ more) % 3) 1
+      (ap (λ all. takes Triples (length all)) (sym are) ∙ ap (λ pattern. takes pattern (length tokens)) (sym (ap arguments_by shape)) ∙ counted) in
+      omega (arith, one)
 
-    by_first : (space : Option ℕ) → and_then (taken space 0 tokens) (λ (p : ℕ × Tokens). and_make (make p.0) (extents_told 1 p.1))
-        ≡ call_read kind (argument_before 1 (option_map Space space) (arguments_from w Triples 1 tokens))
-    by_first None = refl
-    by_first (Some space) = after space
+  pub map_call : (space : ℕ) (list : List Extent) (call : Call) → space_of_token w.names t ≡ Some space → extents_told 1 more ≡ Ok list
+      → kind_of call ≡ kind → arguments_of call ≡ Space space ∷ flat_map triple_of list → read_in w kind tokens ≡ Ok call
+  unfolding as_triples
+  map_call space list call spaced told is from =
+      let read : arguments_from w Triples 1 more ≡ Ok (flat_map triple_of list) =
+      told_ok (arguments_from w Triples 1 more) (flat_map triple_of list) (sym (ap (and_make (flat_map triple_of)) told) ∙ extents_from w 0 more whole) in
+      told_call w kind tokens (Space space ∷ flat_map triple_of list) call (by_map (Ok (flat_map triple_of list)) (Some space) spaced read) is from
 
--- ---- each call
--- As many arguments as a call of the kind may have tell, one by one, the call of the definitions.
-pub told_law : (w : World) (kind : CallKind) (tokens : Tokens) → takes (pattern_of kind) (length tokens) ≡ true
-    → told w kind tokens ≡ call_read kind (arguments_from w (pattern_of kind) 0 tokens)
-told_law w kind.SetUid tokens is =
-    one_law w kind.SetUid AnId id_token Id model.SetUid (λ token. refl) (λ a. refl) tokens is
-told_law w kind.SetReUid tokens is =
-    two_law w kind.SetReUid AnId AnId id_token id_token Id Id model.SetReUid (λ token. refl) (λ token. refl) (λ a b. refl) tokens is
-told_law w kind.SetResUid tokens is =
-    three_law w kind.SetResUid AnId id_token Id model.SetResUid (λ token. refl) (λ a b c. refl) tokens is
-told_law w kind.SetFsUid tokens is =
-    one_law w kind.SetFsUid AnId id_token Id model.SetFsUid (λ token. refl) (λ a. refl) tokens is
-told_law w kind.SetGid tokens is =
-    one_law w kind.SetGid AnId id_token Id model.SetGid (λ token. refl) (λ a. refl) tokens is
-told_law w kind.SetReGid tokens is =
-    two_law w kind.SetReGid AnId AnId id_token id_token Id Id model.SetReGid (λ token. refl) (λ token. refl) (λ a b. refl) tokens is
-told_law w kind.SetResGid tokens is =
-    three_law w kind.SetResGid AnId id_token Id model.SetResGid (λ token. refl) (λ a b c. refl) tokens is
-told_law w kind.SetFsGid tokens is =
-    one_law w kind.SetFsGid AnId id_token Id model.SetFsGid (λ token. refl) (λ a. refl) tokens is
-told_law w kind.SetGroups tokens is = groups_law w tokens
-told_law w kind.CapSet tokens is =
-    three_law w kind.CapSet ASet set_of_text Set model.CapSet (λ token. refl) (λ a b c. refl) tokens is
-told_law w kind.BsetDrop tokens is =
-    one_law w kind.BsetDrop ACap cap_token Cap model.BsetDrop (λ token. refl) (λ a. refl) tokens is
-told_law w kind.AmbRaise tokens is =
-    one_law w kind.AmbRaise ACap cap_token Cap model.AmbRaise (λ token. refl) (λ a. refl) tokens is
-told_law w kind.AmbLower tokens is =
-    one_law w kind.AmbLower ACap cap_token Cap model.AmbLower (λ token. refl) (λ a. refl) tokens is
-told_law w kind.AmbClear tokens is = none_law w kind.AmbClear model.AmbClear refl tokens is
-told_law w kind.SecureBits tokens is =
-    one_law w kind.SecureBits ANumber number_token Number model.SecureBits (λ token. refl) (λ a. refl) tokens is
-told_law w kind.KeepCaps tokens is =
-    one_law w kind.KeepCaps ANumber number_token Number model.KeepCaps (λ token. refl) (λ a. refl) tokens is
-told_law w kind.NoNewPrivs tokens is =
-    one_law w kind.NoNewPrivs ANumber number_token Number model.NoNewPrivs (λ token. refl) (λ a. refl) tokens is
-told_law w kind.Fork tokens is = none_law w kind.Fork model.Fork refl tokens is
-told_law w kind.CloneUser tokens is = none_law w kind.CloneUser model.CloneUser refl tokens is
-told_law w kind.Unshare tokens is = none_law w kind.Unshare model.Unshare refl tokens is
-told_law w kind.SetNs tokens is =
-    one_law w kind.SetNs ASpace (space_of_token w.names) Space model.SetNs (λ token. refl) (λ a. refl) tokens is
-told_law w kind.WriteUidMap tokens is = map_law w kind.WriteUidMap model.WriteUidMap (λ space arguments. refl) tokens is
-told_law w kind.WriteGidMap tokens is = map_law w kind.WriteGidMap model.WriteGidMap (λ space arguments. refl) tokens is
-told_law w kind.WriteSetgroups tokens is =
-    two_law w kind.WriteSetgroups ASpace AWord (space_of_token w.names) word_token Space Word model.WriteSetgroups
-    (λ token. refl) (λ token. refl) (λ a b. refl) tokens is
-told_law w kind.Exec tokens is =
-    one_law w kind.Exec AFile (file_token w.files) File model.Exec (λ token. refl) (λ a. refl) tokens is
-told_law w kind.Exit tokens is = none_law w kind.Exit model.Exit refl tokens is
+  pub space_fault : space_of_token w.names t ≡ None → read_in w kind tokens ≡ Err (fault.Argument 1)
+  space_fault spaced = told_fault w kind tokens 1 (by_map (arguments_from w Triples 1 more) None spaced refl)
 
+  pub map_fault : (space : ℕ) (why : LineFault) → space_of_token w.names t ≡ Some space → extents_told 1 more ≡ Err why
+      → read_in w kind tokens ≡ Err why
+  unfolding as_triples
+  map_fault space why spaced told =
+      let found = told_err (arguments_from w Triples 1 more) why (sym (ap (and_make (flat_map triple_of)) told) ∙ extents_from w 0 more whole) in
+      told_fault w kind tokens found.0 (by_map (Err found.0) (Some space) spaced found.1) ∙ ap Err (sym found.2)
+
+  pub map_untold : {A : Type 0} (show : A → List Extent) (space : ℕ) (why : LineError) → space_of_token w.names t ≡ Some space
+      → IsTold show (Err why) (extents_told 1 more) → IsTold call_of (Err why) (read_in w kind tokens)
+  map_untold show space (error.Bad why) spaced told = map_fault space why spaced told
+  map_untold show space (error.Limit limit) spaced told = told
+  map_untold show space error.NoMemory spaced told = tt
+
+-- ---- the counts
 -- the same of the call that a line's arguments tell, and where they are another number
 pub told_counted : (w : World) (kind : CallKind) (tokens : Tokens) → takes (pattern_of kind) (length tokens) ≡ true
-    → call_told w kind tokens ≡ told w kind tokens
-told_counted w kind tokens is = rw is (sym (told_law w kind tokens is))
+    → call_told w kind tokens ≡ read_in w kind tokens
+told_counted w kind tokens is = rw is refl
 
 pub told_miscounted : (w : World) (kind : CallKind) (tokens : Tokens) → takes (pattern_of kind) (length tokens) ≡ false
     → call_told w kind tokens ≡ Err fault.Count

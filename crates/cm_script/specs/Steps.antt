@@ -1,20 +1,17 @@
--- The parts after a call's name, as they are read from left to right: the arguments up to the first `=`, one by one, each by
--- the reader of its form, and the result. The lemmas of `proofs` tie these words to those of the definitions.
+-- The parts after a call's name, as they are read from left to right: the arguments up to the first `=`, lists of them one
+-- by one, and the result. The lemmas of `proofs` tie these words to those of the definitions.
 use Rattle.std.specs.Prelude.{ℕ, ◌+◌, List, [], ◌∷◌, Option, Some, None, Result, Ok, Err, if◌then◌else◌}
 use Rattle.std.specs.Result.{result_map_both}
 use Rattle.cm_base.specs.declared.faults.LineFault.{LineFault}
 use Rattle.cm_base.specs.declared.faults.LineFault.TheVariants as fault
 use Rattle.cm_filter.specs.declared.kind.CallKind.{CallKind}
-use Rattle.cm_filter.specs.declared.kind.CallKind.TheVariants as kind
-use Rattle.model_cred.specs.Call as model
+use Rattle.cm_filter.specs.Shapes.{pattern_of}
 use Rattle.model_cred.specs.Call.{Call}
 use Rattle.model_cred.specs.IdMap.{Extent}
 use Rattle.model_cred.specs.World.{World}
-use Rattle.model_text.specs.CapText.{set_of_text}
 use Rattle.model_text.specs.Cut.{tokens_of}
-use Rattle.model_text.specs.Line.{Tokens}
-use Rattle.model_text.specs.SpaceToken.{space_of_token}
-use Rattle.model_text.specs.Token.{number_token, id_token, cap_token, word_token, file_token, is_equals}
+use Rattle.model_text.specs.Line.{Tokens, arguments_from, call_read}
+use Rattle.model_text.specs.Token.{number_token, id_token, is_equals}
 
 -- ---- the two parts
 -- the tokens before the first `=`
@@ -56,19 +53,6 @@ abbrev pub next_told : {A : Type 0} → (List ℕ → Option A) → ℕ → Toke
 next_told read place [] = Err (fault.Argument (place + 1))
 next_told read place (token ∷ tokens) = taken (read token) place tokens
 
--- a call of one argument, of two, of three of one form
-abbrev pub one_told : {A : Type 0} → (List ℕ → Option A) → (A → Call) → Tokens → Result Call LineFault
-one_told read make tokens = and_make (λ a. make a.0) (next_told read 0 tokens)
-
-abbrev pub two_told : {A B : Type 0} → (List ℕ → Option A) → (List ℕ → Option B) → (A → B → Call) → Tokens → Result Call LineFault
-two_told first second make tokens = and_then (next_told first 0 tokens) (λ a. and_make (λ b. make a.0 b.0) (next_told second 1 a.1))
-
-abbrev pub three_told : {A : Type 0} → (List ℕ → Option A) → (A → A → A → Call) → Tokens → Result Call LineFault
-three_told read make tokens =
-    and_then (next_told read 0 tokens) (λ a.
-    and_then (next_told read 1 a.1) (λ b.
-    and_make (λ c. make a.0 b.0 c.0) (next_told read 2 b.1)))
-
 -- the ids of arguments, the first being that at the place
 abbrev pub ids_told : ℕ → Tokens → Result (List ℕ) LineFault
 ids_told place [] = Ok []
@@ -95,35 +79,6 @@ extents_told place (a ∷ b ∷ c ∷ tokens) =
 extents_told place tokens = and_make (λ e. e.0 ∷ []) (extent_told place tokens)
 
 -- ---- the calls
--- a call of a space and extents
-abbrev pub map_told : List (List ℕ) → (ℕ → List Extent → Call) → Tokens → Result Call LineFault
-map_told names make tokens = and_then (next_told (space_of_token names) 0 tokens) (λ s. and_make (make s.0) (extents_told 1 s.1))
-
--- the call of that kind, by arguments of which it has as many as they are
-abbrev pub told : World → CallKind → Tokens → Result Call LineFault
-told w kind.SetUid tokens = one_told id_token model.SetUid tokens
-told w kind.SetReUid tokens = two_told id_token id_token model.SetReUid tokens
-told w kind.SetResUid tokens = three_told id_token model.SetResUid tokens
-told w kind.SetFsUid tokens = one_told id_token model.SetFsUid tokens
-told w kind.SetGid tokens = one_told id_token model.SetGid tokens
-told w kind.SetReGid tokens = two_told id_token id_token model.SetReGid tokens
-told w kind.SetResGid tokens = three_told id_token model.SetResGid tokens
-told w kind.SetFsGid tokens = one_told id_token model.SetFsGid tokens
-told w kind.SetGroups tokens = and_make model.SetGroups (ids_told 0 tokens)
-told w kind.CapSet tokens = three_told set_of_text model.CapSet tokens
-told w kind.BsetDrop tokens = one_told cap_token model.BsetDrop tokens
-told w kind.AmbRaise tokens = one_told cap_token model.AmbRaise tokens
-told w kind.AmbLower tokens = one_told cap_token model.AmbLower tokens
-told w kind.AmbClear tokens = Ok model.AmbClear
-told w kind.SecureBits tokens = one_told number_token model.SecureBits tokens
-told w kind.KeepCaps tokens = one_told number_token model.KeepCaps tokens
-told w kind.NoNewPrivs tokens = one_told number_token model.NoNewPrivs tokens
-told w kind.Fork tokens = Ok model.Fork
-told w kind.CloneUser tokens = Ok model.CloneUser
-told w kind.Unshare tokens = Ok model.Unshare
-told w kind.SetNs tokens = one_told (space_of_token w.names) model.SetNs tokens
-told w kind.WriteUidMap tokens = map_told w.names model.WriteUidMap tokens
-told w kind.WriteGidMap tokens = map_told w.names model.WriteGidMap tokens
-told w kind.WriteSetgroups tokens = two_told (space_of_token w.names) word_token model.WriteSetgroups tokens
-told w kind.Exec tokens = one_told (file_token w.files) model.Exec tokens
-told w kind.Exit tokens = Ok model.Exit
+-- the call of that kind that the arguments tell, where they are as many as a call of the kind may have
+abbrev pub read_in : World → CallKind → Tokens → Result Call LineFault
+read_in w kind tokens = call_read kind (arguments_from w (pattern_of kind) 0 tokens)

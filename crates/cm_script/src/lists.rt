@@ -1,9 +1,9 @@
 // The arguments of the calls that have a list: ids of groups, and triples of numbers of a map. A list is read in one pass.
 ghost use Rattle.std.specs.Prelude.{◌≡◌, ◌+◌, ◌<◌, ◌≤◌, IfOk, IfSome, length, option_map};
 ghost use Rattle.cm_script.specs.Lines.{IsTold};
-ghost use Rattle.cm_script.specs.Steps.{arguments_in, and_make, ids_told, extent_or_end, extents_told};
+ghost use Rattle.cm_script.specs.Steps.{arguments_in, and_make, next_told, ids_told, extent_or_end, extents_told};
+ghost use Rattle.model_text.specs.Token.{number_token};
 
-use crate::arguments::next_number;
 use crate::error::LineError;
 use crate::parts::next_argument;
 use cm_base::LineFault;
@@ -71,4 +71,19 @@ fn next_extent(text: &[u8], place: u32) -> Result<Option<(Extent, &[u8])>, LineF
         length,
     };
     Ok(Some((extent, rest)))
+}
+
+// The number that the next argument tells, and what follows it.
+fn next_number(text: &[u8], place: u32) -> Result<(u32, &[u8]), LineFault>
+    requires { place < 4294967295 }
+    ensures told { and_make (λ p. (p.0, arguments_in p.1.now)) result ≡ next_told number_token place (arguments_in text.now) }
+    ensures shorter { IfOk result (λ p. length p.1.now < length text.now) }
+{
+    let Some((token, rest)) = next_argument(text) else {
+        return Err(LineFault::Argument(place + 1));
+    };
+    match read_number(token) {
+        Some(number) => Ok((number, rest)),
+        None => Err(LineFault::Argument(place + 1)),
+    }
 }

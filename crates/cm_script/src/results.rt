@@ -1,8 +1,9 @@
 // The result of a call in a script line, which its last token tells.
-ghost use Rattle.std.specs.Prelude.{◌≡◌, option_map};
+ghost use Rattle.std.specs.Prelude.{◌≡◌, IfSome, option_map};
 ghost use Rattle.cm_base.specs.Names.{errno_of};
 ghost use Rattle.model_text.specs.Line.{result_of_kind};
-ghost use Rattle.model_text.specs.Token.{birth_token, done_token, old_id_token, result_token};
+ghost use Rattle.model_text.specs.Token.{birth_token, done_token, old_id_token, res_text, result_token};
+ghost use Rattle.model_text.specs.Written.{IsBirth, IsOutcome};
 
 use cm_base::{Errno, Res, read_u32};
 use cm_filter::CallKind;
@@ -58,8 +59,13 @@ fn read_done(token: &[u8]) -> Option<Res>
     }
 }
 
-fn read_error(token: &[u8]) -> Option<Res>
-    ensures { result ≡ option_map Res.Err (errno_of token.now) }
+/// An error by its name. What is read is written so again, and is a result of calls and of births.
+#[tactic(auto, using(crate::proofs::OwnWords::error_is_named))]
+pub(crate) fn read_error(token: &[u8]) -> Option<Res>
+    ensures named { result ≡ option_map Res.Err (errno_of token.now) }
+    ensures written { IfSome result (λ res. res_text res ≡ token.now) }
+    ensures outcome { IfSome result (λ res. IsOutcome res) }
+    ensures birth { IfSome result (λ res. IsBirth res) }
 {
     let error = Errno::from_name(token)?;
     Some(Res::Err(error))

@@ -1,5 +1,6 @@
 -- How the code's types show themselves as those of the definitions.
 pub mod Call
+pub mod CallCode
 pub mod Places
 pub mod Right
 pub use Rattle.model_cred.specs.IdMap

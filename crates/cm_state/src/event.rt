@@ -12,10 +12,14 @@ pub struct Event {
 }
 
 impl Model for Event {
+    ghost use Rattle.std.specs.Coded.{codes};
     ghost use Rattle.model_cred.specs.Call as model;
     ghost use Rattle.cm_state.specs.Call.{call_of};
+    ghost use Rattle.cm_state.specs.CallCode.{coded_call};
 
     ghost Value = { model.Event };
+
+    ghost coded = { Prim.hlevel (coded_call, codes) };
 
     ghost view = { λ e. record { pid = e.pid; call = call_of e.call; res = e.res } };
 }

@@ -12,6 +12,7 @@ mod extents;
 mod four_ids;
 mod groups;
 mod ids;
+mod made;
 mod mapped;
 mod proc;
 mod procs;

@@ -41,7 +41,7 @@ changed change (Refused why) = Refused why
 changed change (Exceeds limit) = Exceeds limit
 
 -- ---- calls and births
-after_without : (own pid : ℕ) (call : Call) (answer : Res) (p : Parts)
+pub after_without : (own pid : ℕ) (call : Call) (answer : Res) (p : Parts)
     → after_call pid call answer (without_kept own p) ≡ without_kept own (after_call pid call answer p)
 after_without own pid model.Unshare res.Done p = refl
 after_without own pid (model.SetNs space) res.Done p = refl

@@ -34,10 +34,14 @@ pub struct Fed {
 }
 
 impl Model for Fed {
+    ghost use Rattle.std.specs.Coded.{codes};
+    ghost use Rattle.cm_state.specs.CallCode.{coded_call};
     ghost use Rattle.cm_strace.specs.Answers.{ending_is};
     ghost use Rattle.model_text.specs.Reading as reading;
 
     ghost Value = { reading.Reading };
+
+    ghost coded = { Prim.hlevel (coded_call, codes) };
 
     ghost view = { λ fed. record { events = fed.events.items; ending = ending_is fed.stop } };
 }

@@ -1,64 +1,135 @@
 -- The calls that set ids, by their arguments one after the other.
-use Rattle.std.proofs.Common.{◌≡◌, ℕ, List, [], ◌∷◌, refl, inl, inr}
+use Rattle.std.proofs.Common.{◌≡◌, ℕ, ◌+◌, true, false, take, length, List, [], ◌∷◌, Option, Some, None, Result, Ok, Err}
+use Rattle.std.proofs.Common.{IsTrue, refl, sym, ◌∙◌, ap, subst, inl, inr}
+use Rattle.std.specs.Prelude.{is_none, option_map, ok_or}
+use Rattle.cm_base.specs.declared.faults.LineFault.{LineFault}
+use Rattle.cm_base.specs.declared.faults.LineFault.TheVariants as fault
 use Rattle.cm_tokens.proofs.Options.{cases_Option}
 use Rattle.cm_filter.specs.declared.kind.CallKind.{CallKind}
-use Rattle.cm_strace_calls.specs.Told.{and_make, then_read}
-use Rattle.model_cred.specs.Call.{Call}
+use Rattle.cm_filter.specs.declared.shape.Shape.{Shape}
+use Rattle.cm_filter.specs.declared.shape.Shape.TheVariants.{OneId, TwoIds, ThreeIds}
+use Rattle.cm_filter.specs.Shapes.{Pattern, arguments_by, pattern_of, shape_of}
+use Rattle.cm_strace_calls.specs.Made.{has_ids}
+use Rattle.cm_strace_calls.specs.Told.{then_read}
+use Rattle.model_cred.specs.Arguments.{Argument, Id, arguments_of, carried_in}
+use Rattle.model_cred.specs.Call.{Call, kind_of}
 use Rattle.model_cred.specs.World.{World}
-use Rattle.model_strace.specs.Calls.{ids_read, read_argument}
-use Rattle.model_text.specs.Arguments.{Argument, Just, AnId, pattern_of, call_with, with_id, with_two_ids, with_three_ids}
+use Rattle.model_strace.specs.Calls.{argument_count, ids_call, ids_read, read_argument}
+use Rattle.model_text.proofs.ReadBack.{made_call}
+use Rattle.model_text.specs.Line.{arguments_from}
 use Rattle.model_text.specs.Token.{id_token}
 
+-- the call of ids
+abbrev pub made : CallKind → List Argument → Result Call LineFault
+made kind ids = ids_call kind (Ok ids)
+
+-- what is read of arguments of a pattern
+abbrev read_by : World → List (List ℕ) → Pattern → Result (List Argument) ℕ
+read_by w arguments pattern = arguments_from w pattern 0 (take (argument_count pattern) arguments)
+
+-- nothing is made where one is missing
+none_made : {A : Type 0} (f : A → Call) (carried : Option A) (why : LineFault) → is_none carried ≡ true
+    → ok_or (option_map f carried) why ≡ Err why
+none_made f None why none = refl
+none_made f (Some x) why none = absurd (cc)
+
+lacks : (kind : CallKind) (ids : List Argument) → is_none (carried_in (pattern_of kind) ids) ≡ true
+    → made kind ids ≡ Err (fault.Argument (length ids + 1))
+lacks kind ids none =
+    none_made (λ carried. (kind, carried)) (carried_in (pattern_of kind) ids) (fault.Argument (length ids + 1)) none
+
 -- a call of one id
-pub one : (w : World) (kind : CallKind) (make : ℕ → Call) (arguments : List (List ℕ)) → pattern_of kind ≡ Just (AnId ∷ [])
-    → ((ids : List Argument) → call_with kind ids ≡ with_id make ids)
-    → ids_read w kind arguments ≡ and_make make (read_argument id_token 1 arguments)
-one w kind make [] pattern call = rw (pattern, call) refl
-one w kind make (a ∷ more) pattern call =
-    elim (cases_Option (id_token a)) [ inl none ↦ rw (pattern, none) refl | inr n ↦ rw (pattern, n.1, call) refl ]
+one : (w : World) (kind : CallKind) (arguments : List (List ℕ)) → shape_of kind ≡ OneId
+    → ids_read w kind arguments ≡ then_read (read_argument id_token 1 arguments) (λ a. made kind (Id a ∷ []))
+one w kind [] shape =
+    ap (λ s. ids_call kind (read_by w [] (arguments_by s))) shape ∙ lacks kind [] (rw shape refl)
+one w kind (a ∷ more) shape =
+    ap (λ s. ids_call kind (read_by w (a ∷ more) (arguments_by s))) shape
+    ∙ elim (cases_Option (id_token a)) [ inl none ↦ rw none refl | inr n ↦ rw n.1 refl ]
 
 -- a call of two ids
-pub two : (w : World) (kind : CallKind) (make : ℕ → ℕ → Call) (arguments : List (List ℕ))
-    → pattern_of kind ≡ Just (AnId ∷ AnId ∷ []) → ((ids : List Argument) → call_with kind ids ≡ with_two_ids make ids)
+two : (w : World) (kind : CallKind) (arguments : List (List ℕ)) → shape_of kind ≡ TwoIds
     → ids_read w kind arguments
-    ≡ then_read (read_argument id_token 1 arguments) (λ a. and_make (make a) (read_argument id_token 2 arguments))
-two w kind make [] pattern call = rw (pattern, call) refl
-two w kind make (a ∷ []) pattern call =
-    elim (cases_Option (id_token a)) [ inl none ↦ rw (pattern, none) refl | inr n ↦ rw (pattern, n.1, call) refl ]
-two w kind make (a ∷ b ∷ more) pattern call =
-    elim (cases_Option (id_token a)) [
-      | inl none ↦ rw (pattern, none) refl
-      | inr n ↦ elim (cases_Option (id_token b)) [
-        | inl none ↦ rw (pattern, n.1, none) refl
-        | inr m ↦ rw (pattern, n.1, m.1, call) refl
-      ]
+    ≡ then_read (read_argument id_token 1 arguments) (λ a.
+    then_read (read_argument id_token 2 arguments) (λ b. made kind (Id a ∷ Id b ∷ [])))
+two w kind [] shape =
+    ap (λ s. ids_call kind (read_by w [] (arguments_by s))) shape ∙ lacks kind [] (rw shape refl)
+two w kind (a ∷ []) shape =
+    ap (λ s. ids_call kind (read_by w (a ∷ []) (arguments_by s))) shape
+    ∙ elim (cases_Option (id_token a)) [
+      | inl none ↦ rw none refl
+      | inr n ↦ rw n.1 (lacks kind (Id n.0 ∷ []) (rw shape refl))
+    ]
+two w kind (a ∷ b ∷ more) shape =
+    ap (λ s. ids_call kind (read_by w (a ∷ b ∷ more) (arguments_by s))) shape
+    ∙ elim (cases_Option (id_token a)) [
+      | inl none ↦ rw none refl
+      | inr n ↦ elim (cases_Option (id_token b)) [ inl none ↦ rw (n.1, none) refl | inr m ↦ rw (n.1, m.1) refl ]
     ]
 
 -- a call of three ids
-pub three : (w : World) (kind : CallKind) (make : ℕ → ℕ → ℕ → Call) (arguments : List (List ℕ))
-    → pattern_of kind ≡ Just (AnId ∷ AnId ∷ AnId ∷ []) → ((ids : List Argument) → call_with kind ids ≡ with_three_ids make ids)
+three : (w : World) (kind : CallKind) (arguments : List (List ℕ)) → shape_of kind ≡ ThreeIds
     → ids_read w kind arguments
     ≡ then_read (read_argument id_token 1 arguments) (λ a.
-    then_read (read_argument id_token 2 arguments) (λ b. and_make (make a b) (read_argument id_token 3 arguments)))
-three w kind make [] pattern call = rw (pattern, call) refl
-three w kind make (a ∷ []) pattern call =
-    elim (cases_Option (id_token a)) [ inl none ↦ rw (pattern, none) refl | inr n ↦ rw (pattern, n.1, call) refl ]
-three w kind make (a ∷ b ∷ []) pattern call =
-    elim (cases_Option (id_token a)) [
-      | inl none ↦ rw (pattern, none) refl
+    then_read (read_argument id_token 2 arguments) (λ b.
+    then_read (read_argument id_token 3 arguments) (λ c. made kind (Id a ∷ Id b ∷ Id c ∷ []))))
+three w kind [] shape =
+    ap (λ s. ids_call kind (read_by w [] (arguments_by s))) shape ∙ lacks kind [] (rw shape refl)
+three w kind (a ∷ []) shape =
+    ap (λ s. ids_call kind (read_by w (a ∷ []) (arguments_by s))) shape
+    ∙ elim (cases_Option (id_token a)) [
+      | inl none ↦ rw none refl
+      | inr n ↦ rw n.1 (lacks kind (Id n.0 ∷ []) (rw shape refl))
+    ]
+three w kind (a ∷ b ∷ []) shape =
+    ap (λ s. ids_call kind (read_by w (a ∷ b ∷ []) (arguments_by s))) shape
+    ∙ elim (cases_Option (id_token a)) [
+      | inl none ↦ rw none refl
       | inr n ↦ elim (cases_Option (id_token b)) [
-        | inl none ↦ rw (pattern, n.1, none) refl
-        | inr m ↦ rw (pattern, n.1, m.1, call) refl
+        | inl none ↦ rw (n.1, none) refl
+        | inr m ↦ rw (n.1, m.1) (lacks kind (Id n.0 ∷ Id m.0 ∷ []) (rw shape refl))
       ]
     ]
-three w kind make (a ∷ b ∷ c ∷ more) pattern call =
-    elim (cases_Option (id_token a)) [
-      | inl none ↦ rw (pattern, none) refl
+three w kind (a ∷ b ∷ c ∷ more) shape =
+    ap (λ s. ids_call kind (read_by w (a ∷ b ∷ c ∷ more) (arguments_by s))) shape
+    ∙ elim (cases_Option (id_token a)) [
+      | inl none ↦ rw none refl
       | inr n ↦ elim (cases_Option (id_token b)) [
-        | inl none ↦ rw (pattern, n.1, none) refl
+        | inl none ↦ rw (n.1, none) refl
         | inr m ↦ elim (cases_Option (id_token c)) [
-          | inl none ↦ rw (pattern, n.1, m.1, none) refl
-          | inr k ↦ rw (pattern, n.1, m.1, k.1, call) refl
+          | inl none ↦ rw (n.1, m.1, none) refl
+          | inr k ↦ rw (n.1, m.1, k.1) refl
         ]
       ]
     ]
+
+-- the same where what is read is at hand
+pub one_read : (w : World) (kind : CallKind) (arguments : List (List ℕ)) (first : Result ℕ LineFault) → shape_of kind ≡ OneId
+    → first ≡ read_argument id_token 1 arguments → ids_read w kind arguments ≡ then_read first (λ a. made kind (Id a ∷ []))
+one_read w kind arguments first shape is = rw is (one w kind arguments shape)
+
+pub two_read : (w : World) (kind : CallKind) (arguments : List (List ℕ)) (first second : Result ℕ LineFault)
+    → shape_of kind ≡ TwoIds → first ≡ read_argument id_token 1 arguments → second ≡ read_argument id_token 2 arguments
+    → ids_read w kind arguments ≡ then_read first (λ a. then_read second (λ b. made kind (Id a ∷ Id b ∷ [])))
+two_read w kind arguments first second shape is next = rw (is, next) (two w kind arguments shape)
+
+pub three_read : (w : World) (kind : CallKind) (arguments : List (List ℕ)) (first second third : Result ℕ LineFault)
+    → shape_of kind ≡ ThreeIds → first ≡ read_argument id_token 1 arguments → second ≡ read_argument id_token 2 arguments
+    → third ≡ read_argument id_token 3 arguments
+    → ids_read w kind arguments
+    ≡ then_read first (λ a. then_read second (λ b. then_read third (λ c. made kind (Id a ∷ Id b ∷ Id c ∷ []))))
+three_read w kind arguments first second third shape is next last = rw (is, next, last) (three w kind arguments shape)
+
+-- the call that is made of its own ids
+pub made_is : (kind : CallKind) (ids : List Argument) (call : Call) → kind_of call ≡ kind → arguments_of call ≡ ids
+    → made kind ids ≡ Ok call
+made_is kind ids call is from = rw (made_call kind ids call is from) refl
+
+-- the shape of a kind that has ids, and not one nor two
+pub third : (kind : CallKind) (shape : Shape) → shape ≡ shape_of kind → IsTrue (has_ids (shape_of kind)) → (shape ≡ OneId → ⊥)
+    → (shape ≡ TwoIds → ⊥) → shape_of kind ≡ ThreeIds
+third kind OneId same has not_one not_two = absurd (not_one refl)
+third kind TwoIds same has not_one not_two = absurd (not_two refl)
+third kind ThreeIds same has not_one not_two = sym same
+third kind _ same has not_one not_two =
+    let none : IsTrue false = subst (λ s. IsTrue (has_ids s)) (sym same) has in absurd (cc)

@@ -3,3 +3,4 @@ pub mod FirstBytes
 pub mod FirstNames
 pub mod Fronts
 pub mod IdCalls
+pub mod NumberCalls

@@ -1,15 +1,30 @@
--- The calls that the code makes of a number, in the words of the definitions.
-use Rattle.std.specs.Prelude.{ℕ}
-use Rattle.cm_strace_calls.specs.declared.prctl.Made.{Made}
-use Rattle.cm_strace_calls.specs.declared.prctl.Made.TheVariants as made
-use Rattle.model_cred.specs.Call as model
-use Rattle.model_cred.specs.Call.{Call}
+-- Calls that are made by their shapes, in the words of the definitions.
+use Rattle.std.specs.Prelude.{ℕ, Bool, true, false, [], ◌∷◌, unwrap_or}
+use Rattle.cm_filter.specs.declared.kind.CallKind.{CallKind}
+use Rattle.cm_filter.specs.declared.shape.Shape.{Shape}
+use Rattle.cm_filter.specs.declared.shape.Shape.TheVariants.{OneId, TwoIds, ThreeIds, OneCap, OneNumber}
+use Rattle.cm_filter.specs.Shapes.{shape_of}
+use Rattle.model_cred.specs.Arguments.{Argument, Cap, Number, call_with}
+use Rattle.model_cred.specs.Call.{Call, AmbClear}
 
--- the call of a number
-abbrev pub made_call : Made → ℕ → Call
-made_call made.KeepCaps = model.KeepCaps
-made_call made.NoNewPrivs = model.NoNewPrivs
-made_call made.SecureBits = model.SecureBits
-made_call made.BsetDrop = model.BsetDrop
-made_call made.AmbRaise = model.AmbRaise
-made_call made.AmbLower = model.AmbLower
+-- the arguments of a call of the shape are one, two or three ids
+abbrev pub has_ids : Shape → Bool
+has_ids OneId = true
+has_ids TwoIds = true
+has_ids ThreeIds = true
+has_ids _ = false
+
+-- its argument is a number, or a capability
+abbrev pub has_number : Shape → Bool
+has_number OneCap = true
+has_number OneNumber = true
+has_number _ = false
+
+-- that argument
+abbrev pub number_argument : Shape → ℕ → Argument
+number_argument OneCap n = Cap n
+number_argument _ n = Number n
+
+-- the call of the kind with that argument, where it has such a one
+abbrev pub number_call : CallKind → ℕ → Call
+number_call kind n = unwrap_or (call_with kind (number_argument (shape_of kind) n ∷ [])) AmbClear

@@ -1,11 +1,7 @@
 -- What the code is told by a line of a call, in the words of the definitions.
 use Rattle.std.specs.Prelude.{Result, Ok, Err, slice_get}
 use Rattle.std.specs.Result.{result_map_both}
-use Rattle.cm_filter.specs.declared.kind.CallKind.{CallKind}
-use Rattle.cm_filter.specs.declared.kind.CallKind.TheVariants as kind
 use Rattle.cm_state.specs.Call.{call_of}
-use Rattle.cm_strace_calls.specs.declared.listed.IdCall.{IdCall}
-use Rattle.cm_strace_calls.specs.declared.listed.IdCall.TheVariants as ids
 use Rattle.cm_strace_calls.specs.declared.listed.Listed.{Listed}
 use Rattle.cm_strace_calls.specs.declared.listed.Listed.TheVariants as listed
 use Rattle.cm_strace_calls.specs.declared.told.Opening.{Opening}
@@ -15,20 +11,9 @@ use Rattle.cm_strace_text.specs.Depths.{arguments_in}
 use Rattle.cm_strace_values.specs.Outcomes.{outcome_is}
 use Rattle.model_strace.specs.Calls as model
 
--- the kind of a call that sets ids
-abbrev pub id_kind : IdCall → CallKind
-id_kind ids.SetUid = kind.SetUid
-id_kind ids.SetReUid = kind.SetReUid
-id_kind ids.SetResUid = kind.SetResUid
-id_kind ids.SetFsUid = kind.SetFsUid
-id_kind ids.SetGid = kind.SetGid
-id_kind ids.SetReGid = kind.SetReGid
-id_kind ids.SetResGid = kind.SetResGid
-id_kind ids.SetFsGid = kind.SetFsGid
-
 -- the call of the definitions
 abbrev pub listed_is : Listed → model.Listed
-listed_is (listed.SetsIds call) = model.SetsIds (id_kind call)
+listed_is (listed.SetsIds call) = model.SetsIds call.kind
 listed_is listed.SetsGroups = model.SetsGroups
 listed_is listed.SetsCaps = model.SetsCaps
 listed_is listed.Prctl = model.Prctl

@@ -9,11 +9,13 @@ mod caps;
 mod exec;
 mod files;
 mod groups;
+mod id_kind;
 mod ids;
 mod listed;
 mod prctl;
 mod told;
 
 pub use call::{named_call, read_call, read_named};
-pub use listed::{IdCall, Listed};
+pub use id_kind::IdCallKind;
+pub use listed::Listed;
 pub use told::{Opening, Told};

@@ -4,25 +4,14 @@ ghost use Rattle.cm_strace_calls.specs.Told.{listed_is};
 ghost use Rattle.cm_strace_values.specs.Tables.{rows_of};
 ghost use Rattle.model_strace.specs.Calls.{listed_named};
 
+use crate::id_kind::IdCallKind;
+use cm_filter::CallKind;
 use cm_strace_text::is_word;
-
-/// One of the eight calls that set ids.
-#[derive(Clone, Copy, Debug)]
-pub enum IdCall {
-    SetUid,
-    SetReUid,
-    SetResUid,
-    SetFsUid,
-    SetGid,
-    SetReGid,
-    SetResGid,
-    SetFsGid,
-}
 
 /// A call that is read: those that set ids each for itself, the others by what their lines are read for.
 #[derive(Clone, Copy, Debug)]
 pub enum Listed {
-    SetsIds(IdCall),
+    SetsIds(IdCallKind),
     SetsGroups,
     SetsCaps,
     Prctl,
@@ -68,14 +57,54 @@ const CALLS_OF_O: [(&str, Listed); 2] = [("open", Listed::OpenFile), ("openat", 
 const CALLS_OF_P: [(&str, Listed); 2] = [("prctl", Listed::Prctl), ("pwrite64", Listed::Write)];
 
 const CALLS_OF_S: [(&str, Listed); 10] = [
-    ("setuid", Listed::SetsIds(IdCall::SetUid)),
-    ("setreuid", Listed::SetsIds(IdCall::SetReUid)),
-    ("setresuid", Listed::SetsIds(IdCall::SetResUid)),
-    ("setfsuid", Listed::SetsIds(IdCall::SetFsUid)),
-    ("setgid", Listed::SetsIds(IdCall::SetGid)),
-    ("setregid", Listed::SetsIds(IdCall::SetReGid)),
-    ("setresgid", Listed::SetsIds(IdCall::SetResGid)),
-    ("setfsgid", Listed::SetsIds(IdCall::SetFsGid)),
+    (
+        "setuid",
+        Listed::SetsIds(IdCallKind {
+            kind: CallKind::SetUid,
+        }),
+    ),
+    (
+        "setreuid",
+        Listed::SetsIds(IdCallKind {
+            kind: CallKind::SetReUid,
+        }),
+    ),
+    (
+        "setresuid",
+        Listed::SetsIds(IdCallKind {
+            kind: CallKind::SetResUid,
+        }),
+    ),
+    (
+        "setfsuid",
+        Listed::SetsIds(IdCallKind {
+            kind: CallKind::SetFsUid,
+        }),
+    ),
+    (
+        "setgid",
+        Listed::SetsIds(IdCallKind {
+            kind: CallKind::SetGid,
+        }),
+    ),
+    (
+        "setregid",
+        Listed::SetsIds(IdCallKind {
+            kind: CallKind::SetReGid,
+        }),
+    ),
+    (
+        "setresgid",
+        Listed::SetsIds(IdCallKind {
+            kind: CallKind::SetResGid,
+        }),
+    ),
+    (
+        "setfsgid",
+        Listed::SetsIds(IdCallKind {
+            kind: CallKind::SetFsGid,
+        }),
+    ),
     ("setgroups", Listed::SetsGroups),
     ("setns", Listed::SetNs),
 ];

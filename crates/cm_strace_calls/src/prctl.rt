@@ -1,7 +1,8 @@
 // prctl(2), by its option; other options tell nothing, whatever they answer.
-ghost use Rattle.std.specs.Prelude.{◌≡◌, codes};
+ghost use Rattle.std.specs.Prelude.{◌≡◌, IsTrue, codes};
+ghost use Rattle.cm_filter.specs.Shapes.{shape_of};
 ghost use Rattle.cm_state.specs.Call.{call_of};
-ghost use Rattle.cm_strace_calls.specs.Made.{made_call};
+ghost use Rattle.cm_strace_calls.specs.Made.{has_number, number_call};
 ghost use Rattle.cm_strace_calls.specs.Told.{told_is};
 ghost use Rattle.cm_strace_text.specs.Depths.{arguments_in};
 ghost use Rattle.cm_strace_values.specs.Outcomes.{outcome_is};
@@ -12,6 +13,7 @@ ghost use Rattle.model_strace.specs.Outcome.{plain_result};
 use crate::arguments::{bits, capability, deciding, number};
 use crate::told::Told;
 use cm_base::LineFault;
+use cm_filter::{CallKind, Shape};
 use cm_state::Call;
 use cm_strace_values::Outcome;
 
@@ -30,13 +32,13 @@ fn read_option<'a>(option: &[u8], arguments: Option<&[u8]>, outcome: Outcome) ->
     ensures { told_is result ≡ option_told option.now (arguments_in arguments.entry) (outcome_is outcome) }
 {
     if option == b"PR_SET_KEEPCAPS".as_slice() {
-        with_number(outcome, Made::KeepCaps, number(2, arguments))
+        with_number(outcome, CallKind::KeepCaps, number(2, arguments))
     } else if option == b"PR_SET_NO_NEW_PRIVS".as_slice() {
-        with_number(outcome, Made::NoNewPrivs, number(2, arguments))
+        with_number(outcome, CallKind::NoNewPrivs, number(2, arguments))
     } else if option == b"PR_SET_SECUREBITS".as_slice() {
-        with_number(outcome, Made::SecureBits, bits(2, arguments))
+        with_number(outcome, CallKind::SecureBits, bits(2, arguments))
     } else if option == b"PR_CAPBSET_DROP".as_slice() {
-        with_number(outcome, Made::BsetDrop, capability(2, arguments))
+        with_number(outcome, CallKind::BsetDrop, capability(2, arguments))
     } else if option == b"PR_CAP_AMBIENT".as_slice() {
         read_ambient(arguments, outcome)
     } else {
@@ -60,9 +62,9 @@ fn read_change<'a>(what: &[u8], arguments: Option<&[u8]>, outcome: Outcome) -> T
     ensures { told_is result ≡ ambient_told what.now (arguments_in arguments.entry) (outcome_is outcome) }
 {
     if what == b"PR_CAP_AMBIENT_RAISE".as_slice() {
-        with_number(outcome, Made::AmbRaise, capability(3, arguments))
+        with_number(outcome, CallKind::AmbRaise, capability(3, arguments))
     } else if what == b"PR_CAP_AMBIENT_LOWER".as_slice() {
-        with_number(outcome, Made::AmbLower, capability(3, arguments))
+        with_number(outcome, CallKind::AmbLower, capability(3, arguments))
     } else if what == b"PR_CAP_AMBIENT_CLEAR_ALL".as_slice() {
         clear(outcome)
     } else {
@@ -80,40 +82,28 @@ fn clear<'a>(outcome: Outcome) -> Told<'a>
     }
 }
 
-// Which call is made of a number.
-#[derive(Clone, Copy)]
-enum Made {
-    KeepCaps,
-    NoNewPrivs,
-    SecureBits,
-    BsetDrop,
-    AmbRaise,
-    AmbLower,
-}
-
 // A call of a number, which answers 0 or fails: its result is looked at before what was read of its arguments.
-fn with_number<'a>(outcome: Outcome, made: Made, read: Result<u32, LineFault>) -> Told<'a>
-    ensures { told_is result ≡ plain_call (outcome_is outcome) read (made_call made) }
+fn with_number<'a>(outcome: Outcome, kind: CallKind, read: Result<u32, LineFault>) -> Told<'a>
+    requires { IsTrue (has_number (shape_of kind)) }
+    ensures { told_is result ≡ plain_call (outcome_is outcome) read (number_call kind) }
 {
     let Some(res) = outcome.plain() else {
         return Told::Faulty(LineFault::Outcome);
     };
     match read {
-        Ok(n) => Told::Does(call_of_number(made, n), res),
+        Ok(n) => Told::Does(call_of_number(kind, n), res),
         Err(why) => Told::Faulty(why),
     }
 }
 
-// The call of a number.
-fn call_of_number(made: Made, n: u32) -> Call
-    ensures { call_of result ≡ made_call made n }
+// The call of that kind with a number, which may be that of a capability.
+#[tactic(auto, using(crate::proofs::NumberCalls::of_cap, crate::proofs::NumberCalls::of_number))]
+fn call_of_number(kind: CallKind, n: u32) -> Call
+    requires { IsTrue (has_number (shape_of kind)) }
+    ensures { call_of result ≡ number_call kind n }
 {
-    match made {
-        Made::KeepCaps => Call::KeepCaps(n),
-        Made::NoNewPrivs => Call::NoNewPrivs(n),
-        Made::SecureBits => Call::SecureBits(n),
-        Made::BsetDrop => Call::BsetDrop(n),
-        Made::AmbRaise => Call::AmbRaise(n),
-        Made::AmbLower => Call::AmbLower(n),
+    match kind.shape() {
+        Shape::OneCap => Call::with_cap(kind, n),
+        _ => Call::with_number(kind, n),
     }
 }

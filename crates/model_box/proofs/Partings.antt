@@ -5,7 +5,8 @@ use Rattle.std.proofs.lemmas.Bool.{false≢true, eqb-true, eq-eqb, ne_eqb}
 use Rattle.cm_base.specs.declared.errno.Errno.{Errno}
 use Rattle.cm_base.specs.declared.res.Res.{Res}
 use Rattle.cm_base.specs.declared.res.Res.TheVariants.{Done, Id, Child, Err}
-use Rattle.model_cred.specs.Call.{Call, Exit}
+use Rattle.cm_filter.specs.declared.kind.CallKind.TheVariants as kind
+use Rattle.model_cred.specs.Call.{Call, Exit, kind_of}
 use Rattle.model_cred.specs.Process.{Process, is_alive}
 use Rattle.model_run.specs.Step.{is_living_child}
 use Rattle.model_run.specs.Same.{same_res}
@@ -63,7 +64,7 @@ without_cell parting caller q (Err e) stays = refl
 
 -- Who lives before and after a call keeps its cell.
 pub cell_stays : (ps : List Process) (parting : List InCell) (caller q : ℕ) (call : Call) (res : Res) → is_living_child ps res ≡ false
-    → IsTrue (is_alive ps q) → (call ≡ Exit → res ≡ Done → q ≡ caller → ⊥)
+    → IsTrue (is_alive ps q) → (kind_of call ≡ kind.Exit → res ≡ Done → q ≡ caller → ⊥)
     → cell_of (parting_after parting caller call res) q ≡ cell_of parting q
 cell_stays ps parting caller q Exit res free alive stays = without_cell parting caller q res (stays refl)
 cell_stays ps parting caller q call res free alive stays = cell_with ps parting caller q res free alive

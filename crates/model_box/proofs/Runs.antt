@@ -72,7 +72,7 @@ module _ (w : World) (old : Spaces) (Cell : ℕ → Type 0) (permits : ℕ → C
         (falls : Falls may s (record { pid = pid; call = call; res = res }) s') where
       -- who lived and lives is kept with what it then has, where that fits its cell
       goes_on : (q : ℕ) (was found : Process) → process_at s.processes q ≡ Some was → process_at s'.processes q ≡ Some found
-          → (call ≡ Exit → res ≡ Done → q ≡ pid → ⊥)
+          → (kind_of call ≡ kind.Exit → res ≡ Done → q ≡ pid → ⊥)
           → MemberKept old s Cell permits bounds may (cell_of parting q) q was
           → MemberFits old s'.spaces (bounds (cell_of parting q)) found.space found.cred
           → MemberKept old s' Cell permits bounds may (cell_of (parting_after parting pid call res) q) q found
@@ -110,7 +110,7 @@ module _ (w : World) (old : Spaces) (Cell : ℕ → Type 0) (permits : ℕ → C
     }
 
     -- the caller is another process with its pid, and the spaces may have changed
-    changed_kept : (call : Call) (res : Res) (free : is_living_child s.processes res ≡ false) → (call ≡ Exit → ⊥)
+    changed_kept : (call : Call) (res : Res) (free : is_living_child s.processes res ≡ false) → (kind_of call ≡ kind.Exit → ⊥)
         → (after : Spaces) (new : Process) → new.pid ≡ p.pid
         → AfterCall old s.spaces after Cell bounds all Made (cell_of parting pid) new.space new.cred
         → Falls may s (record { pid = pid; call = call; res = res }) (record { processes = put_process new s.processes; spaces = after })
@@ -140,7 +140,7 @@ module _ (w : World) (old : Spaces) (Cell : ℕ → Type 0) (permits : ℕ → C
 
     -- a birth
     born_kept : (call : Call) (res : Res) (free : is_living_child s.processes res ≡ false)
-        → ((k : ℕ) → res ≡ Child k → cell_of (parting_after parting pid call res) k ≡ cell_of parting pid) → (call ≡ Exit → ⊥)
+        → ((k : ℕ) → res ≡ Child k → cell_of (parting_after parting pid call res) k ≡ cell_of parting pid) → (kind_of call ≡ kind.Exit → ⊥)
         → (after : Spaces) (baby : Process)
         → StillFits old s.spaces after Cell bounds all Made → MemberFits old after (bounds (cell_of parting pid)) baby.space baby.cred
         → KeptBy call res (birth s baby after)

@@ -7,7 +7,9 @@ pub mod Space
 pub mod Process
 pub mod Files
 pub mod Attribute
+pub mod Carried
 pub mod Call
+pub mod Arguments
 pub mod Made
 pub mod Right
 pub mod World

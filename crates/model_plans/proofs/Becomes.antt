@@ -7,6 +7,7 @@ use Rattle.std.proofs.lemmas.Bool.{cases_Bool, cond-true, cond-false, eqb-true, 
 use Rattle.std.proofs.lemmas.Bool.{not-true}
 use Rattle.cm_base.specs.declared.errno.Errno.{Errno}
 use Rattle.cm_base.specs.declared.errno.Errno.TheVariants.{EPERM}
+use Rattle.model_cred.specs.Call as model
 use Rattle.model_cred.specs.Call.{Call, kind_of}
 use Rattle.model_cred.specs.Credential.{Credential, FourIds, is_one_of_three, all_four}
 use Rattle.model_cred.specs.IdMap.{Extent, up, down, extents_of}
@@ -153,7 +154,7 @@ module _ (q : Setting) (seat : Seat) (inside id : ℕ) where
             ap (λ (calls : List Call). (seat_after q seat (first_call calls)).cred.uid.effective)
             (calls_are uid_calls (extents_of s.uids) c.uid.effective can.mapped other)
             ∙ of_three (λ o. (seat_after q seat o).cred.uid.effective ≡ id) (λ call. q.permitted (kind_of call))
-            (Call.SetResUid minus_one inside minus_one) (Call.SetReUid minus_one inside) (Call.SetUid inside) can.permitted
+            (model.SetResUid minus_one inside minus_one) (model.SetReUid minus_one inside) (model.SetUid inside) can.permitted
             (uid_made s c _ id (gives_setresid (extents_of s.uids) (has_setuid c) c.uid inside id can.mapped can.allowed))
             (uid_made s c _ id (gives_setreid (extents_of s.uids) (has_setuid c) c.uid inside id can.mapped can.allowed))
             (uid_made s c _ id (gives_setid (extents_of s.uids) (has_setuid c) c.uid inside id can.mapped other can.allowed))
@@ -173,7 +174,7 @@ module _ (q : Setting) (seat : Seat) (inside id : ℕ) where
             ap (λ (calls : List Call). (seat_after q seat (first_call calls)).cred.gid.effective)
             (calls_are gid_calls (extents_of s.gids) c.gid.effective can.mapped other)
             ∙ of_three (λ o. (seat_after q seat o).cred.gid.effective ≡ id) (λ call. q.permitted (kind_of call))
-            (Call.SetResGid minus_one inside minus_one) (Call.SetReGid minus_one inside) (Call.SetGid inside) can.permitted
+            (model.SetResGid minus_one inside minus_one) (model.SetReGid minus_one inside) (model.SetGid inside) can.permitted
             (gid_made c _ id (gives_setresid (extents_of s.gids) (has_setgid c) c.gid inside id can.mapped can.allowed))
             (gid_made c _ id (gives_setreid (extents_of s.gids) (has_setgid c) c.gid inside id can.mapped can.allowed))
             (gid_made c _ id (gives_setid (extents_of s.gids) (has_setgid c) c.gid inside id can.mapped other can.allowed))

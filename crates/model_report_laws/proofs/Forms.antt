@@ -69,31 +69,7 @@ in_form v form = record v { form = form }
 -- ---- what becomes of events
 ruling_form : (v : World) (form : LogForm) (s : State) (p : Process) (call : Call) (n : ℕ) → ruling (in_form v form) s p call n ≡ ruling v s p call n
 ruling_form v form s p (model.SetUid _) n = refl
-ruling_form v form s p (model.SetReUid _ _) n = refl
-ruling_form v form s p (model.SetResUid _ _ _) n = refl
-ruling_form v form s p (model.SetFsUid _) n = refl
-ruling_form v form s p (model.SetGid _) n = refl
-ruling_form v form s p (model.SetReGid _ _) n = refl
-ruling_form v form s p (model.SetResGid _ _ _) n = refl
-ruling_form v form s p (model.SetFsGid _) n = refl
-ruling_form v form s p (model.SetGroups _) n = refl
-ruling_form v form s p (model.CapSet _ _ _) n = refl
-ruling_form v form s p (model.BsetDrop _) n = refl
-ruling_form v form s p (model.AmbRaise _) n = refl
-ruling_form v form s p (model.AmbLower _) n = refl
-ruling_form v form s p model.AmbClear n = refl
-ruling_form v form s p (model.SecureBits _) n = refl
-ruling_form v form s p (model.KeepCaps _) n = refl
-ruling_form v form s p (model.NoNewPrivs _) n = refl
-ruling_form v form s p model.Fork n = refl
-ruling_form v form s p model.CloneUser n = refl
-ruling_form v form s p model.Unshare n = refl
-ruling_form v form s p (model.SetNs _) n = refl
-ruling_form v form s p (model.WriteUidMap _ _) n = refl
-ruling_form v form s p (model.WriteGidMap _ _) n = refl
-ruling_form v form s p (model.WriteSetgroups _ _) n = refl
-ruling_form v form s p (model.Exec _) n = refl
-ruling_form v form s p model.Exit n = refl
+ruling_form v form s p _ n = refl
 
 -- what becomes of a call by what the rules give and what they answer of themselves
 abbrev become : State → Event → Ruling → Ruling → Outcome

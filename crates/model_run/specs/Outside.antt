@@ -7,7 +7,8 @@ use Rattle.cm_base.specs.declared.errno.Errno.TheVariants.{ENOTDIR, ELOOP, ENAME
 use Rattle.cm_base.specs.declared.errno.Errno.TheVariants.{ELIBBAD}
 use Rattle.cm_base.specs.declared.res.Res.{Res}
 use Rattle.cm_base.specs.declared.res.Res.TheVariants.{Err}
-use Rattle.model_cred.specs.Call.{Call, SetFsUid, SetFsGid, CloneUser, Unshare, SetNs, Exec, Exit}
+use Rattle.cm_filter.specs.Shapes.{OutsideForm, NoErrors, Common, OfSpaces, OfExecve, outside_form}
+use Rattle.model_cred.specs.Call.{Call, kind_of}
 
 -- those of most calls
 abbrev pub is_common : Errno → Bool
@@ -36,16 +37,16 @@ is_of_execve ETXTBSY = true
 is_of_execve ELIBBAD = true
 is_of_execve e = is_common e
 
--- the call may answer this error from outside; setfsuid, setfsgid and exit have none
+-- the errors of the form
+abbrev pub is_of_form : OutsideForm → Errno → Bool
+is_of_form NoErrors e = false
+is_of_form Common e = is_common e
+is_of_form OfSpaces e = is_of_spaces e
+is_of_form OfExecve e = is_of_execve e
+
+-- the call may answer this error from outside
 abbrev pub is_outside_error : Call → Errno → Bool
-is_outside_error (SetFsUid f) e = false
-is_outside_error (SetFsGid f) e = false
-is_outside_error Exit e = false
-is_outside_error Unshare e = is_of_spaces e
-is_outside_error CloneUser e = is_of_spaces e
-is_outside_error (SetNs n) e = is_of_spaces e
-is_outside_error (Exec f) e = is_of_execve e
-is_outside_error _ e = is_common e
+is_outside_error call e = is_of_form (outside_form (kind_of call)) e
 
 -- the result is an error from outside that the call may answer
 abbrev pub comes_from_outside : Call → Res → Bool

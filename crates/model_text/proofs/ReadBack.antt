@@ -1,10 +1,10 @@
 -- What was written of an event is read again as the same event.
 use Rattle.std.proofs.Common.{◌≡◌, ℕ, suc, ◌+◌, ◌*◌, ◌%◌, ◌<◌, ◌≤◌, Bool, true, false, List, [], ◌∷◌}
-use Rattle.std.proofs.Common.{◌++◌, length, map, refl, ap, ◌∙◌, arith, All, IsTrue, append_assoc}
+use Rattle.std.proofs.Common.{◌++◌, length, map, refl, ap, ◌∙◌, arith, All, IsTrue, append_assoc, length-append, sym, subst}
 use Rattle.std.proofs.Common.{Option, Some, None, lit<, add-one, nat_lt}
 use Rattle.std.proofs.lemmas.Bool.{eq-eqb, ne_eqb, leb-true, ltb-true, and_parts}
 use Rattle.std.proofs.lemmas.List.Elements.{All-head, All-tail, All-weaker}
-use Rattle.std.specs.Prelude.{codes, decimal, Ok, option_map, flat_map, nat_le}
+use Rattle.std.specs.Prelude.{codes, decimal, Ok, option_map, flat_map, nat_le, get_or}
 use Rattle.std.proofs.lemmas.List.{length-map}
 use Rattle.std.specs.List.{list_all}
 use Rattle.std.specs.Option.{option_or}
@@ -20,8 +20,9 @@ use Rattle.cm_base.specs.declared.res.Res.TheVariants as res
 use Rattle.cm_filter.specs.declared.kind.CallKind.{CallKind}
 use Rattle.cm_filter.specs.declared.kind.CallKind.TheVariants as kind
 use Rattle.cm_filter.specs.Kinds.{call_name, kind_named}
-use Rattle.model_cred.specs.Call as model
+use Rattle.cm_filter.specs.Shapes.{ResultForm, DoneOrError, DoneAlone, OldId, ChildOrError, Just, result_form}
 use Rattle.model_cred.specs.Call.{Call, Event, kind_of}
+use Rattle.model_cred.specs.Carried.{Value, Values, Carries}
 use Rattle.model_cred.specs.IdMap.{Extent}
 use Rattle.model_cred.specs.Process.{is_pid}
 use Rattle.model_cred.specs.World.{World}
@@ -35,12 +36,13 @@ use Rattle.model_text.proofs.SpaceTexts.{space_written}
 use Rattle.model_text.proofs.Tokens.{IsToken, token_alone, token_before, tokens_before}
 use Rattle.model_text.specs.Arguments.{Form, AnId, ANumber, ACap, ASet, ASpace, AWord, AFile, Pattern, Ids, Triples, pattern_of, takes, form_at}
 use Rattle.model_text.specs.Arguments.{Argument, Id, Number, Cap, Set, Space, Word, File, argument_token}
-use Rattle.model_text.specs.Arguments.{argument_text, extents_in, ids_in, call_with, triple_of, arguments_of}
+use Rattle.model_text.specs.Arguments.{argument_text, extents_in, ids_in, triple_of, arguments_of, call_with}
+use Rattle.model_text.specs.Arguments.{value_in, values_in, carried_in, as_argument, as_arguments, carried_as}
 use Rattle.model_text.specs.Cut.{tokens_of}
-use Rattle.model_text.specs.Line.{Tells, Tokens, parts_of, after_argument, arguments_from, call_told, groups_fit, result_of_kind, script_line, tokens_line}
+use Rattle.model_text.specs.Line.{Tells, Tokens, parts_of, after_argument, arguments_from, call_told, groups_fit, result_of_form, result_of_kind, script_line, tokens_line}
 use Rattle.model_text.specs.Print.{event_text}
 use Rattle.model_text.specs.Token.{pid_token, result_token, birth_token, old_id_token, done_token, res_text, is_comment, is_equals}
-use Rattle.model_text.specs.Written.{AreNames, ArePaths, KeepsNames, DeclaredNamesKeep, IsInRange, IsOutcome, IsBirth, IsOldId, MayAnswer}
+use Rattle.model_text.specs.Written.{AreNames, ArePaths, KeepsNames, DeclaredNamesKeep, IsInRange, IsOutcome, IsBirth, IsOldId, IsOfForm, MayAnswer}
 use Rattle.model_text.specs.Written.{IsWritable, LinesReadBack}
 
 -- ---- single arguments
@@ -138,12 +140,12 @@ pub extents_back : (list : List Extent) → extents_in (flat_map triple_of list)
 extents_back [] = refl
 extents_back (e ∷ list) = ap (option_map (λ (list : List Extent). e ∷ list)) (extents_back list)
 
--- ---- the arguments of each call
--- The arguments of a call are of its pattern, and make the call.
-record ArgumentsMake (call : Call) : Type 0 where
-  count : takes (pattern_of (kind_of call)) (length (arguments_of call)) ≡ true
-  fit : Fit (pattern_of (kind_of call)) 0 (arguments_of call)
-  made : call_with (kind_of call) (arguments_of call) ≡ Some call
+-- ---- the arguments of each pattern
+-- What a call of the pattern carries is written as arguments of the pattern, which are read as it.
+record AreOf (pattern : Pattern) (carried : Carries pattern) : Type 0 where
+  count : takes pattern (length (carried_as pattern carried)) ≡ true
+  fit : Fit pattern 0 (carried_as pattern carried)
+  made : carried_in pattern (carried_as pattern carried) ≡ Some carried
 
 -- so many triples after a space
 triples_counted : (argument : Argument) (list : List Extent) → takes Triples (length (argument ∷ flat_map triple_of list)) ≡ true
@@ -151,43 +153,59 @@ triples_counted argument list =
     let whole : length (argument ∷ flat_map triple_of list) ≡ 1 + 3 * length list = omega (arith, length_triples list) in
     rw whole (eq-eqb ((1 + 3 * length list) % 3) 1 (omega arith))
 
-arguments_make : (call : Call) → ArgumentsMake call
-arguments_make (model.SetUid a) = record { count = refl; fit = (refl, tt); made = refl }
-arguments_make (model.SetReUid a b) = record { count = refl; fit = (refl, (refl, tt)); made = refl }
-arguments_make (model.SetResUid a b c) = record { count = refl; fit = (refl, (refl, (refl, tt))); made = refl }
-arguments_make (model.SetFsUid a) = record { count = refl; fit = (refl, tt); made = refl }
-arguments_make (model.SetGid a) = record { count = refl; fit = (refl, tt); made = refl }
-arguments_make (model.SetReGid a b) = record { count = refl; fit = (refl, (refl, tt)); made = refl }
-arguments_make (model.SetResGid a b c) = record { count = refl; fit = (refl, (refl, (refl, tt))); made = refl }
-arguments_make (model.SetFsGid a) = record { count = refl; fit = (refl, tt); made = refl }
-arguments_make (model.SetGroups ids) = record { count = refl; fit = fit_ids 0 ids; made = ap (option_map model.SetGroups) (ids_back ids) }
-arguments_make (model.CapSet a b c) = record { count = refl; fit = (refl, (refl, (refl, tt))); made = refl }
-arguments_make (model.BsetDrop a) = record { count = refl; fit = (refl, tt); made = refl }
-arguments_make (model.AmbRaise a) = record { count = refl; fit = (refl, tt); made = refl }
-arguments_make (model.AmbLower a) = record { count = refl; fit = (refl, tt); made = refl }
-arguments_make model.AmbClear = record { count = refl; fit = tt; made = refl }
-arguments_make (model.SecureBits a) = record { count = refl; fit = (refl, tt); made = refl }
-arguments_make (model.KeepCaps a) = record { count = refl; fit = (refl, tt); made = refl }
-arguments_make (model.NoNewPrivs a) = record { count = refl; fit = (refl, tt); made = refl }
-arguments_make model.Fork = record { count = refl; fit = tt; made = refl }
-arguments_make model.CloneUser = record { count = refl; fit = tt; made = refl }
-arguments_make model.Unshare = record { count = refl; fit = tt; made = refl }
-arguments_make (model.SetNs a) = record { count = refl; fit = (refl, tt); made = refl }
-arguments_make (model.WriteUidMap space list) =
-    record {
-      count = triples_counted (Space space) list;
-      fit = (refl, fit_triples 0 list);
-      made = ap (option_map (model.WriteUidMap space)) (extents_back list);
-    }
-arguments_make (model.WriteGidMap space list) =
-    record {
-      count = triples_counted (Space space) list;
-      fit = (refl, fit_triples 0 list);
-      made = ap (option_map (model.WriteGidMap space)) (extents_back list);
-    }
-arguments_make (model.WriteSetgroups a b) = record { count = refl; fit = (refl, (refl, tt)); made = refl }
-arguments_make (model.Exec a) = record { count = refl; fit = (refl, tt); made = refl }
-arguments_make model.Exit = record { count = refl; fit = tt; made = refl }
+-- values as arguments
+value_back : (form : Form) (value : Value form) → value_in form (as_argument form value) ≡ Some value
+value_back AnId n = refl
+value_back _ n = refl
+
+form_as : (form : Form) (value : Value form) → form_of (as_argument form value) ≡ form
+form_as AnId n = refl
+form_as _ n = refl
+
+values_count : (forms : List Form) (values : Values forms) → length (as_arguments forms values) ≡ length forms
+values_count [] values = refl
+values_count (form ∷ forms) values = omega (arith, values_count forms values.1)
+
+values_back : (forms : List Form) (values : Values forms) → values_in forms (as_arguments forms values) ≡ Some values
+values_back [] values = refl
+values_back (form ∷ forms) values = rw (value_back form values.0, values_back forms values.1) refl
+
+-- the form at the place after others
+form_after : (front : List Form) (form : Form) (forms : List Form) → get_or (front ++ form ∷ forms) (length front) ANumber ≡ form
+form_after [] form forms = refl
+form_after (other ∷ front) form forms = form_after front form forms
+
+fit_values : (front forms : List Form) (values : Values forms) → Fit (Just (front ++ forms)) (length front) (as_arguments forms values)
+fit_values front [] values = tt
+fit_values front (form ∷ forms) values =
+    let rest : Fit (Just ((front ++ form ∷ []) ++ forms)) (length (front ++ form ∷ [])) (as_arguments forms values.1) =
+    fit_values (front ++ form ∷ []) forms values.1 in
+    let long : length (front ++ form ∷ []) ≡ length front + 1 = length-append front (form ∷ []) in
+    let same : (front ++ form ∷ []) ++ forms ≡ front ++ form ∷ forms = append_assoc front (form ∷ []) forms in
+    let moved : Fit (Just (front ++ form ∷ forms)) (length (front ++ form ∷ [])) (as_arguments forms values.1) =
+    subst (λ (all : List Form). Fit (Just all) (length (front ++ form ∷ [])) (as_arguments forms values.1)) same rest in (
+      form_after front form forms ∙ sym (form_as form values.0),
+      subst (λ (place : ℕ). Fit (Just (front ++ form ∷ forms)) place (as_arguments forms values.1)) long moved,
+    )
+
+are_of : (pattern : Pattern) (carried : Carries pattern) → AreOf pattern carried
+are_of (Just forms) values = record {
+  count = eq-eqb (length (as_arguments forms values)) (length forms) (values_count forms values);
+  fit = fit_values [] forms values;
+  made = values_back forms values;
+}
+are_of Ids ids = record { count = refl; fit = fit_ids 0 ids; made = ids_back ids }
+are_of Triples carried = record {
+  count = triples_counted (Space carried.0) carried.1;
+  fit = (refl, fit_triples 0 carried.1);
+  made = ap (option_map (λ list. (carried.0, list))) (extents_back carried.1);
+}
+
+-- the arguments of a call of the kind make the call
+pub made_call : (kind : CallKind) (arguments : List Argument) (call : Call) → kind_of call ≡ kind → arguments_of call ≡ arguments
+    → call_with kind arguments ≡ Some call
+made_call kind arguments call is from =
+    rw (← is, ← from) (ap (option_map (λ carried. (kind_of call, carried))) (are_of (pattern_of (kind_of call)) call.1).made)
 
 -- ---- names
 -- The name of a call is a token, which names the call's kind.
@@ -197,31 +215,7 @@ record KindWritten (kind : CallKind) : Type 0 where
 
 kind_written : (kind : CallKind) → KindWritten kind
 kind_written kind.SetUid = record { token = record { some = lit< tt; short = lit< tt; plain = refl }; back = refl }
-kind_written kind.SetReUid = record { token = record { some = lit< tt; short = lit< tt; plain = refl }; back = refl }
-kind_written kind.SetResUid = record { token = record { some = lit< tt; short = lit< tt; plain = refl }; back = refl }
-kind_written kind.SetFsUid = record { token = record { some = lit< tt; short = lit< tt; plain = refl }; back = refl }
-kind_written kind.SetGid = record { token = record { some = lit< tt; short = lit< tt; plain = refl }; back = refl }
-kind_written kind.SetReGid = record { token = record { some = lit< tt; short = lit< tt; plain = refl }; back = refl }
-kind_written kind.SetResGid = record { token = record { some = lit< tt; short = lit< tt; plain = refl }; back = refl }
-kind_written kind.SetFsGid = record { token = record { some = lit< tt; short = lit< tt; plain = refl }; back = refl }
-kind_written kind.SetGroups = record { token = record { some = lit< tt; short = lit< tt; plain = refl }; back = refl }
-kind_written kind.CapSet = record { token = record { some = lit< tt; short = lit< tt; plain = refl }; back = refl }
-kind_written kind.BsetDrop = record { token = record { some = lit< tt; short = lit< tt; plain = refl }; back = refl }
-kind_written kind.AmbRaise = record { token = record { some = lit< tt; short = lit< tt; plain = refl }; back = refl }
-kind_written kind.AmbLower = record { token = record { some = lit< tt; short = lit< tt; plain = refl }; back = refl }
-kind_written kind.AmbClear = record { token = record { some = lit< tt; short = lit< tt; plain = refl }; back = refl }
-kind_written kind.SecureBits = record { token = record { some = lit< tt; short = lit< tt; plain = refl }; back = refl }
-kind_written kind.KeepCaps = record { token = record { some = lit< tt; short = lit< tt; plain = refl }; back = refl }
-kind_written kind.NoNewPrivs = record { token = record { some = lit< tt; short = lit< tt; plain = refl }; back = refl }
-kind_written kind.Fork = record { token = record { some = lit< tt; short = lit< tt; plain = refl }; back = refl }
-kind_written kind.CloneUser = record { token = record { some = lit< tt; short = lit< tt; plain = refl }; back = refl }
-kind_written kind.Unshare = record { token = record { some = lit< tt; short = lit< tt; plain = refl }; back = refl }
-kind_written kind.SetNs = record { token = record { some = lit< tt; short = lit< tt; plain = refl }; back = refl }
-kind_written kind.WriteUidMap = record { token = record { some = lit< tt; short = lit< tt; plain = refl }; back = refl }
-kind_written kind.WriteGidMap = record { token = record { some = lit< tt; short = lit< tt; plain = refl }; back = refl }
-kind_written kind.WriteSetgroups = record { token = record { some = lit< tt; short = lit< tt; plain = refl }; back = refl }
-kind_written kind.Exec = record { token = record { some = lit< tt; short = lit< tt; plain = refl }; back = refl }
-kind_written kind.Exit = record { token = record { some = lit< tt; short = lit< tt; plain = refl }; back = refl }
+kind_written _ = record { token = record { some = lit< tt; short = lit< tt; plain = refl }; back = refl }
 
 -- The name of an error is a token, and neither a number nor `0`.
 record ErrorWritten (e : Errno) : Type 0 where
@@ -232,22 +226,7 @@ record ErrorWritten (e : Errno) : Type 0 where
 
 error_written : (e : Errno) → ErrorWritten e
 error_written errno.EPERM = record { token = record { some = lit< tt; short = lit< tt; plain = refl }; number = refl; done = refl; back = refl }
-error_written errno.EINVAL = record { token = record { some = lit< tt; short = lit< tt; plain = refl }; number = refl; done = refl; back = refl }
-error_written errno.ENOSPC = record { token = record { some = lit< tt; short = lit< tt; plain = refl }; number = refl; done = refl; back = refl }
-error_written errno.ENOMEM = record { token = record { some = lit< tt; short = lit< tt; plain = refl }; number = refl; done = refl; back = refl }
-error_written errno.EAGAIN = record { token = record { some = lit< tt; short = lit< tt; plain = refl }; number = refl; done = refl; back = refl }
-error_written errno.EINTR = record { token = record { some = lit< tt; short = lit< tt; plain = refl }; number = refl; done = refl; back = refl }
-error_written errno.EFAULT = record { token = record { some = lit< tt; short = lit< tt; plain = refl }; number = refl; done = refl; back = refl }
-error_written errno.EIO = record { token = record { some = lit< tt; short = lit< tt; plain = refl }; number = refl; done = refl; back = refl }
-error_written errno.ENOENT = record { token = record { some = lit< tt; short = lit< tt; plain = refl }; number = refl; done = refl; back = refl }
-error_written errno.EACCES = record { token = record { some = lit< tt; short = lit< tt; plain = refl }; number = refl; done = refl; back = refl }
-error_written errno.ENOTDIR = record { token = record { some = lit< tt; short = lit< tt; plain = refl }; number = refl; done = refl; back = refl }
-error_written errno.ELOOP = record { token = record { some = lit< tt; short = lit< tt; plain = refl }; number = refl; done = refl; back = refl }
-error_written errno.ENAMETOOLONG = record { token = record { some = lit< tt; short = lit< tt; plain = refl }; number = refl; done = refl; back = refl }
-error_written errno.E2BIG = record { token = record { some = lit< tt; short = lit< tt; plain = refl }; number = refl; done = refl; back = refl }
-error_written errno.ENOEXEC = record { token = record { some = lit< tt; short = lit< tt; plain = refl }; number = refl; done = refl; back = refl }
-error_written errno.ETXTBSY = record { token = record { some = lit< tt; short = lit< tt; plain = refl }; number = refl; done = refl; back = refl }
-error_written errno.ELIBBAD = record { token = record { some = lit< tt; short = lit< tt; plain = refl }; number = refl; done = refl; back = refl }
+error_written _ = record { token = record { some = lit< tt; short = lit< tt; plain = refl }; number = refl; done = refl; back = refl }
 
 -- ---- results
 -- What is written of a result, read by this.
@@ -293,33 +272,14 @@ outcome_written (res.Err e) _ = record { token = (error_written e).token; back =
 done_written : (answer : Res) → answer ≡ res.Done → ResultWritten done_token answer
 done_written answer is = rw is (record { token = record { some = lit< tt; short = lit< tt; plain = refl }; back = refl })
 
+form_written : (form : ResultForm) (answer : Res) → IsOfForm form answer → ResultWritten (result_of_form form) answer
+form_written DoneOrError answer may = outcome_written answer may
+form_written DoneAlone answer may = done_written answer may
+form_written OldId answer may = old_id_written answer may
+form_written ChildOrError answer may = birth_written answer may
+
 result_written : (kind : CallKind) (answer : Res) → MayAnswer kind answer → ResultWritten (result_of_kind kind) answer
-result_written kind.SetFsUid answer may = old_id_written answer may
-result_written kind.SetFsGid answer may = old_id_written answer may
-result_written kind.Fork answer may = birth_written answer may
-result_written kind.CloneUser answer may = birth_written answer may
-result_written kind.Exit answer may = done_written answer may
-result_written kind.SetUid answer may = outcome_written answer may
-result_written kind.SetReUid answer may = outcome_written answer may
-result_written kind.SetResUid answer may = outcome_written answer may
-result_written kind.SetGid answer may = outcome_written answer may
-result_written kind.SetReGid answer may = outcome_written answer may
-result_written kind.SetResGid answer may = outcome_written answer may
-result_written kind.SetGroups answer may = outcome_written answer may
-result_written kind.CapSet answer may = outcome_written answer may
-result_written kind.BsetDrop answer may = outcome_written answer may
-result_written kind.AmbRaise answer may = outcome_written answer may
-result_written kind.AmbLower answer may = outcome_written answer may
-result_written kind.AmbClear answer may = outcome_written answer may
-result_written kind.SecureBits answer may = outcome_written answer may
-result_written kind.KeepCaps answer may = outcome_written answer may
-result_written kind.NoNewPrivs answer may = outcome_written answer may
-result_written kind.Unshare answer may = outcome_written answer may
-result_written kind.SetNs answer may = outcome_written answer may
-result_written kind.WriteUidMap answer may = outcome_written answer may
-result_written kind.WriteGidMap answer may = outcome_written answer may
-result_written kind.WriteSetgroups answer may = outcome_written answer may
-result_written kind.Exec answer may = outcome_written answer may
+result_written kind answer may = form_written (result_form kind) answer may
 
 -- ---- the line
 -- the tokens of the line
@@ -352,7 +312,7 @@ no_comment (d ∷ digits) all =
 call_back : (w : World) (call : Call) → All (Written w) (arguments_of call)
     → call_told w (kind_of call) (map (argument_text w) (arguments_of call)) ≡ Ok call
 call_back w call all =
-    let make : ArgumentsMake call = arguments_make call in
+    let make : AreOf (pattern_of (kind_of call)) call.1 = are_of (pattern_of (kind_of call)) call.1 in
     rw (length-map, make.count, arguments_back w (pattern_of (kind_of call)) 0 (arguments_of call) make.fit all, make.made) refl
 
 -- An event that is read again as it is written: its arguments are, its pid and its result are in their ranges, and its

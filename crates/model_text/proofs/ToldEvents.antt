@@ -25,9 +25,8 @@ use Rattle.cm_base.specs.declared.res.FileRef.TheVariants.{Plain}
 use Rattle.cm_base.specs.declared.res.Res.{Res}
 use Rattle.cm_base.specs.declared.res.Res.TheVariants as res
 use Rattle.cm_filter.specs.declared.kind.CallKind.{CallKind}
-use Rattle.cm_filter.specs.declared.kind.CallKind.TheVariants as kind
 use Rattle.cm_filter.specs.Kinds.{kind_named}
-use Rattle.model_cred.specs.Call as model
+use Rattle.cm_filter.specs.Shapes.{ResultForm, DoneOrError, DoneAlone, OldId, ChildOrError, Just, Ids, Triples, result_form}
 use Rattle.model_cred.specs.Call.{Call, Event, kind_of}
 use Rattle.model_cred.specs.Files.{FileTable, IsDeclared, file_named, ref_of, row_named}
 use Rattle.model_cred.specs.IdMap.{Extent}
@@ -41,13 +40,12 @@ use Rattle.model_text.specs.Arguments.{Form, AnId, ANumber, ACap, ASet, ASpace, 
 use Rattle.model_text.specs.Arguments.{pattern_of, takes}
 use Rattle.model_text.specs.Arguments.{Argument, Id, Number, Cap, Set, Space, Word, File, argument_token, arguments_of}
 use Rattle.model_text.specs.Arguments.{triple_of}
-use Rattle.model_text.specs.Arguments.{call_with, ids_in, extents_in, with_id, with_two_ids, with_three_ids, with_ids}
-use Rattle.model_text.specs.Arguments.{with_sets, with_cap}
-use Rattle.model_text.specs.Arguments.{with_number, with_space, with_file, with_word, with_extents, with_none}
+use Rattle.model_text.specs.Arguments.{call_with, ids_in, extents_in, value_in, values_in, carried_in}
+use Rattle.model_text.specs.Arguments.{as_argument, as_arguments, carried_as}
 use Rattle.model_text.specs.CapText.{set_of_text}
 use Rattle.model_text.specs.Cut.{tokens_of}
 use Rattle.model_text.specs.Line.{Line, NoEvent, Tells, Faulty, Exceeds, Tokens, Parts, parts_of, argument_before}
-use Rattle.model_text.specs.Line.{arguments_from, call_read, call_told, result_of_kind, groups_fit}
+use Rattle.model_text.specs.Line.{arguments_from, call_read, call_told, result_of_form, result_of_kind, groups_fit}
 use Rattle.model_text.specs.Line.{told_line, outcome_line, parts_line, kind_line, call_line, pid_line, tokens_line}
 use Rattle.model_text.specs.Line.{script_line}
 use Rattle.model_text.specs.NameText.{is_path}
@@ -56,7 +54,7 @@ use Rattle.model_text.specs.Token.{birth_token, cap_token, done_token, file_toke
 use Rattle.model_text.specs.Token.{old_id_token, pid_token}
 use Rattle.model_text.specs.Token.{result_token, word_token}
 use Rattle.model_text.specs.WorldText.{Reads, world_text}
-use Rattle.model_text.specs.Written.{IsInRange, IsOutcome, IsBirth, IsOldId, MayAnswer, IsWritable, LinesReadBack}
+use Rattle.model_text.specs.Written.{IsInRange, IsOutcome, IsBirth, IsOldId, IsOfForm, MayAnswer, IsWritable, LinesReadBack}
 use Rattle.model_text.specs.Written.{ToldAreWritable, ToldReadBack}
 
 -- ---- numbers, pids, capabilities, spaces
@@ -177,73 +175,6 @@ arguments_fit w pattern place (token ∷ tokens) arguments few is =
     (λ more there. arguments_fit w pattern (place + 1) tokens more few there) is
 
 -- ---- calls
--- The call is of the kind, and has these arguments.
-pub record IsMade (kind : CallKind) (arguments : List Argument) (call : Call) : Type 0 where
-  pub is : kind_of call ≡ kind
-  pub from : arguments_of call ≡ arguments
-
--- so is each call that is made
-abbrev pub Makes : CallKind → List Argument → Option Call → Type 0
-Makes kind arguments made = IfSome made (IsMade kind arguments)
-
-of_id : (kind : CallKind) (make : ℕ → Call) → ((a : ℕ) → IsMade kind (Id a ∷ []) (make a)) → (arguments : List Argument)
-    → Makes kind arguments (with_id make arguments)
-of_id kind make each (Id a ∷ []) = each a
-of_id kind make each _ = tt
-
-of_two : (kind : CallKind) (make : ℕ → ℕ → Call) → ((a b : ℕ) → IsMade kind (Id a ∷ Id b ∷ []) (make a b))
-    → (arguments : List Argument)
-    → Makes kind arguments (with_two_ids make arguments)
-of_two kind make each (Id a ∷ Id b ∷ []) = each a b
-of_two kind make each _ = tt
-
-of_three : (kind : CallKind) (make : ℕ → ℕ → ℕ → Call)
-    → ((a b c : ℕ) → IsMade kind (Id a ∷ Id b ∷ Id c ∷ []) (make a b c))
-    → (arguments : List Argument) → Makes kind arguments (with_three_ids make arguments)
-of_three kind make each (Id a ∷ Id b ∷ Id c ∷ []) = each a b c
-of_three kind make each _ = tt
-
-of_sets : (kind : CallKind) (make : ℕ → ℕ → ℕ → Call)
-    → ((a b c : ℕ) → IsMade kind (Set a ∷ Set b ∷ Set c ∷ []) (make a b c))
-    → (arguments : List Argument) → Makes kind arguments (with_sets make arguments)
-of_sets kind make each (Set a ∷ Set b ∷ Set c ∷ []) = each a b c
-of_sets kind make each _ = tt
-
-of_cap : (kind : CallKind) (make : ℕ → Call) → ((a : ℕ) → IsMade kind (Cap a ∷ []) (make a))
-    → (arguments : List Argument)
-    → Makes kind arguments (with_cap make arguments)
-of_cap kind make each (Cap a ∷ []) = each a
-of_cap kind make each _ = tt
-
-of_number : (kind : CallKind) (make : ℕ → Call) → ((a : ℕ) → IsMade kind (Number a ∷ []) (make a))
-    → (arguments : List Argument)
-    → Makes kind arguments (with_number make arguments)
-of_number kind make each (Number a ∷ []) = each a
-of_number kind make each _ = tt
-
-of_space : (kind : CallKind) (make : ℕ → Call) → ((a : ℕ) → IsMade kind (Space a ∷ []) (make a))
-    → (arguments : List Argument)
-    → Makes kind arguments (with_space make arguments)
-of_space kind make each (Space a ∷ []) = each a
-of_space kind make each _ = tt
-
-of_file : (kind : CallKind) (make : FileRef → Call) → ((a : FileRef) → IsMade kind (File a ∷ []) (make a))
-    → (arguments : List Argument)
-    → Makes kind arguments (with_file make arguments)
-of_file kind make each (File a ∷ []) = each a
-of_file kind make each _ = tt
-
-of_word : (kind : CallKind) (make : ℕ → Bool → Call)
-    → ((a : ℕ) (b : Bool) → IsMade kind (Space a ∷ Word b ∷ []) (make a b))
-    → (arguments : List Argument) → Makes kind arguments (with_word make arguments)
-of_word kind make each (Space a ∷ Word b ∷ []) = each a b
-of_word kind make each _ = tt
-
-of_none : (kind : CallKind) (call : Call) → IsMade kind [] call → (arguments : List Argument)
-    → Makes kind arguments (with_none call arguments)
-of_none kind call is [] = is
-of_none kind call is (argument ∷ arguments) = tt
-
 -- ids, and triples of numbers, are those that they are read from
 ids_are : (arguments : List Argument) → IfSome (ids_in arguments) (λ ids. map Id ids ≡ arguments)
 ids_are [] = refl
@@ -262,67 +193,50 @@ extents_are (Number i ∷ Number o ∷ Number n ∷ more) =
     (λ list same. ap (λ (others : List Argument). Number i ∷ Number o ∷ Number n ∷ others) same)
 extents_are _ = tt
 
-of_ids : (kind : CallKind) (make : List ℕ → Call) → ((ids : List ℕ) → IsMade kind (map Id ids) (make ids))
-    → (arguments : List Argument)
-    → Makes kind arguments (with_ids make arguments)
-of_ids kind make each arguments =
-    if_mapped (λ ids. map Id ids ≡ arguments) (IsMade kind arguments) make (ids_in arguments) (ids_are arguments)
-    (λ ids same. subst (λ (list : List Argument). IsMade kind list (make ids)) same (each ids))
+value_is : (form : Form) (argument : Argument) → IfSome (value_in form argument) (λ value. as_argument form value ≡ argument)
+value_is AnId (Id n) = refl
+value_is ANumber (Number n) = refl
+value_is ACap (Cap n) = refl
+value_is ASet (Set n) = refl
+value_is ASpace (Space n) = refl
+value_is AWord (Word deny) = refl
+value_is AFile (File file) = refl
+value_is _ _ = tt
 
-of_extents : (kind : CallKind) (make : ℕ → List Extent → Call)
-    → ((a : ℕ) (list : List Extent) → IsMade kind (Space a ∷ flat_map triple_of list) (make a list))
-    → (arguments : List Argument) → Makes kind arguments (with_extents make arguments)
-of_extents kind make each (Space a ∷ more) =
-    if_mapped (λ list. flat_map triple_of list ≡ more) (IsMade kind (Space a ∷ more)) (make a) (extents_in more)
-    (extents_are more)
-    (λ list same. subst (λ (others : List Argument). IsMade kind (Space a ∷ others) (make a list)) same (each a list))
-of_extents kind make each _ = tt
+values_are : (forms : List Form) (arguments : List Argument)
+    → IfSome (values_in forms arguments) (λ values. as_arguments forms values ≡ arguments)
+values_are [] [] = refl
+values_are (form ∷ forms) (argument ∷ more) =
+    if_then (λ value. as_argument form value ≡ argument) (λ values. as_arguments (form ∷ forms) values ≡ argument ∷ more)
+    (λ value. option_map (λ values. (value, values)) (values_in forms more)) (value_in form argument) (value_is form argument)
+    (λ value same. if_mapped (λ values. as_arguments forms values ≡ more)
+    (λ values. as_arguments (form ∷ forms) values ≡ argument ∷ more) (λ values. (value, values))
+    (values_in forms more) (values_are forms more)
+    (λ values others. rw (same, others) refl))
+values_are [] (argument ∷ more) = tt
+values_are (form ∷ forms) [] = tt
 
-pub calls_made : (kind : CallKind) (arguments : List Argument) → Makes kind arguments (call_with kind arguments)
-calls_made kind.SetUid arguments = of_id kind.SetUid model.SetUid (λ a. record { is = refl; from = refl }) arguments
-calls_made kind.SetReUid arguments =
-    of_two kind.SetReUid model.SetReUid (λ a b. record { is = refl; from = refl }) arguments
-calls_made kind.SetResUid arguments =
-    of_three kind.SetResUid model.SetResUid (λ a b c. record { is = refl; from = refl }) arguments
-calls_made kind.SetFsUid arguments =
-    of_id kind.SetFsUid model.SetFsUid (λ a. record { is = refl; from = refl }) arguments
-calls_made kind.SetGid arguments = of_id kind.SetGid model.SetGid (λ a. record { is = refl; from = refl }) arguments
-calls_made kind.SetReGid arguments =
-    of_two kind.SetReGid model.SetReGid (λ a b. record { is = refl; from = refl }) arguments
-calls_made kind.SetResGid arguments =
-    of_three kind.SetResGid model.SetResGid (λ a b c. record { is = refl; from = refl }) arguments
-calls_made kind.SetFsGid arguments =
-    of_id kind.SetFsGid model.SetFsGid (λ a. record { is = refl; from = refl }) arguments
-calls_made kind.SetGroups arguments =
-    of_ids kind.SetGroups model.SetGroups (λ ids. record { is = refl; from = refl }) arguments
-calls_made kind.CapSet arguments =
-    of_sets kind.CapSet model.CapSet (λ a b c. record { is = refl; from = refl }) arguments
-calls_made kind.BsetDrop arguments =
-    of_cap kind.BsetDrop model.BsetDrop (λ a. record { is = refl; from = refl }) arguments
-calls_made kind.AmbRaise arguments =
-    of_cap kind.AmbRaise model.AmbRaise (λ a. record { is = refl; from = refl }) arguments
-calls_made kind.AmbLower arguments =
-    of_cap kind.AmbLower model.AmbLower (λ a. record { is = refl; from = refl }) arguments
-calls_made kind.AmbClear arguments = of_none kind.AmbClear model.AmbClear (record { is = refl; from = refl }) arguments
-calls_made kind.SecureBits arguments =
-    of_number kind.SecureBits model.SecureBits (λ a. record { is = refl; from = refl }) arguments
-calls_made kind.KeepCaps arguments =
-    of_number kind.KeepCaps model.KeepCaps (λ a. record { is = refl; from = refl }) arguments
-calls_made kind.NoNewPrivs arguments =
-    of_number kind.NoNewPrivs model.NoNewPrivs (λ a. record { is = refl; from = refl }) arguments
-calls_made kind.Fork arguments = of_none kind.Fork model.Fork (record { is = refl; from = refl }) arguments
-calls_made kind.CloneUser arguments =
-    of_none kind.CloneUser model.CloneUser (record { is = refl; from = refl }) arguments
-calls_made kind.Unshare arguments = of_none kind.Unshare model.Unshare (record { is = refl; from = refl }) arguments
-calls_made kind.SetNs arguments = of_space kind.SetNs model.SetNs (λ a. record { is = refl; from = refl }) arguments
-calls_made kind.WriteUidMap arguments =
-    of_extents kind.WriteUidMap model.WriteUidMap (λ a list. record { is = refl; from = refl }) arguments
-calls_made kind.WriteGidMap arguments =
-    of_extents kind.WriteGidMap model.WriteGidMap (λ a list. record { is = refl; from = refl }) arguments
-calls_made kind.WriteSetgroups arguments =
-    of_word kind.WriteSetgroups model.WriteSetgroups (λ a b. record { is = refl; from = refl }) arguments
-calls_made kind.Exec arguments = of_file kind.Exec model.Exec (λ a. record { is = refl; from = refl }) arguments
-calls_made kind.Exit arguments = of_none kind.Exit model.Exit (record { is = refl; from = refl }) arguments
+-- what is made of arguments is written as these
+carried_are : (pattern : Pattern) (arguments : List Argument)
+    → IfSome (carried_in pattern arguments) (λ carried. carried_as pattern carried ≡ arguments)
+carried_are (Just forms) arguments = values_are forms arguments
+carried_are Ids arguments = ids_are arguments
+carried_are Triples (Space space ∷ more) =
+    if_mapped (λ list. flat_map triple_of list ≡ more) (λ carried. carried_as Triples carried ≡ Space space ∷ more)
+    (λ list. (space, list)) (extents_in more) (extents_are more)
+    (λ list same. ap (λ (others : List Argument). Space space ∷ others) same)
+carried_are Triples _ = tt
+
+-- The call is of the kind, and has these arguments.
+pub record IsMade (kind : CallKind) (arguments : List Argument) (call : Call) : Type 0 where
+  pub is : kind_of call ≡ kind
+  pub from : arguments_of call ≡ arguments
+
+pub calls_made : (kind : CallKind) (arguments : List Argument) → IfSome (call_with kind arguments) (IsMade kind arguments)
+calls_made kind arguments =
+    if_mapped (λ carried. carried_as (pattern_of kind) carried ≡ arguments) (IsMade kind arguments) (λ carried. (kind, carried))
+    (carried_in (pattern_of kind) arguments) (carried_are (pattern_of kind) arguments)
+    (λ carried same. record { is = refl; from = same })
 
 -- What a call that is told is: of the kind, its arguments in their ranges.
 pub record IsCallOf (w : World) (kind : CallKind) (call : Call) : Type 0 where
@@ -341,7 +255,7 @@ read_fits : (w : World) (kind : CallKind) (read : Result (List Argument) ℕ) (c
 read_fits w kind (Err n) call fit is = absurd (cc)
 read_fits w kind (Ok arguments) call fit is = by_made (call_with kind arguments) (calls_made kind arguments) is
   where
-    by_made : (made : Option Call) → Makes kind arguments made → ok_or made fault.Count ≡ Ok call → IsCallOf w kind call
+    by_made : (made : Option Call) → IfSome made (IsMade kind arguments) → ok_or made fault.Count ≡ Ok call → IsCallOf w kind call
     by_made None makes never = absurd (cc)
     by_made (Some other) makes same =
         let is_it : other ≡ call = cc in subst (IsCallOf w kind) is_it
@@ -379,13 +293,14 @@ done_may text =
     cond_both (bytes_eq text (codes "0")) (Some res.Done) None (λ o. IfSome o (λ answer. answer ≡ res.Done)) (λ _. refl)
     (λ _. tt)
 
+form_may : (form : ResultForm) (text : List ℕ) → IfSome (result_of_form form text) (IsOfForm form)
+form_may DoneOrError text = outcome_may text
+form_may DoneAlone text = done_may text
+form_may OldId text = old_id_may text
+form_may ChildOrError text = birth_may text
+
 result_may : (kind : CallKind) (text : List ℕ) → IfSome (result_of_kind kind text) (MayAnswer kind)
-result_may kind.SetFsUid text = old_id_may text
-result_may kind.SetFsGid text = old_id_may text
-result_may kind.Fork text = birth_may text
-result_may kind.CloneUser text = birth_may text
-result_may kind.Exit text = done_may text
-result_may _ text = outcome_may text
+result_may kind text = form_may (result_form kind) text
 
 -- ---- spaces of which this isn't known
 -- the numbers of the spaces among the arguments are at most this

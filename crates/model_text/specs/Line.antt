@@ -9,8 +9,8 @@ use Rattle.cm_base.specs.declared.limited.Limited.{Limited}
 use Rattle.cm_base.specs.declared.limited.Limited.TheVariants as limit
 use Rattle.cm_base.specs.Limited.{limit_number}
 use Rattle.cm_filter.specs.declared.kind.CallKind.{CallKind}
-use Rattle.cm_filter.specs.declared.kind.CallKind.TheVariants as kind
 use Rattle.cm_filter.specs.Kinds.{kind_named}
+use Rattle.cm_filter.specs.Shapes.{ResultForm, DoneOrError, DoneAlone, OldId, ChildOrError, result_form}
 use Rattle.model_cred.specs.Call.{Call, Event, SetGroups}
 use Rattle.model_cred.specs.World.{World}
 use Rattle.model_text.specs.Arguments.{Argument, Pattern, pattern_of, takes, form_at, argument_token, call_with}
@@ -73,15 +73,16 @@ call_told w kind tokens =
     if takes (pattern_of kind) (length tokens) then call_read kind (arguments_from w (pattern_of kind) 0 tokens) else Err fault.Count
 
 -- ---- the result
--- the result of a call of that kind: the id from before for setfsuid and setfsgid, which have no error; the child's pid or
--- an error for births; done for exit, which has no error either; else done or an error
+-- the result of the form: done or an error; done alone; the id from before; the child's pid or an error
+abbrev pub result_of_form : ResultForm → List ℕ → Option Res
+result_of_form DoneOrError token = result_token token
+result_of_form DoneAlone token = done_token token
+result_of_form OldId token = old_id_token token
+result_of_form ChildOrError token = birth_token token
+
+-- the result of a call of that kind
 abbrev pub result_of_kind : CallKind → List ℕ → Option Res
-result_of_kind kind.SetFsUid token = old_id_token token
-result_of_kind kind.SetFsGid token = old_id_token token
-result_of_kind kind.Fork token = birth_token token
-result_of_kind kind.CloneUser token = birth_token token
-result_of_kind kind.Exit token = done_token token
-result_of_kind _ token = result_token token
+result_of_kind kind token = result_of_form (result_form kind) token
 
 -- ---- the line
 -- a list of groups is within its limit

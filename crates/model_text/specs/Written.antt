@@ -7,7 +7,7 @@ use Rattle.cm_base.specs.declared.limited.Limited.TheVariants as limit
 use Rattle.cm_base.specs.declared.res.Res.{Res}
 use Rattle.cm_base.specs.declared.res.Res.TheVariants as res
 use Rattle.cm_filter.specs.declared.kind.CallKind.{CallKind}
-use Rattle.cm_filter.specs.declared.kind.CallKind.TheVariants as kind
+use Rattle.cm_filter.specs.Shapes.{ResultForm, DoneOrError, DoneAlone, OldId, ChildOrError, result_form}
 use Rattle.model_cred.specs.Call.{Event, kind_of}
 use Rattle.model_cred.specs.Files.{IsDeclared}
 use Rattle.model_cred.specs.Process.{is_pid}
@@ -65,14 +65,16 @@ abbrev pub IsOldId : Res → Type 0
 IsOldId (res.Id n) = n ≤ greatest_number
 IsOldId _ = ⊥
 
+-- the result is of the form
+abbrev pub IsOfForm : ResultForm → Res → Type 0
+IsOfForm DoneOrError answer = IsOutcome answer
+IsOfForm DoneAlone answer = answer ≡ res.Done
+IsOfForm OldId answer = IsOldId answer
+IsOfForm ChildOrError answer = IsBirth answer
+
 -- the result has a form that a call of the kind may have
 abbrev pub MayAnswer : CallKind → Res → Type 0
-MayAnswer kind.SetFsUid answer = IsOldId answer
-MayAnswer kind.SetFsGid answer = IsOldId answer
-MayAnswer kind.Fork answer = IsBirth answer
-MayAnswer kind.CloneUser answer = IsBirth answer
-MayAnswer kind.Exit answer = answer ≡ res.Done
-MayAnswer _ answer = IsOutcome answer
+MayAnswer kind answer = IsOfForm (result_form kind) answer
 
 -- An event over a world: its pid, its arguments and its result are in their ranges, and its groups are within their limit.
 pub record IsWritable (w : World) (e : Event) : Type 0 where

@@ -4,7 +4,8 @@ ghost use Rattle.model_text.specs.Token.{res_text};
 ghost use Rattle.model_text.specs.Written.{IsBirth, IsOldId, IsOutcome, MayAnswer};
 
 use super::numbers::{take_decimal, take_pid};
-use cm_base::{Errno, Res};
+use crate::results::read_error;
+use cm_base::Res;
 use cm_filter::CallKind;
 
 /// The result of a call of that kind. None says nothing of the text.
@@ -41,7 +42,7 @@ fn own_birth(text: &[u8]) -> Option<Res>
 {
     match take_pid(text) {
         Some((pid, [])) => Some(Res::Child(pid)),
-        _ => own_error(text),
+        _ => read_error(text),
     }
 }
 
@@ -64,17 +65,6 @@ fn own_outcome(text: &[u8]) -> Option<Res>
 {
     match own_done(text) {
         Some(res) => Some(res),
-        None => own_error(text),
+        None => read_error(text),
     }
-}
-
-// An error by its name.
-#[tactic(auto, using(crate::proofs::OwnWords::error_is_named))]
-fn own_error(text: &[u8]) -> Option<Res>
-    ensures written { IfSome result (λ res. res_text res ≡ text.now) }
-    ensures outcome { IfSome result (λ res. IsOutcome res) }
-    ensures birth { IfSome result (λ res. IsBirth res) }
-{
-    let error = Errno::from_name(text)?;
-    Some(Res::Err(error))
 }

@@ -1,4 +1,4 @@
-use Rattle.std.proofs.Common.{◌≡◌, List, ap, ◌∙◌}
+use Rattle.std.proofs.Common.{List, ap, ◌∙◌}
 use Rattle.std.specs.Prelude.{find}
 use Rattle.cm_base.proofs.Lengths.{find_of_length}
 use Rattle.cm_filter.specs.Kinds.{call_kinds, call_name, has_name}

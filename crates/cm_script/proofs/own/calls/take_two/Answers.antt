@@ -1,9 +1,7 @@
-use Rattle.std.proofs.Common.{rules}
-use Rattle.cm_script.proofs.OwnArguments.{takes_two}
+use Rattle.cm_script.proofs.OwnArguments.{taken_call, takes_two}
 use Rattle.cm_script.proofs.own.calls.take_two.Goals as goal
 
-pub returns-in-SetReUid : goal.returns-in-SetReUid
-returns-in-SetReUid c = λ w. record { of_kind = search rules; arguments = takes_two w _ _ _ _ _ (c.in_ok-r.ensures.taken w) (c.in_ok-e.ensures.taken w) }
-
-pub returns-in_default : goal.returns-in_default
-returns-in_default c = λ w. record { of_kind = search rules; arguments = takes_two w _ _ _ _ _ (c.in_ok-r.ensures.taken w) (c.in_ok-e.ensures.taken w) }
+pub returns : goal.returns
+returns c = λ w.
+    taken_call w _ _ _ _ _ c.with_two_ids.ensures.kind c.with_two_ids.ensures.arguments
+    (takes_two w _ _ _ _ _ (c.in_ok-r.ensures.taken w) (c.in_ok-e.ensures.taken w))

@@ -1,9 +1,8 @@
-use Rattle.std.proofs.Common.{refl}
 use Rattle.cm_declared.specs.World.{world_of}
-use Rattle.cm_script.proofs.OwnArguments.{takes_two}
+use Rattle.cm_script.proofs.OwnArguments.{taken_call, takes_two}
 use Rattle.cm_script.proofs.own.calls.take_word_call.Goals as goal
 
 pub returns : goal.returns
 returns c =
     let w = world_of c.args.w.now in
-    record { of_kind = refl; arguments = takes_two w _ _ _ _ _ c.in_ok-space.ensures (c.in_ok-deny.ensures w) }
+    taken_call w _ _ _ _ _ c.with_word.ensures.kind c.with_word.ensures.arguments (takes_two w _ _ _ _ _ c.in_ok-space.ensures (c.in_ok-deny.ensures w))

@@ -1,0 +1,49 @@
+-- The arguments of a call, as they are written one after the other.
+use Rattle.std.proofs.Common.{◌≡◌, ℕ, List, [], ◌∷◌, ◌++◌, Result, Ok, Err, ◌⊎◌, inl, inr, sym, ap, subst, ◌∙◌, append_assoc, append-nil}
+use Rattle.cm_base.specs.Outcome.{OrNoMemory}
+use Rattle.cm_state.specs.Call.{call_of}
+use Rattle.cm_state.specs.declared.call.Call.{Call}
+use Rattle.cm_tokens.specs.Pieces.{Appends}
+use Rattle.model_cred.specs.Call as model
+use Rattle.model_cred.specs.World.{World}
+use Rattle.model_text.specs.Arguments.{Argument, arguments_of, spaced_text, spaced_texts}
+
+-- ---- what is written
+-- arguments
+abbrev pub Puts : {T E : Type 0} → World → Result T E → List ℕ → List ℕ → List Argument → Type 0
+Puts w r old new arguments = OrNoMemory r (λ _. Appends old new (spaced_texts w arguments))
+
+-- the last one
+pub last_put : {T E : Type 0} (w : World) (a : Argument) (r : Result T E) (old new : List ℕ) → OrNoMemory r (λ _. Appends old new (spaced_text w a))
+    → Puts w r old new (a ∷ [])
+last_put w a (Ok x) old new is = is ∙ ap (λ (t : List ℕ). old ++ t) (sym (append-nil (spaced_text w a)))
+last_put w a (Err why) old new is = tt
+
+-- one, and those after it
+pub more_put : {T E : Type 0} (w : World) (a : Argument) (rest : List Argument) (r : Result T E) (old mid new : List ℕ)
+    → Appends old mid (spaced_text w a) → Puts w r mid new rest → Puts w r old new (a ∷ rest)
+more_put w a rest (Ok x) old mid new first is =
+    is ∙ ap (λ (t : List ℕ). t ++ spaced_texts w rest) first ∙ append_assoc old (spaced_text w a) (spaced_texts w rest)
+more_put w a rest (Err why) old mid new first is = tt
+
+-- those of a call
+pub call_put : {T E : Type 0} (w : World) (call : model.Call) (arguments : List Argument) (r : Result T E) (old new : List ℕ)
+    → arguments_of call ≡ arguments → Puts w r old new arguments → Puts w r old new (arguments_of call)
+call_put w call arguments r old new are = subst (λ (list : List Argument). Puts w r old new list) (sym are)
+
+-- ---- which call it is
+-- one of so many
+pub of_two : (call a b : Call) (list : List Argument) → (call ≡ a) ⊎ (call ≡ b) → arguments_of (call_of a) ≡ list → arguments_of (call_of b) ≡ list
+    → arguments_of (call_of call) ≡ list
+of_two call a b list (inl is) first second = ap (λ (c : Call). arguments_of (call_of c)) is ∙ first
+of_two call a b list (inr is) first second = ap (λ (c : Call). arguments_of (call_of c)) is ∙ second
+
+pub of_three : (call a b c : Call) (list : List Argument) → (call ≡ a) ⊎ (call ≡ b) ⊎ (call ≡ c) → arguments_of (call_of a) ≡ list
+    → arguments_of (call_of b) ≡ list → arguments_of (call_of c) ≡ list → arguments_of (call_of call) ≡ list
+of_three call a b c list (inl is) first second third = ap (λ (x : Call). arguments_of (call_of x)) is ∙ first
+of_three call a b c list (inr more) first second third = of_two call b c list more second third
+
+pub of_four : (call a b c d : Call) (list : List Argument) → (call ≡ a) ⊎ (call ≡ b) ⊎ (call ≡ c) ⊎ (call ≡ d) → arguments_of (call_of a) ≡ list
+    → arguments_of (call_of b) ≡ list → arguments_of (call_of c) ≡ list → arguments_of (call_of d) ≡ list → arguments_of (call_of call) ≡ list
+of_four call a b c d list (inl is) first second third fourth = ap (λ (x : Call). arguments_of (call_of x)) is ∙ first
+of_four call a b c d list (inr more) first second third fourth = of_three call b c d list more second third fourth

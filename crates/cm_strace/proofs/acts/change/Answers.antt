@@ -1,0 +1,10 @@
+use Rattle.std.proofs.Common.{sym, inl, inr}
+use Rattle.cm_strace.proofs.Unchanged.{after_id, after_child, after_error}
+use Rattle.cm_strace.proofs.acts.change.Goals as goal
+
+pub returns-in-Id-clause-changed : goal.returns-in-Id-clause-changed
+returns-in-Id-clause-changed c = elim c.in-Id.is [
+  | inl is ↦ rw is.1 (sym (after_id c.args.pid c.args.call.now is.0 c.args.parts.now.known))
+  | inr (inl is) ↦ rw is.1 (sym (after_child c.args.pid c.args.call.now is.0 c.args.parts.now.known))
+  | inr (inr is) ↦ rw is.1 (sym (after_error c.args.pid c.args.call.now is.0 c.args.parts.now.known))
+]
