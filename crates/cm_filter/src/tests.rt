@@ -40,7 +40,7 @@ const NAMES: [(CallKind, &str, Shape); 26] = [
 fn kinds_have_their_names_and_shapes(rt: HostRuntime) {
     for (kind, name, shape) in NAMES {
         assert_eq!(rt; kind.name(), name);
-        assert_eq!(rt; kind.shape(), shape, "{name}");
+        assert_eq!(rt; kind.shape(), shape);
         assert_eq!(rt; CallKind::from_name(name.as_bytes()), Some(kind));
     }
 }
