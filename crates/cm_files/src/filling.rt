@@ -33,10 +33,7 @@ pub(crate) fn fill(alloc: Global, mounts: &[Mount], rows: &[FileRow]) -> Result<
         views: Vec::with_capacity(alloc, rows.len())?,
     };
     for n in 0..rows.len() {
-        match add_row(mounts, rows, n, &mut filled) {
-            Ok(()) => {}
-            Err(fault) => return Err(fault),
-        }
+        add_row(mounts, rows, n, &mut filled)?;
     }
     Ok(filled)
 }

@@ -53,10 +53,7 @@ impl FileTable {
         ensures fine { OnOk result (files_fault mounts.items rows.items ≡ None) }
         ensures refused { IfErr result (λ e. Diagnoses e (files_fault mounts.items rows.items)) }
     {
-        let filled = match fill(alloc, &mounts, &rows) {
-            Ok(filled) => filled,
-            Err(fault) => return Err(fault),
-        };
+        let filled = fill(alloc, &mounts, &rows)?;
         see_mounts(&mounts);
         let Filled { index, views } = filled;
         Ok(FileTable {

@@ -12,10 +12,10 @@ loop-n-preserved c =
     let rows = c.args.rows.now in
     let n = c.loop-n.n in
     record {
-      index = c.in-Ok.ensures.index;
-      keys = c.in-Ok.ensures.keys;
-      seen = c.in-Ok.ensures.seen ∙ ap (λ l. l ++ seen_on c.args.mounts.now (get_or rows n no_row) ∷ []) c.loop-n.invariant.seen
+      index = c.in_ok-add_row.ensures.index;
+      keys = c.in_ok-add_row.ensures.keys;
+      seen = c.in_ok-add_row.ensures.seen ∙ ap (λ l. l ++ seen_on c.args.mounts.now (get_or rows n no_row) ∷ []) c.loop-n.invariant.seen
           ∙ sym (map_more (seen_on c.args.mounts.now) rows n no_row c.loop-n-test.true);
-      keeps = All-more KeepsRow rows n no_row c.loop-n-test.true c.loop-n.invariant.keeps c.in-Ok.ensures.keeps;
-      fine = fault_more (length c.args.mounts.now) rows n _ c.loop-n-test.true c.in-Ok.ensures.fine c.loop-n.invariant.fine;
+      keeps = All-more KeepsRow rows n no_row c.loop-n-test.true c.loop-n.invariant.keeps c.in_ok-add_row.ensures.keeps;
+      fine = fault_more (length c.args.mounts.now) rows n _ c.loop-n-test.true c.in_ok-add_row.ensures.fine c.loop-n.invariant.fine;
     }
