@@ -12,8 +12,9 @@
 PREFIX ?= /usr/local
 CRATE := crates/credaudit
 PROGRAM := $(CRATE)/out/credaudit
-# The commands around the program: their package lies below lib, where they find it.
+# The commands around the program: their packages lie below lib, where they find them.
 COMMANDS := $(wildcard tools/credaudit-*)
+PACKAGES := tools/commands/src/credaudit_tools tools/checker/src/credaudit_check
 LIBRARY := $(PREFIX)/lib/credaudit
 SHARE := $(PREFIX)/share
 DOCUMENTS := $(SHARE)/doc/credaudit
@@ -38,10 +39,15 @@ test:
 
 install:
 	@test -x $(PROGRAM) || { echo "$(PROGRAM) isn't built: run make first" >&2; exit 1; }
-	install -d $(DESTDIR)$(PREFIX)/bin $(DESTDIR)$(LIBRARY)/credaudit_tools $(DESTDIR)$(COMPLETIONS)
+	install -d $(DESTDIR)$(PREFIX)/bin $(DESTDIR)$(LIBRARY) $(DESTDIR)$(COMPLETIONS)
 	install -d $(DESTDIR)$(SHARE)/man/man1 $(DESTDIR)$(SHARE)/man/man5 $(DESTDIR)$(DOCUMENTS)
 	install -m 755 $(PROGRAM) $(DESTDIR)$(PREFIX)/bin/credaudit
-	install -m 644 tools/credaudit_tools/*.py $(DESTDIR)$(LIBRARY)/credaudit_tools
+	for package in $(PACKAGES); do \
+	  name=$${package##*/} && for folder in . $$(cd $$package && find . -mindepth 1 -type d ! -name '__*'); do \
+	    install -d $(DESTDIR)$(LIBRARY)/$$name/$$folder && \
+	    install -m 644 $$package/$$folder/*.py $(DESTDIR)$(LIBRARY)/$$name/$$folder || exit; \
+	  done || exit; \
+	done
 	install -m 755 $(COMMANDS) $(DESTDIR)$(LIBRARY)
 	ln -sf $(patsubst tools/%,../lib/credaudit/%,$(COMMANDS)) $(DESTDIR)$(PREFIX)/bin
 	install -m 644 man/*.1 $(DESTDIR)$(SHARE)/man/man1

@@ -71,11 +71,10 @@ from passes import bounds
 from times import Commands, Runs, starts
 from worlds import BOUNDS_WORLDS, GROWING, HEAD, WORLDS
 
+import tools_path  # noqa: F401
+from credaudit_tools.replay.program import BUILT
+
 HERE = os.path.dirname(os.path.abspath(__file__))
-sys.path.append(os.path.join(HERE, "..", "tools"))
-
-from credaudit_tools.program import BUILT  # noqa: E402
-
 PARTS = ("ratio", "linear", "scan", "start", "world", "bounds", "audit")
 DATA = os.path.join(HERE, "..", "crates", "credaudit", "data")
 STORED = os.path.join(DATA, "world.toml"), os.path.join(DATA, "setresuid.log")

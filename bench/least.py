@@ -19,7 +19,6 @@ import os
 import subprocess
 import sys
 import tempfile
-from random import Random
 
 from audits import links
 from passes import JUDGE, used

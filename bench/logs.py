@@ -9,11 +9,10 @@ from collections.abc import Iterable
 from times import Commands
 from worlds import LOG_WORLDS
 
+import tools_path  # noqa: F401
+from credaudit_tools.formats.strace_lines import parted
+
 HERE = os.path.dirname(os.path.abspath(__file__))
-sys.path.append(os.path.join(HERE, "..", "tools"))
-
-from credaudit_tools.lines import parted  # noqa: E402
-
 MIB = 1 << 20
 SIZES, STRACE_SIZES = (1, 4, 16, 64), (32, 64)
 # Of each kind of log the number of events, of strace and comments that of lines, which are more than fill 64 MiB.

@@ -29,13 +29,12 @@ import tempfile
 from collections.abc import Callable, Iterable, Iterator, Sequence
 from dataclasses import dataclass
 
+import tools_path  # noqa: F401
+from credaudit_tools.formats.statuses import parts_of_file
+from credaudit_tools.replay.program import BUILT
+from credaudit_tools.system.proc import Proc
+
 HERE = os.path.dirname(os.path.abspath(__file__))
-sys.path.append(os.path.join(HERE, "..", "tools"))
-
-from credaudit_tools.proc import Proc  # noqa: E402
-from credaudit_tools.program import BUILT  # noqa: E402
-from credaudit_tools.statuses import parts_of_file  # noqa: E402
-
 MIB = 1 << 20
 SIZES = (1, 64, 1024)
 FORMS = ("script", "strace")

@@ -6,7 +6,7 @@
 An example is a folder with world.toml, log and report. Where the report is that of an audit, query has its PID and
 RIGHT; where the status is to be another than 0, status has it. The reports were written by hand, from docs/RULES.md and
 the manual pages that it names, docs/PLANS.md and docs/BOUNDS.md; the lines of bounds in them were worked out by
-tools/plain_bounds.py. One line for each example, and where they differ the first line that does. Status 0: all agree;
+tools/plain/bounds.py. One line for each example, and where they differ the first line that does. Status 0: all agree;
 1: some differ; 2: there is no program.
 """
 import glob
@@ -17,9 +17,10 @@ import sys
 HERE = os.path.dirname(os.path.abspath(__file__))
 sys.path.insert(0, os.path.join(HERE, "..", "tools"))
 
-from credaudit_tools.command import Failure  # noqa: E402
-from credaudit_tools.files import read_regular  # noqa: E402
-from credaudit_tools.program import Program  # noqa: E402
+import tools_path  # noqa: E402, F401
+from credaudit_tools.command_line.command import Failure  # noqa: E402
+from credaudit_tools.command_line.files import read_regular  # noqa: E402
+from credaudit_tools.replay.program import Program  # noqa: E402
 
 
 def words_of(folder: str, name: str) -> list[str]:

@@ -17,12 +17,13 @@ import sys
 HERE = os.path.dirname(os.path.abspath(__file__))
 sys.path.insert(0, os.path.join(HERE, "..", "..", "tools"))
 
-from credaudit_tools import report  # noqa: E402
-from credaudit_tools.command import Failure  # noqa: E402
-from credaudit_tools.credential import Credential, differences, field_text  # noqa: E402
-from credaudit_tools.files import read_regular  # noqa: E402
-from credaudit_tools.program import Program  # noqa: E402
-from credaudit_tools.statuses import credential_of, parts_of_line  # noqa: E402
+import tools_path  # noqa: E402, F401
+from credaudit_tools.command_line.command import Failure  # noqa: E402
+from credaudit_tools.command_line.files import read_regular  # noqa: E402
+from credaudit_tools.formats import report  # noqa: E402
+from credaudit_tools.formats.credential import Credential, differences, field_text  # noqa: E402
+from credaudit_tools.formats.statuses import credential_of, parts_of_line  # noqa: E402
+from credaudit_tools.replay.program import Program  # noqa: E402
 
 
 def read(name: str) -> list[str]:

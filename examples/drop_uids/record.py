@@ -18,9 +18,10 @@ import tempfile
 
 from compare import HERE, seen_in
 
-from credaudit_tools import lines, worlds
-from credaudit_tools.files import read_regular
-from credaudit_tools.lines import Call
+import tools_path  # noqa: E402, F401
+from credaudit_tools.command_line.files import read_regular  # noqa: E402
+from credaudit_tools.formats import strace_lines, worlds  # noqa: E402
+from credaudit_tools.formats.strace_lines import Call  # noqa: E402
 
 EXIT = b"+++ exited with 0 +++"
 
@@ -33,8 +34,8 @@ def run(words: list[str]) -> None:
 
 def script_line(line: bytes) -> tuple[int, str] | None:
     """A line of strace as the pid and the script line, None for that of the exit. Ends the script at any other."""
-    pid, body = lines.parted(line) or (0, b"")
-    call = lines.call_of(body)
+    pid, body = strace_lines.parted(line) or (0, b"")
+    call = strace_lines.call_of(body)
     if call is not None and call.name == b"setresuid":
         return pid, f"{pid} setresuid {b' '.join(call.arguments).decode()} = {answer(call)}"
     if body == EXIT:

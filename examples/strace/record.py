@@ -25,11 +25,14 @@ HERE = os.path.dirname(os.path.abspath(__file__))
 TOOLS = os.path.normpath(os.path.join(HERE, "..", "..", "tools"))
 sys.path.insert(0, TOOLS)
 
-from credaudit_tools import recording, strace_command, verify_command, watching  # noqa: E402
-from credaudit_tools.command import Failure  # noqa: E402
-from credaudit_tools.proc import Proc, needs_root  # noqa: E402
-from credaudit_tools.statuses import from_file  # noqa: E402
-from credaudit_tools.worlds import remark  # noqa: E402
+import tools_path  # noqa: E402, F401
+from credaudit_tools.command_line.command import Failure  # noqa: E402
+from credaudit_tools.formats.statuses import from_file  # noqa: E402
+from credaudit_tools.formats.worlds import remark  # noqa: E402
+from credaudit_tools.replay import recording  # noqa: E402
+from credaudit_tools.system.proc import Proc, needs_root  # noqa: E402
+from credaudit_tools.trace import live_processes, strace_options  # noqa: E402
+from credaudit_tools.verify import verify_command  # noqa: E402
 from programs import PROGRAMS, USERS, Program  # noqa: E402
 
 TRACE = os.path.join(TOOLS, "credaudit-trace")
@@ -87,7 +90,7 @@ def furnish(work: str) -> None:
 
 def living(tracing: subprocess.Popen[bytes]) -> Counter[str]:
     """The names of the threads that the strace of a credaudit-trace traces."""
-    threads = watching.all_threads(PROC)
+    threads = live_processes.all_threads(PROC)
     tracers = {each.tgid for each in threads.values() if each.parent == tracing.pid}
     traced = [tid for tid, each in threads.items() if each.tracer in tracers]
     found = [PROC.read(tid, "status") for tid in traced]
@@ -147,7 +150,7 @@ def record(recorder: Recorder, program: Program) -> int:
     os.mkdir(place)
     os.chmod(place, 0o755)
     program.before(place)
-    older = f"-{strace_command.version(recorder.strace)}" if recorder.strace != "strace" else ""
+    older = f"-{strace_options.version(recorder.strace)}" if recorder.strace != "strace" else ""
     folder = os.path.join(recorder.into, program.name + older)
     tracing = begin(recorder, program, place, folder)
     client = program.client(place)

@@ -1,6 +1,6 @@
 """A case in namespaces of its own: pids, mounts and a folder that end with it, so that nothing of the machine changes.
 
-tools/try_traps.py calls this through unshare(1), as the first process of a PID namespace: what a case leaves behind
+try_traps.py calls this through unshare(1), as the first process of a PID namespace: what a case leaves behind
 ends with that process. Each case is run twice, in two rooms: to show its danger, and to be recorded.
 """
 import ctypes

@@ -85,8 +85,6 @@ def check_answer(audit: list[str], world: Path, log: Path, query: Query, answer:
         raise Wrong(f"{command} answers {told}, not {wanted}: {text[:500]}")
 
 
-
-
 def has_power(world: World, space: str, uid: int, effective: int, query: Query) -> bool:
     """Whether a member of a space has the capability over the query's (user_namespaces(7), "Capabilities")."""
     target = query.of

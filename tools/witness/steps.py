@@ -6,12 +6,12 @@ from collections.abc import Callable
 from dataclasses import replace
 from random import Random
 
-import plain_certificate
-from plain_closure import SETS_OF_CAPABILITIES, SETS_OF_IDS, Ids, Row, ids
-from plain_reader import World
-from plain_report import own_event
-from plain_rules import Rules, State
-from strangers import of_bytes
+from plain import certificate as plain_certificate
+from plain.closure import SETS_OF_CAPABILITIES, SETS_OF_IDS, Ids, Row, ids
+from plain.reader import World
+from plain.report import own_event
+from plain.rules import Rules, State
+from strangers.strangers import of_bytes
 
 IDS = (0, 1, 7, 34, 500, 1000, 1001)
 CAPS = ("CAP_SETUID", "CAP_SETGID", "CAP_SETPCAP", "CAP_SYS_ADMIN", "CAP_KILL", "CAP_DAC_OVERRIDE")
@@ -145,7 +145,7 @@ def changed(rng: Random, rows: list[Row]) -> list[Row]:
 
 # What is found in a text, and what may stand in its place.
 PIECES = ((rb"\[(\d+),(\d+)\]", (rb"[\2,\1]", rb"[\1,\2],[\1,\2]", rb"[\1,4294967295]", rb"[\1,4294967296]",
-                                rb"[\1]", rb"[-0,\2]", rb"[ \1 , \2 ]", rb"[\1,\2.0]", rb"\1,\2", rb"[\1,\2,\2]")),
+                                 rb"[\1]", rb"[-0,\2]", rb"[ \1 , \2 ]", rb"[\1,\2.0]", rb"\1,\2", rb"[\1,\2,\2]")),
           (rb'"(\w+)":', (rb'"x":', rb'"\1":0,"\1":', rb'"\1" : ', rb'"\1":[],"u":')),
           (rb"true|false", (rb"true", rb"false", rb"1", rb'"true"', rb"null")),
           (rb'"[0-9a-f]{16}"', (rb'"000001FFFFFFFFFF"', rb'"0000020000000000"', rb'"0"', rb"0",

@@ -1,5 +1,5 @@
 -- Worked cases of the drill, by computation: its world as a text declares it, and its first events, as
--- tools/plain_drill.py works them out.
+-- tools/plain/drill.py works them out.
 use Rattle.std.proofs.Common.{◌≡◌, [], ◌∷◌, refl}
 use Rattle.std.specs.Prelude.{⊤}
 use Rattle.cm_base.specs.declared.errno.Errno.TheVariants.{EPERM}

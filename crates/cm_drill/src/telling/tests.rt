@@ -1,4 +1,4 @@
-// Drills of few events, and the counts of longer ones, as tools/plain_drill.py works them out.
+// Drills of few events, and the counts of longer ones, as tools/plain/drill.py works them out.
 ghost use Rattle.std.specs.Prelude.{◌≡◌};
 ghost use Rattle.cm_base.specs.Outcome.{OrNoMemory};
 ghost use Rattle.cm_declared.specs.World.{world_of};

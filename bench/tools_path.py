@@ -1,0 +1,1 @@
+../tools/tools_path.py

@@ -1,0 +1,1 @@
+"""Rows of bounds, their text and the closure rules (BOUNDS.md, CERTIFICATE.md)."""

@@ -1,0 +1,1 @@
+"""The machine's rules (RULES.md): ids, capabilities, credentials, files, execve."""

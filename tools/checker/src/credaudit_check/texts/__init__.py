@@ -1,0 +1,1 @@
+"""Readers of the texts that a query is made of (FORMATS.md)."""

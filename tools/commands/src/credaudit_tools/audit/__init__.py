@@ -1,0 +1,1 @@
+"""credaudit-audit: a question to credaudit, and words on what it refuses."""

@@ -1,0 +1,1 @@
+"""credaudit-capture: the world of a live system."""

@@ -1,0 +1,1 @@
+"""What each command's words, messages and files have in common."""

@@ -1,0 +1,1 @@
+"""What makes worlds, logs and recordings suspect that the program accepts."""

@@ -1,0 +1,1 @@
+"""credaudit-explain: reports and certificates in words, and as drawings."""

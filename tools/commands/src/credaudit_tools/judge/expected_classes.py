@@ -1,0 +1,197 @@
+"""Expected classes of rights, for a check that runs again and again: a text of lines
+
+  RIGHT CLASS[,CLASS ..]      what a right may be; `*` for RIGHT: each right without a line of its own
+  groups SEEN[,SEEN ..]       whether the groups of the members were seen (groups_seen.py)
+  process PID                 the lines below are for the answer about this process, those above the first for each
+
+CLASS may be `held:PATH` or `held:PID`: then a member holds the right that executed this program last, or has this pid,
+and no other. SEEN is `seen`, `unseen`, `unseen:PATH` or `unseen:PID`; without the line groups have to be seen. A remark
+begins with `#`, at a line's front or behind a blank. A right without a line fails, and so does a text that can't be
+whole.
+"""
+from collections.abc import Iterable, Iterator, Mapping, Sequence
+from dataclasses import dataclass, field
+
+from ..command_line.command import Failure
+from ..command_line.printable import few, quoted, unescaped
+from ..formats.rights import Reading, Right
+from . import groups_seen
+from .classes import CLASSES, HELD, Outcome
+from .holders import Member
+
+ALL_OTHERS, GROUPS, PROCESS, SEEN, UNSEEN = "*", "groups", "process", "seen", "unseen"
+MOST, SHOWN = 1 << 20, 200
+FORMS = f"RIGHT CLASS, the class one of {', '.join(CLASSES)}, held:PATH, held:PID"
+
+
+@dataclass(frozen=True)
+class Unexpected:
+    """What isn't as expected: in the answer about which process, of which right, or of groups, its class and, where
+    that matters, whose; what is expected, nothing where no line is for it; and all of it in words."""
+    process: int
+    right: str
+    kind: str
+    expected: tuple[str, ...]
+    why: str
+
+
+def is_whose(word: str, front: str) -> bool:
+    """Whether a word is `FRONT:PATH` or `FRONT:PID`."""
+    name, colon, whose = word.partition(":")
+    return name == front and bool(colon) and (whose.startswith("/") or (whose.isascii() and whose.isdigit()))
+
+
+def others(wanted: Sequence[str], front: str, members: Sequence[Member]) -> list[Member]:
+    """Those of the members that no word of these allows."""
+    if front in wanted:
+        return []
+    whose = [each.partition(":")[2] for each in wanted if is_whose(each, front)]
+    pids = {int(each) for each in whose if not each.startswith("/")}
+    programs = {unescaped(each) for each in whose if each.startswith("/")}
+    return [each for each in members if each.pid not in pids and each.program not in programs]
+
+
+@dataclass
+class Lines:
+    """By right the classes that it may have; `others` are those of rights without a line, `groups` what may be of
+    groups; None: no line is for them."""
+    rights: dict[Right, tuple[str, ...]] = field(default_factory=dict)
+    others: tuple[str, ...] | None = None
+    groups: tuple[str, ...] | None = None
+
+    def of_right(self, outcome: Outcome, holders: Sequence[Member], pid: int) -> Unexpected | None:
+        """What isn't as expected of a right; None where all is."""
+        right, kind, wanted = outcome.right.text(), outcome.kind, self.rights.get(outcome.right, self.others)
+        if wanted is None:
+            return Unexpected(pid, right, kind, (), f"{right} is {kind}, and no line of the expected classes is for it")
+        if kind != HELD or not any(each.startswith(HELD) for each in wanted):
+            said = f"{right} is {kind}, and expected is {' or '.join(wanted)}"
+            return None if kind in wanted else Unexpected(pid, right, kind, wanted, said)
+        wrong = others(wanted, HELD, holders or [Member(outcome.holder or 0)])
+        if not wrong:
+            return None
+        said = f"{right} is held by {few([each.words() for each in wrong])}, and expected is {' or '.join(wanted)}"
+        return Unexpected(pid, right, kinds_of(HELD, wrong), wanted, said)
+
+    def of_groups(self, unseen: Sequence[Member], pid: int) -> Iterator[Unexpected]:
+        """What isn't as expected of groups."""
+        wanted = self.groups or (SEEN,)
+        wrong = others(wanted, UNSEEN, unseen)
+        if wrong:
+            who = few([each.words() for each in wrong])
+            yield Unexpected(pid, GROUPS, kinds_of(UNSEEN, wrong), wanted,
+                             f"{who} {groups_seen.WHY}; {groups_seen.ADVICE}, or allow it by a line `groups unseen`")
+
+    def below(self, common: "Lines") -> "Lines":
+        """These lines, and the common ones where these have none."""
+        return Lines({**common.rights, **self.rights}, common.others if self.others is None else self.others,
+                     common.groups if self.groups is None else self.groups)
+
+
+def kinds_of(front: str, members: Sequence[Member]) -> str:
+    """A class with the pids of whose it is, as an expectation would allow it."""
+    return ",".join(f"{front}:{each.pid}" for each in members)
+
+
+@dataclass
+class Expected:
+    """The lines for each answer, and those for the answer about one process."""
+    common: Lines = field(default_factory=Lines)
+    of_process: dict[int, Lines] = field(default_factory=dict)
+
+    def lines(self, pid: int) -> Lines:
+        """The lines for the answer about a process."""
+        return self.of_process.get(pid, Lines()).below(self.common)
+
+    def new(self, pid: int, outcomes: Iterable[Outcome], held_by: Mapping[Right, Sequence[Member]],
+            unseen: Sequence[Member] = ()) -> list[Unexpected]:
+        """What isn't as expected in the answer about a process: of the rights, of which those that are held have their
+        holders in `held_by`, and of the members whose groups weren't seen."""
+        own = self.lines(pid)
+        if self.of_process and pid not in self.of_process:
+            return [Unexpected(pid, PROCESS, "living", (), f"process {pid} lives, and no line `process {pid}` of the"
+                                                           " expected classes is for it")]
+        told = (own.of_right(each, held_by.get(each.right, ()), pid) for each in outcomes)
+        return [*(each for each in told if each is not None), *own.of_groups(unseen, pid)]
+
+    def without_answer(self, pids: Iterable[int]) -> list[Unexpected]:
+        """The processes for which there are lines, and that aren't asked about: these have an answer."""
+        return [Unexpected(pid, PROCESS, "ended", (), f"process {pid} of the expected classes isn't asked about: it has"
+                                                      " ended, or descends from another one")
+                for pid in sorted(self.of_process.keys() - set(pids))]
+
+
+# ---- the text --------------------------------------------------------------------------------------------------------
+
+
+def without_remark(line: str) -> list[str]:
+    """The words of a line before its remark."""
+    words = line.split()
+    first = next((at for at, word in enumerate(words) if word.startswith("#")), len(words))
+    return words[:first]
+
+
+def kinds(words: Sequence[str], number: int) -> tuple[str, ...]:
+    """The classes of a line. Fails where one is none."""
+    right, *rest = words
+    found = tuple(rest[0].split(",")) if len(rest) == 1 else ()
+    known, front = ((SEEN, UNSEEN), UNSEEN) if right == GROUPS else (tuple(CLASSES), HELD)
+    if not found or not all(each in known or is_whose(each, front) for each in found):
+        form = "groups seen, unseen, unseen:PATH or unseen:PID" if right == GROUPS else FORMS
+        raise Failure(f"line {number} of the expected classes is none: {quoted(' '.join(words)[:SHOWN])}", form)
+    return found
+
+
+def read(data: bytes, reading: Reading) -> Expected:
+    """The expected classes of a text. Fails at a line that is none, with its number, and where the text can't be
+    whole."""
+    found, text = Expected(), data.decode("utf-8", "replace").removeprefix("\ufeff")
+    at = found.common
+    for number, line in enumerate(text.split("\n"), 1):
+        words = without_remark(line)
+        if words[:1] == [PROCESS]:
+            at = section(found, words, number)
+        elif words:
+            take(at, words, number, reading)
+    if not any(each.rights or each.others is not None for each in (found.common, *found.of_process.values())):
+        raise Failure("the expected classes have no line of a right, so nothing would be checked",
+                      "--classes FILE writes them")
+    if not text.endswith("\n"):
+        raise Failure("the expected classes end within a line: they were cut", "a line feed ends the last line too")
+    return found
+
+
+def twice(words: Sequence[str], number: int) -> Failure:
+    """A line of which there was one before."""
+    return Failure(f"line {number} of the expected classes: {quoted(' '.join(words)[:SHOWN])} stands twice")
+
+
+def section(found: Expected, words: Sequence[str], number: int) -> Lines:
+    """The lines of a process, which begin here. Fails where that is no pid, or was there before."""
+    if len(words) != 2 or not words[1].isascii() or not words[1].isdigit():
+        raise Failure(f"line {number} of the expected classes is none: {quoted(' '.join(words)[:SHOWN])}",
+                      "process PID")
+    if int(words[1]) in found.of_process:
+        raise twice(words, number)
+    return found.of_process.setdefault(int(words[1]), Lines())
+
+
+def take(into: Lines, words: Sequence[str], number: int, reading: Reading) -> None:
+    """Takes a line. Fails where it is none, or stands twice."""
+    wanted, first = kinds(words, number), words[0]
+    right = reading.right(first) if first not in (GROUPS, ALL_OTHERS) else None
+    if first == GROUPS and into.groups is None:
+        into.groups = wanted
+    elif first == ALL_OTHERS and into.others is None:
+        into.others = wanted
+    elif right is not None and right not in into.rights:
+        into.rights[right] = wanted
+    elif right is None and first not in (GROUPS, ALL_OTHERS):
+        raise Failure(f"line {number} of the expected classes names no right: {quoted(first[:SHOWN])}")
+    else:
+        raise twice(words[:1], number)
+
+
+def written(outcomes: Iterable[Outcome]) -> list[str]:
+    """The lines of a text that expects what is."""
+    return [f"{each.right.text()} {each.kind}" for each in outcomes]

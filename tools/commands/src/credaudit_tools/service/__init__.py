@@ -1,0 +1,1 @@
+"""A service of systemd that is started to be recorded."""

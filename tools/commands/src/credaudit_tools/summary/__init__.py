@@ -1,0 +1,1 @@
+"""credaudit-summary: what became of each right that a process had."""

@@ -1,0 +1,1 @@
+"""What a live system shows: processes, namespaces, mounts, programs with set-id bits."""

@@ -1,0 +1,1 @@
+"""credaudit-trace: processes are recorded under strace."""

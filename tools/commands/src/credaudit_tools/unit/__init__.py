@@ -1,0 +1,1 @@
+"""credaudit-unit: what the processes of a systemd unit can get."""

@@ -1,0 +1,1 @@
+"""credaudit-verify: a recording beside what the kernel showed."""

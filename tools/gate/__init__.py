@@ -1,0 +1,1 @@
+"""What the gate counts, refuses and holds."""

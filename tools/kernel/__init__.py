@@ -1,0 +1,1 @@
+"""A kernel's answers: recorders, replays and what they recorded."""

@@ -1,0 +1,1 @@
+"""The pages of docs/ and man/, beside the tree."""

@@ -1,0 +1,1 @@
+"""The rules and the readers once more, as plain Python: second writings of the documents."""

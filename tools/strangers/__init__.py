@@ -1,0 +1,1 @@
+"""Readers meet strangers: worlds and logs that nobody here wrote."""
