@@ -1,0 +1,61 @@
+"""The two packages of tools/: their pyproject.toml name what the launchers call, and pip installs both without a
+network."""
+import glob
+import importlib.util
+import os
+import shutil
+import subprocess
+import sys
+import tomllib
+import unittest
+
+from commands.tests.support import Case
+
+from ..layers import PACKAGES, TOOLS
+
+FOLDERS = {name: path.split(os.sep)[0] for name, path in PACKAGES.items()}
+NEEDED = ("pip", "setuptools", "wheel")
+
+
+def scripts(folder: str) -> dict[str, str]:
+    """The commands of a package, each with the function that it calls."""
+    with open(os.path.join(TOOLS, folder, "pyproject.toml"), "rb") as file:
+        found: dict[str, str] = tomllib.load(file)["project"]["scripts"]
+    return found
+
+
+class Packages(Case):
+    def test_launchers_call_what_is_installed(self) -> None:
+        there = set[str]()
+        for folder in FOLDERS.values():
+            for name, entry in scripts(folder).items():
+                module, _, function = entry.partition(":")
+                with open(os.path.join(TOOLS, folder, "src", name), encoding="ascii") as file:
+                    self.assertIn(f"from {module} import {function}\n", file)
+                self.assertEqual(os.readlink(os.path.join(TOOLS, name)), f"{folder}/src/{name}")
+                there.add(name)
+        self.assertEqual({os.path.basename(path) for path in glob.glob(os.path.join(TOOLS, "credaudit-*"))}, there)
+
+    @unittest.skipUnless(all(map(importlib.util.find_spec, NEEDED)), "pip, setuptools or wheel isn't there")
+    def test_by_pip(self) -> None:
+        into = os.path.join(self.work, "installed")
+        for folder in FOLDERS.values():
+            shutil.copytree(os.path.join(TOOLS, folder), os.path.join(self.work, folder),
+                            ignore=shutil.ignore_patterns("tests", "build", "*.egg-info", "__pycache__"))
+        done = subprocess.run([sys.executable, "-m", "pip", "install", "--quiet", "--root-user-action", "ignore",
+                               "--no-index", "--no-build-isolation", "--no-cache-dir", "--target", into,
+                               *(os.path.join(self.work, folder) for folder in FOLDERS.values())],
+                              capture_output=True, text=True, check=False, cwd=self.work)
+        self.assertEqual(done.returncode, 0, done.stderr)
+        for package, folder in FOLDERS.items():
+            self.assertEqual(*({os.path.relpath(path, top) for path in glob.glob(
+                os.path.join(top, "**", "*.py"), recursive=True)}
+                for top in (os.path.join(into, package), os.path.join(TOOLS, folder, "src", package))))
+            for name in scripts(folder):
+                asked = subprocess.run([os.path.join(into, "bin", name), "--help"], capture_output=True, text=True,
+                                       check=False, cwd=self.work, env={**os.environ, "PYTHONPATH": into})
+                self.assertTrue(asked.stdout.startswith(f"usage: {name} "), (name, asked.stderr))
+
+
+if __name__ == "__main__":
+    unittest.main()
