@@ -58,8 +58,7 @@ fn first_marks(alloc: Global, state: &State, root: usize) -> Result<Vec<Option<b
 fn unmarked(alloc: Global, list: &[Proc]) -> Result<Vec<Option<bool>>, NoMemory>
     ensures { OrNoMemory result (λ marks. marks.items ≡ map (λ _. None) list.now) }
 {
-    let marks = list.iter().map(|_| None).collect(alloc)?;
-    Ok(marks)
+    Ok(list.iter().map(|_| None).collect(alloc)?)
 }
 
 // Marks the chain of the process at this place, and says whether it reaches the root.

@@ -87,8 +87,7 @@ impl Machine {
         if names_no_space(&self.state.spaces, call) {
             return Err(StepError::NoSpace);
         }
-        let res = make_own(alloc, w, &mut self.state, at, call)?;
-        Ok(res)
+        Ok(make_own(alloc, w, &mut self.state, at, call)?)
     }
 
     /// The pids of the process and of all whose chain of forebears reaches it, ascending; none where it isn't alive. It
