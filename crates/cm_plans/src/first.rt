@@ -78,8 +78,7 @@ pub fn first_found(
         })),
         None => {
             let q = Query::new(alloc, w, st, right)?;
-            let found = found_among(alloc, &q, st, members)?;
-            Ok(found)
+            found_among(alloc, &q, st, members)
         }
     }
 }

@@ -81,10 +81,7 @@ fn run_for(
         (plan_of pid (choice_of c.0) (choice_of c.1) (choice_of c.2)) run.items) }
 {
     match Seat::of(alloc, st, pid)? {
-        Some(mut seat) => {
-            let run = run_of(alloc, q, pid, &mut seat, c)?;
-            Ok(run)
-        }
+        Some(mut seat) => run_of(alloc, q, pid, &mut seat, c),
         None => Ok(Vec::new(alloc)),
     }
 }

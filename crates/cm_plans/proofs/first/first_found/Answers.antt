@@ -1,4 +1,5 @@
 use Rattle.std.proofs.Common.{List, Option, Some, sym, ap, ◌∙◌}
+use Rattle.std.proofs.lemmas.Result.{IfOk-weaker}
 use Rattle.cm_filter.specs.Filters.{permits}
 use Rattle.cm_plans.proofs.Members.{found_about, found_now, found_later}
 use Rattle.cm_plans.proofs.first.first_found.Goals as goal
@@ -14,9 +15,10 @@ returns-in-Some c =
     ∙ sym (found_now (λ _. permits c.args.w.now.filter) (world_of c.args.w.now) c.args.m.now.state (right_of c.args.right.now)
     c.args.members.now c.in-Some.pid (sym c.in-Some.ensures))
 
-pub returns-in_ok-found-in-None : goal.returns-in_ok-found-in-None
-returns-in_ok-found-in-None c =
+pub returns-in_ok-q-in-None : goal.returns-in_ok-q-in-None
+returns-in_ok-q-in-None c =
+    IfOk-weaker c.found_among.result _ _ (λ found is.
     found_about c.in_ok-q-in-None.q c.args.w.now c.args.m.now.state c.args.m.now.state c.args.right.now c.args.members.now
-    c.in_ok-found-in-None.found c.in_ok-q-in-None.ensures.about c.in_ok-found-in-None.ensures
+    found c.in_ok-q-in-None.ensures.about is
     ∙ sym (found_later (λ _. permits c.args.w.now.filter) (world_of c.args.w.now) c.args.m.now.state (right_of c.args.right.now)
-    c.args.members.now (sym c.in-None.ensures))
+    c.args.members.now (sym c.in-None.ensures))) c.found_among.ensures

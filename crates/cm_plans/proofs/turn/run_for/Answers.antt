@@ -1,11 +1,13 @@
+use Rattle.std.proofs.lemmas.Result.{IfOk-weaker}
 use Rattle.cm_plans.proofs.SeatedRuns.{run_seated, run_unseated}
 use Rattle.cm_plans.proofs.turn.run_for.Goals as goal
 use Rattle.cm_plans.specs.Choices.{moves_of_three}
 
-pub returns-in_ok-run-in-Some : goal.returns-in_ok-run-in-Some
-returns-in_ok-run-in-Some c =
-    run_seated c.args.q.now c.args.st.now c.args.pid (moves_of_three c.args.c) c.in_ok-run-in-Some.run'.items c.in-Some.seat
-    (rw c.in-Some.is at c.in_ok-seat.ensures.seat) c.requires.same c.in_ok-run-in-Some.ensures
+pub returns-in-Some : goal.returns-in-Some
+returns-in-Some c =
+    IfOk-weaker c.run_of.result _ _ (λ run is.
+    run_seated c.args.q.now c.args.st.now c.args.pid (moves_of_three c.args.c) run.items c.in-Some.seat
+    (rw c.in-Some.is at c.in_ok-seat.ensures.seat) c.requires.same is) c.run_of.ensures
 
 pub returns-in-None : goal.returns-in-None
 returns-in-None c =
