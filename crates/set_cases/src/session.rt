@@ -16,15 +16,20 @@ pub(crate) fn answers(alloc: Global, text: &str) -> Result<String, Stop> {
 
 // Takes a line. One that is bad, or for which there is no memory, is answered so.
 fn take(alloc: Global, told: &mut String, line: &str) -> Result<(), Stop> {
+    match taken(alloc, told, line) {
+        Err(Stop::Bad) => tell(told, line, " = ", "bad"),
+        Err(Stop::NoMemory) => tell(told, line, " = ", "no memory"),
+        other => other,
+    }
+}
+
+// A line: the name of a case, or a question.
+fn taken(alloc: Global, told: &mut String, line: &str) -> Result<(), Stop> {
     if line.starts_with("case ") {
         return tell(told, line, "", "");
     }
-    match set_answered(alloc, line) {
-        Ok(answer) => tell(told, line, " = ", answer.as_str()),
-        Err(Stop::Bad) => tell(told, line, " = ", "bad"),
-        Err(Stop::NoMemory) => tell(told, line, " = ", "no memory"),
-        Err(why) => Err(why),
-    }
+    let answer = set_answered(alloc, line)?;
+    tell(told, line, " = ", answer.as_str())
 }
 
 fn tell(told: &mut String, line: &str, mark: &str, answer: &str) -> Result<(), Stop> {
