@@ -1,9 +1,11 @@
-# make try       runs the stored example by an unproved build that is thrown away, and compares what it writes
-# make           proves and builds the program, runs its stored example and compares what it writes
+# make try       runs the stored example by an unproved build, compares what it writes, and leaves the build as
+#                out/credaudit-unproved of the crate: it checks itself, so it is slower, and nothing of it is proved
+# make           proves and builds the program, runs its stored example, compares what it writes, and stamps the program
+#                (docs/FORMATS.md, "Stamps")
 # make test      the gate: the tests of the commands in tools/, every proof, every must-fail edit, every test and the
 #                program's stored runs
 # make install   puts the built program, the commands around it, their pages, completion, documents and examples below
-#                $(DESTDIR)$(PREFIX)
+#                $(DESTDIR)$(PREFIX), and tells whether the program is proved, and of this tree. PROGRAM=FILE takes another
 # make uninstall takes away what make install put there
 # make clean     removes what was proved and built
 #
@@ -25,14 +27,12 @@ EXAMPLE := $(foreach word,$(shell cat $(CRATE)/args),$(if $(wildcard $(CRATE)/da
 .PHONY: all try test install uninstall clean
 
 all:
-	cd $(CRATE) && rt run -- $(EXAMPLE)
+	tools/make/prove.py $(EXAMPLE)
 	cd $(CRATE) && out/credaudit $(EXAMPLE) | diff stdout -
 	@echo "built: $(PROGRAM)"
 
 try:
-	cd $(CRATE) && mkdir -p out && rt try -- $(EXAMPLE) > out/tried
-	cd $(CRATE) && cat out/tried && diff stdout out/tried
-	@echo "tried: the report is the stored one. This proves nothing, and leaves no program: make does both"
+	tools/make/try_build.py $(EXAMPLE)
 
 test:
 	.ci/run
@@ -54,8 +54,9 @@ install:
 	install -m 644 man/*.5 $(DESTDIR)$(SHARE)/man/man5
 	install -m 644 completion/credaudit $(DESTDIR)$(COMPLETIONS)/credaudit
 	for name in $(notdir $(COMMANDS)); do ln -sf credaudit $(DESTDIR)$(COMPLETIONS)/$$name || exit; done
-	install -m 644 README.md docs/*.md $(DESTDIR)$(DOCUMENTS)
+	install -m 644 README.md LICENSE LICENSE-* docs/*.md $(DESTDIR)$(DOCUMENTS)
 	cp -R examples $(DESTDIR)$(DOCUMENTS)
+	@PYTHONDONTWRITEBYTECODE=1 tools/make/install_stamps.py $(PROGRAM) $(DESTDIR)$(PREFIX)/bin/credaudit $(DESTDIR)$(LIBRARY)
 
 uninstall:
 	rm -f $(DESTDIR)$(PREFIX)/bin/credaudit $(addprefix $(DESTDIR)$(PREFIX)/bin/,$(notdir $(COMMANDS)))

@@ -72,7 +72,7 @@ from times import Commands, Runs, starts
 from worlds import BOUNDS_WORLDS, GROWING, HEAD, WORLDS
 
 import tools_path  # noqa: F401
-from credaudit_tools.replay.program import BUILT
+from credaudit_tools.provenance.places import BUILT
 
 HERE = os.path.dirname(os.path.abspath(__file__))
 PARTS = ("ratio", "linear", "scan", "start", "world", "bounds", "audit")

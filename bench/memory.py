@@ -31,7 +31,7 @@ from dataclasses import dataclass
 
 import tools_path  # noqa: F401
 from credaudit_tools.formats.statuses import parts_of_file
-from credaudit_tools.replay.program import BUILT
+from credaudit_tools.provenance.places import BUILT
 from credaudit_tools.system.proc import Proc
 
 HERE = os.path.dirname(os.path.abspath(__file__))

@@ -21,7 +21,7 @@ from collections.abc import Callable, Sequence
 from typing import BinaryIO, NamedTuple
 
 import tools_path  # noqa: F401
-from credaudit_tools.replay.program import BUILT
+from credaudit_tools.provenance.places import BUILT
 from kernel.recordings import program_of
 from plain import bounds as plain_bounds
 

@@ -46,7 +46,7 @@ from dataclasses import dataclass
 
 import tools_path  # noqa: F401
 from credaudit_tools.formats import strace_lines
-from credaudit_tools.replay.program import BUILT
+from credaudit_tools.provenance.places import BUILT
 from gate.allocations import asked_in, environment, shim_in
 from kernel.recordings import program_of
 from plain import bounds as plain_bounds, drill as plain_drill

@@ -33,7 +33,7 @@ from collections.abc import Mapping, Sequence
 from dataclasses import dataclass, field
 
 import tools_path  # noqa: F401
-from credaudit_tools.replay.program import BUILT
+from credaudit_tools.provenance.places import BUILT
 from kernel.recordings import program_of
 from plain.reader import NotJudged
 from plain.report import Report, bad_query, report

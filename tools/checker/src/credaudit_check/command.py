@@ -1,6 +1,7 @@
 """The command: the five words, the files they name, and one line.
 
   credaudit-check-certificate WORLD LOG PID RIGHT CERT
+  credaudit-check-certificate --version
 
 Reads a world and a script, makes the script's events steps, reads the certificate, and prints one line, with the words
 and the status of `credaudit check` (docs/FORMATS.md, docs/CERTIFICATE.md): `holds`, `refused ..`, or why the world, the
@@ -14,6 +15,7 @@ import sys
 from collections.abc import Callable, Sequence
 from dataclasses import dataclass
 
+from . import VERSION
 from .bounds.closure import Closure
 from .bounds.rows import read_bounds
 from .texts.ends import Ended, limit, not_judged
@@ -25,6 +27,7 @@ from .texts.world import read_world
 
 MOST_OF_CERTIFICATE = 67108864
 USAGE = "usage: credaudit-check-certificate WORLD LOG PID RIGHT CERT"
+OWN = f"credaudit-check-certificate {VERSION}\nprogram: none is needed, certificates are judged by the documents alone"
 
 
 def bytes_of(name: str) -> bytes:
@@ -88,6 +91,8 @@ def answer(words: Sequence[str]) -> tuple[str | None, int]:
             os.fsencode(word).decode("utf-8")
     except UnicodeDecodeError:
         return USAGE, 6
+    if list(words) == ["--version"]:
+        return OWN, 0
     if len(words) != 5:
         return USAGE, 6
     try:

@@ -306,7 +306,8 @@ class Refused(Case):
         self.assertEqual(self.trace("--ver")[0], 2)
         for words in (("-p", "0"), ("-p", "x"), ("--pids-from", "0", "true"), ("--pids-from", "4194305", "true")):
             self.assertEqual(self.trace(*words)[0], 2, words)
-        self.assertEqual(self.told(trace_command.main, "--version"), (0, "credaudit-trace 1\n", ""))
+        status, out, errors = self.told(trace_command.main, "--version")
+        self.assertEqual((status, out.split("\n")[0], errors), (0, "credaudit-trace 1", ""))
         self.assertIn("exit status:", self.told(trace_command.main, "--help")[1])
 
     def test_reasons(self) -> None:

@@ -17,7 +17,7 @@ import time
 from collections.abc import Callable, Sequence
 from typing import NoReturn
 
-from .. import VERSION
+from . import version
 from .printable import shown
 
 GOOD, FOUND, USAGE, FAILED, BROKEN = range(5)
@@ -38,11 +38,19 @@ class Broken(Failure):
     """What is looked at is refused, so nothing can be told of it."""
 
 
+class Version(argparse.Action):
+    """Tells what `--version` does, and ends the command."""
+
+    def __call__(self, ask: argparse.ArgumentParser, *_: object) -> None:
+        sys.stdout.write(version.text(ask.prog))
+        ask.exit()
+
+
 def parser(name: str, says: str, after: str = "") -> argparse.ArgumentParser:
     """The words of a command, with `--help` and `--version`. Its options take no shortened names."""
     ask = argparse.ArgumentParser(prog=name, description=says, epilog=after, allow_abbrev=False,
                                   formatter_class=argparse.RawDescriptionHelpFormatter)
-    ask.add_argument("--version", action="version", version=f"{name} {VERSION}")
+    ask.add_argument("--version", action=Version, nargs=0, help="tell the version, and what the program is")
     return ask
 
 

@@ -1,6 +1,5 @@
 """The one runner of credaudit: it is found, called, and its report read."""
 import os
-import shutil
 import subprocess
 import sys
 import tempfile
@@ -9,11 +8,8 @@ from typing import IO
 
 from ..command_line.command import Failure
 from ..formats import report
+from ..provenance import places
 
-HERE = os.path.dirname(os.path.abspath(__file__))
-# Installed, the package lies in lib/credaudit; in a checkout, in tools/commands/src.
-INSTALLED = os.path.normpath(os.path.join(HERE, "..", "..", "..", "..", "bin", "credaudit"))
-BUILT = os.path.normpath(os.path.join(HERE, *[".."] * 5, "crates", "credaudit", "out", "credaudit"))
 PIECE, END = 1 << 16, b"\nend "
 # What each status of the program means (docs/FORMATS.md, "Report").
 STATUSES = {0: "accepted", 1: "no", 2: "undecided", 3: "impossible", 4: "bad world", 5: "bad log", 6: "wrong words",
@@ -22,14 +18,11 @@ STATUSES = {0: "accepted", 1: "no", 2: "undecided", 3: "impossible", 4: "bad wor
 
 
 def find() -> str:
-    """The program: what the variable CREDAUDIT names, else credaudit of the PATH, else what was installed beside these
-    commands, else what was built in this checkout."""
-    named = os.environ.get("CREDAUDIT")
-    candidates = [named] if named else [shutil.which("credaudit") or "", INSTALLED, BUILT]
-    for candidate in candidates:
-        if candidate and os.access(candidate, os.X_OK) and not os.path.isdir(candidate):
-            return os.path.abspath(candidate)
-    raise Failure(f"credaudit isn't there: {named or BUILT}",
+    """The program, by its path. Fails where there is none."""
+    found = places.find()
+    if found is not None:
+        return found
+    raise Failure(f"credaudit isn't there: {places.named() or places.BUILT}",
                   "build it with make, put it into the PATH, or name it by the variable CREDAUDIT")
 
 

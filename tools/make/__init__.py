@@ -1,0 +1,1 @@
+"""What `make` calls: building, stamping and installing the program."""
