@@ -243,7 +243,8 @@ class Answers(Case):
         self.is_told("impossible line 1: the rules give 1", "", log="100 fork = EPERM", status=3)
 
     def test_not_judged(self) -> None:
-        self.is_told("not judged: logs of strace", SAMPLE, world=FILTERED.replace('"script"', '"strace"'), status=14)
+        self.is_told("not judged: line 1: call", SAMPLE, world=FILTERED.replace('"script"', '"strace"'), status=14,
+                     log="100 setuid 1000 = 0\n")
         told, status = self.ask("", world='log = "script"\nfilter = {exclude = [],}\n')
         self.assertEqual(status, 14)
         self.assertTrue(told and told.startswith("not judged: "), told)

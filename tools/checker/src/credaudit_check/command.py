@@ -3,12 +3,13 @@
   credaudit-check-certificate WORLD LOG PID RIGHT CERT
   credaudit-check-certificate --version
 
-Reads a world and a script, makes the script's events steps, reads the certificate, and prints one line, with the words
-and the status of `credaudit check` (docs/FORMATS.md, docs/CERTIFICATE.md): `holds`, `refused ..`, or why the world, the
+Reads a world and its log, a script or a recording, makes the log's events steps, reads the certificate, and prints one
+line, with the words and the status of `credaudit check` (docs/CHECKER.md): `holds`, `refused ..`, or why the world, the
 log or the query is refused. It shares no text with the crates and none with the other tools.
 
-What it doesn't know exactly it leaves alone, with the line `not judged: WHY` and status 14: logs of strace, and worlds
-that Python's tomllib refuses and that may be TOML 1.1. Python 3.11, standard library alone.
+What it doesn't know exactly it leaves alone, with the line `not judged: WHY` and status 14: logs of strace that are no
+recordings of credaudit-trace, and worlds that Python's tomllib refuses and that may be TOML 1.1. Python 3.11, standard
+library alone.
 """
 import os
 import sys
@@ -18,9 +19,10 @@ from dataclasses import dataclass
 from . import VERSION
 from .bounds.closure import Closure
 from .bounds.rows import read_bounds
-from .texts.ends import Ended, limit, not_judged
 from .replay import Replay
 from .rules.machine import World
+from .texts import recording
+from .texts.ends import Ended, limit
 from .texts.query import Right, family_and_right
 from .texts.script import events
 from .texts.world import read_world
@@ -56,9 +58,9 @@ class Query:
 def query_of(world_data: bytes, read_log: Callable[[], bytes], pid: bytes, right_text: bytes) -> Query:
     """The query that texts ask, the log being read after a world that stands; what refuses it is raised."""
     world = read_world(world_data)
-    if world.log != "script":
-        raise not_judged("logs of strace")
-    state = Replay(world).run(events(read_log(), world))
+    replay = Replay(world)
+    log = read_log()
+    state = replay.run(events(log, world) if world.log == "script" else recording.events(log, replay.state))
     family, right = family_and_right(world, state, pid, right_text)
     return Query(world, Closure(world, state, family), right)
 
