@@ -247,7 +247,8 @@ def right_line(replay: Replay, call: str) -> str:
 
 def drawn_query(draw: Draw, world_text: str, log: str) -> tuple[str, str]:
     """A process and a right."""
-    pids = re.findall(r"^pid = (\d+)$", world_text, re.MULTILINE) + re.findall(r"fork = (\d+)$", log, re.MULTILINE)
+    pids = re.findall(r"^pid = (\d+)$", world_text, re.MULTILINE)
+    pids += re.findall(r"(?:fork|fork\(\)|clone3?\(.*\)) = (\d+)$", log, re.MULTILINE)
     pid = draw.one(pids) if pids and not draw.is_one_in(40) else draw.one(("77", "0", "x", "007"))
     space = draw.one(["init", "init", *re.findall(r'^name = "(s\d)"$', world_text, re.MULTILINE), "#1", "#2"])
     right = draw.one((f"uid:{draw.one(IDS)}", f"gid:{draw.one(IDS)}", f"cap:{draw.one(list(NUMBERS))}@{space}"))

@@ -2,13 +2,17 @@
 """Holds `credaudit check` against credaudit-check-certificate, on drawn worlds, logs, queries and certificates.
 
   certificate_trials.py [--program PROGRAM] [--trials N] [--first N] [--seed TEXT] [--changes N] [--all-of N]
-                        [--jobs N] [--minutes N] [--third FILE] [--keep FOLDER]
+                        [--jobs N] [--minutes N] [--third FILE] [--keep FOLDER] [RECORDING ..]
 
 A trial is a small world with a log and a query, and certificates for it: the one that `PROGRAM audit` prints, the start
 bounds, these grown under the rules until nothing is added, others that are enlarged and then grown, and changed ones of
 these (each digit, interval end and flag, rows, keys, spellings, bytes): some, and in one trial of so many all. Each is
 judged by `PROGRAM check` and by credaudit-check-certificate; the two have to answer with one line and one status. An
 audit has to say `yes` exactly where the grown bounds don't meet the right, and to print these then.
+
+Where RECORDINGs are named, folders with a world and a log of credaudit-trace, a trial has one of them in the place of a
+drawn world and log, and lines of it are altered in every second trial. What isn't judged then (status 14) isn't
+compared; it is told how the program answers it.
 
 Each certificate that is accepted is held against a third computation, tools/plain/bounds.py or the one that --third
 names: it has to accept it too, to say `yes`, and its least bounds have to be within the certificate's.
@@ -32,6 +36,7 @@ from multiprocessing import Pool
 import tools_path
 from checker.tests.certificate_changes import changes
 from checker.tests.certificate_draws import IDS, Draw, drawn_log, drawn_query, drawn_world
+from checker.tests.recording_draws import drawn_recording
 from credaudit_check.bounds.rows import CAP_KEYS, FLAG_KEYS, ID_KEYS, Bounds, Row, read_bounds, text_of
 from credaudit_check.command import Query, judge, query_of
 from credaudit_check.texts.ends import Ended
@@ -46,6 +51,7 @@ class Given:
     seed: str
     changes: int
     all_of: int
+    recordings: tuple[str, ...] = ()
 
 
 @dataclass
@@ -98,8 +104,7 @@ class Trial:
 
     def run(self) -> Found:
         """The whole trial."""
-        world = drawn_world(self.draw)
-        log = drawn_log(self.draw, world)
+        world, log = self.inputs()
         pid, right = drawn_query(self.draw, world, log)
         self.put("pid", pid.encode())
         self.put("right", right.encode())
@@ -117,6 +122,13 @@ class Trial:
             for kind, make in some:
                 self.compare(kind, make())
         return self.found
+
+    def inputs(self) -> tuple[str, str]:
+        """A world and a log."""
+        if self.given.recordings:
+            return drawn_recording(self.draw, self.given.recordings)
+        world = drawn_world(self.draw)
+        return world, drawn_log(self.draw, world)
 
     def bases(self) -> list[tuple[str, bytes]]:
         """Certificates as they are made, nothing being changed."""
@@ -156,6 +168,7 @@ class Trial:
         if line is not None and line.startswith("refused not-closed"):
             self.found.counts["rules", line.split()[2]] += 1
         if status == 14:
+            self.leave_alone(line or "", words)
             return
         if self.given.program:
             theirs = told([self.given.program, "check", *words])
@@ -163,6 +176,13 @@ class Trial:
                 self.differ(kind, f"check: {theirs}, credaudit-check-certificate: {mine}")
         if status == 0 and self.given.third:
             self.ask_third(kind, text, words)
+
+    def leave_alone(self, line: str, words: list[str]) -> None:
+        """What isn't judged; where a line of a recording is why, it is counted how the program answers."""
+        if line.startswith("not judged: line") and self.given.program:
+            theirs, _ = told([self.given.program, "check", *words])
+            answer = " ".join(theirs.split()[:2])
+            self.found.counts["left alone", f"{line.split(': ')[-1]}, credaudit: {answer}"] += 1
 
     def ask_third(self, kind: str, text: bytes, words: list[str]) -> None:
         """An accepted certificate, judged by the third computation, once for each meaning."""
@@ -232,9 +252,10 @@ def main() -> int:
     parser.add_argument("--jobs", type=int, default=os.cpu_count(), metavar="N", help="how many at once")
     parser.add_argument("--minutes", type=float, metavar="N", help="begin no trial after so many minutes")
     parser.add_argument("--keep", metavar="FOLDER", default="certificate-differences", help="where files are kept")
+    parser.add_argument("recordings", nargs="*", metavar="RECORDING", help="a folder of a recording")
     asked = parser.parse_args()
     program = os.path.abspath(asked.program) if asked.program else None
-    given = Given(program, asked.third, asked.seed, asked.changes, asked.all_of)
+    given = Given(program, asked.third, asked.seed, asked.changes, asked.all_of, tuple(asked.recordings))
     counts: Counter[tuple[str, str]] = Counter()
     differences = made = 0
     numbers = range(asked.first, asked.first + asked.trials)
@@ -248,7 +269,7 @@ def main() -> int:
                 differences += 1
                 print(f"difference {differences}: {what}", flush=True)
                 keep(asked.keep, differences, what, files)
-    for part in ("audits", "certificates", "answers", "rules", "third"):
+    for part in ("audits", "certificates", "answers", "rules", "left alone", "third"):
         rows = {name: count for (kind, name), count in counts.items() if kind == part}
         print(f"{part}: {sum(rows.values())}")
         for name, count in sorted(rows.items(), key=lambda row: (-row[1], row[0])):

@@ -109,7 +109,7 @@ NO_EVENTS = [
     f"capget({HEADER}, {THREE}) = 0", "capget({version=0 /* _LINUX_CAPABILITY_VERSION_??? */, pid=0}, NULL) = 0",
     "prctl(PR_GET_KEEPCAPS) = 1", "prctl(PR_GET_SECUREBITS) = 0x3 (SECBIT_NOROOT|SECBIT_NOROOT_LOCKED)",
     "prctl(PR_GET_NO_NEW_PRIVS, 0, 0, 0, 0) = 0", "prctl(PR_CAPBSET_READ, CAP_SYS_ADMIN) = 1",
-    "prctl(PR_CAPBSET_READ, 0x3f /* CAP_??? */) = -1 EINVAL (Invalid argument)",
+    "prctl(PR_CAPBSET_READ, 0xffffffffffffffff /* CAP_??? */) = -1 EINVAL (Invalid argument)",
     "prctl(PR_CAP_AMBIENT, PR_CAP_AMBIENT_IS_SET, CAP_NET_RAW, 0, 0) = 1",
     "prctl(PR_CAP_AMBIENT, 0x9 /* PR_CAP_AMBIENT_??? */, 0x1, 0, 0) = -1 EINVAL (Invalid argument)",
 ]
@@ -195,7 +195,9 @@ REFUSED = {
                    "100 setuid( 0) = 0\n", "100 setresuid(root, 0, x) = 0\n", "100 setgroups([5], [5]) = 0\n",
                    f"100 capset({HEADER}, {THREE}) = 0\n".replace("pid=0", "pid=200"),
                    f"100 capset({HEADER}, {THREE}) = 0\n".replace("_3", "_4"),
-                   "100 prctl(PR_SET_NAME, \"x\") = 0\n", "100 prctl(0x8, 1) = 0\n", "100 clone(SIGCHLD) = 101\n",
+                   "100 prctl(PR_SET_NAME, \"x\") = 0\n",
+                   "100 prctl(PR_CAP_AMBIENT PR_CAP_AMBIENT_IS_SET, 1, 2, 3, 4) = 0\n",
+                   "100 prctl(PR_SET_KEEPCAPS , 1) = 0\n", "100 prctl(0x8, 1) = 0\n", "100 clone(SIGCHLD) = 101\n",
                    "100 clone(flags=CLONE_VM|) = 101\n", "100 clone(flags=) = 101\n",
                    "100 clone3({exit_signal=0}, 88) = 101\n", "100 unshare(CLONE_NEWUSER|-) = 0\n",
                    r'100 execve("/\x41", [], NULL) = 0' + "\n", r'100 execve("/\400", [], NULL) = 0' + "\n",
@@ -217,6 +219,7 @@ REFUSED = {
                    "100 prctl(PR_CAPBSET_DROP, CAP_X) = 0\n", "100 prctl(PR_CAPBSET_DROP, 41) = 0\n",
                    "100 prctl(PR_CAPBSET_DROP, 0x100000000 /* CAP_??? */) = 0\n", "100 prctl(PR_CAP_AMBIENT, 2) = 0\n",
                    "100 prctl(PR_CAP_AMBIENT, PR_CAP_AMBIENT_X, CAP_KILL, 0, 0) = 0\n",
+                   "100 prctl(PR_CAP_AMBIENT, unknown, 0x1, 0, 0) = 0\n",
                    '100 execve("/x", ["x"], NULL) = 0\n', '100 open("/proc/200/uid_map", O_RDWR) = 3\n',
                    '100 open("/proc/200/ns/user", O_WRONLY) = 3\n', "100 clone3({flags=0}, 0x58) = 101\n",
                    used("ns/user", "setns(1000000, 0) = 0", "O_RDONLY"), used("uid_map", write("0 0 1 1", 7)),
@@ -324,7 +327,7 @@ KINDS = {
     "ID": f"(?:-1|{DIGITS})", "ZERO": "(?:0|0x0|NULL)", "CAP": CAP, "SET": SET, "DONE": f"(?:0|{ERROR})",
     "UNKNOWN": r"0x[0-9a-f]+ /\* PR_CAP_AMBIENT_\?\?\? \*/", "BITS": r"(?:0|SECBIT_\w+(?:\|SECBIT_\w+)*)",
     "VERSION": "_LINUX_CAPABILITY_VERSION_[123]", "OWN": DIGITS, "FLAGS": r"\w+(?:\|\w+)*(?: /\*.*?\*/)?",
-    "TEXT": r'(?:[^"\\]|\\.)*', "ANY": r"(?:\w+|\[[^]]*\]|\{[^}]*\})", "ERROR": ERROR, "STATUS": "[0-9]+",
+    "TEXT": r'(?:[^"\\]|\\.)*', "ANY": rf"(?:{CAP}|\w+|\[[^]]*\]|\{{[^}}]*\}})", "ERROR": ERROR, "STATUS": "[0-9]+",
     "SIGNAL": "[A-Z0-9_]+", "ANSWER": rf"(?:{ERROR}|(?:{DIGITS}|0x[0-9a-f]+)(?: \([^()]+\))?)",
     "WRITTEN": f"(?:{DIGITS}|{ERROR})"}
 

@@ -9,7 +9,7 @@ from .call_text import Call, call_of, error_of, is_answer, name_of
 from .ends import Ended, not_judged
 from .script import ERRORS
 
-AMBIENT, UNKNOWN = "PR_CAP_AMBIENT", "unknown"
+AMBIENT, UNKNOWN = "PR_CAP_AMBIENT", ""          # an option that strace knows no name for
 UNKNOWN_OPTION = re.compile(rb"0x[0-9a-f]+ /\* PR_CAP_AMBIENT_\?\?\? \*/")
 
 
@@ -52,8 +52,8 @@ def form(event: str | None, kinds: str, result: str = "done") -> Form:
     return Form(event, tuple(kinds.split()), result)
 
 
-# Of prctl the options are part of the name.
-FORMS = {
+# Of prctl the options are part of the name; blanks part them.
+ROWS = {
     **{name: form(name, "id") for name in ("setuid", "setgid")},
     **{name: form(name, "id id") for name in ("setreuid", "setregid")},
     **{name: form(name, "id id id") for name in ("setresuid", "setresgid")},
@@ -81,11 +81,12 @@ FORMS = {
     **{name: form(None, "any any", "answer") for name in ("getgroups", "capget")},
     **{f"prctl {name}": form(None, "any", "answer") for name in ("PR_GET_KEEPCAPS", "PR_GET_SECUREBITS")},
     "prctl PR_GET_NO_NEW_PRIVS": form(None, "any any any any any", "answer"),
-    "prctl PR_CAPBSET_READ": form(None, "any cap", "answer"),
-    f"prctl {AMBIENT} PR_CAP_AMBIENT_IS_SET": form(None, "any any cap any any", "answer"),
-    f"prctl {AMBIENT} {UNKNOWN}": form(None, "any any any any any", "answer"),
+    "prctl PR_CAPBSET_READ": form(None, "any any", "answer"),
+    **{f"prctl {AMBIENT} {option}": form(None, "any any any any any", "answer")
+       for option in ("PR_CAP_AMBIENT_IS_SET", UNKNOWN)},
 }
-NAMES = {words.split()[0] for words in FORMS}
+FORMS = {tuple(words.split(" ")): row for words, row in ROWS.items()}
+NAMES = {words[0] for words in FORMS}
 
 
 # ---- read
@@ -99,7 +100,7 @@ def form_of(call: Call, line: Line) -> Form:
             words.append(UNKNOWN if UNKNOWN_OPTION.fullmatch(option) else option.decode("ascii", "replace"))
             if words[1] != AMBIENT:
                 break
-    found = FORMS.get(" ".join(words))
+    found = FORMS.get(tuple(words))
     if found is None:
         raise line.refused("count" if words in ([call.name], [call.name, AMBIENT]) else f"argument {len(words) - 1}")
     return found

@@ -1,7 +1,7 @@
 """Reads the log of a recording (CHECKER.md, "Recordings"): events, and the first line that is none of a recording."""
 import re
 from collections.abc import Iterator
-from dataclasses import dataclass
+from dataclasses import dataclass, replace
 
 from ..rules.machine import State
 from .call_arguments import Values, number_of, pid_of
@@ -99,7 +99,7 @@ class Recording:
         if told.name == "close":
             self.opened = None
             return None
-        self.opened = Opened(opened.pid, opened.descriptor, opened.space, opened.file, opened.awaits[1:])
+        self.opened = replace(opened, awaits=opened.awaits[1:])
         if told.name == "setns":
             return Event(line.number, line.pid, "setns", (opened.space,), told.result)
         return self.write(line, told, opened)
