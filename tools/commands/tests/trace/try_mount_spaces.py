@@ -2,19 +2,21 @@
 """Records programs that stand in mount namespaces of their own, many times each, beside busy loops: each recording has
 to be whole.
 
-  try_mount_spaces.py [--times N] [--test-execve PROGRAM] [NAME ..]      100 times each; to be run as root
+  try_mount_spaces.py [--times N] [--user USER] [--test-execve PROGRAM] [NAME ..]     100 times each; to be run as root
 
 Needs strace, and of Debian's packages bubblewrap, lxc, libcap-ng-utils, mmdebstrap, crun, runc and busybox-static; what
 isn't there is passed over, and told. PROGRAM is test_execve of the kernel's selftests (tools/testing/selftests/
 capabilities), with validate_cap beside it. Twice as many loops as processors run meanwhile: `taskset -c 3
 try_mount_spaces.py` takes one processor and two loops. A recording is whole where it ended with its program, which said
 what it says alone, nothing is in doubt but the mounts that it changed (of test_execve also the files: it makes
-set-user-ID programs), and the log names the files that were executed.
+set-user-ID programs), and the log names the files that were executed. With --user the programs are USER's; what only
+root can run is passed over then.
 """
 import argparse
 import hashlib
 import json
 import os
+import pwd
 import shutil
 import subprocess
 import sys
@@ -114,6 +116,7 @@ def root_of_packages(folder: str) -> list[str]:
 
 ROWS = [
     Row("unshare", ("unshare",), lambda _: ["unshare", "-m", "true"], ("/usr/bin/true",)),
+    Row("unshare-user", ("unshare",), lambda _: ["unshare", "-Ur", "true"], ("/usr/bin/true",)),
     Row("captest", ("unshare", "captest"), lambda _: ["unshare", "-m", "captest"], ("/usr/bin/captest",)),
     Row("bwrap", ("bwrap",), lambda _: ["bwrap", "--ro-bind", "/", "/", "--unshare-all", "true"], ("/usr/bin/true",)),
     Row("bwrap-tree", ("bwrap",), lambda _: ["bwrap", *TREE, "--unshare-user", "--proc", "/proc", "/bin/sh", "-c",
@@ -146,20 +149,23 @@ def loops() -> Iterator[int]:
             each.wait()
 
 
-def said(words: list[str]) -> tuple[int, bytes]:
-    """The status of a command, and what it says on standard output."""
+def said(words: list[str], user: str | None = None) -> tuple[int, bytes]:
+    """The status of a command, of that user's where one is named, and what it says on standard output."""
+    who = None if user is None else pwd.getpwnam(user)
+    ids = (None, None, None) if who is None else (who.pw_uid, who.pw_gid, list[int]())
     done = subprocess.run(words, stdin=subprocess.DEVNULL, stdout=subprocess.PIPE, stderr=subprocess.DEVNULL,
-                          timeout=PATIENCE, check=False)
+                          timeout=PATIENCE, check=False, user=ids[0], group=ids[1], extra_groups=ids[2])
     return done.returncode, done.stdout
 
 
-def fault(row: Row, folder: str, wanted: bytes) -> str | None:
+def fault(row: Row, folder: str, wanted: bytes, user: str | None) -> str | None:
     """Records a program once; why that isn't whole, None where it is."""
     place = os.path.join(folder, "recording")
     for each in (place, os.path.join(folder, "made")):
         shutil.rmtree(each, ignore_errors=True)
     command = os.path.join(tools_path.TOOLS, "credaudit-trace")
-    status, told = said([sys.executable, command, "-o", place, "--no-verify", "--for", "0", "--", *row.words(folder)])
+    options = ["-o", place, "--no-verify", "--for", "0", *([] if user is None else ["-u", user])]
+    status, told = said([sys.executable, command, *options, "--", *row.words(folder)])
     if status not in (0, 1):
         return f"status {status}"
     kept = recording.read(place)
@@ -174,15 +180,15 @@ def fault(row: Row, folder: str, wanted: bytes) -> str | None:
     return f"the log doesn't execute {', '.join(missing)}" if missing else None
 
 
-def tried(row: Row, folder: str, times: int) -> bool:
+def tried(row: Row, folder: str, times: int, user: str | None) -> bool:
     """Records a program so often; whether each time was whole. Tells each that isn't."""
-    status, wanted = said(row.words(folder))
+    status, wanted = said(row.words(folder), user)
     if status != 0:
         print(f"{row.name:15} ends with status {status} alone: it can't be tried here")
         return True
     begun, whole = time.monotonic(), 0
     for number in range(1, times + 1):
-        why = fault(row, folder, wanted if row.name != "captest" else b"")
+        why = fault(row, folder, wanted if row.name != "captest" else b"", user)
         whole += why is None
         if why is not None:
             print(f"{row.name:15} {number}: {why}", flush=True)
@@ -193,6 +199,7 @@ def tried(row: Row, folder: str, times: int) -> bool:
 def main() -> int:
     ask = argparse.ArgumentParser()
     ask.add_argument("--times", type=int, default=100)
+    ask.add_argument("--user")
     ask.add_argument("--test-execve", metavar="PROGRAM")
     ask.add_argument("names", nargs="*", metavar="NAME")
     asked = ask.parse_args()
@@ -212,7 +219,7 @@ def main() -> int:
             if missing:
                 print(f"{row.name:15} passed over: {', '.join(missing)} isn't there")
             else:
-                good &= tried(row, folder, asked.times)
+                good &= tried(row, folder, asked.times, asked.user)
     return 0 if good else 1
 
 
