@@ -1,16 +1,19 @@
 #!/usr/bin/env python3
 """Times credaudit-trace beside `strace -f` of the same calls, on programs with many lines of log.
 
-  time_trace.py [--part N] [NAME ..]     with --part a part of the calls, as 10 for a tenth
+  time_trace.py [--part N] [--times N] [NAME ..]     with --part a part of the calls, as 10 for a tenth
 
 To be run as root on a machine with nothing else to do. Needs cc, bash, tar and strace. Tells the times alone, under
 strace and recorded, and the ratio of the last two, by the clock and by the processors' time, of all their processes.
-What begins and ends a recording counts too. Status 1: a ratio by the clock is above 2.
+With --times each of the three is run so often, in turn, and the medians are told. What begins and ends a recording
+counts too, with what Python compiled of its modules kept from a run before, as an installed command has it. Status 1: a
+ratio by the clock is above 2.
 """
 import argparse
 import os
 import resource
 import shutil
+import statistics
 import subprocess
 import sys
 import tempfile
@@ -62,14 +65,13 @@ TIMED: dict[str, tuple[int, list[str]]] = {
 }
 
 
-def seconds(words: list[str], work: str, most: int = 0) -> tuple[float, float]:
-    """What a command takes by the clock, and of the processors' time with all its children. Its status is `most` at
-    most."""
+def seconds(words: list[str], work: str) -> tuple[float, float]:
+    """What a command takes by the clock, and of the processors' time with all its children. It must succeed."""
     shutil.rmtree(os.path.join(work, "out"), ignore_errors=True)
     os.mkdir(os.path.join(work, "out"))
     begun, before = time.monotonic(), resource.getrusage(resource.RUSAGE_CHILDREN)
     status = subprocess.run(words, cwd=work, stdout=subprocess.DEVNULL, stderr=subprocess.DEVNULL).returncode
-    if not 0 <= status <= most:
+    if status != 0:
         sys.exit(f"{words[0]} ended with status {status}")
     after = resource.getrusage(resource.RUSAGE_CHILDREN)
     return time.monotonic() - begun, after.ru_utime + after.ru_stime - before.ru_utime - before.ru_stime
@@ -87,23 +89,30 @@ def prepare(work: str, files: int) -> None:
     subprocess.run(["tar", "-cf", "files.tar", "files"], cwd=work, check=True)
 
 
-def timed(name: str, words: list[str], work: str, strace: str) -> float:
-    """Times one; the ratio by the clock."""
-    alone = seconds(words, work)
-    under = seconds([strace, "-f", "-e", strace_options.TRACE, "-o", "log", *words], work)
+def recorded(words: list[str], work: str) -> list[str]:
+    """The words that record a command."""
     command = [sys.executable, os.path.join(tools_path.TOOLS, "credaudit-trace")]
-    own = seconds([*command, "-o", os.path.join(work, "recording"), "--no-verify", "--for", "0", "--", *words], work)
-    shutil.rmtree(os.path.join(work, "recording"))
-    for what, one, other, last in zip(("by the clock", "of processors"), alone, under, own):
-        print(f"{name:19} {what:14} alone {one:6.2f} s, strace -f {other:6.2f} s, credaudit-trace {last:6.2f} s, ratio"
-              f" {last / other:.2f}", flush=True)
-    return own[0] / under[0]
+    return [*command, "-o", os.path.join(work, "recording"), "--force", "--no-verify", "--for", "0", "--", *words]
+
+
+def timed(name: str, words: list[str], work: str, strace: str, times: int) -> float:
+    """Times one, so often in turn, and tells the medians; the ratio by the clock."""
+    ways = (words, [strace, "-f", "-e", strace_options.TRACE, "-o", "log", *words], recorded(words, work))
+    told = [[seconds(way, work) for way in ways] for _ in range(times)]
+    ratios = []
+    for place, what in enumerate(("by the clock", "of processors")):
+        alone, under, own = (statistics.median(each[way][place] for each in told) for way in range(len(ways)))
+        ratios.append(own / under)
+        print(f"{name:19} {what:14} alone {alone:6.2f} s, strace -f {under:6.2f} s, credaudit-trace {own:6.2f} s, ratio"
+              f" {ratios[-1]:.2f}", flush=True)
+    return ratios[0]
 
 
 def main() -> int:
     """Times all; the status."""
     ask = argparse.ArgumentParser()
     ask.add_argument("--part", type=int, default=1)
+    ask.add_argument("--times", type=int, default=1)
     ask.add_argument("names", nargs="*", metavar="NAME")
     asked = ask.parse_args()
     try:
@@ -115,10 +124,13 @@ def main() -> int:
     ratios = []
     with tempfile.TemporaryDirectory() as work:
         prepare(work, TIMED["tar"][0] // asked.part)
+        os.environ["PYTHONPYCACHEPREFIX"] = os.path.join(work, "compiled")
+        os.environ.pop("PYTHONDONTWRITEBYTECODE", None)
+        seconds(recorded(["true"], work), work)
         for name, (count, words) in TIMED.items():
             if not asked.names or name in asked.names:
                 words = [word.replace("NUMBER", str(count // asked.part)) for word in words]
-                ratios.append(timed(name, words, work, strace))
+                ratios.append(timed(name, words, work, strace, asked.times))
     return 1 if max(ratios, default=0.0) > MOST else 0
 
 
