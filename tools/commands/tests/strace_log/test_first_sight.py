@@ -25,6 +25,11 @@ LINES = [
     'fcntl(13</dev/null<char 1:3>>, F_SETFD, FD_CLOEXEC) = 0',
     'fcntl(99, F_GETFD) = -1 EBADF (Bad file descriptor)',
     'write(1</opt/plain>, "x", 1) = 1',
+    'write(1</opt/plain>, "x"..., 5000) = 5000',
+    'writev(1</opt/plain>, [{iov_base="x", iov_len=1}], 1) = 1',
+    'pwrite64(1</opt/gone>(deleted), "x", 1, 0) = -1 EBADF (Bad file descriptor)',
+    'openat(AT_FDCWD</home>, "q\\"u\\\\", O_RDONLY) = 20</opt/plain>',
+    'openat(AT_FDCWD</home>, "/etc/hosts"..., O_RDONLY) = 20</etc/hosts>(deleted)',
     '-openat(AT_FDCWD</home>, "/proc/self/root/opt/plain", O_RDONLY) = 14</opt/plain>',
     '-openat(AT_FDCWD</home>, "/dev/fd/5", O_RDONLY) = 15</opt/plain>',
     '-openat(4</opt>, "rise", O_WRONLY|O_CREAT, 04755) = 16</opt/rise>',
@@ -32,6 +37,11 @@ LINES = [
     '-dup2(17</proc/100/uid_map>, 18) = 18</proc/100/uid_map>',
     'dup2(5</opt/plain>, 17</proc/100/uid_map>) = 17</opt/plain>',
     '-write(18</proc/100/uid_map>, "0 0 1", 5) = 5',
+    '-write(1</opt/setgroups>, "x", 1) = 1',
+    '-openat(AT_FDCWD</home>, "/opt/setgroups", O_RDONLY) = 19</opt/setgroups>',
+    '-dup2(1</opt/plain>, 19</opt/setgroups>) = 19</opt/gid_map>',
+    '-openat(AT_FDCWD</home>, "/proc/100/ns/user", O_RDONLY) = 19<user:[4026531837]>',
+    '-openat(4</opt>, "space", O_RDONLY) = 19<user:[4026531837]>',
 ]
 FRONTS: list[list[str]] = [
     [], ["unshare(CLONE_NEWNS) = 0"],

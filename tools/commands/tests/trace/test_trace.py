@@ -13,7 +13,7 @@ from credaudit_tools.command_line.command import Failure
 from credaudit_tools.replay import recording
 from credaudit_tools.system import proc
 from credaudit_tools.system.program_stub import own_groups, user_of
-from credaudit_tools.trace import live_processes, strace_output, trace_command
+from credaudit_tools.trace import live_processes, strace_options, strace_output, trace_command
 
 from ..support import Case
 
@@ -128,6 +128,41 @@ class Traced(Case):
         self.assertEqual((status, errors), (0, ""))
         ends = [line.partition(b" ")[2] for line in recording.read(self.out).log.splitlines() if b"+++" in line]
         self.assertEqual(ends, [b"+++ killed by SIGKILL +++", b"+++ exited with 0 +++", b"+++ killed by SIGTERM +++"])
+
+    def test_signals_that_strace_does_not_tell(self) -> None:
+        """None of them ends a process, by signal(7); else its end would be missing."""
+        for name in strace_options.SIGNALS.partition("!")[2].split(","):
+            with self.subTest(name):
+                done = subprocess.run(["sh", "-c", f"kill -{name.removeprefix('SIG')} $$; exit 3"], check=False)
+                self.assertEqual(done.returncode, 3)
+
+    def in_user_space(self, *program: str) -> recording.Recording:
+        """A program of Python's, whose child of the name `pid` has made a user namespace by then."""
+        begin = ["import ctypes, os, signal", "unshare = ctypes.CDLL(None).unshare", "one, other = os.pipe()",
+                 "pid = os.fork()", "if pid == 0:",
+                 " os._exit(77 if unshare(0x10000000) or not os.write(other, b'.') else signal.pause())",
+                 "os.close(other)", "os.read(one, 1) or os._exit(77)"]
+        status, out, errors = self.trace("--", sys.executable, "-c",
+                                         "\n".join([*begin, *program, "os.kill(pid, signal.SIGKILL)"]))
+        kept = recording.read(self.out)
+        if b"clone" in kept.log and b"= 0\n" not in kept.log.partition(b"unshare(CLONE_NEWUSER)")[2][:8]:
+            self.skipTest("user namespaces can't be made here")
+        self.assertEqual((status, errors), (0, ""))
+        return kept
+
+    def test_a_space_by_the_descriptor_of_a_process(self) -> None:
+        kept = self.in_user_space("ctypes.CDLL(None).setns(os.pidfd_open(pid), 0x10000000)")
+        self.assertRegex(kept.log, rb'open\("/proc/[0-9]+/ns/user", O_RDONLY\) = 1000000\n[0-9]+ setns\(1000000, ')
+
+    @unittest.skipIf(os.geteuid() != 0, "only root writes such a map")
+    def test_the_longest_map(self) -> None:
+        """A map takes less than a page, and 340 extents (user_namespaces(7))."""
+        lines = "".join(f"{number} {number} 1\n" for number in range(340))
+        text = "0 " + " " * (4095 - len(lines)) + lines.removeprefix("0 ")
+        kept = self.in_user_space(f"text = {text!r}.encode()",
+                                  "assert os.write(os.open(f'/proc/{pid}/uid_map', os.O_WRONLY), text) == 4095")
+        told = text.replace("\n", "\\n").encode()
+        self.assertTrue(b'write(1000000, "' + told + b'", 4095) = 4095\n' in kept.log, "it isn't whole")
 
     def test_a_child_that_is_waited_for(self) -> None:
         """posix_spawn of a child that opens a FIFO to which nobody writes: its parent waits in the kernel."""

@@ -4,11 +4,13 @@ A premise is established where something established it and no doubt of it stand
 """
 from collections.abc import Iterable, Iterator
 from dataclasses import dataclass, field
-from typing import Protocol
+from typing import TYPE_CHECKING, Protocol
 
-from ..formats.rights import Right
 from . import premises
 from .premises import BY_NAME, TABLE, Premise
+
+if TYPE_CHECKING:
+    from ..formats.rights import Right
 
 NOT_SEEN = "nothing establishes it"
 
@@ -16,7 +18,7 @@ NOT_SEEN = "nothing establishes it"
 class Reach(Protocol):
     """Which rights a doubt touches; `space` is the name of a right's namespace."""
 
-    def touches(self, right: Right, space: str | None) -> bool:
+    def touches(self, right: "Right", space: str | None) -> bool:
         """Whether it touches a right."""
 
 
@@ -31,7 +33,7 @@ class Doubt:
         """By its row's name."""
         return f"{self.premise}: {self.why}"
 
-    def touches(self, right: Right, space: str | None) -> bool:
+    def touches(self, right: "Right", space: str | None) -> bool:
         """Whether it speaks of a right."""
         return BY_NAME[self.premise].touches(right) and (self.reach is None or self.reach.touches(right, space))
 
@@ -78,13 +80,13 @@ class Evidence:
         return Evidence({name: by for name, by in self.established.items() if name not in gone},
                         [each for each in self.doubts if each.premise not in gone], dict(self.seen))
 
-    def against(self, premise: Premise, right: Right, space: str | None) -> tuple[str, ...]:
+    def against(self, premise: Premise, right: "Right", space: str | None) -> tuple[str, ...]:
         """The doubts of a premise for a right; where nothing established it, that too."""
         missing = () if premise.name in self.established else (NOT_SEEN,)
         return (*missing, *(each.why for each in self.doubts
                             if each.premise == premise.name and each.touches(right, space)))
 
-    def lacking(self, right: Right, space: str | None) -> dict[str, tuple[str, ...]]:
+    def lacking(self, right: "Right", space: str | None) -> dict[str, tuple[str, ...]]:
         """Each premise that touches a right and isn't established for it, with the reasons."""
         found = {each.name: self.against(each, right, space) for each in TABLE if each.touches(right)}
         return {name: reasons for name, reasons in found.items() if reasons and not self.follows(name, reasons)}
@@ -102,7 +104,7 @@ class Evidence:
         """Whether what lacks is about programs alone, since nobody looked for all of them."""
         return premises.SCAN not in self.established and all(BY_NAME[name].of_files() for name in lacking)
 
-    def rows(self, right: Right, space: str | None) -> Iterator[str]:
+    def rows(self, right: "Right", space: str | None) -> Iterator[str]:
         """The rows that touch a right, a line each: what established it, or why it isn't."""
         for each in TABLE:
             if each.touches(right):

@@ -9,7 +9,6 @@ The sums notice accidents. Who alters a file on purpose can work them out anew.
 """
 import hashlib
 import os
-import tomllib
 from collections.abc import Mapping
 from typing import Any
 
@@ -77,6 +76,7 @@ def beside(path: str) -> str:
 def of_world(data: bytes, world: bytes, path: str) -> Evidence:
     """The evidence of a captured world by the bytes of both. Fails where it isn't as it was written, or the world
     isn't."""
+    import tomllib          # a recording reads none
     try:
         table = tomllib.loads(data.decode())
         found, sums = evidence_of(table), {str(each) for each in table[SUMS].values()}

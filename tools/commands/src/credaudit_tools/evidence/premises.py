@@ -5,8 +5,10 @@ are the premises. Each is established by evidence (evidence.py), or isn't; a rig
 touches it is.
 """
 from dataclasses import dataclass
+from typing import TYPE_CHECKING
 
-from ..formats.rights import Right
+if TYPE_CHECKING:
+    from ..formats.rights import Right
 
 BIRTHS, ANSWERS, CREDENTIALS, MAPS, FILTERS, SECUREBITS, FS_IDS, GROUPS, POWER, RINGS = (
     "births", "answers", "credentials", "maps", "filters", "securebits", "fs-ids", "groups", "power", "rings")
@@ -24,7 +26,7 @@ class Premise:
     lost: str
     kinds: tuple[str, ...] = ("uid", "gid", "cap")
 
-    def touches(self, right: Right) -> bool:
+    def touches(self, right: "Right") -> bool:
         """Whether a right can be there after all where this isn't so."""
         return right.kind in self.kinds
 

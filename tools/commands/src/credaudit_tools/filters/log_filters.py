@@ -6,8 +6,6 @@ from dataclasses import dataclass
 from ..command_line.printable import few
 from ..formats.strace_lines import Call, words
 from .bpf import Program, of_text
-from .call_numbers import LISTED
-from .filter_verdicts import fakes, refuses
 
 SHOWN_NAMES = 3
 NOT_WHOLE = "isn't shown whole"
@@ -28,6 +26,7 @@ class Filter:
 
 def doubts_of(program: Program) -> tuple[str, ...]:
     """Why what a filter answers can't be trusted, with the calls."""
+    from .filter_verdicts import fakes          # most recordings have no filter to be followed
     names: dict[str, list[str]] = {}
     for name, why in fakes((program,)).items():
         names.setdefault(why, []).append(name)
@@ -44,6 +43,8 @@ def of_argument(pid: int, argument: bytes, alone: bool = True) -> Filter:
 def may_refuse(standing: Sequence[Filter], call: Call) -> bool:
     """Whether filters may answer a call with an error: then that may be theirs, and no rule tells it. One that isn't
     known may."""
+    from .call_numbers import LISTED            # as above
+    from .filter_verdicts import refuses
     name = call.name.decode("ascii", "replace")
     option = call.arguments[0].decode("ascii", "replace") if call.arguments else ""
     asked = [each for each in LISTED if each.name in (name, f"{name}({option})", f"{name}(CLONE_NEWUSER)")]

@@ -12,10 +12,16 @@ UNFINISHED = b"<unfinished ...>"
 PID = re.compile(rb"([1-9][0-9]{0,6})[ \t]+(.*)", re.S)
 RESUMED = re.compile(rb"<\.\.\. (\S+) resumed>(.*)", re.S)
 NAME = re.compile(rb"[A-Za-z0-9_?]+")
+SUCCESS = re.compile(rb"([0-9]+|0x[0-9a-f]+)(?![0-9a-zA-Z])")
+RESULT = re.compile(rb"[ \t]*= ?(.*)", re.S)
+DESCRIPTOR = re.compile(rb"AT_FDCWD|-?[0-9]+")
+BEFORE_DECORATION = re.compile(rb"(?:^|[^A-Za-z0-9_])(?:[0-9]+|AT_FDCWD)$")
 NUMBER = re.compile(rb"-?(0x[0-9a-f]+|[0-9]+)")
 COMMENT = re.compile(rb"\s*/\*.*?\*/", re.S)
 TRANSLATED = re.compile(rb"([0-9]+) /\* ([0-9]+) in strace's PID NS \*/")
 ESCAPES = {b"n": b"\n", b"t": b"\t", b"v": b"\v", b"f": b"\f", b"r": b"\r", b"\\": b"\\", b'"': b'"'}
+OWN_SPELLINGS = {0x0a: b"\\n", 0x09: b"\\t", 0x22: b'\\"', 0x5c: b"\\\\"}
+SPELLED = [OWN_SPELLINGS.get(byte, bytes([byte]) if 0x20 <= byte < 0x7f else b"\\%03o" % byte) for byte in range(256)]
 ESCAPE = re.compile(rb"\\(?:x([0-9a-f]{2})|([0-7]{1,3})|(.))", re.S)
 SOCKET = rb'<[A-Za-z0-9_-]+:\[(?:[^"\\]|\\.|"(?:[^"\\]|\\.)*")*?\]>'
 DECORATION = re.compile(SOCKET + rb"|<(?:[^<>\\]|\\.)*(?:<[^<>]*>)?>", re.S)
@@ -35,7 +41,7 @@ class Call:
     @property
     def done(self) -> int | None:
         """The number of a success, None where it failed or isn't known."""
-        found = re.match(rb"([0-9]+|0x[0-9a-f]+)(?![0-9a-zA-Z])", self.result)
+        found = SUCCESS.match(self.result)
         return int(found.group(1), 0 if found.group(1).startswith(b"0x") else 10) if found else None
 
 
@@ -62,7 +68,7 @@ def after_decoration(text: bytes, at: int) -> int | None:
 def is_decorated(text: bytes, at: int) -> bool:
     """Whether a `<` at this place begins a descriptor's decoration: behind a number or AT_FDCWD."""
     front = text[max(0, at - 12):at]
-    return re.search(rb"(?:^|[^A-Za-z0-9_])(?:[0-9]+|AT_FDCWD)$", front) is not None
+    return BEFORE_DECORATION.search(front) is not None
 
 
 def skip(text: bytes, at: int) -> int:
@@ -116,7 +122,7 @@ def call_of(body: bytes) -> Call | None:
     end = closing(body, name.end())
     if end is None:
         return None
-    result = re.fullmatch(rb"[ \t]*= ?(.*)", body[end + 1:], re.S)
+    result = RESULT.fullmatch(body, end + 1)
     arguments = pieces(body[name.end() + 1:end])
     if result is None or arguments is None:
         return None
@@ -164,15 +170,13 @@ def unescaped(text: bytes) -> bytes | None:
 
 def quoted(text: bytes) -> bytes:
     """The bytes between quotes, as strace writes them: an octal number of three digits for all that is odd."""
-    plain = {byte: bytes([byte]) for byte in range(0x20, 0x7f)}
-    plain |= {0x0a: b"\\n", 0x09: b"\\t", 0x22: b'\\"', 0x5c: b"\\\\"}
-    return b'"' + b"".join(plain.get(byte, b"\\%03o" % byte) for byte in text) + b'"'
+    return b'"' + b"".join(map(SPELLED.__getitem__, text)) + b'"'
 
 
 def descriptor(argument: bytes) -> tuple[bytes, bytes | None] | None:
     """The number (or AT_FDCWD) of a descriptor's argument, and its decoration with escapes undone. None where it is no
     descriptor. A mark behind the decoration, such as `(deleted)`, is passed over."""
-    found = re.match(rb"AT_FDCWD|-?[0-9]+", argument)
+    found = DESCRIPTOR.match(argument)
     if found is None:
         return None
     rest = argument[found.end():]

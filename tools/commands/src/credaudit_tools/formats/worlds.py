@@ -3,7 +3,6 @@
 The reader takes what the program accepts; of what it refuses it tells the place as far as Python's TOML reader knows
 it. Whether a world is good is for the program to say.
 """
-import tomllib
 from collections.abc import Iterable
 from dataclasses import dataclass, field
 from typing import Any
@@ -80,6 +79,7 @@ class World:
 
 def table_of(data: bytes) -> dict[str, Any]:
     """The TOML table of a world's text. Fails where it is none."""
+    import tomllib          # a recording reads none
     try:
         return tomllib.loads(data.removeprefix(b"\xef\xbb\xbf").decode())
     except (tomllib.TOMLDecodeError, UnicodeDecodeError, RecursionError) as error:

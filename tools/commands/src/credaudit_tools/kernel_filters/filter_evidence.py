@@ -10,7 +10,6 @@ from ..command_line.printable import few, plural
 from ..evidence.evidence import Evidence
 from ..evidence.premises import ANSWERS, SECUREBITS
 from ..filters.bpf import Program
-from ..filters.filter_verdicts import fakes
 from ..filters.log_filters import Filter, doubts_of
 from ..formats.statuses import Status
 from ..strace_log.followed_processes import Task
@@ -108,6 +107,7 @@ def securebits_of(status: Status, task: Task, seen: Shown) -> list[str]:
     answer may be a filter's. Filters are never taken away, so those of the end tell of all times before."""
     if task.securebits is None or not has_filters(status):
         return []
+    from ..filters.filter_verdicts import fakes          # most recordings have no filter to be followed
     if not isinstance(seen, str) and SET_SECUREBITS not in fakes(seen):
         return []
     return [f"process {status.pid} has securebits by a call that answered 0 under a filter of system calls, and nothing"

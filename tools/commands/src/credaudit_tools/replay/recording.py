@@ -11,7 +11,6 @@
 Of an older recording only the first three stand.
 """
 import os
-import tomllib
 from dataclasses import dataclass, field
 
 from ..command_line.command import Failure
@@ -117,6 +116,7 @@ def space_of(line: str) -> SpaceSeen:
 
 def made_of(data: bytes) -> Made:
     """What recording.toml tells. Of an older form the doubts are of the whole log, and nothing is established."""
+    import tomllib          # a recording that is made reads none
     table = tomllib.loads(data.decode())
     made = Made(strace=str(table["strace"]), kernel=str(table["kernel"]), end=str(table["end"]),
                 notes=[str(each) for each in table["notes"]], format=int(table.get("format", OLDER)),

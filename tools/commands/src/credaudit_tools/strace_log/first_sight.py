@@ -14,48 +14,48 @@ from .kept_log import Taken
 from .map_files import NAMES
 from .map_writes import LIKE_MAP
 
-QUOTED = rb'"(?:[^"\\]|\\.)*"(?:\.\.\.)?'
-DECORATION = rb"<([^<>\\\"]*(?:<[^<>]*>)?)>(?:\(deleted\))?"
-FILE = rb"([0-9]+)" + DECORATION
-WRITE = re.compile(rb"([0-9]+) +p?writev?(?:64|2)?\([0-9]+" + DECORATION + rb", (?!" + LIKE_MAP + rb").*", re.S)
-OPEN = re.compile(rb"([0-9]+) +open(?:at)?\((?:(AT_FDCWD|[0-9]+)" + DECORATION + rb", )?(" + QUOTED
-                  + rb"), [A-Z_|]+(?:, 0[0-7]{0,3})?\) += (?:-1 E.*|" + FILE + rb")", re.S)
-COPY = re.compile(rb"([0-9]+) +(?:dup[23]?|fcntl(?:64)?)\(" + FILE + rb"(?:, [0-9]+" + DECORATION
-                  + rb"|, [A-Z0-9_|]+)*\) += (?:-1 E.*|[0-9]+|0x[0-9a-f]+ \(flags [A-Z_|]+\)|" + FILE + rb")", re.S)
-OWN_PLACES = (b'"/proc/', b'"/dev/fd')      # what these name is another file for each process
+# What stands between the brackets behind a descriptor: a path, or what strace writes of a device, a pipe, a socket.
+SHOWN = rb"[^<>\\\"]*(?:<[^<>]*>)?"
+OTHER = SHOWN + b"".join(rb"(?<!%s)" % name for name in NAMES)      # of no map file
+END = rb">(?:\(deleted\))?"
+FAILED = rb"-1 E.*"
+# What these names name is another file for each process.
+QUOTED = rb'"(?!/proc/|/dev/fd)[^"\\]*(?:\\.[^"\\]*)*"(?:\.\.\.)?'
+WRITE = rb"p?writev?(?:64|2)?\([0-9]+<" + OTHER + END + rb", (?!" + LIKE_MAP + rb").*(?P<write>)"
+OPEN = (rb"open(?:at)?\((?:(?P<at>AT_FDCWD|[0-9]+)<(?P<folder>" + SHOWN + rb")" + END + rb", )?(?P<name>" + QUOTED
+        + rb"), [A-Z_|]+(?:, 0[0-7]{0,3})?\) += (?:" + FAILED + rb"|(?P<number>[0-9]+)<(?P<path>(?!user:)" + OTHER
+        + rb")" + END + rb")(?P<open>)")
+COPY = (rb"(?:dup[23]?|fcntl(?:64)?)\((?P<source>[0-9]+)<(?P<what>" + OTHER + rb")" + END + rb"(?:, [0-9]+<" + SHOWN
+        + END + rb"|, [A-Z0-9_|]+)*\) += (?:" + FAILED + rb"|[0-9]+|0x[0-9a-f]+ \(flags [A-Z_|]+\)"
+        rb"|(?P<copy>[0-9]+)<(?P<copied>" + OTHER + rb")" + END + rb")(?P<copies>)")
+LINE = re.compile(rb"(?P<pid>[0-9]+) +(?:" + rb"|".join((WRITE, OPEN, COPY)) + rb")", re.S)
 
 
 class FirstSight:
-    """Takes the lines of the most frequent kinds."""
+    """Takes the lines of the most frequent kinds, each by the group at its pattern's end."""
 
     def __init__(self, followed: Followed, taken: Taken, begun: dict[int, bytes | None]) -> None:
         self.followed, self.taken, self.begun = followed, taken, begun
+        self.takes = {"write": self.write, "open": self.open, "copies": self.copy}
 
     def leaves_out(self, line: bytes) -> bool:
         """Whether a line is left out; then it is counted, and what it tells of descriptors is followed."""
-        for pattern, takes in ((WRITE, self.write), (OPEN, self.open), (COPY, self.copy)):
-            found = pattern.fullmatch(line)
-            if found is not None:
-                return takes(found)
-        return False
+        found = LINE.fullmatch(line)
+        return found is not None and found.lastgroup is not None and self.takes[found.lastgroup](found)
 
     def write(self, found: re.Match[bytes]) -> bool:
         """A write to another file than a map."""
-        if found.group(2).endswith(NAMES):
-            return False
-        if found.group().endswith(strace_lines.UNFINISHED):
-            self.begun[int(found.group(1))] = None
+        if found.string.endswith(strace_lines.UNFINISHED):
+            self.begun[int(found["pid"])] = None
         self.taken.left_out["writes to other files"] += 1
         return True
 
     def open(self, found: re.Match[bytes]) -> bool:
         """An open of another file."""
-        pid, at, folder, name, number, path = found.groups()
-        if b"/ns/user" in found.group() or name.startswith(OWN_PLACES):
-            return False
+        pid, at, folder, name, number, path = found.group("pid", "at", "folder", "name", "number", "path")
         if path is not None:
             task = self.followed.tasks.get(int(pid))
-            if task is None or path.endswith(NAMES):
+            if task is None:
                 return False
             task.files.opened(int(number), path, view_of(task, name.startswith(b'"/'), at, folder))
             if at == b"AT_FDCWD":
@@ -65,14 +65,12 @@ class FirstSight:
 
     def copy(self, found: re.Match[bytes]) -> bool:
         """A copy of a descriptor that is of no map, or a question about one."""
-        pid, number, path, _, copy, copied = found.groups()
-        if path.endswith(NAMES) or (copied is not None and copied.endswith(NAMES)):
-            return False
+        pid, source, what, copy, copied = found.group("pid", "source", "what", "copy", "copied")
         if copied is not None:
             task = self.followed.tasks.get(int(pid))
             if task is None:
                 return False
-            task.files.opened(int(copy), copied, mount_views.of_descriptor(task, number, path))
+            task.files.opened(int(copy), copied, mount_views.of_descriptor(task, source, what))
         self.taken.left_out["copies of descriptors"] += 1
         return True
 

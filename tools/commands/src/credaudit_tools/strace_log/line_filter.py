@@ -10,7 +10,6 @@ from collections.abc import Callable, Collection
 from ..command_line.printable import shown
 from ..evidence import premises
 from ..executed.executed_files import Executed
-from ..filters.call_numbers import numbers_of
 from ..filters.log_filters import installing, may_refuse, of_argument
 from ..formats import plain_log, set_texts, strace_lines
 from ..formats.kernel_names import securebits_value
@@ -344,6 +343,7 @@ def is_trapped(made: Call) -> bool:
     the call's own number then (SECCOMP_RET_TRAP of seccomp(2))."""
     if not made.done or not answers_otherwise(made):
         return False
+    from ..filters.call_numbers import numbers_of        # hardly a call answers so
     return made.done in [each for _, each in numbers_of(made.name.decode("ascii", "replace"))]
 
 

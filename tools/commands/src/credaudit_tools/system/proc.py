@@ -8,9 +8,18 @@ from dataclasses import dataclass
 from ..command_line.command import Failure
 from ..command_line.files import SAFE
 
-MOST = 1 << 24
+MOST, PIECE = 1 << 24, 1 << 16
 PROCESSOR = "x86_64"     # as uname(2) names it
 GONE = (FileNotFoundError, ProcessLookupError, NotADirectoryError, PermissionError)
+
+
+def content(handle: int) -> bytes:
+    """What an open file holds, MOST bytes at most: by pieces, since Python asks for memory for all that may come."""
+    pieces, left = list[bytes](), MOST
+    while left > 0 and (piece := os.read(handle, min(left, PIECE))):
+        pieces.append(piece)
+        left -= len(piece)
+    return b"".join(pieces)
 
 
 @dataclass(frozen=True)
@@ -40,10 +49,15 @@ class Proc:
     def read(self, pid: int, name: str) -> bytes | None:
         """A file of a process or thread."""
         try:
-            with os.fdopen(os.open(self.path(pid, name), SAFE), "rb") as file:
-                return file.read(MOST)
+            handle = os.open(self.path(pid, name), SAFE)
         except OSError:
             return None
+        try:
+            return content(handle)
+        except OSError:
+            return None
+        finally:
+            os.close(handle)
 
     def link(self, pid: int, name: str) -> str | None:
         """What a link of a process tells, such as `exe`, `cwd`, `root`, `ns/user`."""

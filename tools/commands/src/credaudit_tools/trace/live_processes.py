@@ -6,7 +6,7 @@ import time
 from collections.abc import Callable, Iterable
 from dataclasses import dataclass
 
-from ..formats.statuses import parts_of_file
+from ..formats.statuses import word_of_file
 from ..system.proc import Proc
 from ..system.rings import is_kernels_own
 
@@ -14,6 +14,7 @@ DEAD = ("Z", "X", "x")
 HALTED = "T"                    # by a signal, and not by a tracer
 STOPPED = (HALTED, "t")
 STUCK = "D"
+NUMBERS = (b"Tgid", b"PPid", b"TracerPid", b"voluntary_ctxt_switches", b"nonvoluntary_ctxt_switches")
 PATIENCE, STUCK_PATIENCE, SECOND_PATIENCE, PAUSE = 10.0, 2.0, 3.0, 0.03
 
 
@@ -31,15 +32,18 @@ class Glance:
 def glance(proc: Proc, tid: int) -> Glance | None:
     """None where the thread is gone or dead, or is the kernel's own: such a one makes no calls, and can't be traced."""
     data = proc.read(tid, "status")
-    if data is None:
+    state = "" if data is None else state_of(data)
+    if data is None or state in ("", *DEAD):
         return None
-    parts = parts_of_file(data)
-    if "State" not in parts or parts["State"][:1] in DEAD:
+    tgid, parent, tracer, willing, unwilling = (int(word_of_file(data, name) or b"0") for name in NUMBERS)
+    if tgid != tid and is_kernels_own(proc, tid):
         return None
-    if int(parts["Tgid"]) != tid and is_kernels_own(proc, tid):
-        return None
-    switches = sum(int(parts.get(name, "0")) for name in ("voluntary_ctxt_switches", "nonvoluntary_ctxt_switches"))
-    return Glance(tid, int(parts["Tgid"]), int(parts["PPid"]), parts["State"][:1], int(parts["TracerPid"]), switches)
+    return Glance(tid, tgid, parent, state, tracer, willing + unwilling)
+
+
+def state_of(data: bytes) -> str:
+    """The letter of a status file's state; empty where it tells none."""
+    return (word_of_file(data, b"State") or b"")[:1].decode("latin-1")
 
 
 def lives(proc: Proc, pid: int) -> bool:
@@ -51,7 +55,7 @@ def lives(proc: Proc, pid: int) -> bool:
 def is_dead(proc: Proc, tid: int) -> bool:
     """Whether a thread has ended and is still shown, as a main thread is whose other threads live."""
     data = proc.read(tid, "status")
-    return data is not None and parts_of_file(data).get("State", "")[:1] in DEAD
+    return data is not None and state_of(data) in DEAD
 
 
 def all_threads(proc: Proc) -> dict[int, Glance]:

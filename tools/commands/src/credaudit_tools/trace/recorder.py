@@ -12,6 +12,7 @@ from collections.abc import Iterator
 from contextlib import contextmanager
 from dataclasses import dataclass, field, replace
 from types import FrameType
+from typing import TYPE_CHECKING
 
 from ..command_line.command import Failure, Progress
 from ..command_line.printable import few, quoted, shown
@@ -23,7 +24,6 @@ from ..formats.strace_lines import call_of, parted
 from ..kernel_filters.filter_look import FilterLook
 from ..replay import scan_fits
 from ..replay.recording import Made, Recording
-from ..service.unit_start import UnitStart
 from ..strace_log.followed_processes import Followed
 from ..strace_log.kept_log import changes_text, filters_text
 from ..strace_log.line_filter import Filtering
@@ -39,6 +39,9 @@ from .stopped_threads import statuses
 from .strace_output import Stream
 from .strace_process import Tracer
 from .watchdog import Watchdog, nothing
+
+if TYPE_CHECKING:
+    from ..service.unit_start import UnitStart
 
 PIPE_SIZE = 1 << 20
 END_PATIENCE = 2.0
@@ -60,6 +63,12 @@ class Asked:
     unit: str | None = None         # a service of systemd, which is started
 
 
+def unit_start(name: str, live: Live) -> "UnitStart":
+    """A service of systemd that is to be started."""
+    from ..service.unit_start import UnitStart       # no other recording reads units
+    return UnitStart(name, live.proc)
+
+
 # ---- the recording ---------------------------------------------------------------------------------------------------
 
 
@@ -78,7 +87,7 @@ class Recorder:
         self.start: dict[int, Status] = {}
         self.living: set[int] = set()       # the processes that have to go on, or to end, after the recording
         self.rows = worlds.World()
-        self.unit = None if asked.unit is None else UnitStart(asked.unit, self.live.proc)
+        self.unit = None if asked.unit is None else unit_start(asked.unit, self.live)
         self.changed = False                # there is something to be undone for the unit
 
     # ---- the start
@@ -94,7 +103,7 @@ class Recorder:
                                " can get more")
         return tids
 
-    def begin_unit(self, unit: UnitStart) -> list[int]:
+    def begin_unit(self, unit: "UnitStart") -> list[int]:
         """The process of a service, which systemd has made, and which waits right before the execve of its program."""
         self.watchdog.changes()
         self.changed = True

@@ -17,9 +17,14 @@ CALLS = ("(set(re|res)?[ug]id|setfs[ug]id|get(e|res)?[ug]id|[gs]etgroups|cap[gs]
 CHANGING = ("(f?chmod(at2?)?|[lf]?chown|fchownat|[lf]?(set|remove)xattr(at)?|link(at)?|rename(at2?)?|mknod(at)?"
             "|u?mount2?|move_mount|mount_setattr|fsmount|open_tree)")
 TRACE = f"trace=/^({CALLS}|{CHANGING})(32|64)?$"
-LONGEST = 65535
-OPTIONS = ("-f", "-v", "-yy", "--pidns-translation", "-s", str(LONGEST), "-e", "abbrev=execve,execveat",
-           "--quiet=attach,personality,path-resolution", "-e", TRACE)
+# Of a written text as much as a map file takes, which is less than a page; of a descriptor the file or the process that
+# it is of. Other bytes, and what devices and sockets are, cost time and tell nothing.
+LONGEST = 4096
+DESCRIPTORS = "decode-fds=path,pidfd"
+# Signals that end no process (signal(7)); with another one strace would leave out the end that it brings.
+SIGNALS = "signal=!SIGCHLD,SIGCONT,SIGURG,SIGWINCH"
+OPTIONS = ("-f", "-v", "-e", DESCRIPTORS, "--pidns-translation", "-s", str(LONGEST), "-e", "abbrev=execve,execveat",
+           "--quiet=attach,personality,path-resolution", "-e", SIGNALS, "-e", TRACE)
 
 
 def find(asked: str | None = None) -> str:

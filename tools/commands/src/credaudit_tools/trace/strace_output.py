@@ -1,7 +1,6 @@
 """What strace tells, read from a pipe while it runs: nothing of it reaches a disk but what the filter takes."""
 import fcntl
 import os
-import re
 import select
 import struct
 import termios
@@ -16,7 +15,6 @@ from .exec_stops import ExecStops
 CHUNK = 1 << 20
 FULL, GATHER = 1 << 18, 0.01        # bytes that are worth a reading at once; else so many seconds are waited for more
 LONGEST_LINE = 1 << 26
-SIGNAL = re.compile(rb"[0-9]+ +---")    # a signal's line: no rule reads it, and there may be many
 
 
 class Stream:
@@ -41,22 +39,22 @@ class Stream:
         ready, _, _ = select.select([self.handle, *self.stops.handles()], [], [], seconds)
         if not ready:
             return
-        if ready == [self.handle] and self.waiting() < FULL:
-            self.gather()
-        if self.stops.wait(0):
+        gathers = ready == [self.handle] and self.waiting() < FULL
+        if self.gather() if gathers else self.stops.wait(0):
             self.look()
         elif self.handle in ready:
-            data = os.read(self.handle, CHUNK)
+            # Python asks for memory for all that may come, and to give back what didn't takes longer than to read.
+            data = os.read(self.handle, min(self.waiting(), CHUNK) or 1)
             self.ended = not data
             self.take(data)
 
-    def gather(self) -> None:
+    def gather(self) -> bool:
         """Lets more lines come, but not beyond a stop: strace writes line by line, and to be woken for each would slow
-        it down."""
+        it down. Whether there is a stop."""
         if self.stops.handles():
-            self.stops.wait(GATHER)
-        else:
-            time.sleep(GATHER)
+            return self.stops.wait(GATHER)
+        time.sleep(GATHER)
+        return False
 
     def look(self) -> None:
         """At a stop all that strace wrote before is taken first; then the new program is looked at, and strace goes
@@ -80,8 +78,7 @@ class Stream:
             return
         try:
             for line in whole:
-                if SIGNAL.match(line) is None:
-                    self.filter.feed(line)
+                self.filter.feed(line)
         except Stopped as stopped:
             self.stopped = str(stopped)
         self.awaited.look(self.filter.taken.lines)

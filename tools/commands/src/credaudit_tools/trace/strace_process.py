@@ -2,7 +2,6 @@
 import os
 import signal
 import subprocess
-import tempfile
 import time
 from collections.abc import Callable, Collection, Sequence
 
@@ -22,7 +21,7 @@ class Tracer:
 
     def __init__(self, proc: Proc, path: str, out: int, pids: Sequence[int]) -> None:
         self.proc = proc
-        self.errors = tempfile.TemporaryFile()
+        self.errors = open(os.memfd_create("strace"), "w+b")
         self.recorder = os.getpid()
         self.stops = ExecStops()
         self.process = subprocess.Popen(

@@ -13,7 +13,6 @@ from ..formats.plain_log import numbers_of, renumbered
 from ..formats.statuses import Status
 from ..replay import recording, scan_fits
 from ..system import proc
-from ..verify import verify_command
 from . import room
 from .recorder import Asked, Recorder
 
@@ -121,8 +120,14 @@ def told(options: argparse.Namespace, found: recording.Recording, made: recordin
         tell(NAME, UNATTENDED_SAYS)
     print(f"{shown(options.output)}: {plural(len(made.log.splitlines()), 'line')},"
           f" {plural(len(made.statuses), 'process')} at the end ({end})")
-    status = GOOD if options.no_verify else verify_command.verified(NAME, options.output, tell_doubts=False)
+    status = GOOD if options.no_verify else verified(options.output)
     return FOUND if doubts and status == GOOD else status
+
+
+def verified(folder: str) -> int:
+    """Verifies a recording, whose doubts are told already; the exit status."""
+    from ..verify import verify_command        # once the recording is over, which it would only delay
+    return verify_command.verified(NAME, folder, tell_doubts=False)
 
 
 def numbered(found: recording.Recording, first: int) -> recording.Recording:
