@@ -309,7 +309,7 @@ class Recorded(Units):
 
         def with_stand_in(word: str, own: proc.Proc) -> UnitStart:
             return UnitStart(word, own, Manager([STAND_IN], self.folder), (self.work,), self.work)
-        self.enterContext(mock.patch("credaudit_tools.trace.recorder.UnitStart", with_stand_in))
+        self.enterContext(mock.patch("credaudit_tools.service.unit_start.UnitStart", with_stand_in))
         self.out = os.path.join(self.work, "recording")
 
     def trace(self, *words: str) -> tuple[int, str, str]:
