@@ -38,8 +38,7 @@ from kernel.recordings import give_up
 
 UNITS = ("cron", "dbus", "redis-server", "memcached", "nginx", "ssh", "chrony", "haveged", "rsyslog", "stubby",
          "unbound", "dnsmasq", "prometheus-node-exporter", "systemd-networkd")
-UNTOLD = ("chrony",)            # all of its commands have marks for which credaudit-unit tells nothing
-GOOD = ("equal", "equal but for what it names", "recorded, and untold")
+GOOD = ("equal", "equal but for what it names")
 PID = 100
 DROPPED = re.compile(r"out of the bounding set")
 IMPLIED = "some versions of systemd set no_new_privs"
@@ -94,8 +93,7 @@ def compared(program: Program, folder: str, bounding: int) -> tuple[str, str]:
         return "not recorded", text("said").strip().replace("\n", "; ")
     kept = recording.read(os.path.join(folder, "recording"))
     if not text("unit.toml"):
-        untold = "recorded, and untold" if os.path.basename(folder) in UNTOLD else "not told"
-        return untold, text("unit.notes").strip().replace("\n", "; ")
+        return "not told", text("unit.notes").strip().replace("\n", "; ")
     seen_world, own_world = worlds.read(kept.world), worlds.read(text("unit.toml").encode())
     seen = begins(program, seen_world)
     own, words = named(within(begins(program, own_world), bounding), seen, text("unit.notes"))

@@ -15,7 +15,7 @@ from credaudit_tools.formats.worlds import File, Mount, World
 from credaudit_tools.unit import unit_calls, unit_files, unit_keys, unit_settings, unit_world
 from credaudit_tools.unit.unit_calls import Filter
 from credaudit_tools.unit.unit_files import Unit
-from credaudit_tools.unit.unit_settings import Settings
+from credaudit_tools.unit.unit_settings import Command, Settings
 from credaudit_tools.unit.unit_text import Unfinished, assignments, boolean, words, words_before
 
 from .. import support
@@ -449,7 +449,7 @@ class Worlds(support.Case):
     def test_programs(self) -> None:
         su, sh = File("/usr/bin/su", 0, 0, 0o4755), File("/opt/set", 7, 7, 0o4755)
         made = self.made("ExecStartPre=-/usr/bin/true\nExecStart=@/usr/bin/su su\nExecStop=set", su, sh)
-        self.assertEqual(made.log, b"100 execve - = 0\n101 execve /usr/bin/su = 0\n")
+        self.assertEqual(made.log, b"100 execve /usr/bin/su = 0\n101 execve - = 0\n")
         self.assertEqual([(each.pid, each.parent) for each in made.world.processes], [(100, None), (101, 100)])
         made = self.made('ExecStart=\nExecStart=su ; "/opt/set" x', su, sh)
         self.assertEqual(made.log, b"100 execve /usr/bin/su = 0\n101 execve /opt/set = 0\n")
@@ -458,10 +458,31 @@ class Worlds(support.Case):
         self.link("/usr/bin/alias", "su")
         self.assertEqual(self.made("ExecStart=/usr/bin/alias", su).log, b"100 execve /usr/bin/su = 0\n")
 
-    def test_commands_with_privileges_of_their_own(self) -> None:
-        made = made_of("ExecStartPre=+/bin/a\nExecStartPre=!/bin/b\nExecStart=!!/bin/c")
-        self.assertEqual(made.commands, ["/bin/c"])
-        self.assertEqual(len([each for each in made.notes if "isn't in this answer" in each]), 2)
+    def test_commands_with_full_privileges(self) -> None:
+        made = made_of("ExecStartPre=+/bin/a\nExecStartPre=@!/bin/b b\nExecStart=!!/bin/c")
+        self.assertEqual(made.commands, [Command("/bin/c"), Command("/bin/b", as_root=True)])
+        told = [note for note in made.notes if note.startswith("Exec")]
+        self.assertEqual(told, ["ExecStartPre=: /bin/a runs with full privileges (+): it isn't in this answer",
+                                "ExecStartPre=: /bin/b begins as root (@!): of User=, Group= and"
+                                " SupplementaryGroups= it has the user's groups alone"])
+
+    def test_commands_as_root(self) -> None:
+        """`!` exclusively alters the effect of User=, Group= and SupplementaryGroups= (systemd.service(5)). Of these
+        systemd 252 leaves the groups of the user, as try_units.py saw it start chrony."""
+        text = ("User=web\nSupplementaryGroups=8\nCapabilityBoundingSet=CAP_KILL CAP_CHOWN\nNoNewPrivileges=1\n"
+                "AmbientCapabilities=CAP_KILL\nSecureBits=noroot\nPrivateUsers=yes\nSystemCallFilter=~capset:EPERM\n"
+                "SystemCallArchitectures=native\nExecStart=!/bin/x\n")
+        [only] = self.made(text).world.processes
+        self.assertEqual((only.credential, only.space), (Credential((0,) * 4, (0,) * 4, frozenset([4, 34, 40]), KILL,
+                                                                    ALL, ALL, KILL | CHOWN, KILL, 1, True), "private"))
+        for ids, groups in (("", []), ("User=web\nGroup=root\n", []), ("User=web\nGroup=ssl\n", [4, 40]),
+                            ("DynamicUser=yes\n", [61184]), ("SupplementaryGroups=8\n", [])):
+            [only] = self.made(ids + "ExecStart=!/bin/x").world.processes
+            self.assertEqual((only.credential.gid[0], sorted(only.credential.groups)), (0, groups), ids)
+        made = self.made(text).world
+        self.assertEqual((made.exclude, made.spaces[0].uid_map), (["capset"], ((0, 0, 1), (33, 33, 1))))
+        made = self.made(text + "ExecStartPre=/bin/y\nExecStop=!/bin/z\n").world
+        self.assertEqual([(each.pid, each.credential.uid[0]) for each in made.processes], [(100, 0), (101, 33)])
 
     def test_paths_without_execution(self) -> None:
         for path in ("/usr/bin/su", "/opt/in/set", "/opt/out"):
@@ -500,6 +521,7 @@ class Worlds(support.Case):
                              ("RootDirectory=/srv/jail", every), ("User=web\nRootDirectory=/none", every),
                              ("CapabilityBoundingSet=~CAP_SYS_CHROOT\nRootDirectory=/srv/jail", ["/bin/sh", "/bin/su"]),
                              ("User=web\nAmbientCapabilities=CAP_SYS_CHROOT\nRootDirectory=/srv/jail", every),
+                             ("User=web\nRootDirectory=/srv/jail\nExecStartPre=!/bin/x", every),
                              ("User=web\nRootDirectory=/srv/jail\nBindPaths=/usr", every),
                              ("User=web\nRootDirectory=/srv/jail\nRootDirectory=", every)):
             made = self.made(text, *rows)

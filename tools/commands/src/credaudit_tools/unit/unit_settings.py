@@ -21,7 +21,8 @@ NUMBER = re.compile("-?[0-9]+")
 FIRST_NAME = re.compile(r"[A-Za-z_][A-Za-z0-9_-]{0,30}")
 SECURE = {"noroot": 0x01, "noroot-locked": 0x02, "no-setuid-fixup": 0x04, "no-setuid-fixup-locked": 0x08,
           "keep-caps": 0x10, "keep-caps-locked": 0x20}
-COMMANDS = ("ExecCondition", "ExecStartPre", "ExecStart", "ExecStartPost", "ExecReload", "ExecStop", "ExecStopPost")
+# The service's own command comes first: it is the process that is asked about.
+COMMANDS = ("ExecStart", "ExecCondition", "ExecStartPre", "ExecStartPost", "ExecReload", "ExecStop", "ExecStopPost")
 # Settings that imply NoNewPrivileges= where the service manager has no CAP_SYS_ADMIN left.
 IMPLY = ("LockPersonality", "MemoryDenyWriteExecute", "PrivateDevices", "ProtectClock", "ProtectHostname",
          "ProtectKernelLogs", "ProtectKernelModules", "ProtectKernelTunables", "RestrictAddressFamilies",
@@ -47,12 +48,22 @@ PASSED_OVER = {
 SHOWS_MORE = ("RootImage", "BindPaths", "BindReadOnlyPaths", "MountImages", "ExtensionImages", "ExtensionDirectories")
 
 
+@dataclass(frozen=True)
+class Command:
+    """The program of a command. With the mark `!` it begins with the ids of the service manager, which are root's, and
+    all that isn't of ids is as the settings say (systemd.service(5), "Command lines"). The groups that User= and Group=
+    give are its supplementary ones, as systemd 252 starts it."""
+    path: str
+    as_root: bool = False
+
+
 @dataclass
 class Settings:
     """The credentials of a unit's processes before they execute their program, and what else a world declares."""
     uid: int = 0
     gid: int = 0
     groups: frozenset[int] = frozenset()
+    user_groups: frozenset[int] = frozenset()   # those of them that SupplementaryGroups= doesn't add
     bounding: int = ALL
     ambient: int = 0
     securebits: int = 0
@@ -63,8 +74,8 @@ class Settings:
     root: str | None = None
     exec_paths: list[str] = field(default_factory=list)
     no_exec_paths: list[str] = field(default_factory=list)
-    commands: list[str] = field(default_factory=list)
-    privileged: bool = False        # a command runs with privileges of its own
+    commands: list[Command] = field(default_factory=list)
+    privileged: bool = False        # a command runs with full privileges
     notes: list[str] = field(default_factory=list)
 
 
@@ -187,6 +198,7 @@ def set_ids(made: Settings, unit: Unit, users: Users) -> None:
         own = users.groups_of(user.name) | {made.gid}
     elif dynamic and user is None:
         own = {made.gid}
+    made.user_groups = frozenset(own)
     for word in supplementary(unit):
         number = users.group(word)
         if number is None:
@@ -236,19 +248,19 @@ def set_private_users(made: Settings, unit: Unit) -> None:
 def set_commands(made: Settings, unit: Unit) -> None:
     """The commands of the unit, each by the path of its program."""
     for key in COMMANDS:
-        found = list[str]()
+        found = list[Command]()
         for value in unit.values(key):
             found = [*found, *commands_of(made, unit, key, value)] if value else []
         made.commands += found
     if not made.commands and made.privileged:
-        raise Failure("each command of the unit runs with full privileges, or as it sets its own",
+        raise Failure("each command of the unit runs with full privileges (+)",
                       "the settings aren't those of its processes")
 
 
-def commands_of(made: Settings, unit: Unit, key: str, value: str) -> list[str]:
-    """The programs of a line of commands; those that the settings don't hold for are told. Fails at a program that is
-    named by a relative path."""
-    found, begins = list[str](), True
+def commands_of(made: Settings, unit: Unit, key: str, value: str) -> list[Command]:
+    """The programs of a line of commands; those that the settings don't hold for, or not all of them, are told. Fails
+    at a program that is named by a relative path."""
+    found, begins = list[Command](), True
     try:
         every = words(value, escapes=True)
     except Unfinished as error:
@@ -260,11 +272,15 @@ def commands_of(made: Settings, unit: Unit, key: str, value: str) -> list[str]:
             path = expanded(unit, word[len(front):])
             if "/" in path and not path.startswith("/"):
                 raise Failure(f"{key}=: {quoted(path)} is neither a name nor an absolute path: the unit doesn't start")
-            if "+" in front or ("!" in front and "!!" not in front):
+            as_root = "!" in front and "!!" not in front
+            if "+" in front:
                 made.privileged = True
-                made.notes.append(f"{key}=: {path} runs with privileges of its own ({front}): it isn't in this answer")
-            else:
-                found.append(path)
+                made.notes.append(f"{key}=: {path} runs with full privileges ({front}): it isn't in this answer")
+            elif as_root:
+                made.notes.append(f"{key}=: {path} begins as root ({front}): of User=, Group= and SupplementaryGroups="
+                                  " it has the user's groups alone")
+            if "+" not in front:
+                found.append(Command(path, as_root))
         begins = word == ";"
     return found
 

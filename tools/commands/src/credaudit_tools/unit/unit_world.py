@@ -53,10 +53,12 @@ def maps_of(made: Settings) -> tuple[Map, Map] | None:
     return whole, whole
 
 
-def credential(made: Settings) -> Credential:
-    """A process before its execve. A user other than root keeps what is ambient; the rest goes by the execve."""
-    own = ALL if made.uid == 0 else made.ambient
-    return Credential(uid=(made.uid,) * 4, gid=(made.gid,) * 4, groups=made.groups, inh=made.ambient, prm=own, eff=own,
+def credential(made: Settings, as_root: bool) -> Credential:
+    """A process before its execve; as root where its command says so. A user other than root keeps what is ambient; the
+    rest goes by the execve."""
+    uid, gid, groups = (0, 0, made.user_groups) if as_root else (made.uid, made.gid, made.groups)
+    own = ALL if uid == 0 else made.ambient
+    return Credential(uid=(uid,) * 4, gid=(gid,) * 4, groups=groups, inh=made.ambient, prm=own, eff=own,
                       bnd=made.bounding, amb=made.ambient, sec=made.securebits, nnp=made.no_new_privs)
 
 
@@ -132,7 +134,8 @@ class Tree:
         if made.root is None:
             return
         place, more = self.resolved(made.root), [key for key in SHOWS_MORE if any(unit.values(key))]
-        may_leave = made.bounding & CHROOT and (made.uid == 0 or made.ambient & CHROOT)
+        as_root = made.uid == 0 or any(each.as_root for each in made.commands)
+        may_leave = made.bounding & CHROOT and (as_root or made.ambient & CHROOT)
         if place is None or more or may_leave:
             why = "isn't there" if place is None else "shows more by other settings" if more else \
                 "can be left by CAP_SYS_CHROOT"
@@ -184,16 +187,16 @@ def world_of(unit: Unit, made: Settings, files: World | None, text: str, scan: E
     elif files is not None:
         tree.without_execution(made)
         tree.rooted(made, unit)
-    programs = list(dict.fromkeys(executed(tree, made, each) for each in made.commands)) or ["-"]
+    programs = list(dict.fromkeys((executed(tree, made, each.path), each.as_root) for each in made.commands)) \
+        or [("-", False)]
     maps = maps_of(made)
     spaces = list(files.spaces) if files else []
     private = fresh(PRIVATE, {each.name for each in spaces})
     if maps is not None:
         spaces.append(Space(private, INITIAL, 0, *maps, creator_setfcap=True))
-    own = credential(made)
-    rows = [Process(PID + number, own, PID if number else None, private if maps else INITIAL)
-            for number in range(len(programs))]
-    log = "".join(f"{PID + number} execve {path} = 0\n" for number, path in enumerate(programs))
+    rows = [Process(PID + number, credential(made, as_root), PID if number else None, private if maps else INITIAL)
+            for number, (_, as_root) in enumerate(programs)]
+    log = "".join(f"{PID + number} execve {path} = 0\n" for number, (path, _) in enumerate(programs))
     mounts = [each for each in tree.mounts if any(row.mount == each.name for row in tree.rows)]
     evidence = evidence_of(scan)
     remarks = [f"made by credaudit-unit of {escaped(unit.name)}",
