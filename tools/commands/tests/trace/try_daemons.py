@@ -121,10 +121,10 @@ def word_of(status: int | None, said: str) -> str:
 
 
 def judged(recording_of: str) -> tuple[bool, str]:
-    """Whether credaudit-summary judges a recording, and its last line, or all where it fails."""
+    """Whether credaudit-summary judges a recording, and its last line with a verdict, or all where it fails."""
     status, said = asked([os.path.join(tools_path.TOOLS, "credaudit-summary"), recording_of], PATIENCE)
     good = status in (0, 1) and "Traceback" not in said
-    counts = re.findall(r"^[0-9]+ rights: .*", said, re.MULTILINE)
+    counts = re.findall(r"^process [0-9]+: (?:of|all|its) .*", said, re.MULTILINE)
     return good, counts[-1] if good and counts else said.strip().replace("\n", " | ")
 
 
