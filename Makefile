@@ -15,7 +15,7 @@ PREFIX ?= /usr/local
 CRATE := crates/credaudit
 PROGRAM := $(CRATE)/out/credaudit
 # The commands around the program: their packages lie below lib, where they find them.
-COMMANDS := $(wildcard tools/credaudit-*)
+COMMANDS := $(wildcard tools/commands/src/credaudit-* tools/checker/src/credaudit-*)
 PACKAGES := tools/commands/src/credaudit_tools tools/checker/src/credaudit_check
 LIBRARY := $(PREFIX)/lib/credaudit
 SHARE := $(PREFIX)/share
@@ -49,7 +49,7 @@ install:
 	  done || exit; \
 	done
 	install -m 755 $(COMMANDS) $(DESTDIR)$(LIBRARY)
-	ln -sf $(patsubst tools/%,../lib/credaudit/%,$(COMMANDS)) $(DESTDIR)$(PREFIX)/bin
+	ln -sf $(addprefix ../lib/credaudit/,$(notdir $(COMMANDS))) $(DESTDIR)$(PREFIX)/bin
 	install -m 644 man/*.1 $(DESTDIR)$(SHARE)/man/man1
 	install -m 644 man/*.5 $(DESTDIR)$(SHARE)/man/man5
 	install -m 644 completion/credaudit $(DESTDIR)$(COMPLETIONS)/credaudit

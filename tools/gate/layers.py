@@ -13,7 +13,7 @@ TOOLS = os.path.dirname(os.path.dirname(os.path.abspath(__file__)))
 TABLE = os.path.join(TOOLS, "layers.txt")
 PACKAGES = {"credaudit_tools": os.path.join("commands", "src"), "credaudit_check": os.path.join("checker", "src")}
 MOST_MODULES = 15
-LINK = "tools_path.py"      # beside scripts that are run by their own path, as a link; it imports nothing
+COPIED = "tools_path.py"    # beside scripts that are run by their own path, a copy in each folder; it imports nothing
 
 
 def table(text: str) -> dict[str, list[str]]:
@@ -62,12 +62,12 @@ def is_python(path: str) -> bool:
 
 
 def files() -> Iterator[str]:
-    """The files of Python of tools/, bench/ and examples/, by their paths from tools/ on; links are left out."""
+    """The files of Python of tools/, bench/ and examples/, by their paths from tools/ on."""
     for top in (TOOLS, os.path.join(TOOLS, "..", "bench"), os.path.join(TOOLS, "..", "examples")):
         for folder, folders, names in os.walk(top):
             folders[:] = sorted(each for each in folders if each not in ("build", "data", "__pycache__", ".mypy_cache"))
             for path in (os.path.join(folder, name) for name in sorted(names)):
-                if os.path.isfile(path) and not os.path.islink(path) and is_python(path):
+                if os.path.isfile(path) and is_python(path):
                     yield os.path.relpath(path, TOOLS)
 
 
@@ -112,6 +112,6 @@ def seen() -> dict[str, set[str]]:
     """By part the others that its files import."""
     found = dict[str, set[str]]()
     for path in files():
-        parts = {part_of(each) for each in modules(path) if os.path.basename(each) != LINK}
+        parts = {part_of(each) for each in modules(path) if os.path.basename(each) != COPIED}
         found.setdefault(part_of(path), set()).update(parts - {part_of(path)})
     return found

@@ -3,6 +3,7 @@ from the commands: neither uses the other, so that one can be held against the o
 certificates. What both need stands in each of them, on purpose: the names of the capabilities, the record of a
 credential.
 """
+import filecmp
 import os
 import unittest
 from collections import Counter
@@ -71,16 +72,23 @@ class Layers(unittest.TestCase):
         found = layers.reached([path for path in self.files if path.startswith("checker/src/")])
         self.assertEqual([path for path in found if not path.startswith("checker/src/")], [])
 
-    def test_scripts_find_the_folders_by_a_link(self) -> None:
-        """Beside each script that is run by its own path: a copy would look for the folders beside itself."""
-        own = os.path.join(layers.TOOLS, layers.LINK)
+    def test_scripts_find_the_folders_by_a_copy(self) -> None:
+        """Beside each script that is run by its own path, and nowhere else: all copies are alike."""
+        own = os.path.join(layers.TOOLS, layers.COPIED)
         folders = {os.path.dirname(path) for path in self.files
-                   if layers.LINK in layers.modules(path) and not path.startswith(os.path.join("..", "examples"))}
+                   if layers.COPIED in layers.modules(path) and not path.startswith(os.path.join("..", "examples"))}
         self.assertGreaterEqual(len(folders), 10)
+        self.assertEqual({os.path.dirname(path) for path in self.files if os.path.basename(path) == layers.COPIED},
+                         folders | {""})
         for folder in folders:
-            link = os.path.join(layers.TOOLS, folder, layers.LINK)
-            self.assertTrue(os.path.islink(link), link)
-            self.assertEqual(os.path.realpath(link), os.path.realpath(own))
+            self.assertTrue(filecmp.cmp(os.path.join(layers.TOOLS, folder, layers.COPIED), own, shallow=False), folder)
+
+    def test_no_file_is_a_link(self) -> None:
+        """`rt ci` takes no repository with links."""
+        for folder, folders, names in os.walk(os.path.dirname(layers.TOOLS)):
+            folders[:] = [each for each in folders if each not in (".git", "out")]
+            for name in folders + names:
+                self.assertFalse(os.path.islink(os.path.join(folder, name)), os.path.join(folder, name))
 
 
 if __name__ == "__main__":

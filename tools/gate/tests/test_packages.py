@@ -15,6 +15,17 @@ from ..layers import PACKAGES, TOOLS
 
 FOLDERS = {name: path.split(os.sep)[0] for name, path in PACKAGES.items()}
 NEEDED = ("pip", "setuptools", "wheel")
+LAUNCHER = """#!/usr/bin/env python3
+\"\"\"See {name}(1).\"\"\"
+{{path}}from {module} import {function}{{noqa}}
+
+{function}()
+"""
+PATH = """import os
+import sys
+
+sys.path.insert(0, os.path.join(os.path.dirname(os.path.realpath(__file__)), "{folder}", "src"))
+"""
 
 
 def scripts(folder: str) -> dict[str, str]:
@@ -30,9 +41,11 @@ class Packages(Case):
         for folder in FOLDERS.values():
             for name, entry in scripts(folder).items():
                 module, _, function = entry.partition(":")
-                with open(os.path.join(TOOLS, folder, "src", name), encoding="ascii") as file:
-                    self.assertIn(f"from {module} import {function}\n", file)
-                self.assertEqual(os.readlink(os.path.join(TOOLS, name)), f"{folder}/src/{name}")
+                text = LAUNCHER.format(name=name, module=module, function=function)
+                for path, wanted in ((os.path.join(folder, "src", name), text.format(path="", noqa="")),
+                                     (name, text.format(path=PATH.format(folder=folder), noqa="  # noqa: E402"))):
+                    with open(os.path.join(TOOLS, path), encoding="ascii") as file:
+                        self.assertEqual(file.read(), wanted, path)
                 there.add(name)
         self.assertEqual({os.path.basename(path) for path in glob.glob(os.path.join(TOOLS, "credaudit-*"))}, there)
 

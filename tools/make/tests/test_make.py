@@ -72,12 +72,13 @@ class SmallTree(Case):
         for name, text in TREE.items():
             self.put(os.path.join("tree", name), text)
         for name in ("tools/commands/src", "tools/checker/src", "tools/make"):
-            shutil.copytree(os.path.join(TOP, name), os.path.join(self.top, name), symlinks=True,
+            shutil.copytree(os.path.join(TOP, name), os.path.join(self.top, name),
                             ignore=shutil.ignore_patterns("__pycache__", "tests"))
-        for name in ("Makefile", "LICENSE", "LICENSE-MIT", "LICENSE-APACHE", "tools/tools_path.py"):
+        for name in ("Makefile", "LICENSE", "LICENSE-MIT", "LICENSE-APACHE", "tools/layers.txt",
+                     "tools/tools_path.py"):
             shutil.copy(os.path.join(TOP, name), os.path.join(self.top, name))
         for name in ("credaudit-lint", "credaudit-check-certificate"):
-            os.symlink(os.readlink(os.path.join(TOP, "tools", name)), os.path.join(self.top, "tools", name))
+            shutil.copy(os.path.join(TOP, "tools", name), os.path.join(self.top, "tools", name))
         os.makedirs(self.kit)
         shutil.copy(FAKE, os.path.join(self.kit, "rt"))
         self.kit_is(said=SAID)
