@@ -65,13 +65,14 @@ TIMED: dict[str, tuple[int, list[str]]] = {
 }
 
 
-def seconds(words: list[str], work: str) -> tuple[float, float]:
-    """What a command takes by the clock, and of the processors' time with all its children. It must succeed."""
+def seconds(words: list[str], work: str, most: int = 0) -> tuple[float, float]:
+    """What a command takes by the clock, and of the processors' time with all its children. Its status must be at most
+    this one."""
     shutil.rmtree(os.path.join(work, "out"), ignore_errors=True)
     os.mkdir(os.path.join(work, "out"))
     begun, before = time.monotonic(), resource.getrusage(resource.RUSAGE_CHILDREN)
     status = subprocess.run(words, cwd=work, stdout=subprocess.DEVNULL, stderr=subprocess.DEVNULL).returncode
-    if status != 0:
+    if not 0 <= status <= most:
         sys.exit(f"{words[0]} ended with status {status}")
     after = resource.getrusage(resource.RUSAGE_CHILDREN)
     return time.monotonic() - begun, after.ru_utime + after.ru_stime - before.ru_utime - before.ru_stime

@@ -17,7 +17,8 @@ from collections.abc import Callable
 from commands.tests.support import EXAMPLES, STORED
 
 TOP = os.path.normpath(os.path.join(EXAMPLES, ".."))
-DOCUMENTS = {"README.md": 8, "docs/TUTORIAL.md": 10, "docs/CHECKER.md": 2}      # and how many commands each has at least
+# The documents, and how many commands each has at least.
+DOCUMENTS = {"README.md": 8, "docs/TUTORIAL.md": 10, "docs/CHECKER.md": 2}
 
 
 def blocks(document: str) -> list[list[tuple[str, str]]]:

@@ -1,5 +1,5 @@
-"""Puts the folders of tools/ in Python's path. Each script that is run by its own path imports this first, from the copy
-that lies beside it (all copies are alike); so `tools/plain/bounds.py` finds `plain.rules` wherever it is called from.
+"""Puts the folders of tools/ in Python's path. Each script that is run by its own path imports this first, from the
+copy that lies beside it (all copies are alike); so `tools/plain/bounds.py` finds `plain.rules` from any folder.
 """
 import os
 import sys
