@@ -1,6 +1,6 @@
 -- What a cutter finds at the front of what it keeps is what comes next in the file.
 use Rattle.std.proofs.Common.{◌≡◌, ℕ, ◌+◌, ◌-◌, ◌<◌, ◌≤◌, ◌==◌, ◌||◌, nat_lt, length, List, [], ◌∷◌, take, drop, refl, ◌∙◌, sym, ap, ap₂, subst, arith, length-take, length-drop}
-use Rattle.std.proofs.Common.{Bool, true, false, IsTrue, inl, inr, Option, None, Some, IfSome, Ok, Err}
+use Rattle.std.proofs.Common.{Bool, true, false, IsTrue, inl, inr, Option, None, Some, IfSome, Result, Ok, Err}
 use Rattle.std.proofs.lemmas.Bool.{cases_Bool, cases_lt}
 use Rattle.std.proofs.lemmas.List.{take-take, take_all}
 use Rattle.cm_lines.specs.Lines.{line_len, line_size}
@@ -9,8 +9,9 @@ use Rattle.cm_lines.specs.declared.limits.Past.{Past}
 use Rattle.cm_lines.specs.declared.limits.Past.TheVariants.{Line, Whole}
 use Rattle.cm_lines.proofs.Lengths.{len_within, len_front, len_past}
 use Rattle.cm_lines.proofs.PastLimits.{past_more, some_past}
-use Rattle.cm_io.specs.Cutter.{Cutting, FitsText, Fits, SameFile, unless_past, next_cut, next_of, error_of, is_at_hand, ends}
-use Rattle.cm_io.specs.CutterSteps.{KeepsMore, IsFound, found_of}
+use Rattle.cm_io.specs.Cutter.{BreaksWithin, Cutting, FitsText, Fits, SameFile, unless_past, next_cut, next_of, error_of, is_at_hand}
+use Rattle.cm_io.specs.Cutter.{past_kept, read_to}
+use Rattle.cm_io.specs.CutterSteps.{FindsLine, Finds, KeepsMore, IsFound, Stays, Tells, found_of}
 use Rattle.cm_io.specs.Shelf.{Files, bytes_at, TakesAtMost}
 use Rattle.cm_io.specs.declared.cutter.CutError.{CutError}
 use Rattle.cm_io.specs.declared.cutter.CutError.TheVariants.{Read, TooLong, TooMuch, NoMemory}
@@ -112,10 +113,6 @@ last_next line whole place left kept is all none found =
     )
 
 -- ---- cutters
--- its text as what it keeps of what is left
-left_kept : (c : Cutting) (text : List ℕ) → FitsText c text → c.kept ≡ take (length c.kept) (drop c.place text)
-left_kept c text fits = fits.kept
-
 -- what comes next is told of the same file at the same place
 same_next : (old cur : Cutting) (text : List ℕ) → SameFile old cur → cur.place ≡ old.place → next_of cur text ≡ next_of old text
 same_next old cur text same place =
@@ -129,7 +126,7 @@ pub past_now : (held : Option Files) (cur : Cutting) (len size : ℕ) (past : Pa
     → past_of cur.line cur.whole cur.place len size ≡ Some past → IfSome held (λ files. next_of cur (bytes_at files cur.name) ≡ Err (error_of past))
 past_now None cur len size past fits reached len_is size_is found = tt
 past_now (Some files) cur len size past fits reached len_is size_is found =
-    past_next cur.line cur.whole cur.place (drop cur.place (bytes_at files cur.name)) cur.kept past fits.kept reached
+    past_next cur.line cur.whole cur.place (drop cur.place (bytes_at files cur.name)) cur.kept past fits reached
     (sym (ap₂ (λ (l : ℕ) (s : ℕ). past_of cur.line cur.whole cur.place l s) len_is size_is) ∙ found)
 
 is_past : (old new : Cutting) (text : List ℕ) (past : Past) (e : CutError) → e ≡ error_of past → next_of old text ≡ Err (error_of past)
@@ -150,22 +147,12 @@ past_found (Some files) old cur new more past e keeps same is =
     subst (λ (n : List ℕ). next_of old (bytes_at files n) ≡ Err (error_of past)) keeps.same.name
     (sym (same_next old cur (bytes_at files cur.name) keeps.same keeps.place) ∙ is))
 
--- and told from then on
-pub fits_stopped : (held : Option Files) (cur new : Cutting) (past : Past) → new ≡ record cur { stop = Some past } → Fits held cur
-    → IfSome held (λ files. next_of cur (bytes_at files cur.name) ≡ Err (error_of past)) → Fits held new
-fits_stopped None cur new past now fits is = tt
-fits_stopped (Some files) cur new past now fits is =
-    subst (λ (c : Cutting). Fits (Some files) c) (sym now) (record { kept = fits.kept; ended = fits.ended; stopped = is })
-
-pub stopped_at : (was cur : Cutting) (past : Past) → was ≡ cur → record was { stop = Some past } ≡ record cur { stop = Some past }
-stopped_at was cur past same = ap (λ (c : Cutting). let d : Cutting = record c { stop = Some past } in d) same
-
 -- What is found, where a line is kept with its LF.
 line_found : (old cur : Cutting) (text : List ℕ) (more len size : ℕ) → KeepsMore old cur more → FitsText cur text
     → len ≡ line_len cur.kept → size ≡ line_size cur.kept → len < size → past_of cur.line cur.whole cur.place len size ≡ None
     → IsFound old cur text (Ok (found_of len size))
 line_found old cur text more len size keeps fits len_is size_is below found =
-    let (now, all) = line_next cur.line cur.whole cur.place (drop cur.place text) cur.kept fits.kept (omega (arith, len_is, size_is, below))
+    let (now, all) = line_next cur.line cur.whole cur.place (drop cur.place text) cur.kept fits (omega (arith, len_is, size_is, below))
     (sym (ap₂ (λ (l : ℕ) (s : ℕ). past_of cur.line cur.whole cur.place l s) len_is size_is) ∙ found) in
     let some : (size == 0) ≡ false = grind (arith, below) in
     rw some (
@@ -174,15 +161,15 @@ line_found old cur text more len size keeps fits len_is size_is below found =
     )
 
 -- What is found, where the file ends and no LF is kept.
-last_is_found : (old cur : Cutting) (text : List ℕ) (more len size : ℕ) → KeepsMore old cur more → FitsText cur text → IsTrue cur.ended
+last_is_found : (old cur : Cutting) (text : List ℕ) (more len size : ℕ) → KeepsMore old cur more → FitsText cur text → length text ≤ read_to cur
     → len ≡ line_len cur.kept → size ≡ line_size cur.kept → size ≤ len → past_of cur.line cur.whole cur.place len size ≡ None
     → IsFound old cur text (Ok (found_of len size))
-last_is_found old cur text more len size keeps fits ended len_is size_is above found =
+last_is_found old cur text more len size keeps fits whole len_is size_is above found =
     let within = len_within cur.kept in
     let all : len ≡ length cur.kept = omega (arith, len_is, size_is, above, within) in
     let same : size ≡ length cur.kept = omega (arith, len_is, size_is, above, within) in
-    let left : length (drop cur.place text) ≤ length cur.kept = omega (arith, length-drop cur.place text, fits.ended ended) in
-    let (some, none) = last_next cur.line cur.whole cur.place (drop cur.place text) cur.kept fits.kept left (omega (arith, all, len_is))
+    let left : length (drop cur.place text) ≤ length cur.kept = omega (arith, length-drop cur.place text, whole) in
+    let (some, none) = last_next cur.line cur.whole cur.place (drop cur.place text) cur.kept fits left (omega (arith, all, len_is))
     (sym (ap₂ (λ (l : ℕ) (s : ℕ). past_of cur.line cur.whole cur.place l s) len_is size_is) ∙ found) in
     let back = sym (same_next old cur text keeps.same keeps.place) in
     elim (cases_Bool (size == 0)) [
@@ -195,23 +182,43 @@ last_is_found old cur text more len size keeps fits ended len_is size_is above f
           )
     ]
 
--- What is found.
-pub is_found : (held : Option Files) (old cur : Cutting) (more len size : ℕ) → KeepsMore old cur more → Fits held cur → IsTrue (is_at_hand cur)
+-- no LF is kept where no line is at hand
+pub open_kept : (cur : Cutting) → is_at_hand cur ≡ false → length cur.kept ≤ line_len cur.kept
+open_kept cur none = elim (cases_lt (line_len cur.kept) (length cur.kept)) [
+  | inl below ↦ absurd (grind (arith, below, none))
+  | inr above ↦ above
+]
+
+-- What is found, at the end or before it, is told of what is kept, whatever is noted of the end.
+found_kept : (old cur new : Cutting) (text : List ℕ) (len size : ℕ) → new.kept ≡ cur.kept → IsFound old cur text (Ok (found_of len size))
+    → IsFound old new text (Ok (found_of len size))
+found_kept old cur new text len size same found = elim (cases_Bool (size == 0)) [
+  | inl is ↦ rw is (rw is at found)
+  | inr isnt ↦
+      let (next, all) = rw isnt at found in
+      rw isnt (next ∙ ap (λ (k : List ℕ). Ok (Some (take len k))) (sym same), all)
+]
+
+pub line_is_found : (held : Option Files) (old cur new : Cutting) (more len size : ℕ) → KeepsMore old cur more → Fits held cur
+    → IsTrue (is_at_hand cur) → new.kept ≡ cur.kept
     → len ≡ line_len cur.kept → size ≡ line_size cur.kept → past_of cur.line cur.whole cur.place len size ≡ None
-    → IfSome held (λ files. IsFound old cur (bytes_at files old.name) (Ok (found_of len size)))
-is_found None old cur more len size keeps fits hand len_is size_is found = tt
-is_found (Some files) old cur more len size keeps fits hand len_is size_is found =
-    subst (λ (n : List ℕ). IsFound old cur (bytes_at files n) (Ok (found_of len size))) keeps.same.name (elim (cases_lt len size) [
-      | inl below ↦ line_found old cur (bytes_at files cur.name) more len size keeps fits len_is size_is below found
-      | inr above ↦
-          last_is_found old cur (bytes_at files cur.name) more len size keeps fits
-          (ended_or cur.ended (line_len cur.kept) (length cur.kept) (omega (arith, len_is, size_is, above, len_within cur.kept)) hand)
-          len_is size_is above found
-    ])
-  where
-    ended_or : (ended : Bool) (a b : ℕ) → b ≤ a → IsTrue (ended || nat_lt a b) → IsTrue ended
-    ended_or true a b above hand = hand
-    ended_or false a b above hand = absurd (grind (arith, above, hand))
+    → IfSome held (λ files. IsFound old new (bytes_at files old.name) (Ok (found_of len size)))
+line_is_found None old cur new more len size keeps fits hand same len_is size_is found = tt
+line_is_found (Some files) old cur new more len size keeps fits hand same len_is size_is found =
+    subst (λ (n : List ℕ). IsFound old new (bytes_at files n) (Ok (found_of len size))) keeps.same.name
+    (found_kept old cur new (bytes_at files cur.name) len size same
+    (line_found old cur (bytes_at files cur.name) more len size keeps fits len_is size_is (grind (arith, hand, len_is, size_is)) found))
+
+pub end_is_found : (held : Option Files) (old cur new : Cutting) (more len size : ℕ) → KeepsMore old cur more → Fits held cur
+    → is_at_hand cur ≡ false → new.kept ≡ cur.kept → IfSome held (λ files. length (bytes_at files cur.name) ≤ read_to cur)
+    → len ≡ line_len cur.kept → size ≡ line_size cur.kept → past_of cur.line cur.whole cur.place len size ≡ None
+    → IfSome held (λ files. IsFound old new (bytes_at files old.name) (Ok (found_of len size)))
+end_is_found None old cur new more len size keeps fits none same whole len_is size_is found = tt
+end_is_found (Some files) old cur new more len size keeps fits none same whole len_is size_is found =
+    subst (λ (n : List ℕ). IsFound old new (bytes_at files n) (Ok (found_of len size))) keeps.same.name
+    (found_kept old cur new (bytes_at files cur.name) len size same
+    (last_is_found old cur (bytes_at files cur.name) more len size keeps fits whole len_is size_is
+    (let most = open_kept cur none in omega (arith, len_is, size_is, most)) found))
 
 -- ---- more is kept
 pub keeps_on : (old cur new : Cutting) (more n : ℕ) → KeepsMore old cur more → KeepsMore cur new n
@@ -226,8 +233,6 @@ keeps_on old cur new more n first then =
         whole = then.same.whole ∙ first.same.whole;
       };
       place = then.place ∙ first.place;
-      ended = λ is. then.ended (first.ended is);
-      stop = then.stop ∙ first.stop;
       front = sym (take-take (length old.kept) (length cur.kept) new.kept shorter) ∙ ap (λ l. take (length old.kept) l) then.front ∙ first.front;
       len = omega (arith, shorter, longer);
       few = then.few;
@@ -235,38 +240,55 @@ keeps_on old cur new more n first then =
 
 -- what is at hand stays so
 hand_on : (old cur : Cutting) (more : ℕ) → KeepsMore old cur more → IsTrue (is_at_hand old) → IsTrue (is_at_hand cur)
-hand_on old cur more keeps hand = elim (cases_Bool old.ended) [
-  | inl is ↦ let ended = keeps.ended (rw is refl) in grind (arith, ended)
-  | inr isnt ↦
-      let within : line_len old.kept < length old.kept = let lf = rw isnt at hand in grind (arith, lf) in
-      let same : line_len (take (length old.kept) cur.kept) ≡ line_len old.kept = ap line_len keeps.front in
-      let size : length (take (length old.kept) cur.kept) ≡ length old.kept = ap length keeps.front in
-      let len = len_front cur.kept (length old.kept) (omega (arith, same, size, within)) in
-      let below : line_len cur.kept < length cur.kept = omega (arith, len, same, within, keeps.len) in
-      or_right cur.ended (line_len cur.kept) (length cur.kept) below
+hand_on old cur more keeps hand =
+    let within : line_len old.kept < length old.kept = grind (arith, hand) in
+    let same : line_len (take (length old.kept) cur.kept) ≡ line_len old.kept = ap line_len keeps.front in
+    let size : length (take (length old.kept) cur.kept) ≡ length old.kept = ap length keeps.front in
+    let len = len_front cur.kept (length old.kept) (omega (arith, same, size, within)) in
+    let below : line_len cur.kept < length cur.kept = omega (arith, len, same, within, keeps.len) in
+    grind (arith, below)
+
+pub none_was : (old cur : Cutting) (more : ℕ) → KeepsMore old cur more → is_at_hand cur ≡ false → is_at_hand old ≡ false
+none_was old cur more keeps none = elim (cases_Bool (is_at_hand old)) [
+  | inl hand ↦ absurd (let now = hand_on old cur more keeps (rw hand refl) in cc)
+  | inr isnt ↦ isnt
 ]
-  where
-    or_right : (b : Bool) (m n : ℕ) → m < n → IsTrue (b || nat_lt m n)
-    or_right true m n below = refl
-    or_right false m n below = grind (arith, below)
 
 -- so nothing was, where nothing is
 pub not_hand : (old cur : Cutting) (more : ℕ) (P : Type 0) → KeepsMore old cur more → is_at_hand cur ≡ false → IsTrue (is_at_hand old) → P
 not_hand old cur more P keeps none hand = absurd (let now = hand_on old cur more keeps hand in cc)
 
--- A read that gave no byte is the one that tells of the end.
-pub ends_on : (old cur new : Cutting) (more n : ℕ) → KeepsMore old cur more → is_at_hand cur ≡ false → new.ended ≡ (n == 0)
-    → ends cur - ends old + (1 - n) ≤ ends new - ends old
-ends_on old cur new more n keeps none is =
-    let before : old.ended ≡ false = elim (cases_Bool old.ended) [
-      | inl was ↦ absurd (let now = hand_on old cur more keeps (rw was refl) in cc)
-      | inr wasnt ↦ wasnt
-    ] in
-    let now : cur.ended ≡ false = elim (cases_Bool cur.ended) [ inl e ↦ absurd (let t = rw e at none in cc) | inr e ↦ e ] in
-    elim (cases_Bool (n == 0)) [
-      | inl zero_is ↦ let none_is : n ≡ 0 = grind (arith, zero_is) in rw (before, now, is, zero_is) (omega (arith, none_is))
-      | inr some ↦ let some_is : 0 < n = grind (arith, some) in rw (before, now, is, some) (omega (arith, some_is))
-    ]
+-- what is noted of the end changes nothing else
+pub keeps_noted : (old cur new : Cutting) (e : Bool) (more : ℕ) → new ≡ record cur { ended = e } → KeepsMore old cur more → KeepsMore old new more
+keeps_noted old cur new e more is keeps = subst (λ (c : Cutting). KeepsMore old c more) (sym is) (record {
+  same = record { name = keeps.same.name; line = keeps.same.line; whole = keeps.same.whole };
+  place = keeps.place;
+  front = keeps.front;
+  len = keeps.len;
+  few = keeps.few;
+})
+
+-- after a read that gave none
+pub kept_same : (old new : Cutting) (n : ℕ) → KeepsMore old new n → n ≡ 0 → new.kept ≡ old.kept
+kept_same old new n keeps none = sym (take_all (length old.kept) new.kept (omega (arith, keeps.len, none))) ∙ keeps.front
+
+-- what was shown first is shown still
+pub shown_first : (o : Option Past) → IfSome o (λ past. o ≡ Some past)
+shown_first None = tt
+shown_first (Some past) = refl
+
+-- where a read failed, no LF was among the bytes that were taken
+pub breaks_within : (held : Option Files) (old cur : Cutting) (more : ℕ) (a b c : List ℕ → ℕ) → KeepsMore old cur more → Fits held cur
+    → is_at_hand cur ≡ false → TakesAtMost a b old.name (length cur.kept - length old.kept) → TakesAtMost b c old.name 0
+    → IfSome held (λ files. BreaksWithin old (bytes_at files old.name) a c)
+breaks_within None old cur more a b c keeps fits none first then = tt
+breaks_within (Some files) old cur more a b c keeps fits none first then =
+    let text = bytes_at files cur.name in
+    let open_ : length cur.kept ≤ line_len (drop cur.place text) = len_open (drop cur.place text) cur.kept fits (open_kept cur none) in
+    let here : length cur.kept ≤ line_len (drop old.place (bytes_at files old.name)) =
+    subst (λ (n : List ℕ). length cur.kept ≤ line_len (drop old.place (bytes_at files n))) keeps.same.name
+    (subst (λ (p : ℕ). length cur.kept ≤ line_len (drop p text)) keeps.place open_) in
+    omega (arith, here, first.here, then.here, keeps.len)
 
 -- ---- bytes that are taken
 pub takes_on : (a b c : List ℕ → ℕ) (name : List ℕ) (m n k : ℕ) → TakesAtMost a b name m → TakesAtMost b c name n → m + n ≤ k → TakesAtMost a c name k

@@ -1,12 +1,12 @@
 -- A cutter after the line that it gave.
-use Rattle.std.proofs.Common.{◌≡◌, ℕ, ◌+◌, ◌-◌, ◌≤◌, length, List, take, drop, ◌∙◌, sym, ap, ap₂, subst, arith}
-use Rattle.std.proofs.Common.{Bool, Option, None, Some, IfSome, Result, Ok, Err, Bor}
+use Rattle.std.proofs.Common.{◌≡◌, ℕ, ◌+◌, ◌-◌, ◌≤◌, length, List, [], ◌∷◌, take, drop, refl, ◌∙◌, sym, ap, ap₂, subst, arith}
+use Rattle.std.proofs.Common.{Bool, IsTrue, Option, None, Some, IfSome, Result, Ok, Err, Bor}
 use Rattle.std.proofs.lemmas.List.{drop-take, take-take, drop-drop}
 use Rattle.cm_lines.specs.Lines.{line_size}
 use Rattle.cm_lines.specs.declared.limits.Past.{Past}
 use Rattle.cm_lines.specs.declared.limits.Past.TheVariants.{Line, Whole}
-use Rattle.cm_io.specs.Cutter.{Cutting, Fits, Gives, IsAfter, IsCut, Moves, SameFile, next_of, ends}
-use Rattle.cm_io.specs.CutterSteps.{KeepsMore, FindsLine, IsFound, Stays}
+use Rattle.cm_io.specs.Cutter.{Cutting, Fits, Gives, IsAfter, IsCut, Moves, SameFile, next_of, read_to, ends}
+use Rattle.cm_io.specs.CutterSteps.{KeepsMore, FindsLine, IsFound, Stays, Tells}
 use Rattle.cm_io.specs.Shelf.{Files, bytes_at, TakesAtMost, ReadsByBytes}
 use Rattle.cm_io.specs.declared.cutter.CutError.{CutError}
 use Rattle.cm_io.specs.declared.cutter.CutError.TheVariants.{Read, TooLong, TooMuch, NoMemory}
@@ -15,62 +15,67 @@ use Rattle.cm_io.proofs.Coming.{gives_line, gives_limit}
 use Rattle.cm_io.proofs.Kept.{part, part_len, part_after, cutting}
 
 -- what fits fits past some bytes of it
-fits_after : (held : Option Files) (name : List ℕ) (line whole place : ℕ) (ended : Bool) (stop : Option Past) (xs : List ℕ) (a b n : ℕ)
+fits_after : (held : Option Files) (name : List ℕ) (line whole place : ℕ) (ended : Bool) (xs : List ℕ) (a b n : ℕ)
     → n ≤ b - a → b ≤ length xs
-    → stop ≡ None → Fits held (cutting name line whole place ended stop xs a b) → Fits held (cutting name line whole (place + n) ended stop xs (a + n) b)
-fits_after None name line whole place ended stop xs a b n within room none fits = tt
-fits_after (Some files) name line whole place ended stop xs a b n within room none fits =
+    → Fits held (cutting name line whole place ended xs a b) → Fits held (cutting name line whole (place + n) ended xs (a + n) b)
+fits_after None name line whole place ended xs a b n within room fits = tt
+fits_after (Some files) name line whole place ended xs a b n within room fits =
     let text = bytes_at files name in
     let size : length (part xs a b) ≡ b - a = part_len xs a b room in
     let less : length (part xs (a + n) b) ≡ b - (a + n) = part_len xs (a + n) b room in
     let sum : b - a ≡ n + (b - (a + n)) = omega arith in
-    record {
-      kept = sym (part_after xs a b n within)
-          ∙ ap (λ l. drop n l) (fits.kept ∙ ap (λ k. take k (drop place text)) (size ∙ sum))
-          ∙ drop-take n (b - (a + n)) (drop place text)
-          ∙ ap₂ (λ (k : ℕ) (l : List ℕ). take k l) (sym less) (drop-drop n place text);
-      ended = λ is. omega (arith, fits.ended is, size, less, within);
-      stopped = rw none tt;
-    }
+    sym (part_after xs a b n within)
+    ∙ ap (λ l. drop n l) (fits ∙ ap (λ k. take k (drop place text)) (size ∙ sum))
+    ∙ drop-take n (b - (a + n)) (drop place text)
+    ∙ ap₂ (λ (k : ℕ) (l : List ℕ). take k l) (sym less) (drop-drop n place text)
 
 -- A line of so many bytes was given, and its size is passed.
 pub given_after : (held : Option Files) (reads reads' taken taken' : List ℕ → ℕ) (old mid : Cutting) (name : List ℕ)
-    (line whole place : ℕ) (ended : Bool) (stop : Option Past) (xs : List ℕ) (a b more : ℕ) (f : Found) (l : Bor (List ℕ)) → cutting name line whole place ended stop xs a b ≡ mid → b ≤ length xs
-    → KeepsMore old mid more → FindsLine old mid f → Fits held mid
+    (line whole place : ℕ) (ended : Bool) (xs : List ℕ) (a b more : ℕ) (f : Found) (l : Bor (List ℕ)) → cutting name line whole place ended xs a b ≡ mid → b ≤ length xs
+    → length l.now ≤ f.len
+    → KeepsMore old mid more → FindsLine old mid f → Fits held mid → Tells mid (Some f)
+    → (IsTrue mid.ended → IfSome held (λ files. length (bytes_at files old.name) ≤ read_to mid))
     → IfSome held (λ files. f.size ≡ line_size (drop old.place (bytes_at files old.name)))
     → IfSome held (λ files. next_of old (bytes_at files old.name) ≡ Ok (Some l.now))
     → TakesAtMost taken taken' old.name (length mid.kept - length old.kept)
-    → ReadsByBytes reads reads' taken taken' old.name (ends mid - ends old)
-    → IsAfter held reads reads' taken taken' old (cutting name line whole (place + f.size) ended stop xs (a + f.size) b) (Ok (Some l))
-given_after held reads reads' taken taken' old mid name line whole place ended stop xs a b more f l is room =
-    subst (λ (m : Cutting). KeepsMore old m more → FindsLine old m f → Fits held m
+    → ReadsByBytes reads reads' taken taken' old.name (ends mid)
+    → IsAfter held reads reads' taken taken' old (cutting name line whole (place + f.size) ended xs (a + f.size) b) (Ok (Some l))
+given_after held reads reads' taken taken' old mid name line whole place ended xs a b more f l is room few =
+    subst (λ (m : Cutting). KeepsMore old m more → FindsLine old m f → Fits held m → Tells m (Some f)
+    → (IsTrue m.ended → IfSome held (λ files. length (bytes_at files old.name) ≤ read_to m))
     → IfSome held (λ files. f.size ≡ line_size (drop old.place (bytes_at files old.name)))
     → IfSome held (λ files. next_of old (bytes_at files old.name) ≡ Ok (Some l.now))
     → TakesAtMost taken taken' old.name (length m.kept - length old.kept)
-    → ReadsByBytes reads reads' taken taken' old.name (ends m - ends old)
-    → IsAfter held reads reads' taken taken' old (cutting name line whole (place + f.size) ended stop xs (a + f.size) b) (Ok (Some l))) is
-    (λ keeps finds fits size next takes made.
+    → ReadsByBytes reads reads' taken taken' old.name (ends m)
+    → IsAfter held reads reads' taken taken' old (cutting name line whole (place + f.size) ended xs (a + f.size) b) (Ok (Some l))) is
+    (λ keeps finds fits tells end size next takes made.
     let before : length (part xs a b) ≡ b - a = part_len xs a b room in
     let now : length (part xs (a + f.size) b) ≡ b - (a + f.size) = part_len xs (a + f.size) b room in
     record {
       same = record { name = keeps.same.name; line = keeps.same.line; whole = keeps.same.whole };
-      fits = fits_after held name line whole place ended stop xs a b f.size (omega (arith, finds.kept, before)) room finds.stop fits;
+      fits = fits_after held name line whole place ended xs a b f.size (omega (arith, finds.kept, before)) room fits;
       moves = record {
         on = omega (arith, finds.some, keeps.place);
         within = omega (arith, finds.within, keeps.place);
         place = moved held (λ files. f.size ≡ line_size (drop old.place (bytes_at files old.name))) _
             (λ files e. omega (arith, keeps.place, e)) size;
-        stop = keeps.stop;
+        lf = λ open_. let more_is = tells.1 open_ in omega (arith, few, more_is, keeps.place);
       };
       gives = both held (λ files. f.size ≡ line_size (drop old.place (bytes_at files old.name)))
           (λ files. next_of old (bytes_at files old.name) ≡ Ok (Some l.now)) _
-          (λ files s n. gives_line old (cutting name line whole (place + f.size) ended stop xs (a + f.size) b) (bytes_at files old.name) l.now
+          (λ files s n. gives_line old (cutting name line whole (place + f.size) ended xs (a + f.size) b) (bytes_at files old.name) l.now
           keeps.same.line keeps.same.whole (omega (arith, keeps.place, s)) n) size next;
       takes = omega (arith, takes.here, keeps.len, keeps.place, finds.kept, before, now);
       reads = made;
-      lasts = keeps.ended;
+      last = λ is_end. no_bytes (part xs (a + f.size) b) (let all = tells.0 is_end in omega (arith, now, before, all));
+      whole = λ is_end. moved held (λ files. length (bytes_at files old.name) ≤ place + length (part xs a b)) _
+          (λ files all. omega (arith, all, before, now, finds.kept)) (end is_end);
     })
   where
+    no_bytes : (bytes : List ℕ) → length bytes ≡ 0 → bytes ≡ []
+    no_bytes [] none = refl
+    no_bytes (byte ∷ bytes) none = absurd (omega (arith, none))
+
     moved : (held' : Option Files) (P Q : Files → Type 0) → ((files : Files) → P files → Q files) → IfSome held' P → IfSome held' Q
     moved None P Q goes holds = tt
     moved (Some files) P Q goes holds = goes files holds
@@ -81,14 +86,14 @@ given_after held reads reads' taken taken' old mid name line whole place ended s
     both (Some files) P P' Q goes holds holds' = goes files holds holds'
 
 -- The line that was given is what was found.
-pub is_given : (held : Option Files) (old mid : Cutting) (name : List ℕ) (line whole place : ℕ) (ended : Bool) (stop : Option Past) (xs ys : List ℕ) (a b : ℕ)
-    (f : Found) (given : List ℕ) → cutting name line whole place ended stop xs a b ≡ mid → b ≤ length xs → FindsLine old mid f
+pub is_given : (held : Option Files) (old mid : Cutting) (name : List ℕ) (line whole place : ℕ) (ended : Bool) (xs ys : List ℕ) (a b : ℕ)
+    (f : Found) (given : List ℕ) → cutting name line whole place ended xs a b ≡ mid → b ≤ length xs → FindsLine old mid f
     → ys ≡ xs → given ≡ take (a + f.len - a) (drop a ys)
     → IfSome held (λ files. (next_of old (bytes_at files old.name) ≡ Ok (Some (take f.len mid.kept)))
     × (f.size ≡ line_size (drop old.place (bytes_at files old.name))))
     → IfSome held (λ files. next_of old (bytes_at files old.name) ≡ Ok (Some given))
-is_given None old mid name line whole place ended stop xs ys a b f given is room finds same now found = tt
-is_given (Some files) old mid name line whole place ended stop xs ys a b f given is room finds same now found =
+is_given None old mid name line whole place ended xs ys a b f given is room finds same now found = tt
+is_given (Some files) old mid name line whole place ended xs ys a b f given is room finds same now found =
     let kept : part xs a b ≡ mid.kept = ap (λ (c : Cutting). c.kept) is in
     let size : length (part xs a b) ≡ b - a = part_len xs a b room in
     let len : f.len ≤ b - a = omega (arith, finds.len, finds.kept, ap length kept, size) in
@@ -111,7 +116,8 @@ after_error held reads reads' taken taken' old new e stays fits found = record {
   gives = gives held e found;
   takes = tt;
   reads = tt;
-  lasts = tt;
+  last = tt;
+  whole = tt;
 }
   where
     same_file : (e' : CutError) → Stays old new (Err e') → SameFile old new

@@ -1,12 +1,11 @@
 -- What a cutter keeps in its buffer, from one place of it to another.
-use Rattle.std.proofs.Common.{◌≡◌, ℕ, ◌+◌, ◌-◌, ◌≤◌, ◌==◌, min, length, List, ◌++◌, take, drop, refl, ◌∙◌, sym, ap, ap₂, subst, arith, length-take, length-drop}
-use Rattle.std.proofs.Common.{Bool, false, Option, None, Some, IfSome, Result, Ok, Err, OnErr}
+use Rattle.std.proofs.Common.{◌≡◌, ℕ, ◌+◌, ◌-◌, ◌≤◌, min, length, List, ◌++◌, take, drop, refl, ◌∙◌, sym, ap, ap₂, subst, arith, length-take, length-drop}
+use Rattle.std.proofs.Common.{Bool, Option, None, Some, IfSome, Result, Ok, Err, OnErr}
 use Rattle.std.proofs.Math.Seq.{take-add}
 use Rattle.std.proofs.lemmas.List.{drop-take, take-take, drop-drop}
 use Rattle.cm_lines.specs.Lines.{line_len}
-use Rattle.cm_lines.specs.declared.limits.Past.{Past}
 use Rattle.cm_lines.proofs.Lengths.{len_within, len_from, len_take}
-use Rattle.cm_io.specs.Cutter.{Cutting, FitsText, Fits}
+use Rattle.cm_io.specs.Cutter.{Cutting, FitsText, Fits, read_to}
 use Rattle.cm_io.specs.CutterSteps.{KeepsMore}
 use Rattle.cm_io.specs.Shelf.{Files, bytes_at}
 
@@ -52,46 +51,56 @@ part_after xs a b n within =
     ap (λ k. drop n (take k (drop a xs))) (sym size) ∙ drop-take n (b - (a + n)) (drop a xs) ∙ ap (λ l. take (b - (a + n)) l) (drop-drop n a xs)
 
 -- a cutter with such a buffer
-abbrev pub cutting : (name : List ℕ) (line whole place : ℕ) (ended : Bool) (stop : Option Past) (xs : List ℕ) (a b : ℕ) → Cutting
-cutting name line whole place ended stop xs a b =
-    record { name = name; line = line; whole = whole; place = place; kept = part xs a b; ended = ended; stop = stop }
+abbrev pub cutting : (name : List ℕ) (line whole place : ℕ) (ended : Bool) (xs : List ℕ) (a b : ℕ) → Cutting
+cutting name line whole place ended xs a b =
+    record { name = name; line = line; whole = whole; place = place; kept = part xs a b; ended = ended }
 
 -- After a read of n bytes behind what is kept.
-pub keeps_read : (old : Cutting) (name : List ℕ) (line whole place : ℕ) (e e' : Bool) (stop : Option Past) (xs ys : List ℕ) (a b n : ℕ)
-    → cutting name line whole place e stop xs a b ≡ old → old.ended ≡ false → a ≤ b → b ≤ length xs → b + n ≤ length ys → take b ys ≡ take b xs
-    → place + (b + n - a) ≤ whole + 1 → KeepsMore old (cutting name line whole place e' stop ys a (b + n)) n
-keeps_read old name line whole place e e' stop xs ys a b n is more ordered within room same few =
+pub keeps_read : (old : Cutting) (name : List ℕ) (line whole place : ℕ) (e : Bool) (xs ys : List ℕ) (a b n : ℕ)
+    → cutting name line whole place e xs a b ≡ old → a ≤ b → b ≤ length xs → b + n ≤ length ys → take b ys ≡ take b xs
+    → place + (b + n - a) ≤ whole + 1 → KeepsMore old (cutting name line whole place e ys a (b + n)) n
+keeps_read old name line whole place e xs ys a b n is ordered within room same few =
     let was : length (part xs a b) ≡ b - a = part_len xs a b within in
     let now : length (part ys a (b + n)) ≡ b + n - a = part_len ys a (b + n) room in
-    let on : e ≡ false = ap (λ (c : Cutting). c.ended) is ∙ more in
-    subst (λ (o : Cutting). KeepsMore o (cutting name line whole place e' stop ys a (b + n)) n) is (record {
+    subst (λ (o : Cutting). KeepsMore o (cutting name line whole place e ys a (b + n)) n) is (record {
       same = record { name = refl; line = refl; whole = refl };
       place = refl;
-      ended = rw on (λ none. absurd cc);
-      stop = refl;
       front = ap (λ k. take k (part ys a (b + n))) was ∙ part_front xs ys a b n ordered same;
       len = omega (arith, was, now);
       few = omega (arith, now, few);
     })
 
-pub fits_read : (held : Option Files) (old : Cutting) (name : List ℕ) (line whole place : ℕ) (e : Bool) (stop : Option Past) (xs ys : List ℕ) (a b n : ℕ)
-    → cutting name line whole place e stop xs a b ≡ old → a ≤ b → b ≤ length xs → b + n ≤ length ys → take b ys ≡ take b xs
+pub fits_read : (held : Option Files) (old : Cutting) (name : List ℕ) (line whole place : ℕ) (e : Bool) (xs ys : List ℕ) (a b n : ℕ)
+    → cutting name line whole place e xs a b ≡ old → a ≤ b → b ≤ length xs → b + n ≤ length ys → take b ys ≡ take b xs
     → Fits held old → IfSome held (λ files. take n (drop b ys) ≡ take n (drop (place + (b - a)) (bytes_at files name)))
-    → IfSome held (λ files. n ≡ 0 → length (bytes_at files name) ≤ place + (b - a))
-    → Fits held (cutting name line whole place (n == 0) stop ys a (b + n))
-fits_read None old name line whole place e stop xs ys a b n is ordered within room same fits got end = tt
-fits_read (Some files) old name line whole place e stop xs ys a b n is ordered within room same fits got end =
+    → Fits held (cutting name line whole place e ys a (b + n))
+fits_read None old name line whole place e xs ys a b n is ordered within room same fits got = tt
+fits_read (Some files) old name line whole place e xs ys a b n is ordered within room same fits got =
     let text = bytes_at files name in
-    let before : FitsText (cutting name line whole place e stop xs a b) text =
+    let before : FitsText (cutting name line whole place e xs a b) text =
     subst (λ (o : Cutting). FitsText o (bytes_at files o.name)) (sym is) fits in
     let was : length (part xs a b) ≡ b - a = part_len xs a b within in
     let now : length (part ys a (b + n)) ≡ b + n - a = part_len ys a (b + n) room in
-    record {
-      kept = part_reads xs ys text a b n place ordered same (before.kept ∙ ap (λ k. take k (drop place text)) was) got
-          ∙ ap (λ k. take k (drop place text)) (sym now);
-      ended = λ zero_is. let none : n ≡ 0 = grind (arith, zero_is) in omega (arith, end none, now, none);
-      stopped = before.stopped;
-    }
+    part_reads xs ys text a b n place ordered same (before ∙ ap (λ k. take k (drop place text)) was) got
+    ∙ ap (λ k. take k (drop place text)) (sym now)
+
+-- Where a read gave none, the text ends after what is kept.
+pub none_more : (held : Option Files) (old : Cutting) (name : List ℕ) (line whole place : ℕ) (e : Bool) (xs : List ℕ) (a b n : ℕ)
+    → cutting name line whole place e xs a b ≡ old → b ≤ length xs
+    → IfSome held (λ files. n ≡ 0 → length (bytes_at files name) ≤ place + (b - a))
+    → n ≡ 0 → IfSome held (λ files. length (bytes_at files old.name) ≤ read_to old)
+none_more None old name line whole place e xs a b n is within end none = tt
+none_more (Some files) old name line whole place e xs a b n is within end none =
+    subst (λ (o : Cutting). length (bytes_at files o.name) ≤ read_to o) is
+    (let most = end none in omega (arith, most, part_len xs a b within))
+
+-- So it is told.
+pub told_more : (Told : List ℕ → ℕ → Type 0) (old : Cutting) (name : List ℕ) (line whole place : ℕ) (e : Bool) (xs : List ℕ) (a b n : ℕ)
+    → cutting name line whole place e xs a b ≡ old → b ≤ length xs → (n ≡ 0 → Told name (place + (b - a)))
+    → n ≡ 0 → Told old.name (read_to old)
+told_more Told old name line whole place e xs a b n is within end =
+    subst (λ (o : Cutting). n ≡ 0 → Told o.name (read_to o)) is
+    (λ none. subst (λ (k : ℕ). Told name (place + k)) (sym (part_len xs a b within)) (end none))
 
 -- the first line goes on where it had no LF
 pub len_read : (xs ys : List ℕ) (a b n : ℕ) → a ≤ b → take b ys ≡ take b xs → b ≤ length xs
@@ -119,10 +128,10 @@ len_kept xs a b len k is within =
     omega (arith, is, len_take (part xs a b) k, ap line_len front)
 
 -- Where the front of the buffer is the same.
-pub same_cutting : (old : Cutting) (name : List ℕ) (line whole place : ℕ) (ended : Bool) (stop : Option Past) (xs ys : List ℕ) (a b : ℕ)
-    → cutting name line whole place ended stop xs a b ≡ old → a ≤ b → take b ys ≡ take b xs → cutting name line whole place ended stop ys a b ≡ old
-same_cutting old name line whole place ended stop xs ys a b is ordered same =
-    ap (λ (kept : List ℕ). let c : Cutting = record { name = name; line = line; whole = whole; place = place; kept = kept; ended = ended; stop = stop } in c)
+pub same_cutting : (old : Cutting) (name : List ℕ) (line whole place : ℕ) (ended : Bool) (xs ys : List ℕ) (a b : ℕ)
+    → cutting name line whole place ended xs a b ≡ old → a ≤ b → take b ys ≡ take b xs → cutting name line whole place ended ys a b ≡ old
+same_cutting old name line whole place ended xs ys a b is ordered same =
+    ap (λ (kept : List ℕ). let c : Cutting = record { name = name; line = line; whole = whole; place = place; kept = kept; ended = ended } in c)
     (same_part xs ys a b ordered same) ∙ is
 
 pub same_fits : (held : Option Files) (old new : Cutting) → new ≡ old → Fits held old → Fits held new

@@ -10,3 +10,4 @@ pub mod Cutting
 pub mod Given
 pub mod Coming
 pub mod Tallies
+pub mod WholeLines

@@ -1,7 +1,7 @@
 -- How often a name is read, by the bytes that the reads give, and which counts that leaves.
 use Rattle.std.proofs.Common.{◌≡◌, ◌+◌, ◌-◌, ◌^◌, ◌≤◌, ℕ, List, Bool, not, IsTrue, inl, inr, arith, refl, subst, sym, ◌∙◌}
 use Rattle.std.proofs.lemmas.Bool.{cases_Bool, cases_lt}
-use Rattle.cm_io.specs.Shelf.{CountsOn, CountsApart, EachGives, OthersStay, ReadsByBytes}
+use Rattle.cm_io.specs.Shelf.{AsksForPieces, CountsOn, CountsApart, EachGives, OthersStay, ReadsByBytes}
 
 -- counts that stay
 pub reads_none : (reads taken : List ℕ → ℕ) (name : List ℕ) (idle : ℕ) → ReadsByBytes reads reads taken taken name idle
@@ -78,3 +78,10 @@ apart_then counted counted' faults faults' faults'' reads reads' reads'' name sa
   faults_stay = λ is n other. second.faults_stay (subst (λ (t : Bool). IsTrue t) (sym same) is) n other ∙ first.faults_stay is n other;
   reads_stay = λ isnt. second.reads_stay (subst (λ (t : Bool). IsTrue (not t)) (sym same) isnt) ∙ first.reads_stay isnt;
 }
+
+-- ---- the longest buffer
+pub pieces_none : (n : ℕ) → AsksForPieces n n
+pieces_none n = grind (arith)
+
+pub pieces_then : (a b c : ℕ) → AsksForPieces a b → AsksForPieces b c → AsksForPieces a c
+pieces_then a b c first second = grind (arith, first, second)

@@ -1,5 +1,5 @@
 -- What a cutter of lines keeps of a file, and what it gives next.
-use Rattle.std.specs.Prelude.{◌≡◌, ◌≢◌, ◌≤◌, ◌<◌, ◌+◌, ◌-◌, ℕ, ◌||◌, Bool, false, nat_lt, if◌then◌else◌, IsTrue}
+use Rattle.std.specs.Prelude.{◌≡◌, ◌≢◌, ◌≤◌, ◌<◌, ◌+◌, ◌-◌, ℕ, Bool, false, nat_lt, if◌then◌else◌, IsTrue}
 use Rattle.std.specs.Prelude.{List, [], ◌∷◌, length, take, drop, Option, None, Some, IfSome, Result, Ok, Err, OnOk}
 use Rattle.cm_lines.specs.Lines.{line_len, line_size}
 use Rattle.cm_lines.specs.Cut.{Cut, before, cut_from, ends_by, past_of}
@@ -11,7 +11,7 @@ use Rattle.cm_io.specs.declared.cutter.CutError.TheVariants.{Read, TooLong, TooM
 use denote.Ref.{Bor}
 
 -- A cutter: the file's name; the most bytes of a line and of the file; how many bytes it gave; those after them that it
--- has read; whether a read told it that no more come; and the limit that it found the next line to be past.
+-- has read; and whether a read told that no byte comes after what it gave last.
 pub record Cutting : Type 0 where
   pub name : List ℕ
   pub line : ℕ
@@ -19,22 +19,25 @@ pub record Cutting : Type 0 where
   pub place : ℕ
   pub kept : List ℕ
   pub ended : Bool
-  pub stop : Option Past
 
 -- one that gave nothing yet
 abbrev pub begun : List ℕ → ℕ → ℕ → Cutting
 begun name line whole =
-    record { name = name; line = line; whole = whole; place = 0; kept = []; ended = false; stop = None }
+    record { name = name; line = line; whole = whole; place = 0; kept = []; ended = false }
 
 -- how many bytes of the file it has read
 abbrev pub read_to : Cutting → ℕ
 read_to c = c.place + length c.kept
 
--- no read is wanted for what it gives next: it keeps a line with its LF, or no more bytes come
+-- no read is wanted for what it gives next: it keeps a line with its LF
 abbrev pub is_at_hand : Cutting → Bool
-is_at_hand c = c.ended || nat_lt (line_len c.kept) (length c.kept)
+is_at_hand c = nat_lt (line_len c.kept) (length c.kept)
 
--- how many of its reads told it that no more bytes come
+-- the limit that the next line is past, as what it keeps shows
+abbrev pub past_kept : Cutting → Option Past
+past_kept c = past_of c.line c.whole c.place (line_len c.kept) (line_size c.kept)
+
+-- how many of the reads for what it gave last told that no more bytes come
 abbrev pub ends : Cutting → ℕ
 ends c = if c.ended then 1 else 0
 
@@ -65,12 +68,10 @@ next_of c text = next_cut c.line c.whole c.place (drop c.place text)
 abbrev pub left_of : Cutting → List ℕ → Cut
 left_of c text = cut_from c.line c.whole c.place text
 
--- ---- the cutter and the shelf It keeps the bytes of a text at its place. Where it was told that no more come, there
--- are none; where it stopped, that is what it gives next.
-pub record FitsText (c : Cutting) (text : List ℕ) : Type 0 where
-  pub kept : c.kept ≡ take (length c.kept) (drop c.place text)
-  pub ended : IsTrue c.ended → length text ≤ read_to c
-  pub stopped : IfSome c.stop (λ past. next_of c text ≡ Err (error_of past))
+-- ---- the cutter and the shelf
+-- It keeps the bytes of a text at its place.
+abbrev pub FitsText : Cutting → List ℕ → Type 0
+FitsText c text = c.kept ≡ take (length c.kept) (drop c.place text)
 
 -- it fits a shelf, where that tells what it holds
 abbrev pub Fits : Option Files → Cutting → Type 0
@@ -92,29 +93,28 @@ pub record SameFile (old new : Cutting) : Type 0 where
   pub line : new.line ≡ old.line
   pub whole : new.whole ≡ old.whole
 
--- It went past a line, so past a byte, and stands after it.
-pub record GoesPast (held : Option Files) (old new : Cutting) : Type 0 where
+-- It went past a line, so past a byte, and stands after it: after its LF, where it isn't told that the file ends there.
+pub record GoesPast (held : Option Files) (old new : Cutting) (line : List ℕ) : Type 0 where
   pub on : old.place < new.place
   pub within : new.place ≤ old.whole
   pub place : IfSome held (λ files. new.place ≡ old.place + line_size (drop old.place (bytes_at files old.name)))
-  pub stop : new.stop ≡ old.stop
+  pub lf : new.ended ≡ false → old.place + length line < new.place
 
 -- It stands at the end of the file, and knows it.
 pub record Ends (old new : Cutting) : Type 0 where
   pub place : new.place ≡ old.place
   pub kept : new.kept ≡ []
   pub ended : IsTrue new.ended
-  pub stop : new.stop ≡ old.stop
 
--- It stands where it stood, and answers this from now on.
+-- It stands where it stood, and what it keeps shows the limit: so it answers this from now on.
 pub record StopsAt (past : Past) (old new : Cutting) : Type 0 where
   pub place : new.place ≡ old.place
-  pub stop : new.stop ≡ Some past
+  pub shows : past_kept new ≡ Some past
 
 -- Where it stands after its answer: past the line that it gave; at the end of the file; at a limit where it stood, and
 -- it stays there. After a read that failed and after want of memory it is as before.
 abbrev pub Moves : Option Files → Cutting → Cutting → Result (Option (Bor (List ℕ))) CutError → Type 0
-Moves held old new (Ok (Some line)) = GoesPast held old new
+Moves held old new (Ok (Some line)) = GoesPast held old new line.now
 Moves held old new (Ok None) = Ends old new
 Moves held old new (Err TooLong) = StopsAt Line old new
 Moves held old new (Err TooMuch) = StopsAt Whole old new
@@ -131,8 +131,8 @@ Gives old new text (Err Read) = Unit {0}
 Gives old new text (Err NoMemory) = Unit {0}
 
 -- The cutter after its answer: it fits the shelf, and no byte was taken that it doesn't keep or has given, but for
--- those of an error. Each of its reads gave a byte, but for the one that told it that no more come, which it knows from
--- then on, and one that failed.
+-- those of an error. Each of its reads gave a byte, but for the one that told that no more come, and one that failed.
+-- Where it has ended, it keeps no byte, and the file has none from its place on.
 pub record IsAfter (held : Option Files) (made made' taken taken' : List ℕ → ℕ) (old new : Cutting)
     (r : Result (Option (Bor (List ℕ))) CutError) : Type 0 where
   pub same : SameFile old new
@@ -140,8 +140,14 @@ pub record IsAfter (held : Option Files) (made made' taken taken' : List ℕ →
   pub moves : Moves held old new r
   pub gives : IfSome held (λ files. Gives old new (bytes_at files old.name) r)
   pub takes : OnOk r (taken' old.name + read_to old ≤ taken old.name + read_to new)
-  pub reads : OnOk r (ReadsByBytes made made' taken taken' old.name (ends new - ends old))
-  pub lasts : OnOk r (IsTrue old.ended → IsTrue new.ended)
+  pub reads : OnOk r (ReadsByBytes made made' taken taken' old.name (ends new))
+  pub last : OnOk r (IsTrue new.ended → new.kept ≡ [])
+  pub whole : OnOk r (IsTrue new.ended → IfSome held (λ files. length (bytes_at files old.name) ≤ read_to new))
+
+-- The bytes that were taken before a read failed are of the line at its place: no LF is among them.
+abbrev pub BreaksWithin : Cutting → List ℕ → (taken taken' : List ℕ → ℕ) → Type 0
+BreaksWithin old text taken taken' =
+    taken' old.name + length old.kept ≤ taken old.name + line_len (drop old.place text)
 
 -- the counts of faults before and after an answer: only `Read` raises one, and it raises that of the file's name
 pub record CutFaults {T : Type 0} (before now : List ℕ → ℕ) (name : List ℕ) (r : Result T CutError) : Type 0 where

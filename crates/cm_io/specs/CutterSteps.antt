@@ -1,5 +1,5 @@
 -- How a cutter comes to its answer, step by step.
-use Rattle.std.specs.Prelude.{◌≡◌, ◌≤◌, ◌<◌, ◌+◌, ◌==◌, if◌then◌else◌, IsTrue, ℕ, List, [], length, take, drop}
+use Rattle.std.specs.Prelude.{◌≡◌, ◌≤◌, ◌<◌, ◌+◌, ◌==◌, if◌then◌else◌, IsTrue, false, ℕ, List, [], length, take, drop}
 use Rattle.std.specs.Prelude.{Option, None, Some, Result, Ok, Err}
 use Rattle.cm_lines.specs.Lines.{line_size}
 use Rattle.cm_lines.specs.declared.limits.Past.TheVariants.{Line, Whole}
@@ -14,8 +14,6 @@ use Rattle.cm_io.specs.declared.outside.Outside.TheVariants as outside
 pub record KeepsMore (old new : Cutting) (more : ℕ) : Type 0 where
   pub same : SameFile old new
   pub place : new.place ≡ old.place
-  pub ended : IsTrue old.ended → IsTrue new.ended
-  pub stop : new.stop ≡ old.stop
   pub front : take (length old.kept) new.kept ≡ old.kept
   pub len : length new.kept ≡ length old.kept + more
   pub few : read_to new ≤ new.whole + 1
@@ -27,17 +25,16 @@ pub record FindsLine (old new : Cutting) (f : Found) : Type 0 where
   pub some : 0 < f.size
   pub kept : f.size ≤ length new.kept
   pub within : old.place + f.size ≤ old.whole
-  pub stop : new.stop ≡ None
 
--- nothing is kept, and no more comes
-pub record FindsEnd (new : Cutting) : Type 0 where
-  pub kept : new.kept ≡ []
-  pub ended : IsTrue new.ended
-
--- what a cutter found
+-- what a cutter found: nothing is kept; or a line
 abbrev pub Finds : Cutting → Cutting → Option Found → Type 0
-Finds old new None = FindsEnd new
+Finds old new None = new.kept ≡ []
 Finds old new (Some f) = FindsLine old new f
+
+-- whether a read told that no byte comes after what was found: then nothing else is kept; else the line has its LF
+abbrev pub Tells : Cutting → Option Found → Type 0
+Tells new None = IsTrue new.ended
+Tells new (Some f) = (IsTrue new.ended → f.size ≡ length new.kept) × (new.ended ≡ false → f.len < f.size)
 
 -- what is found is what the cutter gives next, where the file has this text
 abbrev pub IsFound : Cutting → Cutting → List ℕ → Result (Option Found) CutError → Type 0

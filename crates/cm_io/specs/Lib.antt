@@ -11,3 +11,4 @@ pub mod Sure
 pub mod Real
 pub mod Cutter
 pub mod CutterSteps
+pub mod WholeLines

@@ -1,9 +1,13 @@
 -- What the reads of a shelf of files give, and what its counts tell of them: faults, reads, bytes taken.
-use Rattle.std.specs.Prelude.{◌≡◌, ◌≢◌, ◌⊎◌, ◌<◌, ◌≤◌, ◌+◌, ◌-◌, ◌^◌, ℕ, Bool, IsTrue, not, min, if◌then◌else◌}
+use Rattle.std.specs.Prelude.{◌≡◌, ◌≢◌, ◌⊎◌, ◌<◌, ◌≤◌, ◌+◌, ◌-◌, ◌^◌, ℕ, Bool, IsTrue, not, min, max, if◌then◌else◌}
 use Rattle.std.specs.Prelude.{List, [], ◌∷◌, length, take, drop, Option, IfSome, Result, Ok, Err, IfOk, OnOk}
 use Rattle.std.specs.Str.{bytes_eq}
 use Rattle.cm_io.specs.declared.outside.Outside.{Outside}
 use Rattle.cm_io.specs.declared.outside.Outside.TheVariants.{Failed, NoMemory}
+
+-- No buffer was longer that was to be filled than the longest one before, or the most bytes that are asked for at once.
+abbrev pub AsksForPieces : (before now : ℕ) → Type 0
+AsksForPieces before now = now ≤ max before 65536
 
 -- files, each a name with its bytes
 abbrev pub Files : Type 0

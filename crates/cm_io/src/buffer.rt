@@ -1,6 +1,6 @@
 // Buffers that files are read into, piece by piece.
 ghost use Rattle.std.specs.Prelude.{◌≡◌, ◌≤◌, ◌<◌, ◌+◌, ◌-◌, ℕ, List, length, take, drop, vec_len, IfOk, IfSome, OnOk};
-ghost use Rattle.cm_io.specs.Shelf.{bytes_at, bytes_given, ReadFaults, TakesAtMost, ReadsByBytes, CountsApart};
+ghost use Rattle.cm_io.specs.Shelf.{bytes_at, bytes_given, AsksForPieces, ReadFaults, TakesAtMost, ReadsByBytes, CountsApart};
 
 use crate::{Outside, Shelf};
 use std::alloc::{AllocError, Global};
@@ -50,6 +50,8 @@ pub(crate) fn read_behind<H: Shelf>(
         take n (drop end buffer.new.items) ≡ take n (drop at (bytes_at files name.now)))) }
     ensures end { IfSome (H.held shelf.old) (λ files. IfOk result (λ n.
         n ≡ 0 → length (bytes_at files name.now) ≤ at)) }
+    ensures told { IfOk result (λ n. n ≡ 0 → H.told_end shelf.new name.now at) }
+    ensures pieces { AsksForPieces (H.widest shelf.old) (H.widest shelf.new) }
     ensures held { H.held shelf.new ≡ H.held shelf.old }
     ensures cause { ReadFaults (H.faults shelf.old) (H.faults shelf.new) name.now result }
     ensures takes { TakesAtMost (H.taken shelf.old) (H.taken shelf.new) name.now (bytes_given result) }

@@ -1,14 +1,16 @@
 // The lines of a file that is read in pieces. What is read and not given stands in one buffer, and a line is lent from
 // it. The cutter keeps where it stands in the file and how it stopped; what the lines say is for others.
-ghost use Rattle.std.specs.Prelude.{◌≡◌, ◌≤◌, ◌<◌, ◌+◌, ◌-◌, ◌^◌, ◌==◌, ℕ, List, length, take, drop, vec_len, string_bytes};
-ghost use Rattle.std.specs.Prelude.{Option, Some, None, Bool, false, IfOk, IfSome, OnOk, OnErr, IsTrue};
+ghost use Rattle.std.specs.Prelude.{◌≡◌, ◌≤◌, ◌<◌, ◌+◌, ◌-◌, ◌^◌, ℕ, List, length, take, drop, vec_len, string_bytes};
+ghost use Rattle.std.specs.Prelude.{Option, Some, None, Bool, false, IfOk, IfSome, OnOk, OnErr, IsTrue, Ok, Err};
 ghost use Rattle.std.specs.Borrow.{sem};
 ghost use Rattle.std.specs.Io.BufRead.{Rests};
 ghost use Rattle.cm_lines.specs.Lines.{line_len};
 ghost use Rattle.cm_lines.specs.Cut.{past_of};
 ghost use Rattle.cm_io.specs.Shelf.{Files, bytes_at, bytes_given, ReadFaults, TakesAtMost, ReadsByBytes, CountsApart};
-ghost use Rattle.cm_io.specs.Cutter.{Cutting, begun, read_to, is_at_hand, ends, error_of, Fits, IsCut, IsAfter, CutFaults};
-ghost use Rattle.cm_io.specs.CutterSteps.{KeepsMore, Finds, IsFound, Stays, cut_error, found_of};
+ghost use Rattle.cm_io.specs.Shelf.{AsksForPieces};
+ghost use Rattle.cm_io.specs.Cutter.{Cutting, begun, read_to, is_at_hand, ends, error_of, past_kept, Fits, IsCut, IsAfter};
+ghost use Rattle.cm_io.specs.Cutter.{CutFaults, BreaksWithin};
+ghost use Rattle.cm_io.specs.CutterSteps.{KeepsMore, Finds, IsFound, Stays, Tells, cut_error, found_of};
 
 use crate::buffer::{PIECE, read_behind, zeros};
 use crate::{NoMemory, Outside, Shelf};
@@ -31,7 +33,8 @@ pub enum CutError {
 
 /// A file of a shelf, line by line. It keeps a piece of the file, of 64 KiB, and more only for a line that is longer.
 ///
-/// Once a read told it that the file ends, it reads no more. At a limit it stays.
+/// What it gives next depends on the bytes that it keeps alone: so at a limit it stays, and at the end of the file each
+/// call reads again.
 #[derive(Drop)]
 pub struct LineCutter {
     name: String,
@@ -39,7 +42,6 @@ pub struct LineCutter {
     whole: u64,
     place: u64,
     ended: bool,
-    stop: Option<Past>,
     buffer: Vec<u8>,
     start: usize,
     end: usize,
@@ -58,7 +60,6 @@ impl Model for LineCutter {
       place = c.place;
       kept = take (c.end - c.start) (drop c.start c.buffer.items);
       ended = c.ended;
-      stop = c.stop;
     } };
 
     ghost invariant = { λ c. record {
@@ -91,7 +92,6 @@ impl LineCutter {
             whole,
             place: 0,
             ended: false,
-            stop: None,
             buffer,
             start: 0,
             end: 0,
@@ -104,17 +104,18 @@ impl LineCutter {
     ///
     /// `TooLong` comes where the next line has a byte more than lines may have, its LF aside, and `TooMuch` where it
     /// has the first byte that the file may not have: that of the two whose byte stands first, and `TooMuch` where they
-    /// are one byte. From then on each call answers the same. `Read` comes only where a read failed and the count of
-    /// the name rose, and `NoMemory` raises no count of faults: after both the cutter is as before, and the next call
-    /// tries again.
+    /// are one byte: what is kept shows it, and from then on each call answers the same. `Read` comes only where a read
+    /// failed and the count of the name rose, and `NoMemory` raises no count of faults: after both the cutter is as
+    /// before, and the next call tries again. None comes only where a read told that no byte is left.
     ///
     /// The lines are the same whatever sizes the reads have. No byte past the file's first one too many is taken. Each
-    /// read gives a byte, but for one that fails, and the one that tells of the end; after that one none is made.
+    /// read gives a byte, but for one that fails, and the one that tells of the end.
     pub fn next_line<H: Shelf>(&mut self, shelf: &mut H) -> Result<Option<&[u8]>, CutError>
         requires fits { Fits (H.held shelf.old) self.old }
         ensures cut { IfSome (H.held shelf.old) (λ files. IsCut self.old (bytes_at files self.old.name) result) }
-        ensures stopped { IfSome self.old.stop (λ past. result ≡ Err (error_of past)) }
+        ensures stopped { IfSome (past_kept self.old) (λ past. result ≡ Err (error_of past)) }
         ensures short { IfOk result (λ given. IfSome given (λ line. length line.now ≤ self.old.line)) }
+        ensures told { result ≡ Ok None → H.told_end shelf.new self.old.name self.old.place }
 
         // The cutter after the answer, when the line is given back.
         ensures* after { sem 𝓛 (Rests the_row self.entry (λ new.
@@ -129,7 +130,11 @@ impl LineCutter {
         ensures takes { TakesAtMost (H.taken shelf.old) (H.taken shelf.new) self.old.name
             (self.old.whole + 1 - read_to self.old) }
         ensures reads { ReadsByBytes (H.reads shelf.old) (H.reads shelf.new) (H.taken shelf.old) (H.taken shelf.new)
-            self.old.name (1 - ends self.old) }
+            self.old.name 1 }
+        ensures pieces { AsksForPieces (H.widest shelf.old) (H.widest shelf.new) }
+        ensures breaks { result ≡ Err CutError.Read → IfSome (H.held shelf.old) (λ files.
+            BreaksWithin self.old (bytes_at files self.old.name) (H.taken shelf.old) (H.taken shelf.new)) }
+        ensures wants { result ≡ Err CutError.Read → is_at_hand self.old ≡ false }
         ensures counted { (n : List ℕ) → H.counted shelf.new n ≡ H.counted shelf.old n }
         ensures apart { CountsApart (H.counted shelf.old) (H.faults shelf.old) (H.faults shelf.new)
             (H.reads shelf.old) (H.reads shelf.new) self.old.name }
@@ -148,23 +153,34 @@ impl LineCutter {
         }
     }
 
-    /// Whether no read is wanted for the next answer: the next line is kept with its LF, or the file is known to have
-    /// no more bytes.
+    /// Whether no read is wanted for the next answer: the next line is kept with its LF.
     pub fn is_at_hand(&self) -> bool
         ensures { result ≡ is_at_hand self.now }
     {
-        self.ended || self.len < self.end - self.start
+        self.len < self.end - self.start
+    }
+
+    /// Whether a read told that no byte comes after what it gave last: a line without its LF, or none.
+    pub fn has_ended(&self) -> bool
+        ensures { result ≡ self.now.ended }
+    {
+        self.ended
     }
 
     // Finds the next line at the front of what is kept, and reads on as far as that wants.
+    #[tactic(auto, using(crate::proofs::Cutting::shown_first))]
     fn find<H: Shelf>(&mut self, shelf: &mut H) -> Result<Option<Found>, CutError>
         requires fits { Fits (H.held shelf.old) self.old }
         ensures found { IfOk result (λ found. Finds self.old self.new found) }
         ensures is { IfSome (H.held shelf.old) (λ files.
             IsFound self.old self.new (bytes_at files self.old.name) result) }
         ensures fits { Fits (H.held shelf.old) self.new }
-        ensures stopped { IfSome self.old.stop (λ past. result ≡ Err (error_of past)) }
+        ensures stopped { IfSome (past_kept self.old) (λ past. result ≡ Err (error_of past)) }
         ensures stays { Stays self.old self.new result }
+        ensures ends { IfOk result (λ found. Tells self.new found) }
+        ensures whole { OnOk result (IsTrue self.new.ended → IfSome (H.held shelf.old) (λ files.
+            length (bytes_at files self.old.name) ≤ read_to self.new)) }
+        ensures told { result ≡ Ok None → H.told_end shelf.new self.old.name self.old.place }
         ensures unread { IsTrue (is_at_hand self.old) → shelf.new ≡ shelf.old }
         ensures held { H.held shelf.new ≡ H.held shelf.old }
         ensures cause { CutFaults (H.faults shelf.old) (H.faults shelf.new) self.old.name result }
@@ -173,29 +189,34 @@ impl LineCutter {
         ensures takes { TakesAtMost (H.taken shelf.old) (H.taken shelf.new) self.old.name
             (self.old.whole + 1 - read_to self.old) }
         ensures made { OnOk result (ReadsByBytes (H.reads shelf.old) (H.reads shelf.new) (H.taken shelf.old)
-            (H.taken shelf.new) self.old.name (ends self.new - ends self.old)) }
+            (H.taken shelf.new) self.old.name (ends self.new)) }
         ensures reads { ReadsByBytes (H.reads shelf.old) (H.reads shelf.new) (H.taken shelf.old) (H.taken shelf.new)
-            self.old.name (1 - ends self.old) }
+            self.old.name 1 }
+        ensures pieces { AsksForPieces (H.widest shelf.old) (H.widest shelf.new) }
+        ensures breaks { result ≡ Err CutError.Read → IfSome (H.held shelf.old) (λ files.
+            BreaksWithin self.old (bytes_at files self.old.name) (H.taken shelf.old) (H.taken shelf.new)) }
+        ensures wants { result ≡ Err CutError.Read → is_at_hand self.old ≡ false }
         ensures counted { (n : List ℕ) → H.counted shelf.new n ≡ H.counted shelf.old n }
         ensures apart { CountsApart (H.counted shelf.old) (H.faults shelf.old) (H.faults shelf.new)
             (H.reads shelf.old) (H.reads shelf.new) self.old.name }
         ensures few { read_to self.old ≤ self.old.whole + 1 }
     {
-        if let Some(past) = self.stop {
-            return Err(error_of(past));
-        }
         let kept = self.kept().len();
         loop {
             let len = self.first_len();
             let size = self.kept().len().min(len + 1);
             if let Some(past) = self.past(len, size) {
-                self.stop = Some(past);
                 return Err(error_of(past));
             }
             if self.is_at_hand() {
+                self.note_end(false);
                 return Ok(found_of(len, size));
             }
             match self.fill(shelf) {
+                Ok(0) => {
+                    self.note_end(true);
+                    return Ok(found_of(len, size));
+                }
                 Ok(_) => {}
                 Err(why) => {
                     self.keep(kept);
@@ -207,7 +228,9 @@ impl LineCutter {
 
     // The bytes that are kept.
     fn kept(&self) -> &[u8]
-        ensures { result.now ≡ self.now.kept }
+        ensures is { result.now ≡ self.now.kept }
+        ensures few { read_to self.now ≤ self.now.whole + 1 }
+        ensures reached { self.now.place ≤ self.now.whole }
     {
         &self.buffer[self.start..self.end]
     }
@@ -244,14 +267,23 @@ impl LineCutter {
         self.len = self.len.min(kept);
     }
 
+    // Notes whether a read told that no byte comes after what is given next.
+    fn note_end(&mut self, ended: bool)
+        ensures { self.new ≡ record self.old { ended = ended } }
+    {
+        self.ended = ended;
+    }
+
     // Reads on, behind what is kept, and says how many bytes came: 0 at the end of the file alone.
     fn fill<H: Shelf>(&mut self, shelf: &mut H) -> Result<usize, Outside>
         requires room { read_to self.old ≤ self.old.whole }
         requires fits { Fits (H.held shelf.old) self.old }
-        requires more { self.old.ended ≡ false }
         requires open { length self.old.kept ≤ line_len self.old.kept }
         ensures keeps { IfOk result (λ n. KeepsMore self.old self.new n) }
-        ensures ended { IfOk result (λ n. self.new.ended ≡ (n == 0)) }
+        ensures ended { self.new.ended ≡ self.old.ended }
+        ensures whole { IfOk result (λ n. n ≡ 0 → IfSome (H.held shelf.old) (λ files.
+            length (bytes_at files self.old.name) ≤ read_to self.old)) }
+        ensures told { IfOk result (λ n. n ≡ 0 → H.told_end shelf.new self.old.name (read_to self.old)) }
         ensures fits { Fits (H.held shelf.old) self.new }
         ensures err { OnErr result (self.new ≡ self.old) }
         ensures held { H.held shelf.new ≡ H.held shelf.old }
@@ -259,6 +291,7 @@ impl LineCutter {
         ensures takes { TakesAtMost (H.taken shelf.old) (H.taken shelf.new) self.old.name (bytes_given result) }
         ensures reads { ReadsByBytes (H.reads shelf.old) (H.reads shelf.new) (H.taken shelf.old) (H.taken shelf.new)
             self.old.name (1 - bytes_given result) }
+        ensures pieces { AsksForPieces (H.widest shelf.old) (H.widest shelf.new) }
         ensures counted { (n : List ℕ) → H.counted shelf.new n ≡ H.counted shelf.old n }
         ensures apart { CountsApart (H.counted shelf.old) (H.faults shelf.old) (H.faults shelf.new)
             (H.reads shelf.old) (H.reads shelf.new) self.old.name }
@@ -270,7 +303,6 @@ impl LineCutter {
         let n = read_behind(shelf, &self.name, at, &mut self.buffer, self.end, left)?;
         self.len = kept + line_len(&self.buffer[self.end..self.end + n]);
         self.end += n;
-        self.ended = n == 0;
         Ok(n)
     }
 

@@ -89,7 +89,7 @@ impl MemShelf {
 
 impl Shelf for MemShelf {
     ghost use Rattle.std.specs.Prelude.{◌≢◌, ◌≤◌, ◌↔◌, ℕ, List, length, max, Some, IsTrue, true, IfOk};
-    ghost use Rattle.cm_io.specs.Shelf.{ReadsHeld, ReadFaults, CountsOn, OthersStay, reads_made, bytes_given};
+    ghost use Rattle.cm_io.specs.Shelf.{ReadsHeld, ReadFaults, CountsOn, OthersStay, bytes_at, reads_made, bytes_given};
     ghost use Rattle.cm_io.specs.Counts.{faults_of, reads_of, taken_of, counts_name, names_of, noted, SameCounts};
     ghost use Rattle.cm_io.specs.Held.{held_files, GivesAll};
     ghost use Rattle.cm_io.specs.Turns.{TakesTurn};
@@ -104,6 +104,10 @@ impl Shelf for MemShelf {
     ghost reads = { λ s name. reads_of s.files.counts name };
 
     ghost taken = { λ s name. taken_of s.files.counts name };
+
+    ghost widest = { λ s. s.widest };
+
+    ghost told_end = { λ s name at. length (bytes_at (held_files s.files) name) ≤ at };
 
     /// Fails where this read is one of those that are to fail, where no file has the name, and where the file is broken
     /// at this place; else it gives as much as there is and fits. A failure changes nothing but the counts.
@@ -124,6 +128,9 @@ impl Shelf for MemShelf {
             (⟦<MemShelf as Shelf>⟧.reads self.new) name.now (reads_made result) }
         ensures taken { CountsOn (⟦<MemShelf as Shelf>⟧.counted self.old) (⟦<MemShelf as Shelf>⟧.taken self.old)
             (⟦<MemShelf as Shelf>⟧.taken self.new) name.now (bytes_given result) }
+        ensures most { ⟦<MemShelf as Shelf>⟧.widest self.new ≤ max (⟦<MemShelf as Shelf>⟧.widest self.old) (length buf.new) }
+        ensures told { IfOk result (λ n. n ≡ 0 → length buf.new ≢ 0 →
+            ⟦<MemShelf as Shelf>⟧.told_end self.new name.now at) }
         ensures others { (n : List ℕ) → n ≢ name.now →
             ⟦<MemShelf as Shelf>⟧.faults self.new n ≡ ⟦<MemShelf as Shelf>⟧.faults self.old n }
 

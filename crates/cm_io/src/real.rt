@@ -1,6 +1,6 @@
 // The real outside: the files of the system, and a writer such as standard output. No contract can
 // say what they hold.
-ghost use Rattle.std.specs.Prelude.{◌≡◌, ◌≢◌, ◌≤◌, ℕ, List, None, length, map, IfOk, IfSome, IsTrue, is_some, string_bytes};
+ghost use Rattle.std.specs.Prelude.{◌≡◌, ◌≢◌, ◌≤◌, ℕ, List, None, length, max, map, IfOk, IfSome, IsTrue, is_some, string_bytes};
 ghost use Rattle.std.specs.Io.KnownBytes.{WriteAppends};
 
 use crate::counts::Counts;
@@ -142,6 +142,11 @@ impl<R: Files> Shelf for RealShelf<R> {
 
     ghost taken = { λ s name. taken_of s.tally.counts name };
 
+    ghost widest = { λ _. 0 };
+
+    // No one knows what comes of a file that others write.
+    ghost told_end = { λ _ _ _. Unit {0} };
+
     /// A read that a signal interrupts is tried again, up to a million times; after that it failed.
     /// It never runs out of memory. After an error no file stays open.
     fn read_at(&mut self, name: &str, at: u64, buf: &mut [u8]) -> Result<usize, Outside>
@@ -158,6 +163,9 @@ impl<R: Files> Shelf for RealShelf<R> {
             (⟦<RealShelf<R> as Shelf>⟧.reads self.new) name.now (reads_made result) }
         ensures taken { CountsOn (⟦<RealShelf<R> as Shelf>⟧.counted self.old) (⟦<RealShelf<R> as Shelf>⟧.taken self.old)
             (⟦<RealShelf<R> as Shelf>⟧.taken self.new) name.now (bytes_given result) }
+        ensures widest { ⟦<RealShelf<R> as Shelf>⟧.widest self.new ≤ max (⟦<RealShelf<R> as Shelf>⟧.widest self.old) (length buf.new) }
+        ensures told { IfOk result (λ n. n ≡ 0 → length buf.new ≢ 0 →
+            ⟦<RealShelf<R> as Shelf>⟧.told_end self.new name.now at) }
         ensures others { OtherTalliesStay (real_tally self.old) (real_tally self.new) name.now }
 
         // It never runs out of memory, so each read of a name that it counts is counted, whatever came of it.

@@ -1,5 +1,5 @@
 // Files as the program sees them: bytes under names, read from a place on.
-ghost use Rattle.std.specs.Prelude.{◌≡◌, ◌≤◌, List, ℕ, Bool, Option, length, IfOk, IsTrue};
+ghost use Rattle.std.specs.Prelude.{◌≡◌, ◌≢◌, ◌≤◌, List, ℕ, Bool, Option, length, max, IfOk, IsTrue};
 ghost use Rattle.cm_io.specs.Shelf.{Files, ReadsHeld, ReadFaults, CountsOn, OthersStay, reads_made, bytes_given};
 
 use crate::Outside;
@@ -24,6 +24,13 @@ pub trait Shelf {
     /// again. A count stays at 2^64 - 1.
     ghost taken: { Self → List ℕ → ℕ };
 
+    /// How many bytes the longest buffer has that it was asked to fill, where it keeps that; else it may be any number
+    /// that doesn't rise.
+    ghost widest: { Self → ℕ };
+
+    /// The file of a name has no byte from this place on, as a read told.
+    ghost told_end: { Self → List ℕ → ℕ → Type 0 };
+
     /// Reads the file of this name from the byte `at` on, where the first byte is 0, into the front of
     /// `buf`, and gives how many bytes that were. Where it is told what is held, 0 comes only at the
     /// end of the file or for an empty `buf`, and a name that isn't held has no bytes.
@@ -39,5 +46,7 @@ pub trait Shelf {
         ensures apart { IsTrue (counted self.old name.now) → OthersStay (faults self.old) (faults self.new) name.now }
         ensures counted { (n : List ℕ) → counted self.new n ≡ counted self.old n }
         ensures reads { CountsOn (counted self.old) (reads self.old) (reads self.new) name.now (reads_made result) }
-        ensures taken { CountsOn (counted self.old) (taken self.old) (taken self.new) name.now (bytes_given result) };
+        ensures taken { CountsOn (counted self.old) (taken self.old) (taken self.new) name.now (bytes_given result) }
+        ensures widest { widest self.new ≤ max (widest self.old) (length buf.new) }
+        ensures told { IfOk result (λ n. n ≡ 0 → length buf.new ≢ 0 → told_end self.new name.now at) };
 }

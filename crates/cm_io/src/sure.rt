@@ -50,8 +50,8 @@ impl SureShelf {
 }
 
 impl Shelf for SureShelf {
-    ghost use Rattle.std.specs.Prelude.{◌≢◌, ◌≤◌, ℕ, List, length, Some, IfOk, IsTrue, true};
-    ghost use Rattle.cm_io.specs.Shelf.{ReadsHeld, ReadFaults, CountsOn, OthersStay, reads_made, bytes_given};
+    ghost use Rattle.std.specs.Prelude.{◌≢◌, ◌≤◌, ℕ, List, length, max, Some, IfOk, IsTrue, true};
+    ghost use Rattle.cm_io.specs.Shelf.{ReadsHeld, ReadFaults, CountsOn, OthersStay, bytes_at, reads_made, bytes_given};
     ghost use Rattle.cm_io.specs.Counts.{reads_of, taken_of, counts_name, names_of, noted, SameCounts};
     ghost use Rattle.cm_io.specs.Held.{held_files, GivesAll};
     ghost use Rattle.cm_io.specs.Sure.{sure_counts};
@@ -65,6 +65,10 @@ impl Shelf for SureShelf {
     ghost reads = { λ s name. reads_of s.files.counts name };
 
     ghost taken = { λ s name. taken_of s.files.counts name };
+
+    ghost widest = { λ _. 0 };
+
+    ghost told_end = { λ s name at. length (bytes_at (held_files s.files) name) ≤ at };
 
     /// Gives as much as there is and fits, and 0 where no file has the name. It never fails.
     ///
@@ -91,6 +95,9 @@ impl Shelf for SureShelf {
             (⟦<SureShelf as Shelf>⟧.reads self.new) name.now (reads_made result) }
         ensures taken { CountsOn (⟦<SureShelf as Shelf>⟧.counted self.old) (⟦<SureShelf as Shelf>⟧.taken self.old)
             (⟦<SureShelf as Shelf>⟧.taken self.new) name.now (bytes_given result) }
+        ensures widest { ⟦<SureShelf as Shelf>⟧.widest self.new ≤ max (⟦<SureShelf as Shelf>⟧.widest self.old) (length buf.new) }
+        ensures told { IfOk result (λ n. n ≡ 0 → length buf.new ≢ 0 →
+            ⟦<SureShelf as Shelf>⟧.told_end self.new name.now at) }
     {
         self.files.note(name)?;
         let n = match self.files.text(name) {

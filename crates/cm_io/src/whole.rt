@@ -1,7 +1,7 @@
 // Whole files and whole pieces: reads and writes until nothing is left.
-ghost use Rattle.std.specs.Prelude.{◌≡◌, ◌≢◌, ◌++◌, ◌+◌, ◌-◌, ◌^◌, ◌<◌, ◌≤◌, ℕ, List, [], length, take, vec_len};
+ghost use Rattle.std.specs.Prelude.{◌≡◌, ◌≢◌, ◌++◌, ◌+◌, ◌-◌, ◌^◌, ◌<◌, ◌≤◌, ℕ, List, [], length, max, take, vec_len};
 ghost use Rattle.std.specs.Prelude.{IfOk, IfSome, OnOk, OnErr};
-ghost use Rattle.cm_io.specs.Shelf.{bytes_at, ReadsText, TakesAtMost, ReadsByBytes, CountsApart};
+ghost use Rattle.cm_io.specs.Shelf.{bytes_at, AsksForPieces, ReadsText, TakesAtMost, ReadsByBytes, CountsApart};
 ghost use Rattle.cm_io.specs.Sink.{then_written, WriteFaults};
 ghost use Rattle.cm_io.specs.Whole.{WholeFaults};
 ghost use Rattle.cm_io.specs.declared.whole.WholeError.TheVariants.{NoMemory as OutOfMemory};
@@ -87,6 +87,7 @@ pub fn read_whole<H: Shelf>(
     // and no other name is read.
     ensures takes { TakesAtMost (H.taken shelf.old) (H.taken shelf.new) name.now (vec_len text.new) }
     ensures reads { ReadsByBytes (H.reads shelf.old) (H.reads shelf.new) (H.taken shelf.old) (H.taken shelf.new) name.now 1 }
+    ensures pieces { AsksForPieces (H.widest shelf.old) (H.widest shelf.new) }
 
     ensures held { H.held shelf.new ≡ H.held shelf.old }
     ensures cause { WholeFaults (H.faults shelf.old) (H.faults shelf.new) name.now result }
@@ -128,6 +129,7 @@ fn read_more<H: Shelf>(
     ensures takes { TakesAtMost (H.taken shelf.old) (H.taken shelf.new) name.now (vec_len text.new - vec_len text.old) }
     ensures reads { ReadsByBytes (H.reads shelf.old) (H.reads shelf.new) (H.taken shelf.old) (H.taken shelf.new) name.now
         (1 - (vec_len text.new - vec_len text.old)) }
+    ensures widest { H.widest shelf.new ≤ max (H.widest shelf.old) (length buffer.new) }
     ensures counted { (n : List ℕ) → H.counted shelf.new n ≡ H.counted shelf.old n }
     ensures apart { CountsApart (H.counted shelf.old) (H.faults shelf.old) (H.faults shelf.new)
         (H.reads shelf.old) (H.reads shelf.new) name.now }

@@ -154,11 +154,27 @@ fn a_line_is_longer_than_a_piece(rt: HostRuntime) -> Result<(), Fail> {
     assert!(rt; cutter.is_at_hand());
     check_next(&rt, &mut shelf, &mut cutter, Ok(Some(b"b")));
     assert!(rt; !cutter.is_at_hand());
+    assert!(rt; !cutter.has_ended());
     check_next(&rt, &mut shelf, &mut cutter, Ok(None));
-    assert!(rt; cutter.is_at_hand());
+    assert!(rt; cutter.has_ended());
     assert!(rt; shelf.widest() == 65_536);
     // One read for each piece, and one that tells of the end.
     check_tally(&rt, shelf.tally("log"), Some([0, 3, 70_003]));
+    Ok(())
+}
+
+#[test]
+fn no_read_asks_for_more_than_a_piece(rt: HostRuntime) -> Result<(), Fail> {
+    let text = vec![in rt.alloc(); b'y'; 200_000]?;
+    let mut shelf = shelf_of(&rt, rt.alloc(), &text, &[])?;
+    let mut cutter = LineCutter::new(rt.alloc(), "log", 200_000, 200_000)?;
+    check_next(&rt, &mut shelf, &mut cutter, Ok(Some(&text)));
+    assert!(rt; shelf.widest() == 65_536);
+    assert!(rt; cutter.has_ended());
+    // The end is read again by each call.
+    check_tally(&rt, shelf.tally("log"), Some([0, 5, 200_000]));
+    check_next(&rt, &mut shelf, &mut cutter, Ok(None));
+    check_tally(&rt, shelf.tally("log"), Some([0, 6, 200_000]));
     Ok(())
 }
 

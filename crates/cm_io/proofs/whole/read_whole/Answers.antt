@@ -14,6 +14,7 @@ loop-text-preserved g c = record {
   takes = search rules;
   reads = reads_within _ _ _ _ c.args.name.now _ 0 (search rules)
       (reads_then _ _ _ _ _ _ c.args.name.now 0 _ c.loop-text.invariant.reads c.read_more.ensures.reads);
+  pieces = search rules;
   counted = search rules;
   apart = apart_then _ _ _ _ _ _ _ _ c.args.name.now (c.loop-text.invariant.counted c.args.name.now) c.loop-text.invariant.apart c.read_more.ensures.apart;
   faults = search rules;

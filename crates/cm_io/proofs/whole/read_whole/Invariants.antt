@@ -1,5 +1,5 @@
 use Rattle.std.proofs.Common.{◌≡◌, ◌+◌, ◌-◌, ◌≤◌, ℕ, List, vec_len}
-use Rattle.cm_io.specs.Shelf.{TakesAtMost, ReadsByBytes, CountsApart}
+use Rattle.cm_io.specs.Shelf.{AsksForPieces, TakesAtMost, ReadsByBytes, CountsApart}
 use Rattle.cm_io.proofs.Front.{IsFront}
 use Rattle.cm_io.proofs.whole.read_whole.Given as goal
 
@@ -13,6 +13,7 @@ invariant-loop-text g l = record {
   takes : TakesAtMost (g.H.Shelf.taken l.initial.shelf) (g.H.Shelf.taken l.shelf) l.name (vec_len l.text);
   reads : ReadsByBytes (g.H.Shelf.reads l.initial.shelf) (g.H.Shelf.reads l.shelf)
       (g.H.Shelf.taken l.initial.shelf) (g.H.Shelf.taken l.shelf) l.name 0;
+  pieces : AsksForPieces (g.H.Shelf.widest l.initial.shelf) (g.H.Shelf.widest l.shelf);
   counted : (n : List ℕ) → g.H.Shelf.counted l.shelf n ≡ g.H.Shelf.counted l.initial.shelf n;
   apart : CountsApart (g.H.Shelf.counted l.initial.shelf) (g.H.Shelf.faults l.initial.shelf) (g.H.Shelf.faults l.shelf)
       (g.H.Shelf.reads l.initial.shelf) (g.H.Shelf.reads l.shelf) l.name;

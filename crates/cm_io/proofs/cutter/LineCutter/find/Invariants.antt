@@ -1,6 +1,7 @@
-use Rattle.std.proofs.Common.{◌≡◌, ◌+◌, ◌-◌, ℕ, List, length, None, IsTrue}
-use Rattle.cm_io.specs.Shelf.{TakesAtMost, ReadsByBytes, CountsApart}
-use Rattle.cm_io.specs.Cutter.{Fits, read_to, ends, is_at_hand}
+use Rattle.std.proofs.Common.{◌≡◌, ◌+◌, ◌-◌, ℕ, List, length, IsTrue}
+use Rattle.std.specs.Prelude.{IfSome, Some}
+use Rattle.cm_io.specs.Shelf.{AsksForPieces, TakesAtMost, ReadsByBytes, CountsApart}
+use Rattle.cm_io.specs.Cutter.{Fits, read_to, is_at_hand, past_kept}
 use Rattle.cm_io.specs.CutterSteps.{KeepsMore}
 use Rattle.cm_io.proofs.cutter.LineCutter.find.Given as goal
 
@@ -8,7 +9,8 @@ use Rattle.cm_io.proofs.cutter.LineCutter.find.Given as goal
 abbrev pub invariant-loop-past : goal.invariant-loop-past
 invariant-loop-past g l = record {
   keeps : KeepsMore l.initial.self l.self (length l.self.kept - length l.initial.self.kept);
-  stop : l.self.stop ≡ None;
+  ended : l.self.ended ≡ l.initial.self.ended;
+  shows : IfSome (past_kept l.initial.self) (λ past. past_kept l.self ≡ Some past);
   kept : l.kept ≡ length l.initial.self.kept;
   fits : Fits (g.H.Shelf.held l.initial.shelf) l.self;
   unread : IsTrue (is_at_hand l.initial.self) → l.shelf ≡ l.initial.shelf;
@@ -16,7 +18,8 @@ invariant-loop-past g l = record {
   takes : TakesAtMost (g.H.Shelf.taken l.initial.shelf) (g.H.Shelf.taken l.shelf) l.initial.self.name
       (length l.self.kept - length l.initial.self.kept);
   reads : ReadsByBytes (g.H.Shelf.reads l.initial.shelf) (g.H.Shelf.reads l.shelf)
-      (g.H.Shelf.taken l.initial.shelf) (g.H.Shelf.taken l.shelf) l.initial.self.name (ends l.self - ends l.initial.self);
+      (g.H.Shelf.taken l.initial.shelf) (g.H.Shelf.taken l.shelf) l.initial.self.name 0;
+  pieces : AsksForPieces (g.H.Shelf.widest l.initial.shelf) (g.H.Shelf.widest l.shelf);
   counted : (n : List ℕ) → g.H.Shelf.counted l.shelf n ≡ g.H.Shelf.counted l.initial.shelf n;
   apart : CountsApart (g.H.Shelf.counted l.initial.shelf) (g.H.Shelf.faults l.initial.shelf) (g.H.Shelf.faults l.shelf)
       (g.H.Shelf.reads l.initial.shelf) (g.H.Shelf.reads l.shelf) l.initial.self.name;
@@ -24,4 +27,4 @@ invariant-loop-past g l = record {
 }
 
 abbrev pub decreases-loop-past : goal.decreases-loop-past
-decreases-loop-past g l = l.self.whole + 1 - read_to l.self + (1 - ends l.self)
+decreases-loop-past g l = l.self.whole + 1 - read_to l.self

@@ -6,13 +6,15 @@ pub returns-in-Ok-Some : goal.returns-in-Ok-Some
 returns-in-Ok-Some g c =
     let finds = rw c.in-Ok-Some.field-0-is at c.in-Ok-Some.ensures.found in
     let found = rw c.in-Ok-Some.field-0-is at c.in-Ok-Some.ensures.is in
-    let given = is_given _ c.args.self.now c.find.new.self _ _ _ _ _ _ c.self.inside.buffer.items _ _ _ c.in-Ok-Some.found _ c.self.view_is (search rules)
+    let tells = rw c.in-Ok-Some.field-0-is at c.in-Ok-Some.ensures.ends in
+    let given = is_given _ c.args.self.now c.find.new.self _ _ _ _ _ c.self.inside.buffer.items _ _ _ c.in-Ok-Some.found _ c.self.view_is (search rules)
     finds c.deref-in-Ok-Some.ensures.value refl found in (
       (
         refl,
         λ _. tt,
-        given_after _ _ _ _ _ c.args.self.now c.find.new.self _ _ _ _ _ _ c.self.inside.buffer.items _ _ _ c.in-Ok-Some.found _ c.self.view_is (search rules)
-            c.in-Ok-Some.ensures.stays.1 finds c.in-Ok-Some.ensures.fits (size_found _ _ _ found) given c.in-Ok-Some.ensures.took c.in-Ok-Some.ensures.made,
+        given_after _ _ _ _ _ c.args.self.now c.find.new.self _ _ _ _ _ c.self.inside.buffer.items _ _ _ c.in-Ok-Some.found _ c.self.view_is (search rules)
+            (omega (arith, length-take (c.self.inside.start + c.in-Ok-Some.found.len - c.self.inside.start) (drop c.self.inside.start c.deref-in-Ok-Some.result.now)))
+            c.in-Ok-Some.ensures.stays.1 finds c.in-Ok-Some.ensures.fits tells c.in-Ok-Some.ensures.whole (size_found _ _ _ found) given c.in-Ok-Some.ensures.took c.in-Ok-Some.ensures.made,
       ),
       record {
         cut = given;
@@ -24,11 +26,15 @@ returns-in-Ok-Some g c =
               (drop c.self.inside.start c.deref-in-Ok-Some.result.now),
         );
         after = tt;
+        told = search rules;
         unread = c.in-Ok-Some.ensures.unread;
         held = search rules;
         cause = search rules;
         takes = search rules;
         reads = search rules;
+        pieces = search rules;
+        breaks = search rules;
+        wants = search rules;
         counted = search rules;
         apart = search rules;
         few = search rules;
@@ -47,11 +53,15 @@ returns-in-Err g c = (
     stopped = search rules;
     short = tt;
     after = tt;
+    told = search rules;
     unread = c.in-Err.ensures.unread;
     held = search rules;
     cause = search rules;
     takes = search rules;
     reads = search rules;
+    pieces = search rules;
+    breaks = search rules;
+    wants = search rules;
     counted = search rules;
     apart = search rules;
     few = search rules;
