@@ -4,8 +4,8 @@ use Rattle.std.proofs.Common.{ap, inl, inr, refl, subst, sym}
 use Rattle.cm_base.specs.declared.limited.Limited.{Limited}
 use Rattle.cm_base.specs.declared.status.Status.{Status}
 use Rattle.cm_base.specs.declared.status.Status.TheVariants as answers
-use Rattle.cm_cli.proofs.Replaying.{always, asking_names, if_told}
-use Rattle.cm_cli.specs.BeforeFault.{HoldsShown, HoldsStart, WritesBefore, WritesBeforeFault}
+use Rattle.cm_cli.proofs.Replaying.{always, asking_names, if_both, if_told}
+use Rattle.cm_cli.specs.BeforeFault.{HoldsLines, HoldsShown, HoldsStart, RoseAt, WritesBefore, WritesBeforeFault, WritesLines}
 use Rattle.cm_cli.specs.Files.{LogApart}
 use Rattle.cm_cli.specs.Query.{file_of, shows_of}
 use Rattle.cm_cli.specs.Reading.{IsWorldRead}
@@ -17,8 +17,10 @@ use Rattle.cm_cli.specs.declared.query.Task.{Task}
 use Rattle.cm_cli.specs.declared.query.Task.TheVariants as task
 use Rattle.cm_declared.specs.World.{world_of}
 use Rattle.cm_declared.specs.declared.world.World as code
-use Rattle.cm_io.specs.Shelf.{CountsApart, Files, bytes_at}
+use Rattle.cm_io.specs.Shelf.{CountsApart, Files, TakesAtMost, bytes_at}
 use Rattle.cm_io.specs.Sink.{then_written}
+use Rattle.cm_replay.specs.Shown.{start_shown}
+use Rattle.cm_replay.specs.Told.{TellsTaken, lines_report}
 use Rattle.model_cred.specs.World.{World}
 use Rattle.model_report.specs.Command.{Command, task_of}
 use Rattle.model_report.specs.Replay.{text_of}
@@ -126,3 +128,59 @@ module _ (held : Option Files) (counted : List ℕ → Bool) (t : Task) (world l
     either = λ shown. if_told held read
         (λ files is. inr (starts_in (bytes_at files world) c w w' (shows_of t) is holds shown));
   }
+
+-- ---- what is told of the lines
+pub no_lines : (held : Option Files) (counted : List ℕ → Bool) (command : Command) (answer : Status)
+    (before now taken taken' : List ℕ → ℕ) (w w' : Option (List ℕ))
+    → answer ≢ answers.ReadFault → WritesLines held counted command answer before now taken taken' w w'
+no_lines held counted command answer before now taken taken' w w' other is = absurd (other is)
+
+-- the same of the names that a command has
+abbrev pub LinesAsked : Option Files → (counted : List ℕ → Bool) → Bool → (world log : List ℕ) → (before now taken taken' : List ℕ → ℕ)
+    → (w w' : Option (List ℕ)) → Type 0
+LinesAsked held counted b world log before now taken taken' w w' =
+    b ≡ true → world ≢ log → IsTrue (counted world) → RoseAt log before now
+    → IfSome held (λ files. HoldsLines (bytes_at files world) (bytes_at files log) (taken log) (taken' log) w w')
+
+pub lines_asked : (held : Option Files) (counted : List ℕ → Bool) (t : Task) (world log : List ℕ) (answer : Status)
+    (before now taken taken' : List ℕ → ℕ) (w w' : Option (List ℕ))
+    → (answer ≡ answers.ReadFault → LinesAsked held counted (shows_of t) world log before now taken taken' w w')
+    → WritesLines held counted (asking t world log) answer before now taken taken' w w'
+unfolding first_name second_name
+lines_asked held counted t world log answer before now taken taken' w w' writes is world' log' more names =
+    let same = sym (asking_names t world log) ∙ names in
+    let here = subst (λ (n : List ℕ). LinesAsked held counted (shows_of t) n log before now taken taken' w w')
+    (ap first_name same) (writes is) in
+    let there = subst (λ (n : List ℕ). LinesAsked held counted (shows_of t) world' n before now taken taken' w w')
+    (ap second_name same) here in
+    subst (λ (b : Bool). LinesAsked held counted b world' log' before now taken taken' w w') (sym (asking_shows t world log)) there
+
+-- where the world couldn't be read, no count of the log's rose
+pub world_lines : (held : Option Files) (counted : List ℕ → Bool) (b : Bool) (world log : List ℕ)
+    (before now reads reads' taken taken' : List ℕ → ℕ) (w w' : Option (List ℕ))
+    → CountsApart counted before now reads reads' world → LinesAsked held counted b world log before now taken taken' w w'
+world_lines held counted b world log before now reads reads' taken taken' w w' apart shown other counts rose =
+    let stays = apart.faults_stay counts log (λ is. other (sym is)) in
+    absurd (omega (arith, stays, rose))
+
+-- where this world was read of the bytes
+lines_in : (bytes log : List ℕ) (c : code.World) (taken taken' : ℕ) (w w' : Option (List ℕ)) (b : Bool) → IsWorldRead (Ok c) bytes → b ≡ true
+    → TellsTaken b (lines_report b (world_of c)) log taken taken' (text_of (start_shown b (world_of c))) w w'
+    → HoldsLines bytes log taken taken' w w'
+unfolding world_in
+lines_in bytes log c taken taken' w w' true read is tells other reads =
+    let same : world_of c ≡ other = ap (λ (text : WorldText). world_in text other) (sym read.text_is ∙ reads.text_is) in
+    subst (λ (x : World). TellsTaken true (lines_report true x) log taken taken' (text_of (start_lines x)) w w') same tells
+lines_in bytes log c taken taken' w w' false read is tells other reads = absurd (cc)
+
+pub log_lines : (held : Option Files) (counted : List ℕ → Bool) (b : Bool) (world log : List ℕ) (c : code.World)
+    (before now taken mid taken' : List ℕ → ℕ) (w w' : Option (List ℕ)) (most : ℕ)
+    → IfSome held (λ files. IsWorldRead (Ok c) (bytes_at files world)) → TakesAtMost taken mid world most
+    → (b ≡ true → IfSome held (λ files. TellsTaken b (lines_report b (world_of c)) (bytes_at files log) (mid log) (taken' log)
+    (text_of (start_shown b (world_of c))) w w'))
+    → LinesAsked held counted b world log before now taken taken' w w'
+log_lines held counted b world log c before now taken mid taken' w w' most read takes tells shown other counts rose =
+    let same : mid log ≡ taken log = takes.others log (λ is. other (sym is)) in
+    if_both held read (tells shown) (λ files is told.
+    subst (λ (n : ℕ). HoldsLines (bytes_at files world) (bytes_at files log) n (taken' log) w w') same
+    (lines_in (bytes_at files world) (bytes_at files log) c (mid log) (taken' log) w w' b is shown told))

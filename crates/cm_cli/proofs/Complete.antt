@@ -1,5 +1,5 @@
 -- That valid input without faults is answered as asked, or memory ran out; and what the answers say.
-use Rattle.std.proofs.Common.{◌≡◌, ◌≢◌, ◌⊎◌, ℕ, List, [], ◌∷◌, inl, inr, refl, sym, subst, ◌∙◌}
+use Rattle.std.proofs.Common.{◌≡◌, ◌≢◌, ◌⊎◌, ℕ, List, [], ◌∷◌, inl, inr, arith, refl, sym, subst, ◌∙◌}
 use Rattle.cm_base.specs.declared.limited.Limited.{Limited}
 use Rattle.cm_base.specs.declared.status.Status.{Status}
 use Rattle.cm_base.specs.declared.status.Status.TheVariants as answers
@@ -33,12 +33,18 @@ abbrev pub IsReported : List (List ℕ) → Files → Status → Type 0
 IsReported words files answer =
     (j : Judged) → Gives words (bytes_at files) j → IsOfReport answer → answer ≡ (report_over words files j).status
 
--- a file whose count rose
-rose_of : (files : List (List ℕ × Limited)) (before now : List ℕ → ℕ) → AnyRose files before now
-    → ((n : List ℕ) → Rose (before n) (now n) → ⊥) → ⊥
-rose_of [] before now rose none = rose
-rose_of (file ∷ files) before now (inl rose) none = none file.0 rose
-rose_of (file ∷ files) before now (inr rose) none = rose_of files before now rose none
+-- no count rose that is always 0
+never_rose : ¬ Rose 0 0
+never_rose (inl less) = omega (arith, less)
+never_rose (inr last) = omega (arith, last)
+
+pub none_rose : (files : List (List ℕ × Limited)) → ¬ AnyRose files (λ n. 0) (λ n. 0)
+none_rose [] rose = rose
+none_rose (file ∷ files) (inl rose) = never_rose rose
+none_rose (file ∷ files) (inr rose) = none_rose files rose
+
+pub none_rose_surely : (files : List (List ℕ × Limited)) → NoneRose files (λ n. 0) (λ n. 0) 0 0
+none_rose_surely files = record { reads_same = none_rose files; writes_same = never_rose }
 
 wants_memory : (answer : Status) → (answer ≡ answers.NoMemory) ⊎ (answer ≢ answers.NoMemory)
 wants_memory answers.NoMemory = inl refl
@@ -76,10 +82,10 @@ module _ (words : List (List ℕ)) (files : Files) (answer : Status) (reads read
     (is : IsReported words files answer)
     (read : answer ≡ answers.ReadFault → AnyRose (files_of (command_of words)) reads reads')
     (write : answer ≡ answers.WriteFault → Rose writes writes')
-    (valid : IsValid words (bytes_at files)) (none : NoneRose reads reads' writes writes') where
+    (valid : IsValid words (bytes_at files)) (none : NoneRose (files_of (command_of words)) reads reads' writes writes') where
   tells : answer ≢ answers.NoMemory → IsOfReport answer
   tells not =
-      of_report answer (λ fault. rose_of (files_of (command_of words)) reads reads' (read fault) none.reads_same)
+      of_report answer (λ fault. none.reads_same (read fault))
       (λ fault. none.writes_same (write fault)) not
 
   -- valid input where no fault was counted is completed

@@ -1,5 +1,5 @@
 -- The report of a log on its way: at the start, after the replay, and after what is asked.
-use Rattle.std.proofs.Common.{◌≡◌, ◌≢◌, ℕ, Bool, true, false, List, [], ◌∷◌, ◌++◌, Option, Result, Err, refl, sym, ap, ◌∙◌}
+use Rattle.std.proofs.Common.{◌≡◌, ◌≢◌, ℕ, Bool, true, false, List, [], ◌∷◌, ◌++◌, Option, None, Some, IfSome, Result, Err, refl, sym, ap, ◌∙◌}
 use Rattle.std.proofs.Common.{append-nil, append_assoc}
 use Rattle.std.proofs.lemmas.Result.{IfOk-weaker}
 use Rattle.std.specs.Prelude.{IfOk, OnOk}
@@ -19,6 +19,7 @@ use Rattle.cm_io.specs.Shelf.{Files, bytes_at}
 use Rattle.cm_io.specs.Sink.{then_written}
 use Rattle.cm_replay.specs.Coming.{Sends, SendsAll, SendsMore}
 use Rattle.cm_replay.specs.Shown.{shown_report, start_shown}
+use Rattle.cm_replay.specs.Told.{TellsTaken, lines_report}
 use Rattle.cm_replay.specs.declared.untold.Untold.{Untold}
 use Rattle.cm_replay.specs.declared.untold.Untold.TheVariants as untold
 use Rattle.cm_report.proofs.Waiting.{front_of_longer, more_waits, waits_as, written_nothing}
@@ -231,4 +232,22 @@ quiet_holds false w a c hidden same = record {
   more = [];
   holds = same ∙ sym (written_nothing a);
   unshown = λ _. same;
+}
+
+-- what is told of lines, after the lines at the start
+pub tells_after : (held : Option Files) (b : Bool) (w : World) (name : List ℕ) (taken taken' : ℕ) (a c d : Option (List ℕ)) (waits : List ℕ)
+    → IsSent a c waits (text_of (start_shown b w))
+    → IfSome held (λ files. TellsTaken b (lines_report b w) (bytes_at files name) taken taken' waits c d)
+    → IfSome held (λ files. TellsTaken b (lines_report b w) (bytes_at files name) taken taken' (text_of (start_shown b w)) a d)
+tells_after None b w name taken taken' a c d waits started tells = tt
+tells_after (Some files) b w name taken taken' a c d waits started tells = record {
+  seen = tells.seen;
+  all = tells.all;
+  text = tells.text;
+  tells = tells.tells;
+  holds = tells.holds
+      ∙ ap (λ (t : Option (List ℕ)). then_written t (waits ++ tells.text)) started.written
+      ∙ then_written_twice a started.front (waits ++ tells.text)
+      ∙ ap (then_written a) (sym (append_assoc started.front waits tells.text)
+      ∙ ap (λ (t : List ℕ). t ++ tells.text) (sym started.parts));
 }

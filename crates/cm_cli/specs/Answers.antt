@@ -65,9 +65,9 @@ pub record CountsReads (held : Option Files) (command : Command) (answer : Statu
   pub later : (n : List ℕ) → before n ≤ now n
   pub stay : answer ≢ answers.ReadFault → (n : List ℕ) → now n ≡ before n
 
--- no count of faults rose, neither the shelf's for any name nor the sink's
-pub record NoneRose (reads reads' : List ℕ → ℕ) (writes writes' : ℕ) : Type 0 where
-  pub reads_same : (n : List ℕ) → ¬ Rose (reads n) (reads' n)
+-- no count of faults rose, neither that of one of these files nor the sink's
+pub record NoneRose (files : List (List ℕ × Limited)) (reads reads' : List ℕ → ℕ) (writes writes' : ℕ) : Type 0 where
+  pub reads_same : ¬ AnyRose files reads reads'
   pub writes_same : ¬ Rose writes writes'
 
 -- The answer comes exactly by its cause.

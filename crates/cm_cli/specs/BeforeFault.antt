@@ -8,6 +8,7 @@ use Rattle.cm_cli.specs.Reading.{ReadsAs}
 use Rattle.cm_io.specs.Shelf.{Files, bytes_at}
 use Rattle.cm_io.specs.Sink.{then_written}
 use Rattle.cm_replay.specs.Shown.{start_shown}
+use Rattle.cm_replay.specs.Told.{TellsTaken, lines_report}
 use Rattle.model_cred.specs.World.{World}
 use Rattle.model_report.specs.Command.{Command, files_of, task_of}
 use Rattle.model_report.specs.Replay.{text_of}
@@ -50,3 +51,20 @@ WritesBeforeFault held counted command answer before now written written' =
     answer ≡ answers.ReadFault → (world log : List ℕ) (more : List (List ℕ × Limited))
     → files_of command ≡ (world, limit.World) ∷ (log, limit.Log) ∷ more
     → WritesBefore held counted (shows (task_of command (λ name. []))) world log before now written written'
+
+-- ---- what is told of the lines before it
+-- What is written has the lines at the start of the replay in the world of these bytes, where that stands, and then all
+-- that is told of the whole lines among the bytes of the log that were taken.
+abbrev pub HoldsLines : (world log : List ℕ) → (taken taken' : ℕ) → (written written' : Option (List ℕ)) → Type 0
+HoldsLines world log taken taken' written written' =
+    (w : World) → ReadsAs world (Reads w)
+    → TellsTaken true (lines_report true w) log taken taken' (text_of (start_lines w)) written written'
+
+-- So it is at a fault of reading the log, where a replay is shown.
+abbrev pub WritesLines : Option Files → (counted : List ℕ → Bool) → Command → Status → (before now taken taken' : List ℕ → ℕ)
+    → (written written' : Option (List ℕ)) → Type 0
+WritesLines held counted command answer before now taken taken' written written' =
+    answer ≡ answers.ReadFault → (world log : List ℕ) (more : List (List ℕ × Limited))
+    → files_of command ≡ (world, limit.World) ∷ (log, limit.Log) ∷ more
+    → shows (task_of command (λ name. [])) ≡ true → world ≢ log → IsTrue (counted world) → RoseAt log before now
+    → IfSome held (λ files. HoldsLines (bytes_at files world) (bytes_at files log) (taken log) (taken' log) written written')

@@ -7,7 +7,7 @@ ghost use Rattle.cm_cli.specs.LogReport.{IsPut};
 ghost use Rattle.cm_cli.specs.Query.{file_of, query_view, task_view};
 ghost use Rattle.cm_cli.specs.Reading.{ApartFor, FilesFaults, ReadsFor, TakesFor};
 ghost use Rattle.cm_declared.specs.World.{world_of};
-ghost use Rattle.cm_io.specs.Shelf.{bytes_at};
+ghost use Rattle.cm_io.specs.Shelf.{bytes_at, AsksForPieces};
 ghost use Rattle.model_report.specs.Answer.{answer, query_answer, verdict_report};
 ghost use Rattle.model_report.specs.Given.{StateGives};
 ghost use Rattle.model_report.specs.Judged.{Judged};
@@ -56,6 +56,7 @@ pub(crate) fn put_answer<H: Shelf>(
     ensures takes { TakesFor (file_of task.entry) (H.taken shelf.old) (H.taken shelf.new) }
     ensures reads { ReadsFor (file_of task.entry) (H.reads shelf.old) (H.reads shelf.new) (H.taken shelf.old)
         (H.taken shelf.new) }
+    ensures pieces { AsksForPieces (H.widest shelf.old) (H.widest shelf.new) }
     ensures apart { ApartFor (file_of task.entry) (H.counted shelf.old) (H.faults shelf.old) (H.faults shelf.new)
         (H.reads shelf.old) (H.reads shelf.new) }
 {

@@ -8,7 +8,7 @@ ghost use Rattle.cm_cli.specs.LogReport.{IsPut};
 ghost use Rattle.cm_cli.specs.Query.{limit_of, query_view, task_by};
 ghost use Rattle.cm_cli.specs.Reading.{FilesFaults, ReadsFor, TakesFor};
 ghost use Rattle.cm_declared.specs.World.{world_of};
-ghost use Rattle.cm_io.specs.Shelf.{bytes_at, CountsApart};
+ghost use Rattle.cm_io.specs.Shelf.{bytes_at, AsksForPieces, CountsApart};
 ghost use Rattle.cm_state.specs.Right.{right_of};
 ghost use Rattle.model_report.specs.Answer.{query_answer, task_report};
 ghost use Rattle.model_report.specs.Given.{StateGives};
@@ -63,6 +63,7 @@ pub(crate) fn put_claim<H: Shelf>(
     ensures reads { ReadsFor ((claim.entry.file.now, limit_of claim.entry.kind) ∷ []) (H.reads shelf.old)
         (H.reads shelf.new)
         (H.taken shelf.old) (H.taken shelf.new) }
+    ensures pieces { AsksForPieces (H.widest shelf.old) (H.widest shelf.new) }
     ensures apart { CountsApart (H.counted shelf.old) (H.faults shelf.old) (H.faults shelf.new)
         (H.reads shelf.old) (H.reads shelf.new) claim.entry.file.now }
 {

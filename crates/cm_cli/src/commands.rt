@@ -2,10 +2,10 @@
 ghost use Rattle.std.specs.Prelude.{◌≡◌, ◌≢◌, IfSome};
 ghost use Rattle.cm_cli.specs.Answers.{AnswersReport, CountsReads, NoneRose};
 ghost use Rattle.cm_cli.specs.Answers.{IsValid, ComesByCause, IsCompleted, IsDecided, AsksOfSettled};
-ghost use Rattle.cm_cli.specs.BeforeFault.{WritesBeforeFault};
+ghost use Rattle.cm_cli.specs.BeforeFault.{WritesBeforeFault, WritesLines};
 ghost use Rattle.cm_cli.specs.Headline.{Headline, SaysYes, SaysNo, SaysUndecided};
 ghost use Rattle.cm_cli.specs.Reading.{TakesFor, ReadsFor, ReadsInOrder};
-ghost use Rattle.cm_io.specs.Shelf.{bytes_at};
+ghost use Rattle.cm_io.specs.Shelf.{bytes_at, AsksForPieces};
 ghost use Rattle.cm_cli.specs.Words.{asking, bytes_of, command_in, command_view};
 ghost use Rattle.cm_report.specs.Telling.{IsOfReport, CountsWrites};
 ghost use Rattle.model_report.specs.Command.{files_of};
@@ -52,6 +52,12 @@ pub fn run<H: Shelf, K: Sink>(
     ensures before_fault { WritesBeforeFault (H.held shelf.old) (H.counted shelf.old) (command_in words.now.items)
         result (H.faults shelf.old) (H.faults shelf.new) (K.written out.old) (K.written out.new) }
 
+    // Before a fault of reading the log of a replay that is shown, all that is told of the whole lines among the bytes
+    // that were taken is written too, where both are told.
+    ensures lines_told { WritesLines (H.held shelf.old) (H.counted shelf.old) (command_in words.now.items)
+        result (H.faults shelf.old) (H.faults shelf.new) (H.taken shelf.old) (H.taken shelf.new)
+        (K.written out.old) (K.written out.new) }
+
     // Of each file that the words name at most its limit and one byte are taken, and it is read at most once for each
     // byte that is taken, and once more; no other name is read. The log isn't read where the world couldn't be or
     // doesn't stand, and a third file not where either couldn't be, or anything in them is refused, or the query.
@@ -60,6 +66,9 @@ pub fn run<H: Shelf, K: Sink>(
         (H.taken shelf.old) (H.taken shelf.new) }
     ensures waits { ReadsInOrder (H.held shelf.old) (H.counted shelf.old) (command_in words.now.items)
         (H.faults shelf.old) (H.faults shelf.new) (H.reads shelf.old) (H.reads shelf.new) }
+
+    // No read is asked for more than 65,536 bytes.
+    ensures pieces { AsksForPieces (H.widest shelf.old) (H.widest shelf.new) }
     ensures held { H.held shelf.new ≡ H.held shelf.old }
 
     // Each answer of a report has its cause in the words and the files, and each cause its answer.
@@ -82,14 +91,16 @@ pub fn run<H: Shelf, K: Sink>(
         (K.written out.old) (K.written out.new)
         (H.faults shelf.old) (H.faults shelf.new) (K.faults out.old) (K.faults out.new) }
 
-    // Where nothing in the input is refused and no fault was counted, a replay and a drill are accepted, an audit
-    // answers yes, no or undecided, of a settled family yes or no, and a certificate or a run is accepted or refused;
-    // or the answer is `NoMemory`, which is free.
+    // Where nothing in the input is refused, and no fault was counted, of a file that the words name or of the sink, a
+    // replay and a drill are accepted, an audit answers yes, no or undecided, of a settled family yes or no, and a
+    // certificate or a run is accepted or refused; or the answer is `NoMemory`, which is free.
     ensures complete { IfSome (H.held shelf.old) (λ files. IsValid (bytes_of words.now.items) (bytes_at files) →
-        NoneRose (H.faults shelf.old) (H.faults shelf.new) (K.faults out.old) (K.faults out.new) →
+        NoneRose (files_of (command_in words.now.items)) (H.faults shelf.old) (H.faults shelf.new)
+        (K.faults out.old) (K.faults out.new) →
         IsCompleted (command_in words.now.items) result) }
     ensures settled { IfSome (H.held shelf.old) (λ files. IsValid (bytes_of words.now.items) (bytes_at files) →
-        NoneRose (H.faults shelf.old) (H.faults shelf.new) (K.faults out.old) (K.faults out.new) →
+        NoneRose (files_of (command_in words.now.items)) (H.faults shelf.old) (H.faults shelf.new)
+        (K.faults out.old) (K.faults out.new) →
         AsksOfSettled (bytes_of words.now.items) files → IsDecided result) }
 {
     carry_out(alloc, read_words(words), shelf, out)
@@ -156,7 +167,11 @@ fn carry_out<H: Shelf, K: Sink>(
     ensures write_faults { CountsWrites result (K.faults out.old) (K.faults out.new) }
     ensures before_fault { WritesBeforeFault (H.held shelf.old) (H.counted shelf.old) (command_view command.entry)
         result (H.faults shelf.old) (H.faults shelf.new) (K.written out.old) (K.written out.new) }
+    ensures lines_told { WritesLines (H.held shelf.old) (H.counted shelf.old) (command_view command.entry)
+        result (H.faults shelf.old) (H.faults shelf.new) (H.taken shelf.old) (H.taken shelf.new)
+        (K.written out.old) (K.written out.new) }
     ensures takes { TakesFor (files_of (command_view command.entry)) (H.taken shelf.old) (H.taken shelf.new) }
+    ensures pieces { AsksForPieces (H.widest shelf.old) (H.widest shelf.new) }
     ensures reads { ReadsFor (files_of (command_view command.entry)) (H.reads shelf.old) (H.reads shelf.new)
         (H.taken shelf.old) (H.taken shelf.new) }
     ensures waits { ReadsInOrder (H.held shelf.old) (H.counted shelf.old) (command_view command.entry)
@@ -187,7 +202,11 @@ fn run_log<H: Shelf, K: Sink>(
     ensures before_fault { WritesBeforeFault (H.held shelf.old) (H.counted shelf.old)
         (asking task.entry world.now log.now) result (H.faults shelf.old) (H.faults shelf.new)
         (K.written out.old) (K.written out.new) }
+    ensures lines_told { WritesLines (H.held shelf.old) (H.counted shelf.old) (asking task.entry world.now log.now)
+        result (H.faults shelf.old) (H.faults shelf.new) (H.taken shelf.old) (H.taken shelf.new)
+        (K.written out.old) (K.written out.new) }
     ensures takes { TakesFor (files_of (asking task.entry world.now log.now)) (H.taken shelf.old) (H.taken shelf.new) }
+    ensures pieces { AsksForPieces (H.widest shelf.old) (H.widest shelf.new) }
     ensures reads { ReadsFor (files_of (asking task.entry world.now log.now)) (H.reads shelf.old) (H.reads shelf.new)
         (H.taken shelf.old) (H.taken shelf.new) }
     ensures waits { ReadsInOrder (H.held shelf.old) (H.counted shelf.old) (asking task.entry world.now log.now)

@@ -1,7 +1,7 @@
 // Reading files whole: the world, and what is put forward.
 ghost use Rattle.std.specs.Prelude.{◌≡◌, ◌≢◌, ◌≤◌, ◌<◌, ◌+◌, ◌^◌, ℕ, List, length, Err, IfSome, IfOk};
 ghost use Rattle.cm_cli.specs.Reading.{FileFaults, IsFileRead, IsWorldRead, unread_by, unready_by};
-ghost use Rattle.cm_io.specs.Shelf.{bytes_at, TakesAtMost, ReadsByBytes, CountsApart};
+ghost use Rattle.cm_io.specs.Shelf.{bytes_at, AsksForPieces, TakesAtMost, ReadsByBytes, CountsApart};
 ghost use Rattle.cm_base.specs.Limited.{limit_number};
 ghost use Rattle.cm_declared.specs.World.{world_of};
 ghost use Rattle.model_cred.specs.World.{KeepsWorld};
@@ -46,6 +46,7 @@ pub(crate) fn read_world_file<H: Shelf>(
     ensures takes { TakesAtMost (H.taken shelf.old) (H.taken shelf.new) name.now (limit_number Limited.World + 1) }
     ensures reads { ReadsByBytes (H.reads shelf.old) (H.reads shelf.new) (H.taken shelf.old)
         (H.taken shelf.new) name.now 1 }
+    ensures pieces { AsksForPieces (H.widest shelf.old) (H.widest shelf.new) }
     ensures apart { CountsApart (H.counted shelf.old) (H.faults shelf.old) (H.faults shelf.new)
         (H.reads shelf.old) (H.reads shelf.new) name.now }
 {
@@ -90,6 +91,7 @@ pub(crate) fn read_file<H: Shelf>(
     ensures takes { TakesAtMost (H.taken shelf.old) (H.taken shelf.new) name.now (limit_number limit + 1) }
     ensures reads { ReadsByBytes (H.reads shelf.old) (H.reads shelf.new) (H.taken shelf.old)
         (H.taken shelf.new) name.now 1 }
+    ensures pieces { AsksForPieces (H.widest shelf.old) (H.widest shelf.new) }
     ensures apart { CountsApart (H.counted shelf.old) (H.faults shelf.old) (H.faults shelf.new)
         (H.reads shelf.old) (H.reads shelf.new) name.now }
 {

@@ -1,5 +1,5 @@
 // Telling the report of a log: what is written goes to the sink, and the answer says how it went.
-ghost use Rattle.std.specs.Prelude.{◌≡◌, ◌≢◌, ◌+◌, ◌++◌, ◌∷◌, ℕ, List, [], false, Ok, Err, IfOk, IfSome, OnOk, OnErr};
+ghost use Rattle.std.specs.Prelude.{◌≡◌, ◌≢◌, ◌+◌, ◌++◌, ◌∷◌, ℕ, List, [], false, true, Ok, Err, IfOk, IfSome, OnOk, OnErr};
 ghost use Rattle.cm_base.specs.declared.limited.Limited.TheVariants as limit;
 ghost use Rattle.cm_cli.specs.BeforeFault.{HoldsShown};
 ghost use Rattle.cm_cli.specs.Claims.{IsLogAnswer};
@@ -8,9 +8,10 @@ ghost use Rattle.cm_cli.specs.LogReading.{LogFails, ThirdStaysUnread};
 ghost use Rattle.cm_cli.specs.Query.{file_of, shows_of, task_view};
 ghost use Rattle.cm_cli.specs.Reading.{FilesFaults, LogApart, ReadsFor, TakesFor};
 ghost use Rattle.cm_declared.specs.World.{world_of};
-ghost use Rattle.cm_io.specs.Shelf.{CountsApart, FileFaults, ReadsByBytes, TakesAtMost, bytes_at};
+ghost use Rattle.cm_io.specs.Shelf.{AsksForPieces, CountsApart, FileFaults, ReadsByBytes, TakesAtMost, bytes_at};
 ghost use Rattle.cm_io.specs.Sink.{WriteFaults};
 ghost use Rattle.cm_replay.specs.Shown.{start_shown};
+ghost use Rattle.cm_replay.specs.Told.{TellsTaken, lines_report};
 ghost use Rattle.cm_replay.specs.Untold.{UntoldFaults};
 ghost use Rattle.cm_report.specs.Sent.{IsSent, IsFront};
 ghost use Rattle.cm_report.specs.Telling.{CountsWrites};
@@ -52,6 +53,11 @@ pub(crate) fn tell_log<H: Shelf, K: Sink>(
         (K.written out.old) (K.written out.new)) }
     ensures start { result ≡ Status.ReadFault → HoldsShown (shows_of task.entry) (world_of w.now) (K.written out.old)
         (K.written out.new) }
+    // Where a read of the log failed, all that is told of the whole lines among the bytes that were taken is written.
+    ensures tells { result ≡ Status.ReadFault → shows_of task.entry ≡ true → IfSome (H.held shelf.old) (λ files.
+        TellsTaken (shows_of task.entry) (lines_report (shows_of task.entry) (world_of w.now)) (bytes_at files log.now)
+        (H.taken shelf.old log.now) (H.taken shelf.new log.now) (text_of (start_shown (shows_of task.entry) (world_of w.now)))
+        (K.written out.old) (K.written out.new)) }
     ensures not_usage { result ≢ Status.Usage }
     ensures counts { CountsWrites result (K.faults out.old) (K.faults out.new) }
     // A third file is read only where the log is accepted and the query stands.
@@ -66,6 +72,7 @@ pub(crate) fn tell_log<H: Shelf, K: Sink>(
     ensures takes { TakesFor ((log.now, limit.Log) ∷ file_of task.entry) (H.taken shelf.old) (H.taken shelf.new) }
     ensures reads { ReadsFor ((log.now, limit.Log) ∷ file_of task.entry) (H.reads shelf.old) (H.reads shelf.new)
         (H.taken shelf.old) (H.taken shelf.new) }
+    ensures pieces { AsksForPieces (H.widest shelf.old) (H.widest shelf.new) }
     ensures apart { LogApart (file_of task.entry) log.now (H.counted shelf.old) (H.faults shelf.old)
         (H.faults shelf.new) (H.reads shelf.old) (H.reads shelf.new) }
 {
@@ -107,6 +114,11 @@ fn put_log<H: Shelf, K: Sink>(
     ensures answers { IfOk result IsLogAnswer }
     ensures start { result ≡ Err Untold.ReadFault → HoldsShown (shows_of task.entry) (world_of w.now)
         (K.written out.old) (K.written out.new) }
+    // Where a read of the log failed, all that is told of the whole lines among the bytes that were taken is written.
+    ensures tells { result ≡ Err Untold.ReadFault → shows_of task.entry ≡ true → IfSome (H.held shelf.old) (λ files.
+        TellsTaken (shows_of task.entry) (lines_report (shows_of task.entry) (world_of w.now)) (bytes_at files log.now)
+        (H.taken shelf.old log.now) (H.taken shelf.new log.now) (text_of (start_shown (shows_of task.entry) (world_of w.now)))
+        (K.written out.old) (K.written out.new)) }
     ensures cause { UntoldFaults (K.faults out.old) (K.faults out.new) result }
     ensures order { IfSome (H.held shelf.old) (λ files. result ≡ Err Untold.ReadFault →
         LogFails task.entry (world_of w.now) log.now (bytes_at files log.now) (H.faults shelf.old)
@@ -119,6 +131,7 @@ fn put_log<H: Shelf, K: Sink>(
     ensures takes { TakesFor ((log.now, limit.Log) ∷ file_of task.entry) (H.taken shelf.old) (H.taken shelf.new) }
     ensures reads { ReadsFor ((log.now, limit.Log) ∷ file_of task.entry) (H.reads shelf.old) (H.reads shelf.new)
         (H.taken shelf.old) (H.taken shelf.new) }
+    ensures pieces { AsksForPieces (H.widest shelf.old) (H.widest shelf.new) }
     ensures apart { LogApart (file_of task.entry) log.now (H.counted shelf.old) (H.faults shelf.old)
         (H.faults shelf.new) (H.reads shelf.old) (H.reads shelf.new) }
 {
@@ -154,6 +167,11 @@ fn send_replay<H: Shelf, K: Sink>(
     // At a fault of the log's the lines at the start are written, where the replay is shown; else nothing is.
     ensures start { result ≡ Err Untold.ReadFault → HoldsShown shows (world_of w.now) (K.written out.old)
         (K.written out.new) }
+    // Where a read of the log failed, all that is told of the whole lines among the bytes that were taken is written.
+    ensures tells { result ≡ Err Untold.ReadFault → IfSome (H.held shelf.old) (λ files.
+        TellsTaken shows (lines_report shows (world_of w.now)) (bytes_at files log.now)
+        (H.taken shelf.old log.now) (H.taken shelf.new log.now) (text_of (start_shown shows (world_of w.now)))
+        (K.written out.old) (K.written out.new)) }
     ensures quiet { shows ≡ false → IfOk result (λ ended. ended.0 ≡ Status.Accepted →
         K.written out.new ≡ K.written out.old) }
     ensures cause { UntoldFaults (K.faults out.old) (K.faults out.new) result }
@@ -168,6 +186,7 @@ fn send_replay<H: Shelf, K: Sink>(
     ensures takes { TakesAtMost (H.taken shelf.old) (H.taken shelf.new) log.now (limit_number limit.Log + 1) }
     ensures reads { ReadsByBytes (H.reads shelf.old) (H.reads shelf.new) (H.taken shelf.old) (H.taken shelf.new)
         log.now 1 }
+    ensures pieces { AsksForPieces (H.widest shelf.old) (H.widest shelf.new) }
     ensures apart { CountsApart (H.counted shelf.old) (H.faults shelf.old) (H.faults shelf.new)
         (H.reads shelf.old) (H.reads shelf.new) log.now }
 {

@@ -5,6 +5,7 @@ pub mod Standing
 pub mod StartLines
 pub mod Ready
 pub mod Pieces
+pub mod Told
 pub mod Ending
 pub mod Lines
 pub mod Stopping

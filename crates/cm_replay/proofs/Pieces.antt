@@ -297,6 +297,18 @@ module _ (held : Option Files) (w : World) (name : List ℕ) (first : Replay) (b
       (subst (λ (cut : Cut). ComesTo w mid to now next result (left w log cut)) (sym b) comes))
 
 -- ---- the whole log
+-- The report of what is cut from a log, from its beginning on.
+pub cut_report : (w : World) (replay : Replay) (log : Log) (cut : Cut) (shows : Bool)
+    → replay.machine.state ≡ w.start → replay.events ≡ 0 → replay.shows ≡ shows
+    → ((cut' : Cut) → left w log cut' ≡ form_of_cut w.form w cut')
+    → report_from w replay (left w log cut) ≡ shown_report shows (replay_of w (form_of_cut w.form w cut))
+cut_report w replay log cut shows state none is reads =
+    let reading : Reading = form_of_cut w.form w cut in
+    ap (λ (r : Reading). report_from w replay r) (reads cut)
+    ∙ ap (λ (b : Bool). shown_report b (replayed w replay.machine.state replay.events reading.events reading.ending)) is
+    ∙ ap (λ (s : State). shown_report shows (replayed w s replay.events reading.events reading.ending)) state
+    ∙ ap (λ (n : ℕ). shown_report shows (replayed w w.start n reading.events reading.ending)) none
+
 -- The report of what a log gives from its beginning on is that of its reading.
 pub whole_report : (w : World) (replay : Replay) (log : Log) (cutter : Cutting) (name text : List ℕ) (shows : Bool)
     → replay.machine.state ≡ w.start → replay.events ≡ 0 → replay.shows ≡ shows
@@ -305,10 +317,7 @@ pub whole_report : (w : World) (replay : Replay) (log : Log) (cutter : Cutting) 
     → report_from w replay (left w log (left_of cutter text)) ≡ shown_report shows (replay_of w (log_reading w text))
 whole_report w replay log cutter name text shows state none is reads first =
     ap (λ (c : Cutting). report_from w replay (left w log (left_of c text))) first
-    ∙ ap (λ (r : Reading). report_from w replay r) (reads (log_cut text))
-    ∙ ap (λ (b : Bool). shown_report b (replayed w replay.machine.state replay.events (log_reading w text).events (log_reading w text).ending)) is
-    ∙ ap (λ (s : State). shown_report shows (replayed w s replay.events (log_reading w text).events (log_reading w text).ending)) state
-    ∙ ap (λ (n : ℕ). shown_report shows (replayed w w.start n (log_reading w text).events (log_reading w text).ending)) none
+    ∙ cut_report w replay log (log_cut text) shows state none is reads
 
 -- whatever came, so it is at an error
 pub at_error : {T E P : Type 0} (r : Result T E) → P → OnErr r P

@@ -1,10 +1,10 @@
 // The replay of a log as it comes: its lines are cut out of the file and told one by one, and none is kept.
-ghost use Rattle.std.specs.Prelude.{◌≡◌, ◌≢◌, ◌≤◌, ◌<◌, ◌^◌, ◌+◌, ◌++◌, ℕ, List, length, Option, Ok, Err, IfOk, IfErr, IfSome, OnOk, OnErr};
+ghost use Rattle.std.specs.Prelude.{◌≡◌, ◌≢◌, ◌≤◌, ◌<◌, ◌^◌, ◌+◌, ◌++◌, ℕ, List, [], false, length, Option, Ok, Err, IfOk, IfErr, IfSome, OnOk, OnErr};
 ghost use Rattle.cm_base.specs.Limited.{limit_number};
 ghost use Rattle.cm_base.specs.declared.limited.Limited.TheVariants as limit;
 ghost use Rattle.cm_declared.specs.World.{world_of};
-ghost use Rattle.cm_io.specs.Cutter.{Fits, begun, left_of};
-ghost use Rattle.cm_io.specs.Shelf.{CountsApart, FileFaults, ReadsByBytes, TakesAtMost, Files, bytes_at};
+ghost use Rattle.cm_io.specs.Cutter.{Fits, begun, is_at_hand, left_of};
+ghost use Rattle.cm_io.specs.Shelf.{AsksForPieces, CountsApart, FileFaults, ReadsByBytes, TakesAtMost, Files, bytes_at};
 ghost use Rattle.cm_io.specs.Sink.{WriteFaults};
 ghost use Rattle.cm_lines.specs.Cut.{ends_by};
 ghost use Rattle.cm_log.specs.Counts.{events_due};
@@ -12,6 +12,7 @@ ghost use Rattle.cm_log.specs.Left.{left};
 ghost use Rattle.cm_replay.specs.Coming.{Begins, ComesTo, IsReplayAnswer, KeepsAtEnd, Sends, SendsBy};
 ghost use Rattle.cm_replay.specs.Following.{IsReady};
 ghost use Rattle.cm_replay.specs.Shown.{shown_report};
+ghost use Rattle.cm_replay.specs.Told.{TellsTaken, lines_report, report_of_lines};
 ghost use Rattle.cm_replay.specs.Untold.{UntoldFaults};
 ghost use Rattle.cm_report.specs.Sent.{IsSent, IsFront};
 ghost use Rattle.model_report.specs.Replay.{text_of, IsWithin};
@@ -56,6 +57,10 @@ pub fn replay_log<H: Shelf, K: Sink>(
         OnErr result (IsFront (K.written out.old) (K.written out.new) (text.old.items ++ text_of
         (shown_report shows (replay_of (world_of w.now) (log_reading (world_of w.now) (bytes_at files name.now)))).lines))) }
     ensures sends { Sends shows (K.written out.old) (K.written out.new) text.old.items text.new.items result }
+    // At a fault of reading, all that is told of the whole lines among the bytes that were taken is written.
+    ensures tells { IfErr result (λ why. why ≡ Untold.ReadFault → IfSome (H.held shelf.old) (λ files.
+        TellsTaken shows (lines_report shows (world_of w.now)) (bytes_at files name.now)
+        (H.taken shelf.old name.now) (H.taken shelf.new name.now) text.old.items (K.written out.old) (K.written out.new))) }
     ensures cause { UntoldFaults (K.faults out.old) (K.faults out.new) result }
     ensures answers { IfOk result (λ ended. IsReplayAnswer ended.0) }
     // Where the log is accepted, the machine is in the state that its events lead to, within the limits; no space went.
@@ -69,6 +74,7 @@ pub fn replay_log<H: Shelf, K: Sink>(
     ensures counted { (n : List ℕ) → H.counted shelf.new n ≡ H.counted shelf.old n }
     ensures faults { FileFaults (H.faults shelf.old) (H.faults shelf.new) name.now (result ≡ Err Untold.ReadFault) }
     ensures takes { TakesAtMost (H.taken shelf.old) (H.taken shelf.new) name.now (limit_number limit.Log + 1) }
+    ensures pieces { AsksForPieces (H.widest shelf.old) (H.widest shelf.new) }
     ensures reads { ReadsByBytes (H.reads shelf.old) (H.reads shelf.new) (H.taken shelf.old) (H.taken shelf.new)
         name.now 1 }
     ensures apart { CountsApart (H.counted shelf.old) (H.faults shelf.old) (H.faults shelf.new)
@@ -104,6 +110,7 @@ fn begin_cutter(alloc: Global, name: &str) -> Result<LineCutter, Untold>
 }
 
 // Replays the lines that the cutter gives, and ends the report. At first no line is at hand.
+#[tactic(auto, using(crate::proofs::Told::past_none, crate::proofs::Told::sent_first, crate::proofs::Lines::begun_ends))]
 fn replay_lines<H: Shelf, K: Sink>(
     alloc: Global,
     w: &World,
@@ -121,6 +128,10 @@ fn replay_lines<H: Shelf, K: Sink>(
         (record { written = K.written out.new; waits = text.new.items })
         result (left (world_of w.now) log.old (left_of cutter.old (bytes_at files cutter.old.name)))) }
     ensures sends { SendsBy replay.old.shows (K.written out.old) (K.written out.new) text.old.items text.new.items result }
+    ensures tells { result ≡ Err Untold.ReadFault → IfSome (H.held shelf.old) (λ files.
+        TellsTaken replay.old.shows (report_of_lines (world_of w.now) replay.old log.old)
+        (bytes_at files cutter.old.name) (H.taken shelf.old cutter.old.name) (H.taken shelf.new cutter.old.name)
+        text.old.items (K.written out.old) (K.written out.new)) }
     ensures answers { IfOk result IsReplayAnswer }
     ensures keeps { KeepsAtEnd replay.old replay.new result }
     ensures cause { UntoldFaults (K.faults out.old) (K.faults out.new) result }
@@ -128,6 +139,7 @@ fn replay_lines<H: Shelf, K: Sink>(
     ensures counted { (n : List ℕ) → H.counted shelf.new n ≡ H.counted shelf.old n }
     ensures faults { FileFaults (H.faults shelf.old) (H.faults shelf.new) cutter.old.name (result ≡ Err Untold.ReadFault) }
     ensures takes { TakesAtMost (H.taken shelf.old) (H.taken shelf.new) cutter.old.name (limit_number limit.Log + 1) }
+    ensures pieces { AsksForPieces (H.widest shelf.old) (H.widest shelf.new) }
     ensures reads { ReadsByBytes (H.reads shelf.old) (H.reads shelf.new) (H.taken shelf.old) (H.taken shelf.new)
         cutter.old.name 1 }
     ensures apart { CountsApart (H.counted shelf.old) (H.faults shelf.old) (H.faults shelf.new)
@@ -138,6 +150,9 @@ fn replay_lines<H: Shelf, K: Sink>(
         Err(why) => return Err(Untold::from(why)),
     }
     loop {
+        if cutter.has_ended() {
+            return end_lines(alloc, w, replay, log, None, text, out);
+        }
         match cutter.next_line(shelf) {
             Ok(Some(line)) => match replay_line(alloc, w, replay, log, line, text, out) {
                 Ok(Turn::Goes) => {}
@@ -154,7 +169,7 @@ fn replay_lines<H: Shelf, K: Sink>(
             Err(CutError::Read) => return Err(Untold::ReadFault),
             Err(CutError::NoMemory) => return Err(Untold::NoMemory),
         }
-        match send_unless(cutter.is_at_hand(), text, out) {
+        match send_unless(cutter, text, out) {
             Ok(()) => {}
             Err(why) => return Err(Untold::from(why)),
         }
@@ -187,10 +202,14 @@ fn end_lines<K: Sink>(
 }
 
 // Sends what waits before a read of the log.
-fn send_unless<K: Sink>(at_hand: bool, text: &mut Vec<u8>, out: &mut K) -> Result<(), Outside>
+fn send_unless<K: Sink>(cutter: &LineCutter, text: &mut Vec<u8>, out: &mut K) -> Result<(), Outside>
+    ensures none_waits { OnOk result (is_at_hand cutter.now ≡ false → cutter.now.ended ≡ false → text.new.items ≡ []) }
     ensures sent { OnOk result (IsSent (K.written out.old) (K.written out.new) text.new.items text.old.items) }
     ensures front { OnErr result (IsFront (K.written out.old) (K.written out.new) text.old.items) }
     ensures cause { WriteFaults (K.faults out.old) (K.faults out.new) result }
 {
-    if at_hand { Ok(()) } else { send(text, out) }
+    if cutter.is_at_hand() || cutter.has_ended() {
+        return Ok(());
+    }
+    send(text, out)
 }

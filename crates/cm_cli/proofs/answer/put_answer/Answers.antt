@@ -6,6 +6,7 @@ use Rattle.cm_cli.proofs.Replaying.{always, if_told}
 use Rattle.cm_cli.proofs.answer.put_answer.Goals as goal
 use Rattle.cm_cli.specs.Query.{query_view}
 use Rattle.cm_declared.specs.World.{world_of}
+use Rattle.cm_io.proofs.ReadCounts.{pieces_none}
 use Rattle.cm_io.specs.Shelf.{bytes_at}
 
 pub returns-in-Nothing : goal.returns-in-Nothing
@@ -21,6 +22,7 @@ returns-in-Nothing g c =
       faults = faults_still _ _ (λ is. cc);
       takes = takes_still [] (g.H.Shelf.taken c.args.shelf.now);
       reads = reads_still _ _ _;
+      pieces = pieces_none _;
       apart = tt;
     })
 
@@ -37,6 +39,7 @@ returns-in_ok-status-in-Judge g c =
       faults = faults_still _ _ (λ is. cc);
       takes = takes_still [] (g.H.Shelf.taken c.args.shelf.now);
       reads = reads_still _ _ _;
+      pieces = pieces_none _;
       apart = tt;
     })
 
@@ -53,6 +56,7 @@ returns-in_err-status-in-Judge g c =
       faults = faults_still _ _ (λ is. cc);
       takes = takes_still [] (g.H.Shelf.taken c.args.shelf.now);
       reads = reads_still _ _ _;
+      pieces = pieces_none _;
       apart = tt;
     })
 
@@ -72,5 +76,6 @@ returns-in-Claims g c =
       faults = c.put_claim.ensures.faults;
       takes = c.put_claim.ensures.takes;
       reads = c.put_claim.ensures.reads;
+      pieces = c.put_claim.ensures.pieces;
       apart = c.put_claim.ensures.apart;
     })

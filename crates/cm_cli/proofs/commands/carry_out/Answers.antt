@@ -1,8 +1,9 @@
 use Rattle.cm_cli.proofs.FileReads.{reads_still, takes_still}
-use Rattle.cm_cli.proofs.BeforeFault.{no_fault}
+use Rattle.cm_cli.proofs.BeforeFault.{no_fault, no_lines}
 use Rattle.cm_cli.proofs.Drills.{drill_answers, nothing_read}
 use Rattle.cm_cli.proofs.Replaying.{usage_answers}
 use Rattle.cm_cli.proofs.commands.carry_out.Goals as goal
+use Rattle.cm_io.proofs.ReadCounts.{pieces_none}
 use Rattle.std.proofs.Common.{[], refl}
 use Rattle.model_report.specs.Command.{Drill, NoForm}
 
@@ -14,6 +15,8 @@ returns-in-NoForm g c =
       read_faults = nothing_read (g.H.Shelf.held c.args.shelf.now) NoForm _ _ c.tell_short.ensures.never_read_fault;
       write_faults = c.tell_short.ensures.counts;
       before_fault = no_fault (g.H.Shelf.held c.args.shelf.now) _ NoForm _ _ _ _ _ c.tell_short.ensures.never_read_fault;
+      lines_told = no_lines (g.H.Shelf.held c.args.shelf.now) _ NoForm _ _ _ _ _ _ _ c.tell_short.ensures.never_read_fault;
+      pieces = pieces_none _;
       takes = takes_still [] (g.H.Shelf.taken c.args.shelf.now);
       reads = reads_still _ _ _;
       waits = tt;
@@ -30,6 +33,9 @@ returns-in-Drill g c =
       write_faults = c.tell_drill.ensures.counts;
       before_fault = no_fault (g.H.Shelf.held c.args.shelf.now) _ (Drill c.in-Drill.n) _ _ _ _ _
           c.tell_drill.ensures.not_read_fault;
+      lines_told = no_lines (g.H.Shelf.held c.args.shelf.now) _ (Drill c.in-Drill.n) _ _ _ _ _ _ _
+          c.tell_drill.ensures.not_read_fault;
+      pieces = pieces_none _;
       takes = takes_still [] (g.H.Shelf.taken c.args.shelf.now);
       reads = reads_still _ _ _;
       waits = tt;

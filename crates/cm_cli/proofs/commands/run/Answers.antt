@@ -9,6 +9,11 @@ returns-clause-before_fault g c =
     let command = c.read_words.ensures ∙ ap command_in c.deref.ensures.value in
     rw command at c.carry_out.ensures.before_fault
 
+pub returns-clause-lines_told : goal.returns-clause-lines_told
+returns-clause-lines_told g c =
+    let command = c.read_words.ensures ∙ ap command_in c.deref.ensures.value in
+    rw command at c.carry_out.ensures.lines_told
+
 pub returns-clause-answers : goal.returns-clause-answers
 returns-clause-answers g c =
     let command = c.read_words.ensures ∙ ap command_in c.deref.ensures.value in

@@ -1,7 +1,7 @@
 use Rattle.std.proofs.Common.{◌∙◌, Err, ap, refl}
 use Rattle.cm_base.specs.declared.limited.Limited.TheVariants as limit
 use Rattle.cm_cli.proofs.Apart.{apart_as}
-use Rattle.cm_cli.proofs.BeforeFault.{before_asked, log_before, no_fault, world_before}
+use Rattle.cm_cli.proofs.BeforeFault.{before_asked, lines_asked, log_before, log_lines, no_fault, no_lines, world_before, world_lines}
 use Rattle.cm_cli.proofs.FileReads.{reads_one, takes_one}
 use Rattle.cm_cli.proofs.InOrder.{all_reads, all_taken, no_read_fault, told_faults, told_waits, world_fault, world_reads}
 use Rattle.cm_cli.proofs.InOrder.{world_taken, world_waits}
@@ -13,6 +13,7 @@ use Rattle.cm_cli.proofs.commands.run_log.Goals as goal
 use Rattle.cm_cli.specs.Query.{file_of, shows_of, task_view}
 use Rattle.cm_cli.specs.Words.{asking}
 use Rattle.cm_cli.specs.declared.reading.Unready.TheVariants as unready
+use Rattle.cm_io.proofs.ReadCounts.{pieces_then}
 use Rattle.cm_io.specs.Shelf.{bytes_at}
 
 pub returns-in-Ok : goal.returns-in-Ok
@@ -42,6 +43,13 @@ returns-in-Ok g c =
       before_fault = before_asked held _ t world log c.tell_log.result _ _ _ _ (λ is.
           log_before held (g.H.Shelf.counted c.args.shelf.now) t world log w _ _ _ _ _ _ _ first.read same (e.start is)
           apart);
+      lines_told = lines_asked held _ t world log c.tell_log.result _ _ _ _ _ _ (λ is.
+          log_lines held (g.H.Shelf.counted c.args.shelf.now) (shows_of t) world log w (g.H.Shelf.faults c.args.shelf.now)
+          (g.H.Shelf.faults c.tell_log.new.shelf) (g.H.Shelf.taken c.args.shelf.now)
+          (g.H.Shelf.taken c.read_world_file.new.shelf) (g.H.Shelf.taken c.tell_log.new.shelf)
+          (g.K.Sink.written c.args.out.now) (g.K.Sink.written c.tell_log.new.out) _ first.read first.takes
+          (λ shown. rw first.held at (e.tells is shown)));
+      pieces = pieces_then _ _ _ first.pieces e.pieces;
       takes = all_taken t world log (g.H.Shelf.taken c.args.shelf.now) (g.H.Shelf.taken c.read_world_file.new.shelf)
           (g.H.Shelf.taken c.tell_log.new.shelf) (takes_one _ _ world limit.World first.takes) e.takes;
       reads = all_reads t world log _ _ _ _ _ _ reads e.reads;
@@ -73,6 +81,8 @@ returns-in-Err-Refused g c =
           (first.faults.others (λ is. cc));
       write_faults = told.counts;
       before_fault = no_fault held _ (asking t world log) c.tell_short.result _ _ _ _ told.never_read_fault;
+      lines_told = no_lines held _ (asking t world log) c.tell_short.result _ _ _ _ _ _ told.never_read_fault;
+      pieces = first.pieces;
       takes = world_taken t world log (g.H.Shelf.taken c.args.shelf.now) (g.H.Shelf.taken c.read_world_file.new.shelf)
           (takes_one _ _ world limit.World first.takes);
       reads = world_reads t world log _ _ _ _ reads;
@@ -94,6 +104,12 @@ returns-in-Err-ReadFault g c =
       write_faults = wrote_none _ _ (λ is. cc);
       before_fault = before_asked held _ t world log _ _ _ _ _
           (λ _. world_before held (g.H.Shelf.counted c.args.shelf.now) (shows_of t) world log _ _ _ _ _ first.apart);
+      lines_told = lines_asked held _ t world log _ _ _ _ _ _ _
+          (λ _. world_lines held (g.H.Shelf.counted c.args.shelf.now) (shows_of t) world log
+          (g.H.Shelf.faults c.args.shelf.now) (g.H.Shelf.faults c.read_world_file.new.shelf) _ _
+          (g.H.Shelf.taken c.args.shelf.now) (g.H.Shelf.taken c.read_world_file.new.shelf)
+          (g.K.Sink.written c.args.out.now) (g.K.Sink.written c.args.out.now) first.apart);
+      pieces = first.pieces;
       takes = world_taken t world log (g.H.Shelf.taken c.args.shelf.now) (g.H.Shelf.taken c.read_world_file.new.shelf)
           (takes_one _ _ world limit.World first.takes);
       reads = world_reads t world log _ _ _ _ reads;
@@ -114,6 +130,8 @@ returns-in-Err-NoMemory g c =
       read_faults = no_read_fault held t world log _ _ _ (λ is. cc) (first.faults.others (λ is. cc));
       write_faults = wrote_none _ _ (λ is. cc);
       before_fault = no_fault held _ (asking t world log) _ _ _ _ _ (λ is. cc);
+      lines_told = no_lines held _ (asking t world log) _ _ _ _ _ _ _ (λ is. cc);
+      pieces = first.pieces;
       takes = world_taken t world log (g.H.Shelf.taken c.args.shelf.now) (g.H.Shelf.taken c.read_world_file.new.shelf)
           (takes_one _ _ world limit.World first.takes);
       reads = world_reads t world log _ _ _ _ reads;

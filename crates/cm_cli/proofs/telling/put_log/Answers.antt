@@ -11,6 +11,7 @@ use Rattle.cm_cli.proofs.Stopping.{at_error}
 use Rattle.cm_cli.proofs.telling.put_log.Goals as goal
 use Rattle.cm_cli.specs.Query.{file_of, shows_of}
 use Rattle.cm_declared.specs.World.{world_of}
+use Rattle.cm_io.proofs.ReadCounts.{pieces_then}
 use Rattle.cm_io.specs.Shelf.{bytes_at}
 use Rattle.cm_replay.proofs.Stopping.{err_as, none_failed, untold_as}
 use Rattle.model_strace.specs.Logs.{log_reading}
@@ -31,6 +32,7 @@ returns-in_err-end g c =
           front_told files t w (log_reading w (bytes_at files log)) c.shows.result c.shows.ensures front j);
       answers = tt;
       start = λ is. rw c.shows.ensures at (e.start (err_as _ _ _ _ refl refl is));
+      tells = λ is shown. rw c.shows.ensures at (e.tells (err_as _ _ _ _ refl refl is));
       cause = untold_as _ _ _ _ _ refl refl e.cause;
       order = always held (λ files is. inl (e.faults.fault (err_as _ _ _ _ refl refl is)));
       waits = always held (λ files none n other. e.reads.others n other);
@@ -41,6 +43,7 @@ returns-in_err-end g c =
           (g.H.Shelf.taken c.send_replay.new.shelf) (takes_one _ _ log limit.Log e.takes);
       reads = reads_more ((log, limit.Log) ∷ []) (file_of t) _ _ _ _ (reads_one _ _ _ _ log limit.Log _ e.reads e.takes);
       apart = apart_alone (file_of t) log _ _ _ _ _ e.apart e.reads.others;
+      pieces = e.pieces;
     })
 
 -- after an accepted log the state is within the limits, and the space of each mount stands
@@ -77,6 +80,7 @@ returns-in-Accepted g c =
       start = λ is.
           let hidden = claim_silent t w s (e.stands is) in
           quiet_holds (shows_of t) w _ _ hidden (first.quiet (c.shows.ensures ∙ hidden) accepted);
+      tells = λ is shown. absurd (let hidden = claim_silent t w s (e.stands is) in cc);
       cause = none_failed _ _ _ (first.cause.others (λ is. cc)) e.not_write_fault;
       order = if_told held ends (λ files here is.
           inr (
@@ -96,6 +100,7 @@ returns-in-Accepted g c =
           (reads_one _ _ _ _ log limit.Log _ first.reads first.takes) e.reads;
       apart = apart_then log _ _ _ _ _ _ _ _ first.counted first.apart first.reads.others same t _ _ _ e.apart e.reads
           e.faults;
+      pieces = pieces_then _ _ _ first.pieces e.pieces;
     }
 
 pub returns-in_default : goal.returns-in_default
@@ -117,6 +122,7 @@ returns-in_default g c =
       stopped = always held (λ files j. tt);
       answers = e.answers;
       start = λ is. absurd (cc);
+      tells = λ is shown. absurd (cc);
       cause = none_failed _ _ _ (e.cause.others (λ is. cc)) (λ is. cc);
       order = always held (λ files is. absurd (cc));
       waits = always held (λ files none n away. e.reads.others n away);
@@ -127,4 +133,5 @@ returns-in_default g c =
           (g.H.Shelf.taken c.send_replay.new.shelf) (takes_one _ _ log limit.Log e.takes);
       reads = reads_more ((log, limit.Log) ∷ []) (file_of t) _ _ _ _ (reads_one _ _ _ _ log limit.Log _ e.reads e.takes);
       apart = apart_alone (file_of t) log _ _ _ _ _ e.apart e.reads.others;
+      pieces = e.pieces;
     }

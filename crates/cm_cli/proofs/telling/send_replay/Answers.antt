@@ -3,9 +3,10 @@ use Rattle.std.proofs.lemmas.Result.{err_from_is_err_and}
 use Rattle.cm_cli.proofs.FileReads.{counts_still, fault_still, read_still, taken_still}
 use Rattle.cm_cli.proofs.LogReport.{mounts_there, shown_text}
 use Rattle.cm_cli.proofs.Replaying.{always, if_told, replay_answer}
-use Rattle.cm_cli.proofs.Shown.{fault_holds, from_status, front_of_start, stays_quiet}
+use Rattle.cm_cli.proofs.Shown.{fault_holds, from_status, front_of_start, stays_quiet, tells_after}
 use Rattle.cm_cli.proofs.telling.send_replay.Goals as goal
 use Rattle.cm_declared.specs.World.{world_of}
+use Rattle.cm_io.proofs.ReadCounts.{pieces_none}
 use Rattle.cm_io.specs.Shelf.{bytes_at}
 use Rattle.cm_replay.proofs.Stopping.{stops_at, stops_no_read, untold_since}
 use Rattle.cm_report.proofs.Waiting.{front_on, more_waits, sent_on}
@@ -25,6 +26,7 @@ returns-in_err-send_shown g c =
           front_of_start c.args.shows w (log_reading w (bytes_at files c.args.log.now)) front);
       answers = tt;
       start = λ is. absurd (stops_no_read _ _ refl is);
+      tells = λ is. absurd (stops_no_read _ _ refl is);
       quiet = λ _. tt;
       cause = stops_at _ _ _ _ refl c.in_err-send_shown.ensures.cause;
       reached = always held (λ files. tt);
@@ -36,6 +38,7 @@ returns-in_err-send_shown g c =
       takes = taken_still _ _ _;
       reads = read_still _ _ _;
       apart = counts_still _ _ _ _;
+      pieces = pieces_none _;
     })
 
 -- the replay broke off
@@ -54,6 +57,7 @@ returns-in_err-end g c =
           (front_on (more_waits started _) front));
       answers = tt;
       start = λ is. fault_holds c.args.shows w _ _ _ _ started _ c.replay_log.new.text.items e.sends (cc);
+      tells = λ is. tells_after held c.args.shows w c.args.log.now _ _ _ _ _ _ started (e.tells (cc));
       quiet = λ _. tt;
       cause = untold_since _ _ _ _ c.in_ok-send_shown.ensures.cause.ok e.cause;
       reached = always held (λ files. tt);
@@ -65,6 +69,7 @@ returns-in_err-end g c =
       takes = e.takes;
       reads = e.reads;
       apart = e.apart;
+      pieces = e.pieces;
     })
 
 pub returns : goal.returns
@@ -82,6 +87,7 @@ returns g c =
       stopped = always held (λ files. tt);
       answers = replay_answer _ e.answers;
       start = λ is. absurd (cc);
+      tells = λ is. absurd (cc);
       quiet = λ hidden accepted. stays_quiet c.args.shows w _ _ _ _ started _ (e.sends accepted) hidden;
       cause = untold_since _ _ _ _ c.in_ok-send_shown.ensures.cause.ok e.cause;
       reached = e.reached;
@@ -93,4 +99,5 @@ returns g c =
       takes = e.takes;
       reads = e.reads;
       apart = e.apart;
+      pieces = e.pieces;
     }

@@ -20,6 +20,7 @@ returns-in-Err g c =
           front_told (log_report (task_view c.args.task (bytes_at files)) j c.args.w.now
           (bytes_at files c.args.log.now)) _ _ _ (untold_none c.in-Err.why) (front j));
       start = λ is. e.start (read is);
+      tells = λ is. e.tells (read is);
       not_usage = untold_not_usage c.in-Err.why;
       counts = untold_counts c.in-Err.why _ _ e.cause;
       order = if_told held e.order (λ files failed is. failed (read is));
@@ -29,6 +30,7 @@ returns-in-Err g c =
       takes = e.takes;
       reads = e.reads;
       apart = e.apart;
+      pieces = e.pieces;
     })
 
 pub returns-in-Ok-send : goal.returns-in-Ok-send
@@ -42,6 +44,7 @@ returns-in-Ok-send g c =
           (bytes_at files c.args.log.now)) _ _ _ (is j gives)
           (rw c.in-Ok-send.ensures.empty at (sent_on (sent j gives) c.in-Ok-send.ensures.sent)));
       start = λ is. absurd (told.0.not_read_fault is);
+      tells = λ is. absurd (told.0.not_read_fault is);
       not_usage = told.1;
       counts = wrote_counts _ _ _ told.0 (c.in-Ok-send.ensures.cause.ok ∙ e.cause.others (λ is. cc));
       order = always held (λ files is. absurd (told.0.not_read_fault is));
@@ -51,6 +54,7 @@ returns-in-Ok-send g c =
       takes = e.takes;
       reads = e.reads;
       apart = e.apart;
+      pieces = e.pieces;
     }
 
 pub returns : goal.returns
@@ -64,6 +68,7 @@ returns g c =
           (bytes_at files c.args.log.now)) _ _ _ (stopped_none why)
           (front_on (sent j gives) c.in-Err-send.ensures.front));
       start = λ is. absurd (stopped_no_read why is);
+      tells = λ is. absurd (stopped_no_read why is);
       not_usage = stopped_not_usage why;
       counts = stopped_counts why _ _ _ (e.cause.others (λ is. cc)) c.in-Err-send.ensures.cause;
       order = always held (λ files is. absurd (stopped_no_read why is));
@@ -73,4 +78,5 @@ returns g c =
       takes = e.takes;
       reads = e.reads;
       apart = e.apart;
+      pieces = e.pieces;
     })

@@ -1,20 +1,23 @@
-use Rattle.std.proofs.Common.{◌≡◌, ◌≤◌, ◌+◌, ◌-◌, ℕ, List, length, IfSome}
+use Rattle.std.proofs.Common.{◌≡◌, ◌≤◌, ◌+◌, ◌-◌, ℕ, List, [], length, false, IfSome}
 use Rattle.cm_base.specs.Limited.{limit_number}
 use Rattle.cm_base.specs.declared.limited.Limited.TheVariants as limit
 use Rattle.cm_declared.specs.World.{world_of}
-use Rattle.cm_io.specs.Cutter.{Fits, ends, left_of, read_to}
-use Rattle.cm_io.specs.Shelf.{CountsApart, ReadsByBytes, TakesAtMost, bytes_at}
+use Rattle.cm_io.specs.Cutter.{Fits, ends, is_at_hand, left_of, read_to}
+use Rattle.cm_io.specs.Shelf.{AsksForPieces, CountsApart, ReadsByBytes, TakesAtMost, bytes_at}
 use Rattle.cm_log.specs.Counts.{events_due, lines_read}
 use Rattle.cm_log.specs.Left.{left}
+use Rattle.cm_io.specs.Sink.{then_written}
+use Rattle.cm_replay.proofs.Lines.{EndsIn}
 use Rattle.cm_replay.proofs.Pieces.{Grown}
+use Rattle.cm_replay.proofs.Told.{GonePast}
 use Rattle.cm_replay.proofs.coming.replay_lines.Given as goal
 use Rattle.cm_replay.specs.Following.{GoesOn, IsReady}
 
 -- Between two lines: of what file the cutter is, and that it fits the shelf; what was read of it; that the replay and the log
 -- are ready for the next line, and have numbers for it; what was written; and, where the shelf tells what it holds, that the
 -- report of what is left goes on from there.
-abbrev pub invariant-loop-line : goal.invariant-loop-line
-invariant-loop-line g l = record {
+abbrev pub invariant-loop-replay : goal.invariant-loop-replay
+invariant-loop-replay g l = record {
   name : l.cutter.name ≡ l.fn.cutter.name;
   line : l.cutter.line ≡ limit_number limit.Line;
   whole : l.cutter.whole ≡ limit_number limit.Log;
@@ -25,6 +28,12 @@ invariant-loop-line g l = record {
   takes : TakesAtMost (g.H.Shelf.taken l.fn.shelf) (g.H.Shelf.taken l.shelf) l.fn.cutter.name (read_to l.cutter);
   reads : ReadsByBytes (g.H.Shelf.reads l.fn.shelf) (g.H.Shelf.reads l.shelf) (g.H.Shelf.taken l.fn.shelf)
       (g.H.Shelf.taken l.shelf) l.fn.cutter.name (ends l.cutter);
+  pieces : AsksForPieces (g.H.Shelf.widest l.fn.shelf) (g.H.Shelf.widest l.shelf);
+  ended : EndsIn (g.H.Shelf.held l.fn.shelf) l.fn.cutter.name l.cutter;
+  first : g.K.Sink.written l.initial.out ≡ then_written (g.K.Sink.written l.fn.out) l.fn.text.items;
+  waits : is_at_hand l.cutter ≡ false → l.cutter.ended ≡ false → l.text.items ≡ [];
+  past : GonePast (g.H.Shelf.held l.fn.shelf) (world_of l.w) l.fn.cutter.name l.fn.replay (g.K.Sink.written l.initial.out) l.fn.log
+      l.replay (record { written = g.K.Sink.written l.out; waits = l.text.items }) l.log l.cutter;
   apart : CountsApart (g.H.Shelf.counted l.fn.shelf) (g.H.Shelf.faults l.fn.shelf) (g.H.Shelf.faults l.shelf)
       (g.H.Shelf.reads l.fn.shelf) (g.H.Shelf.reads l.shelf) l.fn.cutter.name;
   ready : IsReady (world_of l.w) l.replay l.log;
@@ -44,5 +53,5 @@ invariant-loop-line g l = record {
       (left (world_of l.w) l.log (left_of l.cutter (bytes_at files l.fn.cutter.name))));
 }
 
-abbrev pub decreases-loop-line : goal.decreases-loop-line
-decreases-loop-line g l = l.cutter.whole + 1 - l.cutter.place
+abbrev pub decreases-loop-replay : goal.decreases-loop-replay
+decreases-loop-replay g l = l.cutter.whole + 1 - l.cutter.place

@@ -1,11 +1,18 @@
-use Rattle.std.proofs.Common.{◌≡◌, ◌∙◌, ℕ, List, ap}
+use Rattle.std.proofs.Common.{◌≡◌, ◌∙◌, ℕ, List, ap, Some, Err}
+use Rattle.std.proofs.lemmas.Result.{err_from_is_err_and}
 use Rattle.cm_declared.specs.World.{world_of}
 use Rattle.cm_io.specs.Cutter.{Cutting, left_of}
 use Rattle.cm_io.specs.Shelf.{bytes_at}
 use Rattle.cm_log.specs.Left.{left}
-use Rattle.cm_replay.proofs.Pieces.{front_is_sent, none_is_sent, whole_report}
+use Rattle.cm_lines.specs.Cut.{ends_by}
+use Rattle.cm_lines.specs.declared.limits.Past.TheVariants.{Line}
+use Rattle.cm_replay.proofs.Pieces.{cut_report, front_is_sent, none_is_sent, whole_report}
+use Rattle.cm_replay.proofs.Told.{from_start}
 use Rattle.cm_replay.proofs.coming.replay_log.Goals as goal
 use Rattle.cm_replay.specs.Shown.{shown_report}
+use Rattle.cm_io.specs.WholeLines.{after_lines}
+use Rattle.cm_replay.specs.Told.{lines_report, report_of_lines}
+use Rattle.cm_replay.specs.declared.untold.Untold.{Untold}
 use Rattle.model_report.specs.Report.{replay_of}
 use Rattle.model_strace.specs.Logs.{log_reading}
 
@@ -36,3 +43,17 @@ returns-in_err-status-clause-stopped g c =
     (λ files. whole_report w replay c.in_ok-log.log cutter name (bytes_at files cutter.name) c.args.shows c.in_ok-replay.ensures.state
     c.in_ok-replay.ensures.none c.in_ok-replay.ensures.shows c.in_ok-log.ensures.reading c.in_ok-cutter.ensures.begun
     ∙ ap (λ (n : List ℕ). shown_report c.args.shows (replay_of w (log_reading w (bytes_at files n)))) named)
+
+-- a read of the log failed
+pub returns-in_err-status-clause-tells : goal.returns-in_err-status-clause-tells
+returns-in_err-status-clause-tells g c =
+    let p = err_from_is_err_and c.from_residual-in_err-status.result c.from_residual-in_err-status.ensures.1 in
+    let w = world_of c.args.w.now in
+    let replay = c.in_ok-replay.replay in
+    let named = ap (λ (x : Cutting). x.name) c.in_ok-cutter.ensures.begun in
+    rw (p.1, p.2) (λ is.
+    from_start (g.H.Shelf.held c.args.shelf.now) c.args.shows replay.shows (report_of_lines w replay c.in_ok-log.log)
+    (lines_report c.args.shows w) c.args.name.now _ _ c.args.text.now.items _ _ c.in_ok-replay.ensures.shows
+    (λ lines. cut_report w replay c.in_ok-log.log (after_lines lines (ends_by (Some Line))) c.args.shows c.in_ok-replay.ensures.state
+    c.in_ok-replay.ensures.none c.in_ok-replay.ensures.shows c.in_ok-log.ensures.reading)
+    (rw named at (c.in_err-status.ensures.tells (ap (λ (e : Untold). Err e) is))))
