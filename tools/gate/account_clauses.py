@@ -4,8 +4,8 @@
   account_clauses.py [FOLDER]
 
 Of the `ensures` of the functions of cm_io, cm_replay and cm_cli, in FOLDER or this repository: those whose text names
-faults, reads, taken or counted, or says that what is held stays. They are told by function; those of `run`, of
-`run_surely` and of the shelves, sinks and their counts stand apart, since these are what is promised to others.
+faults, reads, taken, counted or an account, or says that what is held stays. They are told by function; those of `run`,
+of `run_surely` and of the shelves, sinks and their counts stand apart, since these are what is promised to others.
 """
 import os
 import re
@@ -14,7 +14,7 @@ from dataclasses import dataclass
 
 TOP = os.path.join(os.path.dirname(os.path.abspath(__file__)), "..", "..")
 CRATES = ("cm_io", "cm_replay", "cm_cli")
-ACCOUNT = re.compile(r"\b(faults|reads|taken|counted)\b|held shelf\.new")
+ACCOUNT = re.compile(r"\b(account|faults|reads|taken|counted)\b|held shelf\.new")
 PART = re.compile(r"\bfn (\w+)|\bensures\*?\s+(?:\w+\s+)?\{")
 PROMISED = {"cm_io": ("shelf.rt", "sink.rt", "memory.rt", "real.rt", "sure.rt", "counts.rt")}
 TOP_CALLS = ("run", "run_surely")

@@ -1,11 +1,15 @@
 -- The counts of a log, alone and before a third file.
 use Rattle.std.proofs.Common.{◌≡◌, ◌∙◌, ℕ, Bool, IsTrue, List, [], ◌∷◌, arith, not, subst, sym}
 use Rattle.cm_base.specs.declared.limited.Limited.{Limited}
-use Rattle.cm_cli.proofs.FileReads.{unread_apart}
-use Rattle.cm_cli.specs.Files.{ApartFor, FilesFaults, LogApart, ReadsFor}
+use Rattle.cm_base.specs.declared.limited.Limited.TheVariants as limit
+use Rattle.cm_cli.proofs.FileReads.{faults_more, faults_one, faults_then, reads_more, reads_one, reads_then, takes_more, takes_one}
+use Rattle.cm_cli.proofs.FileReads.{takes_then, unread_apart}
+use Rattle.cm_cli.specs.Files.{ApartFor, FilesFaults, ReadsFiles, ReadsFor, one_past}
 use Rattle.cm_cli.specs.Query.{file_of}
 use Rattle.cm_cli.specs.declared.query.Task.{Task}
 use Rattle.cm_cli.specs.declared.query.Task.TheVariants as task
+use Rattle.cm_io.proofs.ReadCounts.{pieces_then}
+use Rattle.cm_io.specs.Account.{Account, ReadsFile}
 use Rattle.cm_io.specs.Shelf.{CountsApart, OthersStay}
 
 -- the same names are counted
@@ -19,8 +23,8 @@ counts_as counted counted' faults faults' reads reads' name same apart = record 
 
 pub apart_as : (files : List (List ℕ × Limited)) (log : List ℕ) (counted counted' : List ℕ → Bool)
     (faults faults' reads reads' : List ℕ → ℕ)
-    → ((n : List ℕ) → counted' n ≡ counted n) → LogApart files log counted' faults faults' reads reads'
-    → LogApart files log counted faults faults' reads reads'
+    → ((n : List ℕ) → counted' n ≡ counted n) → ApartFor ((log, limit.Log) ∷ files) counted' faults faults' reads reads'
+    → ApartFor ((log, limit.Log) ∷ files) counted faults faults' reads reads'
 apart_as [] log counted counted' faults faults' reads reads' same apart =
     counts_as counted counted' faults faults' reads reads' log same apart
 apart_as (file ∷ files) log counted counted' faults faults' reads reads' same apart = record {
@@ -32,7 +36,7 @@ apart_as (file ∷ files) log counted counted' faults faults' reads reads' same 
 pub apart_alone : (files : List (List ℕ × Limited)) (log : List ℕ) (counted : List ℕ → Bool)
     (faults faults' reads reads' : List ℕ → ℕ)
     → CountsApart counted faults faults' reads reads' log → OthersStay reads reads' log
-    → LogApart files log counted faults faults' reads reads'
+    → ApartFor ((log, limit.Log) ∷ files) counted faults faults' reads reads'
 apart_alone [] log counted faults faults' reads reads' apart others = apart
 apart_alone (file ∷ files) log counted faults faults' reads reads' apart others = record {
   log_unread = λ _ n other _ rose. unread_apart counted faults faults' reads reads' log n apart other rose;
@@ -53,7 +57,7 @@ module _ (log : List ℕ) (counted counted' : List ℕ → Bool) (faults faults'
   pub apart_then : (t : Task) (taken taken' : List ℕ → ℕ) (failed : Type 0)
       → ApartFor (file_of t) counted' faults' faults'' reads' reads'' → ReadsFor (file_of t) reads' reads'' taken taken'
       → FilesFaults faults' faults'' (file_of t) failed
-      → LogApart (file_of t) log counted faults faults'' reads reads''
+      → ApartFor ((log, limit.Log) ∷ file_of t) counted faults faults'' reads reads''
   apart_then task.Nothing taken taken' failed apart second more =
       none_after (more.others (λ is. more.fault is)) (λ n. second.others n (λ is. is))
   apart_then (task.Judge q) taken taken' failed apart second more =
@@ -71,3 +75,36 @@ module _ (log : List ℕ) (counted counted' : List ℕ → Bool) (faults faults'
             unread_apart counted faults' faults'' reads' reads'' file n counts other (omega (arith, was, rose))
             ∙ others file not_log;
       }
+
+-- ---- accounts
+-- a log, and nothing after it
+pub log_alone : (more : List (List ℕ × Limited)) (a b : Account) (log : List ℕ) (failed : Type 0)
+    → ReadsFile a b log (one_past limit.Log) 1 failed → ReadsFiles a b ((log, limit.Log) ∷ more) failed
+log_alone more a b log failed file = record {
+  held = file.held;
+  faults = faults_more ((log, limit.Log) ∷ []) more a.faults b.faults failed
+      (faults_one a.faults b.faults log limit.Log failed file.faults);
+  takes = takes_more ((log, limit.Log) ∷ []) more a.taken b.taken (takes_one a.taken b.taken log limit.Log file.takes);
+  reads = reads_more ((log, limit.Log) ∷ []) more a.reads b.reads a.taken b.taken
+      (reads_one a.reads b.reads a.taken b.taken log limit.Log (one_past limit.Log) file.reads file.takes);
+  apart = apart_alone more log a.counted a.faults b.faults a.reads b.reads file.apart file.reads.others;
+  pieces = file.pieces;
+}
+
+-- a log without a fault, and then the file of a claim
+pub log_then : (t : Task) (a b c : Account) (log : List ℕ) (first failed : Type 0) → (first → ⊥)
+    → ReadsFile a b log (one_past limit.Log) 1 first → ReadsFiles b c (file_of t) failed
+    → ReadsFiles a c ((log, limit.Log) ∷ file_of t) failed
+log_then t a b c log first failed never file files =
+    let same = file.faults.others never in
+    record {
+      held = files.held ∙ file.held;
+      faults = faults_then ((log, limit.Log) ∷ []) (file_of t) a.faults b.faults c.faults failed same files.faults;
+      takes = takes_then ((log, limit.Log) ∷ []) (file_of t) a.taken b.taken c.taken
+          (takes_one a.taken b.taken log limit.Log file.takes) files.takes;
+      reads = reads_then ((log, limit.Log) ∷ []) (file_of t) a.reads b.reads c.reads a.taken b.taken c.taken
+          (reads_one a.reads b.reads a.taken b.taken log limit.Log (one_past limit.Log) file.reads file.takes) files.reads;
+      apart = apart_then log a.counted b.counted a.faults b.faults c.faults a.reads b.reads c.reads file.counted file.apart
+          file.reads.others same t b.taken c.taken failed files.apart files.reads files.faults;
+      pieces = pieces_then a.widest b.widest c.widest file.pieces files.pieces;
+    }

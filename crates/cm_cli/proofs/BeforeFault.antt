@@ -2,11 +2,12 @@
 use Rattle.std.proofs.Common.{◌≡◌, ◌≢◌, ◌<◌, ◌∙◌, ℕ, Bool, true, false, IsTrue, List, [], ◌∷◌, ◌++◌, ◌⊎◌, Option, Ok, IfSome, arith}
 use Rattle.std.proofs.Common.{ap, inl, inr, refl, subst, sym}
 use Rattle.cm_base.specs.declared.limited.Limited.{Limited}
+use Rattle.cm_base.specs.declared.limited.Limited.TheVariants as limit
 use Rattle.cm_base.specs.declared.status.Status.{Status}
 use Rattle.cm_base.specs.declared.status.Status.TheVariants as answers
 use Rattle.cm_cli.proofs.Replaying.{always, asking_names, if_both, if_told}
 use Rattle.cm_cli.specs.BeforeFault.{HoldsLines, HoldsShown, HoldsStart, RoseAt, WritesBefore, WritesBeforeFault, WritesLines}
-use Rattle.cm_cli.specs.Files.{LogApart}
+use Rattle.cm_cli.specs.Files.{ApartFor}
 use Rattle.cm_cli.specs.Query.{file_of, shows_of}
 use Rattle.cm_cli.specs.Reading.{IsWorldRead}
 use Rattle.cm_cli.specs.Words.{asking, claiming}
@@ -99,7 +100,7 @@ module _ (held : Option Files) (counted : List ℕ → Bool) (t : Task) (world l
     (read : IfSome held (λ files. IsWorldRead (Ok c) (bytes_at files world))) (same : (n : List ℕ) → mid n ≡ before n)
     (holds : HoldsShown (shows_of t) (world_of c) w w') where
   -- where its replay is shown, no third file is read, so it wasn't the world's count that rose
-  not_world : (u : Task) → shows_of u ≡ true → LogApart (file_of u) log counted mid now reads reads' → world ≢ log
+  not_world : (u : Task) → shows_of u ≡ true → ApartFor ((log, limit.Log) ∷ file_of u) counted mid now reads reads' → world ≢ log
       → IsTrue (counted log) → before world < now world → ⊥
   not_world task.Nothing shown apart other counts rose =
       let stays = apart.faults_stay counts world other in
@@ -115,7 +116,7 @@ module _ (held : Option Files) (counted : List ℕ → Bool) (t : Task) (world l
   shown_or_not true = inl refl
   shown_or_not false = inr refl
 
-  pub log_before : LogApart (file_of t) log counted mid now reads reads'
+  pub log_before : ApartFor ((log, limit.Log) ∷ file_of t) counted mid now reads reads'
       → WritesBefore held counted (shows_of t) world log before now w w'
   log_before apart = record {
     of_world = λ other counts rose. elim (shown_or_not (shows_of t)) [

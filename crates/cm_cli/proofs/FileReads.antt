@@ -5,8 +5,10 @@ use Rattle.std.proofs.Common.{arith, bytes_eq, inl, inr, refl, subst, sym, ap}
 use Rattle.std.proofs.lemmas.Bool.{cases_Bool}
 use Rattle.std.proofs.lemmas.Slice.Eq.{bytes_eq-Decides}
 use Rattle.cm_base.specs.declared.limited.Limited.{Limited}
-use Rattle.cm_cli.specs.Files.{AnyRose, ApartFor, FilesFaults, IsFileOf, ReadsFor, TakesFor, for_files, one_past, under}
-use Rattle.cm_io.proofs.ReadCounts.{each_then}
+use Rattle.cm_cli.specs.Files.{AnyRose, ApartFor, FilesFaults, IsFileOf, ReadsFiles, ReadsFor, TakesFor}
+use Rattle.cm_cli.specs.Files.{for_files, one_past, under}
+use Rattle.cm_io.proofs.ReadCounts.{each_then, pieces_none}
+use Rattle.cm_io.specs.Account.{Account, ReadsFile}
 use Rattle.cm_io.specs.Shelf.{CountsApart, EachGives, FileFaults, ReadsByBytes, Rose, TakesAtMost}
 
 -- ---- some files and then others
@@ -205,26 +207,50 @@ faults_still files before never = record {
   others = λ none n. refl;
 }
 
-pub apart_still : (files : List (List ℕ × Limited)) (counted : List ℕ → Bool) (faults reads : List ℕ → ℕ)
-    → ApartFor files counted faults faults reads reads
-apart_still [] counted faults reads = tt
-apart_still (file ∷ files) counted faults reads = record { faults_stay = λ _ n other. refl; reads_stay = λ _. refl }
+pub apart_still : (file : List ℕ × Limited) (counted : List ℕ → Bool) (faults reads : List ℕ → ℕ)
+    → ApartFor (file ∷ []) counted faults faults reads reads
+apart_still file counted faults reads = record { faults_stay = λ _ n other. refl; reads_stay = λ _. refl }
 
--- a file that wasn't read
-pub fault_still : {failed : Type 0} (before : List ℕ → ℕ) (name : List ℕ) → (failed → ⊥)
-    → FileFaults before before name failed
-fault_still before name never = record {
-  later = λ n. omega arith;
-  fault = λ is. absurd (never is);
-  others = λ none n. refl;
+-- ---- accounts
+-- one file
+pub files_one : (a b : Account) (name : List ℕ) (l : Limited) (failed : Type 0) → ReadsFile a b name (one_past l) 1 failed
+    → ReadsFiles a b ((name, l) ∷ []) failed
+files_one a b name l failed file = record {
+  held = file.held;
+  faults = faults_one a.faults b.faults name l failed file.faults;
+  takes = takes_one a.taken b.taken name l file.takes;
+  reads = reads_one a.reads b.reads a.taken b.taken name l (one_past l) file.reads file.takes;
+  apart = file.apart;
+  pieces = file.pieces;
 }
 
-pub taken_still : (taken : List ℕ → ℕ) (name : List ℕ) (most : ℕ) → TakesAtMost taken taken name most
-taken_still taken name most = record { here = omega arith; others = λ n other. refl }
+-- what failed, told another way
+pub files_as : (files : List (List ℕ × Limited)) (a b : Account) (one other : Type 0) → (one → other) → (other → one)
+    → ReadsFiles a b files one → ReadsFiles a b files other
+files_as files a b one other to back reads = record {
+  held = reads.held;
+  faults = faults_as files a.faults b.faults one other to back reads.faults;
+  takes = reads.takes;
+  reads = reads.reads;
+  apart = reads.apart;
+  pieces = reads.pieces;
+}
 
-pub read_still : (reads taken : List ℕ → ℕ) (name : List ℕ) → ReadsByBytes reads reads taken taken name 1
-read_still reads taken name = record { later = omega arith; here = inl (omega arith); others = λ n other. refl }
+-- the file of a claim, by another name of its limit, and what failed told another way
+pub claim_file : (a b : Account) (name : List ℕ) (l k : Limited) (one other : Type 0) → l ≡ k
+    → ReadsFile a b name (one_past l) 1 one → (one → other) → (other → one) → ReadsFiles a b ((name, k) ∷ []) other
+claim_file a b name l k one other same file to back =
+    files_as ((name, k) ∷ []) a b one other to back
+    (files_one a b name k one (subst (λ (m : Limited). ReadsFile a b name (one_past m) 1 one) same file))
 
-pub counts_still : (counted : List ℕ → Bool) (faults reads : List ℕ → ℕ) (name : List ℕ)
-    → CountsApart counted faults faults reads reads name
-counts_still counted faults reads name = record { faults_stay = λ _ n other. refl; reads_stay = λ _. refl }
+-- none of one file, or of no file, was read
+pub none_of : (files : List (List ℕ × Limited)) (a : Account) (failed : Type 0) → (failed → ⊥)
+    → ApartFor files a.counted a.faults a.faults a.reads a.reads → ReadsFiles a a files failed
+none_of files a failed never apart = record {
+  held = refl;
+  faults = faults_still files a.faults never;
+  takes = takes_still files a.taken;
+  reads = reads_still files a.reads a.taken;
+  apart = apart;
+  pieces = pieces_none a.widest;
+}

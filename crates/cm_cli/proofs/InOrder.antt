@@ -13,7 +13,7 @@ use Rattle.cm_cli.specs.Answers.{CountsReads, FailsInOrder, at_world, at_log, at
 use Rattle.cm_cli.specs.Files.{BothApart}
 use Rattle.cm_cli.specs.LogReading.{LogFails, ThirdStaysUnread}
 use Rattle.cm_cli.specs.Query.{file_of, limit_of, query_view}
-use Rattle.cm_cli.specs.Reading.{AnyRose, FilesFaults, IsWorldRead, LogApart, LogRefused, LogWaits}
+use Rattle.cm_cli.specs.Reading.{AnyRose, ApartFor, FilesFaults, IsWorldRead, LogRefused, LogWaits}
 use Rattle.cm_cli.specs.Reading.{ReadsFor, ReadsInOrder, TakesFor, ThirdWaits}
 use Rattle.cm_cli.specs.Words.{asking, claiming}
 use Rattle.cm_cli.specs.declared.query.Claim.{Claim}
@@ -181,7 +181,7 @@ module _ (held : Option Files) (world log : List ℕ) (w : code.World)
       refused = log_refused;
     }
 
-    pub told_waits : (t : Task) → LogApart (file_of t) log counted faults' faults'' reads' reads''
+    pub told_waits : (t : Task) → ApartFor ((log, limit.Log) ∷ file_of t) counted faults' faults'' reads' reads''
         → IfSome held (λ files. ThirdStaysUnread t (world_of w) log (bytes_at files log) reads' reads'')
         → ReadsInOrder held counted (asking t world log) faults faults'' reads reads''
     told_waits task.Nothing apart waits = λ other. log_in_order apart other

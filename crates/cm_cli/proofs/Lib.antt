@@ -17,3 +17,4 @@ pub mod Claiming
 pub mod DrillText
 pub mod Drills
 pub mod Complete
+pub mod Carried

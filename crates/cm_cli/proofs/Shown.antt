@@ -22,7 +22,7 @@ use Rattle.cm_replay.specs.Shown.{shown_report, start_shown}
 use Rattle.cm_replay.specs.Told.{TellsTaken, lines_report}
 use Rattle.cm_replay.specs.declared.untold.Untold.{Untold}
 use Rattle.cm_replay.specs.declared.untold.Untold.TheVariants as untold
-use Rattle.cm_report.proofs.Waiting.{front_of_longer, more_waits, waits_as, written_nothing}
+use Rattle.cm_report.proofs.Waiting.{front_of_longer, front_on, more_waits, sent_on, waits_as, written_nothing}
 use Rattle.cm_report.specs.Sent.{IsFront, IsSent}
 use Rattle.model_cred.specs.Process.{State}
 use Rattle.model_cred.specs.World.{World}
@@ -68,10 +68,6 @@ front_of_start b w reading front =
     front_of_longer (text_of (start_shown b w)) (text_of (shown_report b (replay_of w reading)).lines)
     (text_of (shown b w reading).lines)
     (shown_text b w reading) front
-
--- no lines, after a text
-pub starts_silent : (a : Option (List ℕ)) (text : List ℕ) → IsSent a a text (text ++ [])
-starts_silent a text = record { front = []; parts = append-nil text; written = sym (written_nothing a) }
 
 -- ---- the whole report
 module _ (t : Task) (j : Judged) (w : World) (reading : Reading) (b : Bool) (is : shows t ≡ b) where
@@ -217,6 +213,16 @@ module _ (b : Bool) (w : World) (a c d : Option (List ℕ)) (waits : List ℕ)
         sends.sent ∙ ap (then_written c) (sends.unshown hidden ∙ none) ∙ written_nothing c
         ∙ none_written a c waits (text_of (start_shown b w)) started empty;
   }
+
+  -- what the replay sends, or a front of it, comes after them
+  pub sent_after : (reading : Reading) (waits' : List ℕ)
+      → IsSent c d waits' (waits ++ text_of (shown_report b (replay_of w reading)).lines)
+      → IsSent a d waits' (text_of (shown b w reading).lines)
+  sent_after reading waits' sent = rw (shown_text b w reading) (sent_on (more_waits started _) sent)
+
+  pub front_after : (reading : Reading) → IsFront c d (waits ++ text_of (shown_report b (replay_of w reading)).lines)
+      → IsFront a d (text_of (shown b w reading).lines)
+  front_after reading front = rw (shown_text b w reading) (front_on (more_waits started _) front)
 
   -- at a fault of the log's they are written
   pub fault_holds : (why : Untold) (waits' : List ℕ) → Sends b c d waits waits' (Err why) → why ≡ untold.ReadFault

@@ -3,7 +3,8 @@
 use Rattle.std.specs.Prelude.{◌≡◌, ◌≢◌, ◌⊎◌, ◌<◌, ◌≤◌, ◌+◌, ℕ, Bool, IsTrue, bytes_eq, if◌then◌else◌, List, [], ◌∷◌}
 use Rattle.cm_base.specs.Limited.{limit_number}
 use Rattle.cm_base.specs.declared.limited.Limited.{Limited}
-use Rattle.cm_io.specs.Shelf.{CountsApart, EachGives, Rose}
+use Rattle.cm_io.specs.Account.{Account}
+use Rattle.cm_io.specs.Shelf.{AsksForPieces, CountsApart, EachGives, Rose}
 
 -- ---- faults
 -- the count of one of these files rose
@@ -50,12 +51,6 @@ pub record ReadsFor (files : List (List ℕ × Limited)) (reads reads' taken tak
   pub others : (n : List ℕ) → ¬ IsFileOf files n → reads' n ≡ reads n
   pub each : (n : List ℕ) → EachGives (reads n) (reads' n) (taken n) (taken' n) (for_files files (λ l. 1) n)
 
--- The counts of faults and of reads, before and after at most one file was read, are apart: those of other names stay.
-abbrev pub ApartFor : List (List ℕ × Limited) → (counted : List ℕ → Bool) (faults faults' reads reads' : List ℕ → ℕ)
-    → Type 0
-ApartFor [] counted faults faults' reads reads' = Unit {0}
-ApartFor (file ∷ files) counted faults faults' reads reads' = CountsApart counted faults faults' reads reads' file.0
-
 -- The counts of a log, and of a file that is read after it, where no read of the log failed. Where the count of a name
 -- other than both rose, the log wasn't read, if the file is counted (the faults of one that isn't may be counted under
 -- any name). Where that of a name other than the file's rose, the file wasn't read, if it isn't the log.
@@ -65,10 +60,22 @@ pub record BothApart (counted : List ℕ → Bool) (faults faults' reads reads' 
       → reads' log ≡ reads log
   pub file_unread : file ≢ log → (n : List ℕ) → n ≢ file → faults n < faults' n → reads' file ≡ reads file
 
--- The counts of a log, and after it of at most one file more, are apart so.
-abbrev pub LogApart : List (List ℕ × Limited) → List ℕ → (counted : List ℕ → Bool)
-    (faults faults' reads reads' : List ℕ → ℕ)
+-- The counts of faults and of reads are apart, before and after at most one file was read, or a log and then a file: those
+-- of other names stay.
+abbrev pub ApartFor : List (List ℕ × Limited) → (counted : List ℕ → Bool) (faults faults' reads reads' : List ℕ → ℕ)
     → Type 0
-LogApart [] log counted faults faults' reads reads' = CountsApart counted faults faults' reads reads' log
-LogApart (file ∷ files) log counted faults faults' reads reads' =
-    BothApart counted faults faults' reads reads' log file.0
+ApartFor [] counted faults faults' reads reads' = Unit {0}
+ApartFor (file ∷ []) counted faults faults' reads reads' = CountsApart counted faults faults' reads reads' file.0
+ApartFor (log ∷ file ∷ files) counted faults faults' reads reads' =
+    BothApart counted faults faults' reads reads' log.0 file.0
+
+-- ---- accounts
+-- These files were read, in their order, and no other, and it failed so: what is held stays; of each file at most its limit
+-- and one byte were taken, each read gave a byte, but for one of each file, and no buffer was longer than a piece.
+pub record ReadsFiles (old new : Account) (files : List (List ℕ × Limited)) (failed : Type 0) : Type 0 where
+  pub held : new.held ≡ old.held
+  pub faults : FilesFaults old.faults new.faults files failed
+  pub takes : TakesFor files old.taken new.taken
+  pub reads : ReadsFor files old.reads new.reads old.taken new.taken
+  pub apart : ApartFor files old.counted old.faults new.faults old.reads new.reads
+  pub pieces : AsksForPieces old.widest new.widest

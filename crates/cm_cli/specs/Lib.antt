@@ -12,4 +12,5 @@ pub mod Reading
 pub mod BeforeFault
 pub mod Drilling
 pub mod Answers
+pub mod Carried
 pub mod Headline

@@ -9,8 +9,7 @@ use Rattle.cm_base.specs.declared.limited.Limited.TheVariants as limit
 use Rattle.cm_declared.specs.World.{world_of}
 use Rattle.cm_declared.specs.declared.world.World as code
 use Rattle.cm_cli.specs.Claims.{AfterReading, StandsIn}
-pub use Rattle.cm_cli.specs.Files.{AnyRose, ApartFor, FilesFaults, IsFileOf, LogApart, ReadsFor, TakesFor}
-pub use Rattle.cm_io.specs.Shelf.{FileFaults}
+pub use Rattle.cm_cli.specs.Files.{AnyRose, ApartFor, FilesFaults, IsFileOf, ReadsFiles, ReadsFor, TakesFor}
 use Rattle.cm_cli.specs.declared.reading.Unread.{Unread}
 use Rattle.cm_cli.specs.declared.reading.Unread.TheVariants as unread
 use Rattle.cm_cli.specs.declared.reading.Unready.{Unready}

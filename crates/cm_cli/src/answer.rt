@@ -5,9 +5,10 @@ ghost use Rattle.cm_base.specs.Outcome.{OrNoMemory};
 ghost use Rattle.cm_cli.specs.Claims.{ClaimStands, IsLogAnswer};
 ghost use Rattle.cm_cli.specs.LogReport.{IsPut};
 ghost use Rattle.cm_cli.specs.Query.{file_of, query_view, task_view};
-ghost use Rattle.cm_cli.specs.Reading.{ApartFor, FilesFaults, ReadsFor, TakesFor};
+ghost use Rattle.cm_cli.specs.Reading.{ReadsFiles};
 ghost use Rattle.cm_declared.specs.World.{world_of};
-ghost use Rattle.cm_io.specs.Shelf.{bytes_at, AsksForPieces};
+ghost use Rattle.cm_io.specs.Account.{account};
+ghost use Rattle.cm_io.specs.Shelf.{bytes_at};
 ghost use Rattle.model_report.specs.Answer.{answer, query_answer, verdict_report};
 ghost use Rattle.model_report.specs.Given.{StateGives};
 ghost use Rattle.model_report.specs.Judged.{Judged};
@@ -50,22 +51,12 @@ pub(crate) fn put_answer<H: Shelf>(
     ensures stands { result ≡ Err Untold.ReadFault → ClaimStands task.entry (world_of w.now) machine.state }
     ensures waits { (ClaimStands task.entry (world_of w.now) machine.state → ⊥) → (n : List ℕ)
         → H.reads shelf.new n ≡ H.reads shelf.old n }
-    ensures held { H.held shelf.new ≡ H.held shelf.old }
-    ensures faults { FilesFaults (H.faults shelf.old) (H.faults shelf.new) (file_of task.entry)
+    ensures files { ReadsFiles (account H.Shelf shelf.old) (account H.Shelf shelf.new) (file_of task.entry)
         (result ≡ Err Untold.ReadFault) }
-    ensures takes { TakesFor (file_of task.entry) (H.taken shelf.old) (H.taken shelf.new) }
-    ensures reads { ReadsFor (file_of task.entry) (H.reads shelf.old) (H.reads shelf.new) (H.taken shelf.old)
-        (H.taken shelf.new) }
-    ensures pieces { AsksForPieces (H.widest shelf.old) (H.widest shelf.new) }
-    ensures apart { ApartFor (file_of task.entry) (H.counted shelf.old) (H.faults shelf.old) (H.faults shelf.new)
-        (H.reads shelf.old) (H.reads shelf.new) }
 {
     match task {
         Task::Nothing => Ok(Status::Accepted),
-        Task::Judge(query) => {
-            let status = put_verdict(alloc, w, &machine, query, text)?;
-            Ok(status)
-        }
+        Task::Judge(query) => Ok(put_verdict(alloc, w, &machine, query, text)?),
         Task::Claims(claim) => put_claim(alloc, w, machine, claim, shelf, text),
     }
 }

@@ -6,9 +6,10 @@ ghost use Rattle.cm_cli.specs.Asking.{IsQuestion};
 ghost use Rattle.cm_cli.specs.Claims.{IsLogAnswer, IsTooMuch, StandsIn};
 ghost use Rattle.cm_cli.specs.LogReport.{IsPut};
 ghost use Rattle.cm_cli.specs.Query.{limit_of, query_view, task_by};
-ghost use Rattle.cm_cli.specs.Reading.{FilesFaults, ReadsFor, TakesFor};
+ghost use Rattle.cm_cli.specs.Reading.{ReadsFiles};
 ghost use Rattle.cm_declared.specs.World.{world_of};
-ghost use Rattle.cm_io.specs.Shelf.{bytes_at, AsksForPieces, CountsApart};
+ghost use Rattle.cm_io.specs.Account.{account};
+ghost use Rattle.cm_io.specs.Shelf.{bytes_at};
 ghost use Rattle.cm_state.specs.Right.{right_of};
 ghost use Rattle.model_report.specs.Answer.{query_answer, task_report};
 ghost use Rattle.model_report.specs.Given.{StateGives};
@@ -54,33 +55,17 @@ pub(crate) fn put_claim<H: Shelf>(
         → StandsIn (query_view claim.entry.query) (world_of w.now) machine.state }
     ensures waits { (StandsIn (query_view claim.entry.query) (world_of w.now) machine.state → ⊥) →
         (n : List ℕ) → H.reads shelf.new n ≡ H.reads shelf.old n }
-    ensures held { H.held shelf.new ≡ H.held shelf.old }
-    ensures faults { FilesFaults (H.faults shelf.old) (H.faults shelf.new)
-        ((claim.entry.file.now, limit_of claim.entry.kind) ∷ [])
-        (result ≡ Err Untold.ReadFault) }
-    ensures takes { TakesFor ((claim.entry.file.now, limit_of claim.entry.kind) ∷ []) (H.taken shelf.old)
-        (H.taken shelf.new) }
-    ensures reads { ReadsFor ((claim.entry.file.now, limit_of claim.entry.kind) ∷ []) (H.reads shelf.old)
-        (H.reads shelf.new)
-        (H.taken shelf.old) (H.taken shelf.new) }
-    ensures pieces { AsksForPieces (H.widest shelf.old) (H.widest shelf.new) }
-    ensures apart { CountsApart (H.counted shelf.old) (H.faults shelf.old) (H.faults shelf.new)
-        (H.reads shelf.old) (H.reads shelf.new) claim.entry.file.now }
+    ensures files { ReadsFiles (account H.Shelf shelf.old) (account H.Shelf shelf.new)
+        ((claim.entry.file.now, limit_of claim.entry.kind) ∷ []) (result ≡ Err Untold.ReadFault) }
 {
-    match read_question(alloc, w, &machine, claim.query) {
-        Ok(question) => {
-            let bytes = match read_file(alloc, shelf, claim.file, claim.kind.limit()) {
-                Ok(bytes) => bytes,
-                Err(why) => return put_unread(text, why),
-            };
-            let status = put_claimed(alloc, w, machine, question, claim.kind, &bytes, text)?;
-            Ok(status)
-        }
-        Err(Unasked::Refused(why)) => {
-            let status = put_refusal(text, why)?;
-            Ok(status)
-        }
-        Err(Unasked::NoMemory) => Err(Untold::NoMemory),
+    let question = match read_question(alloc, w, &machine, claim.query) {
+        Ok(question) => question,
+        Err(Unasked::Refused(why)) => return Ok(put_refusal(text, why)?),
+        Err(Unasked::NoMemory) => return Err(Untold::NoMemory),
+    };
+    match read_file(alloc, shelf, claim.file, claim.kind.limit()) {
+        Ok(bytes) => Ok(put_claimed(alloc, w, machine, question, claim.kind, &bytes, text)?),
+        Err(why) => put_unread(text, why),
     }
 }
 

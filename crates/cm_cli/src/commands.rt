@@ -3,10 +3,12 @@ ghost use Rattle.std.specs.Prelude.{◌≡◌, ◌≢◌, IfSome};
 ghost use Rattle.cm_cli.specs.Answers.{AnswersReport, CountsReads, NoneRose};
 ghost use Rattle.cm_cli.specs.Answers.{IsValid, ComesByCause, IsCompleted, IsDecided, AsksOfSettled};
 ghost use Rattle.cm_cli.specs.BeforeFault.{WritesBeforeFault, WritesLines};
+ghost use Rattle.cm_cli.specs.Carried.{CarriesOut};
 ghost use Rattle.cm_cli.specs.Headline.{Headline, SaysYes, SaysNo, SaysUndecided};
 ghost use Rattle.cm_cli.specs.Reading.{TakesFor, ReadsFor, ReadsInOrder};
+ghost use Rattle.cm_io.specs.Account.{account};
 ghost use Rattle.cm_io.specs.Shelf.{bytes_at, AsksForPieces};
-ghost use Rattle.cm_cli.specs.Words.{asking, bytes_of, command_in, command_view};
+ghost use Rattle.cm_cli.specs.Words.{asking, bytes_of, command_in};
 ghost use Rattle.cm_report.specs.Telling.{IsOfReport, CountsWrites};
 ghost use Rattle.model_report.specs.Command.{files_of};
 
@@ -103,7 +105,11 @@ pub fn run<H: Shelf, K: Sink>(
         (K.faults out.old) (K.faults out.new) →
         AsksOfSettled (bytes_of words.now.items) files → IsDecided result) }
 {
-    carry_out(alloc, read_words(words), shelf, out)
+    match read_words(words) {
+        Command::NoForm => tell_short(alloc, Short::Usage, out),
+        Command::Drill(n) => tell_drill(alloc, n, out),
+        Command::Log { world, log, task } => run_log(alloc, world, log, task, shelf, out),
+    }
 }
 
 /// `run` over a shelf and a sink that never fail: no fault is answered. Where nothing in the input is refused, a replay
@@ -153,38 +159,6 @@ pub fn run_surely(
     run(alloc, words, shelf, out)
 }
 
-// `run`, of a command.
-fn carry_out<H: Shelf, K: Sink>(
-    alloc: Global,
-    command: Command<'_>,
-    shelf: &mut H,
-    out: &mut K,
-) -> Status
-    ensures report { AnswersReport (H.held shelf.old) (command_view command.entry) result
-        (K.written out.old) (K.written out.new) }
-    ensures read_faults { CountsReads (H.held shelf.old) (command_view command.entry) result
-        (H.faults shelf.old) (H.faults shelf.new) }
-    ensures write_faults { CountsWrites result (K.faults out.old) (K.faults out.new) }
-    ensures before_fault { WritesBeforeFault (H.held shelf.old) (H.counted shelf.old) (command_view command.entry)
-        result (H.faults shelf.old) (H.faults shelf.new) (K.written out.old) (K.written out.new) }
-    ensures lines_told { WritesLines (H.held shelf.old) (H.counted shelf.old) (command_view command.entry)
-        result (H.faults shelf.old) (H.faults shelf.new) (H.taken shelf.old) (H.taken shelf.new)
-        (K.written out.old) (K.written out.new) }
-    ensures takes { TakesFor (files_of (command_view command.entry)) (H.taken shelf.old) (H.taken shelf.new) }
-    ensures pieces { AsksForPieces (H.widest shelf.old) (H.widest shelf.new) }
-    ensures reads { ReadsFor (files_of (command_view command.entry)) (H.reads shelf.old) (H.reads shelf.new)
-        (H.taken shelf.old) (H.taken shelf.new) }
-    ensures waits { ReadsInOrder (H.held shelf.old) (H.counted shelf.old) (command_view command.entry)
-        (H.faults shelf.old) (H.faults shelf.new) (H.reads shelf.old) (H.reads shelf.new) }
-    ensures held { H.held shelf.new ≡ H.held shelf.old }
-{
-    match command {
-        Command::NoForm => tell_short(alloc, Short::Usage, out),
-        Command::Drill(n) => tell_drill(alloc, n, out),
-        Command::Log { world, log, task } => run_log(alloc, world, log, task, shelf, out),
-    }
-}
-
 // The replay of a log in a world, and the answer to what is asked after it.
 fn run_log<H: Shelf, K: Sink>(
     alloc: Global,
@@ -194,24 +168,9 @@ fn run_log<H: Shelf, K: Sink>(
     shelf: &mut H,
     out: &mut K,
 ) -> Status
-    ensures report { AnswersReport (H.held shelf.old) (asking task.entry world.now log.now) result
-        (K.written out.old) (K.written out.new) }
-    ensures read_faults { CountsReads (H.held shelf.old) (asking task.entry world.now log.now) result
-        (H.faults shelf.old) (H.faults shelf.new) }
-    ensures write_faults { CountsWrites result (K.faults out.old) (K.faults out.new) }
-    ensures before_fault { WritesBeforeFault (H.held shelf.old) (H.counted shelf.old)
-        (asking task.entry world.now log.now) result (H.faults shelf.old) (H.faults shelf.new)
-        (K.written out.old) (K.written out.new) }
-    ensures lines_told { WritesLines (H.held shelf.old) (H.counted shelf.old) (asking task.entry world.now log.now)
-        result (H.faults shelf.old) (H.faults shelf.new) (H.taken shelf.old) (H.taken shelf.new)
-        (K.written out.old) (K.written out.new) }
-    ensures takes { TakesFor (files_of (asking task.entry world.now log.now)) (H.taken shelf.old) (H.taken shelf.new) }
-    ensures pieces { AsksForPieces (H.widest shelf.old) (H.widest shelf.new) }
-    ensures reads { ReadsFor (files_of (asking task.entry world.now log.now)) (H.reads shelf.old) (H.reads shelf.new)
-        (H.taken shelf.old) (H.taken shelf.new) }
-    ensures waits { ReadsInOrder (H.held shelf.old) (H.counted shelf.old) (asking task.entry world.now log.now)
-        (H.faults shelf.old) (H.faults shelf.new) (H.reads shelf.old) (H.reads shelf.new) }
-    ensures held { H.held shelf.new ≡ H.held shelf.old }
+    ensures { CarriesOut (asking task.entry world.now log.now) result
+        (account H.Shelf shelf.old) (account H.Shelf shelf.new)
+        (K.written out.old) (K.written out.new) (K.faults out.old) (K.faults out.new) }
 {
     match read_world_file(alloc, shelf, world) {
         Ok(w) => tell_log(alloc, &w, log, task, shelf, out),

@@ -1,7 +1,8 @@
 // Reading files whole: the world, and what is put forward.
-ghost use Rattle.std.specs.Prelude.{◌≡◌, ◌≢◌, ◌≤◌, ◌<◌, ◌+◌, ◌^◌, ℕ, List, length, Err, IfSome, IfOk};
-ghost use Rattle.cm_cli.specs.Reading.{FileFaults, IsFileRead, IsWorldRead, unread_by, unready_by};
-ghost use Rattle.cm_io.specs.Shelf.{bytes_at, AsksForPieces, TakesAtMost, ReadsByBytes, CountsApart};
+ghost use Rattle.std.specs.Prelude.{◌≡◌, ◌≢◌, ◌≤◌, ◌<◌, ◌+◌, ◌^◌, length, Err, IfSome, IfOk};
+ghost use Rattle.cm_cli.specs.Reading.{IsFileRead, IsWorldRead, unread_by, unready_by};
+ghost use Rattle.cm_io.specs.Account.{account, ReadsFile};
+ghost use Rattle.cm_io.specs.Shelf.{bytes_at};
 ghost use Rattle.cm_base.specs.Limited.{limit_number};
 ghost use Rattle.cm_declared.specs.World.{world_of};
 ghost use Rattle.model_cred.specs.World.{KeepsWorld};
@@ -40,15 +41,8 @@ pub(crate) fn read_world_file<H: Shelf>(
     ensures keeps { IfOk result (λ w. KeepsWorld (world_of w)) }
     ensures within { IfOk result (λ w. IsWithin w.start) }
     ensures not_usage { result ≢ Err (Unready.Refused Short.Usage) }
-    ensures held { H.held shelf.new ≡ H.held shelf.old }
-    ensures counted { (n : List ℕ) → H.counted shelf.new n ≡ H.counted shelf.old n }
-    ensures faults { FileFaults (H.faults shelf.old) (H.faults shelf.new) name.now (result ≡ Err Unready.ReadFault) }
-    ensures takes { TakesAtMost (H.taken shelf.old) (H.taken shelf.new) name.now (limit_number Limited.World + 1) }
-    ensures reads { ReadsByBytes (H.reads shelf.old) (H.reads shelf.new) (H.taken shelf.old)
-        (H.taken shelf.new) name.now 1 }
-    ensures pieces { AsksForPieces (H.widest shelf.old) (H.widest shelf.new) }
-    ensures apart { CountsApart (H.counted shelf.old) (H.faults shelf.old) (H.faults shelf.new)
-        (H.reads shelf.old) (H.reads shelf.new) name.now }
+    ensures file { ReadsFile (account H.Shelf shelf.old) (account H.Shelf shelf.new) name.now
+        (limit_number Limited.World + 1) 1 (result ≡ Err Unready.ReadFault) }
 {
     match read_file(alloc, shelf, name, Limited::World) {
         Ok(text) => read_world_text(alloc, &text),
@@ -85,15 +79,8 @@ pub(crate) fn read_file<H: Shelf>(
     requires { limit_number limit < 2 ^ 31 }
     ensures read { IfSome (H.held shelf.old) (λ files. IsFileRead limit result (bytes_at files name.now)) }
     ensures size { IfOk result (λ text. length text.items ≤ limit_number limit) }
-    ensures held { H.held shelf.new ≡ H.held shelf.old }
-    ensures counted { (n : List ℕ) → H.counted shelf.new n ≡ H.counted shelf.old n }
-    ensures faults { FileFaults (H.faults shelf.old) (H.faults shelf.new) name.now (result ≡ Err Unread.ReadFault) }
-    ensures takes { TakesAtMost (H.taken shelf.old) (H.taken shelf.new) name.now (limit_number limit + 1) }
-    ensures reads { ReadsByBytes (H.reads shelf.old) (H.reads shelf.new) (H.taken shelf.old)
-        (H.taken shelf.new) name.now 1 }
-    ensures pieces { AsksForPieces (H.widest shelf.old) (H.widest shelf.new) }
-    ensures apart { CountsApart (H.counted shelf.old) (H.faults shelf.old) (H.faults shelf.new)
-        (H.reads shelf.old) (H.reads shelf.new) name.now }
+    ensures file { ReadsFile (account H.Shelf shelf.old) (account H.Shelf shelf.new) name.now
+        (limit_number limit + 1) 1 (result ≡ Err Unread.ReadFault) }
 {
     let most = limit.number() as usize;
     let mut text = Vec::new(alloc);

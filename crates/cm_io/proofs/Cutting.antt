@@ -1,6 +1,6 @@
 -- What a cutter finds at the front of what it keeps is what comes next in the file.
-use Rattle.std.proofs.Common.{◌≡◌, ℕ, ◌+◌, ◌-◌, ◌<◌, ◌≤◌, ◌==◌, ◌||◌, nat_lt, length, List, [], ◌∷◌, take, drop, refl, ◌∙◌, sym, ap, ap₂, subst, arith, length-take, length-drop}
-use Rattle.std.proofs.Common.{Bool, true, false, IsTrue, inl, inr, Option, None, Some, IfSome, Result, Ok, Err}
+use Rattle.std.proofs.Common.{◌≡◌, ℕ, ◌+◌, ◌-◌, ◌<◌, ◌≤◌, ◌==◌, length, List, [], ◌∷◌, take, drop, refl, ◌∙◌, sym, ap, ap₂, subst, arith, length-take, length-drop}
+use Rattle.std.proofs.Common.{Bool, false, IsTrue, inl, inr, Option, None, Some, IfSome, Ok, Err}
 use Rattle.std.proofs.lemmas.Bool.{cases_Bool, cases_lt}
 use Rattle.std.proofs.lemmas.List.{take-take, take_all}
 use Rattle.cm_lines.specs.Lines.{line_len, line_size}
@@ -9,9 +9,9 @@ use Rattle.cm_lines.specs.declared.limits.Past.{Past}
 use Rattle.cm_lines.specs.declared.limits.Past.TheVariants.{Line, Whole}
 use Rattle.cm_lines.proofs.Lengths.{len_within, len_front, len_past}
 use Rattle.cm_lines.proofs.PastLimits.{past_more, some_past}
-use Rattle.cm_io.specs.Cutter.{BreaksWithin, Cutting, FitsText, Fits, SameFile, unless_past, next_cut, next_of, error_of, is_at_hand}
+use Rattle.cm_io.specs.Cutter.{Cutting, FitsText, Fits, SameFile, unless_past, next_cut, next_of, error_of, is_at_hand}
 use Rattle.cm_io.specs.Cutter.{past_kept, read_to}
-use Rattle.cm_io.specs.CutterSteps.{FindsLine, Finds, KeepsMore, IsFound, Stays, Tells, found_of}
+use Rattle.cm_io.specs.CutterSteps.{KeepsMore, IsFound, found_of}
 use Rattle.cm_io.specs.Shelf.{Files, bytes_at, TakesAtMost}
 use Rattle.cm_io.specs.declared.cutter.CutError.{CutError}
 use Rattle.cm_io.specs.declared.cutter.CutError.TheVariants.{Read, TooLong, TooMuch, NoMemory}
@@ -280,7 +280,7 @@ shown_first (Some past) = refl
 -- where a read failed, no LF was among the bytes that were taken
 pub breaks_within : (held : Option Files) (old cur : Cutting) (more : ℕ) (a b c : List ℕ → ℕ) → KeepsMore old cur more → Fits held cur
     → is_at_hand cur ≡ false → TakesAtMost a b old.name (length cur.kept - length old.kept) → TakesAtMost b c old.name 0
-    → IfSome held (λ files. BreaksWithin old (bytes_at files old.name) a c)
+    → IfSome held (λ files. c old.name + length old.kept ≤ a old.name + line_len (drop old.place (bytes_at files old.name)))
 breaks_within None old cur more a b c keeps fits none first then = tt
 breaks_within (Some files) old cur more a b c keeps fits none first then =
     let text = bytes_at files cur.name in
@@ -289,10 +289,3 @@ breaks_within (Some files) old cur more a b c keeps fits none first then =
     subst (λ (n : List ℕ). length cur.kept ≤ line_len (drop old.place (bytes_at files n))) keeps.same.name
     (subst (λ (p : ℕ). length cur.kept ≤ line_len (drop p text)) keeps.place open_) in
     omega (arith, here, first.here, then.here, keeps.len)
-
--- ---- bytes that are taken
-pub takes_on : (a b c : List ℕ → ℕ) (name : List ℕ) (m n k : ℕ) → TakesAtMost a b name m → TakesAtMost b c name n → m + n ≤ k → TakesAtMost a c name k
-takes_on a b c name m n k first then few = record {
-  here = omega (arith, first.here, then.here, few);
-  others = λ other isnt. then.others other isnt ∙ first.others other isnt;
-}

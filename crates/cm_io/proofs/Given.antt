@@ -7,7 +7,8 @@ use Rattle.cm_lines.specs.declared.limits.Past.{Past}
 use Rattle.cm_lines.specs.declared.limits.Past.TheVariants.{Line, Whole}
 use Rattle.cm_io.specs.Cutter.{Cutting, Fits, Gives, IsAfter, IsCut, Moves, SameFile, next_of, read_to, ends}
 use Rattle.cm_io.specs.CutterSteps.{KeepsMore, FindsLine, IsFound, Stays, Tells}
-use Rattle.cm_io.specs.Shelf.{Files, bytes_at, TakesAtMost, ReadsByBytes}
+use Rattle.cm_io.specs.Account.{Account, ReadsFile}
+use Rattle.cm_io.specs.Shelf.{Files, bytes_at}
 use Rattle.cm_io.specs.declared.cutter.CutError.{CutError}
 use Rattle.cm_io.specs.declared.cutter.CutError.TheVariants.{Read, TooLong, TooMuch, NoMemory}
 use Rattle.cm_io.specs.declared.cutter.Found.{Found}
@@ -30,25 +31,24 @@ fits_after (Some files) name line whole place ended xs a b n within room fits =
     ∙ ap₂ (λ (k : ℕ) (l : List ℕ). take k l) (sym less) (drop-drop n place text)
 
 -- A line of so many bytes was given, and its size is passed.
-pub given_after : (held : Option Files) (reads reads' taken taken' : List ℕ → ℕ) (old mid : Cutting) (name : List ℕ)
+pub given_after : {F : Type 0} → (account account' : Account) (old mid : Cutting) (name : List ℕ)
     (line whole place : ℕ) (ended : Bool) (xs : List ℕ) (a b more : ℕ) (f : Found) (l : Bor (List ℕ)) → cutting name line whole place ended xs a b ≡ mid → b ≤ length xs
     → length l.now ≤ f.len
-    → KeepsMore old mid more → FindsLine old mid f → Fits held mid → Tells mid (Some f)
-    → (IsTrue mid.ended → IfSome held (λ files. length (bytes_at files old.name) ≤ read_to mid))
-    → IfSome held (λ files. f.size ≡ line_size (drop old.place (bytes_at files old.name)))
-    → IfSome held (λ files. next_of old (bytes_at files old.name) ≡ Ok (Some l.now))
-    → TakesAtMost taken taken' old.name (length mid.kept - length old.kept)
-    → ReadsByBytes reads reads' taken taken' old.name (ends mid)
-    → IsAfter held reads reads' taken taken' old (cutting name line whole (place + f.size) ended xs (a + f.size) b) (Ok (Some l))
-given_after held reads reads' taken taken' old mid name line whole place ended xs a b more f l is room few =
+    → KeepsMore old mid more → FindsLine old mid f → Fits account.held mid → Tells mid (Some f)
+    → (IsTrue mid.ended → IfSome account.held (λ files. length (bytes_at files old.name) ≤ read_to mid))
+    → IfSome account.held (λ files. f.size ≡ line_size (drop old.place (bytes_at files old.name)))
+    → IfSome account.held (λ files. next_of old (bytes_at files old.name) ≡ Ok (Some l.now))
+    → ReadsFile account account' old.name (length mid.kept - length old.kept) (ends mid) F
+    → IsAfter account account' old (cutting name line whole (place + f.size) ended xs (a + f.size) b) (Ok (Some l))
+given_after {F} account account' old mid name line whole place ended xs a b more f l is room few =
+    let held = account.held in
     subst (λ (m : Cutting). KeepsMore old m more → FindsLine old m f → Fits held m → Tells m (Some f)
     → (IsTrue m.ended → IfSome held (λ files. length (bytes_at files old.name) ≤ read_to m))
     → IfSome held (λ files. f.size ≡ line_size (drop old.place (bytes_at files old.name)))
     → IfSome held (λ files. next_of old (bytes_at files old.name) ≡ Ok (Some l.now))
-    → TakesAtMost taken taken' old.name (length m.kept - length old.kept)
-    → ReadsByBytes reads reads' taken taken' old.name (ends m)
-    → IsAfter held reads reads' taken taken' old (cutting name line whole (place + f.size) ended xs (a + f.size) b) (Ok (Some l))) is
-    (λ keeps finds fits tells end size next takes made.
+    → ReadsFile account account' old.name (length m.kept - length old.kept) (ends m) F
+    → IsAfter account account' old (cutting name line whole (place + f.size) ended xs (a + f.size) b) (Ok (Some l))) is
+    (λ keeps finds fits tells end size next file.
     let before : length (part xs a b) ≡ b - a = part_len xs a b room in
     let now : length (part xs (a + f.size) b) ≡ b - (a + f.size) = part_len xs (a + f.size) b room in
     record {
@@ -65,8 +65,8 @@ given_after held reads reads' taken taken' old mid name line whole place ended x
           (λ files. next_of old (bytes_at files old.name) ≡ Ok (Some l.now)) _
           (λ files s n. gives_line old (cutting name line whole (place + f.size) ended xs (a + f.size) b) (bytes_at files old.name) l.now
           keeps.same.line keeps.same.whole (omega (arith, keeps.place, s)) n) size next;
-      takes = omega (arith, takes.here, keeps.len, keeps.place, finds.kept, before, now);
-      reads = made;
+      takes = omega (arith, file.takes.here, keeps.len, keeps.place, finds.kept, before, now);
+      reads = file.reads;
       last = λ is_end. no_bytes (part xs (a + f.size) b) (let all = tells.0 is_end in omega (arith, now, before, all));
       whole = λ is_end. moved held (λ files. length (bytes_at files old.name) ≤ place + length (part xs a b)) _
           (λ files all. omega (arith, all, before, now, finds.kept)) (end is_end);
@@ -107,13 +107,13 @@ size_found None P Q holds = tt
 size_found (Some files) P Q holds = holds.1
 
 -- It gave an error.
-after_error : (held : Option Files) (reads reads' taken taken' : List ℕ → ℕ) (old new : Cutting) (e : CutError) → Stays old new (Err e) → Fits held new
-    → IfSome held (λ files. IsFound old new (bytes_at files old.name) (Err e)) → IsAfter held reads reads' taken taken' old new (Err e)
-after_error held reads reads' taken taken' old new e stays fits found = record {
+after_error : (a a' : Account) (old new : Cutting) (e : CutError) → Stays old new (Err e) → Fits a.held new
+    → IfSome a.held (λ files. IsFound old new (bytes_at files old.name) (Err e)) → IsAfter a a' old new (Err e)
+after_error a a' old new e stays fits found = record {
   same = same_file e stays;
   fits = fits;
   moves = moves e stays;
-  gives = gives held e found;
+  gives = gives a.held e found;
   takes = tt;
   reads = tt;
   last = tt;
@@ -126,7 +126,7 @@ after_error held reads reads' taken taken' old new e stays fits found = record {
     same_file TooLong is = is.0
     same_file TooMuch is = is.0
 
-    moves : (e' : CutError) → Stays old new (Err e') → Moves held old new (Err e')
+    moves : (e' : CutError) → Stays old new (Err e') → Moves a.held old new (Err e')
     moves Read is = is
     moves NoMemory is = is
     moves TooLong is = is.1
@@ -140,11 +140,10 @@ after_error held reads reads' taken taken' old new e stays fits found = record {
     gives (Some files) TooLong is = gives_limit old (bytes_at files old.name) Line is
     gives (Some files) TooMuch is = gives_limit old (bytes_at files old.name) Whole is
 
-pub error_after : (held : Option Files) (reads reads' taken taken' : List ℕ → ℕ) (old mid new : Cutting) (e : CutError) → new ≡ mid → Stays old mid (Err e)
-    → Fits held mid → IfSome held (λ files. IsFound old mid (bytes_at files old.name) (Err e)) → IsAfter held reads reads' taken taken' old new (Err e)
-error_after held reads reads' taken taken' old mid new e is stays fits found =
-    subst (λ (c : Cutting). IsAfter held reads reads' taken taken' old c (Err e)) (sym is)
-    (after_error held reads reads' taken taken' old mid e stays fits found)
+pub error_after : (a a' : Account) (old mid new : Cutting) (e : CutError) → new ≡ mid → Stays old mid (Err e)
+    → Fits a.held mid → IfSome a.held (λ files. IsFound old mid (bytes_at files old.name) (Err e)) → IsAfter a a' old new (Err e)
+error_after a a' old mid new e is stays fits found =
+    subst (λ (c : Cutting). IsAfter a a' old c (Err e)) (sym is) (after_error a a' old mid e stays fits found)
 
 pub error_is : (held : Option Files) (old mid : Cutting) (e : CutError) (r : Result (Option (Bor (List ℕ))) CutError) → r ≡ Err e
     → IfSome held (λ files. IsFound old mid (bytes_at files old.name) (Err e)) → IfSome held (λ files. IsCut old (bytes_at files old.name) r)

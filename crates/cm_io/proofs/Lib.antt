@@ -4,6 +4,7 @@ pub mod Front
 pub mod Broken
 pub mod Places
 pub mod ReadCounts
+pub mod FileReads
 pub mod Written
 pub mod Kept
 pub mod Cutting

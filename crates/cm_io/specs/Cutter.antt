@@ -1,11 +1,12 @@
 -- What a cutter of lines keeps of a file, and what it gives next.
-use Rattle.std.specs.Prelude.{◌≡◌, ◌≢◌, ◌≤◌, ◌<◌, ◌+◌, ◌-◌, ℕ, Bool, false, nat_lt, if◌then◌else◌, IsTrue}
+use Rattle.std.specs.Prelude.{◌≡◌, ◌≤◌, ◌<◌, ◌+◌, ◌-◌, ℕ, Bool, false, nat_lt, if◌then◌else◌, IsTrue}
 use Rattle.std.specs.Prelude.{List, [], ◌∷◌, length, take, drop, Option, None, Some, IfSome, Result, Ok, Err, OnOk}
 use Rattle.cm_lines.specs.Lines.{line_len, line_size}
 use Rattle.cm_lines.specs.Cut.{Cut, before, cut_from, ends_by, past_of}
 use Rattle.cm_lines.specs.declared.limits.Past.{Past}
 use Rattle.cm_lines.specs.declared.limits.Past.TheVariants.{Line, Whole}
-use Rattle.cm_io.specs.Shelf.{Files, ReadsByBytes, Rose, bytes_at}
+use Rattle.cm_io.specs.Account.{Account}
+use Rattle.cm_io.specs.Shelf.{Files, ReadsByBytes, bytes_at}
 use Rattle.cm_io.specs.declared.cutter.CutError.{CutError}
 use Rattle.cm_io.specs.declared.cutter.CutError.TheVariants.{Read, TooLong, TooMuch, NoMemory}
 use denote.Ref.{Bor}
@@ -133,24 +134,18 @@ Gives old new text (Err NoMemory) = Unit {0}
 -- The cutter after its answer: it fits the shelf, and no byte was taken that it doesn't keep or has given, but for
 -- those of an error. Each of its reads gave a byte, but for the one that told that no more come, and one that failed.
 -- Where it has ended, it keeps no byte, and the file has none from its place on.
-pub record IsAfter (held : Option Files) (made made' taken taken' : List ℕ → ℕ) (old new : Cutting)
-    (r : Result (Option (Bor (List ℕ))) CutError) : Type 0 where
+pub record IsAfter (a a' : Account) (old new : Cutting) (r : Result (Option (Bor (List ℕ))) CutError) : Type 0 where
   pub same : SameFile old new
-  pub fits : Fits held new
-  pub moves : Moves held old new r
-  pub gives : IfSome held (λ files. Gives old new (bytes_at files old.name) r)
-  pub takes : OnOk r (taken' old.name + read_to old ≤ taken old.name + read_to new)
-  pub reads : OnOk r (ReadsByBytes made made' taken taken' old.name (ends new))
+  pub fits : Fits a.held new
+  pub moves : Moves a.held old new r
+  pub gives : IfSome a.held (λ files. Gives old new (bytes_at files old.name) r)
+  pub takes : OnOk r (a'.taken old.name + read_to old ≤ a.taken old.name + read_to new)
+  pub reads : OnOk r (ReadsByBytes a.reads a'.reads a.taken a'.taken old.name (ends new))
   pub last : OnOk r (IsTrue new.ended → new.kept ≡ [])
-  pub whole : OnOk r (IsTrue new.ended → IfSome held (λ files. length (bytes_at files old.name) ≤ read_to new))
+  pub whole : OnOk r (IsTrue new.ended → IfSome a.held (λ files. length (bytes_at files old.name) ≤ read_to new))
 
--- The bytes that were taken before a read failed are of the line at its place: no LF is among them.
-abbrev pub BreaksWithin : Cutting → List ℕ → (taken taken' : List ℕ → ℕ) → Type 0
-BreaksWithin old text taken taken' =
-    taken' old.name + length old.kept ≤ taken old.name + line_len (drop old.place text)
-
--- the counts of faults before and after an answer: only `Read` raises one, and it raises that of the file's name
-pub record CutFaults {T : Type 0} (before now : List ℕ → ℕ) (name : List ℕ) (r : Result T CutError) : Type 0 where
-  pub later : (n : List ℕ) → before n ≤ now n
-  pub read : r ≡ Err Read → Rose (before name) (now name)
-  pub others : r ≢ Err Read → (n : List ℕ) → now n ≡ before n
+-- The bytes that were taken before a read failed are of the line at its place, where the shelf tells what it holds: no
+-- LF is among them.
+abbrev pub BreaksWithin : Cutting → (a a' : Account) → Type 0
+BreaksWithin old a a' = IfSome a.held (λ files.
+    a'.taken old.name + length old.kept ≤ a.taken old.name + line_len (drop old.place (bytes_at files old.name)))

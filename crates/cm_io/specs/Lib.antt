@@ -1,4 +1,5 @@
 pub mod Shelf
+pub mod Account
 pub mod Sink
 pub mod Whole
 pub mod Names

@@ -1,6 +1,7 @@
 // Buffers that files are read into, piece by piece.
-ghost use Rattle.std.specs.Prelude.{◌≡◌, ◌≤◌, ◌<◌, ◌+◌, ◌-◌, ℕ, List, length, take, drop, vec_len, IfOk, IfSome, OnOk};
-ghost use Rattle.cm_io.specs.Shelf.{bytes_at, bytes_given, AsksForPieces, ReadFaults, TakesAtMost, ReadsByBytes, CountsApart};
+ghost use Rattle.std.specs.Prelude.{◌≡◌, ◌≤◌, ◌<◌, ◌+◌, ◌-◌, length, take, drop, vec_len, Err, IfOk, IfSome, OnOk};
+ghost use Rattle.cm_io.specs.Account.{account, ReadsFile};
+ghost use Rattle.cm_io.specs.Shelf.{bytes_at, bytes_given};
 
 use crate::{Outside, Shelf};
 use std::alloc::{AllocError, Global};
@@ -51,15 +52,8 @@ pub(crate) fn read_behind<H: Shelf>(
     ensures end { IfSome (H.held shelf.old) (λ files. IfOk result (λ n.
         n ≡ 0 → length (bytes_at files name.now) ≤ at)) }
     ensures told { IfOk result (λ n. n ≡ 0 → H.told_end shelf.new name.now at) }
-    ensures pieces { AsksForPieces (H.widest shelf.old) (H.widest shelf.new) }
-    ensures held { H.held shelf.new ≡ H.held shelf.old }
-    ensures cause { ReadFaults (H.faults shelf.old) (H.faults shelf.new) name.now result }
-    ensures takes { TakesAtMost (H.taken shelf.old) (H.taken shelf.new) name.now (bytes_given result) }
-    ensures reads { ReadsByBytes (H.reads shelf.old) (H.reads shelf.new) (H.taken shelf.old) (H.taken shelf.new)
-        name.now (1 - bytes_given result) }
-    ensures counted { (n : List ℕ) → H.counted shelf.new n ≡ H.counted shelf.old n }
-    ensures apart { CountsApart (H.counted shelf.old) (H.faults shelf.old) (H.faults shelf.new)
-        (H.reads shelf.old) (H.reads shelf.new) name.now }
+    ensures file { ReadsFile (account H.Shelf shelf.old) (account H.Shelf shelf.new) name.now
+        (bytes_given result) (1 - bytes_given result) (result ≡ Err Outside.Failed) }
 {
     make_room(buffer, end)?;
     let room = PIECE.min(buffer.len() - end);

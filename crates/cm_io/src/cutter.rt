@@ -1,15 +1,15 @@
 // The lines of a file that is read in pieces. What is read and not given stands in one buffer, and a line is lent from
 // it. The cutter keeps where it stands in the file and how it stopped; what the lines say is for others.
-ghost use Rattle.std.specs.Prelude.{◌≡◌, ◌≤◌, ◌<◌, ◌+◌, ◌-◌, ◌^◌, ℕ, List, length, take, drop, vec_len, string_bytes};
-ghost use Rattle.std.specs.Prelude.{Option, Some, None, Bool, false, IfOk, IfSome, OnOk, OnErr, IsTrue, Ok, Err};
+ghost use Rattle.std.specs.Prelude.{◌≡◌, ◌≤◌, ◌<◌, ◌+◌, ◌-◌, ◌^◌, length, take, drop, vec_len, string_bytes};
+ghost use Rattle.std.specs.Prelude.{Option, Some, None, false, IfOk, IfSome, OnOk, OnErr, IsTrue, Ok, Err};
 ghost use Rattle.std.specs.Borrow.{sem};
 ghost use Rattle.std.specs.Io.BufRead.{Rests};
 ghost use Rattle.cm_lines.specs.Lines.{line_len};
 ghost use Rattle.cm_lines.specs.Cut.{past_of};
-ghost use Rattle.cm_io.specs.Shelf.{Files, bytes_at, bytes_given, ReadFaults, TakesAtMost, ReadsByBytes, CountsApart};
-ghost use Rattle.cm_io.specs.Shelf.{AsksForPieces};
+ghost use Rattle.cm_io.specs.Account.{account, ReadsFile};
+ghost use Rattle.cm_io.specs.Shelf.{Files, bytes_at, bytes_given};
 ghost use Rattle.cm_io.specs.Cutter.{Cutting, begun, read_to, is_at_hand, ends, error_of, past_kept, Fits, IsCut, IsAfter};
-ghost use Rattle.cm_io.specs.Cutter.{CutFaults, BreaksWithin};
+ghost use Rattle.cm_io.specs.Cutter.{BreaksWithin};
 ghost use Rattle.cm_io.specs.CutterSteps.{KeepsMore, Finds, IsFound, Stays, Tells, cut_error, found_of};
 
 use crate::buffer::{PIECE, read_behind, zeros};
@@ -119,37 +119,26 @@ impl LineCutter {
 
         // The cutter after the answer, when the line is given back.
         ensures* after { sem 𝓛 (Rests the_row self.entry (λ new.
-            IsAfter (H.held shelf.old) (H.reads shelf.old) (H.reads shelf.new) (H.taken shelf.old) (H.taken shelf.new)
-            self.old new result)) }
+            IsAfter (account H.Shelf shelf.old) (account H.Shelf shelf.new) self.old new result)) }
 
         // Where the answer is at hand, the shelf isn't asked.
         ensures unread { IsTrue (is_at_hand self.old) → shelf.new ≡ shelf.old }
-
-        ensures held { H.held shelf.new ≡ H.held shelf.old }
-        ensures cause { CutFaults (H.faults shelf.old) (H.faults shelf.new) self.old.name result }
-        ensures takes { TakesAtMost (H.taken shelf.old) (H.taken shelf.new) self.old.name
-            (self.old.whole + 1 - read_to self.old) }
-        ensures reads { ReadsByBytes (H.reads shelf.old) (H.reads shelf.new) (H.taken shelf.old) (H.taken shelf.new)
-            self.old.name 1 }
-        ensures pieces { AsksForPieces (H.widest shelf.old) (H.widest shelf.new) }
-        ensures breaks { result ≡ Err CutError.Read → IfSome (H.held shelf.old) (λ files.
-            BreaksWithin self.old (bytes_at files self.old.name) (H.taken shelf.old) (H.taken shelf.new)) }
+        ensures file { ReadsFile (account H.Shelf shelf.old) (account H.Shelf shelf.new) self.old.name
+            (self.old.whole + 1 - read_to self.old) 1 (result ≡ Err CutError.Read) }
+        ensures breaks { result ≡ Err CutError.Read →
+            BreaksWithin self.old (account H.Shelf shelf.old) (account H.Shelf shelf.new) }
         ensures wants { result ≡ Err CutError.Read → is_at_hand self.old ≡ false }
-        ensures counted { (n : List ℕ) → H.counted shelf.new n ≡ H.counted shelf.old n }
-        ensures apart { CountsApart (H.counted shelf.old) (H.faults shelf.old) (H.faults shelf.new)
-            (H.reads shelf.old) (H.reads shelf.new) self.old.name }
         ensures few { read_to self.old ≤ self.old.whole + 1 }
     {
-        match self.find(shelf) {
-            Ok(Some(found)) => {
+        match self.find(shelf)? {
+            Some(found) => {
                 let from = self.start;
                 self.start += found.size;
                 self.place += found.size as u64;
                 self.len = line_len(&self.buffer[self.start..self.end]);
                 Ok(Some(&self.buffer[from..from + found.len]))
             }
-            Ok(None) => Ok(None),
-            Err(why) => Err(why),
+            None => Ok(None),
         }
     }
 
@@ -182,23 +171,13 @@ impl LineCutter {
             length (bytes_at files self.old.name) ≤ read_to self.new)) }
         ensures told { result ≡ Ok None → H.told_end shelf.new self.old.name self.old.place }
         ensures unread { IsTrue (is_at_hand self.old) → shelf.new ≡ shelf.old }
-        ensures held { H.held shelf.new ≡ H.held shelf.old }
-        ensures cause { CutFaults (H.faults shelf.old) (H.faults shelf.new) self.old.name result }
-        ensures took { OnOk result (TakesAtMost (H.taken shelf.old) (H.taken shelf.new) self.old.name
-            (length self.new.kept - length self.old.kept)) }
-        ensures takes { TakesAtMost (H.taken shelf.old) (H.taken shelf.new) self.old.name
-            (self.old.whole + 1 - read_to self.old) }
-        ensures made { OnOk result (ReadsByBytes (H.reads shelf.old) (H.reads shelf.new) (H.taken shelf.old)
-            (H.taken shelf.new) self.old.name (ends self.new)) }
-        ensures reads { ReadsByBytes (H.reads shelf.old) (H.reads shelf.new) (H.taken shelf.old) (H.taken shelf.new)
-            self.old.name 1 }
-        ensures pieces { AsksForPieces (H.widest shelf.old) (H.widest shelf.new) }
-        ensures breaks { result ≡ Err CutError.Read → IfSome (H.held shelf.old) (λ files.
-            BreaksWithin self.old (bytes_at files self.old.name) (H.taken shelf.old) (H.taken shelf.new)) }
+        ensures file { ReadsFile (account H.Shelf shelf.old) (account H.Shelf shelf.new) self.old.name
+            (self.old.whole + 1 - read_to self.old) 1 (result ≡ Err CutError.Read) }
+        ensures keeps { OnOk result (ReadsFile (account H.Shelf shelf.old) (account H.Shelf shelf.new) self.old.name
+            (length self.new.kept - length self.old.kept) (ends self.new) ⊥) }
+        ensures breaks { result ≡ Err CutError.Read →
+            BreaksWithin self.old (account H.Shelf shelf.old) (account H.Shelf shelf.new) }
         ensures wants { result ≡ Err CutError.Read → is_at_hand self.old ≡ false }
-        ensures counted { (n : List ℕ) → H.counted shelf.new n ≡ H.counted shelf.old n }
-        ensures apart { CountsApart (H.counted shelf.old) (H.faults shelf.old) (H.faults shelf.new)
-            (H.reads shelf.old) (H.reads shelf.new) self.old.name }
         ensures few { read_to self.old ≤ self.old.whole + 1 }
     {
         let kept = self.kept().len();
@@ -286,15 +265,8 @@ impl LineCutter {
         ensures told { IfOk result (λ n. n ≡ 0 → H.told_end shelf.new self.old.name (read_to self.old)) }
         ensures fits { Fits (H.held shelf.old) self.new }
         ensures err { OnErr result (self.new ≡ self.old) }
-        ensures held { H.held shelf.new ≡ H.held shelf.old }
-        ensures cause { ReadFaults (H.faults shelf.old) (H.faults shelf.new) self.old.name result }
-        ensures takes { TakesAtMost (H.taken shelf.old) (H.taken shelf.new) self.old.name (bytes_given result) }
-        ensures reads { ReadsByBytes (H.reads shelf.old) (H.reads shelf.new) (H.taken shelf.old) (H.taken shelf.new)
-            self.old.name (1 - bytes_given result) }
-        ensures pieces { AsksForPieces (H.widest shelf.old) (H.widest shelf.new) }
-        ensures counted { (n : List ℕ) → H.counted shelf.new n ≡ H.counted shelf.old n }
-        ensures apart { CountsApart (H.counted shelf.old) (H.faults shelf.old) (H.faults shelf.new)
-            (H.reads shelf.old) (H.reads shelf.new) self.old.name }
+        ensures file { ReadsFile (account H.Shelf shelf.old) (account H.Shelf shelf.new) self.old.name
+            (bytes_given result) (1 - bytes_given result) (result ≡ Err Outside.Failed) }
     {
         self.move_to_front();
         let kept = self.end - self.start;

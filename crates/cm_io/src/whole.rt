@@ -1,9 +1,10 @@
 // Whole files and whole pieces: reads and writes until nothing is left.
-ghost use Rattle.std.specs.Prelude.{◌≡◌, ◌≢◌, ◌++◌, ◌+◌, ◌-◌, ◌^◌, ◌<◌, ◌≤◌, ℕ, List, [], length, max, take, vec_len};
-ghost use Rattle.std.specs.Prelude.{IfOk, IfSome, OnOk, OnErr};
-ghost use Rattle.cm_io.specs.Shelf.{bytes_at, AsksForPieces, ReadsText, TakesAtMost, ReadsByBytes, CountsApart};
+ghost use Rattle.std.specs.Prelude.{◌≡◌, ◌≢◌, ◌++◌, ◌+◌, ◌-◌, ◌^◌, ◌<◌, ◌≤◌, ℕ, [], length, take, vec_len};
+ghost use Rattle.std.specs.Prelude.{Err, IfOk, IfSome, OnOk, OnErr};
+ghost use Rattle.cm_io.specs.Account.{account, ReadsFile};
+ghost use Rattle.cm_io.specs.Shelf.{bytes_at, ReadsText};
 ghost use Rattle.cm_io.specs.Sink.{then_written, WriteFaults};
-ghost use Rattle.cm_io.specs.Whole.{WholeFaults};
+ghost use Rattle.cm_io.specs.Whole.{whole_error};
 ghost use Rattle.cm_io.specs.declared.whole.WholeError.TheVariants.{NoMemory as OutOfMemory};
 
 use crate::buffer::{PIECE, zeros};
@@ -29,6 +30,17 @@ impl From<NoMemory> for WholeError {
     }
 }
 
+impl From<Outside> for WholeError {
+    ghost from_gives = { λ why e. e ≡ whole_error why };
+
+    fn from(why: Outside) -> WholeError {
+        match why {
+            Outside::Failed => WholeError::Read,
+            Outside::NoMemory => WholeError::NoMemory,
+        }
+    }
+}
+
 impl From<AllocError> for WholeError {
     ghost from_gives = { λ _ e. e ≡ OutOfMemory };
 
@@ -47,10 +59,7 @@ pub fn write_all<K: Sink>(out: &mut K, piece: &[u8]) -> Result<(), Outside>
 {
     let mut done = 0;
     while done < piece.len() {
-        match out.write(&piece[done..]) {
-            Ok(n) => done += n,
-            Err(why) => return Err(why),
-        }
+        done += out.write(&piece[done..])?;
     }
     Ok(())
 }
@@ -85,23 +94,14 @@ pub fn read_whole<H: Shelf>(
 
     // No byte is taken that the text doesn't keep. The file is read at most once for each byte that is taken, and once more,
     // and no other name is read.
-    ensures takes { TakesAtMost (H.taken shelf.old) (H.taken shelf.new) name.now (vec_len text.new) }
-    ensures reads { ReadsByBytes (H.reads shelf.old) (H.reads shelf.new) (H.taken shelf.old) (H.taken shelf.new) name.now 1 }
-    ensures pieces { AsksForPieces (H.widest shelf.old) (H.widest shelf.new) }
-
-    ensures held { H.held shelf.new ≡ H.held shelf.old }
-    ensures cause { WholeFaults (H.faults shelf.old) (H.faults shelf.new) name.now result }
-    ensures counted { (n : List ℕ) → H.counted shelf.new n ≡ H.counted shelf.old n }
-    ensures apart { CountsApart (H.counted shelf.old) (H.faults shelf.old) (H.faults shelf.new)
-        (H.reads shelf.old) (H.reads shelf.new) name.now }
+    ensures file { ReadsFile (account H.Shelf shelf.old) (account H.Shelf shelf.new) name.now
+        (vec_len text.new) 1 (result ≡ Err WholeError.Read) }
 {
     let mut buffer = zeros(alloc, PIECE)?;
     while text.len() <= limit {
         let most = PIECE.min(limit + 1 - text.len());
-        match read_more(shelf, name, &mut buffer[..most], text) {
-            Ok(0) => return Ok(()),
-            Ok(_) => {}
-            Err(why) => return Err(why),
+        if read_more(shelf, name, &mut buffer[..most], text)? == 0 {
+            return Ok(());
         }
     }
     Err(WholeError::TooMuch)
@@ -117,30 +117,19 @@ fn read_more<H: Shelf>(
     buffer: &mut [u8],
     text: &mut Vec<u8>,
 ) -> Result<usize, WholeError>
+    requires piece { length buffer.old ≤ 65536 }
     ensures count { IfOk result (λ n. n ≤ length buffer.new) }
     ensures text { IfOk result (λ n. text.new.items ≡ text.old.items ++ take n buffer.new) }
     ensures len { IfOk result (λ n. vec_len text.new ≡ vec_len text.old + n) }
     ensures err { OnErr result (text.new.items ≡ text.old.items) }
     ensures read { IfSome (H.held shelf.old) (λ files.
         IfOk result (ReadsText (bytes_at files name.now) (vec_len text.old) buffer.new)) }
-    ensures held { H.held shelf.new ≡ H.held shelf.old }
     ensures not_too_much { result ≢ Err WholeError.TooMuch }
-    ensures cause { WholeFaults (H.faults shelf.old) (H.faults shelf.new) name.now result }
-    ensures takes { TakesAtMost (H.taken shelf.old) (H.taken shelf.new) name.now (vec_len text.new - vec_len text.old) }
-    ensures reads { ReadsByBytes (H.reads shelf.old) (H.reads shelf.new) (H.taken shelf.old) (H.taken shelf.new) name.now
-        (1 - (vec_len text.new - vec_len text.old)) }
-    ensures widest { H.widest shelf.new ≤ max (H.widest shelf.old) (length buffer.new) }
-    ensures counted { (n : List ℕ) → H.counted shelf.new n ≡ H.counted shelf.old n }
-    ensures apart { CountsApart (H.counted shelf.old) (H.faults shelf.old) (H.faults shelf.new)
-        (H.reads shelf.old) (H.reads shelf.new) name.now }
+    ensures file { ReadsFile (account H.Shelf shelf.old) (account H.Shelf shelf.new) name.now
+        (vec_len text.new - vec_len text.old) (1 - (vec_len text.new - vec_len text.old)) (result ≡ Err WholeError.Read) }
 {
     text.reserve(buffer.len())?;
-    match shelf.read_at(name, text.len() as u64, buffer) {
-        Ok(n) => {
-            text.extend_from_slice(&buffer[..n]).unwrap();
-            Ok(n)
-        }
-        Err(Outside::Failed) => Err(WholeError::Read),
-        Err(Outside::NoMemory) => Err(WholeError::NoMemory),
-    }
+    let n = shelf.read_at(name, text.len() as u64, buffer)?;
+    text.extend_from_slice(&buffer[..n]).unwrap();
+    Ok(n)
 }

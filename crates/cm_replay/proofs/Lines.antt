@@ -1,15 +1,17 @@
 -- A cutter that gave a line: where it stands then, and what was read for it.
-use Rattle.std.proofs.Common.{◌≡◌, ◌≤◌, ◌<◌, ℕ, ◌+◌, List, [], ◌∷◌, length, drop, length-drop, Bool, false, IsTrue, ap, Option, None, Some, Result, Ok, IfOk, IfSome, Bor}
+use Rattle.std.proofs.Common.{◌≡◌, ◌≤◌, ◌<◌, ℕ, ◌+◌, ◌-◌, List, [], ◌∷◌, length, drop, length-drop, Bool, false, IsTrue, ap, Option, None, Some, Result, Ok, Err, IfOk, IfSome, Bor}
 use Rattle.std.proofs.Common.{refl, sym, cond, subst, ◌∙◌, arith}
 use Rattle.std.specs.Prelude.{OnOk}
 use Rattle.cm_base.specs.Limited.{limit_number}
 use Rattle.cm_base.specs.declared.limited.Limited.TheVariants as limit
-use Rattle.cm_io.proofs.ReadCounts.{reads_then, reads_within}
+use Rattle.cm_io.proofs.FileReads.{file_then, file_within}
 use Rattle.cm_io.proofs.Coming.{gives_end}
-use Rattle.cm_io.specs.Cutter.{CutFaults, Cutting, GoesPast, IsCut, Moves, begun, ends, left_of, next_cut, next_of, read_to}
+use Rattle.cm_io.specs.Account.{Account, ReadsFile}
+use Rattle.cm_io.specs.Cutter.{Cutting, GoesPast, IsAfter, IsCut, Moves, begun, ends, left_of, next_cut, next_of, read_to}
 use Rattle.cm_lines.specs.Cut.{ends_by}
-use Rattle.cm_io.specs.Shelf.{Files, ReadsByBytes, TakesAtMost, bytes_at}
+use Rattle.cm_io.specs.Shelf.{Files, ReadsByBytes, bytes_at}
 use Rattle.cm_io.specs.declared.cutter.CutError.{CutError}
+use Rattle.cm_io.specs.declared.cutter.CutError.TheVariants.{Read}
 
 -- what a cutter answers
 abbrev Answer : Type 0
@@ -35,37 +37,33 @@ line_is_short line most r limited is short =
     let low : length line.now ≤ most = of_line (λ (x : Answer). IfOk x (λ given. IfSome given (λ l. length l.now ≤ most))) line r is short in
     omega (arith, low, limited)
 
--- no read failed
-pub no_line_failed : (before now : List ℕ → ℕ) (name : List ℕ) (line : Bor (List ℕ)) (r : Answer) → r ≡ Ok (Some line)
-    → CutFaults before now name r → (n : List ℕ) → now n ≡ before n
-no_line_failed before now name line r is cause n = cause.others (λ bad. let two = sym is ∙ bad in cc) n
-
--- what was taken is what it gave and keeps
-pub line_takes : (first taken taken' : List ℕ → ℕ) (name : List ℕ) (most : ℕ) (old new : Cutting) (line : Bor (List ℕ)) (r : Answer)
-    → old.name ≡ name → r ≡ Ok (Some line) → TakesAtMost first taken name (read_to old) → TakesAtMost taken taken' old.name most
-    → OnOk r (taken' old.name + read_to old ≤ taken old.name + read_to new) → TakesAtMost first taken' name (read_to new)
-line_takes first taken taken' name most old new line r named is before more here =
-    let given : taken' old.name + read_to old ≤ taken old.name + read_to new
-    = of_line (λ (x : Answer). OnOk x (taken' old.name + read_to old ≤ taken old.name + read_to new)) line r is here in
-    let at_name : taken' name + read_to old ≤ taken name + read_to new
-    = subst (λ (n : List ℕ). taken' n + read_to old ≤ taken n + read_to new) named given in
-    let so_far = before.here in
-    record {
-      here = omega (arith, at_name, so_far);
-      others = λ n other. more.others n (λ same. other (same ∙ named)) ∙ before.others n other;
-    }
-
--- and each read gave a byte, but for the one that told the end
-pub line_reads : (reads reads' reads'' taken taken' taken'' : List ℕ → ℕ) (name : List ℕ) (old new : Cutting) (line : Bor (List ℕ)) (r : Answer)
-    → old.name ≡ name → r ≡ Ok (Some line) → old.ended ≡ false → ReadsByBytes reads reads' taken taken' name (ends old)
-    → OnOk r (ReadsByBytes reads' reads'' taken' taken'' old.name (ends new)) → ReadsByBytes reads reads'' taken taken'' name (ends new)
-line_reads reads reads' reads'' taken taken' taken'' name old new line r named is open_ before more =
-    let next : ReadsByBytes reads' reads'' taken' taken'' name (ends new)
-    = subst (λ (n : List ℕ). ReadsByBytes reads' reads'' taken' taken'' n (ends new)) named
-    (of_line (λ (x : Answer). OnOk x (ReadsByBytes reads' reads'' taken' taken'' old.name (ends new))) line r is more) in
-    let none : ends old ≡ 0 = ap (λ (b : Bool). cond b 1 0) open_ in
-    reads_within reads reads'' taken taken'' name (ends old + ends new) (ends new) (omega (arith, none))
-    (reads_then reads reads' reads'' taken taken' taken'' name (ends old) (ends new) before next)
+-- What was read of the file until then is what was read before it, and for the line: what was taken is what it gave and
+-- keeps, and each read gave a byte, but for the one that told the end.
+pub line_file : (a b c : Account) (name : List ℕ) (old new : Cutting) (line : Bor (List ℕ)) (r : Answer) (most idle : ℕ)
+    → old.name ≡ name → r ≡ Ok (Some line) → old.ended ≡ false → ReadsFile a b name (read_to old) (ends old) ⊥
+    → IsAfter b c old new r → ReadsFile b c old.name most idle (r ≡ Err Read) → ReadsFile a c name (read_to new) (ends new) ⊥
+line_file a b c name old new line r most idle named is open_ before after file =
+    let none : ends old ≡ 0 = ap (λ (e : Bool). cond e 1 0) open_ in
+    let given : c.taken old.name + read_to old ≤ b.taken old.name + read_to new
+    = of_line (λ (x : Answer). OnOk x (c.taken old.name + read_to old ≤ b.taken old.name + read_to new)) line r is after.takes in
+    let gives = of_line (λ (x : Answer). OnOk x (ReadsByBytes b.reads c.reads b.taken c.taken old.name (ends new))) line r is after.reads in
+    let later = file.reads.later in
+    let next : ReadsFile b c old.name (read_to new - read_to old) (ends new) ⊥ = record {
+      held = file.held;
+      counted = file.counted;
+      faults = record {
+        later = file.faults.later;
+        fault = λ never. absurd never;
+        others = λ _. file.faults.others (λ bad. let two = sym is ∙ bad in cc);
+      };
+      takes = record { here = omega (arith, given, later); others = file.takes.others };
+      reads = gives;
+      apart = file.apart;
+      pieces = file.pieces;
+    } in
+    file_then a b c name (read_to old) (read_to new - read_to old) (read_to new) (ends old) (ends new) (ends new) (λ never. never) before
+    (subst (λ (n : List ℕ). ReadsFile b c n (read_to new - read_to old) (ends new) ⊥) named next)
+    (omega (arith, given, later)) (omega (arith, none)) (λ never. never) (λ never. never)
 
 -- Where it has ended, it keeps nothing, and the file has nothing more.
 abbrev pub EndsIn : Option Files → List ℕ → Cutting → Type 0
@@ -83,6 +81,28 @@ line_ends held h name old new line r is same named last whole ended = (
       (subst (λ (n : List ℕ). IfSome h (λ files. length (bytes_at files n) ≤ read_to new)) named
       (of_line (λ (x : Answer). OnOk x (IsTrue new.ended → IfSome h (λ files. length (bytes_at files old.name) ≤ read_to new))) line r is whole ended)),
 )
+
+-- What was read of the file until then, and for an answer more.
+pub file_on : {F : Type 0} (a b c : Account) (name : List ℕ) (old : Cutting) (r : Answer)
+    → old.name ≡ name → old.whole ≡ limit_number limit.Log → old.ended ≡ false → read_to old ≤ old.whole + 1
+    → ReadsFile a b name (read_to old) (ends old) ⊥
+    → ReadsFile b c old.name (old.whole + 1 - read_to old) 1 (r ≡ Err Read) → (r ≡ Err Read → F) → (F → r ≡ Err Read)
+    → ReadsFile a c name (limit_number limit.Log + 1) 1 F
+file_on a b c name old r named whole open_ few before file to from =
+    let none : ends old ≡ 0 = ap (λ (e : Bool). cond e 1 0) open_ in
+    file_then a b c name (read_to old) (old.whole + 1 - read_to old) (limit_number limit.Log + 1) (ends old) 1 1 (λ never. never) before
+    (subst (λ (n : List ℕ). ReadsFile b c n (old.whole + 1 - read_to old) 1 (r ≡ Err Read)) named file)
+    (omega (arith, few, whole)) (omega (arith, none)) to from
+
+-- the same where it has ended, and no more is read
+pub file_ended : {F : Type 0} (held : Option Files) (a b : Account) (name : List ℕ) (c : Cutting)
+    → c.whole ≡ limit_number limit.Log → c.place ≤ c.whole → EndsIn held name c → IsTrue c.ended
+    → ReadsFile a b name (read_to c) (ends c) ⊥ → (F → ⊥) → ReadsFile a b name (limit_number limit.Log + 1) 1 F
+file_ended held a b name c whole within ends_in ended file never =
+    let none : length c.kept ≡ 0 = ap length (ends_in ended).0 in
+    let one : ends c ≡ 1 = ap (λ (e : Bool). cond e 1 0) ended in
+    file_within a b name (read_to c) (limit_number limit.Log + 1) (ends c) 1 file (omega (arith, none, within, whole))
+    (omega (arith, one)) (λ is. absurd is) never
 
 -- what it still gives where it has ended
 pub ended_left : (held : Option Files) (c : Cutting) (name : List ℕ) → EndsIn held name c → IsTrue c.ended → IfSome held (λ files. left_of c (bytes_at files name) ≡ ends_by None)

@@ -1,5 +1,5 @@
 -- A replay while its log comes: where it stands between two lines, and how it ends.
-use Rattle.std.proofs.Common.{◌≡◌, ◌≤◌, ℕ, List, [], ◌∷◌, ◌++◌, length, Bool, true, false, Option, Some, None, Result, Ok, Err, refl, sym}
+use Rattle.std.proofs.Common.{◌≡◌, ◌≢◌, ◌≤◌, ℕ, List, [], ◌∷◌, ◌++◌, length, Bool, true, false, Option, Some, None, Result, Ok, Err, refl, sym}
 use Rattle.std.proofs.Common.{ap, subst, ◌∙◌, append-nil, append_assoc, arith, IfSome, Bor}
 use Rattle.cm_base.specs.declared.status.Status.{Status}
 use Rattle.cm_base.specs.declared.status.Status.TheVariants as answers
@@ -156,6 +156,14 @@ sends_by shows w from to begun now next reading (Err untold.ReadFault) is grown 
     subst (λ (t : Option (List ℕ)). SendsAll shows begun.written t begun.waits) (sym (fault refl)) (all_sent shows begun now grown)
 sends_by shows w from to begun now next reading (Err untold.WriteFault) is grown ends fault = tt
 sends_by shows w from to begun now next reading (Err untold.NoMemory) is grown ends fault = tt
+
+-- at an error that is no fault of reading nothing is asked of what was sent
+pub none_sends : (shows : Bool) (written written' : Option (List ℕ)) (waits waits' : List ℕ) (r : Result Status Untold) (why : Untold)
+    → r ≡ Err why → r ≢ Err untold.ReadFault → SendsBy shows written written' waits waits' r
+none_sends shows written written' waits waits' (Ok st) why is other = absurd (cc)
+none_sends shows written written' waits waits' (Err untold.ReadFault) why is other = absurd (other refl)
+none_sends shows written written' waits waits' (Err untold.WriteFault) why is other = tt
+none_sends shows written written' waits waits' (Err untold.NoMemory) why is other = tt
 
 -- ---- what is told
 pub comes_then : (w : World) (from mid to : Replay) (old now new : Outgoing) (reading between : Reading) (result : Result Status Untold)

@@ -1,7 +1,6 @@
 -- How a replay follows a log: an event, an end, and one thing after another.
 use Rattle.std.proofs.Common.{◌≡◌, ◌∙◌, ◌≤◌, ℕ, ◌+◌, List, [], ◌∷◌, ◌++◌, length, Bool, true, false, Option, Result, Ok, Err, refl, sym, ap, subst, append-nil, arith}
 use Rattle.cm_base.specs.declared.status.Status.{Status}
-use Rattle.cm_io.specs.declared.outside.Outside.{Outside}
 use Rattle.cm_replay.proofs.Events.{end_status, end_waits, next_status, next_waits, passed_lines, run_on}
 use Rattle.cm_replay.proofs.Ready.{event_spaces}
 use Rattle.cm_replay.proofs.Shown.{no_step_lines}
@@ -10,6 +9,7 @@ use Rattle.cm_replay.specs.Replay.{report_from, event_lines, shown_lines, shown_
 use Rattle.cm_replay.specs.declared.replay.Replay.{Replay}
 use Rattle.cm_replay.specs.declared.replay.Turn.{Turn}
 use Rattle.cm_replay.specs.declared.replay.Turn.TheVariants as turn
+use Rattle.cm_replay.specs.declared.untold.Untold.{Untold}
 use Rattle.cm_report.proofs.Waiting.{all_waits, front_of_more, front_on, more_waits, sent_on, waits_as}
 use Rattle.cm_report.specs.Sent.{IsFront, IsSent}
 use Rattle.model_cred.specs.Made.{spaces_made}
@@ -53,7 +53,7 @@ pub cut_then : (w : World) (from mid : Replay) (old now new : Outgoing) (reading
     → GoesOn w from mid old now reading between → IsCutOff w mid now new between → IsCutOff w from old new reading
 cut_then w from mid old now new reading between a b = front_on a.sent b
 
-pub follows_then : (w : World) (from mid to : Replay) (old now new : Outgoing) (result : Result Turn Outside) (reading between rest : Reading)
+pub follows_then : (w : World) (from mid to : Replay) (old now new : Outgoing) (result : Result Turn Untold) (reading between rest : Reading)
     → GoesOn w from mid old now reading between → Follows w mid to now new result between rest → Follows w from to old new result reading rest
 follows_then w from mid to old now new (Ok turn.Goes) reading between rest a b = goes_then a b
 follows_then w from mid to old now new (Ok (turn.Ends st)) reading between rest a b = ends_then a b

@@ -3,7 +3,7 @@ use Rattle.std.proofs.Common.{◌≡◌, ◌≤◌, ◌<◌, ℕ, ◌+◌, List,
 use Rattle.std.proofs.Common.{ap, subst, ◌∙◌, append-nil, arith, Option, None, Some, Ok, IfSome}
 use Rattle.cm_io.proofs.WholeLines.{LinesTo, lines_more, lines_seen, more_lines, next_given}
 use Rattle.cm_io.proofs.Written.{then_written_twice}
-use Rattle.cm_io.specs.Cutter.{BreaksWithin, Cutting, begun, next_of, read_to}
+use Rattle.cm_io.specs.Cutter.{Cutting, begun, next_of, read_to}
 use Rattle.cm_io.specs.Shelf.{Files, bytes_at}
 use Rattle.cm_io.specs.Sink.{then_written}
 use Rattle.cm_io.specs.WholeLines.{after_lines, whole_lines}
@@ -124,20 +124,24 @@ only_end w replay reading shows none is =
     ap (λ (b : Bool). shown_report b (replayed w replay.machine.state replay.events reading.events reading.ending)) is
     ∙ ap (λ (es : List Placed). shown_report shows (replayed w replay.machine.state replay.events es reading.ending)) none
 
+-- the bytes that were taken before a read failed are of the line at the cutter's place, in this text
+abbrev pub BreaksAt : Cutting → (taken taken' : List ℕ → ℕ) → List ℕ → Type 0
+BreaksAt c taken taken' text = taken' c.name + length c.kept ≤ taken c.name + line_len (drop c.place text)
+
 pub tells_taken : (held h : Option Files) (w : World) (name : List ℕ) (first replay : Replay) (written0 written : Option (List ℕ)) (log0 log : Log)
     (now : Outgoing) (cutter : Cutting) (text0 : List ℕ) (taken0 taken taken' : List ℕ → ℕ)
     → GonePast held w name first written log0 replay now log cutter
     → now.waits ≡ [] → cutter.ended ≡ false → NoneWaits log → h ≡ held → cutter.name ≡ name
     → written ≡ then_written written0 text0
     → taken name ≤ taken0 name + read_to cutter
-    → IfSome h (λ files. BreaksWithin cutter (bytes_at files cutter.name) taken taken')
+    → IfSome h (λ files. BreaksAt cutter taken taken' (bytes_at files cutter.name))
     → IfSome held (λ files. TellsTaken first.shows (report_of_lines w first log0) (bytes_at files name) (taken0 name) (taken' name) text0 written0
     now.written)
 tells_taken held h w name first replay written0 written log0 log now cutter text0 taken0 taken taken' gone sent_all open_ none same named begun_ few breaks =
-    by held (gone.whole open_) (subst (λ (x : Option Files). IfSome x (λ files. BreaksWithin cutter (bytes_at files cutter.name) taken taken')) same breaks)
+    by held (gone.whole open_) (subst (λ (x : Option Files). IfSome x (λ files. BreaksAt cutter taken taken' (bytes_at files cutter.name))) same breaks)
   where
     by : (x : Option Files) → IfSome x (λ files. LinesTo (bytes_at files name) cutter.place gone.lines)
-        → IfSome x (λ files. BreaksWithin cutter (bytes_at files cutter.name) taken taken')
+        → IfSome x (λ files. BreaksAt cutter taken taken' (bytes_at files cutter.name))
         → IfSome x (λ files. TellsTaken first.shows (report_of_lines w first log0) (bytes_at files name) (taken0 name) (taken' name) text0 written0
         now.written)
     by None a b = tt

@@ -3,7 +3,6 @@ use Rattle.std.specs.Prelude.{◌≡◌, ◌≤◌, ℕ, ◌+◌, false, List, �
 use Rattle.cm_base.specs.declared.status.Status.{Status}
 use Rattle.cm_base.specs.declared.status.Status.TheVariants.{Accepted}
 use Rattle.cm_credentials.specs.Kept.{Keeps}
-use Rattle.cm_io.specs.declared.outside.Outside.{Outside}
 use Rattle.cm_log.specs.Counts.{KnowsWithin, events_due, given, lines_read, made}
 use Rattle.cm_log.specs.Left.{NoneWaits}
 use Rattle.cm_log.specs.declared.log.Log.{Log}
@@ -15,6 +14,7 @@ use Rattle.cm_replay.specs.declared.replay.Taken.{Taken}
 use Rattle.cm_replay.specs.declared.replay.Taken.TheVariants as taken
 use Rattle.cm_replay.specs.declared.replay.Turn.{Turn}
 use Rattle.cm_replay.specs.declared.replay.Turn.TheVariants as turn
+use Rattle.cm_replay.specs.declared.untold.Untold.{Untold}
 use Rattle.cm_report.specs.Sent.{IsSent, IsFront}
 use Rattle.model_cred.specs.Process.{State}
 use Rattle.model_cred.specs.World.{World}
@@ -53,18 +53,13 @@ abbrev pub IsCutOff : World → Replay → Outgoing → Outgoing → Reading →
 IsCutOff w from old new reading = IsFront old.written new.written (old.waits ++ text_of (report_from w from reading).lines)
 
 -- The replay goes on to the rest; or its report ends; or reading or sending failed.
-abbrev pub Follows : World → Replay → Replay → Outgoing → Outgoing → Result Turn Outside → Reading → Reading → Type 0
+abbrev pub Follows : World → Replay → Replay → Outgoing → Outgoing → Result Turn Untold → Reading → Reading → Type 0
 Follows w from to old new (Ok turn.Goes) reading rest = GoesOn w from to old new reading rest
 Follows w from to old new (Ok (turn.Ends st)) reading rest = EndsAs w from to old new st reading
 Follows w from to old new (Err why) reading rest = IsCutOff w from old new reading
 
--- the same where no line comes any more
-abbrev pub EndsSo : World → Replay → Replay → Outgoing → Outgoing → Result Status Outside → Reading → Type 0
-EndsSo w from to old new (Ok st) reading = EndsAs w from to old new st reading
-EndsSo w from to old new (Err why) reading = IsCutOff w from old new reading
-
 -- the same of what is next of a log
-abbrev pub Takes : World → Replay → Replay → Outgoing → Outgoing → Result Taken Outside → Reading → Reading → Type 0
+abbrev pub Takes : World → Replay → Replay → Outgoing → Outgoing → Result Taken Untold → Reading → Reading → Type 0
 Takes w from to old new (Ok (taken.End st)) reading rest = EndsAs w from to old new st reading
 Takes w from to old new (Ok _) reading rest = GoesOn w from to old new reading rest
 Takes w from to old new (Err why) reading rest = IsCutOff w from old new reading

@@ -1,16 +1,14 @@
 // The replay of a log as it comes: its lines are cut out of the file and told one by one, and none is kept.
-ghost use Rattle.std.specs.Prelude.{◌≡◌, ◌≢◌, ◌≤◌, ◌<◌, ◌^◌, ◌+◌, ◌++◌, ℕ, List, [], false, length, Option, Ok, Err, IfOk, IfErr, IfSome, OnOk, OnErr};
+ghost use Rattle.std.specs.Prelude.{◌≡◌, ◌≤◌, ◌<◌, ◌+◌, ◌++◌, [], false, length, Ok, Err, IfOk, IfErr, IfSome, OnOk, OnErr};
 ghost use Rattle.cm_base.specs.Limited.{limit_number};
 ghost use Rattle.cm_base.specs.declared.limited.Limited.TheVariants as limit;
 ghost use Rattle.cm_declared.specs.World.{world_of};
-ghost use Rattle.cm_io.specs.Cutter.{Fits, begun, is_at_hand, left_of};
-ghost use Rattle.cm_io.specs.Shelf.{AsksForPieces, CountsApart, FileFaults, ReadsByBytes, TakesAtMost, Files, bytes_at};
+ghost use Rattle.cm_io.specs.Cutter.{Fits, is_at_hand, left_of};
+ghost use Rattle.cm_io.specs.Account.{account, ReadsFile};
+ghost use Rattle.cm_io.specs.Shelf.{bytes_at};
 ghost use Rattle.cm_io.specs.Sink.{WriteFaults};
-ghost use Rattle.cm_lines.specs.Cut.{ends_by};
-ghost use Rattle.cm_log.specs.Counts.{events_due};
 ghost use Rattle.cm_log.specs.Left.{left};
 ghost use Rattle.cm_replay.specs.Coming.{Begins, ComesTo, IsReplayAnswer, KeepsAtEnd, Sends, SendsBy};
-ghost use Rattle.cm_replay.specs.Following.{IsReady};
 ghost use Rattle.cm_replay.specs.Shown.{shown_report};
 ghost use Rattle.cm_replay.specs.Told.{TellsTaken, lines_report, report_of_lines};
 ghost use Rattle.cm_replay.specs.Untold.{UntoldFaults};
@@ -70,19 +68,12 @@ pub fn replay_log<H: Shelf, K: Sink>(
     ensures within { IfOk result (λ ended. ended.0 ≡ Status.Accepted → IsWithin ended.1.state) }
     ensures spaces { IfOk result (λ ended. ended.0 ≡ Status.Accepted →
         length w.now.start.spaces ≤ length ended.1.state.spaces) }
-    ensures held { H.held shelf.new ≡ H.held shelf.old }
-    ensures counted { (n : List ℕ) → H.counted shelf.new n ≡ H.counted shelf.old n }
-    ensures faults { FileFaults (H.faults shelf.old) (H.faults shelf.new) name.now (result ≡ Err Untold.ReadFault) }
-    ensures takes { TakesAtMost (H.taken shelf.old) (H.taken shelf.new) name.now (limit_number limit.Log + 1) }
-    ensures pieces { AsksForPieces (H.widest shelf.old) (H.widest shelf.new) }
-    ensures reads { ReadsByBytes (H.reads shelf.old) (H.reads shelf.new) (H.taken shelf.old) (H.taken shelf.new)
-        name.now 1 }
-    ensures apart { CountsApart (H.counted shelf.old) (H.faults shelf.old) (H.faults shelf.new)
-        (H.reads shelf.old) (H.reads shelf.new) name.now }
+    ensures file { ReadsFile (account H.Shelf shelf.old) (account H.Shelf shelf.new) name.now
+        (limit_number limit.Log + 1) 1 (result ≡ Err Untold.ReadFault) }
 {
     let mut replay = Replay::new(alloc, w, shows)?;
     let mut log = Log::new(alloc, w)?;
-    let mut cutter = begin_cutter(alloc, name)?;
+    let mut cutter = LineCutter::new(alloc, name, Limited::Line.number(), Limited::Log.number())?;
     let status = replay_lines(
         alloc,
         w,
@@ -95,18 +86,6 @@ pub fn replay_log<H: Shelf, K: Sink>(
     )?;
     let Replay { machine, .. } = replay;
     Ok((status, machine))
-}
-
-// The cutter of a log's lines, before the first one.
-fn begin_cutter(alloc: Global, name: &str) -> Result<LineCutter, Untold>
-    ensures begun { IfOk result (λ c. c ≡ begun name.now (limit_number limit.Line) (limit_number limit.Log)) }
-    ensures fits { IfOk result (λ c. (held : Option Files) → Fits held c) }
-    ensures memory { IfErr result (λ why. why ≡ Untold.NoMemory) }
-{
-    match LineCutter::new(alloc, name, Limited::Line.number(), Limited::Log.number()) {
-        Ok(cutter) => Ok(cutter),
-        Err(_) => Err(Untold::NoMemory),
-    }
 }
 
 // Replays the lines that the cutter gives, and ends the report. At first no line is at hand.
@@ -135,69 +114,30 @@ fn replay_lines<H: Shelf, K: Sink>(
     ensures answers { IfOk result IsReplayAnswer }
     ensures keeps { KeepsAtEnd replay.old replay.new result }
     ensures cause { UntoldFaults (K.faults out.old) (K.faults out.new) result }
-    ensures held { H.held shelf.new ≡ H.held shelf.old }
-    ensures counted { (n : List ℕ) → H.counted shelf.new n ≡ H.counted shelf.old n }
-    ensures faults { FileFaults (H.faults shelf.old) (H.faults shelf.new) cutter.old.name (result ≡ Err Untold.ReadFault) }
-    ensures takes { TakesAtMost (H.taken shelf.old) (H.taken shelf.new) cutter.old.name (limit_number limit.Log + 1) }
-    ensures pieces { AsksForPieces (H.widest shelf.old) (H.widest shelf.new) }
-    ensures reads { ReadsByBytes (H.reads shelf.old) (H.reads shelf.new) (H.taken shelf.old) (H.taken shelf.new)
-        cutter.old.name 1 }
-    ensures apart { CountsApart (H.counted shelf.old) (H.faults shelf.old) (H.faults shelf.new)
-        (H.reads shelf.old) (H.reads shelf.new) cutter.old.name }
+    ensures file { ReadsFile (account H.Shelf shelf.old) (account H.Shelf shelf.new) cutter.old.name
+        (limit_number limit.Log + 1) 1 (result ≡ Err Untold.ReadFault) }
 {
-    match send(text, out) {
-        Ok(()) => {}
-        Err(why) => return Err(Untold::from(why)),
-    }
+    send(text, out)?;
     loop {
         if cutter.has_ended() {
-            return end_lines(alloc, w, replay, log, None, text, out);
+            return replay_end(alloc, w, replay, log, None, text, out);
         }
         match cutter.next_line(shelf) {
-            Ok(Some(line)) => match replay_line(alloc, w, replay, log, line, text, out) {
-                Ok(Turn::Goes) => {}
-                Ok(Turn::Ends(status)) => return Ok(status),
-                Err(why) => return Err(Untold::from(why)),
+            Ok(Some(line)) => match replay_line(alloc, w, replay, log, line, text, out)? {
+                Turn::Goes => {}
+                Turn::Ends(status) => return Ok(status),
             },
-            Ok(None) => return end_lines(alloc, w, replay, log, None, text, out),
+            Ok(None) => return replay_end(alloc, w, replay, log, None, text, out),
             Err(CutError::TooLong) => {
-                return end_lines(alloc, w, replay, log, Some(Past::Line), text, out);
+                return replay_end(alloc, w, replay, log, Some(Past::Line), text, out);
             }
             Err(CutError::TooMuch) => {
-                return end_lines(alloc, w, replay, log, Some(Past::Whole), text, out);
+                return replay_end(alloc, w, replay, log, Some(Past::Whole), text, out);
             }
             Err(CutError::Read) => return Err(Untold::ReadFault),
             Err(CutError::NoMemory) => return Err(Untold::NoMemory),
         }
-        match send_unless(cutter, text, out) {
-            Ok(()) => {}
-            Err(why) => return Err(Untold::from(why)),
-        }
-    }
-}
-
-// Replays what is left of the log where no line comes any more.
-fn end_lines<K: Sink>(
-    alloc: Global,
-    w: &World,
-    replay: &mut Replay,
-    log: &mut Log,
-    past: Option<Past>,
-    text: &mut Vec<u8>,
-    out: &mut K,
-) -> Result<Status, Untold>
-    requires ready { IsReady (world_of w.now) replay.old log.old }
-    requires events { replay.old.events + events_due log.old < 2 ^ 63 }
-    ensures told { ComesTo (world_of w.now) replay.old replay.new
-        (record { written = K.written out.old; waits = text.old.items })
-        (record { written = K.written out.new; waits = text.new.items })
-        result (left (world_of w.now) log.old (ends_by past)) }
-    ensures no_read_fault { result ≢ Err Untold.ReadFault }
-    ensures cause { UntoldFaults (K.faults out.old) (K.faults out.new) result }
-{
-    match replay_end(alloc, w, replay, log, past, text, out) {
-        Ok(status) => Ok(status),
-        Err(why) => Err(Untold::from(why)),
+        send_unless(cutter, text, out)?;
     }
 }
 

@@ -1,27 +1,29 @@
 // The replay of a log, a line at a time, whatever its form: each event is made a step of the machine, and its lines of the report
 // are written where the replay is shown.
-ghost use Rattle.std.specs.Prelude.{◌≡◌, ◌<◌, ◌+◌, ◌^◌, ◌++◌, true, length, Ok, IfOk, IfSome};
+ghost use Rattle.std.specs.Prelude.{◌≡◌, ◌≢◌, ◌<◌, ◌+◌, ◌^◌, ◌++◌, true, length, Ok, Err, IfOk, IfSome};
 ghost use Rattle.cm_base.specs.Outcome.{OrNoMemory};
 ghost use Rattle.cm_credentials.specs.Kept.{Keeps};
 ghost use Rattle.cm_declared.specs.World.{world_of};
-ghost use Rattle.cm_io.specs.Sink.{WriteFaults};
 ghost use Rattle.cm_lines.specs.Cut.{Cut, before, ends_by};
 ghost use Rattle.cm_log.specs.Counts.{KnowsWithin, events_due, given, lines_read, made};
 ghost use Rattle.cm_log.specs.Left.{is_open, left};
 ghost use Rattle.cm_log.specs.Next.{IsNext, Leaves};
 ghost use Rattle.cm_log.specs.declared.next.Next.TheVariants as next;
-ghost use Rattle.cm_replay.specs.Following.{Advances, EndsSo, Follows, IsReady, Takes, TakesCount, TookEvent};
+ghost use Rattle.cm_replay.specs.Coming.{ComesTo};
+ghost use Rattle.cm_replay.specs.Following.{Advances, Follows, IsReady, Takes, TakesCount, TookEvent};
 ghost use Rattle.cm_replay.specs.Replay.{event_lines, IsTurn, shown_report};
+ghost use Rattle.cm_replay.specs.Untold.{UntoldFaults};
 ghost use Rattle.cm_strace.specs.Answers.{ending_is};
 ghost use Rattle.model_report.specs.Replay.{text_of, by_end, IsWithin};
 ghost use Rattle.model_run.specs.Step.{outcome};
 ghost use Rattle.model_text.specs.Print.{event_text};
 ghost use Rattle.model_text.specs.Reading.{Reading, reads_on};
 
+use crate::untold::Untold;
 use cm_base::{NoMemory, Status};
 use cm_credentials::KeptLines;
 use cm_declared::World;
-use cm_io::{Outside, Sink};
+use cm_io::Sink;
 use cm_lines::Past;
 use cm_log::{Log, Next, Placed, Stop};
 use cm_machine::Machine;
@@ -76,7 +78,7 @@ pub fn replay_line<K: Sink>(
     line: &[u8],
     text: &mut Vec<u8>,
     out: &mut K,
-) -> Result<Turn, Outside>
+) -> Result<Turn, Untold>
     requires ready { IsReady (world_of w.now) replay.old log.old }
     requires line { length line.now < 2 ^ 32 }
     requires lines { lines_read log.old < 2 ^ 63 }
@@ -87,15 +89,14 @@ pub fn replay_line<K: Sink>(
         (record { written = K.written out.new; waits = text.new.items })
         result (left (world_of w.now) log.old (before line.now cut)) (left (world_of w.now) log.new cut) }
     ensures advances { result ≡ Ok Turn.Goes → Advances (world_of w.now) 1 1 replay.old replay.new log.old log.new }
-    ensures cause { WriteFaults (K.faults out.old) (K.faults out.new) result }
+    ensures no_read_fault { result ≢ Err Untold.ReadFault }
+    ensures cause { UntoldFaults (K.faults out.old) (K.faults out.new) result }
 {
     if let Some(event) = log.read_own(alloc, w, line) {
         return take_and_send(alloc, w, replay, &event, Some(line), text, out);
     }
-    match log.read_line(alloc, w, line) {
-        Ok(next) => follow(alloc, w, replay, log, &next, text, out),
-        Err(NoMemory) => Err(Outside::NoMemory),
-    }
+    let next = log.read_line(alloc, w, line)?;
+    follow(alloc, w, replay, log, &next, text, out)
 }
 
 /// Replays what the log still tells where no line comes any more, since it ends or since the line that comes is past a limit;
@@ -108,22 +109,20 @@ pub fn replay_end<K: Sink>(
     past: Option<Past>,
     text: &mut Vec<u8>,
     out: &mut K,
-) -> Result<Status, Outside>
+) -> Result<Status, Untold>
     requires ready { IsReady (world_of w.now) replay.old log.old }
     requires events { replay.old.events + events_due log.old < 2 ^ 63 }
-    ensures ends { EndsSo (world_of w.now) replay.old replay.new
+    ensures told { ComesTo (world_of w.now) replay.old replay.new
         (record { written = K.written out.old; waits = text.old.items })
         (record { written = K.written out.new; waits = text.new.items })
         result (left (world_of w.now) log.old (ends_by past)) }
-    ensures cause { WriteFaults (K.faults out.old) (K.faults out.new) result }
+    ensures no_read_fault { result ≢ Err Untold.ReadFault }
+    ensures cause { UntoldFaults (K.faults out.old) (K.faults out.new) result }
 {
-    match log.end(alloc, w, past) {
-        Ok(next) => match follow(alloc, w, replay, log, &next, text, out) {
-            Ok(Turn::Ends(status)) => Ok(status),
-            Ok(Turn::Goes) => unreachable!(),
-            Err(why) => Err(why),
-        },
-        Err(NoMemory) => Err(Outside::NoMemory),
+    let next = log.end(alloc, w, past)?;
+    match follow(alloc, w, replay, log, &next, text, out)? {
+        Turn::Ends(status) => Ok(status),
+        Turn::Goes => unreachable!(),
     }
 }
 
@@ -136,7 +135,7 @@ fn follow<K: Sink>(
     next: &Next,
     text: &mut Vec<u8>,
     out: &mut K,
-) -> Result<Turn, Outside>
+) -> Result<Turn, Untold>
     requires within { IsWithin replay.old.machine.state }
     requires keeps { Keeps w.now.names replay.old.kept }
     requires leaves { Leaves next.now log.old }
@@ -149,13 +148,13 @@ fn follow<K: Sink>(
         result reading (left (world_of w.now) log.new cut) }
     ensures advances { result ≡ Ok Turn.Goes → Advances (world_of w.now) 0 (given next.now) replay.old replay.new log.old log.new }
     ensures open_still { result ≡ Ok Turn.Goes → is_open log.old ≡ true }
-    ensures cause { WriteFaults (K.faults out.old) (K.faults out.new) result }
+    ensures no_read_fault { result ≢ Err Untold.ReadFault }
+    ensures cause { UntoldFaults (K.faults out.old) (K.faults out.new) result }
 {
-    match take_next(alloc, w, replay, next, text, out) {
-        Ok(Taken::Event) => follow_waiting(alloc, w, replay, log, text, out),
-        Ok(Taken::Nothing) => Ok(Turn::Goes),
-        Ok(Taken::End(status)) => Ok(Turn::Ends(status)),
-        Err(why) => Err(why),
+    match take_next(alloc, w, replay, next, text, out)? {
+        Taken::Event => follow_waiting(alloc, w, replay, log, text, out),
+        Taken::Nothing => Ok(Turn::Goes),
+        Taken::End(status) => Ok(Turn::Ends(status)),
     }
 }
 
@@ -167,7 +166,7 @@ fn follow_waiting<K: Sink>(
     log: &mut Log,
     text: &mut Vec<u8>,
     out: &mut K,
-) -> Result<Turn, Outside>
+) -> Result<Turn, Untold>
     requires within { IsWithin replay.old.machine.state }
     requires keeps { Keeps w.now.names replay.old.kept }
     requires knows { KnowsWithin (length replay.old.machine.state.spaces) log.old }
@@ -178,15 +177,15 @@ fn follow_waiting<K: Sink>(
         result (left (world_of w.now) log.old cut) (left (world_of w.now) log.new cut) }
     ensures advances { result ≡ Ok Turn.Goes → Advances (world_of w.now) 0 0 replay.old replay.new log.old log.new }
     ensures open_still { result ≡ Ok Turn.Goes → is_open log.old ≡ true }
-    ensures cause { WriteFaults (K.faults out.old) (K.faults out.new) result }
+    ensures no_read_fault { result ≢ Err Untold.ReadFault }
+    ensures cause { UntoldFaults (K.faults out.old) (K.faults out.new) result }
 {
     loop {
         let next = log.next_waiting();
-        match take_next(alloc, w, replay, &next, text, out) {
-            Ok(Taken::Event) => let_go(next),
-            Ok(Taken::Nothing) => return Ok(Turn::Goes),
-            Ok(Taken::End(status)) => return Ok(Turn::Ends(status)),
-            Err(why) => return Err(why),
+        match take_next(alloc, w, replay, &next, text, out)? {
+            Taken::Event => let_go(next),
+            Taken::Nothing => return Ok(Turn::Goes),
+            Taken::End(status) => return Ok(Turn::Ends(status)),
         }
     }
 }
@@ -210,7 +209,7 @@ fn take_next<K: Sink>(
     next: &Next,
     text: &mut Vec<u8>,
     out: &mut K,
-) -> Result<Taken, Outside>
+) -> Result<Taken, Untold>
     requires within { IsWithin replay.old.machine.state }
     requires keeps { Keeps w.now.names replay.old.kept }
     requires events { replay.old.events + given next.now < 2 ^ 64 }
@@ -218,19 +217,19 @@ fn take_next<K: Sink>(
         (record { written = K.written out.old; waits = text.old.items })
         (record { written = K.written out.new; waits = text.new.items }) result reading rest }
     ensures counts { IfOk result (TakesCount (world_of w.now) next.now replay.old replay.new) }
-    ensures cause { WriteFaults (K.faults out.old) (K.faults out.new) result }
+    ensures no_read_fault { result ≢ Err Untold.ReadFault }
+    ensures cause { UntoldFaults (K.faults out.old) (K.faults out.new) result }
 {
     match next {
-        Next::Event(event) => match take_and_send(alloc, w, replay, event, None, text, out) {
-            Ok(Turn::Goes) => Ok(Taken::Event),
-            Ok(Turn::Ends(status)) => Ok(Taken::End(status)),
-            Err(why) => Err(why),
+        Next::Event(event) => match take_and_send(alloc, w, replay, event, None, text, out)? {
+            Turn::Goes => Ok(Taken::Event),
+            Turn::Ends(status) => Ok(Taken::End(status)),
         },
         Next::Nothing => Ok(Taken::Nothing),
-        Next::Ends(stop) => match put_ending(text, replay, *stop) {
-            Ok(status) => Ok(Taken::End(status)),
-            Err(NoMemory) => Err(Outside::NoMemory),
-        },
+        Next::Ends(stop) => {
+            let status = put_ending(text, replay, *stop)?;
+            Ok(Taken::End(status))
+        }
     }
 }
 
@@ -244,7 +243,7 @@ fn take_and_send<K: Sink>(
     own: Option<&[u8]>,
     text: &mut Vec<u8>,
     out: &mut K,
-) -> Result<Turn, Outside>
+) -> Result<Turn, Untold>
     requires within { IsWithin replay.old.machine.state }
     requires keeps { Keeps w.now.names replay.old.kept }
     requires own { IfSome own (λ line. event_text (world_of w.now) event.now.event ≡ line.now) }
@@ -253,15 +252,15 @@ fn take_and_send<K: Sink>(
         (record { written = K.written out.old; waits = text.old.items })
         (record { written = K.written out.new; waits = text.new.items }) result reading rest }
     ensures counts { result ≡ Ok Turn.Goes → TookEvent (world_of w.now) (next.Event event.now) replay.old replay.new }
-    ensures cause { WriteFaults (K.faults out.old) (K.faults out.new) result }
+    ensures no_read_fault { result ≢ Err Untold.ReadFault }
+    ensures cause { UntoldFaults (K.faults out.old) (K.faults out.new) result }
 {
-    match take_event(alloc, w, replay, event, own, text) {
-        Ok(Turn::Goes) => match send_full(text, out) {
-            Ok(()) => Ok(Turn::Goes),
-            Err(why) => Err(why),
-        },
-        Ok(Turn::Ends(status)) => Ok(Turn::Ends(status)),
-        Err(NoMemory) => Err(Outside::NoMemory),
+    match take_event(alloc, w, replay, event, own, text)? {
+        Turn::Goes => {
+            send_full(text, out)?;
+            Ok(Turn::Goes)
+        }
+        Turn::Ends(status) => Ok(Turn::Ends(status)),
     }
 }
 

@@ -1,8 +1,8 @@
 // Why a report of a log isn't told to its end.
 use cm_base::{NoMemory, Status};
-use cm_io::Outside;
+use cm_io::{NoMemory as OutOfMemory, Outside};
 
-/// A read of the third file failed, a write did, or there was no memory.
+/// A read failed, of the log or of the file of a claim, or a write did, or there was no memory.
 #[derive(Clone, Copy, Debug, PartialEq, Eq)]
 pub enum Untold {
     ReadFault,
@@ -17,6 +17,17 @@ impl From<NoMemory> for Untold {
     ghost from_gives = { λ _ e. e ≡ Untold.NoMemory };
 
     fn from(_: NoMemory) -> Untold {
+        Untold::NoMemory
+    }
+}
+
+impl From<OutOfMemory> for Untold {
+    ghost use Rattle.std.specs.Prelude.{◌≡◌};
+    ghost use Rattle.cm_replay.specs.declared.untold.Untold.{Untold};
+
+    ghost from_gives = { λ _ e. e ≡ Untold.NoMemory };
+
+    fn from(_: OutOfMemory) -> Untold {
         Untold::NoMemory
     }
 }

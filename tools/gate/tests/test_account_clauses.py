@@ -1,4 +1,6 @@
 """The clauses that keep account of a shelf or a sink are counted as they stand."""
+import os
+import re
 import unittest
 
 from commands.tests.support import Case
@@ -35,8 +37,16 @@ class AccountClauses(Case):
                 account_clauses.Clauses("cm_io", "whole.rt", "read_whole", 6)]
         self.assertEqual([row.promised for row in rows], [True, True, False])
 
-    def test_the_crates_have_some(self) -> None:
-        self.assertGreater(sum(row.count for row in account_clauses.counted(account_clauses.TOP) if row.promised), 30)
+    def test_the_crates_have_as_many_as_the_map_tells(self) -> None:
+        rows = account_clauses.counted(account_clauses.TOP)
+        with open(os.path.join(account_clauses.TOP, "docs", "MAP.md"), encoding="utf-8") as file:
+            told = re.search(r"of (\d+) in `cm_io`, `cm_replay` and `cm_cli` (\d+) stand elsewhere", file.read())
+        self.assertEqual([int(number) for number in told.groups()] if told else [],
+                         [sum(row.count for row in rows), sum(row.count for row in rows if not row.promised)])
+
+    def test_few_stand_elsewhere(self) -> None:
+        rows = account_clauses.counted(account_clauses.TOP)
+        self.assertLessEqual(sum(row.count for row in rows if not row.promised), 45)
 
 
 if __name__ == "__main__":

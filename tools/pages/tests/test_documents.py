@@ -133,7 +133,7 @@ class Proved(unittest.TestCase):
                 text = source(crate)
                 self.assertTrue(re.search(rf"\bfn {function}\b", text), f"{crate}::{function}")
                 for clause in re.findall(r"`(\w+)`", clauses):
-                    self.assertTrue(re.search(rf"\bensures {clause} ", text), f"{crate}::{function}: {clause}")
+                    self.assertTrue(re.search(rf"\bensures\*? {clause} ", text), f"{crate}::{function}: {clause}")
 
 
 class Library(unittest.TestCase):

@@ -1,12 +1,11 @@
 use Rattle.std.proofs.Common.{[], refl, sym, append-nil}
 use Rattle.std.proofs.lemmas.Result.{err_from_is_err_and}
-use Rattle.cm_cli.proofs.FileReads.{faults_still, reads_still, takes_still}
+use Rattle.cm_cli.proofs.FileReads.{none_of}
 use Rattle.cm_cli.proofs.Auditing.{claim_put}
 use Rattle.cm_cli.proofs.Replaying.{always, if_told}
 use Rattle.cm_cli.proofs.answer.put_answer.Goals as goal
 use Rattle.cm_cli.specs.Query.{query_view}
 use Rattle.cm_declared.specs.World.{world_of}
-use Rattle.cm_io.proofs.ReadCounts.{pieces_none}
 use Rattle.cm_io.specs.Shelf.{bytes_at}
 
 pub returns-in-Nothing : goal.returns-in-Nothing
@@ -18,33 +17,23 @@ returns-in-Nothing g c =
       not_write_fault = λ is. cc;
       stands = λ is. absurd (cc);
       waits = λ _ n. refl;
-      held = refl;
-      faults = faults_still _ _ (λ is. cc);
-      takes = takes_still [] (g.H.Shelf.taken c.args.shelf.now);
-      reads = reads_still _ _ _;
-      pieces = pieces_none _;
-      apart = tt;
+      files = none_of [] _ _ (λ is. cc) tt;
     })
 
-pub returns-in_ok-status-in-Judge : goal.returns-in_ok-status-in-Judge
-returns-in_ok-status-in-Judge g c =
+pub returns-in_ok-put_verdict-in-Judge : goal.returns-in_ok-put_verdict-in-Judge
+returns-in_ok-put_verdict-in-Judge g c =
     rw c.in-Judge.is (record {
       report = always (g.H.Shelf.held c.args.shelf.now)
-          (λ files j gives. c.in_ok-status-in-Judge.ensures.report j gives);
-      answers = c.in_ok-status-in-Judge.ensures.answers;
+          (λ files j gives. c.in_ok-put_verdict-in-Judge.ensures.report j gives);
+      answers = c.in_ok-put_verdict-in-Judge.ensures.answers;
       not_write_fault = λ is. cc;
       stands = λ is. absurd (cc);
       waits = λ _ n. refl;
-      held = refl;
-      faults = faults_still _ _ (λ is. cc);
-      takes = takes_still [] (g.H.Shelf.taken c.args.shelf.now);
-      reads = reads_still _ _ _;
-      pieces = pieces_none _;
-      apart = tt;
+      files = none_of [] _ _ (λ is. cc) tt;
     })
 
-pub returns-in_err-status-in-Judge : goal.returns-in_err-status-in-Judge
-returns-in_err-status-in-Judge g c =
+pub returns-in_err-put_verdict-in-Judge : goal.returns-in_err-put_verdict-in-Judge
+returns-in_err-put_verdict-in-Judge g c =
     let p = err_from_is_err_and c.from_residual.result c.from_residual.ensures.1 in
     rw (c.in-Judge.is, p.1, p.2) (record {
       report = always (g.H.Shelf.held c.args.shelf.now) (λ files j gives. tt);
@@ -52,12 +41,7 @@ returns-in_err-status-in-Judge g c =
       not_write_fault = λ is. cc;
       stands = λ is. absurd (cc);
       waits = λ _ n. refl;
-      held = refl;
-      faults = faults_still _ _ (λ is. cc);
-      takes = takes_still [] (g.H.Shelf.taken c.args.shelf.now);
-      reads = reads_still _ _ _;
-      pieces = pieces_none _;
-      apart = tt;
+      files = none_of [] _ _ (λ is. cc) tt;
     })
 
 pub returns-in-Claims : goal.returns-in-Claims
@@ -72,10 +56,5 @@ returns-in-Claims g c =
       not_write_fault = c.put_claim.ensures.not_write_fault;
       stands = c.put_claim.ensures.stands;
       waits = c.put_claim.ensures.waits;
-      held = c.put_claim.ensures.held;
-      faults = c.put_claim.ensures.faults;
-      takes = c.put_claim.ensures.takes;
-      reads = c.put_claim.ensures.reads;
-      pieces = c.put_claim.ensures.pieces;
-      apart = c.put_claim.ensures.apart;
+      files = c.put_claim.ensures.files;
     })

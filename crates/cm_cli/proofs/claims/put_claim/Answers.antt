@@ -1,11 +1,13 @@
-use Rattle.std.proofs.Common.{◌∙◌, Err, IfSome, subst}
+use Rattle.std.proofs.Common.{◌∙◌, Err, IfSome, ap, subst}
 use Rattle.std.proofs.lemmas.Option.{IfSome_then}
+use Rattle.std.proofs.lemmas.Result.{err_from_is_err_and}
 use Rattle.cm_base.specs.declared.limited.Limited.{Limited}
 use Rattle.cm_cli.proofs.Claiming.{claim_past, claim_put, unread_put}
-use Rattle.cm_cli.proofs.FileReads.{reads_one}
+use Rattle.cm_cli.proofs.FileReads.{claim_file}
 use Rattle.cm_cli.proofs.claims.put_claim.Goals as goal
 use Rattle.cm_cli.specs.Query.{limit_of, query_view, task_by}
 use Rattle.cm_cli.specs.Reading.{IsFileRead}
+use Rattle.cm_cli.specs.declared.reading.Unread.{Unread}
 use Rattle.cm_declared.specs.World.{world_of}
 use Rattle.cm_io.specs.Shelf.{bytes_at}
 use Rattle.model_report.specs.Answer.{query_answer}
@@ -27,27 +29,29 @@ returns-in-Err-clause-report g c =
     (claim_past q w s c.in-Ok.question c.in-Ok.ensures.asked c.args.claim.kind
     (bytes_at files c.args.claim.file.now) j))
 
-pub returns-in-Err-clause-reads : goal.returns-in-Err-clause-reads
-returns-in-Err-clause-reads g c =
-    reads_one _ _ _ _ c.args.claim.file.now
-    (limit_of c.args.claim.kind) _ c.read_file.ensures.reads c.read_file.ensures.takes
+pub returns-in-Err-clause-files : goal.returns-in-Err-clause-files
+returns-in-Err-clause-files g c =
+    claim_file _ _ c.args.claim.file.now _ _ _ _ c.limit.ensures c.in-Err.ensures.file
+    (λ is. c.put_unread.ensures.fault.1 (cc)) (λ is. ap (λ (e : Unread). Err e) (c.put_unread.ensures.fault.0 is))
 
-pub returns-in_err-status-in-Ok-clause-reads : goal.returns-in_err-status-in-Ok-clause-reads
-returns-in_err-status-in-Ok-clause-reads g c =
-    reads_one _ _ _ _ c.args.claim.file.now
-    (limit_of c.args.claim.kind) _ c.read_file.ensures.reads c.read_file.ensures.takes
-
-pub returns-in-Ok-clause-reads : goal.returns-in-Ok-clause-reads
-returns-in-Ok-clause-reads g c =
-    reads_one _ _ _ _ c.args.claim.file.now
-    (limit_of c.args.claim.kind) _ c.read_file.ensures.reads c.read_file.ensures.takes
-
-pub returns-in-Ok-clause-report : goal.returns-in-Ok-clause-report
-returns-in-Ok-clause-report g c =
+pub returns-in_ok-put_claimed-in-Ok-read_file-clause-report : goal.returns-in_ok-put_claimed-in-Ok-read_file-clause-report
+returns-in_ok-put_claimed-in-Ok-read_file-clause-report g c =
     let q = query_view c.args.claim.query in
     IfSome_then (g.H.Shelf.held c.args.shelf.now) c.in-Ok-read_file.ensures.read (λ files read j gives.
     claim_put q (world_of c.args.w.now) c.args.machine.state c.in-Ok.question c.in-Ok.ensures.asked c.args.claim.kind
     c.deref.result.now
-    (bytes_at files c.args.claim.file.now) j c.args.text.now.items c.put_claimed.new.text.items
-    c.in_ok-status-in-Ok.status
-    (c.deref.ensures.value ∙ read.1) gives (c.in_ok-status-in-Ok.ensures.report q c.in-Ok.ensures.asked j))
+    (bytes_at files c.args.claim.file.now) j c.args.text.now.items c.put_claimed.new.text.items _
+    (c.deref.ensures.value ∙ read.1) gives
+    (c.in_ok-put_claimed-in-Ok-read_file.ensures.report q c.in-Ok.ensures.asked j))
+
+pub returns-in_ok-put_claimed-in-Ok-read_file-clause-files : goal.returns-in_ok-put_claimed-in-Ok-read_file-clause-files
+returns-in_ok-put_claimed-in-Ok-read_file-clause-files g c =
+    claim_file _ _ c.args.claim.file.now _ _ _ _ c.limit.ensures c.in-Ok-read_file.ensures.file (λ is. absurd (cc))
+    (λ is. absurd (cc))
+
+pub returns-in_err-put_claimed-in-Ok-read_file-clause-files : goal.returns-in_err-put_claimed-in-Ok-read_file-clause-files
+returns-in_err-put_claimed-in-Ok-read_file-clause-files g c =
+    let p = err_from_is_err_and c.from_residual-in_err-put_claimed-in-Ok-read_file.result
+    c.from_residual-in_err-put_claimed-in-Ok-read_file.ensures.1 in
+    rw (p.1, p.2) (claim_file _ _ c.args.claim.file.now _ _ _ _ c.limit.ensures c.in-Ok-read_file.ensures.file
+    (λ is. absurd (cc)) (λ is. absurd (cc)))

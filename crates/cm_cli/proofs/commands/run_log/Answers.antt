@@ -26,10 +26,10 @@ returns-in-Ok g c =
     let w = c.in-Ok.w in
     let first = c.in-Ok.ensures in
     let e = c.tell_log.ensures in
-    let next = rw first.held at e.report in
-    let same = first.faults.others (λ is. cc) in
-    let reads = reads_one _ _ _ _ world limit.World _ first.reads first.takes in
-    let apart = apart_as (file_of t) log _ _ _ _ _ _ first.counted e.apart in
+    let next = rw first.file.held at e.report in
+    let same = first.file.faults.others (λ is. cc) in
+    let reads = reads_one _ _ _ _ world limit.World _ first.file.reads first.file.takes in
+    let apart = apart_as (file_of t) log _ _ _ _ _ _ first.file.counted e.files.apart in
     record {
       report = log_answers held t world log c.tell_log.result _ _
           (if_both held first.read next (λ files read told j gives.
@@ -37,8 +37,8 @@ returns-in-Ok g c =
           (world_report (task_view t (bytes_at files)) j (bytes_at files world) (bytes_at files log) w read)
           (told j (world_gives (task_view t (bytes_at files)) j (bytes_at files world) (bytes_at files log) w read
           gives)))) e.not_usage;
-      read_faults = told_faults held world log w first.read _ _ _ same c.tell_log.result t e.faults
-          (rw first.held at e.order);
+      read_faults = told_faults held world log w first.read _ _ _ same c.tell_log.result t e.files.faults
+          (rw first.file.held at e.order);
       write_faults = e.counts;
       before_fault = before_asked held _ t world log c.tell_log.result _ _ _ _ (λ is.
           log_before held (g.H.Shelf.counted c.args.shelf.now) t world log w _ _ _ _ _ _ _ first.read same (e.start is)
@@ -47,15 +47,15 @@ returns-in-Ok g c =
           log_lines held (g.H.Shelf.counted c.args.shelf.now) (shows_of t) world log w (g.H.Shelf.faults c.args.shelf.now)
           (g.H.Shelf.faults c.tell_log.new.shelf) (g.H.Shelf.taken c.args.shelf.now)
           (g.H.Shelf.taken c.read_world_file.new.shelf) (g.H.Shelf.taken c.tell_log.new.shelf)
-          (g.K.Sink.written c.args.out.now) (g.K.Sink.written c.tell_log.new.out) _ first.read first.takes
-          (λ shown. rw first.held at (e.tells is shown)));
-      pieces = pieces_then _ _ _ first.pieces e.pieces;
+          (g.K.Sink.written c.args.out.now) (g.K.Sink.written c.tell_log.new.out) _ first.read first.file.takes
+          (λ shown. rw first.file.held at (e.tells is shown)));
+      pieces = pieces_then _ _ _ first.file.pieces e.files.pieces;
       takes = all_taken t world log (g.H.Shelf.taken c.args.shelf.now) (g.H.Shelf.taken c.read_world_file.new.shelf)
-          (g.H.Shelf.taken c.tell_log.new.shelf) (takes_one _ _ world limit.World first.takes) e.takes;
-      reads = all_reads t world log _ _ _ _ _ _ reads e.reads;
+          (g.H.Shelf.taken c.tell_log.new.shelf) (takes_one _ _ world limit.World first.file.takes) e.files.takes;
+      reads = all_reads t world log _ _ _ _ _ _ reads e.files.reads;
       waits = told_waits held world log w first.read _ _ _ same (g.H.Shelf.counted c.args.shelf.now) _ _ _ _ _ reads t
-          apart (rw first.held at e.waits);
-      held = e.held ∙ first.held;
+          apart (rw first.file.held at e.waits);
+      held = e.files.held ∙ first.file.held;
     }
 
 -- a report of one piece
@@ -68,7 +68,7 @@ returns-in-Err-Refused g c =
     let log = c.args.log.now in
     let first = rw c.in-Err-Refused.field-0-is at c.in-Err-Refused.ensures in
     let told = c.tell_short.ensures in
-    let reads = reads_one _ _ _ _ world limit.World _ first.reads first.takes in
+    let reads = reads_one _ _ _ _ world limit.World _ first.file.reads first.file.takes in
     record {
       report = log_answers held t world log c.tell_short.result _ _
           (if_told held first.read (λ files read j gives.
@@ -78,16 +78,16 @@ returns-in-Err-Refused g c =
           (told_not_usage _ _ _ _ _ _ told
           (short_not_usage c.in-Err-Refused.short (λ is. first.not_usage (ap (λ s. Err (unready.Refused s)) is))));
       read_faults = no_read_fault held t world log c.tell_short.result _ _ told.never_read_fault
-          (first.faults.others (λ is. cc));
+          (first.file.faults.others (λ is. cc));
       write_faults = told.counts;
       before_fault = no_fault held _ (asking t world log) c.tell_short.result _ _ _ _ told.never_read_fault;
       lines_told = no_lines held _ (asking t world log) c.tell_short.result _ _ _ _ _ _ told.never_read_fault;
-      pieces = first.pieces;
+      pieces = first.file.pieces;
       takes = world_taken t world log (g.H.Shelf.taken c.args.shelf.now) (g.H.Shelf.taken c.read_world_file.new.shelf)
-          (takes_one _ _ world limit.World first.takes);
+          (takes_one _ _ world limit.World first.file.takes);
       reads = world_reads t world log _ _ _ _ reads;
       waits = world_waits held _ world log _ _ _ _ _ _ reads t;
-      held = first.held;
+      held = first.file.held;
     }
 
 pub returns-in-Err-ReadFault : goal.returns-in-Err-ReadFault
@@ -97,24 +97,24 @@ returns-in-Err-ReadFault g c =
     let world = c.args.world.now in
     let log = c.args.log.now in
     let first = rw c.in-Err-ReadFault.field-0-is at c.in-Err-ReadFault.ensures in
-    let reads = reads_one _ _ _ _ world limit.World _ first.reads first.takes in
+    let reads = reads_one _ _ _ _ world limit.World _ first.file.reads first.file.takes in
     record {
       report = unread_answers held t world log _ _ (λ is. is.not_read_fault refl) (λ is. cc);
-      read_faults = world_fault held t world log _ _ (first.faults.fault refl) first.faults.later;
+      read_faults = world_fault held t world log _ _ (first.file.faults.fault refl) first.file.faults.later;
       write_faults = wrote_none _ _ (λ is. cc);
       before_fault = before_asked held _ t world log _ _ _ _ _
-          (λ _. world_before held (g.H.Shelf.counted c.args.shelf.now) (shows_of t) world log _ _ _ _ _ first.apart);
+          (λ _. world_before held (g.H.Shelf.counted c.args.shelf.now) (shows_of t) world log _ _ _ _ _ first.file.apart);
       lines_told = lines_asked held _ t world log _ _ _ _ _ _ _
           (λ _. world_lines held (g.H.Shelf.counted c.args.shelf.now) (shows_of t) world log
           (g.H.Shelf.faults c.args.shelf.now) (g.H.Shelf.faults c.read_world_file.new.shelf) _ _
           (g.H.Shelf.taken c.args.shelf.now) (g.H.Shelf.taken c.read_world_file.new.shelf)
-          (g.K.Sink.written c.args.out.now) (g.K.Sink.written c.args.out.now) first.apart);
-      pieces = first.pieces;
+          (g.K.Sink.written c.args.out.now) (g.K.Sink.written c.args.out.now) first.file.apart);
+      pieces = first.file.pieces;
       takes = world_taken t world log (g.H.Shelf.taken c.args.shelf.now) (g.H.Shelf.taken c.read_world_file.new.shelf)
-          (takes_one _ _ world limit.World first.takes);
+          (takes_one _ _ world limit.World first.file.takes);
       reads = world_reads t world log _ _ _ _ reads;
       waits = world_waits held _ world log _ _ _ _ _ _ reads t;
-      held = first.held;
+      held = first.file.held;
     }
 
 pub returns-in-Err-NoMemory : goal.returns-in-Err-NoMemory
@@ -124,17 +124,17 @@ returns-in-Err-NoMemory g c =
     let world = c.args.world.now in
     let log = c.args.log.now in
     let first = rw c.in-Err-NoMemory.field-0-is at c.in-Err-NoMemory.ensures in
-    let reads = reads_one _ _ _ _ world limit.World _ first.reads first.takes in
+    let reads = reads_one _ _ _ _ world limit.World _ first.file.reads first.file.takes in
     record {
       report = unread_answers held t world log _ _ (λ is. is.not_memory refl) (λ is. cc);
-      read_faults = no_read_fault held t world log _ _ _ (λ is. cc) (first.faults.others (λ is. cc));
+      read_faults = no_read_fault held t world log _ _ _ (λ is. cc) (first.file.faults.others (λ is. cc));
       write_faults = wrote_none _ _ (λ is. cc);
       before_fault = no_fault held _ (asking t world log) _ _ _ _ _ (λ is. cc);
       lines_told = no_lines held _ (asking t world log) _ _ _ _ _ _ _ (λ is. cc);
-      pieces = first.pieces;
+      pieces = first.file.pieces;
       takes = world_taken t world log (g.H.Shelf.taken c.args.shelf.now) (g.H.Shelf.taken c.read_world_file.new.shelf)
-          (takes_one _ _ world limit.World first.takes);
+          (takes_one _ _ world limit.World first.file.takes);
       reads = world_reads t world log _ _ _ _ reads;
       waits = world_waits held _ world log _ _ _ _ _ _ reads t;
-      held = first.held;
+      held = first.file.held;
     }

@@ -1,5 +1,5 @@
 use Rattle.std.proofs.Common.{◌∙◌, refl}
-use Rattle.cm_cli.proofs.FileReads.{faults_as}
+use Rattle.cm_cli.proofs.FileReads.{files_as}
 use Rattle.cm_cli.proofs.Replaying.{always, if_both, if_told, log_answer}
 use Rattle.cm_cli.proofs.Stopping.{front_told, read_untold, stopped_counts, stopped_no_read, stopped_none}
 use Rattle.cm_cli.proofs.Stopping.{stopped_not_usage, untold_counts}
@@ -25,12 +25,7 @@ returns-in-Err g c =
       counts = untold_counts c.in-Err.why _ _ e.cause;
       order = if_told held e.order (λ files failed is. failed (read is));
       waits = e.waits;
-      held = e.held;
-      faults = faults_as _ _ _ _ _ (read_untold c.in-Err.why _ refl) read e.faults;
-      takes = e.takes;
-      reads = e.reads;
-      apart = e.apart;
-      pieces = e.pieces;
+      files = files_as _ _ _ _ _ (read_untold c.in-Err.why _ refl) read e.files;
     })
 
 pub returns-in-Ok-send : goal.returns-in-Ok-send
@@ -49,12 +44,7 @@ returns-in-Ok-send g c =
       counts = wrote_counts _ _ _ told.0 (c.in-Ok-send.ensures.cause.ok ∙ e.cause.others (λ is. cc));
       order = always held (λ files is. absurd (told.0.not_read_fault is));
       waits = e.waits;
-      held = e.held;
-      faults = faults_as _ _ _ _ _ (λ is. absurd (cc)) (λ is. absurd (told.0.not_read_fault is)) e.faults;
-      takes = e.takes;
-      reads = e.reads;
-      apart = e.apart;
-      pieces = e.pieces;
+      files = files_as _ _ _ _ _ (λ is. absurd (cc)) (λ is. absurd (told.0.not_read_fault is)) e.files;
     }
 
 pub returns : goal.returns
@@ -73,10 +63,5 @@ returns g c =
       counts = stopped_counts why _ _ _ (e.cause.others (λ is. cc)) c.in-Err-send.ensures.cause;
       order = always held (λ files is. absurd (stopped_no_read why is));
       waits = e.waits;
-      held = e.held;
-      faults = faults_as _ _ _ _ _ (λ is. absurd (cc)) (λ is. absurd (stopped_no_read why is)) e.faults;
-      takes = e.takes;
-      reads = e.reads;
-      apart = e.apart;
-      pieces = e.pieces;
+      files = files_as _ _ _ _ _ (λ is. absurd (cc)) (λ is. absurd (stopped_no_read why is)) e.files;
     })

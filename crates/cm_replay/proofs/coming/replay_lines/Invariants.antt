@@ -1,9 +1,10 @@
-use Rattle.std.proofs.Common.{◌≡◌, ◌≤◌, ◌+◌, ◌-◌, ℕ, List, [], length, false, IfSome}
+use Rattle.std.proofs.Common.{◌≡◌, ◌≤◌, ◌+◌, ◌-◌, [], length, false, IfSome}
 use Rattle.cm_base.specs.Limited.{limit_number}
 use Rattle.cm_base.specs.declared.limited.Limited.TheVariants as limit
 use Rattle.cm_declared.specs.World.{world_of}
 use Rattle.cm_io.specs.Cutter.{Fits, ends, is_at_hand, left_of, read_to}
-use Rattle.cm_io.specs.Shelf.{AsksForPieces, CountsApart, ReadsByBytes, TakesAtMost, bytes_at}
+use Rattle.cm_io.specs.Account.{account, ReadsFile}
+use Rattle.cm_io.specs.Shelf.{bytes_at}
 use Rattle.cm_log.specs.Counts.{events_due, lines_read}
 use Rattle.cm_log.specs.Left.{left}
 use Rattle.cm_io.specs.Sink.{then_written}
@@ -22,20 +23,12 @@ invariant-loop-replay g l = record {
   line : l.cutter.line ≡ limit_number limit.Line;
   whole : l.cutter.whole ≡ limit_number limit.Log;
   fits : Fits (g.H.Shelf.held l.shelf) l.cutter;
-  held : g.H.Shelf.held l.shelf ≡ g.H.Shelf.held l.fn.shelf;
-  counted : (n : List ℕ) → g.H.Shelf.counted l.shelf n ≡ g.H.Shelf.counted l.fn.shelf n;
-  faults : (n : List ℕ) → g.H.Shelf.faults l.shelf n ≡ g.H.Shelf.faults l.fn.shelf n;
-  takes : TakesAtMost (g.H.Shelf.taken l.fn.shelf) (g.H.Shelf.taken l.shelf) l.fn.cutter.name (read_to l.cutter);
-  reads : ReadsByBytes (g.H.Shelf.reads l.fn.shelf) (g.H.Shelf.reads l.shelf) (g.H.Shelf.taken l.fn.shelf)
-      (g.H.Shelf.taken l.shelf) l.fn.cutter.name (ends l.cutter);
-  pieces : AsksForPieces (g.H.Shelf.widest l.fn.shelf) (g.H.Shelf.widest l.shelf);
+  file : ReadsFile (account g.H.Shelf l.fn.shelf) (account g.H.Shelf l.shelf) l.fn.cutter.name (read_to l.cutter) (ends l.cutter) ⊥;
   ended : EndsIn (g.H.Shelf.held l.fn.shelf) l.fn.cutter.name l.cutter;
   first : g.K.Sink.written l.initial.out ≡ then_written (g.K.Sink.written l.fn.out) l.fn.text.items;
   waits : is_at_hand l.cutter ≡ false → l.cutter.ended ≡ false → l.text.items ≡ [];
   past : GonePast (g.H.Shelf.held l.fn.shelf) (world_of l.w) l.fn.cutter.name l.fn.replay (g.K.Sink.written l.initial.out) l.fn.log
       l.replay (record { written = g.K.Sink.written l.out; waits = l.text.items }) l.log l.cutter;
-  apart : CountsApart (g.H.Shelf.counted l.fn.shelf) (g.H.Shelf.faults l.fn.shelf) (g.H.Shelf.faults l.shelf)
-      (g.H.Shelf.reads l.fn.shelf) (g.H.Shelf.reads l.shelf) l.fn.cutter.name;
   ready : IsReady (world_of l.w) l.replay l.log;
   lines : lines_read l.log ≤ l.cutter.place;
   events : l.replay.events + events_due l.log ≤ l.cutter.place;

@@ -41,7 +41,8 @@ returns-in_err-status-clause-stopped g c =
     (λ files. shown_report c.args.shows (replay_of w (log_reading w (bytes_at files name))))
     c.in_err-status.ensures.told
     (λ files. whole_report w replay c.in_ok-log.log cutter name (bytes_at files cutter.name) c.args.shows c.in_ok-replay.ensures.state
-    c.in_ok-replay.ensures.none c.in_ok-replay.ensures.shows c.in_ok-log.ensures.reading c.in_ok-cutter.ensures.begun
+    c.in_ok-replay.ensures.none c.in_ok-replay.ensures.shows c.in_ok-log.ensures.reading
+    (rw (c.number.ensures, c.number-2.ensures) at c.in_ok-cutter.ensures.begun)
     ∙ ap (λ (n : List ℕ). shown_report c.args.shows (replay_of w (log_reading w (bytes_at files n)))) named)
 
 -- a read of the log failed

@@ -1,4 +1,5 @@
 use Rattle.std.proofs.Common.{length, subst, sym}
+use Rattle.std.proofs.lemmas.Result.{err_from_is_err_and}
 use Rattle.cm_declared.specs.World.{world_of}
 use Rattle.cm_log.specs.Counts.{KnowsWithin}
 use Rattle.cm_log.specs.declared.log.Log.{Log}
@@ -14,7 +15,9 @@ returns-in-Some-clause-advances g c goes =
 pub follow-requires-clause-knows : goal.follow-requires-clause-knows
 follow-requires-clause-knows g c =
     let n = length c.args.replay.now.machine.state.spaces in
-    c.in-Ok.ensures.counts.knows n (subst (λ (log : Log). KnowsWithin n log) (sym c.in_default.ensures.same) c.requires.ready.knows)
+    c.in_ok-next.ensures.counts.knows n (subst (λ (log : Log). KnowsWithin n log) (sym c.in_default.ensures.same) c.requires.ready.knows)
 
-pub returns-in-Err-clause-follows : goal.returns-in-Err-clause-follows
-returns-in-Err-clause-follows g c cut = none_sent _ _
+pub returns-in_err-next-clause-follows : goal.returns-in_err-next-clause-follows
+returns-in_err-next-clause-follows g c cut =
+    let p = err_from_is_err_and c.from_residual.result c.from_residual.ensures.1 in
+    rw p.1 (none_sent _ _)

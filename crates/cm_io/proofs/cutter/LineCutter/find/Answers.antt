@@ -1,8 +1,8 @@
 use Rattle.std.proofs.Common.{arith, rules, ap, ◌≡◌, length, sym, ◌∙◌}
 use Rattle.cm_lines.specs.Lines.{line_size}
-use Rattle.cm_io.specs.Cutter.{Cutting, past_kept}
-use Rattle.cm_io.proofs.Cutting.{past_now, past_found, line_is_found, end_is_found, kept_same, keeps_noted, keeps_on, none_was, not_hand, takes_on, breaks_within}
-use Rattle.cm_io.proofs.ReadCounts.{apart_then, reads_then, reads_within}
+use Rattle.cm_io.specs.Cutter.{Cutting}
+use Rattle.cm_io.proofs.Cutting.{past_now, past_found, line_is_found, end_is_found, kept_same, keeps_noted, keeps_on, none_was, not_hand, breaks_within}
+use Rattle.cm_io.proofs.FileReads.{file_then}
 use Rattle.cm_io.proofs.cutter.LineCutter.find.Goals as goal
 
 pub returns-in-Some-clause-is : goal.returns-in-Some-clause-is
@@ -27,7 +27,7 @@ returns-in-Ok-eq0-clause-is g c =
     rw c.found_of-in-Ok-eq0.ensures (end_is_found _ _ c.loop-past.self c.note_end-in-Ok-eq0.new.self _ _ _ c.loop-past.invariant.keeps c.loop-past.invariant.fits
     (sym c.is_at_hand.ensures ∙ c.if-is_at_hand.false)
     (ap (λ (v : Cutting). v.kept) c.note_end-in-Ok-eq0.ensures ∙ kept_same c.loop-past.self c.fill.new.self _ c.in-Ok-eq0.ensures.keeps c.in-Ok-eq0.field-0-test)
-    (rw c.loop-past.invariant.held at (c.in-Ok-eq0.ensures.whole c.in-Ok-eq0.field-0-test))
+    (rw c.loop-past.invariant.file.held at (c.in-Ok-eq0.ensures.whole c.in-Ok-eq0.field-0-test))
     c.first_len-len.ensures.len size (sym c.past.ensures ∙ c.in_default.is))
 
 pub returns-then-is_at_hand-clause-stays : goal.returns-then-is_at_hand-clause-stays
@@ -56,16 +56,8 @@ loop-past-preserved g c =
       kept = search rules;
       fits = search rules;
       unread = not_hand _ _ _ _ c.loop-past.invariant.keeps none;
-      held = search rules;
-      takes = takes_on _ _ _ _ _ _ _ c.loop-past.invariant.takes (rw name at c.in-Ok.ensures.takes)
-          (omega (arith, c.in-Ok.ensures.keeps.len, c.loop-past.invariant.keeps.len));
-      reads = reads_within _ _ _ _ c.args.self.now.name _ _ (search rules)
-          (reads_then _ _ _ _ _ _ c.args.self.now.name _ _ c.loop-past.invariant.reads (rw name at c.in-Ok.ensures.reads));
-      pieces = search rules;
-      counted = search rules;
-      apart = apart_then _ _ _ _ _ _ _ _ c.args.self.now.name (c.loop-past.invariant.counted c.args.self.now.name)
-          c.loop-past.invariant.apart (rw name at c.in-Ok.ensures.apart);
-      faults = search rules;
+      file = file_then _ _ _ c.args.self.now.name _ _ _ _ _ _ (λ never. never) c.loop-past.invariant.file (rw name at c.in-Ok.ensures.file)
+          (omega (arith, c.in-Ok.ensures.keeps.len, c.loop-past.invariant.keeps.len)) (search rules) (λ failed. cc) (λ never. absurd never);
     }
 
 pub returns-in-Err-clause-unread : goal.returns-in-Err-clause-unread
@@ -76,8 +68,8 @@ pub returns-in-Err-clause-breaks : goal.returns-in-Err-clause-breaks
 returns-in-Err-clause-breaks g c is =
     let none = sym c.is_at_hand.ensures ∙ c.if-is_at_hand.false in
     let name = c.loop-past.invariant.keeps.same.name in
-    breaks_within _ _ c.loop-past.self _ _ _ _ c.loop-past.invariant.keeps c.loop-past.invariant.fits none c.loop-past.invariant.takes
-    (rw name at c.in-Err.ensures.takes)
+    breaks_within _ _ c.loop-past.self _ _ _ _ c.loop-past.invariant.keeps c.loop-past.invariant.fits none c.loop-past.invariant.file.takes
+    (rw name at c.in-Err.ensures.file.takes)
 
 pub returns-in-Err-clause-wants : goal.returns-in-Err-clause-wants
 returns-in-Err-clause-wants g c is =
