@@ -27,7 +27,7 @@ EXAMPLE := $(foreach word,$(shell cat $(CRATE)/args),$(if $(wildcard $(CRATE)/da
 .PHONY: all try test install uninstall clean
 
 all:
-	tools/make/prove.py $(EXAMPLE)
+	tools/make/prove.py $(if $(JOBS),--jobs $(JOBS)) $(EXAMPLE)
 	cd $(CRATE) && out/credaudit $(EXAMPLE) | diff stdout -
 	@echo "built: $(PROGRAM)"
 

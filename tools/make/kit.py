@@ -4,7 +4,7 @@ import re
 import subprocess
 import sys
 from collections.abc import Callable, Sequence
-from typing import IO
+from typing import IO, NamedTuple
 
 IDENTITY = re.compile(r"^.* logic ([0-9a-f]{16})$", re.MULTILINE)
 # The last lines of a run that proved its program: the verdict, and next that the program was linked.
@@ -18,8 +18,15 @@ class Failed(Exception):
     """It can't be made, for this reason."""
 
 
-def logic() -> str:
-    """The sum of the kit's logic, as `rt version` tells it. Fails where it tells none."""
+class Kit(NamedTuple):
+    """What `rt version` tells: its line, and the sum of the kit's logic in it."""
+
+    line: str
+    logic: str
+
+
+def identity() -> Kit:
+    """What the kit tells of itself. Fails where it tells no sum of the logic."""
     try:
         done = subprocess.run(["rt", "version"], stdin=subprocess.DEVNULL, capture_output=True, text=True,
                               check=False)
@@ -28,7 +35,12 @@ def logic() -> str:
     found = IDENTITY.search(done.stdout)
     if done.returncode or found is None:
         raise Failed("rt version tells no sum of the logic")
-    return found[1]
+    return Kit(found[0], found[1])
+
+
+def logic() -> str:
+    """The sum of the kit's logic."""
+    return identity().logic
 
 
 def passed_on(stream: IO[str]) -> str:
@@ -49,6 +61,15 @@ def started(words: Sequence[str], crate: str, output: IO[bytes] | None = None,
     try:
         return subprocess.Popen(["rt", *words], cwd=crate, env=environment, stdin=subprocess.DEVNULL, stdout=output,
                                 stderr=subprocess.PIPE, text=True, errors="backslashreplace")
+    except OSError as error:
+        raise Failed(f"rt, the command of the kit, can't be started: {error.strerror}") from error
+
+
+def library(crate: str, jobs: int, said: IO[bytes]) -> subprocess.Popen[bytes]:
+    """rt, started to prove and build the library in a folder, by so many jobs; what it tells goes to a file."""
+    try:
+        return subprocess.Popen(["rt", "lib", "--jobs", str(jobs)], cwd=crate, stdin=subprocess.DEVNULL, stdout=said,
+                                stderr=subprocess.STDOUT)
     except OSError as error:
         raise Failed(f"rt, the command of the kit, can't be started: {error.strerror}") from error
 

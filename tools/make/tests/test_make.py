@@ -6,6 +6,7 @@ import contextlib
 import functools
 import io
 import os
+import re
 import shutil
 import subprocess
 import unittest
@@ -17,6 +18,7 @@ from credaudit_tools.provenance import sources, stamp
 from credaudit_tools.provenance.stamp import Build, Tree
 from make import prove, same_program, try_build
 from make.kit import Failed
+from make.same_program import Asked
 
 TOP = os.path.normpath(os.path.join(support.EXAMPLES, ".."))
 FAKE = os.path.join(os.path.dirname(os.path.abspath(__file__)), "fake_rt")
@@ -136,7 +138,8 @@ class Proved(SmallTree):
     def test_proved_and_installed(self) -> None:
         out, errors = self.make()
         self.assertTrue(out.endswith("built: crates/credaudit/out/credaudit\n"), out)
-        self.assertEqual(errors, SAID)
+        self.assertRegex(errors, rf"(?s)\Alibraries: 1, of which 0 .*\nlow: proved; .*\n{re.escape(SAID)}took 0\.\d "
+                                 r"minutes by the clock and 0\.\d of processor, on \d+ processors, .*\n\Z")
         self.assertEqual(self.build(), self.wanted(True, OWN))
         self.assertEqual(self.installed(), "proved, of this tree")
         self.put("tree/README.md", b"changed")
@@ -266,14 +269,15 @@ class Tried(SmallTree):
 class SameProgram(SmallTree):
     """same_program.py, without other users."""
 
-    def compared(self, said: str = SAID, before: str = "") -> tuple[int, list[str]]:
+    def compared(self, said: str = SAID, before: str = "", keep: str | None = None,
+                 at_once: bool = False) -> tuple[int, list[str]]:
         """The status of a comparison, and what it told."""
         self.kit_is(said=said, before=before)
         out = io.StringIO()
         with (mock.patch.dict(os.environ, {"PATH": f"{self.kit}:{os.environ['PATH']}"}),
               mock.patch.object(subprocess, "run", functools.partial(subprocess.run, capture_output=True)),
               contextlib.redirect_stdout(out)):
-            status = same_program.compared(self.top, self.work, same_program.PROVED, (None, None))
+            status = same_program.compared(Asked(self.top, self.work, keep=keep, at_once=at_once), (None, None))
         return status, out.getvalue().splitlines()
 
     def test_same(self) -> None:
@@ -282,6 +286,22 @@ class SameProgram(SmallTree):
         self.assertEqual([line.split("/credaudit-same-")[0] for line in told[0:3:2]],
                          [f"you: make all in {self.work}"] * 2)
         self.assertEqual(told[1].split()[0], told[3].split()[0])
+
+    def test_side_by_side(self) -> None:
+        """Each waits until the other one's make runs too."""
+        meets = """case $1 in run)
+          touch "$here/run.$$"
+          for _ in $(seq 600); do [ $(ls "$here"/run.* | wc -l) -ge 2 ] && break; sleep 0.05; done
+          [ $(ls "$here"/run.* | wc -l) -ge 2 ] || exit ;;
+        esac"""
+        status, told = self.compared(before=meets, at_once=True)
+        self.assertEqual((status, told[-1]), (0, "the programs are the same byte for byte"))
+
+    def test_the_first_is_kept(self) -> None:
+        keep = os.path.join(self.work, "first")
+        self.assertEqual(self.compared(keep=keep)[0], 0)
+        build = stamp.read_build(stamp.text_of(keep + ".build") or "")
+        self.assertEqual((build.proved, build.program), (True, sources.sum_of_file(keep)))
 
     def test_other(self) -> None:
         status, told = self.compared(before='echo "# $PWD" >"$here/more"')
