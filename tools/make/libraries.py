@@ -12,13 +12,15 @@ import time
 from concurrent.futures import FIRST_COMPLETED, Future, ThreadPoolExecutor, wait
 from typing import IO, NamedTuple
 
-from . import kit, rooms
+from . import kit, machine, rooms
 from .crate_list import Crates
 from .kept import Kept
 from .kit import Failed
-from .turns import Task, Turns, memory, stopped, tasks
+from .turns import Task, Turns, stopped, tasks
 
 KILLED = (-9, 137, 247)         # by a signal, as a shell tells it, and as rt passes it on
+
+LOOKS_AGAIN = 30                # after so many seconds, at the memory that is free
 
 
 class Ended(NamedTuple):
@@ -73,16 +75,17 @@ class Libraries:
 
     def all_built(self, wanted: list[Task], done: list[str]) -> dict[str, int]:
         """Builds all; the statuses of those that failed, by their names."""
-        turns, failed = Turns(wanted, done, self.lanes, memory()), dict[str, int]()
+        turns, failed = Turns(wanted, done, self.lanes, machine.memory()), dict[str, int]()
         running: dict[Future[Ended], tuple[Task, int]] = {}
         with ThreadPoolExecutor(self.lanes) as pool:
             try:
                 while True:
+                    turns.room = machine.memory()
                     while (begin := turns.following()) is not None:
                         running[pool.submit(self.built, begin[0].name, begin[1])] = begin
                     if not running:
                         return failed
-                    for future in wait(running, return_when=FIRST_COMPLETED).done:
+                    for future in wait(running, LOOKS_AGAIN, FIRST_COMPLETED).done:
                         task, jobs = running.pop(future)
                         ended = future.result()
                         tell(task.name, jobs, ended)

@@ -22,7 +22,7 @@ from collections.abc import Sequence
 
 import tools_path
 from credaudit_tools.provenance import trees
-from make import kit, libraries, stamps, turns
+from make import kit, libraries, machine, stamps
 from make.kit import Failed
 
 
@@ -47,7 +47,7 @@ def took(begun: float, lanes: int) -> str:
     own = resource.getrusage(resource.RUSAGE_SELF)
     processor = used.ru_utime + used.ru_stime + own.ru_utime + own.ru_stime
     return (f"took {(time.monotonic() - begun) / 60:.1f} minutes by the clock and {processor / 60:.1f} of processor, "
-            f"on {turns.processors()} processors, at most {lanes} libraries at once")
+            f"on {machine.processors()} processors, at most {lanes} libraries at once")
 
 
 def proved(top: str, words: Sequence[str], lanes: int) -> int:
@@ -70,7 +70,7 @@ def main() -> int:
     """The words of the script."""
     ask = argparse.ArgumentParser(description="Proves, builds and stamps the program.")
     ask.add_argument("--top", default=tools_path.TOP, metavar="FOLDER", help="the repository, if it isn't this one")
-    ask.add_argument("--jobs", type=int, default=turns.processors(), metavar="N", help="how many libraries at once")
+    ask.add_argument("--jobs", type=int, default=machine.processors(), metavar="N", help="how many libraries at once")
     ask.add_argument("words", nargs="*", metavar="WORD", help="words of the program, which is run at the end")
     asked = ask.parse_args()
     if asked.jobs < 1:

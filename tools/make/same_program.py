@@ -25,7 +25,7 @@ from typing import NamedTuple
 import tools_path
 from credaudit_tools.provenance import places
 from credaudit_tools.provenance.sources import sum_of_file
-from make import kit, turns
+from make import kit, machine
 from make.kit import Failed
 
 LEFT_OUT = shutil.ignore_patterns("out", ".git", "__pycache__", ".mypy_cache")
@@ -79,7 +79,7 @@ def program_of(asked: Asked, folder: str, user: str | None) -> str:
     tree = os.path.join(folder, "tree")
     shutil.copytree(asked.top, tree, symlinks=True, ignore=LEFT_OUT)
     print(f"{user or 'you'}: make {target} in {tree}", flush=True)
-    lanes = turns.processors()
+    lanes = machine.processors()
     status = made(folder, target, user, -(-lanes // 2) if asked.at_once else lanes)
     path = os.path.join(tree, "crates", "credaudit", "out", name)
     if status or not os.path.isfile(path):

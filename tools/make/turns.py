@@ -1,8 +1,6 @@
 """Which crate is proved next, and by how many jobs: as many at once as there are processors and as memory holds, each
 once all that it stands on is proved, and first those with the longest chain of others above them.
 """
-import os
-import re
 from collections.abc import Mapping, Sequence
 from typing import NamedTuple
 
@@ -10,8 +8,6 @@ from .crate_list import Crates
 
 MOST_JOBS = 4               # a check gains nothing from more
 MORE = 0.6                  # what each further job takes of the memory of the first
-SPARED = 0.85               # of the free memory: some checks take more than is planned
-LIMIT = "/sys/fs/cgroup/memory.max"
 
 
 class Task(NamedTuple):
@@ -21,29 +17,6 @@ class Task(NamedTuple):
     after: frozenset[str]   # the tasks that it waits for
     work: int               # in lines of code, which tell the minutes roughly
     memory: float           # in bytes, with one job
-
-
-def processors() -> int:
-    """How many processors this process may use."""
-    return len(os.sched_getaffinity(0))
-
-
-def number_in(path: str, pattern: str) -> int | None:
-    """The number that a file of the kernel has; None where there is none."""
-    try:
-        with open(path, encoding="ascii", errors="replace") as file:
-            found = re.search(pattern, file.read())
-    except OSError:
-        return None
-    return int(found[1]) if found else None
-
-
-def memory() -> float:
-    """The bytes that the checks may take together."""
-    free = number_in("/proc/meminfo", r"MemAvailable:\s+(\d+) kB")
-    limit = number_in(LIMIT, r"^(\d+)$")
-    known = [found for found in (free * 1024 if free else None, limit) if found]
-    return SPARED * min(known) if known else float("inf")
 
 
 def tasks(crates: Crates, names: Sequence[str]) -> list[Task]:
@@ -67,7 +40,8 @@ def longest_first(wanted: Sequence[Task]) -> list[Task]:
 
 
 class Turns:
-    """The tasks that wait, those that run, and the names of those that are done."""
+    """The tasks that wait, those that run, and the names of those that are done. `room` is the memory for all that run;
+    it may be set anew."""
 
     def __init__(self, wanted: Sequence[Task], done: Sequence[str], lanes: int, room: float) -> None:
         self.waiting, self.running = longest_first(wanted), dict[str, tuple[int, float]]()

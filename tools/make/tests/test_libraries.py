@@ -11,7 +11,7 @@ import unittest
 from unittest import mock
 
 from commands.tests.support import Case
-from make import libraries, rooms
+from make import libraries, machine, rooms
 from make.crate_list import Crates
 from make.kit import Failed
 from make.tests.test_make import FAKE, TOP
@@ -36,7 +36,7 @@ class Libraries(Case):
             self.put(f"tree/crates/{name}/src/lib.rt", f"text of {name}\n".encode())
         self.put("kit/rt", b"")
         self.last = ""
-        self.enterContext(mock.patch.object(libraries, "memory", lambda: 99e9))
+        self.enterContext(mock.patch.object(machine, "memory", lambda: 99e9))
         shutil.copy(FAKE, os.path.join(self.kit, "rt"))
         self.enterContext(mock.patch.dict(os.environ, {"PATH": f"{self.kit}:{os.environ['PATH']}"}))
 
@@ -178,6 +178,18 @@ class Libraries(Case):
             self.put("tree/crates.txt", text.encode())
             with self.subTest(why), self.assertRaisesRegex(Failed, why):
                 Crates(self.top).below("a")
+
+    def test_memory(self) -> None:
+        """What a process holds that was started counts for this one, and doesn't for what is free."""
+        hold = "import sys; held = b'x' * 200_000_000; print(flush=True); sys.stdin.read()"
+        before = machine.held()
+        with subprocess.Popen(["sh", "-c", 'python3 -c "$0"; :', hold], stdin=subprocess.PIPE,
+                              stdout=subprocess.PIPE) as running:
+            assert running.stdout is not None and running.stdin is not None
+            running.stdout.readline()
+            self.assertEqual(len(machine.begun_by(running.pid)), 1)
+            self.assertTrue(200e6 < machine.held() - before < 300e6)
+            running.stdin.close()
 
     def test_a_room(self) -> None:
         """It has the list, sources and libraries of the crate and of those below alone, and ends."""
