@@ -1,7 +1,8 @@
 # make try       runs the stored example by an unproved build, compares what it writes, and leaves the build as
 #                out/credaudit-unproved of the crate: it checks itself, so it is slower, and nothing of it is proved
 # make           proves and builds the program, runs its stored example, compares what it writes, and stamps the program
-#                (docs/FORMATS.md, "Stamps")
+#                (docs/FORMATS.md, "Stamps"). Crates that don't stand on each other are proved side by side: JOBS=N at
+#                once, else as many as there are processors. What is proved already isn't proved again
 # make test      the gate: the tests of the commands in tools/, every proof, every must-fail edit, every test and the
 #                program's stored runs
 # make install   puts the built program, the commands around it, their pages, completion, documents and examples below
