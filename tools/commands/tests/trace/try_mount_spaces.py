@@ -2,8 +2,9 @@
 """Records programs that stand in mount namespaces of their own, many times each, beside busy loops: each recording has
 to be whole.
 
-  try_mount_spaces.py [--times N] [--user USER] [--test-execve PROGRAM] [NAME ..]     100 times each; to be run as root
+  try_mount_spaces.py [--times N] [--jobs N] [--user USER] [--test-execve PROGRAM] [NAME ..]     to be run as root
 
+100 times each where --times says nothing; --jobs so many at once, each of which is load for the others.
 Needs strace, and of Debian's packages bubblewrap, lxc, libcap-ng-utils, mmdebstrap, crun, runc and busybox-static; what
 isn't there is passed over, and told. PROGRAM is test_execve of the kernel's selftests (tools/testing/selftests/
 capabilities), with validate_cap beside it. Twice as many loops as processors run meanwhile: `taskset -c 3
@@ -23,6 +24,7 @@ import sys
 import tempfile
 import time
 from collections.abc import Callable, Iterator
+from concurrent.futures import ThreadPoolExecutor
 from contextlib import contextmanager
 from dataclasses import dataclass
 
@@ -30,7 +32,7 @@ import tools_path
 from credaudit_tools.evidence.premises import FILES, MOUNTS
 from credaudit_tools.replay import recording
 
-PATIENCE = 600.0
+PATIENCE = 1800.0
 LOOP = "import os\nabove = os.getppid()\nwhile os.getppid() == above: pass"      # it ends with this command
 TREE = ["--ro-bind", "/usr", "/usr", "--symlink", "usr/lib", "/lib", "--symlink", "usr/lib64", "/lib64", "--symlink",
         "usr/bin", "/bin"]
@@ -46,11 +48,11 @@ Description: holds nothing
 
 @dataclass(frozen=True)
 class Row:
-    """A program: what it needs, its words, which name what they make in a folder, paths that its log executes, and the
-    premises that it may well take away."""
+    """A program: what it needs, its words, by the folder of what all its runs share and by that of one run, paths that
+    its log executes, and the premises that it may well take away."""
     name: str
     needs: tuple[str, ...]
-    words: Callable[[str], list[str]]
+    words: Callable[[str, str], list[str]]
     executes: tuple[str, ...]
     may: tuple[str, ...] = (MOUNTS,)
 
@@ -102,29 +104,29 @@ def packages(folder: str) -> str:
     return place
 
 
-def container(runtime: str) -> Callable[[str], list[str]]:
+def container(runtime: str) -> Callable[[str, str], list[str]]:
     """The words that run a container of that runtime, under a name of its own."""
-    return lambda folder: ["unshare", "-m", "sh", "-c", f"{PURE}exec {runtime} run -b {bundle(folder, runtime)}"
-                           f" credaudit-{runtime}-{os.getpid()}-{time.monotonic_ns()}"]
+    return lambda folder, _: ["unshare", "-m", "sh", "-c", f"{PURE}exec {runtime} run -b {bundle(folder, runtime)}"
+                              f" credaudit-{runtime}-{os.getpid()}-{time.monotonic_ns()}"]
 
 
-def root_of_packages(folder: str) -> list[str]:
+def root_of_packages(folder: str, room: str) -> list[str]:
     """The words that make a root directory of that package."""
     return ["mmdebstrap", "--mode=root", "--variant=extract", "--include=tiny", "--skip=check/empty", "bookworm",
-            os.path.join(folder, "made"), f"deb [trusted=yes] copy:{packages(folder)} ./"]
+            os.path.join(room, "made"), f"deb [trusted=yes] copy:{packages(folder)} ./"]
 
 
 ROWS = [
-    Row("unshare", ("unshare",), lambda _: ["unshare", "-m", "true"], ("/usr/bin/true",)),
-    Row("unshare-user", ("unshare",), lambda _: ["unshare", "-Ur", "true"], ("/usr/bin/true",)),
-    Row("captest", ("unshare", "captest"), lambda _: ["unshare", "-m", "captest"], ("/usr/bin/captest",)),
-    Row("bwrap", ("bwrap",), lambda _: ["bwrap", "--ro-bind", "/", "/", "--unshare-all", "true"], ("/usr/bin/true",)),
-    Row("bwrap-tree", ("bwrap",), lambda _: ["bwrap", *TREE, "--unshare-user", "--proc", "/proc", "/bin/sh", "-c",
-                                             "true; /bin/true"], ("/usr/bin/dash", "/usr/bin/true")),
-    Row("lxc-usernsexec", ("lxc-usernsexec",), lambda _: ["lxc-usernsexec", "-m", "b:0:0:1", "--", "true"],
+    Row("unshare", ("unshare",), lambda *_: ["unshare", "-m", "true"], ("/usr/bin/true",)),
+    Row("unshare-user", ("unshare",), lambda *_: ["unshare", "-Ur", "true"], ("/usr/bin/true",)),
+    Row("captest", ("unshare", "captest"), lambda *_: ["unshare", "-m", "captest"], ("/usr/bin/captest",)),
+    Row("bwrap", ("bwrap",), lambda *_: ["bwrap", "--ro-bind", "/", "/", "--unshare-all", "true"], ("/usr/bin/true",)),
+    Row("bwrap-tree", ("bwrap",), lambda *_: ["bwrap", *TREE, "--unshare-user", "--proc", "/proc", "/bin/sh", "-c",
+                                              "true; /bin/true"], ("/usr/bin/dash", "/usr/bin/true")),
+    Row("lxc-usernsexec", ("lxc-usernsexec",), lambda *_: ["lxc-usernsexec", "-m", "b:0:0:1", "--", "true"],
         ("/usr/bin/true",)),
-    Row("chroot", ("unshare", "busybox"), lambda folder: ["unshare", "-m", "chroot", tree(folder), "/bin/sh", "-c",
-                                                          "true"], ("/usr/sbin/chroot", "TREE/bin/busybox")),
+    Row("chroot", ("unshare", "busybox"), lambda folder, _: ["unshare", "-m", "chroot", tree(folder), "/bin/sh",
+                                                             "-c", "true"], ("/usr/sbin/chroot", "TREE/bin/busybox")),
     Row("mmdebstrap", ("mmdebstrap", "dpkg-deb"), root_of_packages, ("/usr/bin/mmdebstrap", "/usr/bin/dpkg-deb")),
     Row("crun", ("unshare", "crun", "busybox"), container("crun"), ("/usr/bin/crun", "/bin/busybox")),
     Row("runc", ("unshare", "runc", "busybox"), container("runc"), ("/usr/sbin/runc", "/bin/busybox")),
@@ -133,7 +135,7 @@ ROWS = [
 
 def test_execve(program: str) -> Row:
     """That program of the kernel's selftests, and the one that it executes within its own mounts."""
-    return Row("test_execve", (program,), lambda _: [program], (os.path.realpath(program),), (MOUNTS, FILES))
+    return Row("test_execve", (program,), lambda *_: [program], (os.path.realpath(program),), (MOUNTS, FILES))
 
 
 @contextmanager
@@ -158,14 +160,15 @@ def said(words: list[str], user: str | None = None) -> tuple[int, bytes]:
     return done.returncode, done.stdout
 
 
-def fault(row: Row, folder: str, wanted: bytes, user: str | None) -> str | None:
-    """Records a program once; why that isn't whole, None where it is."""
-    place = os.path.join(folder, "recording")
-    for each in (place, os.path.join(folder, "made")):
-        shutil.rmtree(each, ignore_errors=True)
+def fault(row: Row, folder: str, room: str, wanted: bytes, user: str | None) -> str | None:
+    """Records a program once, in a room of its own; why that isn't whole, None where it is."""
+    place = os.path.join(room, "recording")
     command = os.path.join(tools_path.TOOLS, "credaudit-trace")
     options = ["-o", place, "--no-verify", "--for", "0", *([] if user is None else ["-u", user])]
-    status, told = said([sys.executable, command, *options, "--", *row.words(folder)])
+    try:
+        status, told = said([sys.executable, command, *options, "--", *row.words(folder, room)])
+    except subprocess.TimeoutExpired:
+        return f"it takes more than {PATIENCE:g} s"
     if status not in (0, 1):
         return f"status {status}"
     kept = recording.read(place)
@@ -180,18 +183,24 @@ def fault(row: Row, folder: str, wanted: bytes, user: str | None) -> str | None:
     return f"the log doesn't execute {', '.join(missing)}" if missing else None
 
 
-def tried(row: Row, folder: str, times: int, user: str | None) -> bool:
-    """Records a program so often; whether each time was whole. Tells each that isn't."""
-    status, wanted = said(row.words(folder), user)
+def tried(row: Row, folder: str, times: int, jobs: int, user: str | None) -> bool:
+    """Records a program so often, so many at once; whether each time was whole. Tells each that isn't."""
+    with tempfile.TemporaryDirectory(dir=folder) as room:
+        status, wanted = said(row.words(folder, room), user)
     if status != 0:
         print(f"{row.name:15} ends with status {status} alone: it can't be tried here")
         return True
-    begun, whole = time.monotonic(), 0
-    for number in range(1, times + 1):
-        why = fault(row, folder, wanted if row.name != "captest" else b"", user)
-        whole += why is None
+
+    def once(number: int) -> bool:
+        with tempfile.TemporaryDirectory(dir=folder) as room:
+            why = fault(row, folder, room, wanted if row.name != "captest" else b"", user)
         if why is not None:
             print(f"{row.name:15} {number}: {why}", flush=True)
+        return why is None
+
+    begun = time.monotonic()
+    with ThreadPoolExecutor(jobs) as pool:
+        whole = sum(pool.map(once, range(1, times + 1)))
     print(f"{row.name:15} {whole} of {times} whole, {(time.monotonic() - begun) / times:.1f} s each", flush=True)
     return whole == times
 
@@ -199,6 +208,7 @@ def tried(row: Row, folder: str, times: int, user: str | None) -> bool:
 def main() -> int:
     ask = argparse.ArgumentParser()
     ask.add_argument("--times", type=int, default=100)
+    ask.add_argument("--jobs", type=int, default=1)
     ask.add_argument("--user")
     ask.add_argument("--test-execve", metavar="PROGRAM")
     ask.add_argument("names", nargs="*", metavar="NAME")
@@ -219,7 +229,7 @@ def main() -> int:
             if missing:
                 print(f"{row.name:15} passed over: {', '.join(missing)} isn't there")
             else:
-                good &= tried(row, folder, asked.times, asked.user)
+                good &= tried(row, folder, asked.times, asked.jobs, asked.user)
     return 0 if good else 1
 
 
