@@ -27,9 +27,12 @@ class Standing:
             raise Failure(f"a namespace can't be entered: {os.strerror(error)}")
 
     def leave(self) -> None:
-        """Ends it. By a signal, since a later one of these holds the pipe too."""
-        os.kill(self.pid, signal.SIGKILL)
-        os.waitpid(self.pid, 0)
+        """Ends it. By a signal, since a later one of these holds the pipe too. It may be gone, and waited for."""
+        try:
+            os.kill(self.pid, signal.SIGKILL)
+            os.waitpid(self.pid, 0)
+        except (ProcessLookupError, ChildProcessError):
+            pass
         os.close(self.hold)
 
 

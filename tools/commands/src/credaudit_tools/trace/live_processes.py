@@ -58,6 +58,15 @@ def is_dead(proc: Proc, tid: int) -> bool:
     return data is not None and state_of(data) in DEAD
 
 
+def ended_child() -> int | None:
+    """A child of this process that has ended, and stays until it is waited for."""
+    try:
+        found = os.waitid(os.P_ALL, 0, os.WEXITED | os.WNOHANG | os.WNOWAIT)
+    except ChildProcessError:
+        return None
+    return None if found is None else found.si_pid
+
+
 def all_threads(proc: Proc) -> dict[int, Glance]:
     """All live threads of the system."""
     found = (glance(proc, tid) for tid in proc.threads())

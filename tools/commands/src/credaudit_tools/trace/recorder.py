@@ -170,6 +170,7 @@ class Recorder:
         while not stream.ended and not (tracer.has_ended() and stream.is_empty()):
             left = POLL if ends is None else max(0.0, min(POLL, ends - time.monotonic()))
             stream.pump(left)
+            self.reap(tracer.pid)
             self.progress.at(f"{stream.count} lines of strace, {len(self.filter.taken.lines)} kept{how}")
             if stream.stopped is not None:
                 return "stopped"
@@ -186,7 +187,7 @@ class Recorder:
     def members(self, tracer: int) -> dict[int, Glance]:
         """What is traced, and what descends from the processes at the start and isn't."""
         threads = live_processes.all_threads(self.live.proc)
-        roots = [*self.start, *([os.getpid()] if self.asked.words else [])]
+        roots = [os.getpid()] if self.asked.words else list(self.start)
         found = live_processes.family(threads, roots, [tracer, self.watchdog.pid])
         found = {tid: each for tid, each in found.items() if each.tgid != os.getpid()}
         return {**found, **live_processes.traced(threads, tracer)}
@@ -236,13 +237,13 @@ class Recorder:
         self.reap()
         return any(live_processes.lives(self.live.proc, pid) for pid in pids)
 
-    def reap(self) -> None:
-        """Takes note of the ends of children, which were given to this process too."""
-        try:
-            while os.waitpid(-1, os.WNOHANG)[0] != 0:
-                pass
-        except ChildProcessError:
-            pass
+    def reap(self, strace: int | None = None) -> None:
+        """Takes note of the ends of children, but strace's while it is there. Orphans are this process's children too,
+        and are asked for as init asks for its own: else they would be there until the recording ends, and who waits
+        until one is gone (kill(2)), or for the end of a PID namespace (pid_namespaces(7)), would wait for ever."""
+        while (pid := live_processes.ended_child()) is not None and pid != strace:
+            os.waitpid(pid, 0)
+            self.living.discard(pid)        # its number may be another process's now
 
     # ---- all of it
 
