@@ -11,7 +11,7 @@ from credaudit_tools.strace_log.kept_log import Stopped, changes_text, filters_t
 from credaudit_tools.strace_log.line_filter import Filtering
 from credaudit_tools.strace_log.map_files import RunningSystem
 from credaudit_tools.system.proc import Proc
-from credaudit_tools.system.running_kernel import program
+from credaudit_tools.system.running_kernel import executable
 
 from ..support import Case, cases, set_ids_stay
 
@@ -127,8 +127,8 @@ class Refusing(Filtered):
         super().setUp()
         with_bits = (b"\0\0\0\2" + (1 << 13).to_bytes(4, "little") + bytes(12)).replace(b"\0", b"\1", 1)
         self.caps = with_bits.hex()
-        self.enterContext(mock.patch.object(looked_up, "program", lambda handle, path, mount: replace(
-            program(handle, path, mount), caps=with_bits if path == b"/opt/ping" else None)))
+        self.enterContext(mock.patch.object(looked_up, "executable", lambda handle, path: replace(
+            executable(handle, path), caps=with_bits if path == b"/opt/ping" else None)))
         self.put("/opt/ping", ELF, 0o755)
         self.put("/opt/pings", b"#!/opt/ping\n", 0o755)
 

@@ -7,6 +7,7 @@ import os
 import signal
 import struct
 import subprocess
+import time
 import unittest
 from unittest import mock
 
@@ -105,7 +106,7 @@ class Order(Case):
         self.enterContext(mock.patch.object(filtering.executing, "stands", lambda pid: order.append(f"{pid} stands")))
         reading, writing = os.pipe()
         stops = StoredStops([100], order)
-        for handle in (reading, writing, stops.writing):
+        for handle in (reading, stops.writing):
             self.addCleanup(os.close, handle)
         self.addCleanup(stops.close)
         stream = Stream(reading, filtering, Awaited(None, None, list, lambda _: False), stops)
@@ -117,6 +118,13 @@ class Order(Case):
         os.write(writing, b"cve\n")
         stream.pump(60)
         self.assertEqual(order[4:], ["100 execve"])
+        stream.pump(60)                     # nothing more comes soon
+        begun = time.monotonic()
+        stream.pump(0.05)                   # so that is waited for
+        self.assertGreaterEqual(time.monotonic() - begun, 0.05)
+        os.close(writing)
+        stream.pump(60)
+        self.assertTrue(stream.ended)
 
 
 class NewPrograms(Case):

@@ -51,3 +51,23 @@ class Glances(Case):
         self.assertIsNone(live_processes.glance(Proc(self.work), 101))
         self.assertFalse(live_processes.is_dead(Proc(self.work), 101))
         self.assertIsNone(self.glance("Name:\tdaemon\n"))
+
+
+class Descendants(Case):
+    """The threads of a family, of which one process is looked at before its threads."""
+
+    def thread(self, tid: int, process: int, parent: int, state: str) -> None:
+        status = STATUS.format("daemon", state).replace("Tgid:\t100", f"Tgid:\t{process}")
+        self.put(f"/{tid}/status", status.replace("PPid:\t1", f"PPid:\t{parent}").encode())
+        self.put(f"/{tid}/stat", b"%d (daemon) S 1 1 1 0 -1 4194560 0" % tid)
+        self.put(f"/{process}/task/{tid}/comm", b"daemon")
+
+    def test_whose_main_thread_has_ended_too(self) -> None:
+        for tid, process, parent in ((100, 100, 1), (101, 100, 1), (102, 100, 1), (200, 200, 100), (201, 200, 100),
+                                     (300, 300, 200), (400, 400, 300), (500, 500, 1), (600, 600, 100), (700, 700, 600)):
+            self.thread(tid, process, parent, "Z (zombie)" if tid in (100, 300) else "S (sleeping)")
+        proc = Proc(self.work)
+        found = live_processes.descendants(proc, [100], [600])
+        self.assertEqual(sorted(found), [101, 102, 200, 201])
+        self.assertEqual(found, live_processes.family(live_processes.all_threads(proc), [100], [600]))
+        self.assertEqual(sorted(live_processes.descendants(proc, [400, 999])), [400])

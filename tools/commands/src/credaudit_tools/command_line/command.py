@@ -17,7 +17,6 @@ import time
 from collections.abc import Callable, Sequence
 from typing import NoReturn
 
-from . import version
 from .printable import shown
 
 GOOD, FOUND, USAGE, FAILED, BROKEN = range(5)
@@ -42,6 +41,7 @@ class Version(argparse.Action):
     """Tells what `--version` does, and ends the command."""
 
     def __call__(self, ask: argparse.ArgumentParser, *_: object) -> None:
+        from . import version       # it asks git and sums of files, for which no other run has to wait
         sys.stdout.write(version.text(ask.prog))
         ask.exit()
 

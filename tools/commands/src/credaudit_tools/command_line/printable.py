@@ -5,7 +5,6 @@ backslash, stands as a backslash and three octal digits, as strace(1) and proc(5
 """
 import os
 import re
-import textwrap
 
 WIDE = 100          # columns of what is told in words
 PLAIN = frozenset(range(0x21, 0x7f)) - set(b"\\")
@@ -36,6 +35,7 @@ def shown(text: str | bytes) -> str:
 def folded(text: str, more: str = "    ") -> list[str]:
     """A shown text in lines that aren't wider than WIDE, where no single word is: `more` stands in front of all but the
     first."""
+    import textwrap         # hardly a command tells that much
     return textwrap.wrap(text, WIDE, subsequent_indent=more, break_long_words=False, break_on_hyphens=False) or [""]
 
 

@@ -7,7 +7,6 @@
 
 The sums notice accidents. Who alters a file on purpose can work them out anew.
 """
-import hashlib
 import os
 from collections.abc import Mapping
 from typing import Any
@@ -23,6 +22,7 @@ SUMS = "sums"
 
 def sum_of(data: bytes) -> str:
     """The SHA-256 sum."""
+    import hashlib          # once there is something to be written or read
     return hashlib.sha256(data).hexdigest()
 
 

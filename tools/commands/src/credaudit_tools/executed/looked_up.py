@@ -4,8 +4,8 @@ import stat
 from dataclasses import dataclass
 
 from ..system.kernel_questions import Program, Trouble
-from ..system.running_kernel import program
-from ..system.safe_open import ROOTED, mount_number, safe_open
+from ..system.running_kernel import executable
+from ..system.safe_open import ROOTED, safe_open
 
 
 @dataclass(frozen=True)
@@ -17,7 +17,7 @@ class Found:
 
 def found_of(handle: int, path: bytes) -> Found:
     """A file that was opened as a place. OSError where it can't be looked at."""
-    return Found(program(handle, path, mount_number(handle)), os.fstatvfs(handle).f_flag)
+    return Found(executable(handle, path), os.fstatvfs(handle).f_flag)
 
 
 def look_up(top: bytes, path: bytes) -> Found | Trouble:

@@ -14,14 +14,15 @@ from dataclasses import dataclass
 from ..system.mounts import table
 from ..system.proc import Proc
 from ..system.program_rows import LEVELS, counts, interpreter_path
-from ..system.running_kernel import program
+from ..system.running_kernel import front
 from ..system.safe_open import ROOTED, mount_number, safe_open
 from .looked_up import Found, found_of
 
 AT_EXECFN = 31
 PATH_MOST = 4096
 DELETED = b" (deleted)"
-WIDE, CLASS_AT, CLASS_32 = "QQ", 4, 1
+NARROW, WIDE = "I", "Q"
+CLASS_AT, CLASS_32 = 4, 1
 DESCRIPTOR = re.compile(rb"/(?:dev|proc/self|proc/thread-self)/fd/([0-9]+)(?:/(.*))?", re.S)
 
 
@@ -94,9 +95,9 @@ class Looking:
         except (OSError, ValueError):
             return None
         try:
-            path = os.readlink(b"/proc/self/fd/%d" % file)
             if identity(file) == identity(handle) or not stat.S_ISREG(os.fstat(file).st_mode):
                 return None
+            path = os.readlink(b"/proc/self/fd/%d" % file)
             script = found_of(file, path)
             return (path, script) if self.leads_to(script.program.start, handle) else None
         except (OSError, ValueError):
@@ -114,7 +115,7 @@ class Looking:
             try:
                 if identity(file) == identity(handle):
                     return True
-                start = program(file, path, 0).start
+                start = front(file)
             finally:
                 os.close(file)
         return False
@@ -144,10 +145,11 @@ class Looking:
 
     def spelled(self, found: Found) -> bytes | None:
         """The path that was executed, as the kernel keeps it; None where it can't be read."""
-        form = "II" if found.program.start[CLASS_AT:CLASS_AT + 1] == bytes([CLASS_32]) else WIDE
+        size = NARROW if found.program.start[CLASS_AT:CLASS_AT + 1] == bytes([CLASS_32]) else WIDE
         data = self.proc.read(self.pid, "auxv") or b""
-        size = struct.calcsize(form)
-        pairs = {int(key): int(value) for key, value in struct.iter_unpack(form, data[:len(data) // size * size])}
+        count = len(data) // (2 * struct.calcsize(size)) * 2
+        words = struct.unpack_from(f"{count}{size}", data)
+        pairs = dict(zip(words[::2], words[1::2]))
         if AT_EXECFN not in pairs:
             return None
         try:

@@ -214,7 +214,8 @@ class Filtering:
         if made.result.startswith(b"?"):
             self.taken.left_out["calls that never answered"] += 1
             return
-        made = Call(made.name.removesuffix(b"32"), made.arguments, made.result)
+        if made.name.endswith(b"32"):
+            made = Call(made.name.removesuffix(b"32"), made.arguments, made.result)
         task = self.followed.tasks[pid]
         if is_trapped(made):
             self.taken.left_out["calls that a filter answered by a trap"] += 1

@@ -4,7 +4,6 @@ recording write alike (mount_namespaces(7)).
 The number of a namespace's file comes again once it is gone, so the kernel's own count stands beside it, where it tells
 one, and the number of the machine's start.
 """
-import hashlib
 from dataclasses import dataclass
 
 from ..command_line.command import Failure
@@ -41,6 +40,7 @@ def of_text(text: str) -> MountSpace:
 def of_table(number: int, count: int, text: bytes) -> MountSpace:
     """The namespace of a text of mountinfo. Of each mount counts what a scan looks at: filesystem, place, options that
     change what its files give."""
+    import hashlib          # at an end at which something lives
     told = hashlib.sha256()
     for mount in table(text):
         if mount.runs_set_id():

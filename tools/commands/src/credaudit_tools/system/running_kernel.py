@@ -9,6 +9,7 @@ import stat
 import sys
 from collections.abc import Iterator, Mapping
 from contextlib import contextmanager
+from dataclasses import replace
 
 from ..command_line.command import Failure
 from . import binfmt, mount_namespaces, mounts
@@ -277,11 +278,16 @@ def front(handle: int) -> bytes:
         os.close(again)
 
 
+def executable(handle: int, path: bytes) -> Program:
+    """A regular file, as the kernel reads it where it executes it: without its access list, which has let the process
+    do so, and without its mount's number. OSError where it can't be read."""
+    kept = os.fstat(handle)
+    return Program(path, kept.st_uid, kept.st_gid, kept.st_mode, attribute(handle, ATTRIBUTE), front(handle))
+
+
 def program(handle: int, path: bytes, mount: int) -> Program:
     """A regular file. OSError where it can't be read."""
-    kept = os.fstat(handle)
-    return Program(path, kept.st_uid, kept.st_gid, kept.st_mode, attribute(handle, ATTRIBUTE), front(handle),
-                   attribute(handle, ACCESS_LIST) is not None, mount)
+    return replace(executable(handle, path), listed=attribute(handle, ACCESS_LIST) is not None, mount=mount)
 
 
 def wanted(handle: int, path: bytes, mount: int) -> Iterator[Program | Trouble]:

@@ -51,6 +51,7 @@ class ExecStops:
     def __init__(self) -> None:
         self.ours, self.theirs = socket.socketpair()
         self.listener: int | None = None
+        self.asked: select.poll | None = None
         self.last = 0
 
     def install(self) -> None:
@@ -78,9 +79,10 @@ class ExecStops:
         """Waits so long for a stop; whether there is one."""
         if self.listener is None:
             return False
-        asked = select.poll()
-        asked.register(self.listener, select.POLLIN)
-        return any(events & select.POLLIN for _, events in asked.poll(seconds * 1000))
+        if self.asked is None:
+            self.asked = select.poll()
+            self.asked.register(self.listener, select.POLLIN)
+        return any(events & select.POLLIN for _, events in self.asked.poll(seconds * 1000))
 
     def process(self) -> int | None:
         """The process that has executed a file and stands still; None where strace ended meanwhile."""

@@ -90,6 +90,20 @@ def family(threads: dict[int, Glance], roots: Iterable[int], without: Iterable[i
     return {tid: each for tid, each in threads.items() if belongs(each.tgid)}
 
 
+def descendants(proc: Proc, roots: Iterable[int], without: Iterable[int] = ()) -> dict[int, Glance]:
+    """The same of all threads of the system. Of each process one thread is looked at first, since most are of none of
+    the family."""
+    ones = (one for one in (living_thread(proc, pid) for pid in proc.pids()) if one is not None)
+    members = processes(family({one.tid: one for one in ones}, roots, without).values())
+    found = (glance(proc, tid) for pid in members for tid in proc.tasks(pid))
+    return {each.tid: each for each in found if each is not None}
+
+
+def living_thread(proc: Proc, pid: int) -> Glance | None:
+    """The main thread of a process, or another one where that has ended; None where all have."""
+    return glance(proc, pid) or next((each for each in (glance(proc, tid) for tid in proc.tasks(pid)) if each), None)
+
+
 def traced(threads: dict[int, Glance], tracer: int) -> dict[int, Glance]:
     """The threads that a tracer traces; none of nobody (0)."""
     return {tid: each for tid, each in threads.items() if each.tracer == tracer != 0}

@@ -4,6 +4,7 @@ looked at again, and let go.
 What lives is looked at while nothing of it runs, so what is seen belongs to the log's first line and to its last one.
 """
 import fcntl
+import importlib
 import os
 import re
 import signal
@@ -17,7 +18,6 @@ from typing import TYPE_CHECKING
 from ..command_line.command import Failure, Progress
 from ..command_line.printable import few, quoted, shown
 from ..evidence.premises import BIRTHS, CREDENTIALS
-from ..executed.executed_files import Executed
 from ..formats import worlds
 from ..formats.statuses import Status
 from ..formats.strace_lines import call_of, parted
@@ -26,7 +26,6 @@ from ..replay import scan_fits
 from ..replay.recording import Made, Recording
 from ..strace_log.followed_processes import Followed
 from ..strace_log.kept_log import changes_text, filters_text
-from ..strace_log.line_filter import Filtering
 from ..strace_log.map_files import RunningSystem
 from ..system import binfmt
 from ..system.program_stub import PR_SET_CHILD_SUBREAPER, begin, prctl
@@ -41,9 +40,11 @@ from .strace_process import Tracer
 from .watchdog import Watchdog, nothing
 
 if TYPE_CHECKING:
+    from ..strace_log.line_filter import Filtering
     from ..service.unit_start import UnitStart
 
 PIPE_SIZE = 1 << 20
+LATE = ("hashlib",)              # what the end alone needs is loaded while the program runs, between its lines
 END_PATIENCE = 2.0
 POLL = 0.2
 ENDING = (signal.SIGINT, signal.SIGTERM, signal.SIGHUP)
@@ -69,6 +70,18 @@ def unit_start(name: str, live: Live) -> "UnitStart":
     return UnitStart(name, live.proc)
 
 
+def without_own(threads: dict[int, Glance]) -> dict[int, Glance]:
+    """Threads but this process's own."""
+    return {tid: each for tid, each in threads.items() if each.tgid != os.getpid()}
+
+
+def filtering(followed: Followed, system: RunningSystem) -> "Filtering":
+    """What takes strace's lines. It is loaded while strace begins to trace, which takes as long."""
+    from ..executed.executed_files import Executed
+    from ..strace_log.line_filter import Filtering
+    return Filtering(followed, Executed(), system)
+
+
 # ---- the recording ---------------------------------------------------------------------------------------------------
 
 
@@ -81,7 +94,8 @@ class Recorder:
         self.made = Made(strace_options.version(self.strace), os.uname().release.split("-")[0])
         self.live = Live()
         self.system = RunningSystem(self.live.proc)
-        self.filter = Filtering(Followed(), Executed(), self.system)
+        self.followed = Followed()
+        self.filter: Filtering              # once strace is begun
         self.filters = FilterLook(self.live.proc, self.made.evidence)
         self.signals = 0
         self.start: dict[int, Status] = {}
@@ -167,7 +181,10 @@ class Recorder:
         """Reads until an end comes; which one."""
         ends = None if self.asked.seconds is None else time.monotonic() + self.asked.seconds
         how = "; Ctrl-C ends the recording" if ends is None else ""
+        late = list(LATE)
         while not stream.ended and not (tracer.has_ended() and stream.is_empty()):
+            if late and stream.count:
+                importlib.import_module(late.pop())
             left = POLL if ends is None else max(0.0, min(POLL, ends - time.monotonic()))
             stream.pump(left)
             self.reap(tracer.pid)
@@ -187,10 +204,17 @@ class Recorder:
     def members(self, tracer: int) -> dict[int, Glance]:
         """What is traced, and what descends from the processes at the start and isn't."""
         threads = live_processes.all_threads(self.live.proc)
-        roots = [os.getpid()] if self.asked.words else list(self.start)
-        found = live_processes.family(threads, roots, [tracer, self.watchdog.pid])
-        found = {tid: each for tid, each in found.items() if each.tgid != os.getpid()}
-        return {**found, **live_processes.traced(threads, tracer)}
+        found = live_processes.family(threads, self.roots(), [tracer, self.watchdog.pid])
+        return {**without_own(found), **live_processes.traced(threads, tracer)}
+
+    def left(self, tracer: int) -> dict[int, Glance]:
+        """The same once strace has ended."""
+        return without_own(live_processes.descendants(self.live.proc, self.roots(), [tracer, self.watchdog.pid]))
+
+    def roots(self) -> list[int]:
+        """From whom all descends: this process where it began the program, since orphans come to it; else the processes
+        at the start."""
+        return [os.getpid()] if self.asked.words else list(self.start)
 
     def doubt(self, premise: str, why: str) -> None:
         """A reason why a premise may not be so (premises.py)."""
@@ -277,7 +301,7 @@ class Recorder:
 
     def recorded(self, tids: list[int]) -> Recording:
         """The recording of processes that have stopped."""
-        recording_start.follow(self.live, self.start, self.filter.followed, self.filters.at_start(self.start.values()))
+        recording_start.follow(self.live, self.start, self.followed, self.filters.at_start(self.start.values()))
         self.rows = recording_start.rows(self.live, self.start)
         reading, writing = os.pipe()
         fcntl.fcntl(writing, fcntl.F_SETPIPE_SZ, PIPE_SIZE)
@@ -287,6 +311,7 @@ class Recorder:
             os.close(writing)
         try:
             self.watchdog.traces(tracer.pid)
+            self.filter = filtering(self.followed, self.system)
             tracer.wait_until_attached(self.start, self.is_signalled)
             self.let_go_on()
             self.clear_unit()
@@ -299,7 +324,7 @@ class Recorder:
 
     def awaited(self) -> Awaited:
         """The lines that end it."""
-        return Awaited(self.asked.until, self.asked.until_each, lambda: self.filter.followed.tasks,
+        return Awaited(self.asked.until, self.asked.until_each, lambda: self.followed.tasks,
                        lambda pid: live_processes.is_dead(self.live.proc, pid))
 
     def followed_to_end(self, tracer: Tracer, stream: Stream) -> Recording:
@@ -317,7 +342,7 @@ class Recorder:
         else:
             seen = ending.look(tracer, stream)
             self.living |= live_processes.processes(seen.threads.values()) if self.ends_program() else set()
-        self.filters.at_end(self.filter.followed.tasks, seen.statuses, self.filter.taken.filters, ending.is_over)
+        self.filters.at_end(self.followed.tasks, seen.statuses, self.filter.taken.filters, ending.is_over)
         self.release()
         if stream.stopped is not None:
             self.doubt(BIRTHS, f"the recording was stopped: {stream.stopped}")
@@ -342,7 +367,7 @@ class Recorder:
         """Doubts that strace's lines ended with the program; the processes that live on."""
         if tracer.status not in (0, None):
             self.doubt(BIRTHS, f"strace ended with status {tracer.status}, before the program did")
-        found = self.members(tracer.pid)
+        found = self.left(tracer.pid)
         for tid in sorted(found):
             self.doubt(BIRTHS, f"process {tid} lives on and isn't traced: what it did isn't in the log")
         self.establish(BIRTHS, "all that descends from the processes at the start was traced to its end")
@@ -359,7 +384,7 @@ class Recorder:
 
     def tell_files(self, seen: Seen) -> None:
         """What is known of programs and mounts, for a scan to be held against (scan_fits.py)."""
-        left = {tid: self.filter.view_lines[task.place.view] for tid, task in self.filter.followed.tasks.items()
+        left = {tid: self.filter.view_lines[task.place.view] for tid, task in self.followed.tasks.items()
                 if tid in seen.mounts and task.place.view in self.filter.view_lines}
         scan_fits.tell_end(self.made.evidence, seen.mounts, left, self.filter.changing.changed_at, time.time())
         self.made.notes += binfmt.tell(self.made.evidence, self.live.interpreters)

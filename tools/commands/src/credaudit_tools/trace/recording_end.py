@@ -5,13 +5,13 @@ Each wait here has an end, and a signal ends it at once. What then can't be said
 import time
 from collections.abc import Callable
 from dataclasses import dataclass, field, replace
+from typing import TYPE_CHECKING
 
 from ..command_line.printable import few
 from ..evidence.evidence import Evidence
 from ..evidence.premises import ANSWERS, BIRTHS, CREDENTIALS
 from ..formats.statuses import Status
 from ..replay.recording import SpaceSeen
-from ..strace_log.line_filter import Filtering
 from ..system.mount_namespaces import MountSpace
 from ..system.running_kernel import Live
 from . import live_processes
@@ -19,6 +19,9 @@ from .live_processes import Glance, Halt
 from .stopped_threads import mounts_seen, spaces_seen, status_of
 from .strace_output import Stream
 from .strace_process import Tracer
+
+if TYPE_CHECKING:
+    from ..strace_log.line_filter import Filtering
 
 WHOLE = "all that descends from the processes at the start was traced, to its end or until it was looked at"
 LATER = "what the kernel showed of the processes may be later than the log's last line"
@@ -37,7 +40,7 @@ class Ending:
     """The end of one recording. `members` gives the live threads of the family by strace's pid, `note` is told of
     processes before they are stopped, `is_over` says that a signal came since the end began."""
 
-    def __init__(self, live: Live, filter_: Filtering, members: Callable[[int], dict[int, Glance]],
+    def __init__(self, live: Live, filter_: "Filtering", members: Callable[[int], dict[int, Glance]],
                  evidence: Evidence, note: Callable[[set[int]], None], is_over: Callable[[], bool]) -> None:
         self.live, self.filter, self.members, self.evidence = live, filter_, members, evidence
         self.note, self.is_over = note, is_over

@@ -5,26 +5,31 @@ import select
 import struct
 import termios
 import time
+from typing import TYPE_CHECKING
 
 from ..command_line.command import Failure
 from ..strace_log.kept_log import Stopped
-from ..strace_log.line_filter import Filtering
 from .end_lines import Awaited
 from .exec_stops import ExecStops
 
+if TYPE_CHECKING:
+    from ..strace_log.line_filter import Filtering
+
 CHUNK = 1 << 20
 FULL, GATHER = 1 << 18, 0.01        # bytes that are worth a reading at once; else so many seconds are waited for more
+SOON = 0.001                        # as many behind a stop: what isn't read yet at the next one, strace waits for
 LONGEST_LINE = 1 << 26
 
 
 class Stream:
     """The lines of strace, as they come, and the stops in which it waits (exec_stops.py)."""
 
-    def __init__(self, handle: int, filter_: Filtering, awaited: Awaited, stops: ExecStops) -> None:
+    def __init__(self, handle: int, filter_: "Filtering", awaited: Awaited, stops: ExecStops) -> None:
         self.handle, self.filter, self.awaited, self.stops = handle, filter_, awaited, stops
         self.rest, self.count = b"", 0
         self.ended = False
         self.stopped: str | None = None
+        self.pause = GATHER         # less of it behind a stop, and then ever more
 
     @property
     def reached(self) -> bool:
@@ -36,25 +41,35 @@ class Stream:
         if self.ended:
             time.sleep(seconds)
             return
-        ready, _, _ = select.select([self.handle, *self.stops.handles()], [], [], seconds)
-        if not ready:
-            return
-        gathers = ready == [self.handle] and self.waiting() < FULL
+        ready = [self.handle]
+        if self.pause == GATHER:
+            ready, _, _ = select.select([self.handle, *self.stops.handles()], [], [], seconds)
+        gathers = ready == [self.handle] and (self.pause < GATHER or self.waiting() < FULL)
         if self.gather() if gathers else self.stops.wait(0):
             self.look()
+            self.pause = SOON
         elif self.handle in ready:
-            # Python asks for memory for all that may come, and to give back what didn't takes longer than to read.
-            data = os.read(self.handle, min(self.waiting(), CHUNK) or 1)
-            self.ended = not data
-            self.take(data)
+            self.read()
 
     def gather(self) -> bool:
         """Lets more lines come, but not beyond a stop: strace writes line by line, and to be woken for each would slow
         it down. Whether there is a stop."""
         if self.stops.handles():
-            return self.stops.wait(GATHER)
-        time.sleep(GATHER)
+            return self.stops.wait(self.pause)
+        time.sleep(self.pause)
         return False
+
+    def read(self) -> None:
+        """Reads what there is; where that may be nothing yet, more is waited for from now on."""
+        left = self.waiting()
+        if left == 0 and self.pause < GATHER:
+            self.pause = GATHER
+            return
+        self.pause = min(2 * self.pause, GATHER)
+        # Python asks for memory for all that may come, and to give back what didn't takes longer than to read.
+        data = os.read(self.handle, min(left, CHUNK) or 1)
+        self.ended = not data
+        self.take(data)
 
     def look(self) -> None:
         """At a stop all that strace wrote before is taken first; then the new program is looked at, and strace goes

@@ -13,7 +13,7 @@ from . import live_processes, strace_options
 from .exec_stops import ExecStops
 from .live_processes import STUCK
 
-ATTACH_PATIENCE, END_PATIENCE = 20.0, 5.0
+ATTACH_PATIENCE, ATTACH_PAUSE, END_PATIENCE = 20.0, 0.001, 5.0
 
 
 class Tracer:
@@ -46,7 +46,7 @@ class Tracer:
                 self.end()
                 raise Failure(f"strace can't attach: {shown(self.said())}",
                               "another tracer may be there, or a rule against ptrace (ptrace(2), Yama)")
-            time.sleep(0.01)
+            time.sleep(ATTACH_PAUSE)
 
     def traces(self, tids: Collection[int]) -> bool:
         """Whether it traces all these threads."""

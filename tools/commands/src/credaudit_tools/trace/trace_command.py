@@ -1,5 +1,6 @@
 """credaudit-trace: records a program under strace as a world, a log, and what the kernel showed at its end."""
 import argparse
+import gc
 import re
 import sys
 from collections.abc import Mapping, Sequence
@@ -162,5 +163,8 @@ def pid_of(status: Status) -> int:
 
 
 def script() -> None:
-    """The whole of the command."""
+    """The whole of the command. What was loaded stays, so no garbage is looked for in it (the launcher had that off
+    meanwhile)."""
+    gc.freeze()
+    gc.enable()
     command.run(NAME, main)
