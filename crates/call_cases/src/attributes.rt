@@ -23,12 +23,11 @@ fn bytes_of(alloc: Global, digits: &str) -> Result<Vec<u8>, Stop> {
 
 fn shown(alloc: Global, caps: &FileCaps) -> Result<String, Stop> {
     let written = encode(alloc, write(caps))?;
-    let text = format!(in alloc;
+    Ok(format!(in alloc;
         "prm={:x} inh={:x} effective={} root={}, written {written}",
         caps.permitted.bits(),
         caps.inheritable.bits(),
         caps.effective,
         caps.root
-    )?;
-    Ok(text)
+    )?)
 }

@@ -107,8 +107,7 @@ fn with_added(
 {
     let at = Place::of_number(row);
     let more = added(alloc, setting, bounds, rule, at)?;
-    let wider = bounds.row(at).joined(alloc, &more)?;
-    Ok(wider)
+    bounds.row(at).joined(alloc, &more)
 }
 
 // What the rule adds to the row, as a row.

@@ -19,8 +19,7 @@ pub fn write_bounds(alloc: Global, b: &Bounds) -> Result<Vec<u8>, NoMemory>
     ensures { OrNoMemory result (λ text. text.items ≡ certificate_text b.now) }
 {
     let value = certificate_value(alloc, b)?;
-    let text = value.to_vec(alloc)?;
-    Ok(text)
+    Ok(value.to_vec(alloc)?)
 }
 
 // The bounds as a value.
@@ -28,8 +27,7 @@ fn certificate_value(alloc: Global, b: &Bounds) -> Result<Value, NoMemory>
     ensures { OrNoMemory result (λ v. view v ≡ certificate_data b.now) }
 {
     let rows = row_values(alloc, b.rows.items())?;
-    let value = json!(in alloc; {"format": 1u32, "rows": rows})?;
-    Ok(value)
+    Ok(json!(in alloc; {"format": 1u32, "rows": rows})?)
 }
 
 // Each row.

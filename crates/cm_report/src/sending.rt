@@ -31,11 +31,7 @@ pub fn send<K: Sink>(text: &mut Vec<u8>, out: &mut K) -> Result<(), Outside>
     ensures front { OnErr result (IsFront (K.written out.old) (K.written out.new) text.old.items) }
     ensures cause { WriteFaults (K.faults out.old) (K.faults out.new) result }
 {
-    match write_all(out, text) {
-        Ok(()) => {
-            text.clear();
-            Ok(())
-        }
-        Err(why) => Err(why),
-    }
+    write_all(out, text)?;
+    text.clear();
+    Ok(())
 }
