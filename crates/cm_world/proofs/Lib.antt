@@ -3,6 +3,7 @@ pub mod Checks
 pub mod FilesMore
 pub mod Keeping
 pub mod Rows
+pub mod TableWorld
 pub mod SpacesMore
 pub mod Telling
 pub mod Texts

@@ -2,5 +2,4 @@
 pub mod Answers
 pub mod RowChecks
 pub mod Tables
-pub mod Steps
 pub mod Laws

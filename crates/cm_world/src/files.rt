@@ -67,10 +67,8 @@ pub(crate) fn read_files(
     ensures { Answers result
         (then_read (read_rows table.File limit.Files 0 (model.file_row mounts) [] (items_view rows.now)) (table_with mounts)) }
 {
-    match files_of_rows(alloc, &mounts, rows) {
-        Ok(files) => Ok(table_of(alloc, mounts.into_vec(), files.into_vec())?),
-        Err(e) => Err(e),
-    }
+    let files = files_of_rows(alloc, &mounts, rows)?;
+    Ok(table_of(alloc, mounts.into_vec(), files.into_vec())?)
 }
 
 /// The table of mounts and files without a fault. It fails only where memory runs out.
@@ -130,49 +128,12 @@ fn with_row(
     ensures one { IfOk result (λ more. length more ≡ length files + 1) }
     ensures fine { IfOk result (λ more. first_fault (length mounts.now) [] more ≡ None) }
 {
-    match row {
-        Value::Table(row) => with_file(alloc, mounts, files, row),
-        _ => Err(RowError::Fault(WorldFault::WrongType)),
-    }
-}
-
-/// The files with that of one row more.
-fn with_file(
-    alloc: Global,
-    mounts: &Mounts,
-    files: FileRows,
-    row: &Table,
-) -> Result<FileRows, RowError>
-    requires few { length files < limit_number limit.Files }
-    requires fine { first_fault (length mounts.now) [] files ≡ None }
-    ensures gives { Gives result (model.file_row mounts.now files (table_view row.now)) }
-    ensures one { IfOk result (λ more. length more ≡ length files + 1) }
-    ensures fine { IfOk result (λ more. first_fault (length mounts.now) [] more ≡ None) }
-{
-    match check_keys(row, file_keys()) {
-        Ok(()) => with_own(alloc, mounts, files, row),
-        Err(e) => Err(e),
-    }
-}
-
-/// The same, where the faults of the row's keys don't stand.
-fn with_own(
-    alloc: Global,
-    mounts: &Mounts,
-    files: FileRows,
-    row: &Table,
-) -> Result<FileRows, RowError>
-    requires few { length files < limit_number limit.Files }
-    requires fine { first_fault (length mounts.now) [] files ≡ None }
-    ensures gives { Gives result (unless (first_standing (model.file_checks mounts.now files (table_view row.now)))
-        (files ++ model.file_declared mounts.now files (table_view row.now) ∷ [])) }
-    ensures one { IfOk result (λ more. length more ≡ length files + 1) }
-    ensures fine { IfOk result (λ more. first_fault (length mounts.now) [] more ≡ None) }
-{
-    match file_of_row(alloc, mounts, &files, row) {
-        Ok(made) => Ok(files.with(made)?),
-        Err(e) => Err(e),
-    }
+    let Value::Table(row) = row else {
+        return Err(RowError::Fault(WorldFault::WrongType));
+    };
+    check_keys(row, file_keys())?;
+    let made = file_of_row(alloc, mounts, &files, row)?;
+    Ok(files.with(made)?)
 }
 
 /// The file that a row declares, where the faults of its keys don't stand.

@@ -87,8 +87,7 @@ fn texts_among(alloc: Global, values: &[Value]) -> Result<Vec<String>, NoMemory>
 {
     let mut texts = Vec::new(alloc);
     for value in values {
-        let more = with_value(alloc, texts, value)?;
-        texts = more;
+        texts = with_value(alloc, texts, value)?;
     }
     Ok(texts)
 }

@@ -164,35 +164,12 @@ fn with_row(alloc: Global, names: &Names, mounts: Mounts, row: &Value) -> Result
     ensures gives { Gives result (row_of (model.mount_row names.now mounts) (view row.now)) }
     ensures one { IfOk result (λ more. length more ≡ length mounts + 1) }
 {
-    match row {
-        Value::Table(row) => with_mount(alloc, names, mounts, row),
-        _ => Err(RowError::Fault(WorldFault::WrongType)),
-    }
-}
-
-/// The mounts with that of one row more.
-fn with_mount(alloc: Global, names: &Names, mounts: Mounts, row: &Table) -> Result<Mounts, RowError>
-    requires { length mounts < limit_number limit.Mounts }
-    ensures gives { Gives result (model.mount_row names.now mounts (table_view row.now)) }
-    ensures one { IfOk result (λ more. length more ≡ length mounts + 1) }
-{
-    match check_keys(row, mount_keys()) {
-        Ok(()) => with_own(alloc, names, mounts, row),
-        Err(e) => Err(e),
-    }
-}
-
-/// The same, where the faults of the row's keys don't stand.
-fn with_own(alloc: Global, names: &Names, mounts: Mounts, row: &Table) -> Result<Mounts, RowError>
-    requires { length mounts < limit_number limit.Mounts }
-    ensures gives { Gives result (unless (first_standing (model.mount_checks names.now mounts (table_view row.now)))
-        (mounts ++ model.mount_declared names.now (table_view row.now) ∷ [])) }
-    ensures one { IfOk result (λ more. length more ≡ length mounts + 1) }
-{
-    match mount_of_row(alloc, names, &mounts, row) {
-        Ok(m) => Ok(mounts.with(m)?),
-        Err(e) => Err(e),
-    }
+    let Value::Table(row) = row else {
+        return Err(RowError::Fault(WorldFault::WrongType));
+    };
+    check_keys(row, mount_keys())?;
+    let m = mount_of_row(alloc, names, &mounts, row)?;
+    Ok(mounts.with(m)?)
 }
 
 /// The mount that a row declares, where the faults of its keys don't stand.

@@ -110,29 +110,12 @@ fn with_row(
     ensures ordered { IfOk result (λ made. Ascends made) }
     ensures stands { IfOk result (λ made. All (λ p. p.space < length declared.now.spaces) made) }
 {
-    match row {
-        Value::Table(row) => with_process(alloc, declared, procs, row),
-        _ => Err(RowError::Fault(WorldFault::WrongType)),
-    }
-}
-
-/// The processes with that of one row more.
-fn with_process(
-    alloc: Global,
-    declared: &Declared,
-    procs: Procs,
-    row: &Table,
-) -> Result<Procs, RowError>
-    requires ordered { Ascends procs }
-    requires stands { All (λ p. p.space < length declared.now.spaces) procs }
-    ensures gives { Gives result (model.process_row declared.now.names procs (table_view row.now)) }
-    ensures ordered { IfOk result (λ made. Ascends made) }
-    ensures stands { IfOk result (λ made. All (λ p. p.space < length declared.now.spaces) made) }
-{
-    match check_row(row, process_keys()) {
-        Ok(()) => with_own(alloc, declared, procs, row),
-        Err(e) => Err(e),
-    }
+    let Value::Table(row) = row else {
+        return Err(RowError::Fault(WorldFault::WrongType));
+    };
+    check_row(row, process_keys())?;
+    let p = process_of_row(alloc, declared, &procs, row)?;
+    Ok(with_one(procs, p)?)
 }
 
 /// The row's first fault of its keys, or of the kinds and ranges of its values; too many groups come before a range. It
@@ -159,27 +142,6 @@ fn has_many_groups(row: &Table) -> bool
     ensures { result ≡ model.has_many_groups (table_view row.now) }
 {
     items_at(row, "groups").len() as u64 > Limited::Groups.number()
-}
-
-/// The processes with that of one row more, where the faults of its keys don't stand.
-fn with_own(
-    alloc: Global,
-    declared: &Declared,
-    procs: Procs,
-    row: &Table,
-) -> Result<Procs, RowError>
-    requires ordered { Ascends procs }
-    requires stands { All (λ p. p.space < length declared.now.spaces) procs }
-    ensures gives { Gives result (unless
-        (first_standing (model.process_checks declared.now.names procs (table_view row.now)))
-        (insert_process (model.process_declared declared.now.names (table_view row.now)) procs)) }
-    ensures ordered { IfOk result (λ made. Ascends made) }
-    ensures stands { IfOk result (λ made. All (λ p. p.space < length declared.now.spaces) made) }
-{
-    match process_of_row(alloc, declared, &procs, row) {
-        Ok(p) => Ok(with_one(procs, p)?),
-        Err(e) => Err(e),
-    }
 }
 
 /// The processes with one more. It fails only where memory runs out.

@@ -117,38 +117,12 @@ fn with_row(alloc: Global, declared: Declared, row: &Value) -> Result<Declared, 
     ensures gives { Gives result (row_of (model.space_row declared) (view row.now)) }
     ensures one { IfOk result (λ d. length d.names ≡ length declared.names + 1) }
 {
-    match row {
-        Value::Table(row) => with_space(alloc, declared, row),
-        _ => Err(RowError::Fault(WorldFault::WrongType)),
-    }
-}
-
-/// The spaces with that of one row more.
-fn with_space(alloc: Global, declared: Declared, row: &Table) -> Result<Declared, RowError>
-    requires { length declared.names + 1 < limit_number limit.Spaces }
-    ensures gives { Gives result (model.space_row declared (table_view row.now)) }
-    ensures one { IfOk result (λ d. length d.names ≡ length declared.names + 1) }
-{
-    match check_keys(row, space_keys()) {
-        Ok(()) => with_own(alloc, declared, row),
-        Err(e) => Err(e),
-    }
-}
-
-/// The same, where the faults of the row's keys don't stand.
-fn with_own(alloc: Global, declared: Declared, row: &Table) -> Result<Declared, RowError>
-    requires { length declared.names + 1 < limit_number limit.Spaces }
-    ensures gives { Gives result (unless (first_standing (model.space_checks declared (table_view row.now)))
-        (record {
-          names = declared.names ++ model.name_of (table_view row.now) ∷ [];
-          spaces = model.space_declared declared (table_view row.now) ∷ declared.spaces;
-        })) }
-    ensures one { IfOk result (λ d. length d.names ≡ length declared.names + 1) }
-{
-    match space_of_row(alloc, &declared, row) {
-        Ok(space) => Ok(declared.with(alloc, text_or(row, "name", ""), space)?),
-        Err(e) => Err(e),
-    }
+    let Value::Table(row) = row else {
+        return Err(RowError::Fault(WorldFault::WrongType));
+    };
+    check_keys(row, space_keys())?;
+    let space = space_of_row(alloc, &declared, row)?;
+    Ok(declared.with(alloc, text_or(row, "name", ""), space)?)
 }
 
 /// The space that a row declares, where the faults of its keys don't stand.

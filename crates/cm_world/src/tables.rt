@@ -3,7 +3,7 @@
 ghost use Rattle.std.specs.Prelude.{◌≡◌, ◌<◌, All, codes, length, option_map};
 ghost use Rattle.cm_values.specs.Keys.{keys_of};
 ghost use Rattle.cm_world.specs.Answers.{Answers, IsAnswer};
-ghost use Rattle.cm_world.specs.Steps.{after_whole, after_spaces, after_mounts, after_files, after_processes, world_made};
+ghost use Rattle.cm_world.specs.Tables.{world_made};
 ghost use Rattle.cm_declared.specs.World.{form_of, world_of};
 ghost use Rattle.model_cred.specs.Process.{Ascends};
 ghost use Rattle.model_text.specs.WorldText as model;
@@ -11,7 +11,7 @@ ghost use Rattle.toml.specs.View.{table_view};
 
 use crate::files::read_files;
 use crate::filter::read_filter;
-use crate::mounts::{Mounts, read_mounts};
+use crate::mounts::read_mounts;
 use crate::processes::read_processes;
 use crate::spaces::{Declared, read_spaces};
 use crate::{LogForm, World, WorldError};
@@ -43,82 +43,19 @@ fn whole_keys() -> &'static [Key]
 pub(crate) fn read_table(alloc: Global, top: &Table) -> Result<World, WorldError>
     ensures { IsAnswer result (model.table_world (table_view top.now)) }
 {
-    match shape_fault(top, whole_keys()) {
-        None => read_spaces_first(alloc, top),
-        Some(why) => Err(WorldError::Bad {
+    if let Some(why) = shape_fault(top, whole_keys()) {
+        return Err(WorldError::Bad {
             table: TableName::Whole,
             row: 0,
             why,
-        }),
+        });
     }
-}
-
-// The world of a whole table without a fault of its own.
-fn read_spaces_first(alloc: Global, top: &Table) -> Result<World, WorldError>
-    ensures { IsAnswer result (after_whole (table_view top.now)) }
-{
-    match read_spaces(alloc, items_at(top, "space")) {
-        Ok(declared) => read_mounts_next(alloc, top, declared),
-        Err(why) => Err(why),
-    }
-}
-
-// The same after the spaces.
-fn read_mounts_next(alloc: Global, top: &Table, declared: Declared) -> Result<World, WorldError>
-    ensures { IsAnswer result (after_spaces (table_view top.now) declared) }
-{
-    match read_mounts(alloc, &declared.names, items_at(top, "mount")) {
-        Ok(mounts) => read_files_next(alloc, top, declared, mounts),
-        Err(why) => Err(why),
-    }
-}
-
-// The same after the mounts.
-fn read_files_next(
-    alloc: Global,
-    top: &Table,
-    declared: Declared,
-    mounts: Mounts,
-) -> Result<World, WorldError>
-    ensures { IsAnswer result (after_mounts (table_view top.now) declared mounts) }
-{
-    match read_files(alloc, mounts, items_at(top, "file")) {
-        Ok(files) => read_processes_next(alloc, top, declared, files),
-        Err(why) => Err(why),
-    }
-}
-
-// The same after the files.
-fn read_processes_next(
-    alloc: Global,
-    top: &Table,
-    declared: Declared,
-    files: FileTable,
-) -> Result<World, WorldError>
-    ensures { IsAnswer result (after_files (table_view top.now) declared files) }
-{
-    match read_processes(alloc, &declared, items_at(top, "process")) {
-        Ok(procs) => read_filter_last(alloc, top, declared, files, procs),
-        Err(why) => Err(why),
-    }
-}
-
-// The same after the processes.
-fn read_filter_last(
-    alloc: Global,
-    top: &Table,
-    declared: Declared,
-    files: FileTable,
-    procs: Procs,
-) -> Result<World, WorldError>
-    requires ordered { Ascends procs }
-    requires stands { All (λ p. p.space < length declared.spaces) procs }
-    ensures { IsAnswer result (after_processes (table_view top.now) declared files procs) }
-{
-    match read_filter(alloc, value_at(top, "filter")) {
-        Ok(filter) => Ok(world_with(top, declared, files, procs, filter)),
-        Err(why) => Err(why),
-    }
+    let declared = read_spaces(alloc, items_at(top, "space"))?;
+    let mounts = read_mounts(alloc, &declared.names, items_at(top, "mount"))?;
+    let files = read_files(alloc, mounts, items_at(top, "file"))?;
+    let procs = read_processes(alloc, &declared, items_at(top, "process"))?;
+    let filter = read_filter(alloc, value_at(top, "filter"))?;
+    Ok(world_with(top, declared, files, procs, filter))
 }
 
 // The world of these parts.

@@ -1,4 +1,4 @@
-use Rattle.std.proofs.Common.{[]}
+use Rattle.std.proofs.Common.{◌≡◌, [], Err, rules}
 use Rattle.cm_base.specs.declared.faults.Table.TheVariants as table
 use Rattle.cm_base.specs.declared.limited.Limited.TheVariants as limit
 use Rattle.model_text.specs.FileText.{file_row}
@@ -9,13 +9,15 @@ use Rattle.cm_world.specs.Answers.{refusal_of}
 use Rattle.cm_world.specs.Tables.{table_with}
 use Rattle.cm_world.proofs.files.read_files.Goals as goal
 
-pub returns-in_ok-table_of-in-Ok : goal.returns-in_ok-table_of-in-Ok
-returns-in_ok-table_of-in-Ok c =
-    table_read c.args.mounts c.in-Ok.files (read_rows table.File limit.Files 0 (file_row c.args.mounts) [] (items_view c.args.rows.now))
-    c.into_vec.result.items c.into_vec-in-Ok.result.items c.in_ok-table_of-in-Ok.field-0
-    c.in-Ok.ensures.answers c.into_vec.ensures.mounts c.into_vec-in-Ok.ensures.rows c.in_ok-table_of-in-Ok.ensures
+pub returns : goal.returns
+returns c =
+    table_read c.args.mounts c.in_ok-files.files (read_rows table.File limit.Files 0 (file_row c.args.mounts) [] (items_view c.args.rows.now))
+    c.into_vec.result.items c.into_vec-2.result.items c.in_ok-table_of.field-0
+    c.in_ok-files.ensures.answers c.into_vec.ensures.mounts c.into_vec-2.ensures.rows c.in_ok-table_of.ensures
 
-pub returns-in-Err : goal.returns-in-Err
-returns-in-Err c =
+pub returns-in_err-files : goal.returns-in_err-files
+returns-in_err-files c =
+    let same : c.from_residual.result ≡ Err c.in_err-files.field-0.0 = search rules in
+    rw same (
     refused_on (read_rows table.File limit.Files 0 (file_row c.args.mounts) [] (items_view c.args.rows.now)) (table_with c.args.mounts)
-    (refusal_of c.in-Err.e) c.in-Err.ensures.answers
+    (refusal_of c.in_err-files.field-0.0) c.in_err-files.ensures.answers)
