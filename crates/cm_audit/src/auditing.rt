@@ -9,11 +9,12 @@ ghost use Rattle.cm_state.specs.Right.{right_of};
 ghost use Rattle.cm_declared.specs.World.{world_of};
 ghost use Rattle.model_box.specs.Meets.{IsOverStanding};
 ghost use Rattle.model_cred.specs.Process.{is_alive};
+ghost use Rattle.model_plans.specs.Firsts.{PidsAscend};
 ghost use Rattle.model_plans.specs.PlanRun.{first_found};
 ghost use Rattle.model_run.specs.Family.{family};
 ghost use Rattle.model_verdict.specs.InWorld.{each_may, ExcludedIn, FoundIn, OpenIn, SettledIn};
 
-use crate::{AuditRefusal, Verdict};
+use crate::{AuditRefusal, Question, Verdict};
 use cm_base::{Limited, NoMemory, Pid};
 use cm_declared::World;
 use cm_files::see_files;
@@ -78,22 +79,45 @@ pub fn audit(
         × (is_alive m.now.state.processes root ≡ true) × IsOverStanding m.now.state.spaces (right_of right.now) }
     ensures fits { IfOk result (λ _. length (family m.now.state root) ≤ limit_number Limited.Family) }
 {
+    see_state(&m.state);
+    see_files(&w.files);
+    let question = ask(alloc, m, root, *right)?;
+    Ok(judge(alloc, w, m, &question)?)
+}
+
+/// The question whether a member of the family of a process, or any process that the members start, can ever hold a
+/// right. It is what the verdict, a certificate and a run are of.
+///
+/// Refused, in this order: `NoProcess` where the root isn't alive, `NoSpace` where the space that the right names doesn't
+/// stand, `FamilyTooLarge` where the family has more members than the limit; and `NoMemory`.
+pub fn ask(alloc: Global, m: &Machine, root: Pid, right: Right) -> Result<Question, AuditRefusal>
+    ensures right { IfOk result (λ question. question.right ≡ right) }
+    ensures members { IfOk result (λ question. question.members.items ≡ family m.now.state root) }
+    ensures ascends { IfOk result (λ question. PidsAscend question.members.items) }
+    ensures alive { IfOk result (λ _. is_alive m.now.state.processes root ≡ true) }
+    ensures stands { IfOk result (λ _. IsOverStanding m.now.state.spaces (right_of right)) }
+    ensures fits { IfOk result (λ _. length (family m.now.state root) ≤ limit_number Limited.Family) }
+    ensures no_process { (result ≡ Err AuditRefusal.NoProcess) ↔ (is_alive m.now.state.processes root ≡ false) }
+    ensures no_space { (result ≡ Err AuditRefusal.NoSpace) ↔
+        ((is_alive m.now.state.processes root ≡ true) × (IsOverStanding m.now.state.spaces (right_of right) → ⊥)) }
+    ensures too_large { (n : ℕ) → result ≡ Err (AuditRefusal.FamilyTooLarge n) →
+        (n ≡ length (family m.now.state root)) × (limit_number Limited.Family < n)
+        × (is_alive m.now.state.processes root ≡ true) × IsOverStanding m.now.state.spaces (right_of right) }
+{
     let st = &m.state;
     see_state(st);
-    see_files(&w.files);
     match st.procs.find(root) {
         Some(_) => {}
         None => return Err(AuditRefusal::NoProcess),
     }
-    if !is_over_standing(&st.spaces, right) {
+    if !is_over_standing(&st.spaces, &right) {
         return Err(AuditRefusal::NoSpace);
     }
     let members = m.family(alloc, root)?;
     if members.len() as u64 > Limited::Family.number() {
         return Err(AuditRefusal::FamilyTooLarge(members.len()));
     }
-    let v = verdict_on(alloc, w, m, &members, right)?;
-    Ok(v)
+    Ok(Question { right, members })
 }
 
 /// The space that the right names, where it names one, stands. It takes no memory.
@@ -108,28 +132,26 @@ pub fn is_over_standing(spaces: &Spaces, right: &Right) -> bool
     }
 }
 
-// The verdict on the right of these members.
-fn verdict_on(
+/// The verdict on a question, which was asked in the machine's state: its right names a space that stands, where it names
+/// one. Fewer than 2^31 spaces stand. It fails only where memory runs out.
+pub fn judge(
     alloc: Global,
     w: &World,
     m: &Machine,
-    members: &[Pid],
-    right: &Right,
+    question: &Question,
 ) -> Result<Verdict, NoMemory>
     requires few { length m.now.state.spaces < 2 ^ 31 }
-    requires named { IsOverStanding m.now.state.spaces (right_of right.now) }
-    ensures { OrNoMemory result (λ v.
-        IsVerdictOn (world_of w.now) m.now.state members.now (right_of right.now) (told v)) }
+    requires named { IsOverStanding m.now.state.spaces (right_of question.now.right) }
+    ensures { OrNoMemory result (λ v. IsVerdictOn (world_of w.now) m.now.state question.now.members.items
+        (right_of question.now.right) (told v)) }
 {
+    let Question { right, members } = question;
     match first_found(alloc, w, m, members, right)? {
         Some(found) => Ok(Verdict::No {
             run: found.run,
             holder: found.holder,
         }),
-        None => {
-            let v = bounded(alloc, w, &m.state, members, right)?;
-            Ok(v)
-        }
+        None => bounded(alloc, w, &m.state, members, right),
     }
 }
 

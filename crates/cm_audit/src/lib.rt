@@ -7,7 +7,7 @@ mod auditing;
 mod laws;
 mod verdict;
 
-pub use auditing::{audit, is_over_standing};
+pub use auditing::{ask, audit, is_over_standing, judge};
 pub use cm_credentials::{credentials, put_credentials};
 pub use laws::audits_rest_on_the_family_alone;
-pub use verdict::{AuditRefusal, Verdict};
+pub use verdict::{AuditRefusal, Question, Verdict};

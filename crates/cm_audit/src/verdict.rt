@@ -1,7 +1,14 @@
-// What an audit answers.
+// What an audit is asked, and what it answers.
 use cm_base::{NoMemory, Pid};
 use cm_box::{Bounds, Rule};
-use cm_state::Event;
+use cm_state::{Event, Right};
+
+/// What a verdict is on: a right, and the members of a family, in ascending order.
+#[derive(Debug, Drop)]
+pub struct Question {
+    pub right: Right,
+    pub members: Vec<Pid>,
+}
 
 /// The verdict on a right of a family.
 #[derive(Debug, Drop)]
@@ -23,7 +30,7 @@ pub enum Verdict {
     },
 }
 
-/// Why an audit gives no verdict.
+/// Why there is no question, and so no verdict.
 #[derive(Clone, Copy, Debug, PartialEq, Eq)]
 pub enum AuditRefusal {
     /// The root isn't alive.
