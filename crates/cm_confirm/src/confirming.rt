@@ -52,24 +52,20 @@ pub fn confirm(
     let mut run = Log::of_script();
     let mut rest = text;
     while let Some((line, after)) = next_line(rest) {
-        match next_of_line(alloc, w, &mut run, line) {
-            Ok(Next::Event(event)) => {
-                match take_event(alloc, w, &mut machine, &mut members, &event) {
-                    Ok(Turn::Goes) => let_go(event),
-                    Ok(Turn::Ends(confirmed)) => return Ok(confirmed),
-                    Err(NoMemory) => return Err(NoMemory),
+        match next_of_line(alloc, w, &mut run, line)? {
+            Next::Event(event) => {
+                match take_event(alloc, w, &mut machine, &mut members, &event)? {
+                    Turn::Goes => let_go(event),
+                    Turn::Ends(confirmed) => return Ok(confirmed),
                 }
             }
-            Ok(Next::Nothing) => {}
-            Ok(Next::Ends(stop)) => return Ok(end_run(&machine.state, &members, right, stop)),
-            Err(NoMemory) => return Err(NoMemory),
+            Next::Nothing => {}
+            Next::Ends(stop) => return Ok(end_run(&machine.state, &members, right, stop)),
         }
         rest = after;
     }
-    match end_of(alloc, w, &mut run, None) {
-        Ok(stop) => Ok(end_run(&machine.state, &members, right, stop)),
-        Err(NoMemory) => Err(NoMemory),
-    }
+    let stop = end_of(alloc, w, &mut run, None)?;
+    Ok(end_run(&machine.state, &members, right, stop))
 }
 
 // What a line of the run tells; one that has more bytes than lines may have ends its reading.
@@ -81,10 +77,8 @@ fn next_of_line(alloc: Global, w: &World, run: &mut Log, line: &[u8]) -> Result<
     ensures lines { OrNoMemory result (λ _. lines_read run.new ≤ lines_read run.old + 1) }
 {
     if line.len() as u64 > Limited::Line.number() {
-        return match end_of(alloc, w, run, Some(Past::Line)) {
-            Ok(stop) => Ok(Next::Ends(stop)),
-            Err(NoMemory) => Err(NoMemory),
-        };
+        let stop = end_of(alloc, w, run, Some(Past::Line))?;
+        return Ok(Next::Ends(stop));
     }
     run.read_line(alloc, w, line)
 }
@@ -101,11 +95,10 @@ fn end_of(
     ensures script { OrNoMemory result (λ _. IsScript run.new) }
     ensures lines { OrNoMemory result (λ _. lines_read run.new ≤ lines_read run.old) }
 {
-    match run.end(alloc, w, past) {
-        Ok(Next::Ends(stop)) => Ok(stop),
-        Ok(Next::Event(_)) => unreachable!(),
-        Ok(Next::Nothing) => unreachable!(),
-        Err(NoMemory) => Err(NoMemory),
+    match run.end(alloc, w, past)? {
+        Next::Ends(stop) => Ok(stop),
+        Next::Event(_) => unreachable!(),
+        Next::Nothing => unreachable!(),
     }
 }
 

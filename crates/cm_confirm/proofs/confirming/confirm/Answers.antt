@@ -29,23 +29,23 @@ loop-line-init c =
       lines = omega (arith, c.of_script-run.ensures.fresh.lines, c.requires.text);
     }
 
-pub loop-line-preserved-in-Ok-Goes : goal.loop-line-preserved-in-Ok-Goes
-loop-line-preserved-in-Ok-Goes c =
+pub loop-line-preserved-in-Goes : goal.loop-line-preserved-in-Goes
+loop-line-preserved-in-Goes c =
     let w = world_of c.args.w.now in
     let right = right_of c.args.right.now in
     let rest = lines_come (limit_number limit.Line) (lines_of c.in-Some.after.now) in
     let cut : lines_of c.loop-line.rest.now ≡ c.in-Some.line.now ∷ lines_of c.in-Some.after.now = c.in-Some.ensures.line in
-    let next = rw c.in-Ok-Event.field-0-is at c.in-Ok-Event.ensures.next in
+    let next = rw c.in-Event.is at c.in_ok-event.ensures.next in
     let is = ap (λ (ls : List (List ℕ)). left w c.loop-line.run (lines_come (limit_number limit.Line) ls)) cut ∙ next rest in
-    let goes = rw c.in-Ok-Goes.field-0-is at c.in-Ok-Goes.ensures in
-    let lines : lines_read c.next_of_line.new.run ≤ lines_read c.loop-line.run + 1 = c.in-Ok-Event.ensures.lines in
+    let goes = rw c.in-Goes.is at c.in_ok-take_event-in-Event.ensures in
+    let lines : lines_read c.next_of_line.new.run ≤ lines_read c.loop-line.run + 1 = c.in_ok-event.ensures.lines in
     let shorter : length c.in-Some.after.now + 1 ≤ length c.loop-line.rest.now = c.in-Some.ensures.shorter in
     record {
       same = c.loop-line.invariant.same
           ∙ goes_on w c.loop-line.machine.state c.loop-line.members right
           (left w c.loop-line.run (lines_come (limit_number limit.Line) (lines_of c.loop-line.rest.now)))
-          (left w c.next_of_line.new.run rest) c.in-Ok-Event.event is c.take_event.new.machine.state c.take_event.new.members goes;
+          (left w c.next_of_line.new.run rest) c.in-Event.event is c.take_event.new.machine.state c.take_event.new.members goes;
       within = goes.within;
-      script = c.in-Ok-Event.ensures.script;
+      script = c.in_ok-event.ensures.script;
       lines = omega (arith, lines, shorter, c.loop-line.invariant.lines);
     }
