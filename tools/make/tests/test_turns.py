@@ -1,8 +1,13 @@
-"""Which crate is proved next: turns.py, on lists by hand."""
+"""Which crate is proved next: turns.py, on lists by hand, and on the crates of this repository."""
+import heapq
+import os
 import unittest
 
-from make.turns import Task, Turns, longest_first, stopped
+from commands.tests import support
+from make.crate_list import Crates
+from make.turns import Task, Turns, longest_first, stopped, tasks
 
+TOP = os.path.normpath(os.path.join(support.EXAMPLES, ".."))
 GB = 10 ** 9
 
 
@@ -66,6 +71,34 @@ class Lanes(unittest.TestCase):
 
     def test_one_runs_however_little_there_is(self) -> None:
         self.assertEqual(begun(Turns([task("a", memory=7 * GB), task("b")], [], 4, 0)), ["a1"])
+
+
+def clock(wanted: list[Task], lanes: int, room: float) -> int:
+    """When all are through, where each takes as long as its work, by however many jobs."""
+    turns, now, running = Turns(wanted, [], lanes, room), 0, list[tuple[int, str, Task]]()
+    while True:
+        while (begin := turns.following()) is not None:
+            heapq.heappush(running, (now + begin[0].work, begin[0].name, begin[0]))
+        if not running:
+            return now
+        now, _, task = heapq.heappop(running)
+        turns.ended(task, True)
+
+
+class ThisRepository(unittest.TestCase):
+    """The crates of this repository, with lines of code in place of minutes."""
+
+    def setUp(self) -> None:
+        crates = Crates(TOP)
+        self.wanted = tasks(crates, crates.below("credaudit"))
+        self.work = sum(task.work for task in self.wanted)
+
+    def test_in_turn(self) -> None:
+        self.assertEqual(clock(self.wanted, 1, 16 * GB), self.work)
+
+    def test_on_four_processors(self) -> None:
+        """At most 40 of 100 of the work by the clock, though the longest chain must be gone through."""
+        self.assertLessEqual(clock(self.wanted, 4, 16 * GB), 0.4 * self.work)
 
 
 class Failures(unittest.TestCase):
