@@ -1,5 +1,5 @@
 -- What is answered to a query after an accepted log, by what is judged, or why it is refused.
-use Rattle.std.proofs.Common.{◌≡◌, ℕ, ◌<◌, ◌≤◌, Bool, true, false, cond, length, List, Option, Some, None, refl, sym}
+use Rattle.std.proofs.Common.{◌≡◌, ℕ, ◌<◌, ◌≤◌, Bool, true, cond, length, List, Option, Some, None, refl, sym}
 use Rattle.std.proofs.Common.{◌∙◌, ap, subst}
 use Rattle.std.proofs.Common.{[], ◌∷◌, ◌++◌, append_assoc, is_some, Result, Ok, slice_get, inl, inr, arith}
 use Rattle.std.proofs.lemmas.Option.{slice_get_cases}
@@ -21,32 +21,21 @@ use Rattle.model_cred.specs.Process.{Process, State, is_alive, process_at}
 use Rattle.model_cred.specs.Right.{Right}
 use Rattle.model_cred.specs.Space.{Spaces}
 use Rattle.model_cred.specs.World.{World}
-use Rattle.model_report.proofs.Answers.{is_not, stands_or_not, not_standing, of_asked, of_large, of_no_space}
+use Rattle.model_report.proofs.Answers.{is_not, of_asked, of_large, of_no_space}
 use Rattle.model_report.proofs.Replayed.{is_above, not_above}
 use Rattle.model_report.specs.Answer.{answer, bad_query, certificate_line, certificate_report, undecided_text}
-use Rattle.model_report.specs.Answer.{confirmed_report, is_over_standing, query_answer, task_report, verdict_report}
+use Rattle.model_report.specs.Answer.{confirmed_report, query_answer, task_report}
 use Rattle.model_report.specs.Causes.{Asks, AsksVerdict}
 use Rattle.model_report.specs.Checked.{IsChecked}
 use Rattle.model_report.specs.Given.{StateGives}
 use Rattle.model_report.specs.Judged.{Judged}
 use Rattle.model_report.specs.Query.{Query, asked_process, process_of, right_token}
 use Rattle.model_report.specs.Replay.{Plain, Report, limit_hit, text_of}
-use Rattle.model_report.specs.Task.{Task, ToJudge, ToCheck, ToConfirm}
-use Rattle.model_report.specs.Told.{Told, IsVerdictOn}
+use Rattle.model_report.specs.Task.{Task, ToCheck, ToConfirm}
 use Rattle.model_run.specs.Family.{family}
-use Rattle.model_report_laws.proofs.Judging.{told_once}
 use Rattle.model_text.specs.Reading.{script_reading}
 use Rattle.model_text.specs.Token.{pid_token}
 use Rattle.model_verdict.specs.Blame.{Blame}
-
--- a space that doesn't fail to stand stands
-pub standing_if : (spaces : Spaces) (right : Right) → ((IsOverStanding spaces right → ⊥) → ⊥)
-    → IsOverStanding spaces right
-standing_if spaces right not = by (is_over_standing spaces right) refl
-  where
-    by : (b : Bool) → is_over_standing spaces right ≡ b → IsOverStanding spaces right
-    by true is = stands_or_not spaces right is
-    by false is = absurd (not (not_standing spaces right is))
 
 -- the process that was found by a pid has that pid
 pub found_named : (ps : List Process) (at pid : ℕ) → (at < length ps) × (slice_get ps at ≡ process_at ps pid)
@@ -120,20 +109,6 @@ module _ (q : Query) (w : World) (s : State) where
         },
         there.2,
       )
-
-  -- the verdict
-  pub told_verdict : (j : Judged) (pid : ℕ) (right : Right) (x : Told) → Names pid
-      → right_token w.names q.right ≡ Some right
-      → IsOverStanding s.spaces right → length (family s pid) ≤ limit_number limit.Family
-      → IsVerdictOn w s (family s pid) right x
-      → StateGives (ToJudge q) w s j → query_answer (ToJudge q) j w s q ≡ verdict_report w s.spaces x
-  told_verdict j pid right x some token standing size is gives =
-      let there = query_stands pid right some token standing size in
-      let on : IsVerdictOn w s (family s there.0.pid) right x = subst (λ (n : ℕ). IsVerdictOn w s (family s n) right x)
-      (sym there.2) is in
-      of_asked q w s (ToJudge q) j there.0 right there.1
-      ∙ ap (λ (t : Told). verdict_report w s.spaces t)
-      (told_once w s (family s there.0.pid) right j.verdict x (gives there.0 right there.1) on)
 
   -- ---- a claim
   module _ (p : Process) (right : Right) (asked : AsksVerdict q w s p right) (members : List ℕ)

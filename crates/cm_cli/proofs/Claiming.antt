@@ -1,5 +1,6 @@
 -- What comes of a claim whose query stands: what its file is answered by, once it is read, and where it is too long.
 use Rattle.std.proofs.Common.{◌≡◌, ◌<◌, ◌≤◌, ◌∙◌, ℕ, List, length, Result, Ok, Err, IfOk, refl, subst, sym, ap}
+use Rattle.cm_audit.specs.declared.verdict.Question.{Question}
 use Rattle.cm_base.specs.declared.limited.Limited.{Limited}
 use Rattle.cm_base.specs.Limited.{limit_number}
 use Rattle.cm_base.specs.declared.status.Status.{Status}
@@ -10,7 +11,6 @@ use Rattle.cm_cli.specs.Claims.{IsTooMuch}
 use Rattle.cm_cli.specs.Put.{IsPut}
 use Rattle.cm_cli.specs.Query.{limit_of, task_by}
 use Rattle.cm_cli.specs.Reading.{IsFileRead}
-use Rattle.cm_cli.specs.declared.asking.Question.{Question}
 use Rattle.cm_cli.specs.declared.query.ClaimKind.{ClaimKind}
 use Rattle.cm_cli.specs.declared.query.ClaimKind.TheVariants as kind
 use Rattle.cm_cli.specs.declared.reading.Unread.{Unread}

@@ -17,16 +17,16 @@ ghost use Rattle.model_report.specs.Task.{ToJudge};
 ghost use Rattle.model_run.specs.Never.{MountsStand};
 
 use crate::answers::{put_certificate, put_run, put_undecided, put_yes};
-use crate::asking::{Refusal, put_refusal, read_query};
+use crate::asking::{put_refusal, read_question};
 use crate::claims::put_claim;
 use crate::query::{Query, Task};
-use cm_audit::{AuditRefusal, Verdict, audit};
+use cm_audit::{Verdict, judge};
 use cm_base::{NoMemory, Status};
 use cm_declared::World;
 use cm_io::Shelf;
 use cm_machine::Machine;
 use cm_replay::Untold;
-use cm_state::{Spaces, State};
+use cm_state::Spaces;
 use std::alloc::Global;
 
 /// Answers what is asked after an accepted log, and says the status of the whole: with whatever is judged so in the
@@ -77,18 +77,12 @@ fn put_verdict(
         (query_view query.entry)) text.old.items text.new.items status) }
     ensures answers { IfOk result IsLogAnswer }
 {
-    let st: &State = &m.state;
-    let (root, right) = match read_query(w, st, query) {
-        Ok(asked) => asked,
+    let question = match read_question(alloc, w, m, query) {
+        Ok(question) => question,
         Err(why) => return put_refusal(text, why),
     };
-    match audit(alloc, w, m, root, &right) {
-        Ok(verdict) => put_told(alloc, text, w, &st.spaces, &verdict),
-        Err(AuditRefusal::NoProcess) => put_refusal(text, Refusal::Pid),
-        Err(AuditRefusal::NoSpace) => put_refusal(text, Refusal::Space),
-        Err(AuditRefusal::FamilyTooLarge(_)) => put_refusal(text, Refusal::Family),
-        Err(AuditRefusal::NoMemory) => Err(NoMemory),
-    }
+    let verdict = judge(alloc, w, m, &question)?;
+    put_told(alloc, text, w, &m.state.spaces, &verdict)
 }
 
 // What a verdict says, and its status.

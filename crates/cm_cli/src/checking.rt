@@ -18,7 +18,7 @@ ghost use Rattle.model_report.specs.Checked.{IsChecked};
 ghost use Rattle.model_run.specs.Never.{MountsStand};
 
 use crate::answers::{put_refused, put_refused_row, put_row};
-use crate::asking::Question;
+use cm_audit::Question;
 use cm_base::{NoMemory, Status};
 use cm_box::Rule;
 use cm_cert::{BadCert, read_bounds};

@@ -18,11 +18,12 @@ ghost use Rattle.model_report.specs.Query.{Query};
 ghost use Rattle.model_report.specs.Replay.{IsWithin, limit_hit};
 ghost use Rattle.model_run.specs.Never.{MountsStand};
 
-use crate::asking::{Question, Unasked, put_refusal, read_question};
+use crate::asking::{put_refusal, read_question};
 use crate::checking::put_check;
 use crate::confirming::put_confirm;
 use crate::query::{Claim, ClaimKind};
 use crate::reading::{Unread, read_file};
+use cm_audit::Question;
 use cm_base::{Limited, NoMemory, Status};
 use cm_declared::World;
 use cm_io::Shelf;
@@ -60,8 +61,7 @@ pub(crate) fn put_claim<H: Shelf>(
 {
     let question = match read_question(alloc, w, &machine, claim.query) {
         Ok(question) => question,
-        Err(Unasked::Refused(why)) => return Ok(put_refusal(text, why)?),
-        Err(Unasked::NoMemory) => return Err(Untold::NoMemory),
+        Err(why) => return Ok(put_refusal(text, why)?),
     };
     match read_file(alloc, shelf, claim.file, claim.kind.limit()) {
         Ok(bytes) => Ok(put_claimed(alloc, w, machine, question, claim.kind, &bytes, text)?),

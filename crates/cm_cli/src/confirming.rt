@@ -13,7 +13,7 @@ ghost use Rattle.model_report.specs.Replay.{IsWithin};
 ghost use Rattle.model_text.specs.Reading.{script_reading};
 
 use crate::answers::{put_numbered, put_refused};
-use crate::asking::Question;
+use cm_audit::Question;
 use cm_base::{NoMemory, Status};
 use cm_confirm::{Confirmed, confirm};
 use cm_declared::World;
