@@ -31,7 +31,7 @@ class Rewrap:
 
     @property
     def name(self) -> str:
-        """The function behind its crate and file."""
+        """The function behind its crate and file, as docs/DECISIONS.md names it."""
         crate, file = self.file.removesuffix(".rt").split("/src/")
         return "::".join([crate, *file.split("/"), self.function])
 

@@ -1,4 +1,7 @@
-"""Places where a result is handed on by hand are found as they stand."""
+"""Places where a result is handed on by hand are found as they stand, and are those that docs/DECISIONS.md names."""
+import os
+import re
+
 from commands.tests.support import Case
 
 from .. import rewraps
@@ -38,6 +41,7 @@ fn given() -> Result<Option<u8>, Stop> {
     Ok(Some(v))
 }
 """
+NAMED = re.compile(r"`(\w+(?:::\w+){2,})`")
 
 
 class Rewraps(Case):
@@ -52,3 +56,8 @@ class Rewraps(Case):
         found = rewraps.rewraps(self.work)
         self.assertEqual({place.file for place in found}, {"cm_a/src/lib.rt", "cm_b/src/latest.rt"})
         self.assertEqual(len(found), 6)
+
+    def test_the_decisions_name_each_with_its_reason(self) -> None:
+        with open(os.path.join(rewraps.TOP, "docs", "DECISIONS.md"), encoding="utf-8") as file:
+            decision = file.read().split("- **A result goes on by `?`**")[1].split("\n- **")[0]
+        self.assertEqual(set(NAMED.findall(decision)), {place.name for place in rewraps.rewraps()})
