@@ -78,7 +78,7 @@ class Room:
     def scan(self) -> None:
         """All programs that are there before the recording."""
         with open(self.file("scanning"), "w", encoding="utf-8") as out:
-            if self.tool("credaudit-capture", ["-o", self.file("scan.toml"), "1"], out).wait(60):
+            if self.tool("credaudit-capture", ["-o", self.file("scan.toml"), "1"], out).wait(self.trap.limit):
                 raise SystemExit(f"{self.trap.name}: no scan")
 
     def record(self) -> Seen:

@@ -1,5 +1,5 @@
 """What a trap is: a program and its case, the danger that it shows, how it is spelled there, and what must tell it."""
-from dataclasses import dataclass
+from dataclasses import dataclass, replace
 
 LAUNCHED, ATTACHED, CAPTURED = "launched", "attached", "captured"
 NONE, ALL = "none", "all"
@@ -29,3 +29,11 @@ class Trap:
     def name(self) -> str:
         """The word that names the case."""
         return f"{self.program}/{self.case}{f'-{self.altered}' if self.altered else ''}"
+
+
+def slowed(trap: Trap, times: float) -> Trap:
+    """A case with so many times its time, for a machine whose processors others have too."""
+    options = [f"{times * float(word):g}" if before == "--for" else word
+               for before, word in zip(("", *trap.options), trap.options)]
+    go = None if trap.go is None else times * trap.go
+    return replace(trap, options=tuple(options), limit=times * trap.limit, go=go)

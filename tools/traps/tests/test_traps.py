@@ -14,7 +14,7 @@ from credaudit_tools.evidence import premises
 from .. import altering, judging, table
 from ..inside import collect
 from ..judging import Seen, faults
-from ..row import ALL, Trap
+from ..row import ALL, Trap, slowed
 
 TOOLS = os.path.dirname(os.path.dirname(support.HERE))
 SOURCES = {os.path.basename(path)[:-2]: path for path in glob.glob(os.path.join(TOOLS, "traps", "*.c"))}
@@ -93,6 +93,11 @@ class Judging(unittest.TestCase):
                 (replace(self.seen, doubts=["answers"]), "not seen: doubt filters or difference"),
                 (replace(self.seen, classes={"uid:0": ["doubted"], "gid:0": ["gone"]}), "called gone: gid:0")]:
             self.assertIn(told, "; ".join(faults(self.trap, seen)), told)
+
+    def test_more_time(self) -> None:
+        given = slowed(replace(self.trap, options=("--until", "3", "--for", "2"), go=0.5), 4)
+        self.assertEqual((given.options, given.limit, given.go), (("--until", "3", "--for", "8"), 240, 2))
+        self.assertEqual(slowed(self.trap, 1), self.trap)
 
     def test_what_may_be_gone(self) -> None:
         seen = replace(self.seen, classes={"uid:0": ["held"], "gid:0": ["gone"]})
