@@ -178,13 +178,14 @@ def fault(row: Row, folder: str, room: str, wanted: bytes, user: str | None) -> 
         return "; ".join(doubts) or f"it ended by {kept.made.end}"
     if not told.startswith(wanted):
         return f"it says {told[:200]!r}"
-    wanted_paths = [path.replace("TREE", tree(folder)) for path in row.executes]
+    wanted_paths = [path.replace("TREE", tree(folder)) if "TREE" in path else path for path in row.executes]
     missing = [path for path in wanted_paths if f'execve("{path}", [], NULL) = 0\n'.encode() not in kept.log]
     return f"the log doesn't execute {', '.join(missing)}" if missing else None
 
 
 def tried(row: Row, folder: str, times: int, jobs: int, user: str | None) -> bool:
-    """Records a program so often, so many at once; whether each time was whole. Tells each that isn't."""
+    """Records a program so often, so many at once; whether each time was whole. Tells each that isn't. Before that it
+    runs alone, which makes what all share."""
     with tempfile.TemporaryDirectory(dir=folder) as room:
         status, wanted = said(row.words(folder, room), user)
     if status != 0:
