@@ -87,7 +87,7 @@ class Traced(Case):
     def test_an_orphan_that_has_ended(self) -> None:
         """It is gone, as where init has it; also once the program's first process has ended before it."""
         waits = ("exec 2> /dev/null; orphan=$(sh -c 'sleep 0.1 > /dev/null & echo $!'); n=0; while kill -0 $orphan &&"
-                 ' [ $((n += 1)) -lt 50 ]; do sleep 0.2; done; kill -0 $orphan || : > "$0"')
+                 ' [ $((n += 1)) -lt 300 ]; do sleep 0.2; done; kill -0 $orphan || : > "$0"')
         for number, program in enumerate((waits, f"({waits}) &")):
             told = os.path.join(self.work, f"gone-{number}")
             self.assertEqual(self.trace("--force", "--", "sh", "-c", program, told)[0], 0)
