@@ -28,36 +28,11 @@ not_two (a ∷ b ∷ c ∷ vs) other = refl
 abbrev pub before : List Interval → Option (List Interval) → Option (List Interval)
 before done read = option_map (λ list. done ++ list) read
 
-before_push : (done : List Interval) (i : Interval) (read : Option (List Interval))
-    → before (done ++ i ∷ []) read ≡ before done (option_map (λ list. i ∷ list) read)
-before_push done i None = refl
-before_push done i (Some list) = ap Some (append_assoc done (i ∷ []) list)
-
 -- the items that are left begin with the value
 pub left_is : (vs : List Value) (k : ℕ) (v : Value) → k < length vs → v ≡ get_or vs k v
     → items_view (drop k vs) ≡ items_view (v ∷ drop (k + 1) vs)
 left_is vs k v below at =
     ap items_view (drop_more vs k v below ∙ ap (λ (head : Value). head ∷ drop (k + 1) vs) (sym at))
-
--- one value more, with those that are left
-abbrev with_more : List Value → ℕ → List Interval → Option Interval → Option (List Interval)
-with_more vs k done first =
-    let rest = intervals_of (items_view (drop (k + 1) vs)) in
-    before done (option_and_then (λ i. option_map (λ list. i ∷ list) rest) first)
-
-pub interval_read : (vs : List Value) (k : ℕ) (v : Value) (i : Interval) (done : List Interval) → k < length vs
-    → v ≡ get_or vs k v → Some i ≡ interval_of (view v)
-    → before (done ++ i ∷ []) (intervals_of (items_view (drop (k + 1) vs)))
-    ≡ before done (intervals_of (items_view (drop k vs)))
-interval_read vs k v i done below at is =
-    before_push done i (intervals_of (items_view (drop (k + 1) vs)))
-    ∙ ap (with_more vs k done) is
-    ∙ ap (λ ds. before done (intervals_of ds)) (sym (left_is vs k v below at))
-
-pub interval_refused : (vs : List Value) (k : ℕ) (v : Value) (done : List Interval) → k < length vs
-    → v ≡ get_or vs k v → None ≡ interval_of (view v) → before done (intervals_of (items_view (drop k vs))) ≡ None
-interval_refused vs k v done below at is =
-    ap (λ ds. before done (intervals_of ds)) (left_is vs k v below at) ∙ ap (with_more vs k done) (sym is)
 
 -- ---- as many as rows
 

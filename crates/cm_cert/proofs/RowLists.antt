@@ -36,13 +36,6 @@ row_shaped vs k y v row done below at is =
     ∙ ap (with_rest done rest) (sym is)
     ∙ ap (λ ds. rows_before done (rows_shape y ds)) (sym (left_is vs k v below at))
 
-pub row_misshapen : (vs : List Value) (k y : ℕ) (v : Value) (e : CertFault) (done : List BoxRow) → k < length vs
-    → v ≡ get_or vs k v → row_shape y (view v) ≡ Err e
-    → rows_before done (rows_shape y (items_view (drop k vs))) ≡ Err e
-row_misshapen vs k y v e done below at is =
-    ap (λ ds. rows_before done (rows_shape y ds)) (left_is vs k v below at)
-    ∙ ap (with_rest done (rows_shape (suc y) (items_view (drop (k + 1) vs)))) is
-
 -- ---- the order
 
 pub row_ordered : (y : ℕ) (plain row : BoxRow) (more done : List BoxRow) → row_order y plain ≡ Ok row
@@ -51,7 +44,3 @@ row_ordered y plain row more done is =
     ap (λ next. rows_before (done ++ row ∷ []) (rows_order next more)) (add-one y)
     ∙ rows_push done row (rows_order (suc y) more)
     ∙ ap (with_rest done (rows_order (suc y) more)) (sym is)
-
-pub row_disordered : (y : ℕ) (plain : BoxRow) (e : CertFault) (more done : List BoxRow) → row_order y plain ≡ Err e
-    → rows_before done (rows_order y (plain ∷ more)) ≡ Err e
-row_disordered y plain e more done is = ap (with_rest done (rows_order (suc y) more)) is

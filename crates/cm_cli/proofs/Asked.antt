@@ -1,5 +1,6 @@
 -- What a query comes to, by the process and the right that it names: it stands, or it is refused.
-use Rattle.std.proofs.Common.{◌≡◌, ◌<◌, ◌≤◌, ℕ, List, length, Option, None, Some, Result, Ok, Err, IfOk, subst, sym, ap, ◌∙◌, true, false, arith}
+use Rattle.std.proofs.Common.{◌≡◌, ◌<◌, ◌≤◌, ℕ, List, length, Option, None, Some, Result, Ok, Err, IfOk}
+use Rattle.std.proofs.Common.{subst, sym, ap, ◌∙◌, true, false, arith}
 use Rattle.std.specs.Prelude.{IfSome, IsSomeAnd}
 use Rattle.cm_audit.specs.declared.verdict.AuditRefusal.{AuditRefusal}
 use Rattle.cm_audit.specs.declared.verdict.AuditRefusal.TheVariants as audit
@@ -62,12 +63,14 @@ module _ (q : Query) (w : World) (s : State) (pid : ℕ) (right : code.Right) (a
   refuses_as r audit.NoMemory is dead none large = tt
 
 -- the verdict on a question is the answer to the query
-pub question_judged : (q : Query) (w : World) (s : State) (question : Question) → IsQuestion q w s question → (j : Judged) (x : Told)
+pub question_judged : (q : Query) (w : World) (s : State) (question : Question) → IsQuestion q w s question
+    → (j : Judged) (x : Told)
     → IsVerdictOn w s question.members.items (right_of question.right) x → StateGives (ToJudge q) w s j
     → query_answer (ToJudge q) j w s q ≡ verdict_report w s.spaces x
 question_judged q w s question is j x told gives =
     let right = right_of question.right in
-    let on : IsVerdictOn w s (family s is.process.pid) right x = subst (λ (ms : List ℕ). IsVerdictOn w s ms right x) is.members told in
+    let on : IsVerdictOn w s (family s is.process.pid) right x =
+    subst (λ (ms : List ℕ). IsVerdictOn w s ms right x) is.members told in
     of_asked q w s (ToJudge q) j is.process right is.asks
     ∙ ap (λ (t : Told). verdict_report w s.spaces t)
     (told_once w s (family s is.process.pid) right j.verdict x (gives is.process right is.asks) on)
@@ -81,6 +84,7 @@ refused_put (Ok st) None answer old new put is = absurd put
 refused_put (Ok st) (Some report) answer old new put is = subst (λ (r : Report). IsPut r old new st) (sym is) put
 
 -- so whatever is asked with it and judged
-pub refused_so : (o : Option Report) (P : Report → Type 0) → IfSome o P → (Q : Report → Type 0) → ((r : Report) → P r → Q r) → IfSome o Q
+pub refused_so : (o : Option Report) (P : Report → Type 0) → IfSome o P → (Q : Report → Type 0)
+    → ((r : Report) → P r → Q r) → IfSome o Q
 refused_so None P is Q goes = tt
 refused_so (Some r) P is Q goes = goes r is

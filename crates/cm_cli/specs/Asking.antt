@@ -33,7 +33,8 @@ refusal_report (unasked.Refused audit.NoMemory) = None
 
 -- it is refused so, whatever is asked with it and whatever is judged
 abbrev pub Refuses : Query → World → State → Unasked → Type 0
-Refuses q w s why = IfSome (refusal_report why) (λ report. (task : Task) (j : Judged) → query_answer task j w s q ≡ report)
+Refuses q w s why = IfSome (refusal_report why)
+    (λ report. (task : Task) (j : Judged) → query_answer task j w s q ≡ report)
 
 -- The query stands, and these are what it asks about.
 pub record IsQuestion (q : Query) (w : World) (s : State) (question : Question) : Type 0 where

@@ -7,7 +7,6 @@ use std::alloc::Global;
 /// Names, each with a place: a read of the name at that place or past it is to fail.
 #[derive(Drop)]
 pub(crate) struct Breaks {
-    alloc: Global,
     rows: Vec<Break>,
 }
 
@@ -35,7 +34,6 @@ impl Breaks {
         ensures { breaks_of result ≡ [] }
     {
         Breaks {
-            alloc,
             rows: Vec::new(alloc),
         }
     }
@@ -48,11 +46,11 @@ impl Breaks {
     }
 
     /// From now on each read of this name at this place or past it is to fail. Where memory runs out nothing changes.
-    pub(crate) fn add(&mut self, name: &str, place: u64) -> Result<(), NoMemory>
+    pub(crate) fn add(&mut self, alloc: Global, name: &str, place: u64) -> Result<(), NoMemory>
         ensures done { IfOk result (λ _. breaks_of self.new ≡ breaks_of self.old ++ (name.now, place) ∷ []) }
         ensures err { OnErr result (breaks_of self.new ≡ breaks_of self.old) }
     {
-        let name = String::from_str(self.alloc, name)?;
+        let name = String::from_str(alloc, name)?;
         self.rows.push(Break { name, place })?;
         Ok(())
     }

@@ -61,7 +61,7 @@ impl MemShelf {
 
     /// From now on each read of this name at the place `at` or past it fails, and raises its count of faults. Nothing
     /// else changes. `NoMemory` means that there was no memory for the name: then nothing changed.
-    pub fn fail_from(&mut self, name: &str, at: u64) -> Result<(), NoMemory>
+    pub fn fail_from(&mut self, alloc: Global, name: &str, at: u64) -> Result<(), NoMemory>
         ensures done { IfOk result (λ _. shelf_breaks self.new ≡ shelf_breaks self.old ++ (name.now, at) ∷ []) }
         ensures err { OnErr result (shelf_breaks self.new ≡ shelf_breaks self.old) }
         ensures held { ⟦<MemShelf as Shelf>⟧.held self.new ≡ ⟦<MemShelf as Shelf>⟧.held self.old }
@@ -69,7 +69,7 @@ impl MemShelf {
         ensures turns { shelf_turns self.new ≡ shelf_turns self.old }
         ensures widest { shelf_widest self.new ≡ shelf_widest self.old }
     {
-        self.breaks.add(name, at)
+        self.breaks.add(alloc, name, at)
     }
 
     /// What is counted under a name; None exactly where it wasn't noted.

@@ -1,5 +1,5 @@
 -- What a log of strace still gives after a line, or where no line comes any more.
-use Rattle.std.proofs.Common.{◌≡◌, ◌∙◌, ℕ, ◌+◌, false, List, [], Option, Some, None, reverse, refl, sym, ap, ap₂, subst, append-nil}
+use Rattle.std.proofs.Common.{◌≡◌, ◌∙◌, ℕ, ◌+◌, false, List, [], Some, None, reverse, refl, sym, ap, ap₂, subst, append-nil}
 use Rattle.std.proofs.lemmas.List.{reverse-reverse}
 use Rattle.cm_lines.specs.Cut.{Cut, before, ends_by}
 use Rattle.cm_lines.specs.declared.limits.Past.{Past}
@@ -10,6 +10,8 @@ use Rattle.cm_strace.proofs.Sessions.{cut_off_gives}
 use Rattle.cm_strace.specs.Answers.{reading_is, stop_is}
 use Rattle.cm_strace.specs.Stages.{cut_off}
 use Rattle.cm_strace.specs.declared.placed.Stop.{Stop}
+use Rattle.cm_strace.specs.declared.stage.Stage.{Stage}
+use Rattle.cm_strace.specs.declared.stage.Stage.TheVariants as stage
 use Rattle.model_cred.specs.World.{World}
 use Rattle.model_strace.proofs.RestLaws.{ends_for_good}
 use Rattle.model_strace.specs.After.{After, Goes, Halts}
@@ -43,26 +45,27 @@ stopped_at w (Stopped count halt) line stop cut is = ap ends_at (sym is)
 stopped_at w (Finished count) line stop cut is = absurd (cc)
 
 -- after the events that a line told comes what the session gives then
-answered_before : (w : World) (session : Session) (line : List ℕ) (events : List Placed) (stop : Option Stop) (cut : Cut)
-    → reading_is events stop ≡ line_answer w session line
-    → answered_then (reading_is events stop) (rest w (after_line w session line) cut) ≡ told_before events (rest w (after_line w session line) cut)
-answered_before w session line events None cut is = refl
-answered_before w session line events (Some stop) cut is =
+answered_before : (w : World) (session : Session) (line : List ℕ) (events : List Placed) (at : Stage) (cut : Cut)
+    → reading_is events at ≡ line_answer w session line
+    → answered_then (reading_is events at) (rest w (after_line w session line) cut) ≡ told_before events (rest w (after_line w session line) cut)
+answered_before w session line events stage.Going cut is = refl
+answered_before w session line events stage.Finished cut is = refl
+answered_before w session line events (stage.Stopped stop) cut is =
     let stops : rest w (after_line w session line) cut ≡ ends_at (Stops (stop_is stop)) =
     stopped_at w session line stop cut (ap (λ (r : Reading). r.ending) is) in
     ap (λ (es : List Placed). let r : Reading = record { events = es; ending = Stops (stop_is stop) } in r) (sym (append-nil events))
     ∙ ap (told_before events) (sym stops)
 
 -- What is left after a line, whose events wait then.
-pub left_after_line : (w : World) (old new : Session) (waits waits' : List Placed) (line : List ℕ) (events : List Placed) (stop : Option Stop)
-    → waits ≡ [] → reverse waits' ≡ events → new ≡ after_line w old line → reading_is events stop ≡ line_answer w old line
-    → ((cut : Cut) → rest w old (before line cut) ≡ answered_then (reading_is events stop) (rest w new cut))
+pub left_after_line : (w : World) (old new : Session) (waits waits' : List Placed) (line : List ℕ) (events : List Placed) (at : Stage)
+    → waits ≡ [] → reverse waits' ≡ events → new ≡ after_line w old line → reading_is events at ≡ line_answer w old line
+    → ((cut : Cut) → rest w old (before line cut) ≡ answered_then (reading_is events at) (rest w new cut))
     → (cut : Cut) → told_before (reverse waits) (rest w old (before line cut)) ≡ told_before (reverse waits') (rest w new cut)
-left_after_line w old new waits waits' line events stop none wait after given told cut =
+left_after_line w old new waits waits' line events at none wait after given told cut =
     none_before waits (rest w old (before line cut)) none
     ∙ told cut
-    ∙ ap (λ (s : Session). answered_then (reading_is events stop) (rest w s cut)) after
-    ∙ answered_before w old line events stop cut given
+    ∙ ap (λ (s : Session). answered_then (reading_is events at) (rest w s cut)) after
+    ∙ answered_before w old line events at cut given
     ∙ ap₂ (λ (es : List Placed) (s : Session). told_before es (rest w s cut)) (sym wait) (sym after)
 
 -- ---- no line comes any more

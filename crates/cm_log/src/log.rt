@@ -9,6 +9,7 @@ ghost use Rattle.cm_log.specs.Left.{left, is_open, IsScript, NoneWaits};
 ghost use Rattle.cm_log.specs.Next.{IsNext, EndsAgain, Leaves};
 ghost use Rattle.cm_log.specs.declared.next.Next.TheVariants as next;
 ghost use Rattle.model_cred.specs.World as model;
+ghost use Rattle.model_run.specs.Within.{IsWithin};
 ghost use Rattle.model_strace.specs.Logs.{form_of_cut};
 ghost use Rattle.model_text.specs.Print.{event_text};
 ghost use Rattle.model_text.specs.Reading.{reads_on, script_of_cut};
@@ -39,9 +40,10 @@ impl Log {
         Log::Script(ScriptLog::new())
     }
 
-    /// A world's log before its first line. It fails only where memory runs out.
+    /// A world's log before its first line. The world's start is within the limits of live processes and of user
+    /// namespaces. It fails only where memory runs out.
     pub fn new(alloc: Global, w: &World) -> Result<Log, NoMemory>
-        requires { length w.now.start.spaces < 2 ^ 31 }
+        requires { IsWithin w.now.start }
         ensures reading { OrNoMemory result (λ log. (cut : Cut) → left (world_of w.now) log cut
             ≡ form_of_cut (world_of w.now).form (world_of w.now) cut) }
         ensures fresh { OrNoMemory result (λ log. IsFresh (length w.now.start.spaces) log) }

@@ -59,10 +59,6 @@ module _ (q : Setting) (seat : Seat) where
       ∙ ap (λ (o : Bool). if o then Some (BecomeGroup ∷ []) else find ends_with ((TakeGroup ∷ []) ∷ [])) fourth
       ∙ ap (λ (o : Bool). if o then Some (TakeGroup ∷ []) else None) is
 
-  -- the moves from a middle choice on
-  abbrev from_middle : Choice → Option (List Move)
-  from_middle middle = option_map (λ last. then_raise middle ++ then_raise last) (last_found q (after_moves q seat (then_raise middle)))
-
   pub middle_some : (middle last : Choice) (more : List Choice) → last_found q (after_moves q seat (then_raise middle)) ≡ Some last
       → middle_found q seat (middle ∷ more) ≡ Some (then_raise middle ++ then_raise last)
   middle_some middle last more is =

@@ -31,34 +31,9 @@ stops r outside.NoMemory answer w w' f f' is front cause = record {
   };
 }
 
--- writes that failed none, one after another
-pub wrote_on : {T U V : Type 0} {one two three : ℕ} {t : T} {u : U} {v : V} → WriteFaults one two (Ok t) → WriteFaults two three (Ok u)
-    → WriteFaults one three (Ok v)
-wrote_on first next = record {
-  later = le_of_eq (sym (next.ok ∙ first.ok));
-  ok = next.ok ∙ first.ok;
-  failed = λ is. cc;
-  no_memory = λ is. cc;
-}
-
 -- out of memory where the sink's count stood still
 pub wants_memory : {f f' : ℕ} → f' ≡ f → WriteFaults {T = Unit {0}} f f' (Err outside.NoMemory)
 wants_memory same = record { later = le_of_eq (sym same); ok = tt; failed = λ is. cc; no_memory = λ _. same }
-
--- all of a text is written where nothing of it waits
-all_written : (w w' : Option (List ℕ)) (whole : List ℕ) → IsSent w w' [] whole → w' ≡ then_written w whole
-all_written w w' whole sent = sent.written ∙ ap (then_written w) (sym (append-nil sent.front) ∙ sym sent.parts)
-
--- a report that is told whole
-pub tells_whole : (r : Report) (answer : Status) (w w' : Option (List ℕ)) (f f' : ℕ) → r.status ≡ answer
-    → IsOfReport r.status → IsSent w w' [] (text_of r.lines) → f' ≡ f → TellsReport r answer w w' f f'
-tells_whole r answer w w' f f' is told sent same = record {
-  status = λ _. sym is;
-  text = λ _. all_written w w' (text_of r.lines) sent;
-  front = ([], sent);
-  never_read_fault = λ read. told.not_read_fault (is ∙ read);
-  counts = record { fault = λ fault. absurd (told.not_write_fault (is ∙ fault)); later = le_of_eq (sym same); stay = λ _. same };
-}
 
 -- a status that is none of these three is that of a report
 pub of_report : (st : Status) → st ≢ answers.ReadFault → st ≢ answers.WriteFault → st ≢ answers.NoMemory → IsOfReport st

@@ -1,6 +1,7 @@
 // A process, as the machine keeps it: its pid, whom it descends from, where it is, and its credentials.
 use crate::Cred;
 use cm_base::{NoMemory, Pid, SpaceId};
+use cm_ordered::Numbered;
 use std::alloc::Global;
 use std::marker::Model;
 
@@ -39,5 +40,13 @@ impl Proc {
             space: self.space,
             cred,
         })
+    }
+}
+
+impl Numbered for Proc {
+    ghost number = { λ p. p.pid };
+
+    fn number(&self) -> u64 {
+        u64::from(self.pid.number())
     }
 }

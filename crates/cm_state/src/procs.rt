@@ -1,9 +1,8 @@
 // The live processes of the machine, as a list of its own. Its calls that look for a pid, or put a process in its place,
 // ask that the pids ascend; the state keeps that they do.
-ghost use Rattle.std.specs.Prelude.{◌≡◌, ◌<◌, ◌==◌, not, filter, Some, None, length, slice_get, IfSome, IfNone, ◌≢◌, true, false};
+ghost use Rattle.std.specs.Prelude.{◌≡◌, ◌<◌, ◌==◌, not, filter, Some, None, length, slice_get, IfSome, IfNone, false};
 ghost use Rattle.std.specs.List.{remove};
 ghost use Rattle.cm_base.specs.Outcome.{OrNoMemory, UnchangedOnErr};
-ghost use Rattle.cm_state.specs.Places.{IsPlace, pid_at};
 ghost use Rattle.model_cred.specs.Process.{Ascends, process_at, is_alive, insert_process};
 
 use crate::Proc;
@@ -56,12 +55,7 @@ impl Procs {
         ensures found { IfSome result (λ at. (at < length self.now) × (slice_get self.now at ≡ process_at self.now pid)) }
         ensures none { IfNone result (process_at self.now pid ≡ None) }
     {
-        let at = place_of(&self.list, pid.number());
-        if has_pid(&self.list, at, pid.number()) {
-            Some(at)
-        } else {
-            None
-        }
+        cm_ordered::find(&self.list, pid)
     }
 
     /// Puts one more process in its place, where the pids ascend and none is its own. It fails only where memory runs
@@ -73,8 +67,7 @@ impl Procs {
         ensures unchanged { UnchangedOnErr result self.new self.old }
         ensures still { Ascends self.new }
     {
-        let at = place_of(&self.list, p.pid.number());
-        self.list.insert(at, p)?;
+        cm_ordered::insert(&mut self.list, p)?;
         Ok(())
     }
 
@@ -100,36 +93,4 @@ fn copy_list(alloc: Global, list: &[Proc]) -> Result<Vec<Proc>, NoMemory>
         made.push(p)?;
     }
     Ok(made)
-}
-
-// The process at that place is there and has the pid.
-fn has_pid(list: &[Proc], at: usize, pid: u32) -> bool
-    ensures there { result ≡ true → (at < length list.now) × (pid_at list.now at ≡ pid) }
-    ensures absent { result ≡ false → at < length list.now → pid_at list.now at ≢ pid }
-{
-    if at >= list.len() {
-        return false;
-    }
-    let p = &list[at];
-    p.pid.number() == pid
-}
-
-// The place of a pid among processes whose pids ascend, by halves.
-fn place_of(list: &[Proc], pid: u32) -> usize
-    requires { Ascends list.now }
-    ensures { IsPlace list.now pid result }
-{
-    let mut low = 0;
-    let mut high = list.len();
-    while low < high {
-        let middle = low + (high - low) / 2;
-        let p = &list[middle];
-        let here = p.pid.number();
-        if here < pid {
-            low = middle + 1;
-        } else {
-            high = middle;
-        }
-    }
-    low
 }

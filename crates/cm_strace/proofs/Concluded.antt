@@ -1,58 +1,67 @@
 -- A line that is read and done: with no held lines of a child, or with them.
-use Rattle.std.proofs.Common.{◌≡◌, ℕ, ◌+◌, false, true, length, List, Option, None, ◌∙◌, ap}
+use Rattle.std.proofs.Common.{◌≡◌, ℕ, ◌+◌, Bool, false, length, List, [], None, ◌∙◌, ap, refl, sym, append-nil}
 use Rattle.std.specs.Prelude.{Result, Ok, Err}
 use Rattle.cm_base.specs.Outcome.{OrNoMemory}
-use Rattle.cm_strace.specs.Deeds.{IsAct, Waits, step_is}
-use Rattle.cm_strace.specs.Given.{BornOf, born_is}
+use Rattle.cm_base.specs.declared.memory.NoMemory.{NoMemory}
+use Rattle.cm_strace.specs.Answers.{stop_is}
+use Rattle.cm_strace.specs.Deeds.{child_of, deed_is, is_resumed, left_of, line_turn}
+use Rattle.cm_strace.specs.Given.{Gave, born_is, read_is}
 use Rattle.cm_strace.specs.Works.{awaits, concluded}
-use Rattle.cm_strace.specs.declared.deed.Act.TheVariants as act
 use Rattle.cm_strace.specs.declared.deed.Deed.{Deed}
 use Rattle.cm_strace.specs.declared.deed.Deed.TheVariants as deed
-use Rattle.cm_strace.specs.declared.deed.Given.TheVariants as given
-use Rattle.cm_strace.specs.declared.deed.Step.{Step}
+use Rattle.cm_strace.specs.declared.deed.Origin.{Origin}
+use Rattle.cm_strace.specs.declared.stage.Stage.{Stage}
+use Rattle.cm_strace.specs.declared.stage.Stage.TheVariants as stage
 use Rattle.cm_strace.proofs.HeldLines.{any_none}
-use Rattle.cm_strace.proofs.Released.{next_none}
+use Rattle.cm_strace.proofs.Released.{goes_alone, halts_then, next_none, released_none}
 use Rattle.model_cred.specs.World.{World}
-use Rattle.model_strace.specs.After.{and_then}
-use Rattle.model_strace.specs.Lines.{Line, next_line, given_at}
+use Rattle.model_strace.specs.After.{After, Goes, Halts, and_then, preceded}
+use Rattle.model_strace.specs.Body.{Body, body_of}
+use Rattle.model_strace.specs.Lines.{Line, Read, next_line, given_at}
 use Rattle.model_strace.specs.Parts.{Parts}
 use Rattle.model_strace.specs.Rest.{Work, read_fed, released}
-use Rattle.model_strace.specs.Turn.{Turn, turn}
+use Rattle.model_strace.specs.Turn.{Turn, body_turn, turn}
+use Rattle.model_text.specs.Reading.{Placed}
 
 -- no line is next after a deed that no lines wait for
-pub born_alone : (born : Option ℕ) (d : Deed) (lines : List Line) (p : Parts) → BornOf (given.On born) d
-    → awaits lines d ≡ false
-    → next_line p lines (born_is born) ≡ None
-born_alone born (deed.Acts (act.Bears birth)) lines p is alone =
-    ap (λ b. next_line p lines (born_is b)) is ∙ next_none p lines birth.child (any_none birth.child lines alone)
-born_alone born (deed.Acts (act.Does call answer)) lines p is alone = ap (λ b. next_line p lines (born_is b)) is
-born_alone born (deed.Acts act.Ends) lines p is alone = ap (λ b. next_line p lines (born_is b)) is
-born_alone born deed.Quiet lines p is alone = ap (λ b. next_line p lines (born_is b)) is
-born_alone born (deed.Refused why) lines p is alone = ap (λ b. next_line p lines (born_is b)) is
-born_alone born (deed.Exceeds limit) lines p is alone = ap (λ b. next_line p lines (born_is b)) is
+born_alone : (d : Deed) (lines : List Line) (p : Parts) → awaits lines d ≡ false → next_line p lines (born_is (child_of d)) ≡ None
+born_alone (deed.Bears birth) lines p alone = next_none p lines birth.child (any_none birth.child lines alone)
+born_alone (deed.Does call answer) lines p alone = refl
+born_alone deed.Ends lines p alone = refl
+born_alone deed.Quiet lines p alone = refl
+born_alone (deed.Refused why) lines p alone = refl
+born_alone (deed.Exceeds limit) lines p alone = refl
 
--- lines wait for an act alone
-pub awaits_act : (lines : List Line) (d : Deed) → awaits lines d ≡ true → IsAct d
-awaits_act lines (deed.Acts a) waits = tt
-awaits_act lines deed.Quiet waits = absurd (cc)
-awaits_act lines (deed.Refused why) waits = absurd (cc)
-awaits_act lines (deed.Exceeds limit) waits = absurd (cc)
+-- then nothing follows the deed
+pub concluded_alone : (w : World) (at : Stage) (es fs : List Placed) (origin : Origin) (d : Deed) (t : Work) (p : Parts)
+    → awaits t.held d ≡ false
+    → Gave at fs (read_is (child_of d) p) (preceded es (given_at origin.line (line_turn origin d t.parts)))
+    → Gave at fs (let u : Work = record t { parts = p } in u) (preceded es (concluded w origin d t))
+concluded_alone w stage.Going es fs origin d t p alone is =
+    goes_alone es fs (given_at origin.line (line_turn origin d t.parts)) (read_is (child_of d) p)
+    (λ r. released w (length t.held) r.born (record t { parts = r.parts })) (record t { parts = p }) is
+    (released_none w (length t.held) (born_is (child_of d)) (record t { parts = p }) (born_alone d t.held p alone))
+concluded_alone w (stage.Stopped stop) es fs origin d t p alone is =
+    halts_then es fs (given_at origin.line (line_turn origin d t.parts)) (stop_is stop)
+    (λ (r : Read). released w (length t.held) r.born (record t { parts = r.parts })) is
+concluded_alone w stage.Finished es fs origin d t p alone is = absurd is
 
--- an act that waits has changed nothing
-pub act_waits : {T : Type 0} (d : Deed) (new old : T) → IsAct d → Waits d new old → new ≡ old
-act_waits (deed.Acts a) new old is waits = waits
-act_waits deed.Quiet new old is waits = absurd is
-act_waits (deed.Refused why) new old is waits = absurd is
-act_waits (deed.Exceeds limit) new old is waits = absurd is
+-- what the deed of a body does is what its text does
+pub deed_turn : (w : World) (pid : ℕ) (resumed : Bool) (body : Body) (text : List ℕ) (d : Deed) (p old : Parts)
+    → resumed ≡ is_resumed body → body ≡ body_of text
+    → deed_is pid d (left_of (is_resumed body) pid p) ≡ body_turn w pid body old
+    → deed_is pid d (left_of resumed pid p) ≡ turn w pid text old
+deed_turn w pid resumed body text d p old one two is =
+    ap (λ (b : Bool). deed_is pid d (left_of b pid p)) one ∙ is ∙ ap (λ (b : Body). body_turn w pid b old) two
 
--- a line is read where its step is known
-pub concluded_read : (w : World) (pid : ℕ) (body : List ℕ) (step : Step) (now old : Work) → now
-    ≡ record old { parts = now.parts }
-    → step_is pid step now.parts ≡ turn w pid body old.parts
-    → concluded w pid step (record now { count = now.count + 1 })
-    ≡ read_fed w (record { number = old.count + 1; pid = pid; body = body }) (record old { count = old.count + 1 })
-concluded_read w pid body step now old others is =
-    ap (λ (t : Work). concluded w pid step (record t { count = t.count + 1 })) others
+-- a line is read where its deed is known
+pub concluded_read : (w : World) (origin : Origin) (body : List ℕ) (d : Deed) (p : Parts) (old : Work)
+    → line_turn origin d p ≡ turn w origin.pid body old.parts → origin.line ≡ old.count + 1
+    → concluded w origin d (record old { parts = p; count = old.count + 1 })
+    ≡ read_fed w (record { number = old.count + 1; pid = origin.pid; body = body }) (record old { count = old.count + 1 })
+concluded_read w origin body d p old is line =
+    ap (λ (n : ℕ). and_then (given_at n (line_turn origin d p)) (λ r. released w (length old.held) r.born
+    (record old { parts = r.parts; count = old.count + 1 }))) line
     ∙ ap (λ (t : Turn). and_then (given_at (old.count + 1) t) (λ r. released w (length old.held) r.born
     (record old { parts = r.parts; count = old.count + 1 }))) is
 
@@ -61,3 +70,14 @@ pub at_world : {T E : Type 0} (r : Result T E) (P : World → T → Type 0) (w :
     → OrNoMemory r (λ x. (v : World) → P v x) → OrNoMemory r (P w)
 at_world (Ok x) P w h = h w
 at_world (Err e) P w h = h
+
+-- what gave nothing but a stop gives it after earlier events
+gave_after : (at : Stage) (events : List Placed) (t : Work) (a : After Work) → Gave at [] t a → Gave at events t (preceded events a)
+gave_after stage.Going events t a is = ap (λ es. Goes es t) (sym (append-nil events)) ∙ ap (preceded events) is
+gave_after (stage.Stopped stop) events t a is = ap (λ es. Halts es (stop_is stop)) (sym (append-nil events)) ∙ ap (preceded events) is
+gave_after stage.Finished events t a is = absurd is
+
+pub held_on : (r : Result Stage NoMemory) (events : List Placed) (t : Work) (a : After Work)
+    → OrNoMemory r (λ at. Gave at [] t a) → OrNoMemory r (λ at. Gave at events t (preceded events a))
+held_on (Ok at) events t a is = gave_after at events t a is
+held_on (Err e) events t a is = tt

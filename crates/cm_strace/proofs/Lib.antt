@@ -8,6 +8,5 @@ pub mod Idle
 pub mod Taken
 pub mod Retained
 pub mod Dues
-pub mod Elsewhere
 pub mod Sessions
 pub mod Unchanged

@@ -27,14 +27,14 @@ unread_call w pid text p unread =
       | Some call ↦ λ h. absurd (cc)
     ]) unread
 
--- the line is counted, and nothing else
-pub quiet_read : (w : World) (pid : ℕ) (body : List ℕ) (t : Work) (events : List Placed)
-    → turn w pid body t.parts ≡ Quiet t.parts
-    → Goes events (record t { count = t.count + 1 })
+-- the line is counted, and nothing else is done
+pub quiet_read : (w : World) (pid : ℕ) (body : List ℕ) (p : Parts) (t : Work) (events : List Placed)
+    → turn w pid body t.parts ≡ Quiet p
+    → Goes events (let u : Work = record t { parts = p; count = t.count + 1 } in u)
     ≡ preceded events (read_fed w (record { number = t.count + 1; pid = pid; body = body })
     (record t { count = t.count + 1 }))
-quiet_read w pid body t events quiet =
-    let now : Work = record t { count = t.count + 1 } in
+quiet_read w pid body p t events quiet =
+    let now : Work = record t { parts = p; count = t.count + 1 } in
     ap (λ es. Goes es now) (sym (append-nil events))
     ∙ ap (λ after. preceded events (preceded [] after)) (sym (released_none w (length t.held) [] now refl))
     ∙ ap (λ (turned : Turn). preceded events (and_then (given_at (t.count + 1) turned) (λ r. released w (length t.held) r.born

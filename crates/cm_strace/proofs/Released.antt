@@ -2,6 +2,10 @@
 use Rattle.std.proofs.Common.{◌≡◌, ℕ, zero, suc, true, false, cond, find, length, drop, List, [], ◌∷◌, ◌++◌, Some}
 use Rattle.std.proofs.Common.{None, refl, sym, ◌∙◌, ap, append_assoc, append-nil, slice_get}
 use Rattle.std.specs.Option.{option_or}
+use Rattle.cm_strace.specs.Answers.{stop_is}
+use Rattle.cm_strace.specs.Given.{Gave}
+use Rattle.cm_strace.specs.declared.stage.Stage.{Stage}
+use Rattle.cm_strace.specs.declared.stage.Stage.TheVariants as stage
 use Rattle.model_cred.specs.World.{World}
 use Rattle.model_strace.specs.After.{After, Goes, Halts, preceded, and_then}
 use Rattle.model_strace.specs.Lines.{Line, is_line_of, read_line, next_line, next_with}
@@ -41,6 +45,13 @@ pub halts_then : {S T : Type 0} (es fs : List Placed) (a : After S) (stop : Stop
     → Halts fs stop ≡ preceded es (and_then a next)
 halts_then es fs a stop next is = ap (λ b. and_then b next) is ∙ sym (preceded_then es a next)
 
+-- the same, of what isn't going on
+pub stopped_then : {S T : Type 0} (at : Stage) (es fs : List Placed) (a : After S) (s : S) (next : S → After T) (t : T)
+    → (at ≡ stage.Going → ⊥) → Gave at fs s (preceded es a) → Gave at fs t (preceded es (and_then a next))
+stopped_then stage.Going es fs a s next t stops is = absurd (stops refl)
+stopped_then (stage.Stopped stop) es fs a s next t stops is = halts_then es fs a (stop_is stop) next is
+stopped_then stage.Finished es fs a s next t stops is = absurd is
+
 -- ---- held lines
 -- without a next line nothing more is read
 pub released_none : (w : World) (left : ℕ) (pids : List ℕ) (t : Work) → next_line t.parts t.held pids ≡ None
@@ -69,35 +80,6 @@ released_next w left pids t l rest size next =
     ap (λ n. released w n pids t) size ∙ ap (λ x. then_released w x t (λ pids' t'. released w left pids' t')) next
 
 -- ---- the pids
--- a pid that stands first
-pub first_is : (pids : List ℕ) (pid : ℕ) → slice_get pids 0 ≡ Some pid → pids ≡ pid ∷ drop 1 pids
-first_is [] pid is = absurd (cc)
-first_is (x ∷ pids) pid is = let e : x ≡ pid = cc in ap (λ y. y ∷ pids) e
-
--- the next line is one of the first pid
-pub next_of_first : (p : Parts) (lines : List Line) (pid : ℕ) (pids : List ℕ) (l : Line)
-    → cond (is_known pid p) (find (is_line_of pid) lines) None ≡ Some l → next_line p lines (pid ∷ pids)
-    ≡ Some (record { line = l; pids = pid ∷ pids })
-next_of_first p lines pid pids l is =
-    (elim (is_known pid p) as (λ b. cond b (find (is_line_of pid) lines) None ≡ Some l
-    → cond b (option_or (next_with (pid ∷ pids) (find (is_line_of pid) lines)) (next_line p lines pids))
-    (next_line p lines pids) ≡ Some (record { line = l; pids = pid ∷ pids })) [
-      | true ↦ λ h. ap (λ x. option_or (next_with (pid ∷ pids) x) (next_line p lines pids)) h
-      | false ↦ λ h. absurd (cc)
-    ]) is
-
--- the next line is one of the later pids
-pub next_of_later : (p : Parts) (lines : List Line) (pid : ℕ) (pids : List ℕ)
-    → cond (is_known pid p) (find (is_line_of pid) lines) None ≡ None → next_line p lines (pid ∷ pids)
-    ≡ next_line p lines pids
-next_of_later p lines pid pids is =
-    (elim (is_known pid p) as (λ b. cond b (find (is_line_of pid) lines) None ≡ None
-    → cond b (option_or (next_with (pid ∷ pids) (find (is_line_of pid) lines)) (next_line p lines pids))
-    (next_line p lines pids) ≡ next_line p lines pids) [
-      | true ↦ λ h. ap (λ x. option_or (next_with (pid ∷ pids) x) (next_line p lines pids)) h
-      | false ↦ λ h. refl
-    ]) is
-
 -- no pid stands first where there is none
 pub none_first : (p : Parts) (lines : List Line) (pids : List ℕ) → slice_get pids 0 ≡ None → next_line p lines pids
     ≡ None

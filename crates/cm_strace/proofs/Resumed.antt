@@ -1,15 +1,15 @@
 -- A call that was resumed: what it does is the same before and after its kept text goes.
 use Rattle.std.proofs.Common.{◌≡◌, ℕ, ◌==◌, ◌&&◌, ◌||◌, Bool, true, false, cond, length, List, [], ◌∷◌, ◌++◌, Option}
 use Rattle.std.proofs.Common.{Some, None, refl, sym, ◌∙◌, ap}
-use Rattle.std.specs.Prelude.{codes, nat_lt, bytes_eq}
+use Rattle.std.specs.Prelude.{codes, nat_lt, bytes_eq, Result, Ok, Err}
 use Rattle.cm_base.specs.Limited.{limit_number}
+use Rattle.cm_base.specs.Outcome.{OrNoMemory}
 use Rattle.cm_base.specs.declared.faults.LineFault.TheVariants as fault
 use Rattle.cm_base.specs.declared.limited.Limited.TheVariants as limit
 use Rattle.cm_base.specs.declared.res.Res.{Res}
 use Rattle.cm_base.specs.declared.res.Res.TheVariants as res
 use Rattle.cm_state.specs.Call.{call_of}
 use Rattle.cm_strace.specs.Deeds.{deed_is, begun_text}
-use Rattle.cm_strace.specs.declared.deed.Act.TheVariants as act
 use Rattle.cm_strace.specs.declared.deed.Deed.{Deed}
 use Rattle.cm_strace.specs.declared.deed.Deed.TheVariants as deed
 use Rattle.model_cred.specs.Call as model
@@ -268,15 +268,23 @@ deed_without : (pid : ℕ) (d : Deed) (p : Parts) → deed_is pid d (without_kep
 deed_without pid deed.Quiet p = refl
 deed_without pid (deed.Refused why) p = refl
 deed_without pid (deed.Exceeds limit) p = refl
-deed_without pid (deed.Acts (act.Does call answer)) p = done_without pid pid (call_of call) answer p
-deed_without pid (deed.Acts (act.Bears birth)) p = birth_without pid pid birth.child birth.user birth.shares p
-deed_without pid (deed.Acts act.Ends) p = refl
+deed_without pid (deed.Does call answer) p = done_without pid pid (call_of call) answer p
+deed_without pid (deed.Bears birth) p = birth_without pid pid birth.child birth.user birth.shares p
+deed_without pid deed.Ends p = refl
 
 -- a deed that does what is told does so without the kept text
 pub resumed_turn : (pid : ℕ) (d : Deed) (told : Told) (new old : Parts) → deed_is pid d new ≡ told_turn pid told old
     → deed_is pid d (without_kept pid new) ≡ told_turn pid told (without_kept pid old)
 resumed_turn pid d told new old is =
     deed_without pid d new ∙ ap (changed (without_kept pid)) is ∙ sym (told_without pid pid told old)
+
+-- the same of what is taken of a call, where memory is there
+pub resumed_taken : {E : Type 0} (pid : ℕ) (r : Result Deed E) (told meant : Told) (new old : Parts) → told ≡ meant
+    → OrNoMemory r (λ d. deed_is pid d new ≡ told_turn pid told old)
+    → OrNoMemory r (λ d. deed_is pid d (without_kept pid new) ≡ told_turn pid meant (without_kept pid old))
+resumed_taken pid (Ok d) told meant new old same is =
+    resumed_turn pid d told new old is ∙ ap (λ t. told_turn pid t (without_kept pid old)) same
+resumed_taken pid (Err e) told meant new old same is = tt
 
 -- the rest of a call whose beginning is kept is the whole call
 pub resumes_begun : (w : World) (pid : ℕ) (name rest : List ℕ) (kept : Option (List ℕ)) (text : List ℕ) (p : Parts)
@@ -290,17 +298,4 @@ resumes_begun w pid name rest (Some kept) text p is =
       | true ↦ λ h. let e : kept ++ rest ≡ text = cc in ap (λ t. told_turn pid (call_told w pid t)
           (without_kept pid p)) e
       | false ↦ λ h. absurd (cc)
-    ]) is
-
--- one whose beginning isn't kept is a fault
-pub resumes_not_begun : (w : World) (pid : ℕ) (name rest : List ℕ) (kept : Option (List ℕ)) (p : Parts)
-    → begun_text name rest kept ≡ None
-    → resumes w pid name rest kept p ≡ Refused fault.Unfinished
-resumes_not_begun w pid name rest None p is = refl
-resumes_not_begun w pid name rest (Some kept) p is =
-    (elim (bytes_eq (call_name kept) (without_32 name)) as (λ b. cond b (Some (kept ++ rest)) None ≡ None
-    → cond b (told_turn pid (call_told w pid (kept ++ rest)) (without_kept pid p)) (Refused fault.Unfinished)
-    ≡ Refused fault.Unfinished) [
-      | true ↦ λ h. absurd (cc)
-      | false ↦ λ h. refl
     ]) is

@@ -5,6 +5,8 @@ use Rattle.cm_lines.specs.declared.limits.Past.{Past}
 use Rattle.cm_lines.specs.declared.limits.Past.TheVariants as past
 use Rattle.cm_strace.specs.declared.placed.Stop.{Stop}
 use Rattle.cm_strace.specs.declared.placed.Stop.TheVariants as code
+use Rattle.cm_strace.specs.declared.stage.Stage.{Stage}
+use Rattle.cm_strace.specs.declared.stage.Stage.TheVariants as stage
 use Rattle.model_text.specs.Reading as reading
 
 -- the stop of the definitions
@@ -22,6 +24,12 @@ abbrev pub ending_is : Option Stop → reading.End
 ending_is None = reading.AtEnd
 ending_is (Some stop) = reading.Stops (stop_is stop)
 
+-- how what was read ends, at that stage: where it goes on nothing stops it
+abbrev pub ending_at : Stage → reading.End
+ending_at stage.Going = reading.AtEnd
+ending_at (stage.Stopped stop) = reading.Stops (stop_is stop)
+ending_at stage.Finished = reading.AtEnd
+
 -- these events, and the stop after them where there is one
-abbrev pub reading_is : List reading.Placed → Option Stop → reading.Reading
-reading_is events stop = record { events = events; ending = ending_is stop }
+abbrev pub reading_is : List reading.Placed → Stage → reading.Reading
+reading_is events at = record { events = events; ending = ending_at at }

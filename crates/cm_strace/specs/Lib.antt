@@ -2,7 +2,6 @@
 pub mod Answers
 pub mod Deeds
 pub mod Given
-pub mod Heard
 pub mod Shapes
 pub mod Works
 pub mod Stages

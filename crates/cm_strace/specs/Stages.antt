@@ -30,11 +30,6 @@ cut_off past (model.Going t) = model.Stopped t.count (Limit (limit_past past))
 cut_off past (model.Stopped count stop) = model.Stopped count stop
 cut_off past (model.Finished count) = model.Finished count
 
--- the stage after lines that went on, or were stopped
-abbrev pub stage_after : Option Stop → Stage
-stage_after None = stage.Going
-stage_after (Some stop) = stage.Stopped stop
-
 -- the stage after a log's end
 abbrev pub stage_ended : Option Stop → Stage
 stage_ended None = stage.Finished

@@ -1,23 +1,23 @@
-// Acts are made: the event gets its place, and the parts change as the call has changed what is known. Whatever
+// Deeds are done: the event gets its place, and the parts change as the call has changed what is known. Whatever
 // memory this takes is asked for first, but for that by which a change can be rolled back where a savepoint is set.
-ghost use Rattle.std.specs.Prelude.{◌≡◌, ◌++◌, ◌∷◌, [], ◌<◌, ◌≤◌, ◌+◌, if◌then◌else◌, nat_lt, length, OnErr, vec_len};
-ghost use Rattle.std.specs.Prelude.{vec_capacity, IsOk, None};
+ghost use Rattle.std.specs.Prelude.{◌≡◌, ◌++◌, ◌∷◌, [], ◌<◌, ◌≤◌, ◌+◌, nat_lt, length, OnErr, vec_len};
+ghost use Rattle.std.specs.Prelude.{vec_capacity, IsOk, None, Some};
 ghost use Rattle.cm_base.specs.Limited.{limit_number};
 ghost use Rattle.cm_base.specs.Limits.{greatest_number};
 ghost use Rattle.cm_base.specs.Outcome.{OrNoMemory};
 ghost use Rattle.cm_base.specs.declared.limited.Limited.TheVariants.{Descriptors};
 ghost use Rattle.cm_base.specs.declared.res.Res.TheVariants.{Done};
 ghost use Rattle.cm_state.specs.Call.{call_of};
-ghost use Rattle.cm_strace.specs.Deeds.{act_is, step_is, IsAct};
-ghost use Rattle.cm_strace.specs.Given.{given_is, placed_at, BornOf};
+ghost use Rattle.cm_strace.specs.Deeds.{child_of, left_of, line_turn, GivesEvent};
+ghost use Rattle.cm_strace.specs.Given.{placed_at, read_is, Gave};
 ghost use Rattle.cm_strace_parts.specs.Savepoints.{LeftOnErr};
 ghost use Rattle.model_strace.specs.After.{preceded};
 ghost use Rattle.model_strace.specs.Lines.{given_at};
-ghost use Rattle.model_strace.specs.Parts.{without_kept};
-ghost use Rattle.model_strace.specs.Turn.{after_call, with_child};
+ghost use Rattle.model_strace.specs.Turn.{after_call, done, with_child};
 
-use crate::deed::{Act, Birth, Deed, Given, Origin, Step};
+use crate::deed::{Birth, Deed, Origin};
 use crate::placed::Stop;
+use crate::stage::Stage;
 use crate::told::birth_call;
 use cm_base::{Limited, NoMemory, Pid, Res};
 use cm_declared::Placed;
@@ -25,40 +25,39 @@ use cm_state::{Call, Event};
 use cm_strace_parts::Parts;
 use std::alloc::Global;
 
-/// A step is done. It fails only where memory runs out, which can be with acts alone where no savepoint is set, and
-/// then leaves the parts as they were, or to be rolled back.
+/// The deed of a line is done: whether the reading goes on. It fails only where memory runs out, which can be with what
+/// gives an event alone where no savepoint is set, and then leaves the parts as they were, or to be rolled back.
 pub(crate) fn conclude(
     alloc: Global,
     parts: &mut Parts,
     origin: Origin,
-    step: Step,
+    deed: Deed,
     events: &mut Vec<Placed>,
-) -> Result<Given, NoMemory>
+) -> Result<Stage, NoMemory>
     requires { parts.old.known.spaces < greatest_number }
-    ensures given { OrNoMemory result (λ given. given_is given events.new.items parts.new.known
-        ≡ preceded events.old.items (given_at origin.line (step_is origin.pid step parts.old.known))) }
-    ensures born { OrNoMemory result (λ given. BornOf given step.deed) }
+    ensures given { OrNoMemory result (λ stage. Gave stage events.new.items (read_is (child_of deed) parts.new.known)
+        (preceded events.old.items (given_at origin.line (line_turn origin deed parts.old.known)))) }
     ensures saved { parts.new.saved ≡ parts.old.saved }
     ensures unchanged { LeftOnErr result parts.new parts.old }
-    ensures acts { OnErr result (parts.old.saved ≡ None → IsAct step.deed) }
+    ensures event { OnErr result (parts.old.saved ≡ None → GivesEvent deed) }
     ensures spaces { OrNoMemory result (λ _. parts.new.known.spaces ≤ parts.old.known.spaces + 1) }
 {
-    let Step { deed, resumed } = step;
     match deed {
         Deed::Quiet => {
-            forget(parts, origin.pid, resumed)?;
-            Ok(Given::On(None))
+            forget(parts, origin.pid, origin.resumed)?;
+            Ok(Stage::Going)
         }
-        Deed::Refused(why) => Ok(Given::Halts(Stop::Fault(origin.line, why))),
-        Deed::Exceeds(limit) => Ok(Given::Halts(Stop::Limit(limit))),
-        Deed::Acts(act) => make(alloc, parts, origin, act, resumed, events),
+        Deed::Refused(why) => Ok(Stage::Stopped(Stop::Fault(origin.line, why))),
+        Deed::Exceeds(limit) => Ok(Stage::Stopped(Stop::Limit(limit))),
+        Deed::Does(call, answer) => does(alloc, parts, origin, call, answer, events),
+        Deed::Bears(birth) => bears(alloc, parts, origin, birth, events),
+        Deed::Ends => ends(parts, origin, events),
     }
 }
 
 // The text that is kept of a process whose call was resumed isn't kept any more.
 fn forget(parts: &mut Parts, pid: Pid, resumed: bool) -> Result<(), NoMemory>
-    ensures changed { OrNoMemory result (λ _. parts.new.known
-        ≡ (if resumed then without_kept pid parts.old.known else parts.old.known)) }
+    ensures changed { OrNoMemory result (λ _. parts.new.known ≡ left_of resumed pid parts.old.known) }
     ensures saved { parts.new.saved ≡ parts.old.saved }
     ensures unchanged { LeftOnErr result parts.new parts.old }
     ensures never { parts.old.saved ≡ None → IsOk result }
@@ -69,54 +68,79 @@ fn forget(parts: &mut Parts, pid: Pid, resumed: bool) -> Result<(), NoMemory>
     Ok(())
 }
 
-// An act is made.
-fn make(
+// A call with its result.
+fn does(
     alloc: Global,
     parts: &mut Parts,
     origin: Origin,
-    act: Act,
-    resumed: bool,
+    call: Call,
+    answer: Res,
     events: &mut Vec<Placed>,
-) -> Result<Given, NoMemory>
+) -> Result<Stage, NoMemory>
     requires { parts.old.known.spaces < greatest_number }
-    ensures given { OrNoMemory result (λ given. given_is given events.new.items parts.new.known
-        ≡ preceded events.old.items (given_at origin.line (act_is origin.pid act
-        (if resumed then without_kept origin.pid parts.old.known else parts.old.known)))) }
-    ensures born { OrNoMemory result (λ given. BornOf given (Deed.Acts act)) }
+    ensures given { OrNoMemory result (λ stage. Gave stage events.new.items (read_is None parts.new.known)
+        (preceded events.old.items (given_at origin.line
+        (done origin.pid (call_of call) answer (left_of origin.resumed origin.pid parts.old.known))))) }
     ensures saved { parts.new.saved ≡ parts.old.saved }
     ensures unchanged { LeftOnErr result parts.new parts.old }
     ensures spaces { OrNoMemory result (λ _. parts.new.known.spaces ≤ parts.old.known.spaces + 1) }
 {
     events.reserve(1)?;
     let pid = origin.pid;
-    match act {
-        Act::Does(call, answer) => {
-            change(alloc, parts, pid, &call, &answer)?;
-            forget(parts, pid, resumed)?;
-            put_event(events, origin, call, answer);
-            Ok(Given::On(None))
-        }
-        Act::Ends => {
-            forget(parts, pid, resumed)?;
-            parts.end(pid)?;
-            put_event(events, origin, Call::Exit, Res::Done);
-            Ok(Given::On(None))
-        }
-        Act::Bears(birth) => {
-            let Birth {
-                user,
-                shares,
-                child,
-            } = birth;
-            bear(alloc, parts, pid, user, shares, child)?;
-            forget(parts, pid, resumed)?;
-            if has_too_many(parts) {
-                return Ok(Given::Halts(Stop::Limit(Limited::Descriptors)));
-            }
-            put_event(events, origin, birth_call(user), Res::Child(child));
-            Ok(Given::On(Some(child)))
-        }
+    let resumed = origin.resumed;
+    change(alloc, parts, pid, &call, &answer)?;
+    forget(parts, pid, resumed)?;
+    put_event(events, origin, call, answer);
+    Ok(Stage::Going)
+}
+
+// The end of a process.
+fn ends(parts: &mut Parts, origin: Origin, events: &mut Vec<Placed>) -> Result<Stage, NoMemory>
+    ensures given { OrNoMemory result (λ stage. Gave stage events.new.items (read_is None parts.new.known)
+        (preceded events.old.items (given_at origin.line (line_turn origin Deed.Ends parts.old.known)))) }
+    ensures saved { parts.new.saved ≡ parts.old.saved }
+    ensures unchanged { LeftOnErr result parts.new parts.old }
+    ensures spaces { OrNoMemory result (λ _. parts.new.known.spaces ≡ parts.old.known.spaces) }
+{
+    events.reserve(1)?;
+    let pid = origin.pid;
+    let resumed = origin.resumed;
+    forget(parts, pid, resumed)?;
+    parts.end(pid)?;
+    put_event(events, origin, Call::Exit, Res::Done);
+    Ok(Stage::Going)
+}
+
+// A birth, unless the descriptors exceed their limit then.
+fn bears(
+    alloc: Global,
+    parts: &mut Parts,
+    origin: Origin,
+    birth: Birth,
+    events: &mut Vec<Placed>,
+) -> Result<Stage, NoMemory>
+    requires { parts.old.known.spaces < greatest_number }
+    ensures given { OrNoMemory result (λ stage. Gave stage events.new.items (read_is (Some birth.child) parts.new.known)
+        (preceded events.old.items (given_at origin.line (line_turn origin (Deed.Bears birth) parts.old.known)))) }
+    ensures saved { parts.new.saved ≡ parts.old.saved }
+    ensures unchanged { LeftOnErr result parts.new parts.old }
+    ensures spaces { OrNoMemory result (λ _. parts.new.known.spaces ≤ parts.old.known.spaces + 1) }
+{
+    events.reserve(1)?;
+    let Birth {
+        user,
+        shares,
+        child,
+    } = birth;
+    let pid = origin.pid;
+    let resumed = origin.resumed;
+    bear(alloc, parts, pid, user, shares, child)?;
+    forget(parts, pid, resumed)?;
+    if has_too_many(parts) {
+        return Ok(Stage::Stopped(Stop::Limit(Limited::Descriptors)));
     }
+    put_event(events, origin, birth_call(user), Res::Child(child));
+    Ok(Stage::Going)
 }
 
 // The descriptors exceed their limit.

@@ -4,48 +4,48 @@ ghost use Rattle.std.specs.Prelude.{◌≡◌, ℕ, [], ◌<◌, ◌≤◌, ◌+
 ghost use Rattle.cm_base.specs.Limits.{greatest_number};
 ghost use Rattle.cm_base.specs.Outcome.{OrNoMemory};
 ghost use Rattle.cm_strace.specs.Births.{work_of};
-ghost use Rattle.cm_strace.specs.Given.{after_is};
+ghost use Rattle.cm_strace.specs.Given.{Gave};
 ghost use Rattle.cm_strace.specs.Works.{concluded, uses};
 ghost use Rattle.cm_declared.specs.World.{world_of};
 ghost use Rattle.model_strace.specs.After.{preceded};
 ghost use Rattle.model_strace.specs.Rest.{released};
 
 use crate::acts::conclude;
-use crate::deed::{Given, Origin, Step};
-use crate::placed::Stop;
+use crate::deed::{Deed, Origin};
+use crate::stage::Stage;
 use crate::waiting::Waiting;
 use cm_base::NoMemory;
 use cm_declared::{Placed, World};
 use cm_strace_parts::Parts;
 use std::alloc::Global;
 
-/// The step of a line is done, and after it the held lines of a child are read. It fails only where memory runs out.
+/// The deed of a line is done, and after it the held lines of a child are read. It fails only where memory runs out.
 pub(crate) fn read_on(
     alloc: Global,
     w: &World,
     parts: &mut Parts,
     waiting: &mut Waiting<'_>,
     origin: Origin,
-    step: Step,
+    deed: Deed,
     events: &mut Vec<Placed>,
-) -> Result<Option<Stop>, NoMemory>
+) -> Result<Stage, NoMemory>
     requires fresh { waiting.old.pids ≡ [] }
     requires room { uses (work_of origin.line waiting.old parts.old) < greatest_number }
-    ensures done { OrNoMemory result (λ stop. after_is stop events.new.items
-        (work_of origin.line waiting.new parts.new) ≡ preceded events.old.items
-        (concluded (world_of w.now) origin.pid step (work_of origin.line waiting.old parts.old))) }
+    ensures done { OrNoMemory result (λ stage. Gave stage events.new.items
+        (work_of origin.line waiting.new parts.new) (preceded events.old.items
+        (concluded (world_of w.now) origin deed (work_of origin.line waiting.old parts.old)))) }
     ensures saved { parts.new.saved ≡ parts.old.saved }
     ensures all { OrNoMemory result (λ _. waiting.new.all ≡ waiting.old.all) }
     ensures uses { OrNoMemory result (λ _. uses (work_of origin.line waiting.new parts.new)
         ≤ uses (work_of origin.line waiting.old parts.old) + 1) }
 {
-    let given = conclude(alloc, parts, origin, step, events)?;
-    match given {
-        Given::On(born) => {
-            waiting.put(born)?;
-            read_waiting(alloc, w, parts, waiting, events)
-        }
-        Given::Halts(stop) => Ok(Some(stop)),
+    let born = deed.child();
+    let stage = conclude(alloc, parts, origin, deed, events)?;
+    if let Stage::Going = stage {
+        waiting.put(born)?;
+        read_waiting(alloc, w, parts, waiting, events)
+    } else {
+        Ok(stage)
     }
 }
 
@@ -56,21 +56,23 @@ fn read_waiting(
     parts: &mut Parts,
     waiting: &mut Waiting<'_>,
     events: &mut Vec<Placed>,
-) -> Result<Option<Stop>, NoMemory>
+) -> Result<Stage, NoMemory>
     requires { parts.old.known.spaces + length waiting.old.left ≤ greatest_number }
-    ensures released { OrNoMemory result (λ stop. (count : ℕ) → after_is stop events.new.items
-        (work_of count waiting.new parts.new) ≡ preceded events.old.items
-        (released (world_of w.now) (length waiting.old.left) waiting.old.pids (work_of count waiting.old parts.old))) }
+    ensures released { OrNoMemory result (λ stage. (count : ℕ) → Gave stage events.new.items
+        (work_of count waiting.new parts.new) (preceded events.old.items
+        (released (world_of w.now) (length waiting.old.left) waiting.old.pids (work_of count waiting.old parts.old)))) }
     ensures saved { parts.new.saved ≡ parts.old.saved }
     ensures all { OrNoMemory result (λ _. waiting.new.all ≡ waiting.old.all) }
     ensures uses { OrNoMemory result (λ _. parts.new.known.spaces + length waiting.new.left
         ≤ parts.old.known.spaces + length waiting.old.left) }
 {
     while let Some(l) = waiting.take_next(parts) {
-        match l.read(alloc, w, parts, events)? {
-            Given::On(born) => waiting.put(born)?,
-            Given::Halts(stop) => return Ok(Some(stop)),
+        let (stage, born) = l.read(alloc, w, parts, events)?;
+        if let Stage::Going = stage {
+            waiting.put(born)?;
+        } else {
+            return Ok(stage);
         }
     }
-    Ok(None)
+    Ok(Stage::Going)
 }

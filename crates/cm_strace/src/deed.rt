@@ -1,6 +1,8 @@
-// What a line does, as far as it is done later: an act is made once its event has a place and all memory for it is
-// there.
-use crate::placed::Stop;
+// What a line does, as far as it is done later: what gives an event is done once the event has a place and all memory for
+// it is there.
+ghost use Rattle.std.specs.Prelude.{◌≡◌};
+ghost use Rattle.cm_strace.specs.Deeds.{child_of};
+
 use cm_base::{Limited, LineFault, Pid, Res};
 use cm_state::Call;
 
@@ -13,40 +15,35 @@ pub(crate) struct Birth {
     pub(crate) child: Pid,
 }
 
-/// What gives an event: a call with its result, a birth, the end of the process.
-#[derive(Debug, Drop)]
-pub(crate) enum Act {
-    Does(Call, Res),
-    Bears(Birth),
-    Ends,
-}
-
-/// What a call does: nothing more than it has done to the parts; it is refused; it exceeds a limit; an act.
+/// What a line does: nothing more than it has done to the parts; it is refused; it exceeds a limit; or what gives an
+/// event: a call with its result, a birth, the end of the process.
 #[derive(Debug, Drop)]
 pub(crate) enum Deed {
     Quiet,
     Refused(LineFault),
     Exceeds(Limited),
-    Acts(Act),
+    Does(Call, Res),
+    Bears(Birth),
+    Ends,
 }
 
-/// What a line does, and whether its call was resumed: then its text isn't kept any more once the deed is done.
-#[derive(Debug, Drop)]
-pub(crate) struct Step {
-    pub(crate) deed: Deed,
-    pub(crate) resumed: bool,
+impl Deed {
+    /// The child of a birth.
+    pub(crate) fn child(&self) -> Option<Pid>
+        ensures { result ≡ child_of self.now }
+    {
+        match self {
+            Deed::Bears(birth) => Some(birth.child),
+            _ => None,
+        }
+    }
 }
 
-/// Whose a line is: its number in the log, and the process that it tells of.
+/// Whose a line is: its number in the log, the process that it tells of, and whether it is the rest of a call whose
+/// beginning is kept: then that text isn't kept any more once the deed is done.
 #[derive(Clone, Copy, Debug)]
 pub(crate) struct Origin {
     pub(crate) line: u64,
     pub(crate) pid: Pid,
-}
-
-/// What a line gave: it goes on, a child being born or none; or it stops the reading.
-#[derive(Clone, Copy, Debug)]
-pub(crate) enum Given {
-    On(Option<Pid>),
-    Halts(Stop),
+    pub(crate) resumed: bool,
 }

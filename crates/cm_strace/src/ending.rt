@@ -6,9 +6,9 @@ ghost use Rattle.cm_declared.specs.World.{world_of};
 ghost use Rattle.model_strace.specs.Lines.{at_end};
 ghost use Rattle.model_strace.specs.Rest.{work_end};
 
-use crate::deed::Given;
 use crate::line::Line;
 use crate::placed::Fed;
+use crate::stage::Stage;
 use crate::work::Work;
 use cm_base::NoMemory;
 use cm_declared::World;
@@ -38,13 +38,14 @@ fn read_held(alloc: Global, w: &World, parts: &mut Parts, held: &[Line]) -> Resu
 {
     for l in held {
         let mut events = Vec::new(alloc);
-        match l.read(alloc, w, parts, &mut events)? {
-            Given::On(_) => {
+        let (stage, _) = l.read(alloc, w, parts, &mut events)?;
+        match stage {
+            Stage::Going | Stage::Finished => {
                 if !events.is_empty() {
                     return Ok(Fed { events, stop: None });
                 }
             }
-            Given::Halts(stop) => {
+            Stage::Stopped(stop) => {
                 return Ok(Fed {
                     events,
                     stop: Some(stop),

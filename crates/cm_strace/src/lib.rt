@@ -5,13 +5,13 @@
 mod acts;
 mod agenda;
 mod births;
+mod body;
 mod deed;
 mod ending;
 mod line;
 mod opens;
 mod placed;
 mod stage;
-mod step;
 mod told;
 mod tracer;
 mod waiting;

@@ -4,7 +4,7 @@ ghost use Rattle.std.specs.Prelude.{IfSome, IfNone, None};
 ghost use Rattle.std.specs.List.{list_any};
 ghost use Rattle.cm_base.specs.Limits.{greatest_number};
 ghost use Rattle.cm_base.specs.Outcome.{OrNoMemory};
-ghost use Rattle.cm_strace.specs.Given.{given_is};
+ghost use Rattle.cm_strace.specs.Given.{Gave, read_is};
 ghost use Rattle.cm_strace.specs.Taken.{NextFlag, untaken, waits_before};
 ghost use Rattle.cm_declared.specs.World.{world_of};
 ghost use Rattle.model_strace.specs.After.{preceded};
@@ -12,11 +12,13 @@ ghost use Rattle.model_strace.specs.Lines.{is_line_of, read_line};
 ghost use Rattle.model_strace.specs.Rest.{without_first};
 
 use crate::acts::conclude;
-use crate::deed::{Given, Origin};
-use crate::step::read_step;
+use crate::body::{is_resumed, read_deed};
+use crate::deed::Origin;
+use crate::stage::Stage;
 use cm_base::{NoMemory, Pid};
 use cm_declared::{Placed, World};
 use cm_strace_parts::Parts;
+use cm_strace_text::read_body;
 use std::alloc::Global;
 use std::marker::Model;
 
@@ -52,32 +54,30 @@ impl Line {
         self.pid == pid
     }
 
-    // Whose it is.
-    fn origin(&self) -> Origin
-        ensures { result ≡ record { line = self.now.number; pid = self.now.pid } }
-    {
-        Origin {
-            line: self.number,
-            pid: self.pid,
-        }
-    }
-
-    // The line is read. It fails only where memory runs out.
+    // The line is read: whether the reading goes on, and the child of a birth. It fails only where memory runs out.
     pub(crate) fn read(
         &self,
         alloc: Global,
         w: &World,
         parts: &mut Parts,
         events: &mut Vec<Placed>,
-    ) -> Result<Given, NoMemory>
+    ) -> Result<(Stage, Option<Pid>), NoMemory>
         requires { parts.old.known.spaces < greatest_number }
-        ensures given { OrNoMemory result (λ given. given_is given events.new.items parts.new.known
-            ≡ preceded events.old.items (read_line (world_of w.now) self.now parts.old.known)) }
+        ensures given { OrNoMemory result (λ read. Gave read.0 events.new.items (read_is read.1 parts.new.known)
+            (preceded events.old.items (read_line (world_of w.now) self.now parts.old.known))) }
         ensures saved { parts.new.saved ≡ parts.old.saved }
         ensures spaces { OrNoMemory result (λ _. parts.new.known.spaces ≤ parts.old.known.spaces + 1) }
     {
-        let step = read_step(alloc, w, parts, self.pid, &self.body)?;
-        conclude(alloc, parts, self.origin(), step, events)
+        let body = read_body(&self.body);
+        let origin = Origin {
+            line: self.number,
+            pid: self.pid,
+            resumed: is_resumed(body),
+        };
+        let deed = read_deed(alloc, w, parts, self.pid, body)?;
+        let born = deed.child();
+        let stage = conclude(alloc, parts, origin, deed, events)?;
+        Ok((stage, born))
     }
 }
 

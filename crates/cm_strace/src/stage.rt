@@ -1,6 +1,6 @@
 // Whether a session, or the reading of a log, goes on.
 ghost use Rattle.std.specs.Prelude.{◌≡◌};
-ghost use Rattle.cm_strace.specs.Stages.{stage_after, stage_ended};
+ghost use Rattle.cm_strace.specs.Stages.{stage_ended};
 
 use crate::placed::Stop;
 
@@ -13,16 +13,6 @@ pub enum Stage {
 }
 
 impl Stage {
-    /// The stage after a line that told of this stop, or of none.
-    pub fn after(stop: Option<Stop>) -> Stage
-        ensures { result ≡ stage_after stop }
-    {
-        match stop {
-            Some(stop) => Stage::Stopped(stop),
-            None => Stage::Going,
-        }
-    }
-
     /// The stage after the log's end, which told of this stop, or of none.
     pub fn at_end(stop: Option<Stop>) -> Stage
         ensures { result ≡ stage_ended stop }

@@ -12,7 +12,7 @@ ghost use Rattle.model_strace.specs.Parts.{descriptor_of};
 ghost use Rattle.model_strace.specs.Turn.{told_turn, birth_call, bears, followed, for_space, joins_unknown, joins};
 ghost use Rattle.model_strace.specs.Turn.{copies, copies_to};
 
-use crate::deed::{Act, Birth, Deed};
+use crate::deed::{Birth, Deed};
 use crate::opens::opens;
 use crate::writes::writes;
 use cm_base::{LineFault, NoMemory, Pid, Res};
@@ -41,7 +41,7 @@ pub(crate) fn take(
         Told::Nothing => Ok(Deed::Quiet),
         Told::Faulty(why) => Ok(Deed::Refused(why)),
         Told::Exceeds(limit) => Ok(Deed::Exceeds(limit)),
-        Told::Does(call, answer) => Ok(Deed::Acts(Act::Does(call, answer))),
+        Told::Does(call, answer) => Ok(Deed::Does(call, answer)),
         Told::Bears(user, shares, answer) => Ok(bears(parts, pid, user, shares, answer)),
         Told::Joins(number, flags, outcome) => Ok(joins(parts, pid, number, flags, outcome)),
         Told::Opens(opening, number) => opens(alloc, parts, pid, opening, number),
@@ -70,7 +70,7 @@ fn bears(parts: &Parts, pid: Pid, user: bool, shares: bool, answer: Res) -> Deed
 {
     match answer {
         Res::Child(child) => bears_child(parts, pid, user, shares, child),
-        Res::Done | Res::Id(_) | Res::Err(_) => Deed::Acts(Act::Does(birth_call(user), answer)),
+        Res::Done | Res::Id(_) | Res::Err(_) => Deed::Does(birth_call(user), answer),
     }
 }
 
@@ -81,11 +81,11 @@ fn bears_child(parts: &Parts, pid: Pid, user: bool, shares: bool, child: Pid) ->
     if shares && parts.has_descriptor(pid) {
         return Deed::Refused(LineFault::Descriptor);
     }
-    Deed::Acts(Act::Bears(Birth {
+    Deed::Bears(Birth {
         user,
         shares,
         child,
-    }))
+    })
 }
 
 // ---- setns(2)
@@ -142,7 +142,7 @@ fn joins_known(d: &Descriptor, flags: &[u8], outcome: Outcome) -> Deed
 {
     if flags == b"0".as_slice() || flags == b"CLONE_NEWUSER".as_slice() {
         match outcome.plain() {
-            Some(answer) => Deed::Acts(Act::Does(Call::SetNs(d.space), answer)),
+            Some(answer) => Deed::Does(Call::SetNs(d.space), answer),
             None => Deed::Refused(LineFault::Outcome),
         }
     } else {

@@ -1,17 +1,17 @@
 // A session of a reader of strace(1).
-ghost use Rattle.std.specs.Prelude.{◌≡◌, [], ◌+◌, ◌<◌, ◌≤◌, ◌^◌, length, None, Some};
+ghost use Rattle.std.specs.Prelude.{◌≡◌, ◌+◌, ◌<◌, ◌≤◌, ◌^◌, None, Some};
 ghost use Rattle.cm_base.specs.Limits.{greatest_number};
 ghost use Rattle.cm_base.specs.Outcome.{OrNoMemory, UnchangedOnErr};
 ghost use Rattle.cm_strace.specs.Answers.{stop_is, reading_is};
 ghost use Rattle.cm_lines.specs.Cut.{Cut, before, ends_by};
-ghost use Rattle.cm_strace.specs.Stages.{cut_off, session_is, stage_after, IsAt};
-ghost use Rattle.cm_strace.specs.Works.{uses};
+ghost use Rattle.cm_strace.specs.Stages.{cut_off, IsAt};
 ghost use Rattle.cm_declared.specs.World.{world_of};
 ghost use Rattle.model_cred.specs.World as model;
+ghost use Rattle.model_run.specs.Within.{IsWithin};
 ghost use Rattle.model_strace.specs.Counts.{spaces_counted};
 ghost use Rattle.model_strace.specs.Lines.{strace_of_cut};
-ghost use Rattle.model_strace.specs.Rest.{answer_of, fed, first_session, lines_fed, rest, line_answer, after_line};
-ghost use Rattle.model_strace.specs.Rest.{after_finish, answered_then, session_of};
+ghost use Rattle.model_strace.specs.Rest.{first_session, lines_fed, rest, line_answer, after_line};
+ghost use Rattle.model_strace.specs.Rest.{after_finish, answered_then};
 ghost use Rattle.model_text.specs.Reading.{AtEnd, Stops, ends_at};
 
 use crate::ending::read_end;
@@ -44,9 +44,10 @@ impl Model for Tracer {
 }
 
 impl Tracer {
-    /// The session of a world before any line. It fails only where memory runs out.
+    /// The session of a world before any line, whose start is within the limits of live processes and of user
+    /// namespaces. It fails only where memory runs out.
     pub fn new(alloc: Global, w: &World) -> Result<Tracer, NoMemory>
-        requires { length w.now.start.spaces < 2 ^ 31 }
+        requires { IsWithin w.now.start }
         ensures first { OrNoMemory result (λ t. t ≡ first_session (world_of w.now)) }
         ensures reading { OrNoMemory result (λ t. (cut : Cut) → rest (world_of w.now) t cut
             ≡ strace_of_cut (world_of w.now) cut) }
@@ -76,36 +77,41 @@ impl Tracer {
         }
     }
 
-    /// A line comes, without its LF: its events, those of the held lines that come after a birth, and the stop where
-    /// there is one. The events are all that the caller's list holds then. It fails only where memory runs out, and
-    /// then leaves the session as it was.
+    /// A line comes, without its LF: its events, those of the held lines that come after a birth, and what the session
+    /// is at then. The events are all that the caller's list holds then. It fails only where memory runs out, and then
+    /// leaves the session as it was.
+    ///
+    /// Fewer than 4294967295 user namespaces are counted when it comes: the line may make one, their numbers have 32
+    /// bits, and no limit is asked here. Whether a state is within the limits is seen where its event is done, which
+    /// a session isn't told.
     pub fn feed_line(
         &mut self,
         alloc: Global,
         w: &World,
         line: &[u8],
         events: &mut Vec<Placed>,
-    ) -> Result<Option<Stop>, NoMemory>
+    ) -> Result<Stage, NoMemory>
         requires lines { lines_fed self.old < 2 ^ 63 }
         requires spaces { spaces_counted self.old < greatest_number }
-        ensures given { OrNoMemory result (λ stop. reading_is events.new.items stop
+        ensures given { OrNoMemory result (λ stage. reading_is events.new.items stage
             ≡ line_answer (world_of w.now) self.old line.now) }
         ensures after { OrNoMemory result (λ _. self.new ≡ after_line (world_of w.now) self.old line.now) }
-        ensures told { OrNoMemory result (λ stop. (cut : Cut) →
-            rest (world_of w.now) self.old (before line.now cut) ≡ answered_then (reading_is events.new.items stop)
+        ensures told { OrNoMemory result (λ stage. (cut : Cut) →
+            rest (world_of w.now) self.old (before line.now cut) ≡ answered_then (reading_is events.new.items stage)
             (rest (world_of w.now) self.new cut)) }
+        ensures at { OrNoMemory result (λ stage. IsAt stage self.new) }
         ensures spaces { OrNoMemory result (λ _. spaces_counted self.new ≤ spaces_counted self.old + 1) }
         ensures unchanged { UnchangedOnErr result self.new self.old }
     {
         events.clear();
         match self.stage {
             Stage::Going => {
-                let stop = feed_work(alloc, w, &mut self.work, line, events)?;
-                self.stage = Stage::after(stop);
-                Ok(stop)
+                let stage = self.work.feed(alloc, w, line, events)?;
+                self.stage = stage;
+                Ok(stage)
             }
-            Stage::Stopped(stop) => Ok(Some(stop)),
-            Stage::Finished => Ok(None),
+            Stage::Stopped(stop) => Ok(Stage::Stopped(stop)),
+            Stage::Finished => Ok(Stage::Finished),
         }
     }
 
@@ -165,26 +171,4 @@ fn stopped(alloc: Global, stop: Stop) -> Fed
         events: Vec::new(alloc),
         stop: Some(stop),
     }
-}
-
-// A line comes in a session that goes on.
-fn feed_work(
-    alloc: Global,
-    w: &World,
-    t: &mut Work,
-    line: &[u8],
-    events: &mut Vec<Placed>,
-) -> Result<Option<Stop>, NoMemory>
-    requires room { uses t.old < greatest_number }
-    requires few { t.old.count < 2 ^ 63 }
-    requires fresh { events.old.items ≡ [] }
-    ensures given { OrNoMemory result (λ stop. reading_is events.new.items stop
-        ≡ answer_of (fed (world_of w.now) line.now t.old)) }
-    ensures after { OrNoMemory result (λ stop. session_is (stage_after stop) t.new
-        ≡ session_of (t.old.count + 1) (fed (world_of w.now) line.now t.old)) }
-    ensures unchanged { UnchangedOnErr result t.new t.old }
-    ensures uses { uses t.new ≤ uses t.old + 1 }
-    ensures count { OrNoMemory result (λ _. t.new.count ≡ t.old.count + 1) }
-{
-    t.feed(alloc, w, line, events)
 }

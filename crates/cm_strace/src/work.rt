@@ -1,24 +1,26 @@
 // A session that goes on: what is known, the held lines, and how many lines came (model_strace/specs, Rest). All lines
 // are read in place. Before a line that bears a child with held lines a savepoint of what is known is set, to which it
 // is rolled back where memory runs out; the held lines are read where they stand and go out at the end.
-ghost use Rattle.std.specs.Prelude.{◌≡◌, [], ◌+◌, ◌<◌, ◌≤◌, ◌^◌, true, false, length, OnErr};
+ghost use Rattle.std.specs.Prelude.{◌≡◌, ℕ, [], ◌+◌, ◌<◌, ◌≤◌, ◌^◌, false, length, IsTrue, OnErr};
 ghost use Rattle.cm_base.specs.Limits.{greatest_number};
 ghost use Rattle.cm_base.specs.Outcome.{OrNoMemory, UnchangedOnErr};
-ghost use Rattle.cm_strace.specs.Deeds.{IsAct, Waits, step_is};
-ghost use Rattle.cm_strace.specs.Given.{after_is};
-ghost use Rattle.cm_strace.specs.Heard.{heard_turn};
+ghost use Rattle.cm_strace.specs.Deeds.{deed_is, left_of, GivesEvent};
+ghost use Rattle.cm_strace.specs.Given.{Gave};
 ghost use Rattle.cm_strace.specs.Works.{awaits, concluded, uses};
 ghost use Rattle.cm_declared.specs.World.{world_of};
 ghost use Rattle.model_cred.specs.World as model;
 ghost use Rattle.model_strace.specs.After.{preceded};
+ghost use Rattle.model_strace.specs.Parts as known;
+ghost use Rattle.model_strace.specs.Turn.{Quiet};
 ghost use Rattle.model_strace.specs.Rest.{fed, first_work, held_fed, read_fed};
 
 use crate::acts::conclude;
 use crate::births::read_on;
-use crate::deed::{Act, Deed, Given, Origin, Step};
+use crate::body::{is_resumed, read_deed};
+use crate::deed::{Deed, Origin};
 use crate::line::{Line, has_line, remove_taken};
 use crate::placed::Stop;
-use crate::step::{Heard, hear, heard_step};
+use crate::stage::Stage;
 use crate::waiting::Waiting;
 use cm_base::{Limited, LineFault, NoMemory, Pid};
 use cm_declared::{Placed, World};
@@ -74,18 +76,19 @@ impl Work {
         self.parts.spaces() + self.held.len() as u32
     }
 
-    /// A line comes. It fails only where memory runs out, and then leaves the session as it was.
+    /// A line comes: whether the session goes on. It fails only where memory runs out, and then leaves the session as it
+    /// was.
     pub(crate) fn feed(
         &mut self,
         alloc: Global,
         w: &World,
         line: &[u8],
         events: &mut Vec<Placed>,
-    ) -> Result<Option<Stop>, NoMemory>
+    ) -> Result<Stage, NoMemory>
         requires room { uses self.old < greatest_number }
         requires few { self.old.count < 2 ^ 63 }
-        ensures fed { OrNoMemory result (λ stop. after_is stop events.new.items self.new
-            ≡ preceded events.old.items (fed (world_of w.now) line.now self.old)) }
+        ensures fed { OrNoMemory result (λ stage. Gave stage events.new.items self.new
+            (preceded events.old.items (fed (world_of w.now) line.now self.old))) }
         ensures unchanged { UnchangedOnErr result self.new self.old }
         ensures uses { uses self.new ≤ uses self.old + 1 }
         ensures counted { OrNoMemory result (λ _. self.new.count ≡ self.old.count + 1) }
@@ -93,11 +96,11 @@ impl Work {
         match read_row(line) {
             PidLine::Blank => {
                 self.pass();
-                Ok(None)
+                Ok(Stage::Going)
             }
             PidLine::NoPid => {
                 self.pass();
-                Ok(Some(Stop::Fault(self.count, LineFault::Pid)))
+                Ok(Stage::Stopped(Stop::Fault(self.count, LineFault::Pid)))
             }
             PidLine::Of(pid, body) => if self.parts.is_known(pid) {
                 self.read(alloc, w, pid, body, events)
@@ -108,24 +111,24 @@ impl Work {
     }
 
     // The line is held, unless the held ones exceed their limit then.
-    fn hold(&mut self, alloc: Global, pid: Pid, body: &[u8]) -> Result<Option<Stop>, NoMemory>
+    fn hold(&mut self, alloc: Global, pid: Pid, body: &[u8]) -> Result<Stage, NoMemory>
         requires { self.old.count < 2 ^ 63 }
-        ensures held { OrNoMemory result (λ stop. after_is stop [] self.new
-            ≡ held_fed (record { number = self.old.count + 1; pid = pid; body = body.now })
-            (record self.old { count = self.old.count + 1 })) }
+        ensures held { OrNoMemory result (λ stage. Gave stage [] self.new
+            (held_fed (record { number = self.old.count + 1; pid = pid; body = body.now })
+            (record self.old { count = self.old.count + 1 }))) }
         ensures unchanged { UnchangedOnErr result self.new self.old }
         ensures uses { uses self.new ≤ uses self.old + 1 }
         ensures counted { OrNoMemory result (λ _. self.new.count ≡ self.old.count + 1) }
     {
         if self.held.len() as u64 >= Limited::Held.number() {
             self.pass();
-            return Ok(Some(Stop::Limit(Limited::Held)));
+            return Ok(Stage::Stopped(Stop::Limit(Limited::Held)));
         }
         let number = self.count + 1;
         let l = Line::new(alloc, number, pid, body)?;
         self.held.push(l)?;
         self.pass();
-        Ok(None)
+        Ok(Stage::Going)
     }
 
     // The line is read, and after it the held lines of those that it gave birth to.
@@ -136,26 +139,29 @@ impl Work {
         pid: Pid,
         body: &[u8],
         events: &mut Vec<Placed>,
-    ) -> Result<Option<Stop>, NoMemory>
+    ) -> Result<Stage, NoMemory>
         requires room { uses self.old < greatest_number }
         requires few { self.old.count < 2 ^ 63 }
-        ensures read { OrNoMemory result (λ stop. after_is stop events.new.items self.new ≡ preceded events.old.items
+        ensures read { OrNoMemory result (λ stage. Gave stage events.new.items self.new (preceded events.old.items
             (read_fed (world_of w.now) (record { number = self.old.count + 1; pid = pid; body = body.now })
-            (record self.old { count = self.old.count + 1 }))) }
+            (record self.old { count = self.old.count + 1 })))) }
         ensures unchanged { UnchangedOnErr result self.new self.old }
         ensures uses { uses self.new ≤ uses self.old + 1 }
         ensures counted { OrNoMemory result (λ _. self.new.count ≡ self.old.count + 1) }
     {
-        let told = hear(read_body(body));
-        if let Heard::Nothing = told {
+        let told = read_body(body);
+        let resumed = is_resumed(told);
+        let deed = read_deed(alloc, w, &mut self.parts, pid, told)?;
+        if is_done(&deed, resumed) {
             self.pass();
-            return Ok(None);
+            return Ok(Stage::Going);
         }
-        let step = self.step(alloc, w, pid, told)?;
-        if awaits(&self.held, &step.deed) {
-            self.read_birth(alloc, w, pid, step, events)
+        let line = self.count + 1;
+        let origin = Origin { line, pid, resumed };
+        if awaits(&self.held, &deed) {
+            self.read_birth(alloc, w, origin, deed, events)
         } else {
-            self.read_here(alloc, pid, step, events)
+            self.read_here(alloc, origin, deed, events)
         }
     }
 
@@ -167,73 +173,49 @@ impl Work {
         self.count += 1;
     }
 
-    // What the line does to the parts. It fails only where memory runs out, and then leaves them as they were.
-    fn step(
-        &mut self,
-        alloc: Global,
-        w: &World,
-        pid: Pid,
-        told: Heard<'_>,
-    ) -> Result<Step, NoMemory>
-        ensures turn { OrNoMemory result (λ step. step_is pid step self.new.parts
-            ≡ heard_turn (world_of w.now) pid told.entry self.old.parts) }
-        ensures unchanged { UnchangedOnErr result self.new self.old }
-        ensures waits { OrNoMemory result (λ step. Waits step.deed self.new self.old) }
-        ensures others { self.new ≡ record self.old { parts = self.new.parts } }
-        ensures spaces { self.new.parts.spaces ≡ self.old.parts.spaces }
-    {
-        heard_step(alloc, w, &mut self.parts, pid, told)
-    }
-
-    // The step of a line is done in place, where no line waits for a child of it.
+    // The deed of a line is done in place, where no line waits for a child of it.
     fn read_here(
         &mut self,
         alloc: Global,
-        pid: Pid,
-        step: Step,
+        origin: Origin,
+        deed: Deed,
         events: &mut Vec<Placed>,
-    ) -> Result<Option<Stop>, NoMemory>
+    ) -> Result<Stage, NoMemory>
         requires room { self.old.parts.spaces < greatest_number }
         requires few { self.old.count < 2 ^ 63 }
-        requires alone { awaits self.old.held step.deed ≡ false }
-        ensures done { OrNoMemory result (λ stop. (w : model.World) → after_is stop events.new.items self.new
-            ≡ preceded events.old.items (concluded w pid step (record self.old { count = self.old.count + 1 }))) }
+        requires alone { awaits self.old.held deed ≡ false }
+        ensures done { OrNoMemory result (λ stage. (w : model.World) → Gave stage events.new.items self.new
+            (preceded events.old.items (concluded w origin deed (record self.old { count = self.old.count + 1 })))) }
         ensures unchanged { UnchangedOnErr result self.new self.old }
-        ensures acts { OnErr result (IsAct step.deed) }
+        ensures event { OnErr result (GivesEvent deed) }
         ensures uses { uses self.new ≤ uses self.old + 1 }
         ensures counted { OrNoMemory result (λ _. self.new.count ≡ self.old.count + 1) }
     {
-        let number = self.count + 1;
-        let origin = Origin { line: number, pid };
-        let given = conclude(alloc, &mut self.parts, origin, step, events)?;
+        let stage = conclude(alloc, &mut self.parts, origin, deed, events)?;
         self.pass();
-        match given {
-            Given::On(_) => Ok(None),
-            Given::Halts(stop) => Ok(Some(stop)),
-        }
+        Ok(stage)
     }
 
-    // The step of a line is done, and after it the held lines of a child are read where they stand; those that were
+    // The deed of a line is done, and after it the held lines of a child are read where they stand; those that were
     // read go out at the end, when nothing fails any more. Where memory runs out, what is known is rolled back.
     fn read_birth(
         &mut self,
         alloc: Global,
         w: &World,
-        pid: Pid,
-        step: Step,
+        origin: Origin,
+        deed: Deed,
         events: &mut Vec<Placed>,
-    ) -> Result<Option<Stop>, NoMemory>
+    ) -> Result<Stage, NoMemory>
         requires room { uses self.old < greatest_number }
         requires few { self.old.count < 2 ^ 63 }
-        ensures done { OrNoMemory result (λ stop. after_is stop events.new.items self.new
-            ≡ preceded events.old.items (concluded (world_of w.now) pid step
-            (record self.old { count = self.old.count + 1 }))) }
+        requires line { origin.line ≡ self.old.count + 1 }
+        ensures done { OrNoMemory result (λ stage. Gave stage events.new.items self.new (preceded events.old.items
+            (concluded (world_of w.now) origin deed (record self.old { count = self.old.count + 1 })))) }
         ensures unchanged { UnchangedOnErr result self.new self.old }
         ensures uses { uses self.new ≤ uses self.old + 1 }
         ensures counted { OrNoMemory result (λ _. self.new.count ≡ self.old.count + 1) }
     {
-        let number = self.count + 1;
-        let origin = Origin { line: number, pid };
+        let number = origin.line;
         let mut waiting = Waiting::new(alloc, &self.held)?;
         self.parts.set_savepoint();
         let read = read_on(
@@ -242,16 +224,16 @@ impl Work {
             &mut self.parts,
             &mut waiting,
             origin,
-            step,
+            deed,
             events,
         );
         match read {
-            Ok(stop) => {
+            Ok(stage) => {
                 self.parts.release();
                 let taken = waiting.into_taken();
                 remove_taken(&mut self.held, &taken);
                 self.count = number;
-                Ok(stop)
+                Ok(stage)
             }
             Err(out) => {
                 self.parts.roll_back();
@@ -261,12 +243,19 @@ impl Work {
     }
 }
 
+// Nothing more is to be done of the line, as of most.
+fn is_done(deed: &Deed, resumed: bool) -> bool
+    ensures { IsTrue result → (pid : ℕ) (p : known.Parts) → deed_is pid deed.now (left_of resumed pid p) ≡ Quiet p }
+{
+    matches!(deed, Deed::Quiet) && !resumed
+}
+
 // Lines are held of the child that a deed bears.
 fn awaits(held: &[Line], deed: &Deed) -> bool
     ensures { result ≡ awaits held.now deed.now }
 {
     match deed {
-        Deed::Acts(Act::Bears(birth)) => has_line(held, birth.child),
+        Deed::Bears(birth) => has_line(held, birth.child),
         _ => false,
     }
 }

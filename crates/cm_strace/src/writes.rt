@@ -11,7 +11,7 @@ ghost use Rattle.model_strace.specs.Parts as known;
 ghost use Rattle.model_strace.specs.Parts.{descriptor_of};
 ghost use Rattle.model_strace.specs.Turn.{written_call, wrote, failed_write, writes_text, writes_argument, writes};
 
-use crate::deed::{Act, Deed};
+use crate::deed::Deed;
 use cm_base::{Errno, LineFault, NoMemory, Pid, Res};
 use cm_state::Call;
 use cm_strace_parts::{Descriptor, Parts, read_extents, read_written_word};
@@ -100,7 +100,7 @@ fn wrote(alloc: Global, d: &Descriptor, n: u64, quote: &Quote) -> Result<Deed, N
         return Ok(Deed::Refused(LineFault::Outcome));
     }
     match written_call(alloc, d, text)? {
-        Some(call) => Ok(Deed::Acts(Act::Does(call, Res::Done))),
+        Some(call) => Ok(Deed::Does(call, Res::Done)),
         None => Ok(Deed::Refused(LineFault::Argument(2))),
     }
 }
@@ -114,7 +114,7 @@ fn failed(alloc: Global, d: &Descriptor, e: Errno, quote: &Quote) -> Result<Deed
         return Ok(Deed::Quiet);
     };
     match written_call(alloc, d, text)? {
-        Some(call) => Ok(Deed::Acts(Act::Does(call, Res::Err(e)))),
+        Some(call) => Ok(Deed::Does(call, Res::Err(e))),
         None => Ok(Deed::Quiet),
     }
 }

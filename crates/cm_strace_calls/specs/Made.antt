@@ -4,6 +4,8 @@ use Rattle.cm_filter.specs.declared.kind.CallKind.{CallKind}
 use Rattle.cm_filter.specs.declared.shape.Shape.{Shape}
 use Rattle.cm_filter.specs.declared.shape.Shape.TheVariants.{OneId, TwoIds, ThreeIds, OneCap, OneNumber}
 use Rattle.cm_filter.specs.Shapes.{shape_of}
+use Rattle.cm_strace_calls.specs.declared.listed.ReadFor.{ReadFor}
+use Rattle.cm_strace_calls.specs.declared.listed.ReadFor.TheVariants.{SetsIds}
 use Rattle.model_cred.specs.Arguments.{Argument, Cap, Number, call_with}
 use Rattle.model_cred.specs.Call.{Call, AmbClear}
 
@@ -13,6 +15,11 @@ has_ids OneId = true
 has_ids TwoIds = true
 has_ids ThreeIds = true
 has_ids _ = false
+
+-- where the lines of a call are read for the ids that it sets, its arguments are such
+abbrev pub is_fit : ReadFor → Bool
+is_fit (SetsIds kind) = has_ids (shape_of kind)
+is_fit _ = true
 
 -- its argument is a number, or a capability
 abbrev pub has_number : Shape → Bool

@@ -3,7 +3,8 @@ use Rattle.std.specs.Prelude.{Result, Ok, Err, slice_get}
 use Rattle.std.specs.Result.{result_map_both}
 use Rattle.cm_state.specs.Call.{call_of}
 use Rattle.cm_strace_calls.specs.declared.listed.Listed.{Listed}
-use Rattle.cm_strace_calls.specs.declared.listed.Listed.TheVariants as listed
+use Rattle.cm_strace_calls.specs.declared.listed.ReadFor.{ReadFor}
+use Rattle.cm_strace_calls.specs.declared.listed.ReadFor.TheVariants as read
 use Rattle.cm_strace_calls.specs.declared.told.Opening.{Opening}
 use Rattle.cm_strace_calls.specs.declared.told.Told.{Told}
 use Rattle.cm_strace_calls.specs.declared.told.Told.TheVariants as told
@@ -11,25 +12,29 @@ use Rattle.cm_strace_text.specs.Depths.{arguments_in}
 use Rattle.cm_strace_values.specs.Outcomes.{outcome_is}
 use Rattle.model_strace.specs.Calls as model
 
+-- the call of the definitions, by what its lines are read for
+abbrev pub read_for_is : ReadFor → model.Listed
+read_for_is (read.SetsIds kind) = model.SetsIds kind
+read_for_is read.SetsGroups = model.SetsGroups
+read_for_is read.SetsCaps = model.SetsCaps
+read_for_is read.Prctl = model.Prctl
+read_for_is read.Birth = model.Birth
+read_for_is read.Unshare = model.Unshare
+read_for_is read.SetNs = model.SetNs
+read_for_is read.Execve = model.Execve
+read_for_is read.ExecveAt = model.ExecveAt
+read_for_is read.OpenFile = model.OpenFile
+read_for_is read.OpenAt = model.OpenAt
+read_for_is read.Creat = model.Creat
+read_for_is read.Close = model.Close
+read_for_is read.Dup = model.Dup
+read_for_is read.DupTo = model.DupTo
+read_for_is read.Fcntl = model.Fcntl
+read_for_is read.Write = model.Write
+
 -- the call of the definitions
 abbrev pub listed_is : Listed → model.Listed
-listed_is (listed.SetsIds call) = model.SetsIds call.kind
-listed_is listed.SetsGroups = model.SetsGroups
-listed_is listed.SetsCaps = model.SetsCaps
-listed_is listed.Prctl = model.Prctl
-listed_is listed.Birth = model.Birth
-listed_is listed.Unshare = model.Unshare
-listed_is listed.SetNs = model.SetNs
-listed_is listed.Execve = model.Execve
-listed_is listed.ExecveAt = model.ExecveAt
-listed_is listed.OpenFile = model.OpenFile
-listed_is listed.OpenAt = model.OpenAt
-listed_is listed.Creat = model.Creat
-listed_is listed.Close = model.Close
-listed_is listed.Dup = model.Dup
-listed_is listed.DupTo = model.DupTo
-listed_is listed.Fcntl = model.Fcntl
-listed_is listed.Write = model.Write
+listed_is call = read_for_is call.read_for
 
 -- the open of the definitions: its path is still quoted in the code, and its flags are a text
 abbrev pub opening_is : Opening → model.Opening

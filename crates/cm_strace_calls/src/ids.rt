@@ -10,7 +10,6 @@ ghost use Rattle.model_cred.specs.World.{World};
 ghost use Rattle.model_strace.specs.Calls.{ids_result, ids_read, ids_told};
 
 use crate::arguments::id;
-use crate::id_kind::IdCallKind;
 use crate::told::Told;
 use cm_base::{LineFault, Res};
 use cm_filter::{CallKind, Shape};
@@ -18,11 +17,11 @@ use cm_state::Call;
 use cm_strace_values::Outcome;
 
 /// A line of such a call.
-pub(crate) fn read<'a>(call: IdCallKind, arguments: Option<&[u8]>, outcome: Outcome) -> Told<'a>
+pub(crate) fn read<'a>(kind: CallKind, arguments: Option<&[u8]>, outcome: Outcome) -> Told<'a>
+    requires { IsTrue (has_ids (shape_of kind)) }
     ensures { (w : World) → told_is result
-        ≡ ids_told w call.kind (arguments_in arguments.entry) (outcome_is outcome) }
+        ≡ ids_told w kind (arguments_in arguments.entry) (outcome_is outcome) }
 {
-    let kind = call.kind();
     let Some(res) = result(kind, outcome) else {
         return Told::Faulty(LineFault::Outcome);
     };

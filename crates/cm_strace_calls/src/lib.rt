@@ -9,13 +9,13 @@ mod caps;
 mod exec;
 mod files;
 mod groups;
-mod id_kind;
 mod ids;
 mod listed;
+mod names;
 mod prctl;
 mod told;
 
-pub use call::{named_call, read_call, read_named};
-pub use id_kind::IdCallKind;
-pub use listed::Listed;
+pub use call::{read_call, read_named};
+pub use listed::{Listed, ReadFor};
+pub use names::named_call;
 pub use told::{Opening, Told};

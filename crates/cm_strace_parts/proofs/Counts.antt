@@ -4,7 +4,7 @@ use Rattle.std.proofs.lemmas.List.{length-map}
 use Rattle.cm_strace_parts.proofs.Lists.{own_in}
 use Rattle.cm_strace_parts.specs.InOrder.{Counted}
 use Rattle.cm_strace_parts.specs.Lists.{FdList, descriptors_in, fds_of, files_before, of_process, ListsInOrder}
-use Rattle.cm_strace_parts.specs.Order.{Ascends}
+use Rattle.cm_ordered.specs.Order.{Ascends}
 use Rattle.model_strace.specs.Parts.{Descriptor, copied_to, descriptor_before, is_closed_at_exec, is_descriptor, is_of, put, put_all}
 
 -- the descriptors of the other processes

@@ -1,12 +1,11 @@
 -- What is left of a process's list at its place, where a filter takes some of its descriptors.
 use Rattle.std.proofs.Common.{◌≡◌, ◌∙◌, ℕ, Bool, true, false, filter, List, ap, get_or, slice_set}
+use Rattle.cm_ordered.specs.Order.{IsCut, StandsAt, is_at, others_by}
+use Rattle.cm_ordered.proofs.Order.{filter_ascends}
 use Rattle.cm_strace_parts.specs.Lists.{Fd, FdList, ListsInOrder, descriptors_in, fd_before, fds_of, files_below}
-use Rattle.cm_strace_parts.specs.Lists.{is_files, of_process}
-use Rattle.cm_strace_parts.specs.Order.{IsCut, StandsAt, is_at}
-use Rattle.cm_strace_parts.specs.Undone.{others_by}
+use Rattle.cm_strace_parts.specs.Lists.{files_pid, is_files, of_process}
 use Rattle.cm_strace_parts.proofs.ListOrders.{changed_here, changed_stands, none_at, own_ascends, put_leaves}
 use Rattle.cm_strace_parts.proofs.Lists.{left_in, none_left_in, none_of}
-use Rattle.cm_strace_parts.proofs.Order.{filter_ascends}
 use Rattle.model_strace.specs.Parts.{Descriptor, is_of}
 
 -- The lists stand in their orders, with that list in its place; of all descriptors those are left, and the lists of the
@@ -15,7 +14,7 @@ pub record LeftAt (pid : ℕ) (left : Descriptor → Bool) (fs gs : List FdList)
   pub ordered : ListsInOrder gs
   pub items : descriptors_in gs ≡ filter left (descriptors_in fs)
   pub stands : StandsAt (is_files pid) gs at
-  pub others : others_by (λ (f : FdList). f.pid) pid gs ≡ others_by (λ (f : FdList). f.pid) pid fs
+  pub others : others_by files_pid pid gs ≡ others_by files_pid pid fs
 
 pub left_at : {f g : FdList} (keeps : Fd → Bool) (left : Descriptor → Bool) (pid : ℕ) (fs : List FdList) (at : ℕ)
     → ListsInOrder fs → IsCut (files_below pid) fs at → is_at (is_files pid) fs at ≡ true → f ≡ get_or fs at f
@@ -29,7 +28,7 @@ left_at {f = f} {g = g} keeps left pid fs at order cut here is made own others =
       ordered = rw changed rest.ordered;
       items = ap descriptors_in changed ∙ left_in pid keeps left fs order.processes own others;
       stands = changed_stands pid fs at f g order.processes cut here is (ap (λ (f : FdList). f.pid) made);
-      others = ap (others_by (λ (f : FdList). f.pid) pid) changed ∙ rest.others;
+      others = ap (others_by files_pid pid) changed ∙ rest.others;
     }
 
 -- and where the process has no list

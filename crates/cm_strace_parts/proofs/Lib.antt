@@ -1,6 +1,4 @@
 -- Lemmas of this crate, by topic.
-pub mod Order
-pub mod Parted
 pub mod Orders
 pub mod Among
 pub mod Lists
@@ -8,6 +6,5 @@ pub mod ListOrders
 pub mod Counts
 pub mod Slots
 pub mod Noted
-pub mod Undoing
 pub mod Saved
 pub mod LeftAt

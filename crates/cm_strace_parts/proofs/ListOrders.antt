@@ -4,15 +4,14 @@ use Rattle.std.proofs.Common.{refl, sym, ◌∙◌, ap, arith, get_or, slice_set
 use Rattle.std.specs.Prelude.{Result, Ok, Err, IfOk, OnErr}
 use Rattle.std.specs.List.{insert, remove}
 use Rattle.std.proofs.lemmas.Bool.{cond-true, cond-false}
-use Rattle.cm_strace_parts.specs.Lists.{Fd, FdList, fd_before, is_files, files_before, files_below, fds_of, EachAscends}
-use Rattle.cm_strace_parts.specs.Lists.{ListsInOrder, descriptors_in}
-use Rattle.cm_strace_parts.specs.Order.{AllSay, Ascends, IsCut, StandsAt, is_at}
+use Rattle.cm_ordered.specs.Order.{AllSay, Ascends, IsCut, StandsAt, is_at, others_by, put_by}
+use Rattle.cm_ordered.proofs.Order.{filter_ascends, removed_ascends, stands, stands_nowhere}
+use Rattle.cm_ordered.proofs.Puts.{put_ascends, put_between, put_instead}
+use Rattle.cm_ordered.proofs.Undoing.{others_put}
+use Rattle.cm_strace_parts.specs.Lists.{Fd, FdList, fd_before, files_pid, is_files, files_before, files_below, fds_of}
+use Rattle.cm_strace_parts.specs.Lists.{EachAscends, ListsInOrder, descriptors_in}
 use Rattle.cm_strace_parts.proofs.Lists.{none_of}
-use Rattle.cm_strace_parts.proofs.Order.{filter_ascends, put_ascends, put_instead, put_between, stands, stands_nowhere}
-use Rattle.cm_strace_parts.specs.Undone.{others_by}
-use Rattle.cm_strace_parts.proofs.Undoing.{others_put}
-use Rattle.cm_strace_parts.proofs.Orders.{files_order, files_place, files_place_of}
-use Rattle.model_strace.specs.Parts.{Descriptor, put}
+use Rattle.model_strace.specs.Parts.{Descriptor}
 
 -- ---- the orders
 -- the descriptors of a process ascend
@@ -25,13 +24,13 @@ own_ascends pid (f ∷ fs) each =
     ]
 
 each_put : (new : FdList) (fs : List FdList) → Ascends fd_before new.fds → EachAscends fs
-    → EachAscends (put files_before new fs)
+    → EachAscends (put_by files_pid new fs)
 each_put new [] up each = (up, tt)
 each_put new (f ∷ fs) up each =
     elim (files_before new f) as (λ b. EachAscends (cond b (new ∷ f ∷ fs) (cond (files_before f new)
-    (f ∷ put files_before new fs) (new ∷ fs)))) [
+    (f ∷ put_by files_pid new fs) (new ∷ fs)))) [
       | true ↦ (up, each)
-      | false ↦ elim (files_before f new) as (λ b. EachAscends (cond b (f ∷ put files_before new fs) (new ∷ fs))) [
+      | false ↦ elim (files_before f new) as (λ b. EachAscends (cond b (f ∷ put_by files_pid new fs) (new ∷ fs))) [
         | true ↦ (each.0, each_put new fs up each.1)
         | false ↦ (up, each.1)
       ]
@@ -47,28 +46,28 @@ each_left keeps (f ∷ fs) each =
 
 -- with a list put in its place they stand in their orders
 pub put_ordered : (new : FdList) (fs : List FdList) → Ascends fd_before new.fds → ListsInOrder fs
-    → ListsInOrder (put files_before new fs)
+    → ListsInOrder (put_by files_pid new fs)
 put_ordered new fs up order = record {
-  processes = put_ascends files_before new fs files_order order.processes;
+  processes = put_ascends files_pid new fs order.processes;
   each = each_put new fs up order.each;
 }
 
 -- What a change of one process's descriptors leaves: the lists in their orders, and those of the other processes.
 pub record Leaves (pid : ℕ) (old new : List FdList) : Type 0 where
   pub ordered : ListsInOrder new
-  pub others : others_by (λ (f : FdList). f.pid) pid new ≡ others_by (λ (f : FdList). f.pid) pid old
+  pub others : others_by files_pid pid new ≡ others_by files_pid pid old
 
 -- a list put in its place leaves so
 pub put_leaves : (pid : ℕ) (fds : List Fd) (fs : List FdList) → Ascends fd_before fds → ListsInOrder fs
-    → Leaves pid fs (put files_before (record { pid = pid; fds = fds }) fs)
+    → Leaves pid fs (put_by files_pid (record { pid = pid; fds = fds }) fs)
 put_leaves pid fds fs up order = record {
   ordered = put_ordered (record { pid = pid; fds = fds }) fs up order;
-  others = others_put (λ (f : FdList). f.pid) pid (record { pid = pid; fds = fds }) fs refl;
+  others = others_put files_pid pid (record { pid = pid; fds = fds }) fs refl;
 }
 
 -- the same of a change of what stood there, for which memory may have run out
 pub put_may_leave : {T E : Type 0} (r : Result T E) (pid : ℕ) (change : List Fd → List Fd) (fs gs : List FdList)
-    → IfOk r (λ _. gs ≡ put files_before (record { pid = pid; fds = change (fds_of pid fs) }) fs) → OnErr r (gs ≡ fs)
+    → IfOk r (λ _. gs ≡ put_by files_pid (record { pid = pid; fds = change (fds_of pid fs) }) fs) → OnErr r (gs ≡ fs)
     → ((fds : List Fd) → Ascends fd_before fds → Ascends fd_before (change fds)) → ListsInOrder fs → Leaves pid fs gs
 put_may_leave (Ok x) pid change fs gs is still rises order =
     rw is (put_leaves pid (change (fds_of pid fs)) fs (rises (fds_of pid fs) (own_ascends pid fs order.each)) order)
@@ -113,20 +112,19 @@ same_at same (y ∷ xs) (suc at) x here is = same_at same xs at x here.1 is
 -- the list is changed at its place
 pub changed_at : (pid : ℕ) (ys : List Fd) (fs : List FdList) (at : ℕ) (f : FdList) → Ascends files_before fs
     → IsCut (files_below pid) fs at → is_at (is_files pid) fs at ≡ true → f ≡ get_or fs at f
-    → slice_set fs at (record f { fds = ys }) ≡ put files_before (record { pid = pid; fds = ys }) fs
+    → slice_set fs at (record f { fds = ys }) ≡ put_by files_pid (record { pid = pid; fds = ys }) fs
 changed_at pid ys fs at f up cut here is =
     let stands : StandsAt (is_files pid) fs at =
-    stands files_before (files_below pid) (is_files pid) fs at (files_place pid) up cut here in
+    stands files_pid pid fs at up cut here in
     let same : f.pid ≡ pid = grind (arith, same_at (is_files pid) fs at f stands is) in
     ap (λ p. slice_set fs at (record { pid = p; fds = ys })) same
-    ∙ put_instead files_before (files_below pid) (is_files pid) (record { pid = pid; fds = ys }) fs at
-    (files_place_of (record { pid = pid; fds = ys }) pid refl) cut here
+    ∙ put_instead files_pid (record { pid = pid; fds = ys }) pid fs at refl cut here
 
 -- the descriptors at its place are those of the process
 pub own_at : (pid : ℕ) (fs : List FdList) (at : ℕ) (f : FdList) → Ascends files_before fs
     → IsCut (files_below pid) fs at → is_at (is_files pid) fs at ≡ true → f ≡ get_or fs at f → fds_of pid fs ≡ f.fds
 own_at pid fs at f up cut here is =
-    fds_at pid fs at f (stands files_before (files_below pid) (is_files pid) fs at (files_place pid) up cut here) is
+    fds_at pid fs at f (stands files_pid pid fs at up cut here) is
 
 -- they ascend
 pub ascends_at : (pid : ℕ) (fs : List FdList) (at : ℕ) (f : FdList) → ListsInOrder fs
@@ -138,10 +136,10 @@ ascends_at pid fs at f order cut here is =
 pub changed_here : (change : List Fd → List Fd) (pid : ℕ) (fs : List FdList) (at : ℕ) (f g : FdList)
     → Ascends files_before fs → IsCut (files_below pid) fs at → is_at (is_files pid) fs at ≡ true
     → f ≡ get_or fs at f → g ≡ record f { fds = change f.fds }
-    → slice_set fs at g ≡ put files_before (record { pid = pid; fds = change (fds_of pid fs) }) fs
+    → slice_set fs at g ≡ put_by files_pid (record { pid = pid; fds = change (fds_of pid fs) }) fs
 changed_here change pid fs at f g up cut here is changed =
     ap (λ g. slice_set fs at g) changed ∙ changed_at pid (change f.fds) fs at f up cut here is
-    ∙ ap (λ l. put files_before (record { pid = pid; fds = change l }) fs) (sym (own_at pid fs at f up cut here is))
+    ∙ ap (λ l. put_by files_pid (record { pid = pid; fds = change l }) fs) (sym (own_at pid fs at f up cut here is))
 
 -- one of its process stands there then
 pub set_stands : {A : Type 0} (same : A → Bool) (xs : List A) (at : ℕ) (x : A) → StandsAt same xs at → same x ≡ true
@@ -155,45 +153,26 @@ pub changed_stands : (pid : ℕ) (fs : List FdList) (at : ℕ) (f g : FdList) �
     → StandsAt (is_files pid) (slice_set fs at g) at
 changed_stands pid fs at f g up cut here is keeps =
     let stands : StandsAt (is_files pid) fs at =
-    stands files_before (files_below pid) (is_files pid) fs at (files_place pid) up cut here in
+    stands files_pid pid fs at up cut here in
     set_stands (is_files pid) fs at g stands (ap (λ n. n == pid) keeps ∙ same_at (is_files pid) fs at f stands is)
 
 -- no list stands at its place: the process has no descriptors
 pub none_at : (pid : ℕ) (fs : List FdList) (at : ℕ) → Ascends files_before fs
     → IsCut (files_below pid) fs at → is_at (is_files pid) fs at ≡ false → AllSay (is_files pid) false fs
-none_at pid fs at up cut isnt =
-    stands_nowhere files_before (files_below pid) (is_files pid) fs at (files_place pid) up cut isnt
+none_at pid fs at up cut isnt = stands_nowhere files_pid pid fs at up cut isnt
 
 -- a list is made at its place
 pub inserted_here : (change : List Fd → List Fd) (pid : ℕ) (fs : List FdList) (at : ℕ) (g : FdList)
     → Ascends files_before fs → IsCut (files_below pid) fs at → is_at (is_files pid) fs at ≡ false
     → g ≡ record { pid = pid; fds = change [] }
-    → insert fs at g ≡ put files_before (record { pid = pid; fds = change (fds_of pid fs) }) fs
+    → insert fs at g ≡ put_by files_pid (record { pid = pid; fds = change (fds_of pid fs) }) fs
 inserted_here change pid fs at g up cut isnt made =
     ap (λ g. insert fs at g) made
-    ∙ put_between files_before (files_below pid) (is_files pid) (record { pid = pid; fds = change [] }) fs at
-    (files_place_of (record { pid = pid; fds = change [] }) pid refl) cut isnt
-    ∙ ap (λ l. put files_before (record { pid = pid; fds = change l }) fs)
+    ∙ put_between files_pid (record { pid = pid; fds = change [] }) pid fs at refl cut isnt
+    ∙ ap (λ l. put_by files_pid (record { pid = pid; fds = change l }) fs)
     (sym (none_of pid fs (none_at pid fs at up cut isnt)))
 
 -- ---- one goes
-all_removed : {A : Type 0} (test : A → Bool) (answer : Bool) (xs : List A) (at : ℕ) → AllSay test answer xs
-    → AllSay test answer (remove xs at)
-all_removed test answer [] zero all = tt
-all_removed test answer [] (suc at) all = tt
-all_removed test answer (x ∷ xs) zero all = all.1
-all_removed test answer (x ∷ xs) (suc at) all = (all.0, all_removed test answer xs at all.1)
-
-removed_ascends : {A : Type 0} (before : A → A → Bool) (xs : List A) (at : ℕ) → Ascends before xs
-    → Ascends before (remove xs at)
-removed_ascends before [] zero up = tt
-removed_ascends before [] (suc at) up = tt
-removed_ascends before (x ∷ xs) zero up = up.1
-removed_ascends before (x ∷ xs) (suc at) up = (
-  all_removed (before x) true xs at up.0,
-  removed_ascends before xs at up.1,
-)
-
 each_removed : (fs : List FdList) (at : ℕ) → EachAscends fs → EachAscends (remove fs at)
 each_removed [] zero each = tt
 each_removed [] (suc at) each = tt

@@ -6,13 +6,13 @@ use Rattle.std.specs.Prelude.{option_map}
 use Rattle.std.specs.List.{list_any, remove}
 use Rattle.std.proofs.lemmas.List.{take_more, length-append, length-map}
 use Rattle.std.proofs.lemmas.Bool.{cond-true, cond-false}
-use Rattle.cm_strace_parts.specs.Lists.{Fd, FdList, of_process, descriptors_in, is_fd, fd_before, is_files, files_before}
-use Rattle.cm_strace_parts.specs.Lists.{fds_of}
-use Rattle.cm_strace_parts.specs.Order.{AllSay, Ascends, is_at}
-use Rattle.cm_strace_parts.proofs.Among.{all_append, all_changed, filter_among, filter_only, filter_changed, find_past}
-use Rattle.cm_strace_parts.proofs.Among.{find_before, find_changed, any_past, any_none, put_among, put_changed, filter_past, filter_after}
-use Rattle.cm_strace_parts.proofs.Among.{put_all_among, put_all_changed}
-use Rattle.cm_strace_parts.proofs.Order.{all_along}
+use Rattle.cm_ordered.specs.Order.{AllSay, Ascends, is_at, put_by}
+use Rattle.cm_ordered.proofs.Among.{all_append, all_changed, filter_among, filter_only, filter_changed, filter_past}
+use Rattle.cm_ordered.proofs.Among.{filter_after, find_past, find_before, find_changed, any_past, any_none}
+use Rattle.cm_ordered.proofs.Order.{all_along}
+use Rattle.cm_strace_parts.specs.Lists.{Fd, FdList, of_process, descriptors_in, is_fd, fd_before, fd_number, files_pid}
+use Rattle.cm_strace_parts.specs.Lists.{is_files, files_before, fds_of}
+use Rattle.cm_strace_parts.proofs.Among.{put_among, put_changed, put_same, put_all_among, put_all_changed}
 use Rattle.model_strace.specs.Parts.{Descriptor, is_of, is_descriptor, copied_to, descriptor_before}
 use Rattle.model_strace.specs.Parts.{put, put_all}
 
@@ -25,7 +25,7 @@ pub record Stand (pid : ℕ) (fs : List FdList) : Type 0 where
   pub lower : AllSay (λ d. nat_lt d.pid pid) true front
   pub higher : AllSay (λ d. nat_lt pid d.pid) true back
   pub whole : descriptors_in fs ≡ front ++ (map (of_process pid) (fds_of pid fs) ++ back)
-  pub changed : (ys : List Fd) → descriptors_in (put files_before (record { pid = pid; fds = ys }) fs)
+  pub changed : (ys : List Fd) → descriptors_in (put_by files_pid (record { pid = pid; fds = ys }) fs)
       ≡ front ++ (map (of_process pid) ys ++ back)
 
 higher_in : (pid : ℕ) (fs : List FdList) → AllSay (λ f. nat_lt pid f.pid) true fs
@@ -158,7 +158,7 @@ own_in pid fs up =
 pub left_in : (pid : ℕ) (keeps : Fd → Bool) (left : Descriptor → Bool) (fs : List FdList) → Ascends files_before fs
     → ((fd : Fd) → left (of_process pid fd) ≡ keeps fd)
     → ((d : Descriptor) → is_of pid d ≡ false → left d ≡ true)
-    → descriptors_in (put files_before (record { pid = pid; fds = filter keeps (fds_of pid fs) }) fs)
+    → descriptors_in (put_by files_pid (record { pid = pid; fds = filter keeps (fds_of pid fs) }) fs)
     ≡ filter left (descriptors_in fs)
 left_in pid keeps left fs up own others =
     let s = stand pid fs up in
@@ -185,12 +185,13 @@ none_left_in pid left fs up none others =
 
 -- one is put in its place
 pub put_in : (pid : ℕ) (new : Fd) (fs : List FdList) → Ascends files_before fs
-    → descriptors_in (put files_before (record { pid = pid; fds = put fd_before new (fds_of pid fs) }) fs)
+    → descriptors_in (put_by files_pid (record { pid = pid; fds = put_by fd_number new (fds_of pid fs) }) fs)
     ≡ put descriptor_before (of_process pid new) (descriptors_in fs)
 put_in pid new fs up =
     let s = stand pid fs up in
     let d : Descriptor = of_process pid new in
-    s.changed (put fd_before new (fds_of pid fs))
+    s.changed (put_by fd_number new (fds_of pid fs))
+    ∙ ap (λ l. s.front ++ (map (of_process pid) l ++ s.back)) (put_same fd_number new (fds_of pid fs))
     ∙ ap (λ l. s.front ++ (l ++ s.back)) (put_changed fd_before descriptor_before (of_process pid) new (fds_of pid fs)
     (λ x y. grind arith))
     ∙ sym (put_among descriptor_before d s.front (map (of_process pid) (fds_of pid fs)) s.back
@@ -201,7 +202,7 @@ put_in pid new fs up =
 
 -- copies are put in their places
 pub put_all_in : (pid : ℕ) (news : List Fd) (fs : List FdList) → Ascends files_before fs
-    → descriptors_in (put files_before (record { pid = pid; fds = put_all fd_before news (fds_of pid fs) }) fs)
+    → descriptors_in (put_by files_pid (record { pid = pid; fds = put_all fd_before news (fds_of pid fs) }) fs)
     ≡ put_all descriptor_before (map (of_process pid) news) (descriptors_in fs)
 put_all_in pid news fs up =
     let s = stand pid fs up in

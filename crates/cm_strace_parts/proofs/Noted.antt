@@ -5,7 +5,9 @@ use Rattle.std.proofs.Common.{refl, sym, ◌∙◌, ap, arith}
 use Rattle.std.specs.Prelude.{option_map}
 use Rattle.std.proofs.lemmas.Bool.{cond-true, cond-false}
 use Rattle.cm_strace_parts.specs.Slots.{notes, NotesKnown}
-use Rattle.cm_strace_parts.proofs.Among.{find_changed}
+use Rattle.cm_ordered.proofs.Among.{find_changed}
+use Rattle.cm_ordered.specs.Order.{put_by}
+use Rattle.cm_strace_parts.proofs.Among.{put_same}
 use Rattle.model_strace.specs.Parts.{Task, is_task, task_before, put}
 
 -- ---- what is found
@@ -116,8 +118,8 @@ ended_noted {new = new} {ts = ts} pid gone others noted = record {
 -- those with one that is born and noted
 pub born_noted : {old new : List ℕ} {ts : List Task} (child : Task)
     → ((q : ℕ) → q ≢ child.pid → notes new q ≡ true → notes old q ≡ true) → NotesKnown old ts
-    → NotesKnown new (put task_before child ts)
-born_noted {ts = ts} child others noted = record {
+    → NotesKnown new (put_by (λ (t : Task). t.pid) child ts)
+born_noted {ts = ts} child others noted = rw (put_same (λ (t : Task). t.pid) child ts) (record {
   known = λ q is. (elim (child.pid == q) as (λ b. (child.pid == q) ≡ b → finds (is_task q) (put task_before child ts)) [
     | true ↦ λ same. found_put (is_task q) task_before child ts same
     | false ↦ λ differs.
@@ -125,7 +127,7 @@ born_noted {ts = ts} child others noted = record {
         found_still (is_task q) task_before child ts (λ t later equal. grind (arith, later, equal, apart))
         (noted.known q (others q apart is))
   ]) refl;
-}
+})
 
 -- those of which one more is noted
 pub listed_noted : (old new : List ℕ) (ts : List Task) (at pid : ℕ) (t : Task) → at < length ts → t ≡ get_or ts at t

@@ -2,7 +2,7 @@
 use Rattle.std.specs.Prelude.{◌≡◌, ℕ, length, List, Option, Some, None, is_some, IfSome}
 use Rattle.cm_strace_parts.specs.Slots.{NotesKnown}
 use Rattle.cm_strace_parts.specs.Lists.{FdList, ListsInOrder, descriptors_in}
-use Rattle.cm_strace_parts.specs.Undone.{Tracked}
+use Rattle.cm_ordered.specs.Undone.{Tracked}
 use Rattle.model_strace.specs.Parts.{Parts, Task, Kept}
 
 -- The descriptors stand in their orders, and so many are followed.

@@ -1,8 +1,6 @@
 -- What this crate's contracts are stated by, beside the definitions of model_strace.
-pub mod Order
 pub mod Lists
 pub mod Slots
-pub mod Undone
 pub mod InOrder
 pub mod Savepoints
 pub use Rattle.model_strace.specs.Parts

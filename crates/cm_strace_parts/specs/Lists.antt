@@ -1,6 +1,6 @@
 -- The descriptors that are followed, in a list for each process.
 use Rattle.std.specs.Prelude.{ℕ, ◌==◌, Bool, nat_lt, List, [], ◌∷◌, ◌++◌, map, if◌then◌else◌}
-use Rattle.cm_strace_parts.specs.Order.{Ascends}
+use Rattle.cm_ordered.specs.Order.{Ascends}
 use Rattle.model_strace.specs.Files.{Followed}
 use Rattle.model_strace.specs.Parts.{Descriptor}
 
@@ -38,6 +38,10 @@ descriptors_in [] = []
 descriptors_in (f ∷ fs) = map (of_process f.pid) f.fds ++ descriptors_in fs
 
 -- ---- in order
+-- the number of a descriptor
+abbrev pub fd_number : Fd → ℕ
+fd_number fd = fd.number
+
 -- the descriptor has that number
 abbrev pub is_fd : ℕ → Fd → Bool
 is_fd number fd = fd.number == number
@@ -45,6 +49,10 @@ is_fd number fd = fd.number == number
 -- the descriptor comes before the other one
 abbrev pub fd_before : Fd → Fd → Bool
 fd_before fd other = nat_lt fd.number other.number
+
+-- the pid of their process
+abbrev pub files_pid : FdList → ℕ
+files_pid f = f.pid
 
 -- they are those of that process
 abbrev pub is_files : ℕ → FdList → Bool

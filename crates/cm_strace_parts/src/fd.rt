@@ -3,13 +3,12 @@ ghost use Rattle.std.specs.Prelude.{◌≡◌, filter, not, length};
 ghost use Rattle.std.specs.List.{list_any};
 ghost use Rattle.cm_base.specs.Outcome.{OrNoMemory};
 ghost use Rattle.cm_strace_parts.specs.Lists.{of_process, fd_of, fd_before};
-ghost use Rattle.cm_strace_parts.specs.Order.{Ascends};
+ghost use Rattle.cm_ordered.specs.Order.{Ascends};
 ghost use Rattle.model_strace.specs.Parts.{put_all};
 
 use crate::descriptor::Descriptor;
-use crate::ordered;
-use crate::search::Numbered;
 use cm_base::{NoMemory, Pid, SpaceId};
+use cm_ordered::Numbered;
 use cm_strace_values::Followed;
 use std::alloc::Global;
 use std::marker::Model;
@@ -116,7 +115,7 @@ pub(crate) fn put_all(list: &mut Vec<Fd>, news: &[Fd]) -> Result<(), NoMemory>
     ensures items { OrNoMemory result (λ _. list.new.items ≡ put_all fd_before news.now list.old.items) }
 {
     for fd in news {
-        ordered::put(list, fd.copy())?;
+        cm_ordered::put(list, fd.copy())?;
     }
     Ok(())
 }

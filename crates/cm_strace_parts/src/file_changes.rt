@@ -3,19 +3,18 @@
 ghost use Rattle.std.specs.Prelude.{◌≡◌, ℕ, ◌==◌, ◌≤◌, filter, map, not, length, None, if◌then◌else◌, vec_capacity};
 ghost use Rattle.std.specs.Prelude.{IsOk};
 ghost use Rattle.cm_base.specs.Outcome.{OrNoMemory, UnchangedOnErr};
-ghost use Rattle.cm_strace_parts.specs.Lists.{fd_before, is_files, files_before, of_process, fds_of, descriptors_in};
-ghost use Rattle.cm_strace_parts.specs.Lists.{ListsInOrder};
-ghost use Rattle.cm_strace_parts.specs.Order.{Ascends, StandsAt, is_at};
-ghost use Rattle.cm_strace_parts.specs.Undone.{others_by};
+ghost use Rattle.cm_strace_parts.specs.Lists.{fd_before, fd_number, files_pid, is_files, of_process, fds_of};
+ghost use Rattle.cm_strace_parts.specs.Lists.{descriptors_in, ListsInOrder};
+ghost use Rattle.cm_ordered.specs.Order.{Ascends, StandsAt, is_at, others_by, put_by};
 ghost use Rattle.model_strace.specs.Parts.{is_descriptor, is_of, is_closed_at_exec, copied_to, descriptor_before};
 ghost use Rattle.model_strace.specs.Parts.{put, put_all};
 
 use crate::descriptor::Descriptor;
 use crate::fd::Fd;
+use crate::files;
 use crate::files::FdList;
-use crate::tracked::Tracked;
-use crate::{files, ordered};
 use cm_base::{NoMemory, Pid};
+use cm_ordered::Tracked;
 use std::alloc::Global;
 use std::rc::Rc;
 
@@ -41,13 +40,13 @@ pub(crate) fn follow(
 // it was.
 fn put_fd(list: &mut Vec<FdList>, alloc: Global, pid: Pid, new: Fd) -> Result<(), NoMemory>
     requires { ListsInOrder list.old.items }
-    ensures items { OrNoMemory result (λ _. list.new.items ≡ put files_before
-        (record { pid = pid; fds = put fd_before new (fds_of pid list.old.items) }) list.old.items) }
+    ensures items { OrNoMemory result (λ _. list.new.items ≡ put_by files_pid
+        (record { pid = pid; fds = put_by fd_number new (fds_of pid list.old.items) }) list.old.items) }
     ensures unchanged { UnchangedOnErr result list.new.items list.old.items }
     ensures capacity { vec_capacity list.old ≤ vec_capacity list.new }
 {
-    let at = ordered::place(list, pid);
-    if ordered::is_at(list, at, pid) {
+    let at = cm_ordered::place(list, pid);
+    if cm_ordered::is_at(list, at, pid) {
         list[at].put(alloc, new)?;
     } else {
         let files = FdList::one(alloc, pid, new)?;
@@ -127,13 +126,13 @@ fn put_fds(
 ) -> Result<(), NoMemory>
     requires ordered { ListsInOrder list.old.items }
     requires up { Ascends fd_before news.value.items }
-    ensures items { OrNoMemory result (λ _. list.new.items ≡ put files_before
+    ensures items { OrNoMemory result (λ _. list.new.items ≡ put_by files_pid
         (record { pid = pid; fds = put_all fd_before news.value.items (fds_of pid list.old.items) }) list.old.items) }
     ensures unchanged { UnchangedOnErr result list.new.items list.old.items }
     ensures capacity { vec_capacity list.old ≤ vec_capacity list.new }
 {
-    let at = ordered::place(list, pid);
-    if ordered::is_at(list, at, pid) {
+    let at = cm_ordered::place(list, pid);
+    if cm_ordered::is_at(list, at, pid) {
         list[at].put_all(alloc, news)?;
     } else {
         list.insert(at, FdList::of(pid, news))?;
@@ -166,11 +165,11 @@ fn forget_in(list: &mut Vec<FdList>, alloc: Global, pid: Pid, number: u64) -> Re
         ≡ filter (λ d. not (is_descriptor pid number d)) (descriptors_in list.old.items)) }
     ensures unchanged { UnchangedOnErr result list.new.items list.old.items }
     ensures ordered { ListsInOrder list.new.items }
-    ensures others { others_by (λ f. f.pid) pid list.new.items ≡ others_by (λ f. f.pid) pid list.old.items }
+    ensures others { others_by files_pid pid list.new.items ≡ others_by files_pid pid list.old.items }
     ensures capacity { vec_capacity list.old ≤ vec_capacity list.new }
 {
-    let at = ordered::place(list, pid);
-    if ordered::is_at(list, at, pid) {
+    let at = cm_ordered::place(list, pid);
+    if cm_ordered::is_at(list, at, pid) {
         list[at].forget(alloc, number)?;
         drop_empty(list, at);
     }
@@ -197,11 +196,11 @@ fn execute_in(list: &mut Vec<FdList>, alloc: Global, pid: Pid) -> Result<(), NoM
         ≡ filter (λ d. not (is_closed_at_exec pid d)) (descriptors_in list.old.items)) }
     ensures unchanged { UnchangedOnErr result list.new.items list.old.items }
     ensures ordered { ListsInOrder list.new.items }
-    ensures others { others_by (λ f. f.pid) pid list.new.items ≡ others_by (λ f. f.pid) pid list.old.items }
+    ensures others { others_by files_pid pid list.new.items ≡ others_by files_pid pid list.old.items }
     ensures capacity { vec_capacity list.old ≤ vec_capacity list.new }
 {
-    let at = ordered::place(list, pid);
-    if ordered::is_at(list, at, pid) {
+    let at = cm_ordered::place(list, pid);
+    if cm_ordered::is_at(list, at, pid) {
         list[at].execute(alloc)?;
         drop_empty(list, at);
     }
@@ -224,7 +223,7 @@ fn drop_empty(list: &mut Vec<FdList>, at: usize)
     ensures items { descriptors_in list.new.items ≡ descriptors_in list.old.items }
     ensures ordered { ListsInOrder list.new.items }
     ensures others { (pid : ℕ) → StandsAt (is_files pid) list.old.items at
-        → others_by (λ f. f.pid) pid list.new.items ≡ others_by (λ f. f.pid) pid list.old.items }
+        → others_by files_pid pid list.new.items ≡ others_by files_pid pid list.old.items }
     ensures capacity { vec_capacity list.old ≤ vec_capacity list.new }
 {
     if is_empty_at(list, at) {

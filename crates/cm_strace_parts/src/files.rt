@@ -4,16 +4,16 @@
 ghost use Rattle.std.specs.Prelude.{◌≡◌, ◌+◌, ◌∷◌, [], find, filter, not, length, IfSome, IfNone, option_map};
 ghost use Rattle.std.specs.List.{list_any};
 ghost use Rattle.cm_base.specs.Outcome.{OrNoMemory, UnchangedOnErr};
-ghost use Rattle.cm_strace_parts.specs.Lists.{is_fd, fd_before, files_before, fds_of, descriptors_in, ListsInOrder};
-ghost use Rattle.cm_strace_parts.specs.Order.{Ascends};
-ghost use Rattle.model_strace.specs.Parts.{is_descriptor, is_of, put, put_all};
+ghost use Rattle.cm_ordered.specs.Order.{Ascends, put_by};
+ghost use Rattle.cm_strace_parts.specs.Lists.{is_fd, fd_before, fd_number, files_before, fds_of, descriptors_in};
+ghost use Rattle.cm_strace_parts.specs.Lists.{ListsInOrder};
+ghost use Rattle.model_strace.specs.Parts.{is_descriptor, is_of, put_all};
 
 use crate::descriptor::Descriptor;
+use crate::fd;
 use crate::fd::Fd;
-use crate::search::Numbered;
-use crate::undo::Copied;
-use crate::{fd, ordered};
 use cm_base::{NoMemory, Pid};
+use cm_ordered::{Copied, Numbered};
 use std::alloc::Global;
 use std::marker::Model;
 use std::rc::Rc;
@@ -83,14 +83,14 @@ impl FdList {
     // all as it was.
     pub(crate) fn put(&mut self, alloc: Global, new: Fd) -> Result<(), NoMemory>
         requires { Ascends fd_before self.old.fds }
-        ensures items { OrNoMemory result (λ _. self.new ≡ record self.old { fds = put fd_before new self.old.fds }) }
+        ensures items { OrNoMemory result (λ _. self.new ≡ record self.old { fds = put_by fd_number new self.old.fds }) }
         ensures unchanged { UnchangedOnErr result self.new self.old }
     {
         match Rc::get_mut(&mut self.fds) {
-            Some(list) => ordered::put(list, new)?,
+            Some(list) => cm_ordered::put(list, new)?,
             None => {
                 let mut list = fd::copy_list(alloc, &self.fds)?;
-                ordered::put(&mut list, new)?;
+                cm_ordered::put(&mut list, new)?;
                 self.fds = Rc::new(alloc, list)?;
             }
         }
@@ -127,14 +127,14 @@ impl FdList {
             ≡ record self.old { fds = filter (λ fd. not (is_fd number fd)) self.old.fds }) }
         ensures unchanged { UnchangedOnErr result self.new self.old }
     {
-        if ordered::get(&self.fds, number).is_none() {
+        if cm_ordered::get(&self.fds, number).is_none() {
             return Ok(());
         }
         match Rc::get_mut(&mut self.fds) {
-            Some(list) => ordered::remove(list, number),
+            Some(list) => cm_ordered::remove(list, number),
             None => {
                 let mut list = fd::copy_list(alloc, &self.fds)?;
-                ordered::remove(&mut list, number);
+                cm_ordered::remove(&mut list, number);
                 self.fds = Rc::new(alloc, list)?;
             }
         }
@@ -192,7 +192,7 @@ pub(crate) fn of_process(list: &[FdList], pid: Pid) -> Option<&FdList>
     ensures some { IfSome result (λ f. f.now.fds ≡ fds_of pid list.now) }
     ensures none { IfNone result (fds_of pid list.now ≡ []) }
 {
-    match ordered::find(list, pid) {
+    match cm_ordered::find(list, pid) {
         Some(at) => Some(&list[at]),
         None => None,
     }
@@ -204,7 +204,7 @@ fn fd_of(list: &[FdList], pid: Pid, number: u64) -> Option<&Fd>
     ensures { option_map (λ fd. fd.now) result ≡ find (is_fd number) (fds_of pid list.now) }
 {
     match of_process(list, pid) {
-        Some(files) => ordered::get(files.list(), number),
+        Some(files) => cm_ordered::get(files.list(), number),
         None => None,
     }
 }

@@ -2,9 +2,8 @@
 ghost use Rattle.std.specs.Prelude.{◌≡◌};
 ghost use Rattle.cm_base.specs.Outcome.{OrNoMemory};
 
-use crate::search::Numbered;
-use crate::undo::Copied;
 use cm_base::{NoMemory, Pid};
+use cm_ordered::{Copied, Numbered};
 use std::alloc::Global;
 use std::marker::Model;
 use std::rc::Rc;

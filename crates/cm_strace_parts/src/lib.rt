@@ -10,12 +10,8 @@ mod file_changes;
 mod files;
 mod kept;
 mod known;
-mod ordered;
 mod parts;
-mod search;
 mod task;
-mod tracked;
-mod undo;
 mod written;
 
 pub use descriptor::Descriptor;

@@ -15,10 +15,10 @@ use crate::files::FdList;
 use crate::kept::Kept;
 use crate::known::Known;
 use crate::task::Task;
-use crate::tracked::Tracked;
 use crate::{file_changes, files, task};
 use cm_base::{NoMemory, Pid, SpaceId};
 use cm_declared::World;
+use cm_ordered::Tracked;
 use std::alloc::Global;
 use std::marker::Model;
 
@@ -254,6 +254,7 @@ impl Parts {
 
     /// That text of the process is kept too. It fails only where memory runs out, and then leaves all as it was, unless
     /// a savepoint is set.
+    #[tactic(auto, using(crate::proofs::Among::put_same))]
     pub fn keep(&mut self, alloc: Global, pid: Pid, text: &[u8]) -> Result<(), NoMemory>
         ensures changed { OrNoMemory result (λ _. self.new.known ≡ keeping pid text.now self.old.known) }
         ensures saved { self.new.saved ≡ self.old.saved }
@@ -337,6 +338,7 @@ impl Parts {
 impl Parts {
     /// What a birth leaves: the child in that user namespace, with the parent's descriptors or with copies of them.
     /// It fails only where memory runs out, and then leaves all as it was, unless a savepoint is set.
+    #[tactic(auto, using(crate::proofs::Among::put_same))]
     pub fn bear(
         &mut self,
         alloc: Global,

@@ -1,14 +1,11 @@
 // The processes that are known, by ascending pids.
 ghost use Rattle.std.specs.Prelude.{◌≡◌, ◌≤◌, None, map, vec_capacity, IsOk};
 ghost use Rattle.cm_base.specs.Outcome.{OrNoMemory, UnchangedOnErr};
-ghost use Rattle.cm_strace_parts.specs.Order.{Ascends};
+ghost use Rattle.cm_ordered.specs.Order.{Ascends};
 ghost use Rattle.model_strace.specs.Parts.{first_task, task_before, moved_task, sharing_task};
 
-use crate::ordered;
-use crate::search::Numbered;
-use crate::tracked::Tracked;
-use crate::undo::Copied;
 use cm_base::{NoMemory, Pid, SpaceId};
+use cm_ordered::{Copied, Numbered, Tracked};
 use cm_state::Proc;
 use std::alloc::Global;
 use std::marker::Model;
@@ -82,7 +79,7 @@ fn move_in(list: &mut Vec<Task>, pid: Pid, space: SpaceId)
     ensures ascends { Ascends task_before list.new.items }
     ensures capacity { vec_capacity list.old ≤ vec_capacity list.new }
 {
-    match ordered::find(list, pid) {
+    match cm_ordered::find(list, pid) {
         Some(at) => {
             let task = &mut list[at];
             task.space = space;
@@ -112,7 +109,7 @@ fn share_in(list: &mut Vec<Task>, pid: Pid, shares: bool)
     ensures ascends { Ascends task_before list.new.items }
     ensures capacity { vec_capacity list.old ≤ vec_capacity list.new }
 {
-    match ordered::find(list, pid) {
+    match cm_ordered::find(list, pid) {
         Some(at) => {
             let task = &mut list[at];
             task.shares |= shares;

@@ -28,21 +28,26 @@ with_filter top declared files processes =
 -- the processes, and then the filter
 abbrev with_processes : Members → Declared → FileTable → Result World Refusal
 with_processes top declared files =
-    then_read (read_rows table.Process limit.Processes 0 (process_row declared.names) [] (rows_at (codes "process") top))
-    (with_filter top declared files)
+    then_read (read_rows table.Process limit.Processes 0 (process_row declared.names) []
+    (rows_at (codes "process") top)) (with_filter top declared files)
 
 -- what comes after the files is of their table
-files_then : (r : Result (List FileRow) Refusal) (mounts : List Mount) (files : FileTable) (next : FileTable → Result World Refusal)
-    → then_read r (table_with mounts) ≡ Ok files → then_read r (λ rows. next (record { mounts = mounts; rows = rows })) ≡ next files
-files_then (Ok rows) mounts files next is = let same : record { mounts = mounts; rows = rows } ≡ files = cc in ap next same
+files_then : (r : Result (List FileRow) Refusal) (mounts : List Mount) (files : FileTable)
+    (next : FileTable → Result World Refusal) → then_read r (table_with mounts) ≡ Ok files
+    → then_read r (λ rows. next (record { mounts = mounts; rows = rows })) ≡ next files
+files_then (Ok rows) mounts files next is =
+    let same : record { mounts = mounts; rows = rows } ≡ files = cc in ap next same
 files_then (Err refusal) mounts files next is = absurd (cc)
 
 module _ (top : Members) (declared : Declared) (mounts : List Mount) (files : FileTable) (processes : List Process)
     (whole : None ≡ first_standing (shape_checks whole_keys top))
     (spaces : read_rows table.Space limit.Spaces 1 space_row none_declared (rows_at (codes "space") top) ≡ Ok declared)
-    (mounted : read_rows table.Mount limit.Mounts 1 (mount_row declared.names) root_alone (rows_at (codes "mount") top) ≡ Ok mounts)
-    (filed : then_read (read_rows table.File limit.Files 0 (file_row mounts) [] (rows_at (codes "file") top)) (table_with mounts) ≡ Ok files)
-    (living : read_rows table.Process limit.Processes 0 (process_row declared.names) [] (rows_at (codes "process") top) ≡ Ok processes) where
+    (mounted : read_rows table.Mount limit.Mounts 1 (mount_row declared.names) root_alone (rows_at (codes "mount") top)
+    ≡ Ok mounts)
+    (filed : then_read (read_rows table.File limit.Files 0 (file_row mounts) [] (rows_at (codes "file") top))
+    (table_with mounts) ≡ Ok files)
+    (living : read_rows table.Process limit.Processes 0 (process_row declared.names) []
+    (rows_at (codes "process") top) ≡ Ok processes) where
   before_filter : table_world top ≡ with_filter top declared files processes
   before_filter =
       rw (← whole, spaces, mounted) (
@@ -51,14 +56,17 @@ module _ (top : Members) (declared : Declared) (mounts : List Mount) (files : Fi
       ∙ ap (λ r. then_read r (with_filter top declared files)) living)
 
   -- the world
-  pub world_read : (filter : Filter) → in_row table.Filter 0 (filter_row (table_of (get_member (codes "filter") top))) ≡ Ok filter
+  pub world_read : (filter : Filter)
+      → in_row table.Filter 0 (filter_row (table_of (get_member (codes "filter") top))) ≡ Ok filter
       → table_world top ≡ Ok (world_made top declared files processes filter)
   world_read filter is =
       before_filter ∙ ap (λ r. then_read r (λ f. Ok (world_made top declared files processes f))) is
 
   -- or the refusal of the filter
   pub filter_refused : (o : Option Refusal)
-      → IfSome o (λ refusal. in_row table.Filter 0 (filter_row (table_of (get_member (codes "filter") top))) ≡ Err refusal)
+      → IfSome o (λ refusal. in_row table.Filter 0 (filter_row (table_of (get_member (codes "filter") top)))
+      ≡ Err refusal)
       → IfSome o (λ refusal. table_world top ≡ Err refusal)
   filter_refused None is = tt
-  filter_refused (Some refusal) is = before_filter ∙ ap (λ r. then_read r (λ f. Ok (world_made top declared files processes f))) is
+  filter_refused (Some refusal) is =
+      before_filter ∙ ap (λ r. then_read r (λ f. Ok (world_made top declared files processes f))) is

@@ -19,9 +19,6 @@ use Rattle.model_text.specs.WorldText.{Reads, Bad, Exceeds, read_text, text_as, 
 use Rattle.model_text.specs.Written.{DeclaredNamesKeep, KeepsNames}
 
 module _ (r : Result code.World WorldError) (bytes : List ℕ) (answer : IsAnswer r (read_text bytes)) where
-  pub world_told : (w : code.World) → r ≡ Ok w → world_text bytes ≡ Reads (world_of w)
-  world_told w is = ap text_as (rw is at answer)
-
   pub bad_told : (t : Table) (row : ℕ) (why : WorldFault) → r ≡ Err (error.Bad t row why) → world_text bytes ≡ Bad t row why
   bad_told t row why is = ap text_as (rw is at answer)
 

@@ -1,4 +1,4 @@
-// The reader of a world once, on its happy path. The rows that are refused are cases of the whole program (cm_cases).
+// The reader of a world once, on its happy path. The rows that are refused are cases of the whole program (report_cases).
 use crate::{LogForm, read_world};
 use cm_base::SpaceId;
 use std::test::Fail;

@@ -47,8 +47,8 @@ fn reads_fail_at_their_turns(rt: HostRuntime) -> Result<(), Fail> {
 fn files_are_broken_from_a_place_on(rt: HostRuntime) -> Result<(), Fail> {
     let mut shelf = mem_shelf(&rt, rt.alloc(), &[])?;
     assert!(rt; shelf.widest() == 0);
-    shelf.fail_from("world", 4)?;
-    shelf.fail_from("world", 5)?;
+    shelf.fail_from(rt.alloc(), "world", 4)?;
+    shelf.fail_from(rt.alloc(), "world", 5)?;
     check_reads(
         &rt,
         &mut shelf,

@@ -1,9 +1,9 @@
 -- Among processes by ascending pid, each is the one that its pid finds.
-use Rattle.std.proofs.Common.{◌≡◌, ℕ, suc, ◌<◌, ◌≤◌, ◌==◌, Bool, true, false, cond, List, [], ◌∷◌, Option, Some, None, refl, sym, ◌∙◌, arith, All}
-use Rattle.std.proofs.lemmas.Bool.{cond-true, cond-false, eq-eqb, ne_eqb}
+use Rattle.std.proofs.Common.{◌≡◌, ℕ, suc, ◌<◌, ◌≤◌, ◌==◌, false, List, [], ◌∷◌, Some, refl, arith, All}
+use Rattle.std.proofs.lemmas.Bool.{cond-true, eq-eqb}
 use Rattle.std.proofs.lemmas.List.Elements.{All-nil, All-cons, All-weaker}
 use Rattle.model_cred.proofs.Lookups.{alive_cons}
-use Rattle.model_cred.proofs.Orders.{AscendsFrom, ascends_forth, ascends_back}
+use Rattle.model_cred.proofs.Orders.{AscendsFrom, ascends_forth}
 use Rattle.model_cred.specs.Process.{Process, Ascends, process_at, is_alive}
 
 -- a pid below all of them is not alive

@@ -1,6 +1,6 @@
 -- Worked cases, by computation, of answers to audits: from the words and the bytes of the files, and a verdict, to the text;
 -- and what is found in the state after a log.
-use Rattle.std.proofs.Common.{◌≡◌, ℕ, true, List, [], ◌∷◌, ◌++◌, length, map, Option, Some, None, refl, ap, cond, nat_lt}
+use Rattle.std.proofs.Common.{◌≡◌, ℕ, true, List, [], ◌∷◌, ◌++◌, length, map, Option, Some, None, ap, cond, nat_lt}
 use Rattle.std.specs.Prelude.{codes}
 use Rattle.cm_base.specs.declared.limited.Limited.TheVariants as limit
 use Rattle.cm_base.specs.declared.res.Res.TheVariants.{Done}
@@ -39,12 +39,6 @@ use Rattle.model_verdict.specs.Blame.{AtStart, ByTurn}
 use Rattle.model_verdict.specs.InWorld.{each_may}
 
 -- ---- words
-pub each_rule_has_its_name : map rule_name rules_in_order
-    ≡ codes "setuid" ∷ codes "setfsuid" ∷ codes "setgid" ∷ codes "setfsgid" ∷ codes "setgroups" ∷ codes "capset"
-    ∷ codes "securebits" ∷ codes "exec_uid" ∷ codes "exec_gid" ∷ codes "exec_caps" ∷ codes "exec_root" ∷ codes "create"
-    ∷ codes "join" ∷ codes "maps" ∷ []
-each_rule_has_its_name = refl
-
 -- three spaces: the initial one, one that is declared as `box`, and one that a call made
 abbrev three : Spaces
 three = new_space 0 1000 ∷ new_space 0 1000 ∷ first_spaces
@@ -53,21 +47,24 @@ three = new_space 0 1000 ∷ new_space 0 1000 ∷ first_spaces
 abbrev told : Option Row → List ℕ
 told row = row_text (codes "box" ∷ []) three row
 
-pub rows_are_told_by_their_spaces : map told
-    (Some (Standing 0) ∷ Some (Fresh 0) ∷ Some (Standing 1) ∷ Some (Fresh 1) ∷ Some (Standing 2) ∷ Some (Fresh 2) ∷ [])
-    ≡ codes "init" ∷ codes "fresh(init)" ∷ codes "box" ∷ codes "fresh(box)" ∷ codes "#2" ∷ codes "fresh(#2)" ∷ []
+pub told_words : record {
+  each_rule_has_its_name : map rule_name rules_in_order
+      ≡ codes "setuid" ∷ codes "setfsuid" ∷ codes "setgid" ∷ codes "setfsgid" ∷ codes "setgroups" ∷ codes "capset"
+      ∷ codes "securebits" ∷ codes "exec_uid" ∷ codes "exec_gid" ∷ codes "exec_caps" ∷ codes "exec_root"
+      ∷ codes "create" ∷ codes "join" ∷ codes "maps" ∷ [];
+  rows_are_told_by_their_spaces : map told
+      (Some (Standing 0) ∷ Some (Fresh 0) ∷ Some (Standing 1) ∷ Some (Fresh 1) ∷ Some (Standing 2)
+      ∷ Some (Fresh 2) ∷ [])
+      ≡ codes "init" ∷ codes "fresh(init)" ∷ codes "box" ∷ codes "fresh(box)" ∷ codes "#2" ∷ codes "fresh(#2)" ∷ [];
+  no_row_is_told_so : map told (None ∷ Some (Standing 3) ∷ Some (Fresh 3) ∷ [])
+      ≡ codes "document" ∷ codes "document" ∷ codes "document" ∷ [];
+  what_is_blamed_is_told : map (undecided_text (codes "box" ∷ []) three)
+      (AtStart (Standing 1) ∷ ByTurn (record { rule = ExecUid; row = Standing 0 })
+      ∷ ByTurn (record { rule = Maps; row = Fresh 2 }) ∷ [])
+      ≡ codes "undecided start box" ∷ codes "undecided exec_uid init" ∷ codes "undecided maps fresh(#2)" ∷ [];
+}
 unfolding print_on_literals
-rows_are_told_by_their_spaces = refl
-
-pub no_row_is_told_so : map told (None ∷ Some (Standing 3) ∷ Some (Fresh 3) ∷ [])
-    ≡ codes "document" ∷ codes "document" ∷ codes "document" ∷ []
-no_row_is_told_so = refl
-
-pub what_is_blamed_is_told : map (undecided_text (codes "box" ∷ []) three)
-    (AtStart (Standing 1) ∷ ByTurn (record { rule = ExecUid; row = Standing 0 }) ∷ ByTurn (record { rule = Maps; row = Fresh 2 }) ∷ [])
-    ≡ codes "undecided start box" ∷ codes "undecided exec_uid init" ∷ codes "undecided maps fresh(#2)" ∷ []
-unfolding print_on_literals
-what_is_blamed_is_told = refl
+told_words = search
 
 -- ---- verdicts
 -- a call of process 100 that is done
@@ -89,43 +86,6 @@ abbrev stepped_down : List (List ℕ)
 stepped_down =
     root_line ∷ codes "1: 100 setresuid -1 1000 -1 = 0"
     ∷ of_100 (ids_of (codes "0,1000,0,1000")) (sets_of no_caps all no_caps all no_caps no_flags) ∷ codes "end 1" ∷ []
-
-pub root_that_stepped_down_takes_each_user_id : RowAudits [] steps_down (codes "uid:7") (TellsNo raises_and_becomes_7) status.No
-    (stepped_down ++ codes "no 2" ∷ codes "100 capset 000001ffffffffff 000001ffffffffff 0000000000000000 = 0"
-    ∷ codes "100 setresuid -1 7 -1 = 0" ∷ codes "holder 100" ∷ [])
-unfolding print_on_literals world_on_literals
-root_that_stepped_down_takes_each_user_id = record { status = refl; text = refl }
-
-pub its_capabilities_come_back : RowAudits [] steps_down (codes "cap:CAP_SYS_ADMIN@init") (TellsNo raises) status.No
-    (stepped_down ++ codes "no 1" ∷ codes "100 capset 000001ffffffffff 000001ffffffffff 0000000000000000 = 0"
-    ∷ codes "holder 100" ∷ [])
-unfolding print_on_literals world_on_literals
-its_capabilities_come_back = record { status = refl; text = refl }
-
--- that is what is found in the state after the log
-abbrev found_after : List ℕ → Right → Option Found
-found_after log right =
-    let w : World = world_of_100 0 in
-    let s : State = state_after w w.start (events_of (script_reading w log).events) in
-    first_found (each_may w) w s (family s 100) right
-
-pub the_run_to_user_id_7_is_found : found_after steps_down (Uid 7) ≡ Some raises_and_becomes_7
-unfolding first_found
-the_run_to_user_id_7_is_found = refl
-
-pub the_run_to_all_capabilities_is_found : found_after steps_down (Cap 21 0) ≡ Some raises
-unfolding first_found
-the_run_to_all_capabilities_is_found = refl
-
--- who holds the right already needs no call
-pub a_right_that_is_held : RowAudits [] [] (codes "uid:0") (TellsNo (record { run = []; holder = 100 })) status.No
-    (root_line ∷ codes "end 0" ∷ codes "no 0" ∷ codes "holder 100" ∷ [])
-unfolding print_on_literals world_on_literals
-a_right_that_is_held = record { status = refl; text = refl }
-
-pub it_is_found : found_after [] (Uid 0) ≡ Some (record { run = []; holder = 100 })
-unfolding first_found
-it_is_found = refl
 
 -- a process whose ids are all 1000, without groups, capabilities and with no_new_privs, in the initial space: what it has, and
 -- what that space maps, row by row
@@ -157,60 +117,69 @@ plain_rows =
 abbrev pub plain_certificate : List ℕ
 plain_certificate = certificate_text plain_rows
 
-pub bounds_that_exclude_the_right : RowAudits (codes "uid = 1000\n") (codes "100 setresuid 0 0 0 = EPERM\n") (codes "uid:0") (TellsYes plain_rows)
-    status.Accepted
-    (user_line ∷ codes "1: 100 setresuid 0 0 0 = EPERM" ∷ user_line ∷ codes "end 1" ∷ codes "yes" ∷ plain_certificate ∷ [])
-unfolding print_on_literals world_on_literals
-bounds_that_exclude_the_right = record { status = refl; text = refl }
+-- what is found in the state after a log
+abbrev found_after : List ℕ → Right → Option Found
+found_after log right =
+    let w : World = world_of_100 0 in
+    let s : State = state_after w w.start (events_of (script_reading w log).events) in
+    first_found (each_may w) w s (family s 100) right
 
-pub a_right_in_the_gap : RowAudits (codes "uid = 1000\n") [] (codes "uid:0")
-    (TellsUndecided (ByTurn (record { rule = ExecUid; row = Standing 0 })) plain_rows) status.Undecided
-    (user_line ∷ codes "end 0" ∷ codes "undecided exec_uid init" ∷ plain_certificate ∷ [])
+pub verdicts : record {
+  root_that_stepped_down_takes_each_user_id : RowAudits [] steps_down (codes "uid:7") (TellsNo raises_and_becomes_7)
+      status.No
+      (stepped_down ++ codes "no 2" ∷ codes "100 capset 000001ffffffffff 000001ffffffffff 0000000000000000 = 0"
+      ∷ codes "100 setresuid -1 7 -1 = 0" ∷ codes "holder 100" ∷ []);
+  its_capabilities_come_back : RowAudits [] steps_down (codes "cap:CAP_SYS_ADMIN@init") (TellsNo raises) status.No
+      (stepped_down ++ codes "no 1" ∷ codes "100 capset 000001ffffffffff 000001ffffffffff 0000000000000000 = 0"
+      ∷ codes "holder 100" ∷ []);
+  -- who holds the right already needs no call
+  a_right_that_is_held : RowAudits [] [] (codes "uid:0") (TellsNo (record { run = []; holder = 100 })) status.No
+      (root_line ∷ codes "end 0" ∷ codes "no 0" ∷ codes "holder 100" ∷ []);
+  bounds_that_exclude_the_right : RowAudits (codes "uid = 1000\n") (codes "100 setresuid 0 0 0 = EPERM\n")
+      (codes "uid:0") (TellsYes plain_rows) status.Accepted
+      (user_line ∷ codes "1: 100 setresuid 0 0 0 = EPERM" ∷ user_line ∷ codes "end 1" ∷ codes "yes"
+      ∷ plain_certificate ∷ []);
+  a_right_in_the_gap : RowAudits (codes "uid = 1000\n") [] (codes "uid:0")
+      (TellsUndecided (ByTurn (record { rule = ExecUid; row = Standing 0 })) plain_rows) status.Undecided
+      (user_line ∷ codes "end 0" ∷ codes "undecided exec_uid init" ∷ plain_certificate ∷ []);
+}
 unfolding print_on_literals world_on_literals
-a_right_in_the_gap = record { status = refl; text = refl }
+verdicts = search
+
+pub found_runs : record {
+  -- the runs are those that are found in the state after the log
+  the_run_to_user_id_7_is_found : found_after steps_down (Uid 7) ≡ Some raises_and_becomes_7;
+  the_run_to_all_capabilities_is_found : found_after steps_down (Cap 21 0) ≡ Some raises;
+  it_is_found : found_after [] (Uid 0) ≡ Some (record { run = []; holder = 100 });
+}
+unfolding first_found
+found_runs = search
 
 -- ---- queries that are refused, whatever the verdict
 -- an audit of root's process
 abbrev AuditsRoot : List ℕ → List ℕ → List ℕ → Told → Status → List (List ℕ) → Type 0
 AuditsRoot log pid right x st lines = Says (report (audit_words pid right) (files (of_row []) log) (judged x)) st lines
 
-pub pid_of_no_process : (x : Told) → AuditsRoot [] (codes "101") (codes "uid:0") x status.BadQuery
-    (root_line ∷ codes "end 0" ∷ codes "bad query: pid" ∷ [])
+pub refused_queries : record {
+  pid_of_no_process : (x : Told) → AuditsRoot [] (codes "101") (codes "uid:0") x status.BadQuery
+      (root_line ∷ codes "end 0" ∷ codes "bad query: pid" ∷ []);
+  pid_of_one_that_exited : (x : Told) → AuditsRoot (codes "100 exit = 0\n") (codes "100") (codes "uid:0") x
+      status.BadQuery (root_line ∷ codes "1: 100 exit = 0" ∷ codes "end 1" ∷ codes "bad query: pid" ∷ []);
+  the_pid_is_looked_at_first : (x : Told) → AuditsRoot [] (codes "101") (codes "uid:x") x status.BadQuery
+      (root_line ∷ codes "end 0" ∷ codes "bad query: pid" ∷ []);
+  text_of_no_right : (x : Told) → AuditsRoot [] (codes "100") (codes "uid:x") x status.BadQuery
+      (root_line ∷ codes "end 0" ∷ codes "bad query: right" ∷ []);
+  -- a name that no space has makes the text no right
+  capability_over_no_name : (x : Told) → AuditsRoot [] (codes "100") (codes "cap:CAP_KILL@child") x status.BadQuery
+      (root_line ∷ codes "end 0" ∷ codes "bad query: right" ∷ []);
+  -- a number that none has names a space that doesn't stand
+  capability_over_no_space : (x : Told) → AuditsRoot [] (codes "100") (codes "cap:CAP_KILL@#5") x status.BadQuery
+      (root_line ∷ codes "end 0" ∷ codes "bad query: space" ∷ []);
+  a_log_that_is_not_accepted_comes_first : (x : Told) → AuditsRoot (codes "100 setuid 0 = EPERM\n") (codes "101")
+      (codes "uid:x") x status.Impossible (root_line ∷ codes "impossible line 1: the rules give 0" ∷ []);
+}
 unfolding print_on_literals world_on_literals
-pid_of_no_process x = record { status = refl; text = refl }
-
-pub pid_of_one_that_exited : (x : Told) → AuditsRoot (codes "100 exit = 0\n") (codes "100") (codes "uid:0") x status.BadQuery
-    (root_line ∷ codes "1: 100 exit = 0" ∷ codes "end 1" ∷ codes "bad query: pid" ∷ [])
-unfolding print_on_literals world_on_literals
-pid_of_one_that_exited x = record { status = refl; text = refl }
-
-pub the_pid_is_looked_at_first : (x : Told) → AuditsRoot [] (codes "101") (codes "uid:x") x status.BadQuery
-    (root_line ∷ codes "end 0" ∷ codes "bad query: pid" ∷ [])
-unfolding print_on_literals world_on_literals
-the_pid_is_looked_at_first x = record { status = refl; text = refl }
-
-pub text_of_no_right : (x : Told) → AuditsRoot [] (codes "100") (codes "uid:x") x status.BadQuery
-    (root_line ∷ codes "end 0" ∷ codes "bad query: right" ∷ [])
-unfolding print_on_literals world_on_literals
-text_of_no_right x = record { status = refl; text = refl }
-
--- a name that no space has makes the text no right
-pub capability_over_no_name : (x : Told) → AuditsRoot [] (codes "100") (codes "cap:CAP_KILL@child") x status.BadQuery
-    (root_line ∷ codes "end 0" ∷ codes "bad query: right" ∷ [])
-unfolding print_on_literals world_on_literals
-capability_over_no_name x = record { status = refl; text = refl }
-
--- a number that none has names a space that doesn't stand
-pub capability_over_no_space : (x : Told) → AuditsRoot [] (codes "100") (codes "cap:CAP_KILL@#5") x status.BadQuery
-    (root_line ∷ codes "end 0" ∷ codes "bad query: space" ∷ [])
-unfolding print_on_literals world_on_literals
-capability_over_no_space x = record { status = refl; text = refl }
-
-pub a_log_that_is_not_accepted_comes_first : (x : Told) → AuditsRoot (codes "100 setuid 0 = EPERM\n") (codes "101") (codes "uid:x") x
-    status.Impossible
-    (root_line ∷ codes "impossible line 1: the rules give 0" ∷ [])
-unfolding print_on_literals world_on_literals
-a_log_that_is_not_accepted_comes_first x = record { status = refl; text = refl }
+refused_queries = search
 
 -- a family of so many members is asked about, and not one of a member more
 by_size : (size : ℕ) (rest : Report) (n : ℕ) → size ≡ n

@@ -66,55 +66,44 @@ Confirms100 log right run st lines = Says (report (confirm_words right) (with_ru
 abbrev steps_down : List ℕ
 steps_down = codes "100 setresuid -1 1000 -1 = 0\n"
 
-pub a_run_that_ends_with_the_right : Confirms100 steps_down (codes "cap:CAP_SYS_ADMIN@init")
-    (codes "100 capset 000001ffffffffff 000001ffffffffff 0000000000000000 = 0\n") status.Accepted (codes "confirmed 100" ∷ [])
+pub checked_runs : record {
+  a_run_that_ends_with_the_right : Confirms100 steps_down (codes "cap:CAP_SYS_ADMIN@init")
+      (codes "100 capset 000001ffffffffff 000001ffffffffff 0000000000000000 = 0\n") status.Accepted
+      (codes "confirmed 100" ∷ []);
+  a_run_that_ends_without : Confirms100 steps_down (codes "cap:CAP_SYS_ADMIN@init") [] status.Refused
+      (codes "refused end" ∷ []);
+  -- lines are counted with those that tell no event
+  a_call_of_no_member : Confirms100 steps_down (codes "cap:CAP_SYS_ADMIN@init")
+      (codes "; a comment\n\n101 setuid 0 = 0\n") status.Refused (codes "refused line 3" ∷ []);
+  a_call_that_is_no_step : Confirms100 [] (codes "uid:7") (codes "100 setuid 7 = EPERM\n") status.Refused
+      (codes "refused line 1" ∷ []);
+  a_line_of_a_run_with_a_fault : Confirms100 [] (codes "uid:7") (codes "100 setuid 7 = 0\n100 setuid\n") status.Refused
+      (codes "refused line 2" ∷ []);
+  -- a log that isn't accepted leaves its one line, and a bad query comes before the run
+  a_log_that_is_impossible : Confirms100 (codes "100 setuid 0 = 0\n100 setuid 0 = EPERM\n") (codes "uid:7") []
+      status.Impossible (codes "impossible line 2: the rules give 0" ∷ []);
+  a_right_that_is_none : Confirms100 [] (codes "uid:x") (codes "100 setuid\n") status.BadQuery
+      (codes "bad query: right" ∷ []);
+  -- what a run comes to is told so
+  what_runs_come_to : map (λ x. (confirmed_report x).status)
+      (Confirms 7 ∷ RefusesLine 3 ∷ RefusesEnd ∷ PastLimit limit.Spaces ∷ [])
+      ≡ status.Accepted ∷ status.Refused ∷ status.Refused ∷ status.Limit ∷ [];
+}
 unfolding print_on_literals world_on_literals
-a_run_that_ends_with_the_right = record { status = refl; text = refl }
-
-pub a_run_that_ends_without : Confirms100 steps_down (codes "cap:CAP_SYS_ADMIN@init") [] status.Refused (codes "refused end" ∷ [])
-unfolding print_on_literals world_on_literals
-a_run_that_ends_without = record { status = refl; text = refl }
-
--- lines are counted with those that tell no event
-pub a_call_of_no_member : Confirms100 steps_down (codes "cap:CAP_SYS_ADMIN@init") (codes "; a comment\n\n101 setuid 0 = 0\n") status.Refused
-    (codes "refused line 3" ∷ [])
-unfolding print_on_literals world_on_literals
-a_call_of_no_member = record { status = refl; text = refl }
-
-pub a_call_that_is_no_step : Confirms100 [] (codes "uid:7") (codes "100 setuid 7 = EPERM\n") status.Refused (codes "refused line 1" ∷ [])
-unfolding print_on_literals world_on_literals
-a_call_that_is_no_step = record { status = refl; text = refl }
-
-pub a_line_of_a_run_with_a_fault : Confirms100 [] (codes "uid:7") (codes "100 setuid 7 = 0\n100 setuid\n") status.Refused (codes "refused line 2" ∷ [])
-unfolding print_on_literals world_on_literals
-a_line_of_a_run_with_a_fault = record { status = refl; text = refl }
-
--- a log that isn't accepted leaves its one line, and a bad query comes before the run
-pub a_log_that_is_impossible : Confirms100 (codes "100 setuid 0 = 0\n100 setuid 0 = EPERM\n") (codes "uid:7") [] status.Impossible
-    (codes "impossible line 2: the rules give 0" ∷ [])
-unfolding print_on_literals world_on_literals
-a_log_that_is_impossible = record { status = refl; text = refl }
-
-pub a_right_that_is_none : Confirms100 [] (codes "uid:x") (codes "100 setuid\n") status.BadQuery (codes "bad query: right" ∷ [])
-unfolding print_on_literals world_on_literals
-a_right_that_is_none = record { status = refl; text = refl }
-
--- what a run comes to is told so
-pub what_runs_come_to : map (λ x. (confirmed_report x).status) (Confirms 7 ∷ RefusesLine 3 ∷ RefusesEnd ∷ PastLimit limit.Spaces ∷ [])
-    ≡ status.Accepted ∷ status.Refused ∷ status.Refused ∷ status.Limit ∷ []
-what_runs_come_to = refl
+checked_runs = search
 
 -- ---- the drill
--- with no event, root's process holds the right
-pub a_drill_of_nothing : Says (report (codes "drill" ∷ codes "0" ∷ []) (files [] []) (judged (TellsNo (record { run = []; holder = 1 }))))
-    status.Accepted
-    (codes "events 0" ∷ codes "refused 0" ∷ codes "live 1" ∷ codes "spaces 1" ∷ codes "verdict no" ∷ [])
+pub drills : record {
+  -- with no event, root's process holds the right
+  a_drill_of_nothing : Says
+      (report (codes "drill" ∷ codes "0" ∷ []) (files [] []) (judged (TellsNo (record { run = []; holder = 1 }))))
+      status.Accepted
+      (codes "events 0" ∷ codes "refused 0" ∷ codes "live 1" ∷ codes "spaces 1" ∷ codes "verdict no" ∷ []);
+  -- of its first seven events three are refused
+  a_drill_of_seven : Says
+      (report (codes "drill" ∷ codes "7" ∷ []) (files [] []) (judged (TellsNo (record { run = []; holder = 1 }))))
+      status.Accepted
+      (codes "events 7" ∷ codes "refused 3" ∷ codes "live 1" ∷ codes "spaces 1" ∷ codes "verdict no" ∷ []);
+}
 unfolding print_on_literals drill_on_literals
-a_drill_of_nothing = record { status = refl; text = refl }
-
--- of its first seven events three are refused
-pub a_drill_of_seven : Says (report (codes "drill" ∷ codes "7" ∷ []) (files [] []) (judged (TellsNo (record { run = []; holder = 1 }))))
-    status.Accepted
-    (codes "events 7" ∷ codes "refused 3" ∷ codes "live 1" ∷ codes "spaces 1" ∷ codes "verdict no" ∷ [])
-unfolding print_on_literals drill_on_literals
-a_drill_of_seven = record { status = refl; text = refl }
+drills = search

@@ -57,13 +57,12 @@ abbrev nested : ℕ → List ℕ
 nested zero = []
 nested (suc n) = nested n ++ space (name_of (suc n)) (name_of n) []
 
-pub a_space_too_deep : TextReplays (with (nested 33)) [] status.BadWorld (codes "bad world space 33: TooDeep" ∷ [])
+pub deepest_spaces : record {
+  a_space_too_deep : TextReplays (with (nested 33)) [] status.BadWorld (codes "bad world space 33: TooDeep" ∷ []);
+  the_deepest_space : TextReplays (with (nested 32)) [] status.Accepted (codes "end 0" ∷ []);
+}
 unfolding print_on_literals world_on_literals
-a_space_too_deep = record { status = refl; text = refl }
-
-pub the_deepest_space : TextReplays (with (nested 32)) [] status.Accepted (codes "end 0" ∷ [])
-unfolding print_on_literals world_on_literals
-the_deepest_space = record { status = refl; text = refl }
+deepest_spaces = search
 
 -- a space with this map of user ids
 abbrev mapped : List ℕ → List ℕ
@@ -116,56 +115,47 @@ faults_of_files = record { statuses = refl; texts = refl }
 abbrev process : List ℕ → List ℕ
 process rest = codes "[[process]]\npid = 100\n" ++ rest
 
-pub faults_of_processes : AreBadWorlds
-    (with (codes "process = [{pid = 1}, 1]\n") ∷ with (codes "[[process]]\npid = 0\n") ∷ with (process (codes "uid = [0, 0, 0]\n"))
-    ∷ with (process [] ++ process []) ∷ with (process (codes "parent = 7\n")) ∷ with (process (codes "space = \"a\"\n"))
-    ∷ with (process (codes "permitted = \"CAP_X\"\n")) ∷ with (process (codes "uid = 1000\neffective = \"CAP_KILL\"\n"))
-    ∷ with (process (codes "ambient = \"CAP_KILL\"\n")) ∷ [])
-    (codes "process 2: WrongType" ∷ codes "process 1: BadNumber" ∷ codes "process 1: WrongType"
-    ∷ codes "process 2: TwiceNamed"
-    ∷ codes "process 1: NoSuchParent" ∷ codes "process 1: NoSuchSpace" ∷ codes "process 1: BadCaps"
-    ∷ codes "process 1: NotIncluded" ∷ codes "process 1: NotIncluded" ∷ [])
+pub later_faults : record {
+  faults_of_processes : AreBadWorlds (with (codes "process = [{pid = 1}, 1]\n") ∷ with (codes "[[process]]\npid = 0\n")
+      ∷ with (process (codes "uid = [0, 0, 0]\n")) ∷ with (process [] ++ process [])
+      ∷ with (process (codes "parent = 7\n")) ∷ with (process (codes "space = \"a\"\n"))
+      ∷ with (process (codes "permitted = \"CAP_X\"\n"))
+      ∷ with (process (codes "uid = 1000\neffective = \"CAP_KILL\"\n"))
+      ∷ with (process (codes "ambient = \"CAP_KILL\"\n")) ∷ [])
+      (codes "process 2: WrongType" ∷ codes "process 1: BadNumber" ∷ codes "process 1: WrongType"
+      ∷ codes "process 2: TwiceNamed" ∷ codes "process 1: NoSuchParent" ∷ codes "process 1: NoSuchSpace"
+      ∷ codes "process 1: BadCaps" ∷ codes "process 1: NotIncluded" ∷ codes "process 1: NotIncluded" ∷ []);
+  faults_of_the_filter : AreBadWorlds
+      (with (codes "[filter]\nexclude = [\"setuid\", \"getuid\"]\n") ∷ with (codes "[filter]\nexclude = [1]\n")
+      ∷ with (codes "[filter]\nonly = []\n") ∷ [])
+      (codes "filter 0: NoSuchCall" ∷ codes "filter 0: WrongType" ∷ codes "filter 0: UnknownKey" ∷ []);
+  -- each of these rows has two faults: the one that comes first in the order of faults is told
+  two_faults_of_one_row : AreBadWorlds (with (codes "[[process]]\nx = 1\n") ∷ with (codes "[[process]]\nuid = true\n")
+      ∷ with (process (codes "securebits = 256\ngid = \"0\"\n"))
+      ∷ with (process (codes "securebits = 256\npermitted = \"CAP_X\"\n"))
+      ∷ with (process [] ++ process (codes "parent = 7\n")) ∷ with (process (codes "parent = 7\nspace = \"a\"\n"))
+      ∷ with (process (codes "space = \"a\"\nbounding = \"\"\n")) ∷ with (one_space ++ space (codes "a") (codes "c") [])
+      ∷ with (one_space ++ space (codes "b") (codes "a") (codes "uid_map = [[0, 0, 1]]\ngid_map = []\n"))
+      ∷ with (file (codes "/a") (codes "x") (codes "mount = \"m\"\n"))
+      ∷ with (file (codes "/a") (codes "x") (codes "caps = \"x\"\n")) ∷ [])
+      (codes "process 1: UnknownKey" ∷ codes "process 1: MissingKey" ∷ codes "process 1: WrongType"
+      ∷ codes "process 1: BadNumber" ∷ codes "process 2: TwiceNamed" ∷ codes "process 1: NoSuchParent"
+      ∷ codes "process 1: NoSuchSpace" ∷ codes "space 2: TwiceNamed" ∷ codes "space 2: BadMap"
+      ∷ codes "file 1: NoSuchMount" ∷ codes "file 1: BadMode" ∷ []);
+  -- an earlier row comes before a later one, and a table before those after it, whatever their faults and their places
+  two_faults_of_two_rows : AreBadWorlds
+      (with (process (codes "ambient = \"CAP_KILL\"\n") ++ codes "[[process]]\nx = 1\n")
+      ∷ with (codes "[filter]\nx = 1\n" ++ process (codes "ambient = \"CAP_KILL\"\n"))
+      ∷ with (process (codes "x = 1\n") ++ file (codes "/a") (codes "x") [])
+      ∷ with (file (codes "/a") (codes "x") [] ++ codes "[[mount]]\nname = \"m\"\n[[mount]]\nname = \"m\"\n")
+      ∷ with (codes "[[mount]]\n" ++ one_space ++ one_space) ∷ codes "log = 1\n[[space]]\n" ∷ [])
+      (codes "process 1: NotIncluded" ∷ codes "process 1: NotIncluded" ∷ codes "file 1: BadMode"
+      ∷ codes "mount 2: TwiceNamed" ∷ codes "space 2: TwiceNamed" ∷ codes "whole 0: WrongType" ∷ []);
+  a_world_is_told_before_its_log : TextReplays (with (process (codes "parent = 7\n"))) (codes "x\n") status.BadWorld
+      (codes "bad world process 1: NoSuchParent" ∷ []);
+}
 unfolding print_on_literals world_on_literals
-faults_of_processes = record { statuses = refl; texts = refl }
-
-pub faults_of_the_filter : AreBadWorlds
-    (with (codes "[filter]\nexclude = [\"setuid\", \"getuid\"]\n") ∷ with (codes "[filter]\nexclude = [1]\n") ∷ with (codes "[filter]\nonly = []\n") ∷ [])
-    (codes "filter 0: NoSuchCall" ∷ codes "filter 0: WrongType" ∷ codes "filter 0: UnknownKey" ∷ [])
-unfolding print_on_literals world_on_literals
-faults_of_the_filter = record { statuses = refl; texts = refl }
-
--- each of these rows has two faults: the one that comes first in the order of faults is told
-pub two_faults_of_one_row : AreBadWorlds
-    (with (codes "[[process]]\nx = 1\n") ∷ with (codes "[[process]]\nuid = true\n") ∷ with (process (codes "securebits = 256\ngid = \"0\"\n"))
-    ∷ with (process (codes "securebits = 256\npermitted = \"CAP_X\"\n")) ∷ with (process [] ++ process (codes "parent = 7\n"))
-    ∷ with (process (codes "parent = 7\nspace = \"a\"\n")) ∷ with (process (codes "space = \"a\"\nbounding = \"\"\n"))
-    ∷ with (one_space ++ space (codes "a") (codes "c") [])
-    ∷ with (one_space ++ space (codes "b") (codes "a") (codes "uid_map = [[0, 0, 1]]\ngid_map = []\n"))
-    ∷ with (file (codes "/a") (codes "x") (codes "mount = \"m\"\n")) ∷ with (file (codes "/a") (codes "x") (codes "caps = \"x\"\n")) ∷ [])
-    (codes "process 1: UnknownKey" ∷ codes "process 1: MissingKey" ∷ codes "process 1: WrongType"
-    ∷ codes "process 1: BadNumber"
-    ∷ codes "process 2: TwiceNamed" ∷ codes "process 1: NoSuchParent" ∷ codes "process 1: NoSuchSpace"
-    ∷ codes "space 2: TwiceNamed"
-    ∷ codes "space 2: BadMap" ∷ codes "file 1: NoSuchMount" ∷ codes "file 1: BadMode" ∷ [])
-unfolding print_on_literals world_on_literals
-two_faults_of_one_row = record { statuses = refl; texts = refl }
-
--- an earlier row comes before a later one, and a table before those after it, whatever their faults and their places
-pub two_faults_of_two_rows : AreBadWorlds
-    (with (process (codes "ambient = \"CAP_KILL\"\n") ++ codes "[[process]]\nx = 1\n")
-    ∷ with (codes "[filter]\nx = 1\n" ++ process (codes "ambient = \"CAP_KILL\"\n"))
-    ∷ with (process (codes "x = 1\n") ++ file (codes "/a") (codes "x") [])
-    ∷ with (file (codes "/a") (codes "x") [] ++ codes "[[mount]]\nname = \"m\"\n[[mount]]\nname = \"m\"\n")
-    ∷ with (codes "[[mount]]\n" ++ one_space ++ one_space) ∷ codes "log = 1\n[[space]]\n" ∷ [])
-    (codes "process 1: NotIncluded" ∷ codes "process 1: NotIncluded" ∷ codes "file 1: BadMode"
-    ∷ codes "mount 2: TwiceNamed" ∷ codes "space 2: TwiceNamed" ∷ codes "whole 0: WrongType" ∷ [])
-unfolding print_on_literals world_on_literals
-two_faults_of_two_rows = record { statuses = refl; texts = refl }
-
-pub a_world_is_told_before_its_log : TextReplays (with (process (codes "parent = 7\n"))) (codes "x\n") status.BadWorld
-    (codes "bad world process 1: NoSuchParent" ∷ [])
-unfolding print_on_literals world_on_literals
-a_world_is_told_before_its_log = record { status = refl; text = refl }
+later_faults = search
 
 -- ---- faults of lines
 -- each of these logs in the world of root is told by these words
@@ -174,56 +164,42 @@ AreBadLogs logs words =
     AllSay (map (replay_in (world_of_100 0)) logs) status.BadLog
     (map (λ word. root_line ∷ (codes "bad log line " ++ word) ∷ []) words)
 
-pub faults_of_lines : AreBadLogs
-    (codes "0 exit = 0\n" ∷ codes "100 getuid = 0\n" ∷ codes "100 setuid 1\n" ∷ codes "100 setresuid 1 2 = 0\n" ∷ codes "100 setuid 1 = 5\n" ∷ [])
-    (codes "1: pid" ∷ codes "1: call" ∷ codes "1: shape" ∷ codes "1: count" ∷ codes "1: result" ∷ [])
+pub faults_in_lines : record {
+  faults_of_lines : AreBadLogs (codes "0 exit = 0\n" ∷ codes "100 getuid = 0\n" ∷ codes "100 setuid 1\n"
+      ∷ codes "100 setresuid 1 2 = 0\n" ∷ codes "100 setuid 1 = 5\n" ∷ [])
+      (codes "1: pid" ∷ codes "1: call" ∷ codes "1: shape" ∷ codes "1: count" ∷ codes "1: result" ∷ []);
+  -- the first that isn't of its kind, by its number
+  faults_of_arguments : AreBadLogs (codes "100 setuid x = 0\n" ∷ codes "100 setresuid 1 2 4294967296 = 0\n"
+      ∷ codes "100 setgroups 1 2 3 x = 0\n" ∷ codes "100 setns pod = 0\n" ∷ codes "100 write_uid_map init 0 0 -1 = 0\n"
+      ∷ codes "100 write_setgroups init no = 0\n" ∷ codes "100 capset all CAP_X x = 0\n" ∷ [])
+      (codes "1: argument 1" ∷ codes "1: argument 3" ∷ codes "1: argument 4" ∷ codes "1: argument 1"
+      ∷ codes "1: argument 4" ∷ codes "1: argument 2" ∷ codes "1: argument 2" ∷ []);
+  -- blank lines and comments count as lines
+  results_by_their_calls : AreBadLogs (codes "100 setfsuid 1 = EPERM\n" ∷ codes "100 fork = 0\n"
+      ∷ codes "\n; x\n \t\n100 exit = EPERM\n" ∷ codes ";\n100 execve - = ENOSYS" ∷ [])
+      (codes "1: result" ∷ codes "1: result" ∷ codes "4: result" ∷ codes "2: result" ∷ []);
+  -- each of these lines has all the faults that come after the one that is told
+  faults_of_one_line : AreBadLogs (codes "x getuid x\n" ∷ codes "100 getuid x\n" ∷ codes "100 setreuid x\n"
+      ∷ codes "100 setreuid x = x\n" ∷ codes "100 setreuid x x = x\n" ∷ codes "100 setreuid 1 x = x\n"
+      ∷ codes "100 setreuid 1 1 = x\n" ∷ [])
+      (codes "1: pid" ∷ codes "1: call" ∷ codes "1: shape" ∷ codes "1: count" ∷ codes "1: argument 1"
+      ∷ codes "1: argument 2" ∷ codes "1: result" ∷ []);
+}
 unfolding print_on_literals
-faults_of_lines = record { statuses = refl; texts = refl }
-
--- the first that isn't of its kind, by its number
-pub faults_of_arguments : AreBadLogs
-    (codes "100 setuid x = 0\n" ∷ codes "100 setresuid 1 2 4294967296 = 0\n" ∷ codes "100 setgroups 1 2 3 x = 0\n" ∷ codes "100 setns pod = 0\n"
-    ∷ codes "100 write_uid_map init 0 0 -1 = 0\n" ∷ codes "100 write_setgroups init no = 0\n" ∷ codes "100 capset all CAP_X x = 0\n" ∷ [])
-    (codes "1: argument 1" ∷ codes "1: argument 3" ∷ codes "1: argument 4" ∷ codes "1: argument 1"
-    ∷ codes "1: argument 4" ∷ codes "1: argument 2" ∷ codes "1: argument 2" ∷ [])
-unfolding print_on_literals
-faults_of_arguments = record { statuses = refl; texts = refl }
-
--- blank lines and comments count as lines
-pub results_by_their_calls : AreBadLogs
-    (codes "100 setfsuid 1 = EPERM\n" ∷ codes "100 fork = 0\n" ∷ codes "\n; x\n \t\n100 exit = EPERM\n" ∷ codes ";\n100 execve - = ENOSYS" ∷ [])
-    (codes "1: result" ∷ codes "1: result" ∷ codes "4: result" ∷ codes "2: result" ∷ [])
-unfolding print_on_literals
-results_by_their_calls = record { statuses = refl; texts = refl }
-
--- each of these lines has all the faults that come after the one that is told
-pub faults_of_one_line : AreBadLogs
-    (codes "x getuid x\n" ∷ codes "100 getuid x\n" ∷ codes "100 setreuid x\n" ∷ codes "100 setreuid x = x\n" ∷ codes "100 setreuid x x = x\n"
-    ∷ codes "100 setreuid 1 x = x\n" ∷ codes "100 setreuid 1 1 = x\n" ∷ [])
-    (codes "1: pid" ∷ codes "1: call" ∷ codes "1: shape" ∷ codes "1: count" ∷ codes "1: argument 1"
-    ∷ codes "1: argument 2" ∷ codes "1: result" ∷ [])
-unfolding print_on_literals
-faults_of_one_line = record { statuses = refl; texts = refl }
+faults_in_lines = search
 
 -- ---- two lines
--- the earlier one is told, be it a fault or an event that is no step; what is possible before it is printed
-pub the_earlier_fault_is_told : Replays (world_of_100 0) (codes "100 setuid 0 = 0\n100 setuid x = 0\nx\n") status.BadLog
-    (root_line ∷ codes "1: 100 setuid 0 = 0" ∷ root_line ∷ codes "bad log line 2: argument 1" ∷ [])
+pub pairs_of_lines : record {
+  -- the earlier one is told, be it a fault or an event that is no step; what is possible before it is printed
+  the_earlier_fault_is_told : Replays (world_of_100 0) (codes "100 setuid 0 = 0\n100 setuid x = 0\nx\n") status.BadLog
+      (root_line ∷ codes "1: 100 setuid 0 = 0" ∷ root_line ∷ codes "bad log line 2: argument 1" ∷ []);
+  an_impossible_line_before_a_fault : Replays (world_of_100 0) (codes "100 setuid 0 = EPERM\nx\n") status.Impossible
+      (root_line ∷ codes "impossible line 1: the rules give 0" ∷ []);
+  a_fault_before_an_impossible_line : Replays (world_of_100 0) (codes "x\n100 setuid 0 = EPERM\n") status.BadLog
+      (root_line ∷ codes "bad log line 1: pid" ∷ []);
+  -- why an event is no step, in this order: no process, no space, a pid in use, another result
+  two_impossible_lines : Replays (world_of_100 0) (codes "101 setns #1 = 0\n100 setns #1 = EPERM\n") status.Impossible
+      (root_line ∷ codes "impossible line 1: no process" ∷ []);
+}
 unfolding print_on_literals
-the_earlier_fault_is_told = record { status = refl; text = refl }
-
-pub an_impossible_line_before_a_fault : Replays (world_of_100 0) (codes "100 setuid 0 = EPERM\nx\n") status.Impossible
-    (root_line ∷ codes "impossible line 1: the rules give 0" ∷ [])
-unfolding print_on_literals
-an_impossible_line_before_a_fault = record { status = refl; text = refl }
-
-pub a_fault_before_an_impossible_line : Replays (world_of_100 0) (codes "x\n100 setuid 0 = EPERM\n") status.BadLog
-    (root_line ∷ codes "bad log line 1: pid" ∷ [])
-unfolding print_on_literals
-a_fault_before_an_impossible_line = record { status = refl; text = refl }
-
--- why an event is no step, in this order: no process, no space, a pid in use, another result
-pub two_impossible_lines : Replays (world_of_100 0) (codes "101 setns #1 = 0\n100 setns #1 = EPERM\n") status.Impossible
-    (root_line ∷ codes "impossible line 1: no process" ∷ [])
-unfolding print_on_literals
-two_impossible_lines = record { status = refl; text = refl }
+pairs_of_lines = search

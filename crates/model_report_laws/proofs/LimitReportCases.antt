@@ -102,33 +102,25 @@ a_line_of_one_byte_more_is_not line one long =
     subst (λ (cut : Cut). Says (cut_replay NoTask cut) status.Limit (one_event ++ codes "limit line 1048576" ∷ []))
     (sym (with_line_cut line 1048577 one long 1048594 all)) (record { status = refl; text = refl })
 
--- so is that of a log's bytes; here by the line that comes, and that the next one is past the limit
-pub a_log_of_too_many_bytes : Says
-    (cut_replay NoTask (record { lines = codes "100 setuid 0 = 0" ∷ []; stop = Some Whole })) status.Limit
-    (one_event ++ codes "limit log 1099511627776" ∷ [])
+pub limits_of_logs : record {
+  -- so is that of a log's bytes; here by the line that comes, and that the next one is past the limit
+  a_log_of_too_many_bytes : Says
+      (cut_replay NoTask (record { lines = codes "100 setuid 0 = 0" ∷ []; stop = Some Whole })) status.Limit
+      (one_event ++ codes "limit log 1099511627776" ∷ []);
+  -- a line with a fault, and an event that is no step, come before a limit behind them
+  a_fault_before_the_limit : Says
+      (cut_replay NoTask (record { lines = codes "100 setuid 0 = 0" ∷ codes "x" ∷ []; stop = Some PastLine }))
+      status.BadLog (one_event ++ codes "bad log line 2: pid" ∷ []);
+  an_impossible_line_before_the_limit : Says
+      (cut_replay NoTask (record { lines = codes "100 setuid 0 = EPERM" ∷ []; stop = Some Whole })) status.Impossible
+      (root_line ∷ codes "impossible line 1: the rules give 0" ∷ []);
+  -- where the replay isn't shown, the limit alone is told, and not a word of the query
+  a_limit_of_a_log_that_is_not_shown : Says
+      (cut_replay (ToCheck (record { pid = codes "x"; right = codes "x" }) []) (record { lines = codes "100 setuid 0 = 0" ∷ []; stop = Some PastLine }))
+      status.Limit (codes "limit line 1048576" ∷ []);
+}
 unfolding print_on_literals
-a_log_of_too_many_bytes = record { status = refl; text = refl }
-
--- a line with a fault, and an event that is no step, come before a limit behind them
-pub a_fault_before_the_limit : Says
-    (cut_replay NoTask (record { lines = codes "100 setuid 0 = 0" ∷ codes "x" ∷ []; stop = Some PastLine })) status.BadLog
-    (one_event ++ codes "bad log line 2: pid" ∷ [])
-unfolding print_on_literals
-a_fault_before_the_limit = record { status = refl; text = refl }
-
-pub an_impossible_line_before_the_limit : Says
-    (cut_replay NoTask (record { lines = codes "100 setuid 0 = EPERM" ∷ []; stop = Some Whole })) status.Impossible
-    (root_line ∷ codes "impossible line 1: the rules give 0" ∷ [])
-unfolding print_on_literals
-an_impossible_line_before_the_limit = record { status = refl; text = refl }
-
--- where the replay isn't shown, the limit alone is told, and not a word of the query
-pub a_limit_of_a_log_that_is_not_shown : Says
-    (cut_replay (ToCheck (record { pid = codes "x"; right = codes "x" }) [])
-    (record { lines = codes "100 setuid 0 = 0" ∷ []; stop = Some PastLine })) status.Limit
-    (codes "limit line 1048576" ∷ [])
-unfolding print_on_literals
-a_limit_of_a_log_that_is_not_shown = record { status = refl; text = refl }
+limits_of_logs = search
 
 -- ---- rows of worlds
 -- so many times this text
@@ -140,18 +132,15 @@ times (suc n) text = text ++ times n text
 abbrev rows : ℕ → List ℕ → List ℕ
 rows n head = codes "log = \"script\"\n" ++ times n head
 
-pub mounts_as_many_as_the_limit : TextReplays (rows 63 (codes "[[mount]]\n")) [] status.BadWorld
-    (codes "bad world mount 1: MissingKey" ∷ [])
+pub counts_of_rows : record {
+  mounts_as_many_as_the_limit : TextReplays (rows 63 (codes "[[mount]]\n")) [] status.BadWorld
+      (codes "bad world mount 1: MissingKey" ∷ []);
+  one_mount_more : TextReplays (rows 64 (codes "[[mount]]\n")) [] status.Limit (codes "limit mounts 64" ∷ []);
+  spaces_more_than_the_limit : TextReplays (rows 256 (codes "[[space]]\n")) [] status.Limit
+      (codes "limit spaces 256" ∷ []);
+}
 unfolding print_on_literals world_on_literals
-mounts_as_many_as_the_limit = record { status = refl; text = refl }
-
-pub one_mount_more : TextReplays (rows 64 (codes "[[mount]]\n")) [] status.Limit (codes "limit mounts 64" ∷ [])
-unfolding print_on_literals world_on_literals
-one_mount_more = record { status = refl; text = refl }
-
-pub spaces_more_than_the_limit : TextReplays (rows 256 (codes "[[space]]\n")) [] status.Limit (codes "limit spaces 256" ∷ [])
-unfolding print_on_literals world_on_literals
-spaces_more_than_the_limit = record { status = refl; text = refl }
+counts_of_rows = search
 
 pub files_and_processes_more_than_the_limit : AllSay
     (map (λ key. by_world NoTask none_judged (text_as (table_world (with_rows key 4097))) []) (codes "file" ∷ codes "process" ∷ []))
@@ -160,16 +149,15 @@ pub files_and_processes_more_than_the_limit : AllSay
 unfolding print_on_literals
 files_and_processes_more_than_the_limit = record { statuses = refl; texts = refl }
 
--- an earlier table's fault comes before a later table's count, and the other way
-pub a_fault_before_a_limit : TextReplays (rows 64 (codes "[[mount]]\n") ++ codes "[[space]]\n") [] status.BadWorld
-    (codes "bad world space 1: MissingKey" ∷ [])
+pub order_of_tables : record {
+  -- an earlier table's fault comes before a later table's count, and the other way
+  a_fault_before_a_limit : TextReplays (rows 64 (codes "[[mount]]\n") ++ codes "[[space]]\n") [] status.BadWorld
+      (codes "bad world space 1: MissingKey" ∷ []);
+  a_limit_before_a_fault : TextReplays (rows 64 (codes "[[mount]]\n") ++ codes "[[process]]\n") [] status.Limit
+      (codes "limit mounts 64" ∷ []);
+}
 unfolding print_on_literals world_on_literals
-a_fault_before_a_limit = record { status = refl; text = refl }
-
-pub a_limit_before_a_fault : TextReplays (rows 64 (codes "[[mount]]\n") ++ codes "[[process]]\n") [] status.Limit
-    (codes "limit mounts 64" ∷ [])
-unfolding print_on_literals world_on_literals
-a_limit_before_a_fault = record { status = refl; text = refl }
+order_of_tables = search
 
 -- ---- groups
 -- a call with one group, so many times
@@ -202,21 +190,18 @@ beside (suc n) = new_space 0 1000 ∷ beside n
 abbrev user_beside : ℕ → World
 user_beside n = record (world_with []) { start = record { processes = process_100 1000 ∷ []; spaces = beside n } }
 
-pub the_last_space_is_made : Replays (user_beside 254) (codes "100 unshare = 0\n") status.Accepted
-    (user_line ∷ codes "1: 100 unshare = 0" ∷ line_of (codes "100") (codes "#255") user_ids all_sets ∷ codes "end 1" ∷ [])
+pub counts_of_spaces : record {
+  the_last_space_is_made : Replays (user_beside 254) (codes "100 unshare = 0\n") status.Accepted
+      (user_line ∷ codes "1: 100 unshare = 0" ∷ line_of (codes "100") (codes "#255") user_ids all_sets
+      ∷ codes "end 1" ∷ []);
+  one_space_more : Replays (user_beside 255) (codes "100 unshare = 0\n") status.Limit
+      (user_line ∷ codes "limit spaces 256" ∷ []);
+  -- an event that is no step is told and not the limit
+  no_step_comes_first : Replays (user_beside 255) (codes "100 unshare = EPERM\n") status.Impossible
+      (user_line ∷ codes "impossible line 1: the rules give 0" ∷ []);
+}
 unfolding print_on_literals
-the_last_space_is_made = record { status = refl; text = refl }
-
-pub one_space_more : Replays (user_beside 255) (codes "100 unshare = 0\n") status.Limit
-    (user_line ∷ codes "limit spaces 256" ∷ [])
-unfolding print_on_literals
-one_space_more = record { status = refl; text = refl }
-
--- an event that is no step is told and not the limit
-pub no_step_comes_first : Replays (user_beside 255) (codes "100 unshare = EPERM\n") status.Impossible
-    (user_line ∷ codes "impossible line 1: the rules give 0" ∷ [])
-unfolding print_on_literals
-no_step_comes_first = record { status = refl; text = refl }
+counts_of_spaces = search
 
 -- a step to a state with one process more than the limit isn't taken
 pub one_process_more : (w : World) (e : Placed) (rest : State → Report) (s : State) → length s.processes ≡ 4097

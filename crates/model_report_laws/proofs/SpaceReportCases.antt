@@ -22,107 +22,77 @@ abbrev root_in : List ℕ → List ℕ
 root_in space = line_of (codes "100") space (ids_of (codes "0,0,0,0")) all_sets
 
 -- ---- making spaces
-pub a_user_makes_a_space : RowReplays (codes "uid = 1000\n") (codes "100 unshare = 0\n") status.Accepted
-    (user_line ∷ codes "1: 100 unshare = 0" ∷ newcomer (codes "100") (codes "#1") ∷ codes "end 1" ∷ [])
+pub made_spaces : record {
+  a_user_makes_a_space : RowReplays (codes "uid = 1000\n") (codes "100 unshare = 0\n") status.Accepted
+      (user_line ∷ codes "1: 100 unshare = 0" ∷ newcomer (codes "100") (codes "#1") ∷ codes "end 1" ∷ []);
+  -- whatever it had; no_new_privs alone stays
+  who_comes_into_it_begins_anew : RowReplays
+      (codes "uid = 1000\npermitted = \"CAP_KILL\"\ninheritable = \"CAP_KILL\"\nambient = \"CAP_KILL\"\nbounding = \"none\"\n"
+      ++ codes "securebits = 47\nno_new_privs = true\n") (codes "100 unshare = 0\n") status.Accepted
+      (line_of (codes "100") (codes "init") user_ids (sets_of kill kill none none kill (codes "sec=2f nnp=1"))
+      ∷ codes "1: 100 unshare = 0"
+      ∷ line_of (codes "100") (codes "#1") user_ids (sets_of none all all all none (codes "sec=00 nnp=1"))
+      ∷ codes "end 1" ∷ []);
+  without_maps_none_is_made_below_it : RowReplays (codes "uid = 1000\n")
+      (codes "100 unshare = 0\n100 unshare = EPERM\n100 clone_user = EPERM\n") status.Accepted
+      (user_line ∷ codes "1: 100 unshare = 0" ∷ newcomer (codes "100") (codes "#1") ∷ codes "2: 100 unshare = EPERM"
+      ∷ newcomer (codes "100") (codes "#1") ∷ codes "3: 100 clone_user = EPERM" ∷ newcomer (codes "100") (codes "#1")
+      ∷ codes "end 3" ∷ []);
+  -- a call that failed made no space, so the number isn't taken
+  errors_from_outside_make_none : RowReplays (codes "uid = 1000\n")
+      (codes "100 unshare = EINVAL\n100 clone_user = EAGAIN\n100 unshare = 0\n") status.Accepted
+      (user_line ∷ codes "1: 100 unshare = EINVAL" ∷ user_line ∷ codes "2: 100 clone_user = EAGAIN" ∷ user_line
+      ∷ codes "3: 100 unshare = 0" ∷ newcomer (codes "100") (codes "#1") ∷ codes "end 3" ∷ []);
+  -- the caller stays where it is; the child has all capabilities in its space, and by its map the id 0 there, but no
+  -- other
+  a_child_in_a_space_of_its_own : RowReplays (codes "uid = 1000\n")
+      (codes "100 clone_user = 101\n100 write_uid_map #1 0 1000 1 = 0\n101 setuid 0 = 0\n101 setuid 5 = EINVAL\n")
+      status.Accepted
+      (user_line ∷ codes "1: 100 clone_user = 101" ∷ user_line ∷ newcomer (codes "101") (codes "#1")
+      ∷ codes "2: 100 write_uid_map #1 0 1000 1 = 0" ∷ user_line ∷ codes "3: 101 setuid 0 = 0"
+      ∷ newcomer (codes "101") (codes "#1") ∷ codes "4: 101 setuid 5 = EINVAL" ∷ newcomer (codes "101") (codes "#1")
+      ∷ codes "end 4" ∷ []);
+  its_pid_is_in_use : RowReplays (codes "uid = 1000\n") (codes "100 clone_user = 100\n") status.Impossible
+      (user_line ∷ codes "impossible line 1: pid in use" ∷ []);
+  -- the rules' own child has the least pid that isn't alive
+  its_birth_is_not_refused : RowReplays (codes "uid = 1000\n") (codes "100 clone_user = EPERM\n") status.Impossible
+      (user_line ∷ codes "impossible line 1: the rules give 1" ∷ []);
+  -- a space outlives who made it, and its owner may come to it
+  a_space_stays_after_an_exit : RowReplays (codes "uid = 1000\n")
+      (codes "100 clone_user = 101\n101 exit = 0\n100 setns #1 = 0\n") status.Accepted
+      (user_line ∷ codes "1: 100 clone_user = 101" ∷ user_line ∷ newcomer (codes "101") (codes "#1")
+      ∷ codes "2: 101 exit = 0" ∷ codes "3: 100 setns #1 = 0" ∷ newcomer (codes "100") (codes "#1")
+      ∷ codes "end 3" ∷ []);
+}
 unfolding print_on_literals world_on_literals
-a_user_makes_a_space = record { status = refl; text = refl }
-
--- whatever it had; no_new_privs alone stays
-pub who_comes_into_it_begins_anew : RowReplays
-    (codes "uid = 1000\npermitted = \"CAP_KILL\"\ninheritable = \"CAP_KILL\"\nambient = \"CAP_KILL\"\nbounding = \"none\"\n"
-    ++ codes "securebits = 47\nno_new_privs = true\n")
-    (codes "100 unshare = 0\n") status.Accepted
-    (line_of (codes "100") (codes "init") user_ids (sets_of kill kill none none kill (codes "sec=2f nnp=1"))
-    ∷ codes "1: 100 unshare = 0"
-    ∷ line_of (codes "100") (codes "#1") user_ids (sets_of none all all all none (codes "sec=00 nnp=1"))
-    ∷ codes "end 1" ∷ [])
-unfolding print_on_literals world_on_literals
-who_comes_into_it_begins_anew = record { status = refl; text = refl }
-
-pub without_maps_none_is_made_below_it : RowReplays (codes "uid = 1000\n")
-    (codes "100 unshare = 0\n100 unshare = EPERM\n100 clone_user = EPERM\n")
-    status.Accepted
-    (user_line ∷ codes "1: 100 unshare = 0" ∷ newcomer (codes "100") (codes "#1") ∷ codes "2: 100 unshare = EPERM"
-    ∷ newcomer (codes "100") (codes "#1") ∷ codes "3: 100 clone_user = EPERM" ∷ newcomer (codes "100") (codes "#1")
-    ∷ codes "end 3" ∷ [])
-unfolding print_on_literals world_on_literals
-without_maps_none_is_made_below_it = record { status = refl; text = refl }
-
--- a call that failed made no space, so the number isn't taken
-pub errors_from_outside_make_none : RowReplays (codes "uid = 1000\n")
-    (codes "100 unshare = EINVAL\n100 clone_user = EAGAIN\n100 unshare = 0\n")
-    status.Accepted
-    (user_line ∷ codes "1: 100 unshare = EINVAL" ∷ user_line ∷ codes "2: 100 clone_user = EAGAIN" ∷ user_line
-    ∷ codes "3: 100 unshare = 0" ∷ newcomer (codes "100") (codes "#1") ∷ codes "end 3" ∷ [])
-unfolding print_on_literals world_on_literals
-errors_from_outside_make_none = record { status = refl; text = refl }
-
--- the caller stays where it is; the child has all capabilities in its space, and by its map the id 0 there, but no other
-pub a_child_in_a_space_of_its_own : RowReplays (codes "uid = 1000\n")
-    (codes "100 clone_user = 101\n100 write_uid_map #1 0 1000 1 = 0\n101 setuid 0 = 0\n101 setuid 5 = EINVAL\n") status.Accepted
-    (user_line ∷ codes "1: 100 clone_user = 101" ∷ user_line ∷ newcomer (codes "101") (codes "#1")
-    ∷ codes "2: 100 write_uid_map #1 0 1000 1 = 0" ∷ user_line ∷ codes "3: 101 setuid 0 = 0"
-    ∷ newcomer (codes "101") (codes "#1")
-    ∷ codes "4: 101 setuid 5 = EINVAL" ∷ newcomer (codes "101") (codes "#1") ∷ codes "end 4" ∷ [])
-unfolding print_on_literals world_on_literals
-a_child_in_a_space_of_its_own = record { status = refl; text = refl }
-
-pub its_pid_is_in_use : RowReplays (codes "uid = 1000\n") (codes "100 clone_user = 100\n") status.Impossible
-    (user_line ∷ codes "impossible line 1: pid in use" ∷ [])
-unfolding print_on_literals world_on_literals
-its_pid_is_in_use = record { status = refl; text = refl }
-
--- the rules' own child has the least pid that isn't alive
-pub its_birth_is_not_refused : RowReplays (codes "uid = 1000\n") (codes "100 clone_user = EPERM\n") status.Impossible
-    (user_line ∷ codes "impossible line 1: the rules give 1" ∷ [])
-unfolding print_on_literals world_on_literals
-its_birth_is_not_refused = record { status = refl; text = refl }
-
--- a space outlives who made it, and its owner may come to it
-pub a_space_stays_after_an_exit : RowReplays (codes "uid = 1000\n")
-    (codes "100 clone_user = 101\n101 exit = 0\n100 setns #1 = 0\n") status.Accepted
-    (user_line ∷ codes "1: 100 clone_user = 101" ∷ user_line ∷ newcomer (codes "101") (codes "#1") ∷ codes "2: 101 exit = 0"
-    ∷ codes "3: 100 setns #1 = 0" ∷ newcomer (codes "100") (codes "#1") ∷ codes "end 3" ∷ [])
-unfolding print_on_literals world_on_literals
-a_space_stays_after_an_exit = record { status = refl; text = refl }
+made_spaces = search
 
 -- ---- joining spaces
 -- a declared space beside process 100
 abbrev with_pod : List ℕ → List ℕ
 with_pod row = row ++ codes "[[space]]\nname = \"pod\"\nparent = \"init\"\nowner = 1000\n"
 
--- not its own, and not the one above
-pub root_comes_to_a_declared_space : RowReplays (with_pod [])
-    (codes "100 setns pod = 0\n100 setns pod = EINVAL\n100 setns init = EPERM\n") status.Accepted
-    (root_line ∷ codes "1: 100 setns pod = 0" ∷ root_in (codes "pod") ∷ codes "2: 100 setns pod = EINVAL"
-    ∷ root_in (codes "pod") ∷ codes "3: 100 setns init = EPERM" ∷ root_in (codes "pod") ∷ codes "end 3" ∷ [])
+pub joined_spaces : record {
+  -- not its own, and not the one above
+  root_comes_to_a_declared_space : RowReplays (with_pod [])
+      (codes "100 setns pod = 0\n100 setns pod = EINVAL\n100 setns init = EPERM\n") status.Accepted
+      (root_line ∷ codes "1: 100 setns pod = 0" ∷ root_in (codes "pod") ∷ codes "2: 100 setns pod = EINVAL"
+      ∷ root_in (codes "pod") ∷ codes "3: 100 setns init = EPERM" ∷ root_in (codes "pod") ∷ codes "end 3" ∷ []);
+  nobody_comes_to_its_own : RowReplays (with_pod []) (codes "100 setns init = 0\n") status.Impossible
+      (root_line ∷ codes "impossible line 1: the rules give EINVAL" ∷ []);
+  its_owner_comes_to_it : RowReplays (with_pod (codes "uid = 1000\n")) (codes "100 setns pod = 0\n") status.Accepted
+      (user_line ∷ codes "1: 100 setns pod = 0" ∷ newcomer (codes "100") (codes "pod") ∷ codes "end 1" ∷ []);
+  another_user_does_not : RowReplays (with_pod (codes "uid = 1001\n")) (codes "100 setns pod = 0\n") status.Impossible
+      (line_of (codes "100") (codes "init") (ids_of (codes "1001,1001,1001,1001")) no_sets
+      ∷ codes "impossible line 1: the rules give EPERM" ∷ []);
+  -- a number is written as the name that the space has, and after the declared ones come those that are made
+  numbers_are_written_as_names : RowReplays (with_pod [])
+      (codes "100 setns #0 = EINVAL\n100 write_setgroups #1 allow = 0\n100 unshare = 0\n") status.Accepted
+      (root_line ∷ codes "1: 100 setns init = EINVAL" ∷ root_line ∷ codes "2: 100 write_setgroups pod allow = 0"
+      ∷ root_line ∷ codes "3: 100 unshare = 0" ∷ root_in (codes "#2") ∷ codes "end 3" ∷ []);
+}
 unfolding print_on_literals world_on_literals
-root_comes_to_a_declared_space = record { status = refl; text = refl }
-
-pub nobody_comes_to_its_own : RowReplays (with_pod []) (codes "100 setns init = 0\n") status.Impossible
-    (root_line ∷ codes "impossible line 1: the rules give EINVAL" ∷ [])
-unfolding print_on_literals world_on_literals
-nobody_comes_to_its_own = record { status = refl; text = refl }
-
-pub its_owner_comes_to_it : RowReplays (with_pod (codes "uid = 1000\n")) (codes "100 setns pod = 0\n") status.Accepted
-    (user_line ∷ codes "1: 100 setns pod = 0" ∷ newcomer (codes "100") (codes "pod") ∷ codes "end 1" ∷ [])
-unfolding print_on_literals world_on_literals
-its_owner_comes_to_it = record { status = refl; text = refl }
-
-pub another_user_does_not : RowReplays (with_pod (codes "uid = 1001\n")) (codes "100 setns pod = 0\n") status.Impossible
-    (line_of (codes "100") (codes "init") (ids_of (codes "1001,1001,1001,1001")) no_sets
-    ∷ codes "impossible line 1: the rules give EPERM" ∷ [])
-unfolding print_on_literals world_on_literals
-another_user_does_not = record { status = refl; text = refl }
-
--- a number is written as the name that the space has, and after the declared ones come those that are made
-pub numbers_are_written_as_names : RowReplays (with_pod [])
-    (codes "100 setns #0 = EINVAL\n100 write_setgroups #1 allow = 0\n100 unshare = 0\n")
-    status.Accepted
-    (root_line ∷ codes "1: 100 setns init = EINVAL" ∷ root_line ∷ codes "2: 100 write_setgroups pod allow = 0" ∷ root_line
-    ∷ codes "3: 100 unshare = 0" ∷ root_in (codes "#2") ∷ codes "end 3" ∷ [])
-unfolding print_on_literals world_on_literals
-numbers_are_written_as_names = record { status = refl; text = refl }
+joined_spaces = search
 
 -- logs of one call that names a space that doesn't stand
 abbrev calls_of_no_space : List (List ℕ)
@@ -130,24 +100,20 @@ calls_of_no_space =
     codes "100 setns #1 = 0\n" ∷ codes "100 setns #1 = EPERM\n" ∷ codes "100 setns #4294967295 = ENOMEM\n"
     ∷ codes "100 write_uid_map #1 0 0 1 = 0\n" ∷ codes "100 write_gid_map #1 = EINVAL\n" ∷ codes "100 write_setgroups #1 deny = 0\n" ∷ []
 
--- it is told before the rules are asked, whatever the result is
-pub spaces_that_do_not_stand : AllSay (map (replay_in (world_of_100 0)) calls_of_no_space) status.Impossible
-    (map (λ _. root_line ∷ codes "impossible line 1: no space" ∷ []) calls_of_no_space)
+pub spaces_that_stand : record {
+  -- it is told before the rules are asked, whatever the result is
+  spaces_that_do_not_stand : AllSay (map (replay_in (world_of_100 0)) calls_of_no_space) status.Impossible
+      (map (λ _. root_line ∷ codes "impossible line 1: no space" ∷ []) calls_of_no_space);
+  no_process_is_told_before_it : Replays (world_of_100 0) (codes "101 setns #1 = 0\n") status.Impossible
+      (root_line ∷ codes "impossible line 1: no process" ∷ []);
+  -- a space stands from the event on that makes it
+  it_stands_once_it_is_made : Replays (world_of_100 1000) (codes "100 clone_user = 101\n100 setns #2 = 0\n")
+      status.Impossible
+      (user_line ∷ codes "1: 100 clone_user = 101" ∷ user_line ∷ newcomer (codes "101") (codes "#1")
+      ∷ codes "impossible line 2: no space" ∷ []);
+}
 unfolding print_on_literals
-spaces_that_do_not_stand = record { statuses = refl; texts = refl }
-
-pub no_process_is_told_before_it : Replays (world_of_100 0) (codes "101 setns #1 = 0\n") status.Impossible
-    (root_line ∷ codes "impossible line 1: no process" ∷ [])
-unfolding print_on_literals
-no_process_is_told_before_it = record { status = refl; text = refl }
-
--- a space stands from the event on that makes it
-pub it_stands_once_it_is_made : Replays (world_of_100 1000) (codes "100 clone_user = 101\n100 setns #2 = 0\n")
-    status.Impossible
-    (user_line ∷ codes "1: 100 clone_user = 101" ∷ user_line ∷ newcomer (codes "101") (codes "#1")
-    ∷ codes "impossible line 2: no space" ∷ [])
-unfolding print_on_literals
-it_stands_once_it_is_made = record { status = refl; text = refl }
+spaces_that_stand = search
 
 -- ---- writing the maps
 -- root without CAP_SETFCAP may not map its own id 0; a user may map its own id, once
@@ -173,55 +139,46 @@ of_101 space sets = line_of (codes "101") space (codes " uid=1000,1000,1000,1000
 abbrev world_of_101 : List ℕ
 world_of_101 = codes "log = \"script\"\n[[process]]\npid = 101\nuid = 1000\ngid = 1000\n"
 
-pub a_user_denies_setgroups_before_its_gid_map : TextReplays world_of_101
-    (codes "101 unshare = 0\n101 write_gid_map #1 0 1000 1 = EPERM\n101 write_setgroups #1 deny = 0\n101 write_gid_map #1 0 1000 1 = 0\n"
-    ++ codes "101 setgroups 0 = EPERM\n") status.Accepted
-    (of_101 (codes "init") no_sets ∷ codes "1: 101 unshare = 0" ∷ of_101 (codes "#1") all_sets
-    ∷ codes "2: 101 write_gid_map #1 0 1000 1 = EPERM" ∷ of_101 (codes "#1") all_sets
-    ∷ codes "3: 101 write_setgroups #1 deny = 0" ∷ of_101 (codes "#1") all_sets
-    ∷ codes "4: 101 write_gid_map #1 0 1000 1 = 0" ∷ of_101 (codes "#1") all_sets
-    ∷ codes "5: 101 setgroups 0 = EPERM" ∷ of_101 (codes "#1") all_sets ∷ codes "end 5" ∷ [])
+pub written_words : record {
+  a_user_denies_setgroups_before_its_gid_map : TextReplays world_of_101
+      (codes "101 unshare = 0\n101 write_gid_map #1 0 1000 1 = EPERM\n101 write_setgroups #1 deny = 0\n101 write_gid_map #1 0 1000 1 = 0\n"
+      ++ codes "101 setgroups 0 = EPERM\n") status.Accepted
+      (of_101 (codes "init") no_sets ∷ codes "1: 101 unshare = 0" ∷ of_101 (codes "#1") all_sets
+      ∷ codes "2: 101 write_gid_map #1 0 1000 1 = EPERM" ∷ of_101 (codes "#1") all_sets
+      ∷ codes "3: 101 write_setgroups #1 deny = 0" ∷ of_101 (codes "#1") all_sets
+      ∷ codes "4: 101 write_gid_map #1 0 1000 1 = 0" ∷ of_101 (codes "#1") all_sets ∷ codes "5: 101 setgroups 0 = EPERM"
+      ∷ of_101 (codes "#1") all_sets ∷ codes "end 5" ∷ []);
+  -- in a space below it the outside ids are those of the first, of which there is but the id 0, and the word is
+  -- inherited
+  a_space_below_its_own : TextReplays world_of_101
+      (codes "101 unshare = 0\n101 write_uid_map #1 0 1000 1 = 0\n101 write_setgroups #1 deny = 0\n101 write_gid_map #1 0 1000 1 = 0\n"
+      ++ codes "101 unshare = 0\n101 write_uid_map #2 0 1000 1 = EPERM\n101 write_uid_map #2 7 0 1 = 0\n101 write_setgroups #2 allow = EPERM\n")
+      status.Accepted
+      (of_101 (codes "init") no_sets ∷ codes "1: 101 unshare = 0" ∷ of_101 (codes "#1") all_sets
+      ∷ codes "2: 101 write_uid_map #1 0 1000 1 = 0" ∷ of_101 (codes "#1") all_sets
+      ∷ codes "3: 101 write_setgroups #1 deny = 0" ∷ of_101 (codes "#1") all_sets
+      ∷ codes "4: 101 write_gid_map #1 0 1000 1 = 0" ∷ of_101 (codes "#1") all_sets ∷ codes "5: 101 unshare = 0"
+      ∷ of_101 (codes "#2") all_sets ∷ codes "6: 101 write_uid_map #2 0 1000 1 = EPERM" ∷ of_101 (codes "#2") all_sets
+      ∷ codes "7: 101 write_uid_map #2 7 0 1 = 0" ∷ of_101 (codes "#2") all_sets
+      ∷ codes "8: 101 write_setgroups #2 allow = EPERM" ∷ of_101 (codes "#2") all_sets ∷ codes "end 8" ∷ []);
+  -- no extent, two that meet, one without ids
+  lists_that_are_no_map : RowReplays (codes "uid = 1000\n")
+      (codes "100 unshare = 0\n100 write_uid_map #1 = EINVAL\n100 write_uid_map #1 0 1000 1 0 1001 1 = EINVAL\n"
+      ++ codes "100 write_gid_map #1 0 0 0 = EINVAL\n") status.Accepted
+      (user_line ∷ codes "1: 100 unshare = 0" ∷ newcomer (codes "100") (codes "#1")
+      ∷ codes "2: 100 write_uid_map #1 = EINVAL" ∷ newcomer (codes "100") (codes "#1")
+      ∷ codes "3: 100 write_uid_map #1 0 1000 1 0 1001 1 = EINVAL" ∷ newcomer (codes "100") (codes "#1")
+      ∷ codes "4: 100 write_gid_map #1 0 0 0 = EINVAL" ∷ newcomer (codes "100") (codes "#1") ∷ codes "end 4" ∷ []);
+  -- the maps of the initial space are written, and its word stays as it is
+  files_of_the_initial_space : RowReplays []
+      (codes "100 write_uid_map init 0 0 1 = EPERM\n100 write_gid_map init = EPERM\n100 write_setgroups init deny = EPERM\n"
+      ++ codes "100 write_setgroups init allow = 0\n") status.Accepted
+      (root_line ∷ codes "1: 100 write_uid_map init 0 0 1 = EPERM" ∷ root_line
+      ∷ codes "2: 100 write_gid_map init = EPERM" ∷ root_line ∷ codes "3: 100 write_setgroups init deny = EPERM"
+      ∷ root_line ∷ codes "4: 100 write_setgroups init allow = 0" ∷ root_line ∷ codes "end 4" ∷ []);
+}
 unfolding print_on_literals world_on_literals
-a_user_denies_setgroups_before_its_gid_map = record { status = refl; text = refl }
-
--- in a space below it the outside ids are those of the first, of which there is but the id 0, and the word is inherited
-pub a_space_below_its_own : TextReplays world_of_101
-    (codes "101 unshare = 0\n101 write_uid_map #1 0 1000 1 = 0\n101 write_setgroups #1 deny = 0\n101 write_gid_map #1 0 1000 1 = 0\n"
-    ++ codes "101 unshare = 0\n101 write_uid_map #2 0 1000 1 = EPERM\n101 write_uid_map #2 7 0 1 = 0\n101 write_setgroups #2 allow = EPERM\n")
-    status.Accepted
-    (of_101 (codes "init") no_sets ∷ codes "1: 101 unshare = 0" ∷ of_101 (codes "#1") all_sets
-    ∷ codes "2: 101 write_uid_map #1 0 1000 1 = 0" ∷ of_101 (codes "#1") all_sets
-    ∷ codes "3: 101 write_setgroups #1 deny = 0" ∷ of_101 (codes "#1") all_sets
-    ∷ codes "4: 101 write_gid_map #1 0 1000 1 = 0" ∷ of_101 (codes "#1") all_sets
-    ∷ codes "5: 101 unshare = 0" ∷ of_101 (codes "#2") all_sets
-    ∷ codes "6: 101 write_uid_map #2 0 1000 1 = EPERM" ∷ of_101 (codes "#2") all_sets
-    ∷ codes "7: 101 write_uid_map #2 7 0 1 = 0" ∷ of_101 (codes "#2") all_sets
-    ∷ codes "8: 101 write_setgroups #2 allow = EPERM" ∷ of_101 (codes "#2") all_sets ∷ codes "end 8" ∷ [])
-unfolding print_on_literals world_on_literals
-a_space_below_its_own = record { status = refl; text = refl }
-
--- no extent, two that meet, one without ids
-pub lists_that_are_no_map : RowReplays (codes "uid = 1000\n")
-    (codes "100 unshare = 0\n100 write_uid_map #1 = EINVAL\n100 write_uid_map #1 0 1000 1 0 1001 1 = EINVAL\n"
-    ++ codes "100 write_gid_map #1 0 0 0 = EINVAL\n")
-    status.Accepted
-    (user_line ∷ codes "1: 100 unshare = 0" ∷ newcomer (codes "100") (codes "#1")
-    ∷ codes "2: 100 write_uid_map #1 = EINVAL" ∷ newcomer (codes "100") (codes "#1")
-    ∷ codes "3: 100 write_uid_map #1 0 1000 1 0 1001 1 = EINVAL" ∷ newcomer (codes "100") (codes "#1")
-    ∷ codes "4: 100 write_gid_map #1 0 0 0 = EINVAL" ∷ newcomer (codes "100") (codes "#1") ∷ codes "end 4" ∷ [])
-unfolding print_on_literals world_on_literals
-lists_that_are_no_map = record { status = refl; text = refl }
-
--- the maps of the initial space are written, and its word stays as it is
-pub files_of_the_initial_space : RowReplays []
-    (codes "100 write_uid_map init 0 0 1 = EPERM\n100 write_gid_map init = EPERM\n100 write_setgroups init deny = EPERM\n"
-    ++ codes "100 write_setgroups init allow = 0\n") status.Accepted
-    (root_line ∷ codes "1: 100 write_uid_map init 0 0 1 = EPERM" ∷ root_line ∷ codes "2: 100 write_gid_map init = EPERM"
-    ∷ root_line
-    ∷ codes "3: 100 write_setgroups init deny = EPERM" ∷ root_line ∷ codes "4: 100 write_setgroups init allow = 0"
-    ∷ root_line ∷ codes "end 4" ∷ [])
-unfolding print_on_literals world_on_literals
-files_of_the_initial_space = record { status = refl; text = refl }
+written_words = search
 
 -- ---- chains of spaces
 -- the owner of a space comes to all below it, and nobody comes to one above or beside its own
@@ -248,15 +205,15 @@ deep (suc n) = space n 0 (ids 0 0 4294967295 ∷ []) ∷ deep n
 abbrev root_at_depth : ℕ → World
 root_at_depth n = record (world_with []) { start = record { processes = in_space n 100 (user 0) ∷ []; spaces = deep n } }
 
-pub below_the_deepest_space_none_is_made : Replays (root_at_depth 32)
-    (codes "100 unshare = ENOSPC\n100 clone_user = ENOSPC\n") status.Accepted
-    (root_in (codes "#32") ∷ codes "1: 100 unshare = ENOSPC" ∷ root_in (codes "#32") ∷ codes "2: 100 clone_user = ENOSPC"
-    ∷ root_in (codes "#32") ∷ codes "end 2" ∷ [])
+pub deepest_spaces : record {
+  below_the_deepest_space_none_is_made : Replays (root_at_depth 32)
+      (codes "100 unshare = ENOSPC\n100 clone_user = ENOSPC\n") status.Accepted
+      (root_in (codes "#32") ∷ codes "1: 100 unshare = ENOSPC" ∷ root_in (codes "#32")
+      ∷ codes "2: 100 clone_user = ENOSPC" ∷ root_in (codes "#32") ∷ codes "end 2" ∷ []);
+  the_deepest_space_is_made : Replays (root_at_depth 31) (codes "100 unshare = 0\n100 unshare = ENOSPC\n")
+      status.Accepted
+      (root_in (codes "#31") ∷ codes "1: 100 unshare = 0" ∷ root_in (codes "#32") ∷ codes "2: 100 unshare = ENOSPC"
+      ∷ root_in (codes "#32") ∷ codes "end 2" ∷ []);
+}
 unfolding print_on_literals
-below_the_deepest_space_none_is_made = record { status = refl; text = refl }
-
-pub the_deepest_space_is_made : Replays (root_at_depth 31) (codes "100 unshare = 0\n100 unshare = ENOSPC\n") status.Accepted
-    (root_in (codes "#31") ∷ codes "1: 100 unshare = 0" ∷ root_in (codes "#32") ∷ codes "2: 100 unshare = ENOSPC"
-    ∷ root_in (codes "#32") ∷ codes "end 2" ∷ [])
-unfolding print_on_literals
-the_deepest_space_is_made = record { status = refl; text = refl }
+deepest_spaces = search

@@ -1,5 +1,5 @@
 -- The limits of a state, and runs within them.
-use Rattle.std.specs.Prelude.{◌≡◌, ℕ, nat_lt, length, List, [], ◌∷◌, Option, Some, None, if◌then◌else◌}
+use Rattle.std.specs.Prelude.{◌≡◌, nat_lt, length, List, [], ◌∷◌, Option, Some, None, if◌then◌else◌}
 use Rattle.cm_base.specs.declared.limited.Limited.{Limited}
 use Rattle.cm_base.specs.declared.limited.Limited.TheVariants as limit
 use Rattle.cm_base.specs.Limited.{limit_number}

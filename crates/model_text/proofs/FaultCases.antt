@@ -11,16 +11,14 @@ use Rattle.model_text.specs.Line.{Faulty, NoEvent, script_line}
 abbrev AreNoEvent : List (List ℕ) → Type 0
 AreNoEvent lines = map (script_line the_world) lines ≡ map (λ _. NoEvent) lines
 
-pub blanks_alone : AreNoEvent (codes "" ∷ codes " " ∷ codes "\t" ∷ codes "\r" ∷ codes " \t \r " ∷ [])
-blanks_alone = refl
-
-pub comments : AreNoEvent (codes ";" ∷ codes "; 100 exit = 0" ∷ codes ";100 exit = 0" ∷ codes "  ;x" ∷ codes "\t;;" ∷ [])
-comments = refl
-
--- 0x0b and 0x0c are no blanks, and a comment stands alone
-pub no_blanks : map (script_line the_world) ((11 ∷ []) ∷ (12 ∷ []) ∷ (11 ∷ codes "100 exit = 0") ∷ [])
-    ≡ map (λ _. Faulty fault.Pid) ((11 ∷ []) ∷ (12 ∷ []) ∷ (11 ∷ codes "100 exit = 0") ∷ [])
-no_blanks = refl
+pub no_events : record {
+  blanks_alone : AreNoEvent (codes "" ∷ codes " " ∷ codes "\t" ∷ codes "\r" ∷ codes " \t \r " ∷ []);
+  comments : AreNoEvent (codes ";" ∷ codes "; 100 exit = 0" ∷ codes ";100 exit = 0" ∷ codes "  ;x" ∷ codes "\t;;" ∷ []);
+  -- 0x0b and 0x0c are no blanks, and a comment stands alone
+  no_blanks : map (script_line the_world) ((11 ∷ []) ∷ (12 ∷ []) ∷ (11 ∷ codes "100 exit = 0") ∷ [])
+      ≡ map (λ _. Faulty fault.Pid) ((11 ∷ []) ∷ (12 ∷ []) ∷ (11 ∷ codes "100 exit = 0") ∷ []);
+}
+no_events = search
 
 -- ---- pid
 pub first_tokens_that_are_no_pid : Have fault.Pid
@@ -37,34 +35,28 @@ pub second_tokens_that_are_no_call : Have fault.Call
 second_tokens_that_are_no_call = refl
 
 -- ---- the order of two faults of one line
--- the pid before the call, before the shape, before all else
-pub pid_is_told_first : Have fault.Pid
-    (codes "0 getuid = 0" ∷ codes "0 setuid" ∷ codes "x setuid = 0" ∷ codes "x setuid x = 0" ∷ codes "x setuid 1 = x" ∷ codes "x y z" ∷ [])
-pid_is_told_first = refl
-
--- the call before the shape, before all else
-pub then_the_call : Have fault.Call
-    (codes "100 getuid" ∷ codes "100 getuid x = x" ∷ codes "100 x = = 0" ∷ [])
-then_the_call = refl
-
--- the shape before the count, the kinds of arguments and the result
-pub then_the_shape : Have fault.Shape
-    (codes "100 setresuid 1 = 0 0" ∷ codes "100 setuid x = 0 0" ∷ codes "100 setuid x" ∷ codes "100 setuid 1 = x y"
-    ∷ codes "100 fork x = = 0" ∷ codes "100 write_uid_map x y = 0 0" ∷ [])
-then_the_shape = refl
-
--- the count before the kinds of arguments and the result
-pub then_the_count : Have fault.Count
-    (codes "100 setresuid x = 0" ∷ codes "100 setresuid x y z w = 0" ∷ codes "100 setreuid 1 = x" ∷ codes "100 fork x = x"
-    ∷ codes "100 exit x = EPERM" ∷ codes "100 write_uid_map x y = z" ∷ codes "100 keepcaps -1 -1 = 0" ∷ [])
-then_the_count = refl
-
--- the first argument that isn't of its kind before a later one, and before the result
-pub then_the_first_argument : Have (fault.Argument 1)
-    (codes "100 setresuid x y z = 0" ∷ codes "100 setuid x = x" ∷ codes "100 setns pud = 1" ∷ codes "100 write_setgroups pud maybe = x"
-    ∷ [])
-then_the_first_argument = refl
-
-pub then_a_later_one : Have (fault.Argument 2)
-    (codes "100 setresuid 1 y z = x" ∷ codes "100 setgroups 1 y z = x" ∷ codes "100 write_setgroups pod maybe = x" ∷ [])
-then_a_later_one = refl
+pub order_of_faults : record {
+  -- the pid before the call, before the shape, before all else
+  pid_is_told_first : Have fault.Pid
+      (codes "0 getuid = 0" ∷ codes "0 setuid" ∷ codes "x setuid = 0" ∷ codes "x setuid x = 0" ∷ codes "x setuid 1 = x"
+      ∷ codes "x y z" ∷ []);
+  -- the call before the shape, before all else
+  then_the_call : Have fault.Call (codes "100 getuid" ∷ codes "100 getuid x = x" ∷ codes "100 x = = 0" ∷ []);
+  -- the shape before the count, the kinds of arguments and the result
+  then_the_shape : Have fault.Shape
+      (codes "100 setresuid 1 = 0 0" ∷ codes "100 setuid x = 0 0" ∷ codes "100 setuid x" ∷ codes "100 setuid 1 = x y"
+      ∷ codes "100 fork x = = 0" ∷ codes "100 write_uid_map x y = 0 0" ∷ []);
+  -- the count before the kinds of arguments and the result
+  then_the_count : Have fault.Count
+      (codes "100 setresuid x = 0" ∷ codes "100 setresuid x y z w = 0" ∷ codes "100 setreuid 1 = x"
+      ∷ codes "100 fork x = x" ∷ codes "100 exit x = EPERM" ∷ codes "100 write_uid_map x y = z"
+      ∷ codes "100 keepcaps -1 -1 = 0" ∷ []);
+  -- the first argument that isn't of its kind before a later one, and before the result
+  then_the_first_argument : Have (fault.Argument 1)
+      (codes "100 setresuid x y z = 0" ∷ codes "100 setuid x = x" ∷ codes "100 setns pud = 1"
+      ∷ codes "100 write_setgroups pud maybe = x" ∷ []);
+  then_a_later_one : Have (fault.Argument 2)
+      (codes "100 setresuid 1 y z = x" ∷ codes "100 setgroups 1 y z = x"
+      ∷ codes "100 write_setgroups pod maybe = x" ∷ []);
+}
+order_of_faults = search

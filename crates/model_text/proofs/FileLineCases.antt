@@ -13,61 +13,28 @@ use Rattle.model_text.specs.Line.{Line, Tells, Faulty, script_line}
 use Rattle.model_text.specs.NameText.{is_path}
 use Rattle.model_text.specs.Print.{event_text}
 
-pub a_declared_file : IsEvent (codes "100 execve /bin/su = 0") (Exec (Row 0)) Done
+pub execves : record {
+  a_declared_file : IsEvent (codes "100 execve /bin/su = 0") (Exec (Row 0)) Done;
+  another_declared_file : IsEvent (codes "100 execve /opt/x = EACCES") (Exec (Row 1)) (Err EACCES);
+  a_path_without_a_slash : IsEvent (codes "100 execve pod = 0") (Exec (Row 2)) Done;
+  a_file_that_is_not_declared : IsEvent (codes "100 execve /bin/sh = 0") (Exec Plain) Done;
+  the_front_of_a_declared_path : IsEvent (codes "100 execve /bin/s = 0") (Exec Plain) Done;
+  the_plain_file : IsEvent (codes "100 execve - = ENOENT") (Exec Plain) (Err ENOENT);
+  other_tokens_are_paths_too : IsEvent (codes "100 execve -1 = 0") (Exec Plain) Done;
+  even_a_result : IsEvent (codes "100 execve 0 = EPERM") (Exec Plain) (Err EPERM);
+  equals_within_a_path : IsEvent (codes "100 execve a=b = 0") (Exec Plain) Done;
+  bytes_that_are_no_ascii : IsEvent (codes "100 execve /é = 0") (Exec Plain) Done;
+  shape_of_execve : Have fault.Shape
+      (codes "100 execve" ∷ codes "100 execve /bin/su" ∷ codes "100 execve /bin/su =" ∷ codes "100 execve = = 0"
+      ∷ codes "100 execve /bin/su = 0 0" ∷ []);
+  count_of_execve : Have fault.Count
+      (codes "100 execve = 0" ∷ codes "100 execve = =" ∷ codes "100 execve /bin/su -l = 0"
+      ∷ codes "100 execve - - = 0" ∷ []);
+  result_of_execve : Have fault.Outcome
+      (codes "100 execve /bin/su = 1" ∷ codes "100 execve - = 00" ∷ codes "100 execve - = EFOO" ∷ []);
+}
 unfolding is_path
-a_declared_file = refl
-
-pub another_declared_file : IsEvent (codes "100 execve /opt/x = EACCES") (Exec (Row 1)) (Err EACCES)
-unfolding is_path
-another_declared_file = refl
-
-pub a_path_without_a_slash : IsEvent (codes "100 execve pod = 0") (Exec (Row 2)) Done
-unfolding is_path
-a_path_without_a_slash = refl
-
-pub a_file_that_is_not_declared : IsEvent (codes "100 execve /bin/sh = 0") (Exec Plain) Done
-unfolding is_path
-a_file_that_is_not_declared = refl
-
-pub the_front_of_a_declared_path : IsEvent (codes "100 execve /bin/s = 0") (Exec Plain) Done
-unfolding is_path
-the_front_of_a_declared_path = refl
-
-pub the_plain_file : IsEvent (codes "100 execve - = ENOENT") (Exec Plain) (Err ENOENT)
-unfolding is_path
-the_plain_file = refl
-
-pub other_tokens_are_paths_too : IsEvent (codes "100 execve -1 = 0") (Exec Plain) Done
-unfolding is_path
-other_tokens_are_paths_too = refl
-
-pub even_a_result : IsEvent (codes "100 execve 0 = EPERM") (Exec Plain) (Err EPERM)
-unfolding is_path
-even_a_result = refl
-
-pub equals_within_a_path : IsEvent (codes "100 execve a=b = 0") (Exec Plain) Done
-unfolding is_path
-equals_within_a_path = refl
-
-pub bytes_that_are_no_ascii : IsEvent (codes "100 execve /é = 0") (Exec Plain) Done
-unfolding is_path
-bytes_that_are_no_ascii = refl
-
-pub shape_of_execve : Have fault.Shape
-    (codes "100 execve" ∷ codes "100 execve /bin/su" ∷ codes "100 execve /bin/su =" ∷ codes "100 execve = = 0"
-    ∷ codes "100 execve /bin/su = 0 0" ∷ [])
-unfolding is_path
-shape_of_execve = refl
-
-pub count_of_execve : Have fault.Count
-    (codes "100 execve = 0" ∷ codes "100 execve = =" ∷ codes "100 execve /bin/su -l = 0" ∷ codes "100 execve - - = 0" ∷ [])
-unfolding is_path
-count_of_execve = refl
-
-pub result_of_execve : Have fault.Outcome
-    (codes "100 execve /bin/su = 1" ∷ codes "100 execve - = 00" ∷ codes "100 execve - = EFOO" ∷ [])
-unfolding is_path
-result_of_execve = refl
+execves = search
 
 -- ---- bytes and lengths of paths
 -- the line of an execve of that path
@@ -78,22 +45,16 @@ of_path path = codes "100 execve " ++ path ++ codes " = 0"
 abbrev with_byte : ℕ → Line
 with_byte byte = script_line the_world (of_path (codes "/a" ++ byte ∷ []))
 
--- 0x0b and 0x0c are no blanks; 0x21 and 0x7e are the outermost bytes of ASCII that a path may have
-pub bytes_of_no_path : map with_byte (0 ∷ 1 ∷ 10 ∷ 11 ∷ 12 ∷ 31 ∷ 127 ∷ []) ≡ replicate 7 (Faulty (fault.Argument 1))
+pub paths : record {
+  -- 0x0b and 0x0c are no blanks; 0x21 and 0x7e are the outermost bytes of ASCII that a path may have
+  bytes_of_no_path : map with_byte (0 ∷ 1 ∷ 10 ∷ 11 ∷ 12 ∷ 31 ∷ 127 ∷ []) ≡ replicate 7 (Faulty (fault.Argument 1));
+  bytes_of_paths : map with_byte (33 ∷ 59 ∷ 61 ∷ 126 ∷ 128 ∷ 255 ∷ [])
+      ≡ replicate 6 (Tells (event_of (Exec Plain) Done));
+  the_longest_path : script_line the_world (of_path (replicate 4095 97)) ≡ Tells (event_of (Exec Plain) Done);
+  a_path_that_is_too_long : script_line the_world (of_path (replicate 4096 97)) ≡ Faulty (fault.Argument 1);
+}
 unfolding is_path
-bytes_of_no_path = refl
-
-pub bytes_of_paths : map with_byte (33 ∷ 59 ∷ 61 ∷ 126 ∷ 128 ∷ 255 ∷ []) ≡ replicate 6 (Tells (event_of (Exec Plain) Done))
-unfolding is_path
-bytes_of_paths = refl
-
-pub the_longest_path : script_line the_world (of_path (replicate 4095 97)) ≡ Tells (event_of (Exec Plain) Done)
-unfolding is_path
-the_longest_path = refl
-
-pub a_path_that_is_too_long : script_line the_world (of_path (replicate 4096 97)) ≡ Faulty (fault.Argument 1)
-unfolding is_path
-a_path_that_is_too_long = refl
+paths = search
 
 -- ---- printed events
 pub files_are_printed : map (λ file. event_text the_world (event_of (Exec file) Done)) (Row 0 ∷ Row 1 ∷ Row 2 ∷ Plain ∷ [])

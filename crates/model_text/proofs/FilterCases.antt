@@ -1,5 +1,5 @@
 -- Worked cases, by computation, of the filter that a world's text declares.
-use Rattle.std.proofs.Common.{◌≡◌, ℕ, List, [], ◌∷◌, ◌++◌, map, refl}
+use Rattle.std.proofs.Common.{◌≡◌, ℕ, List, [], ◌∷◌, ◌++◌, map}
 use Rattle.std.specs.Prelude.{codes}
 use Rattle.cm_base.specs.declared.faults.Table.TheVariants as table
 use Rattle.cm_base.specs.declared.faults.WorldFault.{WorldFault}
@@ -15,21 +15,17 @@ of_filter rest = codes "log = \"script\"\n[filter]\n" ++ rest
 abbrev pub AreBad : WorldFault → List (List ℕ) → Type 0
 AreBad why keys = map (λ rest. world_text (of_filter rest)) keys ≡ map (λ _. Bad table.Filter 0 why) keys
 
--- setuid is the first of the calls, unshare the 20th, exit the 26th; repeats change nothing
-pub filters : map (λ rest. world_text (of_filter rest))
-    ([] ∷ codes "exclude = []\n" ∷ codes "exclude = [\"setuid\"]\n" ∷ codes "exclude = [\"exit\", \"unshare\", \"exit\"]\n" ∷ [])
-    ≡ map (λ filter. Reads (record (world_with []) { filter = filter })) (0 ∷ 0 ∷ 1 ∷ 34078720 ∷ [])
+pub all_filters : record {
+  -- setuid is the first of the calls, unshare the 20th, exit the 26th; repeats change nothing
+  filters : map (λ rest. world_text (of_filter rest))
+      ([] ∷ codes "exclude = []\n" ∷ codes "exclude = [\"setuid\"]\n"
+      ∷ codes "exclude = [\"exit\", \"unshare\", \"exit\"]\n" ∷ [])
+      ≡ map (λ filter. Reads (record (world_with []) { filter = filter })) (0 ∷ 0 ∷ 1 ∷ 34078720 ∷ []);
+  unknown_keys : AreBad fault.UnknownKey (codes "Exclude = []\n" ∷ codes "exclude = 1\nother = 1\n" ∷ []);
+  wrong_types : AreBad fault.WrongType
+      (codes "exclude = \"setuid\"\n" ∷ codes "exclude = [\"x\", 1]\n" ∷ codes "exclude = {}\n" ∷ []);
+  no_such_calls : AreBad fault.NoSuchCall
+      (codes "exclude = [\"setuid\", \"x\"]\n" ∷ codes "exclude = [\"SETUID\"]\n" ∷ codes "exclude = [\"\"]\n" ∷ []);
+}
 unfolding world_on_literals
-filters = refl
-
-pub unknown_keys : AreBad fault.UnknownKey (codes "Exclude = []\n" ∷ codes "exclude = 1\nother = 1\n" ∷ [])
-unfolding world_on_literals
-unknown_keys = refl
-
-pub wrong_types : AreBad fault.WrongType (codes "exclude = \"setuid\"\n" ∷ codes "exclude = [\"x\", 1]\n" ∷ codes "exclude = {}\n" ∷ [])
-unfolding world_on_literals
-wrong_types = refl
-
-pub no_such_calls : AreBad fault.NoSuchCall (codes "exclude = [\"setuid\", \"x\"]\n" ∷ codes "exclude = [\"SETUID\"]\n" ∷ codes "exclude = [\"\"]\n" ∷ [])
-unfolding world_on_literals
-no_such_calls = refl
+all_filters = search

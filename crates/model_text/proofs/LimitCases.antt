@@ -22,30 +22,18 @@ empty_rows (suc n) = item (a_table no_members) (empty_rows n)
 abbrev pub with_rows : List ℕ → ℕ → Members
 with_rows key n = member (codes "log") (string (codes "script")) (member key (array (empty_rows n)) no_members)
 
--- at the limit the first row is looked at, which lacks a key; one past it no row is
-pub spaces_at_the_limit : table_world (with_rows (codes "space") 255) ≡ Err (At table.Space 1 fault.MissingKey)
-spaces_at_the_limit = refl
-
-pub spaces_past_the_limit : table_world (with_rows (codes "space") 256) ≡ Err (Past limit.Spaces)
-spaces_past_the_limit = refl
-
-pub mounts_at_the_limit : table_world (with_rows (codes "mount") 63) ≡ Err (At table.Mount 1 fault.MissingKey)
-mounts_at_the_limit = refl
-
-pub mounts_past_the_limit : table_world (with_rows (codes "mount") 64) ≡ Err (Past limit.Mounts)
-mounts_past_the_limit = refl
-
-pub files_at_the_limit : table_world (with_rows (codes "file") 4096) ≡ Err (At table.File 1 fault.MissingKey)
-files_at_the_limit = refl
-
-pub files_past_the_limit : table_world (with_rows (codes "file") 4097) ≡ Err (Past limit.Files)
-files_past_the_limit = refl
-
-pub processes_at_the_limit : table_world (with_rows (codes "process") 4096) ≡ Err (At table.Process 1 fault.MissingKey)
-processes_at_the_limit = refl
-
-pub processes_past_the_limit : table_world (with_rows (codes "process") 4097) ≡ Err (Past limit.Processes)
-processes_past_the_limit = refl
+pub row_limits : record {
+  -- at the limit the first row is looked at, which lacks a key; one past it no row is
+  spaces_at_the_limit : table_world (with_rows (codes "space") 255) ≡ Err (At table.Space 1 fault.MissingKey);
+  spaces_past_the_limit : table_world (with_rows (codes "space") 256) ≡ Err (Past limit.Spaces);
+  mounts_at_the_limit : table_world (with_rows (codes "mount") 63) ≡ Err (At table.Mount 1 fault.MissingKey);
+  mounts_past_the_limit : table_world (with_rows (codes "mount") 64) ≡ Err (Past limit.Mounts);
+  files_at_the_limit : table_world (with_rows (codes "file") 4096) ≡ Err (At table.File 1 fault.MissingKey);
+  files_past_the_limit : table_world (with_rows (codes "file") 4097) ≡ Err (Past limit.Files);
+  processes_at_the_limit : table_world (with_rows (codes "process") 4096) ≡ Err (At table.Process 1 fault.MissingKey);
+  processes_past_the_limit : table_world (with_rows (codes "process") 4097) ≡ Err (Past limit.Processes);
+}
+row_limits = search
 
 -- ---- groups
 -- so many times this value before others
@@ -86,10 +74,10 @@ abbrev pub depth_of : Result Declared Refusal → Result ℕ Refusal
 depth_of (Ok declared) = Ok (level declared.spaces 32)
 depth_of (Err refusal) = Err refusal
 
-pub the_deepest_space : depth_of (read_rows table.Space limit.Spaces 1 space_row none_declared (chained 0 32)) ≡ Ok 32
+pub depths : record {
+  the_deepest_space : depth_of (read_rows table.Space limit.Spaces 1 space_row none_declared (chained 0 32)) ≡ Ok 32;
+  one_below_the_deepest : depth_of (read_rows table.Space limit.Spaces 1 space_row none_declared (chained 0 33))
+      ≡ Err (At table.Space 33 fault.TooDeep);
+}
 unfolding world_on_literals digits
-the_deepest_space = refl
-
-pub one_below_the_deepest : depth_of (read_rows table.Space limit.Spaces 1 space_row none_declared (chained 0 33)) ≡ Err (At table.Space 33 fault.TooDeep)
-unfolding world_on_literals digits
-one_below_the_deepest = refl
+depths = search

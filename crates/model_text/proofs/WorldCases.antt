@@ -46,64 +46,52 @@ abbrev pub process_of : ℕ → FourIds → Process
 process_of pid ids = record { pid = pid; forebear = None; space = 0; cred = default_cred ids }
 
 -- ---- worlds
-pub no_process : world_text (codes "log = \"script\"\n") ≡ Reads (world_with [])
+pub worlds : record {
+  no_process : world_text (codes "log = \"script\"\n") ≡ Reads (world_with []);
+  a_log_of_strace : world_text (codes "log = \"strace\"\n") ≡ Reads (record (world_with []) { form = Strace });
+  one_process : world_text (codes "log = \"script\"\n[[process]]\npid = 100\nuid = 0\n")
+      ≡ Reads (world_with (process_of 100 (all_four 0) ∷ []));
+  no_toml : AllAre (whole fault.Toml) (codes "log = \n" ∷ codes "log" ∷ []);
+}
 unfolding world_on_literals
-no_process = refl
-
-pub a_log_of_strace : world_text (codes "log = \"strace\"\n") ≡ Reads (record (world_with []) { form = Strace })
-unfolding world_on_literals
-a_log_of_strace = refl
-
-pub one_process : world_text (codes "log = \"script\"\n[[process]]\npid = 100\nuid = 0\n") ≡ Reads (world_with (process_of 100 (all_four 0) ∷ []))
-unfolding world_on_literals
-one_process = refl
-
-pub no_toml : AllAre (whole fault.Toml) (codes "log = \n" ∷ codes "log" ∷ [])
-unfolding world_on_literals
-no_toml = refl
+worlds = search
 
 -- ---- the whole table
-pub unknown_keys_of_the_whole : AllAre (whole fault.UnknownKey)
-    (codes "log = \"script\"\n[other]\n" ∷ codes "log = \"script\"\nLog = 1\n" ∷ codes "other = 1\n" ∷ codes "log = 1\nother = 1\n" ∷ [])
+pub the_whole_table : record {
+  unknown_keys_of_the_whole : AllAre (whole fault.UnknownKey)
+      (codes "log = \"script\"\n[other]\n" ∷ codes "log = \"script\"\nLog = 1\n" ∷ codes "other = 1\n"
+      ∷ codes "log = 1\nother = 1\n" ∷ []);
+  no_form_of_the_log : AllAre (whole fault.MissingKey)
+      (codes "" ∷ codes "[[process]]\npid = 100\n" ∷ codes "space = 1\n" ∷ []);
+  wrong_types_of_the_whole : AllAre (whole fault.WrongType)
+      (codes "log = \"text\"\n" ∷ codes "log = \"\"\n" ∷ codes "log = 1\n" ∷ codes "log = [\"script\"]\n"
+      ∷ codes "log = \"script\"\nspace = 1\n" ∷ codes "log = \"script\"\n[mount]\n"
+      ∷ codes "log = \"script\"\nfile = \"\"\n" ∷ codes "log = \"script\"\n[process]\npid = 1\n"
+      ∷ codes "log = \"script\"\n[[filter]]\n" ∷ codes "log = \"script\"\nfilter = 1\n" ∷ []);
+}
 unfolding world_on_literals
-unknown_keys_of_the_whole = refl
-
-pub no_form_of_the_log : AllAre (whole fault.MissingKey) (codes "" ∷ codes "[[process]]\npid = 100\n" ∷ codes "space = 1\n" ∷ [])
-unfolding world_on_literals
-no_form_of_the_log = refl
-
-pub wrong_types_of_the_whole : AllAre (whole fault.WrongType)
-    (codes "log = \"text\"\n" ∷ codes "log = \"\"\n" ∷ codes "log = 1\n" ∷ codes "log = [\"script\"]\n"
-    ∷ codes "log = \"script\"\nspace = 1\n" ∷ codes "log = \"script\"\n[mount]\n" ∷ codes "log = \"script\"\nfile = \"\"\n"
-    ∷ codes "log = \"script\"\n[process]\npid = 1\n" ∷ codes "log = \"script\"\n[[filter]]\n" ∷ codes "log = \"script\"\nfilter = 1\n" ∷ [])
-unfolding world_on_literals
-wrong_types_of_the_whole = refl
+the_whole_table = search
 
 -- ---- the order of the tables
--- each table has a fault in its second row, or the filter has one: the first table is told
-abbrev bad_spaces : List ℕ
-bad_spaces = codes "[[space]]\nname = \"a\"\nparent = \"init\"\nowner = 0\n[[space]]\n"
-
-abbrev bad_mounts : List ℕ
-bad_mounts = codes "[[mount]]\nname = \"m\"\n[[mount]]\n"
-
-abbrev bad_files : List ℕ
-bad_files = codes "[[file]]\npath = \"/a\"\nuid = 0\ngid = 0\nmode = \"0\"\n[[file]]\n"
-
-abbrev bad_processes : List ℕ
-bad_processes = codes "[[process]]\npid = 1\n[[process]]\n"
-
-abbrev bad_filter : List ℕ
-bad_filter = codes "[filter]\nexclude = [\"x\"]\n"
+-- the texts of tables, each with a fault in its second row, and of a filter that has one
+abbrev bad : record { spaces : List ℕ; mounts : List ℕ; files : List ℕ; processes : List ℕ; filter : List ℕ }
+bad = record {
+  spaces = codes "[[space]]\nname = \"a\"\nparent = \"init\"\nowner = 0\n[[space]]\n";
+  mounts = codes "[[mount]]\nname = \"m\"\n[[mount]]\n";
+  files = codes "[[file]]\npath = \"/a\"\nuid = 0\ngid = 0\nmode = \"0\"\n[[file]]\n";
+  processes = codes "[[process]]\npid = 1\n[[process]]\n";
+  filter = codes "[filter]\nexclude = [\"x\"]\n";
+}
 
 abbrev script : List ℕ
 script = codes "log = \"script\"\n"
 
-pub tables_in_their_order :
-    map world_text ((script ++ bad_filter ++ bad_processes ++ bad_files ++ bad_mounts ++ bad_spaces)
-    ∷ (script ++ bad_filter ++ bad_processes ++ bad_files ++ bad_mounts)
-    ∷ (script ++ bad_filter ++ bad_processes ++ bad_files)
-    ∷ (script ++ bad_filter ++ bad_processes) ∷ (script ++ bad_filter) ∷ (codes "log = 1\n" ++ bad_filter ++ bad_spaces) ∷ [])
+-- the first table that has a fault is told
+pub tables_in_their_order : map world_text
+    ((script ++ bad.filter ++ bad.processes ++ bad.files ++ bad.mounts ++ bad.spaces)
+    ∷ (script ++ bad.filter ++ bad.processes ++ bad.files ++ bad.mounts)
+    ∷ (script ++ bad.filter ++ bad.processes ++ bad.files) ∷ (script ++ bad.filter ++ bad.processes)
+    ∷ (script ++ bad.filter) ∷ (codes "log = 1\n" ++ bad.filter ++ bad.spaces) ∷ [])
     ≡ Bad table.Space 2 fault.MissingKey ∷ Bad table.Mount 2 fault.MissingKey ∷ Bad table.File 2 fault.MissingKey
     ∷ Bad table.Process 2 fault.MissingKey ∷ Bad table.Filter 0 fault.NoSuchCall ∷ whole fault.WrongType ∷ []
 unfolding world_on_literals

@@ -14,7 +14,8 @@ returns-clause-ascends c =
 pub returns-clause-alive : goal.returns-clause-alive
 returns-clause-alive c =
     clauses.found_alive c.args.m.now.state.processes c.in-Some.field-0 c.args.root (subst
-    (λ (ps : List Process). (c.in-Some.field-0 < length ps) × (slice_get ps c.in-Some.field-0 ≡ process_at ps c.args.root))
+    (λ (ps : List Process). (c.in-Some.field-0 < length ps)
+    × (slice_get ps c.in-Some.field-0 ≡ process_at ps c.args.root))
     (ap (λ (t : State). t.processes) c.st.view_is) c.in-Some.ensures.found)
 
 pub returns-clause-no_process : goal.returns-clause-no_process
@@ -22,7 +23,8 @@ returns-clause-no_process c = (
   λ is. absurd (cc),
   λ dead.
       let alive = clauses.found_alive c.args.m.now.state.processes c.in-Some.field-0 c.args.root (subst
-      (λ (ps : List Process). (c.in-Some.field-0 < length ps) × (slice_get ps c.in-Some.field-0 ≡ process_at ps c.args.root))
+      (λ (ps : List Process). (c.in-Some.field-0 < length ps)
+      × (slice_get ps c.in-Some.field-0 ≡ process_at ps c.args.root))
       (ap (λ (t : State). t.processes) c.st.view_is) c.in-Some.ensures.found) in
       absurd (grind (arith, dead, alive)),
 )

@@ -29,5 +29,6 @@ returns-clause-report c = λ j gives.
     let s = c.args.m.now.state in
     let spaces = ap (λ (m : Machine). m.state.spaces) c.m.view_is in
     put_as c.put_told.result c.args.text.now.items c.put_told.new.text.items _ _
-    (question_judged q w s c.in-Ok.question c.in-Ok.ensures.asked j (told c.in_ok-verdict.verdict) c.in_ok-verdict.ensures gives)
+    (question_judged q w s c.in-Ok.question c.in-Ok.ensures.asked j (told c.in_ok-verdict.verdict)
+    c.in_ok-verdict.ensures gives)
     (rw spaces at c.put_told.ensures.report)

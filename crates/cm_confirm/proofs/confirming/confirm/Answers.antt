@@ -44,7 +44,8 @@ loop-line-preserved-in-Goes c =
       same = c.loop-line.invariant.same
           ∙ goes_on w c.loop-line.machine.state c.loop-line.members right
           (left w c.loop-line.run (lines_come (limit_number limit.Line) (lines_of c.loop-line.rest.now)))
-          (left w c.next_of_line.new.run rest) c.in-Event.event is c.take_event.new.machine.state c.take_event.new.members goes;
+          (left w c.next_of_line.new.run rest) c.in-Event.event is c.take_event.new.machine.state
+          c.take_event.new.members goes;
       within = goes.within;
       script = c.in_ok-event.ensures.script;
       lines = omega (arith, lines, shorter, c.loop-line.invariant.lines);

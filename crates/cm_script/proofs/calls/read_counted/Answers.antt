@@ -1,4 +1,4 @@
-use Rattle.std.proofs.Common.{Vec, ℕ, Ok, Some, None, refl, sym, ap, ◌∙◌}
+use Rattle.std.proofs.Common.{Vec, ℕ, Ok, Some, None, sym, ap, ◌∙◌}
 use Rattle.std.proofs.lemmas.Result.{err_from_is_err_and}
 use Rattle.std.specs.Prelude.{option_map}
 use Rattle.std.specs.declared.alloc.Global.{Global}

@@ -1,6 +1,6 @@
 use Rattle.std.proofs.Common.{◌≡◌, take}
 use Rattle.cm_strace_parts.specs.Lists.{fd_before}
-use Rattle.cm_strace_parts.specs.Order.{Ascends}
+use Rattle.cm_ordered.specs.Order.{Ascends}
 use Rattle.cm_strace_parts.proofs.fd.put_all.Given as goal
 use Rattle.model_strace.specs.Parts.{put_all}
 

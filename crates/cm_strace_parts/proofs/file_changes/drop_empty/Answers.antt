@@ -1,10 +1,10 @@
 use Rattle.std.proofs.Common.{sym, ◌∙◌, ap}
-use Rattle.cm_strace_parts.specs.Lists.{FdList, is_files, descriptors_in}
+use Rattle.cm_strace_parts.specs.Lists.{files_pid, is_files, descriptors_in}
 use Rattle.cm_strace_parts.proofs.ListOrders.{removed_ordered}
 use Rattle.cm_strace_parts.proofs.Lists.{without_empty}
-use Rattle.cm_strace_parts.specs.Undone.{others_by}
-use Rattle.cm_strace_parts.proofs.Order.{keeps_others}
-use Rattle.cm_strace_parts.proofs.Undoing.{others_left}
+use Rattle.cm_ordered.specs.Order.{others_by}
+use Rattle.cm_ordered.proofs.Order.{keeps_others}
+use Rattle.cm_ordered.proofs.Undoing.{others_left}
 use Rattle.cm_strace_parts.proofs.file_changes.drop_empty.Goals as goal
 
 pub returns-then-is_empty_at-clause-items : goal.returns-then-is_empty_at-clause-items
@@ -18,6 +18,6 @@ returns-then-is_empty_at-clause-ordered c =
 
 pub returns-then-is_empty_at-clause-others : goal.returns-then-is_empty_at-clause-others
 returns-then-is_empty_at-clause-others c pid stands =
-    ap (others_by (λ (f : FdList). f.pid) pid) (c.remove.ensures.items
+    ap (others_by files_pid pid) (c.remove.ensures.items
     ∙ keeps_others (is_files pid) c.args.list.now.items c.args.at stands)
-    ∙ others_left (λ (f : FdList). f.pid) pid c.args.list.now.items
+    ∙ others_left files_pid pid c.args.list.now.items

@@ -1,7 +1,7 @@
 use Rattle.std.proofs.Common.{◌∙◌, ap}
 use Rattle.cm_strace_parts.specs.Lists.{FdList}
-use Rattle.cm_strace_parts.specs.Undone.{Tracked}
-use Rattle.cm_strace_parts.proofs.Undoing.{vec_still, vec_saved}
+use Rattle.cm_ordered.specs.Undone.{Tracked}
+use Rattle.cm_ordered.proofs.Undoing.{vec_still, vec_saved}
 use Rattle.cm_strace_parts.proofs.file_changes.execute.Goals as goal
 
 pub invariant_of-files-2 : goal.invariant_of-files-2

@@ -1,7 +1,7 @@
 use Rattle.std.proofs.Common.{sym, ◌∙◌, arith, not}
 use Rattle.cm_strace_parts.specs.Lists.{Fd}
 use Rattle.cm_strace_parts.proofs.LeftAt.{left_at, none_left_at}
-use Rattle.cm_strace_parts.proofs.Order.{found_below}
+use Rattle.cm_ordered.proofs.Order.{found_below}
 use Rattle.cm_strace_parts.proofs.file_changes.execute_in.Goals as goal
 use Rattle.model_strace.specs.Parts.{is_closed_at_exec}
 

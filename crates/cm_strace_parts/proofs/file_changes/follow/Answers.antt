@@ -1,18 +1,19 @@
 use Rattle.std.proofs.Common.{◌∙◌, ap, sym}
-use Rattle.cm_strace_parts.specs.Lists.{Fd, FdList, of_process, fd_of, descriptors_in, fd_before, ListsInOrder}
-use Rattle.cm_strace_parts.specs.Undone.{Tracked}
+use Rattle.cm_ordered.specs.Order.{put_by}
+use Rattle.cm_ordered.specs.Undone.{Tracked}
+use Rattle.cm_ordered.proofs.Puts.{put_ascends}
+use Rattle.cm_ordered.proofs.Undoing.{vec_still, vec_saved}
+use Rattle.cm_strace_parts.specs.Lists.{FdList, of_process, fd_of, fd_number, descriptors_in, ListsInOrder}
 use Rattle.cm_strace_parts.proofs.ListOrders.{if_made, put_may_leave}
 use Rattle.cm_strace_parts.proofs.Lists.{put_in}
-use Rattle.cm_strace_parts.proofs.Orders.{put_ascends_by}
-use Rattle.cm_strace_parts.proofs.Undoing.{vec_still, vec_saved}
 use Rattle.model_strace.specs.Parts.{Descriptor, descriptor_before, put}
 use Rattle.cm_strace_parts.proofs.file_changes.follow.Goals as goal
 
 pub invariant_of-files-2 : goal.invariant_of-files-2
 invariant_of-files-2 c =
     let fs = c.files.inside.list.items in
-    let left = put_may_leave _ c.new.inside.pid (put fd_before c.of.result) fs _ c.put_fd.ensures.items
-    c.put_fd.ensures.unchanged (put_ascends_by (λ (fd : Fd). fd.number) c.of.result)
+    let left = put_may_leave _ c.new.inside.pid (put_by fd_number c.of.result) fs _ c.put_fd.ensures.items
+    c.put_fd.ensures.unchanged (put_ascends fd_number c.of.result)
     (rw (sym c.files.view_is) at c.requires) in
     vec_still c.new.inside.pid c.files.inside.list c.put_fd.new.list c.files.invariant
     (rw c.deref.ensures.value at c.in_ok-save.ensures.saved) left.ordered.processes left.others
@@ -21,8 +22,8 @@ invariant_of-files-2 c =
 pub returns-clause-saved : goal.returns-clause-saved
 returns-clause-saved c =
     let fs = c.files.inside.list.items in
-    let left = put_may_leave _ c.new.inside.pid (put fd_before c.of.result) fs _ c.put_fd.ensures.items
-    c.put_fd.ensures.unchanged (put_ascends_by (λ (fd : Fd). fd.number) c.of.result)
+    let left = put_may_leave _ c.new.inside.pid (put_by fd_number c.of.result) fs _ c.put_fd.ensures.items
+    c.put_fd.ensures.unchanged (put_ascends fd_number c.of.result)
     (rw (sym c.files.view_is) at c.requires) in
     vec_saved c.new.inside.pid c.files.inside.list c.put_fd.new.list c.files.invariant
     (rw c.deref.ensures.value at c.in_ok-save.ensures.saved) left.ordered.processes left.others
@@ -31,8 +32,8 @@ returns-clause-saved c =
 pub returns-clause-ordered : goal.returns-clause-ordered
 returns-clause-ordered c =
     let fs = c.files.inside.list.items in
-    let left = put_may_leave _ c.new.inside.pid (put fd_before c.of.result) fs _ c.put_fd.ensures.items
-    c.put_fd.ensures.unchanged (put_ascends_by (λ (fd : Fd). fd.number) c.of.result)
+    let left = put_may_leave _ c.new.inside.pid (put_by fd_number c.of.result) fs _ c.put_fd.ensures.items
+    c.put_fd.ensures.unchanged (put_ascends fd_number c.of.result)
     (rw (sym c.files.view_is) at c.requires) in
     left.ordered
 

@@ -1,11 +1,10 @@
 use Rattle.std.proofs.Common.{◌∙◌, ap, sym}
-use Rattle.cm_strace_parts.specs.Lists.{FdList, fd_before, ListsInOrder}
-use Rattle.cm_strace_parts.specs.Undone.{Tracked}
+use Rattle.cm_strace_parts.specs.Lists.{FdList, fd_before, fd_number, ListsInOrder}
+use Rattle.cm_ordered.specs.Undone.{Tracked}
 use Rattle.cm_strace_parts.proofs.Among.{put_all_ascends}
 use Rattle.cm_strace_parts.proofs.ListOrders.{if_made, put_may_leave}
 use Rattle.cm_strace_parts.proofs.Lists.{put_all_in}
-use Rattle.cm_strace_parts.proofs.Orders.{fd_order}
-use Rattle.cm_strace_parts.proofs.Undoing.{vec_still, vec_saved}
+use Rattle.cm_ordered.proofs.Undoing.{vec_still, vec_saved}
 use Rattle.model_strace.specs.Parts.{put_all}
 use Rattle.cm_strace_parts.proofs.file_changes.put_copies.Goals as goal
 
@@ -14,7 +13,7 @@ invariant_of-files-2 c =
     let fs = c.files.inside.list.items in
     let news = c.args.news.value.items in
     let left = put_may_leave _ c.args.pid (put_all fd_before news) fs _ c.put_fds.ensures.items
-    c.put_fds.ensures.unchanged (λ fds up. put_all_ascends fd_before news fds fd_order up)
+    c.put_fds.ensures.unchanged (λ fds up. put_all_ascends fd_number news fds up)
     (rw (sym c.files.view_is) at c.requires.ordered) in
     vec_still c.args.pid c.files.inside.list c.put_fds.new.list c.files.invariant
     (rw c.deref.ensures.value at c.in_ok-save.ensures.saved) left.ordered.processes left.others
@@ -25,7 +24,7 @@ returns-clause-saved c =
     let fs = c.files.inside.list.items in
     let news = c.args.news.value.items in
     let left = put_may_leave _ c.args.pid (put_all fd_before news) fs _ c.put_fds.ensures.items
-    c.put_fds.ensures.unchanged (λ fds up. put_all_ascends fd_before news fds fd_order up)
+    c.put_fds.ensures.unchanged (λ fds up. put_all_ascends fd_number news fds up)
     (rw (sym c.files.view_is) at c.requires.ordered) in
     vec_saved c.args.pid c.files.inside.list c.put_fds.new.list c.files.invariant
     (rw c.deref.ensures.value at c.in_ok-save.ensures.saved) left.ordered.processes left.others
@@ -36,7 +35,7 @@ returns-clause-ordered c =
     let fs = c.files.inside.list.items in
     let news = c.args.news.value.items in
     let left = put_may_leave _ c.args.pid (put_all fd_before news) fs _ c.put_fds.ensures.items
-    c.put_fds.ensures.unchanged (λ fds up. put_all_ascends fd_before news fds fd_order up)
+    c.put_fds.ensures.unchanged (λ fds up. put_all_ascends fd_number news fds up)
     (rw (sym c.files.view_is) at c.requires.ordered) in
     left.ordered
 

@@ -1,9 +1,9 @@
 use Rattle.std.proofs.Common.{sym, ◌∙◌}
-use Rattle.cm_strace_parts.specs.Lists.{fd_before, files_below}
+use Rattle.cm_ordered.specs.Order.{put_by}
+use Rattle.cm_ordered.proofs.Order.{cut_below, found_below}
+use Rattle.cm_strace_parts.specs.Lists.{fd_number, files_below}
 use Rattle.cm_strace_parts.proofs.ListOrders.{ascends_at, changed_here, inserted_here}
-use Rattle.cm_strace_parts.proofs.Order.{cut_below, found_below}
 use Rattle.cm_strace_parts.proofs.file_changes.put_fd.Goals as goal
-use Rattle.model_strace.specs.Parts.{put}
 
 pub place-at-requires : goal.place-at-requires
 place-at-requires c = rw c.deref.ensures.value c.requires.processes
@@ -24,7 +24,7 @@ insert-requires c =
 
 pub returns-in_ok-put-clause-items : goal.returns-in_ok-put-clause-items
 returns-in_ok-put-clause-items c =
-    changed_here (put fd_before c.args.new) c.args.pid c.args.list.now.items c.place-at.result
+    changed_here (put_by fd_number c.args.new) c.args.pid c.args.list.now.items c.place-at.result
     c.index_mut.result.now c.put.new.self c.requires.processes
     (rw c.deref.ensures.value at c.place-at.ensures)
     (sym (rw c.deref-2.ensures.value at c.is_at.ensures) ∙ c.if-is_at.true) c.index_mut.ensures.value
@@ -33,7 +33,7 @@ returns-in_ok-put-clause-items c =
 pub returns-in_ok-insert-clause-items : goal.returns-in_ok-insert-clause-items
 returns-in_ok-insert-clause-items c =
     c.in_ok-insert.ensures.items
-    ∙ inserted_here (put fd_before c.args.new) c.args.pid c.args.list.now.items c.place-at.result
+    ∙ inserted_here (put_by fd_number c.args.new) c.args.pid c.args.list.now.items c.place-at.result
     c.in_ok-files.files c.requires.processes
     (rw c.deref.ensures.value at c.place-at.ensures)
     (sym (rw c.deref-2.ensures.value at c.is_at.ensures) ∙ c.if-is_at.false) c.in_ok-files.ensures

@@ -2,7 +2,7 @@ use Rattle.std.proofs.Common.{sym, ◌∙◌, ap, List}
 use Rattle.cm_strace_parts.specs.Lists.{Fd, fd_before, files_below}
 use Rattle.cm_strace_parts.proofs.Among.{put_all_alone}
 use Rattle.cm_strace_parts.proofs.ListOrders.{ascends_at, changed_here, inserted_here}
-use Rattle.cm_strace_parts.proofs.Order.{cut_below, found_below}
+use Rattle.cm_ordered.proofs.Order.{cut_below, found_below}
 use Rattle.cm_strace_parts.proofs.Orders.{fd_apart}
 use Rattle.cm_strace_parts.proofs.file_changes.put_fds.Goals as goal
 use Rattle.model_strace.specs.Parts.{put_all}

@@ -1,7 +1,8 @@
 use Rattle.std.proofs.Common.{◌∙◌, ap}
-use Rattle.cm_strace_parts.specs.Undone.{Tracked, others_by}
+use Rattle.cm_ordered.specs.Order.{others_by}
+use Rattle.cm_ordered.specs.Undone.{Tracked}
 use Rattle.cm_strace_parts.proofs.Orders.{moved_others}
-use Rattle.cm_strace_parts.proofs.Undoing.{vec_still, vec_saved}
+use Rattle.cm_ordered.proofs.Undoing.{vec_still, vec_saved}
 use Rattle.cm_strace_parts.proofs.task.move_to.Goals as goal
 use Rattle.model_strace.specs.Parts.{Task}
 

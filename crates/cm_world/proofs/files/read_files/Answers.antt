@@ -11,7 +11,8 @@ use Rattle.cm_world.proofs.files.read_files.Goals as goal
 
 pub returns : goal.returns
 returns c =
-    table_read c.args.mounts c.in_ok-files.files (read_rows table.File limit.Files 0 (file_row c.args.mounts) [] (items_view c.args.rows.now))
+    table_read c.args.mounts c.in_ok-files.files
+    (read_rows table.File limit.Files 0 (file_row c.args.mounts) [] (items_view c.args.rows.now))
     c.into_vec.result.items c.into_vec-2.result.items c.in_ok-table_of.field-0
     c.in_ok-files.ensures.answers c.into_vec.ensures.mounts c.into_vec-2.ensures.rows c.in_ok-table_of.ensures
 

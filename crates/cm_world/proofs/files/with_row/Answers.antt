@@ -27,9 +27,11 @@ returns-in_err-made-clause-gives c =
     let more : List FileRow = c.args.files ++ file_declared c.args.mounts.now c.args.files row ∷ [] in
     let same : c.from_residual-in_err-made.result ≡ Err c.in_err-made.field-0.0 = search rules in
     rw (same, c.in-Table.is, view-Table c.in-Table.row) (
-    keys_fit row (keys_of c.file_keys.result.now) file_keys checks more (Err c.in_err-made.field-0.0) c.file_keys.ensures
+    keys_fit row (keys_of c.file_keys.result.now) file_keys checks more (Err c.in_err-made.field-0.0)
+    c.file_keys.ensures
     c.in_ok-check_keys.ensures.gives
-    (both_refused (first_standing checks) (file_declared c.args.mounts.now c.args.files row) more (cause_of c.in_err-made.field-0.0)
+    (both_refused (first_standing checks) (file_declared c.args.mounts.now c.args.files row) more
+    (cause_of c.in_err-made.field-0.0)
     c.in_err-made.ensures.gives))
 
 pub returns-clause-gives : goal.returns-clause-gives
@@ -40,7 +42,8 @@ returns-clause-gives c =
     rw (c.in-Table.is, view-Table c.in-Table.row) (
     keys_fit row (keys_of c.file_keys.result.now) file_keys checks more (Ok c.in_ok-with.field-0) c.file_keys.ensures
     c.in_ok-check_keys.ensures.gives
-    (both_made (first_standing checks) (file_declared c.args.mounts.now c.args.files row) c.in_ok-made.made more c.in_ok-with.field-0
+    (both_made (first_standing checks) (file_declared c.args.mounts.now c.args.files row) c.in_ok-made.made more
+    c.in_ok-with.field-0
     c.in_ok-made.ensures.gives (λ same. ap (λ (f : FileRow). c.args.files ++ f ∷ []) same ∙ sym c.in_ok-with.ensures)))
 
 pub returns-clause-fine : goal.returns-clause-fine

@@ -25,9 +25,11 @@ returns-in_err-m-clause-gives c =
     let more : List Mount = c.args.mounts ++ mount_declared c.args.names.now row ∷ [] in
     let same : c.from_residual-in_err-m.result ≡ Err c.in_err-m.field-0.0 = search rules in
     rw (same, c.in-Table.is, view-Table c.in-Table.row) (
-    keys_fit row (keys_of c.mount_keys.result.now) mount_keys checks more (Err c.in_err-m.field-0.0) c.mount_keys.ensures
+    keys_fit row (keys_of c.mount_keys.result.now) mount_keys checks more (Err c.in_err-m.field-0.0)
+    c.mount_keys.ensures
     c.in_ok-check_keys.ensures.gives
-    (both_refused (first_standing checks) (mount_declared c.args.names.now row) more (cause_of c.in_err-m.field-0.0) c.in_err-m.ensures))
+    (both_refused (first_standing checks) (mount_declared c.args.names.now row) more
+    (cause_of c.in_err-m.field-0.0) c.in_err-m.ensures))
 
 pub returns-clause-gives : goal.returns-clause-gives
 returns-clause-gives c =
@@ -37,5 +39,6 @@ returns-clause-gives c =
     rw (c.in-Table.is, view-Table c.in-Table.row) (
     keys_fit row (keys_of c.mount_keys.result.now) mount_keys checks more (Ok c.in_ok-with.field-0) c.mount_keys.ensures
     c.in_ok-check_keys.ensures.gives
-    (both_made (first_standing checks) (mount_declared c.args.names.now row) c.in_ok-m.m more c.in_ok-with.field-0 c.in_ok-m.ensures
+    (both_made (first_standing checks) (mount_declared c.args.names.now row) c.in_ok-m.m more
+    c.in_ok-with.field-0 c.in_ok-m.ensures
     (λ same. ap (λ (m : Mount). c.args.mounts ++ m ∷ []) same ∙ sym c.in_ok-with.ensures)))

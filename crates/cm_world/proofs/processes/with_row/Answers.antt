@@ -20,7 +20,8 @@ returns-in_err-check_row-clause-gives c =
     let more : List Process = insert_process (process_declared names row) c.args.procs in
     let same : c.from_residual.result ≡ Err c.in_err-check_row.field-0.0 = search rules in
     rw (same, c.in-Table.is, view-Table c.in-Table.row) (
-    refused_of_keys (limited_checks row) (keys_of c.process_keys.result.now) process_keys (process_checks names c.args.procs row) more
+    refused_of_keys (limited_checks row) (keys_of c.process_keys.result.now) process_keys
+    (process_checks names c.args.procs row) more
     c.process_keys.ensures (cause_of c.in_err-check_row.field-0.0) c.in_err-check_row.ensures.gives)
 
 pub returns-in_err-p-clause-gives : goal.returns-in_err-p-clause-gives
@@ -31,9 +32,11 @@ returns-in_err-p-clause-gives c =
     let more : List Process = insert_process (process_declared names row) c.args.procs in
     let same : c.from_residual-in_err-p.result ≡ Err c.in_err-p.field-0.0 = search rules in
     rw (same, c.in-Table.is, view-Table c.in-Table.row) (
-    passed_of_keys (limited_checks row) (keys_of c.process_keys.result.now) process_keys checks more c.process_keys.ensures
+    passed_of_keys (limited_checks row) (keys_of c.process_keys.result.now) process_keys checks more
+    c.process_keys.ensures
     (Err c.in_err-p.field-0.0) c.in_ok-check_row.ensures.gives
-    (both_refused (first_standing checks) (process_declared names row) more (cause_of c.in_err-p.field-0.0) c.in_err-p.ensures.gives))
+    (both_refused (first_standing checks) (process_declared names row) more
+    (cause_of c.in_err-p.field-0.0) c.in_err-p.ensures.gives))
 
 pub returns-clause-gives : goal.returns-clause-gives
 returns-clause-gives c =
@@ -42,9 +45,11 @@ returns-clause-gives c =
     let checks = process_checks names c.args.procs row in
     let more : List Process = insert_process (process_declared names row) c.args.procs in
     rw (c.in-Table.is, view-Table c.in-Table.row) (
-    passed_of_keys (limited_checks row) (keys_of c.process_keys.result.now) process_keys checks more c.process_keys.ensures
+    passed_of_keys (limited_checks row) (keys_of c.process_keys.result.now) process_keys checks more
+    c.process_keys.ensures
     (Ok c.in_ok-with_one.field-0) c.in_ok-check_row.ensures.gives
-    (both_made (first_standing checks) (process_declared names row) c.in_ok-p.p more c.in_ok-with_one.field-0 c.in_ok-p.ensures.gives
+    (both_made (first_standing checks) (process_declared names row) c.in_ok-p.p more
+    c.in_ok-with_one.field-0 c.in_ok-p.ensures.gives
     (λ same. ap (λ p. insert_process p c.args.procs) same ∙ sym c.in_ok-with_one.ensures.placed)))
 
 pub returns-clause-stands : goal.returns-clause-stands

@@ -1,20 +1,19 @@
-use Rattle.std.proofs.Common.{◌≡◌, ◌∙◌, ap}
-use Rattle.std.specs.List.{insert}
-use Rattle.cm_state.proofs.Places.{insert_there}
+use Rattle.std.proofs.Common.{◌∙◌, ap}
+use Rattle.cm_ordered.specs.Order.{put_by}
+use Rattle.cm_state.proofs.Places.{falls, none_alive, put_fresh, rises}
 use Rattle.cm_state.proofs.procs.Procs.insert.Goals as goal
-use Rattle.model_cred.proofs.Orders.{insert_ascends}
-use Rattle.model_cred.specs.Process.{Process, insert_process}
+use Rattle.cm_state.specs.Places.{pid_of}
+
+pub insert-requires-clause-ascends : goal.insert-requires-clause-ascends
+insert-requires-clause-ascends c = rw c.self.view_is (rises c.args.self.now c.requires.ascends)
+
+pub insert-requires-clause-fresh : goal.insert-requires-clause-fresh
+insert-requires-clause-fresh c = rw c.self.view_is (none_alive c.args.self.now c.args.p.pid c.requires.fresh)
 
 pub returns-clause-put : goal.returns-clause-put
 returns-clause-put c =
-    c.in_ok-insert.ensures.items ∙ ap (λ ps. insert ps c.place_of-at.result c.args.p) c.self.view_is
-    ∙ insert_there _ _ _ _ _ (c.deref.ensures.value ∙ c.self.view_is)
-    (c.number.ensures.value ∙ ap (λ (p : Process). p.pid) c.p.view_is) c.requires.fresh c.place_of-at.ensures
+    c.in_ok-insert.ensures.items ∙ ap (put_by pid_of c.args.p) c.self.view_is
+    ∙ put_fresh c.args.p c.args.self.now (none_alive c.args.self.now c.args.p.pid c.requires.fresh)
 
 pub returns-clause-still : goal.returns-clause-still
-returns-clause-still c =
-    let is : c.insert.new.self.items ≡ insert_process c.args.p c.args.self.now =
-    c.in_ok-insert.ensures.items ∙ ap (λ ps. insert ps c.place_of-at.result c.args.p) c.self.view_is
-    ∙ insert_there _ _ _ _ _ (c.deref.ensures.value ∙ c.self.view_is)
-    (c.number.ensures.value ∙ ap (λ (p : Process). p.pid) c.p.view_is) c.requires.fresh c.place_of-at.ensures in
-    rw is (insert_ascends c.args.p c.args.self.now c.requires.fresh c.requires.ascends)
+returns-clause-still c = falls _ c.in_ok-insert.ensures.ascends

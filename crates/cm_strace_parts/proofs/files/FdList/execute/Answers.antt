@@ -1,6 +1,6 @@
 use Rattle.std.proofs.Common.{sym, ◌∙◌, ap}
 use Rattle.cm_strace_parts.specs.Lists.{Fd}
-use Rattle.cm_strace_parts.proofs.Among.{none_goes}
+use Rattle.cm_ordered.proofs.Among.{none_goes}
 use Rattle.cm_strace_parts.proofs.files.FdList.execute.Goals as goal
 
 pub returns-then-not-any_until_exec-clause-items :

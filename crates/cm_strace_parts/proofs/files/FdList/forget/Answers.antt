@@ -1,7 +1,7 @@
 use Rattle.std.proofs.Common.{rules, sym, ap}
 use Rattle.cm_strace_parts.specs.Lists.{fd_before, is_fd}
-use Rattle.cm_strace_parts.specs.Order.{Ascends}
-use Rattle.cm_strace_parts.proofs.Among.{none_found_goes, not_mapped}
+use Rattle.cm_ordered.specs.Order.{Ascends}
+use Rattle.cm_ordered.proofs.Among.{none_found_goes, not_mapped}
 use Rattle.cm_strace_parts.proofs.files.FdList.forget.Goals as goal
 
 pub get-requires : goal.get-requires

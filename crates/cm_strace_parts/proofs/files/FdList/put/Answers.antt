@@ -1,6 +1,6 @@
 use Rattle.std.proofs.Common.{rules}
 use Rattle.cm_strace_parts.specs.Lists.{fd_before}
-use Rattle.cm_strace_parts.specs.Order.{Ascends}
+use Rattle.cm_ordered.specs.Order.{Ascends}
 use Rattle.cm_strace_parts.proofs.files.FdList.put.Goals as goal
 
 pub put-requires : goal.put-requires
