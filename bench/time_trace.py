@@ -52,6 +52,14 @@ int main(int count, char **words)
     return 0;
 }
 """
+FORKS = """
+import os, sys
+for _ in range(int(sys.argv[1])):
+    child = os.fork()
+    if not child:
+        os._exit(0)
+    os.waitpid(child, 0)
+"""
 LOOP = 'for ((k = 0; k < $0; k++)); do {}; done'
 # What is timed: of each the words, in which NUMBER stands for how often.
 TIMED: dict[str, tuple[int, list[str]]] = {
@@ -59,6 +67,7 @@ TIMED: dict[str, tuple[int, list[str]]] = {
     "open, write, close": (20000, ["./many", "opens", "NUMBER"]),
     "redirections": (20000, ["bash", "-c", LOOP.format("echo x > file"), "NUMBER"]),
     "forks": (300, ["./many", "forks", "NUMBER"]),
+    "forks of Python": (300, [sys.executable, "-c", FORKS, "NUMBER"]),
     "commands": (300, ["bash", "-c", LOOP.format("/bin/true"), "NUMBER"]),
     "tar": (10000, ["tar", "-cf", "files.tar", "files"]),
     "untar": (10000, ["tar", "-xf", "files.tar", "-C", "out"]),
@@ -98,7 +107,7 @@ def recorded(words: list[str], work: str) -> list[str]:
 
 def timed(name: str, words: list[str], work: str, strace: str, times: int) -> float:
     """Times one, so often in turn, and tells the medians; the ratio by the clock."""
-    ways = (words, [strace, "-f", "-e", strace_options.TRACE, "-o", "log", *words], recorded(words, work))
+    ways = (words, [strace, "-f", "-e", strace_options.traced(), "-o", "log", *words], recorded(words, work))
     told = [[seconds(way, work) for way in ways] for _ in range(times)]
     ratios = []
     for place, what in enumerate(("by the clock", "of processors")):

@@ -1,15 +1,14 @@
 #!/usr/bin/env python3
 """What a yes rests on: prints each definition that can be reached from the clauses of the top call, `run`.
 
-  rests_on.py [--page]
+  rests_on.py
 
 A contract says no more than the definitions that it cites, and those that these cite in turn. For each: the file and
 its lines, the name, and the sentence above it. Types of code that definitions speak of stand among them, and the traits
 of the outside. At the end come the words of the kit's libraries that are used, by module: their statements are the
 kit's.
 
-With --page it prints the same without numbers of lines, in the form in which docs/ASSUMPTIONS.md has it. A test holds
-that page against this list (tools/gate/tests/test_rests_on.py).
+docs/DEFINITIONS.md has the same without numbers of lines (tools/pages/definitions_page.py).
 
 A name is followed where a definition's text has it, so a variable that is named as a definition counts as that
 definition: the list may have a few too many, and leaves none out.
@@ -18,7 +17,6 @@ import argparse
 import os
 import re
 import sys
-import textwrap
 from collections.abc import Iterator
 from dataclasses import dataclass, field
 
@@ -324,33 +322,9 @@ def kit_words() -> dict[str, list[str]]:
     return {module: sorted(names) for module, names in sorted(found.items())}
 
 
-def item(text: str) -> list[str]:
-    """An item of a list, in lines of at most 120 columns."""
-    return textwrap.wrap(text, 120, initial_indent="- ", subsequent_indent="  ", break_on_hyphens=False)
-
-
-def page() -> str:
-    """The list as docs/ASSUMPTIONS.md has it: by file, each name with its sentence; then the kit's words."""
-    lines: list[str] = []
-    path = ""
-    for row in rows():
-        if row.path != path:
-            path = row.path
-            lines += ["", f"`{path}`", ""]
-        lines += item(f"`{row.name}`: {row.sentence}.")
-    lines += ["", "Words of the kit's libraries:", ""]
-    for module, names in kit_words().items():
-        lines += item(f"`{module}`: " + ", ".join(f"`{name}`" for name in names) + ".")
-    return "\n".join(lines).strip() + "\n"
-
-
 def main() -> int:
     """Prints the list."""
-    parser = argparse.ArgumentParser(description="prints what the clauses of the top call rest on")
-    parser.add_argument("--page", action="store_true", help="in the form of docs/ASSUMPTIONS.md, without line numbers")
-    if parser.parse_args().page:
-        print(page(), end="")
-        return 0
+    argparse.ArgumentParser(description="prints what the clauses of the top call rest on").parse_args()
     listed = rows()
     for row in listed:
         print(f"{row.path}:{row.first}-{row.last}: {row.name}: {row.sentence}")

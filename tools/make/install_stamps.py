@@ -4,7 +4,7 @@
   install_stamps.py [--top FOLDER] PROGRAM INSTALLED LIBRARY
 
 PROGRAM was copied to INSTALLED. LIBRARY, the commands' folder, gets the stamp of this tree as credaudit.tree, and that
-of PROGRAM, if it has one of its own, as credaudit.build (docs/FORMATS.md, "Stamps"). One line tells what INSTALLED is:
+of PROGRAM, if it has one of its own, as credaudit.build (docs/STAMPS.md). One line tells what INSTALLED is:
 "proved, of this tree", "proved, of another tree" or "not proved". FOLDER is the repository, if it isn't this one.
 """
 import argparse

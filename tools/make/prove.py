@@ -7,7 +7,7 @@ The kit proves and builds the libraries below crates/credaudit, side by side whe
 at once (else as many as there are processors). Then it proves and builds crates/credaudit itself over these, and runs
 it with these words (`rt run`); a library that isn't of the text that stands there now it proves again. What all this
 took is told, in minutes by the clock and of processor. Then the program's stamp is written beside it,
-out/credaudit.build (docs/FORMATS.md, "Stamps"), with `proved: yes`: the kit said logic=proved before it linked the
+out/credaudit.build (docs/STAMPS.md), with `proved: yes`: the kit said logic=proved before it linked the
 program, or that nothing has changed since. Where it says neither, or sources are changed meanwhile, no stamp is left
 and the status is 1; so it is where a library isn't proved, which is named. Else the status is that of rt. FOLDER is
 the repository, if it isn't this one.

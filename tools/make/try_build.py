@@ -6,7 +6,7 @@
 The kit builds crates/credaudit with checks, proves nothing, and runs it with these words (`rt try`). What it writes
 must be what crates/credaudit/stdout has. The build lies in a temporary folder, which the kit removes: it is taken from
 there while the program waits for its first file, which it gets as a FIFO. If the copy then writes the same without the
-kit, it is left as out/credaudit-unproved, with a stamp beside it (docs/FORMATS.md, "Stamps") that says `proved: no`.
+kit, it is left as out/credaudit-unproved, with a stamp beside it (docs/STAMPS.md) that says `proved: no`.
 FOLDER is the repository, if it isn't this one. Status 0: the report is the stored one; 1: it isn't, or the kit failed.
 """
 import argparse

@@ -1,5 +1,5 @@
 #!/usr/bin/env python3
-"""The drill of docs/FORMATS.md, "Drill", worked out by plain Python, over plain/rules.py and plain/closure.py: what
+"""The drill of docs/DRILL.md, worked out by plain Python, over plain/rules.py and plain/closure.py: what
 `credaudit drill N` ought to write, without credaudit. Nothing is proved of it.
 
   drill.py N          the five lines

@@ -231,7 +231,7 @@ static void trapped(void)
 }
 
 /* One thread installs the filter in all (SECCOMP_FILTER_FLAG_TSYNC), and with it comes no_new_privs. */
-static pid_t the_other;
+static _Atomic pid_t the_other;      /* 0 until it runs */
 static void *rests(void *nothing)
 {
     the_other = gettid();
@@ -242,7 +242,8 @@ static void all_threads(void)
 {
     pthread_t other;
     pthread_create(&other, NULL, rests, NULL);
-    usleep(100000);
+    while (the_other == 0)
+        usleep(1000);
     no_new_privs();
     struct sock_filter filter[] = {ANSWER(SECCOMP_RET_ALLOW)};
     install(filter, LENGTH(filter), SECCOMP_FILTER_FLAG_TSYNC);

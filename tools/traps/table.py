@@ -1,4 +1,4 @@
-"""All traps, by danger, and the table of docs/TESTING.md."""
+"""All traps, by danger, and the table of docs/TESTING-tools.md."""
 from . import call_rows, files_rows, process_rows, wait_rows
 from .row import Trap
 

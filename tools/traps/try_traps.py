@@ -8,8 +8,8 @@ Each case (tools/traps) runs twice, in namespaces of its own: alone, where the k
 danger really happens, and under credaudit-trace with a scan of all files, whose summary must tell it. NAME is
 PROGRAM/CASE, or PROGRAM for all of its cases. --slow gives each N times its time, on a machine with much other work: a
 recording of two seconds may end there before its program has begun. --keep leaves recordings and what was said in
-FOLDER. --table writes the table of docs/TESTING.md. Status 0: each danger happens, and each is told; 1: some isn't; 2:
-it can't be tried.
+FOLDER. --table writes the table of docs/TESTING-tools.md. Status 0: each danger happens, and each is told; 1: some
+isn't; 2: it can't be tried.
 """
 import argparse
 import json

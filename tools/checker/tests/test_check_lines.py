@@ -112,6 +112,7 @@ NO_EVENTS = [
     "prctl(PR_CAPBSET_READ, 0xffffffffffffffff /* CAP_??? */) = -1 EINVAL (Invalid argument)",
     "prctl(PR_CAP_AMBIENT, PR_CAP_AMBIENT_IS_SET, CAP_NET_RAW, 0, 0) = 1",
     "prctl(PR_CAP_AMBIENT, 0x9 /* PR_CAP_AMBIENT_??? */, 0x1, 0, 0) = -1 EINVAL (Invalid argument)",
+    "accept4(3) = 5", "connect(4294967295) = -1 EBADF (Bad file descriptor)", "socket() = 4", "read(0) = 0",
 ]
 
 
@@ -183,7 +184,10 @@ REFUSED = {
     "end": ["100 +++ exited +++\n", "100 +++ exited with 0\n", "100 +++ killed by 9x +++\n", "100 +++\n"],
     "call": ["100 openat(AT_FDCWD, \"/proc/200/uid_map\", O_WRONLY) = 3\n", "100 setresuid32(0, 0, 0) = 0\n",
              "100 setuid 0 = 0\n", "100 strace: x\n", "100 execveat(AT_FDCWD, \"/x\", [], NULL, 0) = 0\n",
-             "100 dup2(3, 1) = 1\n", "100 00:13:52 setuid(7) = 0\n", "100 syscall_0x1c4(0x3) = 0\n", "100 _exit\n"],
+             "100 dup2(3, 1) = 1\n", "100 dup(3) = 1\n", "100 accept4(3, NULL, NULL, 0) = 5\n",
+             "100 accept4(3) = ?\n", "100 accept4(03) = 5\n", "100 fchown32(3) = 0\n", "100 Accept(3) = 5\n",
+             "100 accept4(-1) = 5\n", "100 accept4(3<socket:[7]>) = 5\n",
+             "100 00:13:52 setuid(7) = 0\n", "100 syscall_0x1c4(0x3) = 0\n", "100 _exit\n"],
     "shape": ["100 setuid(0) =  \n".replace("  ", ""), "100 setuid(0)= 0\n", "100 setuid(0) 0\n", "100 setuid(0\n",
               "100 setuid( = 0\n", "100 setresuid(0,0,0) = 0\n", "100 setuid(0)  = 0\n", "100 setgroups(1, [5) = 0\n",
               '100 execve("/x, [], NULL) = 0\n', "100 setuid(0,) = 0\n", "100 setuid(f(0)) = 0\n"],
@@ -329,7 +333,7 @@ KINDS = {
     "VERSION": "_LINUX_CAPABILITY_VERSION_[123]", "OWN": DIGITS, "FLAGS": r"\w+(?:\|\w+)*(?: /\*.*?\*/)?",
     "TEXT": r'(?:[^"\\]|\\.)*', "ANY": rf"(?:{CAP}|\w+|\[[^]]*\]|\{{[^}}]*\}})", "ERROR": ERROR, "STATUS": "[0-9]+",
     "SIGNAL": "[A-Z0-9_]+", "ANSWER": rf"(?:{ERROR}|(?:{DIGITS}|0x[0-9a-f]+)(?: \([^()]+\))?)",
-    "WRITTEN": f"(?:{DIGITS}|{ERROR})"}
+    "WRITTEN": f"(?:{DIGITS}|{ERROR})", "MARKED": "[a-z][a-z0-9_]*"}
 
 
 def pattern(body: str) -> re.Pattern[str]:

@@ -97,6 +97,26 @@ class Stored(unittest.TestCase):
         self.assertGreater(count, 80)
 
 
+class Marked(unittest.TestCase):
+    """Marks, which a recording has where it was asked to keep calls that no rule reads."""
+
+    def test_marks_are_no_events(self) -> None:
+        """Behind each line of recordings, but within the three lines of a file and behind an end."""
+        found = folders(os.path.join(EXAMPLES, "strace", "*", "recording.toml"))
+        self.assertGreater(len(found), 30)
+        for folder in found:
+            lines, within = list[bytes](), 0
+            for line in read(folder, "log").splitlines(keepends=True):
+                within += line.count(b" open(") - line.count(b" close(")
+                pid = line.partition(b" ")[0]
+                more = within or b"+++" in line
+                lines += [line, *([] if more else [pid + b" accept4(3) = 5\n", pid + b" socket() = " + EPERM.encode()
+                                                   + b"\n"])]
+            replay = Replay(read_world(read(folder, "world.toml")))
+            end = replay.run(recording.events(b"".join(lines), replay.state))
+            self.assertEqual(end.processes, end_of(folder).processes, folder)
+
+
 # ---- certificates of recordings
 
 
@@ -132,15 +152,15 @@ NOT_START = "refused not-start init"
 # Of a recording the pid of a certificate, the place and the number of lines, what stands there instead, and what is
 # answered then; worked out by hand.
 ALTERED = [
-    ("recording-fixed", 100, 5, 1, (), NOT_START), ("recording-fixed", 100, 4, 1, (), NOT_START),
-    ("recording-fixed", 100, 3, 1, (), NOT_START), ("recording-fixed", 100, 2, 1, (), "holds"),     # it had no groups
-    ("recording-fixed", 100, 4, 1, ("setresuid(33, 33, 34) = 0",), NOT_START),
-    ("recording-fixed", 100, 4, 1, ("setresuid(33, 33, 33) = " + EPERM,), "impossible line 4: the rules give 0"),
-    ("recording-fixed", 100, 5, 1, ("prctl(PR_SET_NO_NEW_PRIVS, 0, 0, 0, 0) = -1 EINVAL (Invalid argument)",),
+    ("recording-fixed", 100, 9, 1, (), NOT_START), ("recording-fixed", 100, 8, 1, (), NOT_START),
+    ("recording-fixed", 100, 7, 1, (), NOT_START), ("recording-fixed", 100, 6, 1, (), "holds"),     # it had no groups
+    ("recording-fixed", 100, 8, 1, ("setresuid(33, 33, 34) = 0",), NOT_START),
+    ("recording-fixed", 100, 8, 1, ("setresuid(33, 33, 33) = " + EPERM,), "impossible line 8: the rules give 0"),
+    ("recording-fixed", 100, 9, 1, ("prctl(PR_SET_NO_NEW_PRIVS, 0, 0, 0, 0) = -1 EINVAL (Invalid argument)",),
      NOT_START),
-    ("recording-fixed", 100, 5, 1, ("prctl(PR_SET_NO_NEW_PRIVS, 1, 0, 0, 0) = 0", "+++ exited with 0 +++"),
+    ("recording-fixed", 100, 9, 1, ("prctl(PR_SET_NO_NEW_PRIVS, 1, 0, 0, 0) = 0", "+++ exited with 0 +++"),
      "bad query: pid"),
-    ("recording-fixed", 100, 5, 1, ("prctl(PR_SET_NO_NEW_PRIVS, 1, 0, 0, 0) = 0", "unshare(CLONE_NEWUSER) = 0"),
+    ("recording-fixed", 100, 9, 1, ("prctl(PR_SET_NO_NEW_PRIVS, 1, 0, 0, 0) = 0", "unshare(CLONE_NEWUSER) = 0"),
      "refused shape document"),                                                                     # two spaces stand
     ("su", 101, 38, 1, (), NOT_START), ("sudo", 101, 68, 1, (), NOT_START), ("sudo", 101, 62, 1, (), NOT_START),
     ("bwrap", 101, 66, 1, (), "impossible line 108: the rules give EPERM"),        # that map is written already
@@ -234,7 +254,7 @@ class Certified(Case):
     def test_worlds(self) -> None:
         """A certificate for another state at the start; worked out by hand."""
         for name, old, new, told in (
-                ("recording-fixed", "uid = [0, 0, 0, 0]", "uid = 1000", "impossible line 2: the rules give EPERM"),
+                ("recording-fixed", "uid = [0, 0, 0, 0]", "uid = 1000", "impossible line 6: the rules give EPERM"),
                 ("recording-fixed", 'effective = "000001fffeffffff"', 'effective = "none"', "holds"),
                 ("recording-fixed", 'bounding = "000001fffeffffff"', 'bounding = "all"', NOT_START),
                 ("recording-fixed", 'bounding = "000001fffeffffff"', 'bounding = "000001fffeffffdf"', "holds"),

@@ -27,8 +27,8 @@ def call_text(call: Call) -> str:
 
 def run_of(query: Asked) -> list[str] | None:
     """The calls of the first plan that ends with a holder; None where there is none, or more than one process."""
-    pid, right = live_plans.PID, query.right
-    if query.members != {pid} or query.state.processes[pid][0] != 0 or right.space != 0:
+    pid, right = min(query.members), query.right
+    if len(query.members) > 1 or query.state.processes[pid][0] != 0 or right.space != 0:
         return None
     wanted = live_plans.Right(right.kind, right.of.bit_length() - 1 if right.kind == "cap" else right.of)
     permitted = frozenset(name.decode() for name in CALLS) - query.excluded
@@ -45,7 +45,7 @@ def verdict(query: Asked) -> Ends:
         return Ends(NO, "no 0", f"holder {holder}")
     ends = plain_bounds.verdict(query)
     run = run_of(query) if ends.status == UNDECIDED else None
-    return ends if run is None else Ends(NO, f"no {len(run)}", *run, f"holder {live_plans.PID}")
+    return ends if run is None else Ends(NO, f"no {len(run)}", *run, f"holder {min(query.members)}")
 
 
 def audited(world: bytes, log: bytes, pid: bytes, right: bytes) -> Ends:

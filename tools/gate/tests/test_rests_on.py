@@ -1,24 +1,12 @@
-"""docs/ASSUMPTIONS.md has each definition on which the clauses of the top call rest, with a sentence, and no other."""
-import os
+"""Each definition on which the clauses of the top call rest has a sentence, and those that it must reach are there."""
 import unittest
 
-from commands.tests.support import EXAMPLES, Case
+from commands.tests.support import Case
 
 from .. import rests_on
 
-PAGE = os.path.join(EXAMPLES, "..", "docs", "ASSUMPTIONS.md")
-MARK = "<!-- tools/gate/rests_on.py --page -->\n"
-
 
 class RestsOn(Case):
-    def test_the_page_is_the_list(self) -> None:
-        with open(PAGE, encoding="utf-8") as file:
-            listed = file.read().split(MARK)[1].strip()
-        told, wanted = listed.split("\n"), rests_on.page().strip().split("\n")
-        self.assertEqual([line for line in wanted if line not in told], [], "definitions that the page lacks")
-        self.assertEqual([line for line in told if line not in wanted], [], "what the page has and nothing reaches")
-        self.assertEqual(told, wanted)
-
     def test_each_has_a_sentence(self) -> None:
         self.assertEqual([f"{row.path}: {row.name}" for row in rests_on.rows() if not row.sentence], [])
 

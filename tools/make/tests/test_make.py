@@ -14,6 +14,7 @@ from unittest import mock
 
 from commands.tests import support
 from commands.tests.support import Case
+from credaudit_tools import VERSION
 from credaudit_tools.provenance import sources, stamp
 from credaudit_tools.provenance.stamp import Build, Tree
 from make import prove, same_program, try_build
@@ -38,7 +39,8 @@ TREE = {
     "crates/credaudit/src/main.rt": b"main", "crates/credaudit/stdout": REPORT,
     "crates/credaudit/args": b"replay\nworld.toml\nlog\n",
     "crates/credaudit/data/world.toml": b"world\n", "crates/credaudit/data/log": b"log\n", "README.md": b"x",
-    "docs/A.md": b"x", "man/a.1": b"x", "man/a.5": b"x", "completion/credaudit": b"x", "examples/x": b"x",
+    "docs/A.md": b"x", "man/a.1": b"x", "man/a.5": b"x", "examples/x": b"x", "CHANGELOG.md": b"x", "SECURITY.md": b"x",
+    "completion/credaudit": b"x", "completion/credaudit.fish": b"x", "completion/_credaudit": b"x",
 }
 
 
@@ -113,7 +115,7 @@ class SmallTree(Case):
                               check=True).stdout
         stamped = os.path.exists(os.path.join(self.root, "usr", "lib", "credaudit", "credaudit.build"))
         shown = kind if stamped else "not proved (it has no stamp)"
-        self.assertEqual(told, f"credaudit-lint 1\ncommit: unknown\nlogic: {LOGIC if stamped else 'unknown'}\n"
+        self.assertEqual(told, f"credaudit-lint {VERSION}\ncommit: unknown\nlogic: {LOGIC if stamped else 'unknown'}\n"
                                f"program: {program}: {shown}\n")
         return kind
 
@@ -124,7 +126,7 @@ class SmallTree(Case):
     def wanted(self, proved: bool, said: str, name: str = "credaudit") -> Build:
         """The stamp that the program of that name should have."""
         program = sources.sum_of_file(os.path.join(self.crate, "out", name))
-        return Build(Tree("1", "unknown", sources.sum_of(self.top)), program, LOGIC, proved, said)
+        return Build(Tree(VERSION, "unknown", sources.sum_of(self.top)), program, LOGIC, proved, said)
 
     def left(self) -> set[str]:
         """What stands in the program's folder."""
@@ -145,7 +147,7 @@ class Proved(SmallTree):
         self.put("tree/README.md", b"changed")
         self.assertEqual(self.installed(), "proved, of this tree")
         self.put("tree/crates/low/specs/A.antt", b"changed")
-        self.assertEqual(self.installed(), "proved, of another tree (version 1, commit unknown)")
+        self.assertEqual(self.installed(), f"proved, of another tree (version {VERSION}, commit unknown)")
         os.rename(self.built + ".build", self.built + ".away")
         self.assertEqual(self.installed(), "not proved (it has no stamp)")
         os.rename(self.built + ".away", self.built + ".build")

@@ -25,7 +25,7 @@ UNIT = b"[Service]\nExecStart=/usr/sbin/mydaemon\nUser=www-data\nNoNewPrivileges
 def recipes() -> dict[str, str]:
     """By title the commands of each recipe."""
     with open(PAGE, encoding="utf-8") as file:
-        found = re.findall(r"^## (.*)\n(?:(?!```|## ).*\n)*```\n((?:(?!```).*\n)*)```$", file.read(), re.MULTILINE)
+        found = re.findall(r"^## (A .*)\n(?:(?!```|## ).*\n)*```\n((?:(?!```).*\n)*)```$", file.read(), re.MULTILINE)
     return dict(found)
 
 

@@ -1,10 +1,10 @@
 """The blocks of README and of documents: each command, pasted at the top of the repository, writes what stands below
 it.
 
-By the stored answers of the program each is run, but those that record a program: of these the stored recordings stand
-for what they make. Where the variable CREDAUDIT_BUILT names a built program, and this runs as root with strace and a C
-compiler there, each block is run as an ordinary user with sudo(8) types it. And what docs/PROVED.md and docs/LIBRARY.md
-name stands in the crates.
+By the stored answers of the program each is run, but those that record a program, of which the stored recordings stand
+for what they make, and those of pages that ask a great many questions. Where the variable CREDAUDIT_BUILT names a
+built program, and this runs as root with strace there, each block is run as an ordinary user with sudo(8) types it. And
+what docs/PROVED.md and docs/LIBRARY.md name stands in the crates.
 """
 import os
 import re
@@ -16,35 +16,33 @@ from collections.abc import Callable
 
 from commands.tests.support import EXAMPLES, STORED
 
+from ..blocks import MANY_QUESTIONS, PASTED, PROGRESS, blocks
+
 TOP = os.path.normpath(os.path.join(EXAMPLES, ".."))
-# The documents, and how many commands each has at least.
-DOCUMENTS = {"README.md": 8, "docs/TUTORIAL.md": 10, "docs/CHECKER.md": 2}
+# How many commands each document has at least.
+LEAST = {"README.md": 7, "docs/TUTORIAL.md": 10, "docs/CHECKER.md": 2, "docs/CERTIFICATE.md": 2, "docs/COOKBOOK.md": 14}
 
 
-def blocks(document: str) -> list[list[tuple[str, str]]]:
+def pasted(document: str) -> list[list[tuple[str, str]]]:
     """The blocks with commands of a document: in each the commands, and what each writes."""
     with open(os.path.join(TOP, document), encoding="utf-8") as file:
-        texts = re.findall(r"^```\n(\$ .*?)^```$", file.read(), re.MULTILINE | re.DOTALL)
-    found: list[list[tuple[str, str]]] = []
-    for text in texts:
-        parts = re.split(r"^\$ ", text, flags=re.MULTILINE)[1:]
-        found.append([(part.split("\n", 1)[0], part.split("\n", 1)[1]) for part in parts])
-    return found
+        return [found for found in (block.commands() for block in blocks(file.read())) if found]
 
 
-RECORDINGS = ("recording", "recording-fixed")
+# By name the stored recordings that stand for those which blocks make.
+RECORDINGS = {"recording": "first_try", "recording-fixed": "first_try", "recording-late": "drops_too_late",
+              "recording-late-fixed": "drops_too_late"}
 COMMANDS = os.path.join(TOP, "tools")
 BUILT = os.environ.get("CREDAUDIT_BUILT")
-# Words of progress, which a slow machine shows beside what is told.
-PROGRESS = re.compile(r"^credaudit-[a-z]+: .*?\d+ (?:of \d+|lines of strace, \d+ kept)\n", re.MULTILINE)
 USER = 65533             # who may be nobody's: an ordinary user
-# Of a block whose commands call the program many times: test_expecting runs them within the test.
-ELSEWHERE = ("/tmp/rights.expected", "/tmp/told")
+# Of a block whose commands call the program many times: test_expected_classes and test_when_expected run them within
+# the test.
+ELSEWHERE = ("/tmp/rights.expected", "/tmp/told", "/tmp/late.expected", "/tmp/late.told")
 
 
 def may_record() -> bool:
     """Whether programs can be recorded here, and the program is built."""
-    return bool(BUILT) and os.geteuid() == 0 and all(shutil.which(name) for name in ("strace", "cc"))
+    return bool(BUILT) and os.geteuid() == 0 and bool(shutil.which("strace"))
 
 
 def as_user(command: str) -> list[str]:
@@ -80,24 +78,25 @@ class Blocks(unittest.TestCase):
                 self.assertEqual(PROGRESS.sub("", done.stdout), wanted)
 
     def test_there_are_blocks(self) -> None:
-        for document, least in DOCUMENTS.items():
-            self.assertGreaterEqual(sum(map(len, blocks(document))), least, document)
+        self.assertEqual(set(LEAST), set(PASTED))
+        for document, least in LEAST.items():
+            self.assertGreaterEqual(sum(map(len, pasted(document))), least, document)
 
     def test_they_write_what_they_say(self) -> None:
         environment = self.environment(STORED)
-        for name in RECORDINGS:
-            shutil.copytree(os.path.join(TOP, "examples", "first_try", name), os.path.join(self.folder, name))
-        for document in DOCUMENTS:
-            for block in blocks(document):
-                kept = [part for part in block if not part[0].startswith(("cc ", "sudo "))
+        for name, folder in RECORDINGS.items():
+            shutil.copytree(os.path.join(TOP, "examples", folder, name), os.path.join(self.folder, name))
+        for document in (each for each in PASTED if each not in MANY_QUESTIONS):
+            for block in pasted(document):
+                kept = [part for part in block if not part[0].startswith("sudo ")
                         and not any(name in part[0] for name in ELSEWHERE)]
                 self.run_block(kept, environment)
 
     @unittest.skipUnless(may_record(), "no built program, or programs can't be recorded here")
     def test_they_can_be_pasted(self) -> None:
         environment = self.environment(os.path.abspath(BUILT or ""))
-        for document in DOCUMENTS:
-            for block in blocks(document):
+        for document in PASTED:
+            for block in pasted(document):
                 self.run_block(block, environment, as_user)
 
 

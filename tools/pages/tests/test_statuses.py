@@ -14,6 +14,7 @@ from credaudit_tools.lint import lint_command
 from credaudit_tools.replay import recording
 from credaudit_tools.summary import summary_command
 from credaudit_tools.system import proc
+from credaudit_tools.timeline import timeline_command
 from credaudit_tools.trace import trace_command
 from credaudit_tools.unit import unit_command
 from credaudit_tools.verify import verify_command
@@ -21,7 +22,7 @@ from credaudit_tools.verify import verify_command
 COMMANDS: dict[str, Callable[[Sequence[str]], int]] = {
     "trace": trace_command.main, "verify": verify_command.main, "capture": capture_command.main,
     "lint": lint_command.main, "summary": summary_command.main, "explain": explain_command.main,
-    "unit": unit_command.main, "audit": audit_command.main}
+    "unit": unit_command.main, "audit": audit_command.main, "timeline": timeline_command.main}
 OWN = ("audit",)        # which has the program's statuses
 PAGE = os.path.join(support.EXAMPLES, "..", "docs", "STATUSES.md")
 NAMES = {command.GOOD: "done", command.FOUND: "found", command.USAGE: "words", command.FAILED: "can't be done",
@@ -72,6 +73,7 @@ class Whole(support.Case):
     def test_what_can_not_be_read(self) -> None:
         none = os.path.join(self.work, "none")
         self.ends({"verify": [none], "lint": [none, none], "summary": [none, none, "100"], "explain": [none],
+                   "timeline": [none, none, "100"],
                    "unit": [none + ".service"], "capture": ["4194304"], "trace": ["-o", none, "-p", "4194304"]},
                   command.FAILED)
         self.assertFalse(os.path.exists(none))
@@ -79,10 +81,10 @@ class Whole(support.Case):
     def test_a_recording_that_can_not_be_read(self) -> None:
         self.put("rec/world.toml", b'log = "strace"\n')
         folder = os.path.join(self.work, "rec")
-        self.ends({name: [folder] for name in ("verify", "lint", "summary")}, command.FAILED)
+        self.ends({name: [folder] for name in ("verify", "lint", "summary", "timeline")}, command.FAILED)
         self.put("rec/log")
         self.put("rec/status.txt", b"x\n")
-        self.ends({name: [folder] for name in ("verify", "lint", "summary")}, command.FAILED)
+        self.ends({name: [folder] for name in ("verify", "lint", "summary", "timeline")}, command.FAILED)
 
     def test_what_credaudit_refuses(self) -> None:
         world, log = self.put("rec/world.toml", b"x\n"), self.put("rec/log", b"")
@@ -91,6 +93,7 @@ class Whole(support.Case):
         os.makedirs(masked)
         os.symlink("/dev/null", os.path.join(masked, "web.service"))
         self.ends({"lint": [world, log], "summary": [world, log, "100"], "verify": [folder],
+                   "timeline": [world, log, "100"],
                    "unit": ["web", "--root", self.work]}, command.BROKEN)
 
     def test_nothing_is_written_over(self) -> None:

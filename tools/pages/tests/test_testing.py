@@ -1,14 +1,15 @@
-"""docs/TESTING.md: the commands and the options that it names are there, each section names its command, each command
-of the repository stands in it, and its counts are those of the tree."""
+"""docs/TESTING.md and its pages: the commands and the options that they name are there, each section names its command,
+and each command of the repository stands in them; so do the crates of cases, whose README tells how to write one."""
 import ast
 import functools
 import glob
 import os
 import re
 import unittest
-from collections import Counter
 
 from commands.tests import support
+
+from .. import tests_page
 
 TOP = os.path.normpath(os.path.join(support.EXAMPLES, ".."))
 FOLDERS = ("tools", "bench", "examples", "crates")
@@ -23,15 +24,19 @@ def read(*parts: str) -> str:
         return file.read()
 
 
+def pages() -> list[str]:
+    """The texts of the index and of its pages, but that which is made (test_tests_page)."""
+    return [read(path) for path in sorted(glob.glob("docs/TESTING*.md", root_dir=TOP)) if path != tests_page_name()]
+
+
+def tests_page_name() -> str:
+    """The page that is made, by its path from the top on."""
+    return os.path.relpath(tests_page.PAGE, TOP)
+
+
 def sections() -> dict[str, str]:
     """The sections that begin with a title in bold letters, by the title."""
-    return dict(SECTION.findall(read("docs", "TESTING.md")))
-
-
-def rows() -> list[list[str]]:
-    """The rows of all tables, cell by cell."""
-    lines = [line for line in read("docs", "TESTING.md").split("\n") if line.startswith("| ")]
-    return [[cell.strip() for cell in line.strip("|").split(" | ")] for line in lines]
+    return {title: text for page in pages() for title, text in SECTION.findall(page)}
 
 
 def code(text: str) -> list[str]:
@@ -84,26 +89,20 @@ def options(paths: list[str]) -> set[str]:
     return found
 
 
-def tests_of(path: str) -> int:
-    """How many tests a file of Python has."""
-    return sum(isinstance(node, ast.FunctionDef) and node.name.startswith("test_") for node in ast.walk(
-        ast.parse(read(path))))
-
-
 class Commands(unittest.TestCase):
     def test_there_are_sections(self) -> None:
-        self.assertGreaterEqual(len(sections()), 34)
+        self.assertGreaterEqual(len(sections()), 40)
 
     def test_what_is_named_is_there(self) -> None:
-        for path in commands(read("docs", "TESTING.md")):
+        for path in commands("\n".join(pages())):
             self.assertTrue(glob.glob(os.path.join(TOP, re.sub(r"\b[A-Z]+\b", "*", path))), path)
 
     def test_each_section_names_its_command(self) -> None:
         """In brackets behind the title, or as a block there; below a heading of the third level, in the first words."""
         for title, text in sections().items():
             named = commands(text.split(")")[0]) if text.startswith(" (") else []
-            self.assertTrue(named or re.match(r"[^\n]*:\n\n```\n", text), title)
-        for title, text in re.findall(r"^### (.*)\n\n(.*)$", read("docs", "TESTING.md"), re.MULTILINE):
+            self.assertTrue(named or re.match(r"[^\n]*:\n\n(?:<!-- .* -->\n)?```\n", text), title)
+        for title, text in re.findall(r"^### (.*)\n\n(.*)$", "\n".join(pages()), re.MULTILINE):
             self.assertTrue(commands(text) and text.startswith("`"), title)
 
     def test_options_are_there(self) -> None:
@@ -114,78 +113,39 @@ class Commands(unittest.TestCase):
             self.assertEqual({option for part in own for option in OPTION.findall(part)} - known, set(), title)
 
     def test_each_command_stands_in_it(self) -> None:
-        """Each program of tools/, bench/ and examples/ stands here, or in the page of speed."""
-        text = read("docs", "TESTING.md") + read("docs", "SPEED.md")
+        """Each program of tools/, bench/ and examples/ stands here, or in the page of speed; of a test in what its file
+        says."""
+        speed = map(read, glob.glob("docs/SPEED*.md", root_dir=TOP))
+        text, lacking = "\n".join([*pages(), *speed, read(tests_page_name())]), []
         for folder in ("tools/*", "tools/*/*", "tools/*/tests/*", "tools/*/tests/*/*", "bench/*", "examples/*",
                        "examples/*/*"):
             for path in glob.glob(os.path.join(TOP, folder)):
                 if os.path.isfile(path) and os.access(path, os.X_OK) and not path.endswith(".c"):
-                    self.assertIn(os.path.basename(path), text)
+                    lacking += [path] if os.path.basename(path) not in text else []
+        self.assertEqual(lacking, [])
 
 
-class Counts(unittest.TestCase):
-    def test_tests_of_the_commands(self) -> None:
-        """Each file of tests is named, and a row with a number of tests has that of its files."""
-        files = {os.path.basename(path)[:-3]: tests_of(path) for path in glob.glob(
-            os.path.join(TOP, "tools", "**", "tests", "**", "test_*.py"), recursive=True)}
-        text = read("docs", "TESTING.md")
-        for name in files:
-            self.assertIn(name, text)
-        counted = 0
-        for first, *_, last in rows():
-            names = [name for name in re.findall(r"`(\w+)`", first) if name in files]
-            found = re.match(r"((?:\d+(?:, | and )?)+) tests", last)
-            if names and found:
-                counted += 1
-                self.assertEqual([int(each) for each in re.findall(r"\d+", found[1])], [files[each] for each in names],
-                                 first)
-        self.assertGreaterEqual(counted, 15)
+class Cases(unittest.TestCase):
+    def test_each_crate_of_cases_says_how_to_write_one(self) -> None:
+        """TESTING.md names it, and its README tells both texts."""
+        crates = [os.path.basename(os.path.dirname(path)) for path in glob.glob(os.path.join(
+            TOP, "crates", "*_cases", "stdin")) if re.search("^case ", read(path), re.MULTILINE)]
+        self.assertGreaterEqual(len(crates), 6)
+        for crate in crates:
+            self.assertIn(f"(`crates/{crate}`)", read("docs", "TESTING.md"))
+            page = read("crates", crate, "README.md")
+            for word in ("rt run < stdin", "`stdout`", "`case NAME`"):
+                self.assertIn(word, page, crate)
 
     def test_cases_of_the_commands(self) -> None:
+        """How many cases the stored data of tests have, as TESTING-tools.md says."""
         data = os.path.join("tools", "commands", "tests", "data")
         counts = {f"data/{name}": len(re.findall(r"^case ", read(data, name), re.MULTILINE))
                   for name in ("silent.txt", "altered.txt", "lint/mistakes.txt", "lint/doubts.txt")}
         counts["data/systems"] = len(os.listdir(os.path.join(TOP, data, "systems")))
-        told = {first.strip("`"): last for first, *_, last in rows() if first.strip("`") in counts}
-        self.assertEqual({name: int(last.split()[0]) for name, last in told.items()}, counts)
-
-    def test_crates(self) -> None:
-        text = read("docs", "TESTING.md")
-        edits = Counter(path.split(os.sep)[-3] for path in glob.glob(os.path.join(TOP, "crates", "*", "must-fail",
-                                                                                  "*.edit")))
-        crates = len(re.findall(r"^[a-z_]+:", read("crates.txt"), re.MULTILINE))
-        [row] = [last for first, *_, last in rows() if first == "`must-fail/`"]
-        self.assertEqual({name: int(count) for name, count in re.findall(r"`(\w+)` (\d+)", row)}, dict(edits))
-        self.assertIn(f"There are {crates} crates and {edits.total()} must-fail edits, in {len(edits)} of them;", text)
-        self.assertIn(f"`{crates + edits.total()} passed, 0 failed`", text)
-
-    def test_tests_of_crates(self) -> None:
-        """Of a row that names a crate, or modules of it, and begins its count with tests."""
-        told = dict[str, int]()
-        for first, *_, last in rows():
-            found, names = re.match(r"(\d+) tests?\b", last), re.findall(r"`(\w+)`", first)
-            if found and names and os.path.isdir(os.path.join(TOP, "crates", names[0], "src")):
-                modules = [f"{each}.rt" for each in names[1:]] or ["**/*.rt"]
-                paths = [path for each in modules for path in glob.glob(
-                    os.path.join(TOP, "crates", names[0], "src", each), recursive=True)]
-                told[first] = sum(read(path).count("#[test]") for path in paths)
-                self.assertEqual(told[first], int(found[1]), first)
-        every = sum(read(path).count("#[test]") for path in glob.glob(os.path.join(TOP, "crates/*/src/**/*.rt"),
-                                                                      recursive=True))
-        self.assertEqual(sum(told.values()), every)
-        self.assertIn(f"# tests, file by file: {every} in all", read("docs", "TESTING.md"))
-
-    def test_cases_of_crates(self) -> None:
-        counted = 0
-        for first, *_, last in rows():
-            name, found = first.strip("`"), re.match(r"(\d+) cases\b", last)
-            if name.endswith("_cases") and found:
-                counted += 1
-                stdin = read("crates", name, "stdin")
-                self.assertEqual(len(re.findall(r"^case ", stdin, re.MULTILINE)), int(found[1]), name)
-        self.assertGreaterEqual(counted, 4)
-        runs = len(re.findall(r"^run ", read("crates", "report_cases", "stdin"), re.MULTILINE))
-        self.assertIn(f"# cases; {runs} runs of report_cases", read("docs", "TESTING.md"))
+        told = dict(re.findall(r"^- `(data/[\w./]+)`, (\d+) (?:cases|systems): ", read("docs", "TESTING-tools.md"),
+                               re.MULTILINE))
+        self.assertEqual({name: int(count) for name, count in told.items()}, counts)
 
 
 if __name__ == "__main__":

@@ -1,5 +1,5 @@
-"""The programs of tools/traps, without running them: the table beside their sources and beside docs/TESTING.md; what is
-called wrong of what was seen.
+"""The programs of tools/traps, without running them: the table beside their sources and beside docs/TESTING-tools.md;
+what is called wrong of what was seen.
 """
 import glob
 import os
@@ -31,8 +31,8 @@ def source(name: str) -> str:
 
 
 def page() -> str:
-    """docs/TESTING.md."""
-    with open(os.path.join(TOOLS, "..", "docs", "TESTING.md"), encoding="utf-8") as file:
+    """docs/TESTING-tools.md."""
+    with open(os.path.join(TOOLS, "..", "docs", "TESTING-tools.md"), encoding="utf-8") as file:
         return file.read()
 
 

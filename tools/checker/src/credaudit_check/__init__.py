@@ -3,4 +3,4 @@ CERTIFICATE.md): worlds, scripts, recordings, the rules of the machine, bounds a
 these pages.
 """
 
-VERSION = "1"
+VERSION = "2026.12.1"

@@ -4,4 +4,4 @@ Nothing here judges: every replay and every answer comes from the program. The p
 use this package nor are used by it, so that one can be held against the other.
 """
 
-VERSION = "1"
+VERSION = "2026.12.1"

@@ -56,6 +56,22 @@ class Text(unittest.TestCase):
                 read(text)
         self.assertEqual(read("* gone\n"), Expected(Lines(others=("gone",))))
 
+    def test_lines_of_a_kind(self) -> None:
+        """A right's own line goes before that of its kind, and this before that of all others."""
+        told = read("uid:0 held\nuid:* gone\ncap:* open\n* program\n").lines(100)
+        self.assertEqual([told.wanted(right) for right in (ROOT, Right("uid", 7), Right("cap", 7, "init"), ADM)],
+                         [("held",), ("gone",), ("open",), ("program",)])
+        below = read("cap:* open\n* held\nprocess 100\ncap:* gone\n")
+        self.assertEqual([below.lines(pid).wanted(Right("cap", 7, "init")) for pid in (100, 101)],
+                         [("gone",), ("open",)])
+        for text in ("cap:* gone\ncap:* held\n", "box:* gone\n", "cap:*x gone\n"):
+            with self.subTest(text), self.assertRaises(Failure):
+                read(text)
+
+    def test_lines_that_say_by_when_are_for_timelines(self) -> None:
+        with self.assertRaisesRegex(Failure, "tells by when"):
+            read("uid:0 gone before accept\n")
+
     def test_remarks_and_names(self) -> None:
         told = read("# a remark\n  \ncap:CAP_KILL@#1 gone,held # another\nuid:www-data held:/a,held:7\t#\r\n"
                     "gid:adm gone\ngroups seen,unseen:101\n").common

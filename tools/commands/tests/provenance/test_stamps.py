@@ -1,5 +1,5 @@
 """What a program is by its stamp, in stored cases (data/stamps.txt): what `--version` tells of each kind, and each
-command. The sum of the sources, by hand and by the command line that docs/FORMATS.md has."""
+command. The sum of the sources, by hand and by the command line that docs/STAMPS.md has."""
 import glob
 import hashlib
 import os
@@ -9,6 +9,7 @@ import subprocess
 import unittest
 from unittest import mock
 
+from credaudit_tools import VERSION
 from credaudit_tools.command_line import version
 from credaudit_tools.provenance import places, programs, sources, stamp, trees
 from credaudit_tools.provenance.stamp import Build, Tree
@@ -52,7 +53,7 @@ class Kinds(Case):
     def told_of(self) -> tuple[str, str]:
         """The logic and what the program is, as `--version` tells them."""
         lines = version.text("name").split("\n")
-        self.assertEqual((lines[0], lines[-1], len(lines)), ("name 1", "", 5))
+        self.assertEqual((lines[0], lines[-1], len(lines)), (f"name {VERSION}", "", 5))
         self.assertEqual(lines[1], f"commit: {self.own().commit if self.own() else 'unknown'}")
         return lines[2].removeprefix("logic: "), lines[3].removeprefix(f"program: {self.program}: ")
 
@@ -110,7 +111,7 @@ class Commands(Case):
 
     def test_each(self) -> None:
         names = sorted(os.path.basename(path) for path in glob.glob(os.path.join(TOP, "tools", "credaudit-*")))
-        self.assertEqual(len(names), 9)
+        self.assertEqual(len(names), 10)
         self.assertIn(NONE_NEEDED, names)
         program = self.put("credaudit", PROGRAM, 0o755)
         build = Build(Tree("1", "unknown", "3" * 64), sha256(PROGRAM), "dac8208d650f15bf", True, "logic=proved")
@@ -120,7 +121,7 @@ class Commands(Case):
             with self.subTest(name):
                 done = subprocess.run([os.path.join(TOP, "tools", name), "--version"], capture_output=True, text=True,
                                       check=False, env={**os.environ, "CREDAUDIT": program})
-                lines = [f"{name} 1", "program: none is needed, certificates are judged by the documents alone"]
+                lines = [f"{name} {VERSION}", "program: none is needed, certificates are judged by the documents alone"]
                 if name != NONE_NEEDED:
                     lines[1:] = [f"commit: {commit}", "logic: dac8208d650f15bf",
                                  f"program: {program}: proved, of another tree (version 1, commit unknown)"]
@@ -196,7 +197,7 @@ class Sources(Case):
 
     @unittest.skipIf(shutil.which("bash") is None, "bash isn't there")
     def test_by_the_command_line(self) -> None:
-        with open(os.path.join(TOP, "docs", "FORMATS.md"), encoding="utf-8") as file:
+        with open(os.path.join(TOP, "docs", "STAMPS.md"), encoding="utf-8") as file:
             found = re.search(r"^```\n(\{ echo crates\.txt;.*?)^```$", file.read(), re.MULTILINE | re.DOTALL)
         assert found is not None
         done = subprocess.run(["bash", "-c", found[1]], cwd=TOP, capture_output=True, text=True, check=True)

@@ -6,7 +6,7 @@
 Of each UNIT are kept, in a folder below INTO: the world that credaudit-unit makes of it with its notes, the recording,
 and what both said. Then, of the first one, recorders are killed by SIGKILL, one at each step of its start. A unit, or a
 step, after which something is left of the recording is told, also in the file `left`. Each line of standard output is a
-result (docs/TESTING.md).
+result (docs/TESTING-tools.md).
 """
 import os
 import re

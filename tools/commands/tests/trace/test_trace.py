@@ -9,6 +9,7 @@ import time
 import unittest
 from unittest import mock
 
+from credaudit_tools import VERSION
 from credaudit_tools.command_line.command import Failure
 from credaudit_tools.replay import recording
 from credaudit_tools.system import proc
@@ -351,7 +352,7 @@ class Refused(Case):
         for words in (("-p", "0"), ("-p", "x"), ("--pids-from", "0", "true"), ("--pids-from", "4194305", "true")):
             self.assertEqual(self.trace(*words)[0], 2, words)
         status, out, errors = self.told(trace_command.main, "--version")
-        self.assertEqual((status, out.split("\n")[0], errors), (0, "credaudit-trace 1", ""))
+        self.assertEqual((status, out.split("\n")[0], errors), (0, f"credaudit-trace {VERSION}", ""))
         self.assertIn("exit status:", self.told(trace_command.main, "--help")[1])
 
     def test_reasons(self) -> None:

@@ -85,6 +85,9 @@ ROWS = {
     **{f"prctl {AMBIENT} {option}": form(None, "any any any any any", "answer")
        for option in ("PR_CAP_AMBIENT_IS_SET", UNKNOWN)},
 }
+# A call that no rule reads, and that isn't one of which STRACE.md tells more than this page does.
+MARK = re.compile(rb"([a-z][a-z0-9_]*)\((?:0|[1-9][0-9]*)?\) = (.+)")
+NO_MARKS = {"execveat", "openat", "creat", "dup", "dup2", "dup3", "fcntl", "pwrite64"}
 FORMS = {tuple(words.split(" ")): row for words, row in ROWS.items()}
 NAMES = {words[0] for words in FORMS}
 
@@ -129,9 +132,19 @@ def event_of(found: Form, values: Values, result: int | str) -> tuple[str | None
     return (found.event if found.event == "fork" and isinstance(result, int) else None), ()
 
 
+def is_mark(body: bytes) -> bool:
+    """Whether a body is that of a mark."""
+    found = MARK.fullmatch(body)
+    if found is None or not is_answer(found[2]) or found[1].endswith(b"32"):
+        return False
+    return found[1].decode() not in NAMES | NO_MARKS
+
+
 def read(body: bytes, line: Line) -> Told:
     """The call of a line's body; the first reason why it is none of a recording is raised."""
     name = name_of(body)
+    if name is not None and is_mark(body):
+        return Told(name, None, (), 0)
     if name not in NAMES:
         raise line.refused("call")
     call = call_of(body)

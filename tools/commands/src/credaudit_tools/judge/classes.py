@@ -10,6 +10,7 @@ from ..formats.rights import Right
 HELD, OWN_CALLS, PROGRAM = "held", "own-calls", "program"
 GONE, GONE_BY_OWN_CALLS, DOUBTED, OPEN = "gone", "gone-by-own-calls", "doubted", "open"
 TO_BE_HAD = (OWN_CALLS, PROGRAM, OPEN)
+IS_GONE = (GONE, GONE_BY_OWN_CALLS, DOUBTED)        # the program says yes; what that rests on is for the evidence
 SHORT = {GONE: "gone", GONE_BY_OWN_CALLS: "gone by its own calls"}
 MOST_HOLDERS = 3        # that are told in a line
 CLASSES = {

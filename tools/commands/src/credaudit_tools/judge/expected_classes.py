@@ -1,6 +1,9 @@
 """Expected classes of rights, for a check that runs again and again: a text of lines
 
-  RIGHT CLASS[,CLASS ..]      what a right may be; `*` for RIGHT: each right without a line of its own
+  RIGHT CLASS[,CLASS ..]      what a right may be; `cap:*`, `uid:*` or `gid:*` for RIGHT: each right of this kind
+                              without a line of its own, `*`: each right without any of these
+  RIGHT CLASS before CALL     likewise, and where it is gone, since a line before that of the family's first CALL that
+                              succeeded or is a mark; `by CALL`: since that line or an earlier one (of timelines alone)
   groups SEEN[,SEEN ..]       whether the groups of the members were seen (groups_seen.py)
   process PID                 the lines below are for the answer about this process, those above the first for each
 
@@ -9,19 +12,24 @@ and no other. SEEN is `seen`, `unseen`, `unseen:PATH` or `unseen:PID`; without t
 begins with `#`, at a line's front or behind a blank. A right without a line fails, and so does a text that can't be
 whole.
 """
+import re
 from collections.abc import Iterable, Iterator, Mapping, Sequence
 from dataclasses import dataclass, field
 
 from ..command_line.command import Failure
 from ..command_line.printable import few, quoted, unescaped
-from ..formats.rights import Reading, Right
+from ..formats.rights import KINDS, Reading, Right
 from . import groups_seen
-from .classes import CLASSES, HELD, Outcome
+from .classes import CLASSES, HELD, IS_GONE, Outcome
 from .holders import Member
 
 ALL_OTHERS, GROUPS, PROCESS, SEEN, UNSEEN = "*", "groups", "process", "seen", "unseen"
+OF_KIND = {f"{kind}:*": kind for kind in KINDS}
+BEFORE, BY = "before", "by"
 MOST, SHOWN = 1 << 20, 200
 FORMS = f"RIGHT CLASS, the class one of {', '.join(CLASSES)}, held:PATH, held:PID"
+WITH_CALL = f"{FORMS}; behind a class of what is gone may stand before CALL, or by CALL"
+CALL = re.compile("[a-z][a-z0-9_]*")
 
 
 @dataclass(frozen=True)
@@ -51,17 +59,43 @@ def others(wanted: Sequence[str], front: str, members: Sequence[Member]) -> list
     return [each for each in members if each.pid not in pids and each.program not in programs]
 
 
+@dataclass(frozen=True)
+class When:
+    """By when a right has to be gone: `before` the family's first call of that name, or `by` it."""
+    word: str
+    call: str
+
+    def text(self) -> str:
+        """As a line has it."""
+        return f"{self.word} {self.call}"
+
+
 @dataclass
 class Lines:
-    """By right the classes that it may have; `others` are those of rights without a line, `groups` what may be of
-    groups; None: no line is for them."""
+    """By right the classes that it may have; `kinds` are those of rights of a kind without a line, `others` of all
+    others, `groups` what may be of groups; None: no line is for them. `when` has of a line's first word by when."""
     rights: dict[Right, tuple[str, ...]] = field(default_factory=dict)
     others: tuple[str, ...] | None = None
     groups: tuple[str, ...] | None = None
+    kinds: dict[str, tuple[str, ...]] = field(default_factory=dict)
+    when: dict[str, When] = field(default_factory=dict)
+
+    def tells_of_a_right(self) -> bool:
+        """Whether a line is for some right."""
+        return bool(self.rights or self.kinds) or self.others is not None
+
+    def word(self, right: Right) -> str:
+        """The first word of the line that is for a right."""
+        of_kind = f"{right.kind}:*"
+        return right.text() if right in self.rights else of_kind if right.kind in self.kinds else ALL_OTHERS
+
+    def wanted(self, right: Right) -> tuple[str, ...] | None:
+        """The classes that a right may have; None where no line is for it."""
+        return self.rights.get(right, self.kinds.get(right.kind, self.others))
 
     def of_right(self, outcome: Outcome, holders: Sequence[Member], pid: int) -> Unexpected | None:
         """What isn't as expected of a right; None where all is."""
-        right, kind, wanted = outcome.right.text(), outcome.kind, self.rights.get(outcome.right, self.others)
+        right, kind, wanted = outcome.right.text(), outcome.kind, self.wanted(outcome.right)
         if wanted is None:
             return Unexpected(pid, right, kind, (), f"{right} is {kind}, and no line of the expected classes is for it")
         if kind != HELD or not any(each.startswith(HELD) for each in wanted):
@@ -84,8 +118,12 @@ class Lines:
 
     def below(self, common: "Lines") -> "Lines":
         """These lines, and the common ones where these have none."""
+        words = {right.text() for right in self.rights} | {f"{kind}:*" for kind in self.kinds}
+        words |= {ALL_OTHERS} if self.others is not None else set()
+        when = {word: each for word, each in common.when.items() if word not in words}
         return Lines({**common.rights, **self.rights}, common.others if self.others is None else self.others,
-                     common.groups if self.groups is None else self.groups)
+                     common.groups if self.groups is None else self.groups, {**common.kinds, **self.kinds},
+                     {**when, **self.when})
 
 
 def kinds_of(front: str, members: Sequence[Member]) -> str:
@@ -131,20 +169,27 @@ def without_remark(line: str) -> list[str]:
     return words[:first]
 
 
-def kinds(words: Sequence[str], number: int) -> tuple[str, ...]:
-    """The classes of a line. Fails where one is none."""
-    right, *rest = words
+def kinds(words: Sequence[str], number: int, forms: str) -> tuple[str, ...]:
+    """The classes of a line. Fails where one is none; `forms` says then what a line may be."""
+    right, *rest = words[:2] if when_of(words) is not None else words
     found = tuple(rest[0].split(",")) if len(rest) == 1 else ()
     known, front = ((SEEN, UNSEEN), UNSEEN) if right == GROUPS else (tuple(CLASSES), HELD)
     if not found or not all(each in known or is_whose(each, front) for each in found):
-        form = "groups seen, unseen, unseen:PATH or unseen:PID" if right == GROUPS else FORMS
+        form = "groups seen, unseen, unseen:PATH or unseen:PID" if right == GROUPS else forms
         raise Failure(f"line {number} of the expected classes is none: {quoted(' '.join(words)[:SHOWN])}", form)
     return found
 
 
-def read(data: bytes, reading: Reading) -> Expected:
+def when_of(words: Sequence[str]) -> When | None:
+    """By when the right of a line has to be gone; None where the line doesn't say it."""
+    if len(words) != 4 or words[0] == GROUPS or words[2] not in (BEFORE, BY) or CALL.fullmatch(words[3]) is None:
+        return None
+    return When(words[2], words[3]) if set(words[1].split(",")) & set(IS_GONE) else None
+
+
+def read(data: bytes, reading: Reading, with_calls: bool = False) -> Expected:
     """The expected classes of a text. Fails at a line that is none, with its number, and where the text can't be
-    whole."""
+    whole; unless `with_calls` is given also at a line that tells by when."""
     found, text = Expected(), data.decode("utf-8", "replace").removeprefix("\ufeff")
     at = found.common
     for number, line in enumerate(text.split("\n"), 1):
@@ -152,8 +197,11 @@ def read(data: bytes, reading: Reading) -> Expected:
         if words[:1] == [PROCESS]:
             at = section(found, words, number)
         elif words:
-            take(at, words, number, reading)
-    if not any(each.rights or each.others is not None for each in (found.common, *found.of_process.values())):
+            if when_of(words) is not None and not with_calls:
+                raise Failure(f"line {number} of the expected classes: {quoted(' '.join(words)[:SHOWN])} tells by when",
+                              "credaudit-timeline --expect reads such lines")
+            take(at, words, number, reading, WITH_CALL if with_calls else FORMS)
+    if not any(each.tells_of_a_right() for each in (found.common, *found.of_process.values())):
         raise Failure("the expected classes have no line of a right, so nothing would be checked",
                       "--classes FILE writes them")
     if not text.endswith("\n"):
@@ -176,20 +224,25 @@ def section(found: Expected, words: Sequence[str], number: int) -> Lines:
     return found.of_process.setdefault(int(words[1]), Lines())
 
 
-def take(into: Lines, words: Sequence[str], number: int, reading: Reading) -> None:
+def take(into: Lines, words: Sequence[str], number: int, reading: Reading, forms: str = FORMS) -> None:
     """Takes a line. Fails where it is none, or stands twice."""
-    wanted, first = kinds(words, number), words[0]
-    right = reading.right(first) if first not in (GROUPS, ALL_OTHERS) else None
+    wanted, first, when = kinds(words, number, forms), words[0], when_of(words)
+    named = first in (GROUPS, ALL_OTHERS, *OF_KIND)
+    right = None if named else reading.right(first)
     if first == GROUPS and into.groups is None:
         into.groups = wanted
     elif first == ALL_OTHERS and into.others is None:
         into.others = wanted
+    elif first in OF_KIND and OF_KIND[first] not in into.kinds:
+        into.kinds[OF_KIND[first]] = wanted
     elif right is not None and right not in into.rights:
         into.rights[right] = wanted
-    elif right is None and first not in (GROUPS, ALL_OTHERS):
+    elif right is None and not named:
         raise Failure(f"line {number} of the expected classes names no right: {quoted(first[:SHOWN])}")
     else:
         raise twice(words[:1], number)
+    if when is not None:
+        into.when[first if right is None else right.text()] = when
 
 
 def written(outcomes: Iterable[Outcome]) -> list[str]:

@@ -1,5 +1,5 @@
 """What the kernel shows of filters of system calls at a recording's end, held against those of the log: whether what
-calls answered is the kernel's own (docs/STRACE.md, "Filters").
+calls answered is the kernel's own (docs/RECORDING.md, "Filters").
 
 Where the kernel shows the filters themselves, those of each living thread must be the log's, in their order. Where it
 shows how many there are alone, as many must stand, each installed while nobody else lived who could exchange it.

@@ -1,5 +1,5 @@
 """The stamps that `make` and `make install` write: that of a tree of sources, and that of a program that was built of
-one. Each is a text of lines `KEY: VALUE`, every key once and in this order (docs/FORMATS.md, "Stamps").
+one. Each is a text of lines `KEY: VALUE`, every key once and in this order (docs/STAMPS.md).
 """
 import re
 from dataclasses import dataclass

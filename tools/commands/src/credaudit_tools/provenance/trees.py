@@ -1,12 +1,13 @@
 """Trees of sources: that of a folder, and the one that these commands are of."""
 import os
+import re
 import subprocess
 
 from .. import VERSION
 from . import places, sources, stamp
 from .stamp import Tree
 
-UNKNOWN = "unknown"
+UNKNOWN, COMMIT = "unknown", "COMMIT"    # COMMIT is the file of a tarball that tells of which commit it is
 
 
 def asked(top: str, *words: str) -> str:
@@ -21,13 +22,25 @@ def asked(top: str, *words: str) -> str:
     return done.stdout.decode("utf-8", "replace").removesuffix("\n") if done.returncode == 0 else ""
 
 
+def is_checkout(top: str) -> bool:
+    """Whether a folder is the top of a checkout."""
+    top = os.path.realpath(top)
+    return asked(top, "rev-parse", "--show-toplevel") == top
+
+
+def told(top: str) -> str:
+    """The commit that a tree which is no checkout tells."""
+    text = (stamp.text_of(os.path.join(top, COMMIT)) or "").removesuffix("\n")
+    return text if re.fullmatch(stamp.KEYS["commit"], text) else UNKNOWN
+
+
 def commit(top: str) -> str:
     """The commit that a folder has checked out, with `-changed` where files that git knows are others; `unknown` where
-    the folder isn't the top of a checkout."""
-    top = os.path.realpath(top)
-    if asked(top, "rev-parse", "--show-toplevel") != top:
-        return UNKNOWN
-    return asked(top, "describe", "--always", "--abbrev=64", "--exclude=*", "--dirty=-changed") or UNKNOWN
+    the folder isn't the top of a checkout, and doesn't tell either of which it was made."""
+    if not is_checkout(top):
+        return told(top)
+    told_by_git = asked(os.path.realpath(top), "describe", "--always", "--abbrev=64", "--exclude=*", "--dirty=-changed")
+    return told_by_git or UNKNOWN
 
 
 def of(top: str) -> Tree:

@@ -4,6 +4,7 @@ what another start would change.
 
 All of it is read from the report's own lines and from the world that was replayed.
 """
+from collections.abc import Iterable, Mapping, Sequence
 from dataclasses import dataclass, field, replace
 
 from ..formats.report import Report, Standing
@@ -115,15 +116,24 @@ def row_of(name: str, own: SpaceTold, spaces: SpacesTold, names: dict[str, str])
                  own.setfcap)
 
 
+def end_with(world: World, family: Sequence[Standing], parents: Mapping[int, int | None], spaces: SpacesTold,
+             lineage: Iterable[int]) -> End:
+    """The end where a family stands so, the asked process first and parents before their children, in these
+    namespaces. `parents` has the nearest living ancestor of each member but the first."""
+    names = new_names(spaces)
+    rows = [row_of(name, own, spaces, names) for name, own in spaces.named.items() if name != INITIAL]
+    members = [Process(one.pid, one.credential, parents[one.pid] if place else None, names.get(one.space, one.space))
+               for place, one in enumerate(family)]
+    made = World("script", rows, list(world.mounts), list(world.files), members, world.exclude)
+    return End(made, tuple(family), spaces, names, frozenset(lineage))
+
+
 def end_of(world: World, read: Report, pid: int) -> End:
     """The end of an accepted replay, of the family of a process that lives then."""
-    births, alive, spaces = births_of(world, read), read.alive(), at_end(read, world)
-    family, names = births.family(pid), new_names(spaces)
-    rows = [row_of(name, own, spaces, names) for name, own in spaces.named.items() if name != INITIAL]
-    members = [Process(each, alive[each].credential, None if each == pid else births.parents[each],
-                       names.get(alive[each].space, alive[each].space)) for each in family]
-    made = World("script", rows, list(world.mounts), list(world.files), members, world.exclude)
-    return End(made, tuple(alive[each] for each in family), spaces, names, frozenset(births.lineage(family)))
+    births, alive = births_of(world, read), read.alive()
+    family = births.family(pid)
+    return end_with(world, [alive[each] for each in family], births.parents, at_end(read, world),
+                    births.lineage(family))
 
 
 # ---- what would change -----------------------------------------------------------------------------------------------

@@ -7,10 +7,12 @@
   recording.toml  how and with what it was recorded, what is established and what is in doubt, and sums of all files
   changes.txt     what was changed in the log or left out, with counts
   filters.txt     the filters of system calls that were installed meanwhile
+  times.txt       when each line of the log was written, in seconds, where that was asked for
 
 Of an older recording only the first three stand.
 """
 import os
+import re
 from dataclasses import dataclass, field
 
 from ..command_line.command import Failure
@@ -23,10 +25,12 @@ from ..formats import worlds
 from ..formats.statuses import Status, from_line, line_of
 from ..formats.world_remarks import UNSCANNED
 from ..system.namespaces import Extents
+from .scan_fits import ENDED
 
-WORLD, LOG, STATUS, SPACES, MADE, CHANGES, FILTERS = (
-    "world.toml", "log", "status.txt", "spaces.txt", "recording.toml", "changes.txt", "filters.txt")
-ALL = (WORLD, LOG, STATUS, SPACES, MADE, CHANGES, FILTERS)
+WORLD, LOG, STATUS, SPACES, MADE, CHANGES, FILTERS, TIMES = (
+    "world.toml", "log", "status.txt", "spaces.txt", "recording.toml", "changes.txt", "filters.txt", "times.txt")
+ALL = (WORLD, LOG, STATUS, SPACES, MADE, CHANGES, FILTERS, TIMES)
+TIME = re.compile(r"[0-9]{1,15}(?:\.[0-9]{1,9})?")
 FORMAT, OLDER = 2, 1        # of recording.toml; an older one tells no evidence
 
 
@@ -76,6 +80,7 @@ class Recording:
     made: Made | None = None
     changes: str = ""
     filters: str = ""
+    times: str = ""
 
 
 def is_folder(path: str) -> bool:
@@ -147,7 +152,7 @@ def texts_of(kept: Recording) -> dict[str, bytes]:
              STATUS: "".join(line_of(each) + "\n" for each in kept.statuses).encode()}
     if kept.spaces is not None:
         texts[SPACES] = "".join(space_line(each) + "\n" for each in kept.spaces).encode()
-    rest = (CHANGES, kept.changes), (FILTERS, kept.filters)
+    rest = (CHANGES, kept.changes), (FILTERS, kept.filters), (TIMES, kept.times)
     return {**texts, **{name: told.encode() for name, told in rest if told}}
 
 
@@ -205,8 +210,19 @@ def read(folder: str) -> Recording:
         told = None if made is None else made_of(made)
     except (KeyError, ValueError, TypeError) as error:
         raise Failure(f"{MADE} can't be read: {error}") from error
-    rest = [(optional(folder, name) or b"").decode("ascii", "backslashreplace") for name in (CHANGES, FILTERS)]
+    rest = [(optional(folder, name) or b"").decode("ascii", "backslashreplace") for name in (CHANGES, FILTERS, TIMES)]
     return Recording(world, log, kept, seen, told, *rest)
+
+
+def clock_of(kept: Recording) -> tuple[tuple[float, ...], float | None]:
+    """When each line of the log was written, in seconds, and when the recording ended; none and None where it doesn't
+    tell it. Fails where there isn't a time for each line."""
+    times = [float(line) if TIME.fullmatch(line) else None for line in lines_of(kept.times.encode(), TIMES)]
+    told = tuple(each for each in times if each is not None)
+    if times and (len(told) != len(times) or len(told) != kept.log.count(b"\n")):
+        raise Failure(f"{TIMES} can't be read: it has no time for each line of the log")
+    ended = None if kept.made is None else kept.made.evidence.seen.get(ENDED)
+    return told, None if ended is None else float(ended)
 
 
 def write(folder: str, recording: Recording, owner: tuple[int, int] | None = None) -> None:

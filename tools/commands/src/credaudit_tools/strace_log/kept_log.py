@@ -18,8 +18,11 @@ class Stopped(Exception):
 
 @dataclass
 class Taken:
-    """All of it. `left_out` and `counted` have numbers of lines by what they are."""
+    """All of it. `left_out` and `counted` have numbers of lines by what they are; `times` has when each line was
+    written, in seconds, where strace tells it, and `now` that of the line which is looked at."""
     lines: list[bytes] = field(default_factory=list)
+    times: list[str] = field(default_factory=list)
+    now: str = ""
     left_out: collections.Counter[str] = field(default_factory=collections.Counter)
     counted: collections.Counter[str] = field(default_factory=collections.Counter)
     changed: list[str] = field(default_factory=list)
@@ -29,6 +32,8 @@ class Taken:
     def put(self, pid: int, body: bytes) -> None:
         """A line of the log."""
         self.lines.append(plain_log.line(pid, body))
+        if self.now:
+            self.times.append(self.now)
 
     def change(self, text: str) -> None:
         """Something that was changed in the log, told once."""

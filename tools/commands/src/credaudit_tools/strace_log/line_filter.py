@@ -6,6 +6,7 @@ that the log can't tell, ends the recording: nothing of that kind is passed over
 """
 import re
 from collections.abc import Callable, Collection
+from types import MappingProxyType
 
 from ..command_line.printable import shown
 from ..evidence import premises
@@ -20,6 +21,7 @@ from .first_sight import FirstSight
 from .followed_processes import UNKNOWN, Followed, Task
 from .kept_log import UNSPOKEN, Stopped, Taken
 from .map_writes import TRANSFERS, Maps, System
+from .marks import Marks, mark_of, resumed, without_time
 from .program_changes import Changing
 
 ID_CALLS = tuple(b"set" + name for name in
@@ -38,10 +40,13 @@ CHANGED = re.compile(rb"<pid changed to ([0-9]+) \.\.\.>$")
 
 
 class Filtering:
-    """Feeds on strace's lines. `followed` has the processes at the start."""
+    """Feeds on strace's lines. `followed` has the processes at the start, `marks` the calls that are kept though no
+    rule reads them; `timed` says that strace tells when each line was written."""
 
-    def __init__(self, followed: Followed, executed: Executed, system: System) -> None:
+    def __init__(self, followed: Followed, executed: Executed, system: System, marks: Marks = MappingProxyType({}),
+                 timed: bool = False) -> None:
         self.followed, self.executed, self.taken, self.system = followed, executed, Taken(), system
+        self.marks, self.timed = marks, timed
         self.maps = Maps(followed, self.taken, system)
         self.executing = Executing(followed, self.taken, system, executed)
         self.changing = Changing(followed, self.taken, system, self.executing)
@@ -71,6 +76,12 @@ class Filtering:
 
     def feed(self, line: bytes) -> None:
         """One line of strace, without its line feed. Stopped where the recording can't go on."""
+        given = line
+        if self.timed:
+            told = without_time(line)
+            if told is None:
+                raise Stopped("a line of strace can't be read: it has no time")
+            self.taken.now, line = told
         if self.first_sight.leaves_out(line):
             return
         found = strace_lines.parted(line)
@@ -80,7 +91,7 @@ class Filtering:
         if body.startswith(b"---"):
             return
         if pid not in self.followed.tasks and not self.takes_pid(body) and not self.is_born(pid):
-            self.held.setdefault(pid, []).append(line)
+            self.held.setdefault(pid, []).append(given)
             return
         self.body(pid, body)
 
@@ -113,7 +124,7 @@ class Filtering:
         if pid not in self.begun and pid in self.taking:
             self.superseded(pid, self.taking[pid])
         if pid not in self.begun:
-            return self.without_begin(pid, found.group(1))
+            return self.without_begin(pid, found.group(1), found.group(2))
         front = self.begun.pop(pid)
         if front is None:
             return None
@@ -145,8 +156,10 @@ class Filtering:
                           " end")
         self.end(pid, b"+++ exited with 0 +++")
 
-    def without_begin(self, pid: int, name: bytes) -> bytes | None:
+    def without_begin(self, pid: int, name: bytes, tail: bytes) -> bytes | None:
         """A call that was under way as the recording began."""
+        if name.decode("ascii", "replace").removesuffix("32") in self.marks:
+            return resumed(name, tail)
         if name in (*OPENS, *COPIES, *WRITES, *ANSWERS, b"chdir", b"fchdir"):
             self.taken.left_out["calls that were under way at the start"] += 1
             return None
@@ -224,12 +237,21 @@ class Filtering:
             return
         handler = self.handlers.get(made.name)
         if handler is None:
-            self.taken.left_out["calls that no rule reads"] += 1
+            self.mark_call(task, made)
             return
         before = self.followed.last_view
         handler(task, made)
         for view in range(before + 1, self.followed.last_view + 1):
             self.view_lines[view] = len(self.taken.lines)
+
+    def mark_call(self, task: Task, made: Call) -> None:
+        """A call that no rule reads: it stays where it is a mark."""
+        body = mark_of(made, self.marks)
+        if body is None:
+            self.taken.left_out["calls that no rule reads"] += 1
+        else:
+            self.taken.counted["marks are told by their descriptors and results alone"] += 1
+            self.taken.put(task.pid, body)
 
     def is_unspoken(self, task: Task, made: Call) -> bool:
         """Leaves out a failed call of which no rule speaks: it changed nothing."""

@@ -26,9 +26,10 @@ SPACE_PATH = re.compile(rb"/proc/([1-9][0-9]*|self|thread-self)(?:/task/([1-9][0
 UNREACHABLE = b"(unreachable)"
 WRITING = (b"O_WRONLY", b"O_RDWR")
 # How what is written begins where it may be a map or a setgroups word, in strace's spelling: its first line, as the
-# kernel takes it (map_texts.py).
+# kernel takes it (map_texts.py). It takes no line of length 0 (user_namespaces(7)).
 BLANK = rb"(?: |\\[trvf]|\\240)"
-LIKE_MAP = (rb'(?:\[\{iov_base=)?"(?:' + BLANK + rb"*[0-9]+" + BLANK + rb"+[0-9]+" + BLANK + rb"+[0-9]+" + BLANK
+LENGTH = rb"(?!0+(?![0-9]))[0-9]+"
+LIKE_MAP = (rb'(?:\[\{iov_base=)?"(?:' + BLANK + rb"*[0-9]+" + BLANK + rb"+[0-9]+" + BLANK + rb"+" + LENGTH + BLANK
             + rb'*(?:\\n|\\0|")|(?:allow|deny)(?:[ \\][^"]{0,12})?")')
 FIRST_DESCRIPTOR = 1000000
 PAGE = 4096

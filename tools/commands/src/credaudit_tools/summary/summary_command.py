@@ -43,13 +43,16 @@ def words_of(given: Sequence[str]) -> argparse.Namespace:
     asked = class_output.parsed(ask, given)
     if len(asked.names) > THREE:
         ask.error("a world, a log and a pid, or a recording and a pid")
-    asked.pid = None
-    if len(asked.names) > 1:
-        try:
-            asked.pid = command.pid_word(asked.names[-1])
-        except argparse.ArgumentTypeError as error:
-            ask.error(str(error))
+    asked.pid = pid_of_words(ask, asked.names)
     return asked
+
+
+def pid_of_words(ask: argparse.ArgumentParser, names: Sequence[str]) -> int | None:
+    """The pid of the words, None where none is named. Ends the command where it is none."""
+    try:
+        return command.pid_word(names[-1]) if len(names) > 1 else None
+    except argparse.ArgumentTypeError as error:
+        ask.error(str(error))
 
 
 def given_by(ask: Asking, names: Sequence[str]) -> Given:

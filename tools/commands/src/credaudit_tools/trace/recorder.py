@@ -62,6 +62,8 @@ class Asked:
     strace: str | None = None
     keep: bool = False              # the program goes on after the recording
     unit: str | None = None         # a service of systemd, which is started
+    marks: dict[str, bool] = field(default_factory=dict)    # by name of a call that is kept whether on sockets alone
+    timed: bool = False             # the time of each line is kept
 
 
 def unit_start(name: str, live: Live) -> "UnitStart":
@@ -75,11 +77,11 @@ def without_own(threads: dict[int, Glance]) -> dict[int, Glance]:
     return {tid: each for tid, each in threads.items() if each.tgid != os.getpid()}
 
 
-def filtering(followed: Followed, system: RunningSystem) -> "Filtering":
+def filtering(followed: Followed, system: RunningSystem, asked: Asked) -> "Filtering":
     """What takes strace's lines. It is loaded while strace begins to trace, which takes as long."""
     from ..executed.executed_files import Executed
     from ..strace_log.line_filter import Filtering
-    return Filtering(followed, Executed(), system)
+    return Filtering(followed, Executed(), system, asked.marks, asked.timed)
 
 
 # ---- the recording ---------------------------------------------------------------------------------------------------
@@ -306,12 +308,12 @@ class Recorder:
         reading, writing = os.pipe()
         fcntl.fcntl(writing, fcntl.F_SETPIPE_SZ, PIPE_SIZE)
         try:
-            tracer = Tracer(self.live.proc, self.strace, writing, tids)
+            tracer = Tracer(self.live.proc, self.strace, writing, tids, self.asked.marks, self.asked.timed)
         finally:
             os.close(writing)
         try:
             self.watchdog.traces(tracer.pid)
-            self.filter = filtering(self.followed, self.system)
+            self.filter = filtering(self.followed, self.system, self.asked)
             tracer.wait_until_attached(self.start, self.is_signalled)
             self.let_go_on()
             self.clear_unit()
@@ -401,4 +403,4 @@ class Recorder:
         self.rows.remarks = self.made.remarks()
         log = b"".join(line + b"\n" for line in taken.lines)
         return Recording(worlds.written(self.rows), log, seen.statuses, seen.spaces, self.made, changes_text(taken),
-                         filters_text(taken))
+                         filters_text(taken), "".join(each + "\n" for each in taken.times))

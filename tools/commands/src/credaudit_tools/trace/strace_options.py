@@ -3,7 +3,7 @@ import os
 import re
 import shutil
 import subprocess
-from collections.abc import Sequence
+from collections.abc import Iterable, Sequence
 
 from ..command_line.command import Failure
 
@@ -16,7 +16,7 @@ CALLS = ("(set(re|res)?[ug]id|setfs[ug]id|get(e|res)?[ug]id|[gs]etgroups|cap[gs]
 # Calls that change programs or mounts. No rule reads them: one that seems to succeed is a doubt and no more.
 CHANGING = ("(f?chmod(at2?)?|[lf]?chown|fchownat|[lf]?(set|remove)xattr(at)?|link(at)?|rename(at2?)?|mknod(at)?"
             "|u?mount2?|move_mount|mount_setattr|fsmount|open_tree)")
-TRACE = f"trace=/^({CALLS}|{CHANGING})(32|64)?$"
+TRACED = f"{CALLS}|{CHANGING}"
 # Of a written text as much as a map file takes, which is less than a page; of a descriptor the file or the process that
 # it is of. Other bytes, and what devices and sockets are, cost time and tell nothing.
 LONGEST = 4096
@@ -24,7 +24,8 @@ DESCRIPTORS = "decode-fds=path,pidfd"
 # Signals that end no process (signal(7)); with another one strace would leave out the end that it brings.
 SIGNALS = "signal=!SIGCHLD,SIGCONT,SIGURG,SIGWINCH"
 OPTIONS = ("-f", "-v", "-e", DESCRIPTORS, "--pidns-translation", "-s", str(LONGEST), "-e", "abbrev=execve,execveat",
-           "--quiet=attach,personality,path-resolution", "-e", SIGNALS, "-e", TRACE)
+           "--quiet=attach,personality,path-resolution", "-e", SIGNALS)
+TIMES = "-ttt"              # when each call ended, in seconds with six digits behind the point
 
 
 def find(asked: str | None = None) -> str:
@@ -47,7 +48,18 @@ def version(path: str) -> str:
     return found.group(0).decode().removeprefix("version ")
 
 
-def words(path: str, out: int, pids: Sequence[int]) -> list[str]:
-    """The words that attach strace to processes; it writes to the descriptor `out`."""
+def is_traced(name: str) -> bool:
+    """Whether a call is recorded anyway."""
+    return re.fullmatch(f"({TRACED})(32|64)?", name) is not None
+
+
+def traced(marks: Iterable[str] = ()) -> str:
+    """The expression that names the calls which are told, those that are marks too."""
+    return f"trace=/^({'|'.join([TRACED, *marks])})(32|64)?$"
+
+
+def words(path: str, out: int, pids: Sequence[int], marks: Iterable[str] = (), timed: bool = False) -> list[str]:
+    """The words that attach strace to processes; it writes to the descriptor `out`, also of calls that are marks, and
+    with the time of each line where that is asked for."""
     attached = [word for pid in pids for word in ("-p", str(pid))]
-    return [path, *OPTIONS, "-o", f"/dev/fd/{out}", *attached]
+    return [path, *OPTIONS, "-e", traced(marks), *([TIMES] if timed else []), "-o", f"/dev/fd/{out}", *attached]

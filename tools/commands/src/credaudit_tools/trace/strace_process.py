@@ -3,7 +3,7 @@ import os
 import signal
 import subprocess
 import time
-from collections.abc import Callable, Collection, Sequence
+from collections.abc import Callable, Collection, Iterable, Sequence
 
 from ..command_line.command import Failure
 from ..command_line.printable import shown
@@ -17,16 +17,17 @@ ATTACH_PATIENCE, ATTACH_PAUSE, END_PATIENCE = 20.0, 0.001, 5.0
 
 
 class Tracer:
-    """strace, which writes its lines to the descriptor `out`."""
+    """strace, which writes its lines to the descriptor `out`: of marks too, and with times where that is asked for."""
 
-    def __init__(self, proc: Proc, path: str, out: int, pids: Sequence[int]) -> None:
+    def __init__(self, proc: Proc, path: str, out: int, pids: Sequence[int], marks: Iterable[str] = (),
+                 timed: bool = False) -> None:
         self.proc = proc
         self.errors = open(os.memfd_create("strace"), "w+b")
         self.recorder = os.getpid()
         self.stops = ExecStops()
         self.process = subprocess.Popen(
-            strace_options.words(path, out, pids), pass_fds=[out], stdin=subprocess.DEVNULL, stderr=self.errors,
-            stdout=subprocess.DEVNULL, start_new_session=True, preexec_fn=self.becomes_ours)
+            strace_options.words(path, out, pids, marks, timed), pass_fds=[out], stdin=subprocess.DEVNULL,
+            stderr=self.errors, stdout=subprocess.DEVNULL, start_new_session=True, preexec_fn=self.becomes_ours)
         self.stops.take()
         self.pid = self.process.pid
 

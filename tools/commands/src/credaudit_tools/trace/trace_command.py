@@ -10,11 +10,12 @@ from ..command_line import command
 from ..command_line.command import FOUND, GOOD, USAGE, Failure, Progress, tell
 from ..command_line.printable import few, plural, shown
 from ..formats import worlds
+from ..formats.marked_calls import NETWORK, ON_SOCKETS, is_call
 from ..formats.plain_log import numbers_of, renumbered
 from ..formats.statuses import Status
 from ..replay import recording, scan_fits
 from ..system import proc
-from . import room
+from . import room, strace_options
 from .recorder import Asked, Recorder
 
 NAME = "credaudit-trace"
@@ -43,6 +44,20 @@ def pattern(text: str) -> re.Pattern[bytes]:
         raise argparse.ArgumentTypeError(f"no regular expression: {error}") from error
 
 
+def marks_of(text: str) -> dict[str, bool]:
+    """Calls that are kept as marks, by name whether on sockets alone. Of a call that is recorded anyway no mark is
+    kept: its own line is one."""
+    found = dict[str, bool]()
+    for word in text.split(","):
+        names = NETWORK if word == "network" else (word,)
+        for name in names:
+            if not is_call(name) or strace_options.is_traced(name):
+                raise argparse.ArgumentTypeError(f"{name!r} is no call that can be marked: it is none, or its lines are"
+                                                 " in the log or looked at anyway")
+            found[name] = found.get(name, True) and word == "network" and name in ON_SOCKETS
+    return found
+
+
 def words() -> argparse.ArgumentParser:
     """The words of the command."""
     ask = command.parser(NAME, SAYS, AFTER)
@@ -62,6 +77,10 @@ def words() -> argparse.ArgumentParser:
     ask.add_argument("--keep", action="store_true", help="lets the program run on after the recording")
     ask.add_argument("--pids-from", type=command.pid_word, metavar="FIRST",
                      help="numbers the pids by birth, from FIRST on")
+    ask.add_argument("--mark", metavar="CALL[,CALL]", type=marks_of, default={},
+                     help="keeps each of these calls as a line of its name, its descriptor and its answer, which no"
+                          " rule reads; network stands for those by which bytes of the network come in. With --times")
+    ask.add_argument("--times", action="store_true", help="keeps the time of each line of the log, in times.txt")
     ask.add_argument("--force", action="store_true", help="writes over a recording that is in the folder already")
     ask.add_argument("--no-verify", action="store_true", help="doesn't compare the replay with what the kernel showed")
     ask.add_argument("--strace", metavar="COMMAND", help="another strace than the one in the PATH")
@@ -82,7 +101,7 @@ def main(given: Sequence[str]) -> int:
         tell(NAME, "-u goes with a program alone")
         return USAGE
     return traced(asked, Asked(told, asked.pid, asked.user, limit(asked), asked.until, asked.until_each, asked.strace,
-                               asked.keep, asked.unit))
+                               asked.keep, asked.unit, asked.mark, asked.times or bool(asked.mark)))
 
 
 def is_unattended(options: argparse.Namespace) -> bool:

@@ -1,0 +1,69 @@
+"""The same course by audits of each front of the log, instead of a search for borders: slow, and resting on nothing but
+the program. Fronts of which the program's replay tells the same are one.
+"""
+from collections.abc import Iterator, Sequence
+from dataclasses import dataclass, field
+
+from ..evidence.evidence import Evidence
+from ..formats.report import Report
+from ..formats.rights import Right
+from ..judge.classes import Outcome
+from ..judge.classify import Family, Judge
+from ..judge.program_questions import Asking, Files
+from ..replay.end_world import end_of
+from ..summary.summary import Given
+from .borders import NOT_YET, Course
+from .held_rights import space_of
+from .lane_judge import outcomes
+from .walk import Life, Walk
+
+
+@dataclass
+class Prefix:
+    """A front of the log that the program accepts, and its replay."""
+    files: Files
+    report: Report
+
+    @property
+    def moment(self) -> int:
+        """The moment of its end."""
+        return len(self.report.events)
+
+
+def prefixes(ask: Asking, given: Given) -> Iterator[Prefix]:
+    """The fronts of a log, line by line. One that isn't accepted is left out: the birth of a process may stand behind
+    its first lines."""
+    lines, before = [line + b"\n" for line in given.log.removesuffix(b"\n").split(b"\n")], -1
+    for count in range(len(lines) + 1):
+        files = Files(given.files.world, ask.put(f"prefix-{count}", b"".join(lines[:count])))
+        report = ask.program.run("replay", files.world, files.log)
+        if report.status == 0 and len(report.events) != before:
+            before = len(report.events)
+            yield Prefix(files, report)
+
+
+@dataclass
+class EveryLine:
+    """Audits at each prefix, for lanes of one log."""
+    ask: Asking
+    given: Given
+    walk: Walk
+    every: list[Prefix] = field(default_factory=list)
+
+    def __post_init__(self) -> None:
+        self.every = list(prefixes(self.ask, self.given))
+
+    def course(self, life: Life, rights: Sequence[Right], evidence: Evidence) -> Course:
+        """What each right is at each moment of a lane that a prefix ends at. Where none ends at its birth, what comes
+        next stands for it."""
+        own = [each for each in self.every if life.lives(each.moment)]
+        found = Course([life.born, *(each.moment for each in own[1:])], {right: [] for right in rights})
+        for prefix in own:
+            end = end_of(self.given.world, prefix.report, life.pid)
+            judge = Judge(self.ask, Family(prefix.files, life.pid, end, evidence))
+            there = [right for right in rights if right.space is None
+                     or space_of(right, end.spaces) in end.spaces.named]
+            told = {each.right: each for each in outcomes(judge, there, f"line {self.walk.line(prefix.moment)}")}
+            for right in rights:
+                found.outcomes[right].append(told.get(right, Outcome(right, NOT_YET)))
+        return found
