@@ -1,3 +1,4 @@
+#!/usr/bin/env python3
 """Records the programs of programs.py anew, each by credaudit-trace until it has dropped its privilege and waits.
 
   record.py [--strace COMMAND] [--into DIR] [NAME ..]     all of them where none is named
