@@ -1,5 +1,5 @@
 -- A verdict rests on the family alone.
-use Rattle.std.proofs.Common.{◌≡◌, ℕ, List, sym, ◌∙◌, ap, ap₂, subst}
+use Rattle.std.proofs.Common.{◌≡◌, List, sym, ◌∙◌, ap, ap₂, subst}
 use Rattle.cm_audit.specs.Laws.{VerdictsAreIsolated}
 use Rattle.cm_audit.specs.Told.{Told, TellsNo, TellsYes, TellsUndecided, verdict_in, RowsAreBounds}
 use Rattle.cm_filter.specs.Filters.{permits}
@@ -7,9 +7,7 @@ use Rattle.model_box.specs.Bounds.{BoxRow, bounds_hold}
 use Rattle.model_box.proofs.Worlds.{state_fits}
 use Rattle.model_box.specs.Covers.{StateFits}
 use Rattle.model_cred.specs.Process.{KeepsState, State}
-use Rattle.model_cred.specs.Right.{Right}
 use Rattle.model_cred.specs.Space.{Spaces}
-use Rattle.model_cred.specs.World.{World}
 use Rattle.model_run.specs.Family.{family}
 use Rattle.model_verdict.proofs.Alikes.{alike_families}
 use Rattle.model_verdict.proofs.RowMeanings.{one_meaning_one_list}

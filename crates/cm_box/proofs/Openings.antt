@@ -1,16 +1,14 @@
 -- The first rule and row at which bounds are open.
-use Rattle.std.proofs.Common.{◌≡◌, ℕ, ◌+◌, ◌*◌, ◌<◌, ◌≤◌, Bool, length, sym, ◌∙◌, subst, inl, inr, arith, Some}
-use Rattle.std.proofs.lemmas.Bool.{ltb-true, lt-ltb, cases_lt}
+use Rattle.std.proofs.Common.{◌≡◌, ℕ, ◌+◌, ◌*◌, ◌<◌, ◌≤◌, Bool, length, subst, inl, inr, arith}
+use Rattle.std.proofs.lemmas.Bool.{ltb-true, cases_lt}
 use Rattle.cm_filter.specs.declared.kind.CallKind.{CallKind}
 use Rattle.model_cred.specs.Files.{FileTable}
 use Rattle.model_cred.specs.Space.{Spaces}
-use Rattle.model_box.specs.Closed.{Closed, ClosedAt}
+use Rattle.model_box.specs.Closed.{ClosedAt}
 use Rattle.model_box.specs.Row.{Part, Row, row_at, space_under}
-use Rattle.model_box.specs.Rule.{Rule, rule_number}
-use Rattle.model_box.proofs.Numbers.{rule_low}
-use Rattle.model_box.proofs.Stated.{rules_by_number}
-use Rattle.cm_box.specs.Closing.{ClosedIn, IsFirstOpenRow, IsFirstOpen}
-use Rattle.cm_box.proofs.Numbers.{under_low, all_rows}
+use Rattle.model_box.specs.Rule.{Rule}
+use Rattle.cm_box.specs.Closing.{ClosedIn}
+use Rattle.cm_box.proofs.Numbers.{all_rows}
 
 module _ (permitted : CallKind → Bool) (files : FileTable) (spaces : Spaces) (bounds : Row → Part → ℕ → Type 0) where
   -- each row before that number is

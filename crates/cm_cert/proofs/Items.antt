@@ -1,17 +1,17 @@
 -- Items of values, read one by one: what is done, before what is left.
 use Rattle.std.proofs.Common.{◌≡◌, ◌+◌, ◌<◌, ℕ, List, [], ◌∷◌, ◌++◌, length, drop, get_or, Option, Some, None}
-use Rattle.std.proofs.Common.{option_map, option_and_then, refl, ap, sym, ◌∙◌, append_assoc}
+use Rattle.std.proofs.Common.{option_map, refl, ap, sym, ◌∙◌}
 use Rattle.std.proofs.Common.{◌==◌, ◌*◌, true, false, Err, arith}
 use Rattle.std.proofs.lemmas.Bool.Decides.{nat_tests}
 use Rattle.std.proofs.lemmas.List.{drop_more}
 use Rattle.model_cert.specs.Document.{all_rows}
 use Rattle.model_cert.specs.Fault.{Shape}
 use Rattle.model_cert.specs.Row.{rows_shape}
-use Rattle.model_cert.specs.Sets.{two_ends, interval_of, intervals_of}
+use Rattle.model_cert.specs.Sets.{two_ends}
 use Rattle.model_cred.specs.Intervals.{Interval}
 use Rattle.serde_json.proofs.Views.{items_len-items_view}
 use Rattle.serde_json.specs.Events.{items_len}
-use Rattle.serde_json.specs.View.{view, items_view}
+use Rattle.serde_json.specs.View.{items_view}
 use Rattle.serde_json.specs.declared.value.Value.{Value}
 
 -- ---- one interval

@@ -3,7 +3,6 @@ use Rattle.std.proofs.Common.{◌≡◌, ℕ, ◌+◌, ◌-◌, ◌≤◌, lengt
 use Rattle.std.proofs.Common.{Bool, IsTrue, Option, None, Some, IfSome, Result, Ok, Err, Bor}
 use Rattle.std.proofs.lemmas.List.{drop-take, take-take, drop-drop}
 use Rattle.cm_lines.specs.Lines.{line_size}
-use Rattle.cm_lines.specs.declared.limits.Past.{Past}
 use Rattle.cm_lines.specs.declared.limits.Past.TheVariants.{Line, Whole}
 use Rattle.cm_io.specs.Cutter.{Cutting, Fits, Gives, IsAfter, IsCut, Moves, SameFile, next_of, read_to, ends}
 use Rattle.cm_io.specs.CutterSteps.{KeepsMore, FindsLine, IsFound, Stays, Tells}

@@ -1,5 +1,5 @@
 -- What a cutter of lines keeps of a file, and what it gives next.
-use Rattle.std.specs.Prelude.{◌≡◌, ◌≤◌, ◌<◌, ◌+◌, ◌-◌, ℕ, Bool, false, nat_lt, if◌then◌else◌, IsTrue}
+use Rattle.std.specs.Prelude.{◌≡◌, ◌≤◌, ◌<◌, ◌+◌, ℕ, Bool, false, nat_lt, if◌then◌else◌, IsTrue}
 use Rattle.std.specs.Prelude.{List, [], ◌∷◌, length, take, drop, Option, None, Some, IfSome, Result, Ok, Err, OnOk}
 use Rattle.cm_lines.specs.Lines.{line_len, line_size}
 use Rattle.cm_lines.specs.Cut.{Cut, before, cut_from, ends_by, past_of}

@@ -1,11 +1,11 @@
 -- A report that is told, or that stops.
-use Rattle.std.proofs.Common.{◌≡◌, ◌≢◌, ℕ, List, [], append-nil, le_of_eq, Option, Ok, Err, refl, sym, ap, ◌∙◌}
+use Rattle.std.proofs.Common.{◌≡◌, ◌≢◌, ℕ, List, [], le_of_eq, Option, Err, refl, sym, ◌∙◌}
 use Rattle.cm_base.specs.declared.status.Status.{Status}
 use Rattle.cm_base.specs.declared.status.Status.TheVariants as answers
-use Rattle.cm_io.specs.Sink.{then_written, WriteFaults}
+use Rattle.cm_io.specs.Sink.{WriteFaults}
 use Rattle.cm_io.specs.declared.outside.Outside.{Outside}
 use Rattle.cm_io.specs.declared.outside.Outside.TheVariants as outside
-use Rattle.cm_report.specs.Sent.{IsSent, IsFront}
+use Rattle.cm_report.specs.Sent.{IsFront}
 use Rattle.cm_report.specs.Telling.{IsOfReport, TellsReport, stopped_by}
 use Rattle.model_report.specs.Replay.{Report, text_of}
 

@@ -1,5 +1,5 @@
 -- What lines give, one after another, and the held lines that are read after a birth.
-use Rattle.std.proofs.Common.{◌≡◌, ℕ, zero, suc, true, false, cond, find, length, drop, List, [], ◌∷◌, ◌++◌, Some}
+use Rattle.std.proofs.Common.{◌≡◌, ℕ, zero, suc, true, false, cond, find, length, List, [], ◌∷◌, ◌++◌, Some}
 use Rattle.std.proofs.Common.{None, refl, sym, ◌∙◌, ap, append_assoc, append-nil, slice_get}
 use Rattle.std.specs.Option.{option_or}
 use Rattle.cm_strace.specs.Answers.{stop_is}

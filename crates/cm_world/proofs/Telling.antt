@@ -15,7 +15,7 @@ use Rattle.cm_declared.specs.World.{world_of}
 use Rattle.cm_declared.specs.declared.world.World as code
 use Rattle.model_text.specs.Refusal.{At}
 use Rattle.model_text.proofs.KeepsNames.{declared_names_keep}
-use Rattle.model_text.specs.WorldText.{Reads, Bad, Exceeds, read_text, text_as, world_text}
+use Rattle.model_text.specs.WorldText.{Bad, Exceeds, read_text, text_as, world_text}
 use Rattle.model_text.specs.Written.{DeclaredNamesKeep, KeepsNames}
 
 module _ (r : Result code.World WorldError) (bytes : List ℕ) (answer : IsAnswer r (read_text bytes)) where

@@ -1,5 +1,5 @@
 -- Each check of the row passed, one by one, and the space is the one that it declares.
-use Rattle.std.proofs.Common.{◌≡◌, ◌||◌, true, false, is_none, Some, nat_lt, codes, rules, arith, sym, ◌∙◌, ap}
+use Rattle.std.proofs.Common.{◌≡◌, ◌||◌, true, false, is_none, Some, nat_lt, codes, rules, arith}
 use Rattle.std.proofs.lemmas.Grind.{common_steps}
 use Rattle.model_text.specs.MapText.{is_bad_map, map_at, stored_under}
 use Rattle.model_text.specs.NameText.{is_name, is_one_of}
