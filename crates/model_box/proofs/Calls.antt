@@ -29,7 +29,8 @@ use Rattle.model_rules.specs.SetId.{with_uids, with_gids, has_setuid, has_setgid
 use Rattle.model_rules.specs.SetId.{setgid, setregid, setresgid, setfsgid, setresid, setreid, setid, setfsid}
 use Rattle.model_rules.specs.Zero.{is_zero, has_zero}
 use Rattle.model_box.specs.Row.{Part, Uids, EffectiveUids, FsUids, Gids, EffectiveGids, FsGids, Groups, MappedUids}
-use Rattle.model_box.specs.Row.{MappedGids, PermittedCaps, InheritableCaps, BoundingCaps, RootCounts, LockClear, Row}
+use Rattle.model_box.specs.Row.{MappedGids, PermittedCaps, InheritableCaps, BoundingCaps, NewPrivs, RootCounts}
+use Rattle.model_box.specs.Row.{LockClear, Row}
 use Rattle.model_box.specs.Row.{space_under, HasMembers}
 use Rattle.model_box.specs.Rule.{SetUid, SetFsUid, SetGid, SetFsGid, SetGroups, CapSet, SecureBits}
 use Rattle.model_box.specs.Closed.{Closed}
@@ -44,53 +45,17 @@ module _ (row : Part → ℕ → Type 0) where
   -- other effective and ambient sets change nothing of what the row holds
   with_effective_fine : (c : Credential) → Fine row c → (effective : ℕ) → IsTrue (is_within effective c.permitted)
       → Fine row (record c { effective = effective })
-  with_effective_fine c fine effective within = record {
-    held = record {
-      uid = fine.held.uid;
-      gid = fine.held.gid;
-      groups = fine.held.groups;
-      permitted = fine.held.permitted;
-      inheritable = fine.held.inheritable;
-      bounding = fine.held.bounding;
-      new_privs = fine.held.new_privs;
-      root = fine.held.root;
-      lock = fine.held.lock;
-    };
-    included = record { effective = within; ambient_permitted = fine.included.ambient_permitted; ambient_inheritable = fine.included.ambient_inheritable };
-  }
+  with_effective_fine c fine effective within = search
 
   with_ambient_fine : (c : Credential) → Fine row c → (ambient : ℕ) → IsTrue (is_within ambient c.permitted) → IsTrue (is_within ambient c.inheritable)
       → Fine row (record c { ambient = ambient })
-  with_ambient_fine c fine ambient permitted inheritable = record {
-    held = record {
-      uid = fine.held.uid;
-      gid = fine.held.gid;
-      groups = fine.held.groups;
-      permitted = fine.held.permitted;
-      inheritable = fine.held.inheritable;
-      bounding = fine.held.bounding;
-      new_privs = fine.held.new_privs;
-      root = fine.held.root;
-      lock = fine.held.lock;
-    };
-    included = record { effective = fine.included.effective; ambient_permitted = permitted; ambient_inheritable = inheritable };
-  }
+  with_ambient_fine c fine ambient permitted inheritable = search
 
   no_sets_fine : (c : Credential) → Fine row c → Fine row (record c { permitted = none; effective = none; ambient = none })
-  no_sets_fine c fine = record {
-    held = record {
-      uid = fine.held.uid;
-      gid = fine.held.gid;
-      groups = fine.held.groups;
-      permitted = λ x held. absurd (false≢true (sym (holds_none x) ∙ held));
-      inheritable = fine.held.inheritable;
-      bounding = fine.held.bounding;
-      new_privs = fine.held.new_privs;
-      root = fine.held.root;
-      lock = fine.held.lock;
-    };
-    included = record { effective = refl; ambient_permitted = refl; ambient_inheritable = none_within c.inheritable };
-  }
+  no_sets_fine c fine =
+      let nothing : (x : ℕ) → IsTrue (holds none x) → row PermittedCaps x =
+      λ x held. absurd (false≢true (sym (holds_none x) ∙ held)) in
+      let inside : IsTrue (is_within none c.inheritable) = none_within c.inheritable in search
 
   without_root_fine : (c : Credential) → Fine row c → Fine row (without_root c)
   without_root_fine c fine =
@@ -136,45 +101,11 @@ module _ (row : Part → ℕ → Type 0) where
   -- other user ids, within the row too
   pub with_uid_fine : (c : Credential) → Fine row c → (ids : FourIds)
       → IdsIn (row Uids) (row EffectiveUids) (row FsUids) ids → Fine row (record c { uid = ids })
-  with_uid_fine c fine ids new = record {
-    held = record {
-      uid = new;
-      gid = fine.held.gid;
-      groups = fine.held.groups;
-      permitted = fine.held.permitted;
-      inheritable = fine.held.inheritable;
-      bounding = fine.held.bounding;
-      new_privs = fine.held.new_privs;
-      root = fine.held.root;
-      lock = fine.held.lock;
-    };
-    included = record {
-      effective = fine.included.effective;
-      ambient_permitted = fine.included.ambient_permitted;
-      ambient_inheritable = fine.included.ambient_inheritable;
-    };
-  }
+  with_uid_fine c fine ids new = search
 
   pub with_gid_fine : (c : Credential) → Fine row c → (ids : FourIds)
       → IdsIn (row Gids) (row EffectiveGids) (row FsGids) ids → Fine row (record c { gid = ids })
-  with_gid_fine c fine ids new = record {
-    held = record {
-      uid = fine.held.uid;
-      gid = new;
-      groups = fine.held.groups;
-      permitted = fine.held.permitted;
-      inheritable = fine.held.inheritable;
-      bounding = fine.held.bounding;
-      new_privs = fine.held.new_privs;
-      root = fine.held.root;
-      lock = fine.held.lock;
-    };
-    included = record {
-      effective = fine.included.effective;
-      ambient_permitted = fine.included.ambient_permitted;
-      ambient_inheritable = fine.included.ambient_inheritable;
-    };
-  }
+  with_gid_fine c fine ids new = search
 
   with_uids_fine : (s : Space) (c : Credential) → Fine row c → (r : Result FourIds Errno)
       → OkIn (IdsIn (row Uids) (row EffectiveUids) (row FsUids)) r → Fine row (with_uids s c r).cred
@@ -355,11 +286,9 @@ module _ (permitted : CallKind → Bool) (files : FileTable) (old : Spaces) (bou
 
         go : (o : Option (List ℕ)) → all_down (extents_of s.gids) ids ≡ o → IsTrue (has_setgid c) → s.deny ≡ false → Fine (bounds row) (with_groups c o).cred
         go None down' has free = fine
-        go (Some list) down' has free = record {
-          held = record {
-            uid = fine.held.uid;
-            gid = fine.held.gid;
-            groups = λ x held. closed SetGroups row standing Groups x (
+        go (Some list) down' has free =
+            let added : (x : ℕ) → IsTrue (list_any (λ group. eqb group x) (id_set list)) → bounds row Groups x =
+            λ x held. closed SetGroups row standing Groups x (
               allowed,
               members,
               allow free (space_of old (space_under row)).deny refl,
@@ -367,20 +296,7 @@ module _ (permitted : CallKind → Bool) (files : FileTable) (old : Spaces) (bou
                 cap_in cap_setgid has,
                 maps.gids x (all_outside (extents_of s.gids) ids list down' x (in_id_set list x held)),
               ),
-            );
-            permitted = fine.held.permitted;
-            inheritable = fine.held.inheritable;
-            bounding = fine.held.bounding;
-            new_privs = fine.held.new_privs;
-            root = fine.held.root;
-            lock = fine.held.lock;
-          };
-          included = record {
-            effective = fine.included.effective;
-            ambient_permitted = fine.included.ambient_permitted;
-            ambient_inheritable = fine.included.ambient_inheritable;
-          };
-        }
+            ) in search
 
   -- capset(2)
   pub capset_fine : IsTrue (permitted kind.CapSet) → (e p i : ℕ) → Fine (bounds row) (capset c e p i).cred
@@ -388,21 +304,14 @@ module _ (permitted : CallKind → Bool) (files : FileTable) (old : Spaces) (bou
       choose (λ (a : Answer). Fine (bounds row) a.cred) (may_capset c e p i) (done (with_capset c e p i)) (refused EPERM c) (λ may. new may) (λ _. fine) where
         new : IsTrue (may_capset c e p i) → Fine (bounds row) (with_capset c e p i)
         new may = record {
-          held = record {
-            uid = fine.held.uid;
-            gid = fine.held.gid;
-            groups = fine.held.groups;
-            permitted = λ x held. fine.held.permitted x (member_of_wider p c.permitted three.1 x held);
-            inheritable =
-                λ x held.
-                by x (or_cases (holds c.inheritable x) (holds c.bounding x)
-                (sym (holds_union c.inheritable c.bounding x)
-                ∙ member_of_wider i (union c.inheritable c.bounding) two.1 x held)) held;
-            bounding = fine.held.bounding;
-            new_privs = fine.held.new_privs;
-            root = fine.held.root;
-            lock = fine.held.lock;
-          };
+          held =
+              let fewer : (x : ℕ) → IsTrue (holds p x) → bounds row PermittedCaps x =
+              λ x held. fine.held.permitted x (member_of_wider p c.permitted three.1 x held) in
+              let others : (x : ℕ) → IsTrue (holds i x) → bounds row InheritableCaps x =
+              λ x held.
+              by x (or_cases (holds c.inheritable x) (holds c.bounding x)
+              (sym (holds_union c.inheritable c.bounding x)
+              ∙ member_of_wider i (union c.inheritable c.bounding) two.1 x held)) held in search;
           included = record {
             effective = four.1;
             ambient_permitted =
@@ -463,24 +372,10 @@ module _ (permitted : CallKind → Bool) (files : FileTable) (old : Spaces) (bou
       choose (λ (a : Answer). Fine (bounds row) a.cred) (ltb last_cap cap) (refused EINVAL c)
       (done (record c { bounding = without c.bounding cap })) (λ _. fine) (λ _. less)) where
         less : Fine (bounds row) (record c { bounding = without c.bounding cap })
-        less = record {
-          held = record {
-            uid = fine.held.uid;
-            gid = fine.held.gid;
-            groups = fine.held.groups;
-            permitted = fine.held.permitted;
-            inheritable = fine.held.inheritable;
-            bounding = λ x held. fine.held.bounding x (member_of_wider (without c.bounding cap) c.bounding (minus_within c.bounding (single cap)) x held);
-            new_privs = fine.held.new_privs;
-            root = fine.held.root;
-            lock = fine.held.lock;
-          };
-          included = record {
-            effective = fine.included.effective;
-            ambient_permitted = fine.included.ambient_permitted;
-            ambient_inheritable = fine.included.ambient_inheritable;
-          };
-        }
+        less =
+            let fewer : (x : ℕ) → IsTrue (holds (without c.bounding cap) x) → bounds row BoundingCaps x =
+            λ x held. fine.held.bounding x
+            (member_of_wider (without c.bounding cap) c.bounding (minus_within c.bounding (single cap)) x held) in search
 
   -- PR_CAP_AMBIENT_RAISE, LOWER and CLEAR_ALL: the ambient set is within the permitted one, which has a part
   pub amb_raise_fine : (cap : ℕ) → Fine (bounds row) (amb_raise c cap).cred
@@ -516,24 +411,7 @@ module _ (permitted : CallKind → Bool) (files : FileTable) (old : Spaces) (bou
   -- other securebits, of which only SECBIT_NOROOT and its lock count
   with_bits_fine : (bits : ℕ) → ((has_flag (record c { securebits = bits }) noroot ≡ false) → bounds row RootCounts 0)
       → ((has_flag (record c { securebits = bits }) (lock_of noroot) ≡ false) → bounds row LockClear 0) → Fine (bounds row) (record c { securebits = bits })
-  with_bits_fine bits root lock = record {
-    held = record {
-      uid = fine.held.uid;
-      gid = fine.held.gid;
-      groups = fine.held.groups;
-      permitted = fine.held.permitted;
-      inheritable = fine.held.inheritable;
-      bounding = fine.held.bounding;
-      new_privs = fine.held.new_privs;
-      root = root;
-      lock = lock;
-    };
-    included = record {
-      effective = fine.included.effective;
-      ambient_permitted = fine.included.ambient_permitted;
-      ambient_inheritable = fine.included.ambient_inheritable;
-    };
-  }
+  with_bits_fine bits root lock = search
 
   -- PR_SET_SECUREBITS: a locked flag stays, and a lock is never cleared
   pub secure_bits_fine : IsTrue (permitted kind.SecureBits) → (bits : ℕ) → Fine (bounds row) (secure_bits c bits).cred
@@ -624,21 +502,5 @@ module _ (permitted : CallKind → Bool) (files : FileTable) (old : Spaces) (bou
       choose (λ (a : Answer). Fine (bounds row) a.cred) (argument == 1) (done (record c { no_new_privs = true }))
       (refused EINVAL c) (λ _. set) (λ _. fine) where
         set : Fine (bounds row) (record c { no_new_privs = true })
-        set = record {
-          held = record {
-            uid = fine.held.uid;
-            gid = fine.held.gid;
-            groups = fine.held.groups;
-            permitted = fine.held.permitted;
-            inheritable = fine.held.inheritable;
-            bounding = fine.held.bounding;
-            new_privs = λ clear. absurd (false≢true (sym clear));
-            root = fine.held.root;
-            lock = fine.held.lock;
-          };
-          included = record {
-            effective = fine.included.effective;
-            ambient_permitted = fine.included.ambient_permitted;
-            ambient_inheritable = fine.included.ambient_inheritable;
-          };
-        }
+        set =
+            let never : true ≡ false → bounds row NewPrivs 0 = λ clear. absurd (false≢true (sym clear)) in search

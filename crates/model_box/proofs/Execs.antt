@@ -448,17 +448,7 @@ module _ (permitted : CallKind → Bool) (files : FileTable) (old new : Spaces) 
 
       with_sets_fine : Fine (bounds row) (with_sets c sets ambient)
       with_sets_fine = record {
-        held = record {
-          uid = fine.held.uid;
-          gid = fine.held.gid;
-          groups = fine.held.groups;
-          permitted = permitted_in;
-          inheritable = fine.held.inheritable;
-          bounding = fine.held.bounding;
-          new_privs = fine.held.new_privs;
-          root = fine.held.root;
-          lock = fine.held.lock;
-        };
+        held = search permitted_in;
         included = record {
           effective =
               choose (λ (e : ℕ). IsTrue (is_within e (permitted_after c sets ambient))) sets.effective

@@ -12,6 +12,18 @@ use Rattle.model_rules.specs.SetId.{minus_one, is_given, asked, setresid, setrei
 use Rattle.model_box.specs.Gains.{Settable}
 use Rattle.model_box.proofs.Writing.{choose}
 
+-- an id within an extent is an outside id, and so is one of the extents after it
+pub outside_here : (e : Extent) (map : List Extent) (k : ℕ) → e.outside ≤ k → k < e.outside + e.length → IsTrue (is_outside (e ∷ map) k)
+outside_here e map k low high =
+    choose (λ (b : Bool). IsTrue b) (lies_in e.outside e.length k) true (is_outside map k) (λ _. refl)
+    (λ wrong.
+    absurd (false≢true (sym wrong
+    ∙ and_from (leb e.outside k) (ltb k (e.outside + e.length)) (le-leb e.outside k low)
+    (lt-ltb k (e.outside + e.length) high))))
+
+pub outside_later : (e : Extent) (map : List Extent) (k : ℕ) → IsTrue (is_outside map k) → IsTrue (is_outside (e ∷ map) k)
+outside_later e map k held = choose (λ (b : Bool). IsTrue b) (lies_in e.outside e.length k) true (is_outside map k) (λ _. refl) (λ _. held)
+
 -- what an id is mapped to is an outside id
 pub down_outside : (map : List Extent) (i k : ℕ) → down map i ≡ Some k → IsTrue (is_outside map k)
 down_outside [] i k same = absurd (cc)
@@ -23,12 +35,8 @@ down_outside (e ∷ map) i k same = go (lies_in e.inside e.length i) refl same (
       let ends = and_parts (leb e.inside i) (ltb i (e.inside + e.length)) inside in
       let low : e.inside ≤ i = leb-true e.inside i ends.0 in
       let high : i < e.inside + e.length = ltb-true i (e.inside + e.length) ends.1 in
-      choose (λ (b : Bool). IsTrue b) (lies_in e.outside e.length k) true (is_outside map k) (λ _. refl)
-      (λ wrong.
-      absurd (false≢true (sym wrong
-      ∙ and_from (leb e.outside k) (ltb k (e.outside + e.length)) (le-leb e.outside k (omega arith))
-      (lt-ltb k (e.outside + e.length) (omega arith)))))
-  go false outside found rest = choose (λ (b : Bool). IsTrue b) (lies_in e.outside e.length k) true (is_outside map k) (λ _. refl) (λ _. rest found)
+      outside_here e map k (omega arith) (omega arith)
+  go false outside found rest = outside_later e map k (rest found)
 
 -- four ids are within three sets: the real, effective and saved one, the effective one, the fs one
 pub record IdsIn (Old Effective Fs : ℕ → Type 0) (ids : FourIds) : Type 0 where

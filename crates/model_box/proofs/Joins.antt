@@ -12,8 +12,8 @@ use Rattle.model_cred.specs.Space.{Spaces, space_of, is_at_or_above}
 use Rattle.model_rules.specs.Caps.{cap_sys_admin}
 use Rattle.model_rules.specs.Namespaces.{as_newcomer}
 use Rattle.model_rules.specs.Power.{has_over}
-use Rattle.model_box.specs.Row.{Part, Uids, EffectiveUids, FsUids, Gids, EffectiveGids, FsGids, Groups, MappedUids}
-use Rattle.model_box.specs.Row.{MappedGids, PermittedCaps, InheritableCaps, BoundingCaps, NewPrivs, RootCounts}
+use Rattle.model_box.specs.Row.{Part, EffectiveUids, MappedUids}
+use Rattle.model_box.specs.Row.{MappedGids, PermittedCaps, InheritableCaps, BoundingCaps, RootCounts}
 use Rattle.model_box.specs.Row.{LockClear, Row, Standing, Fresh, HasMembers, CredHas}
 use Rattle.model_box.specs.Rule.{Join}
 use Rattle.model_box.specs.Spread.{Brings, CanJoin, IsNext}
@@ -34,33 +34,12 @@ brought row c held InheritableCaps x has = absurd (false≢true (sym (holds_none
 brought row c held BoundingCaps x has = has
 brought row c held RootCounts x has = has.0
 brought row c held LockClear x has = has.0
-brought row c held Uids x has = held Uids x has
-brought row c held EffectiveUids x has = held EffectiveUids x has
-brought row c held FsUids x has = held FsUids x has
-brought row c held Gids x has = held Gids x has
-brought row c held EffectiveGids x has = held EffectiveGids x has
-brought row c held FsGids x has = held FsGids x has
-brought row c held Groups x has = held Groups x has
-brought row c held NewPrivs x has = held NewPrivs x has
+brought row c held part x has = held part x has
 
 -- who is a newcomer in a row already brings no more
 pub brought_again : (row : Part → ℕ → Type 0) (c : Credential) → InRow row (as_newcomer c) → (part : Part) (x : ℕ) → CredHas (as_newcomer c) part x
     → Brings row part x
-brought_again row c held MappedUids x has = has
-brought_again row c held MappedGids x has = has
-brought_again row c held PermittedCaps x has = has
-brought_again row c held InheritableCaps x has = absurd (false≢true (sym (holds_none x) ∙ has))
-brought_again row c held BoundingCaps x has = has
-brought_again row c held RootCounts x has = has.0
-brought_again row c held LockClear x has = has.0
-brought_again row c held Uids x has = held Uids x has
-brought_again row c held EffectiveUids x has = held EffectiveUids x has
-brought_again row c held FsUids x has = held FsUids x has
-brought_again row c held Gids x has = held Gids x has
-brought_again row c held EffectiveGids x has = held EffectiveGids x has
-brought_again row c held FsGids x has = held FsGids x has
-brought_again row c held Groups x has = held Groups x has
-brought_again row c held NewPrivs x has = held NewPrivs x has
+brought_again row c held part x has = brought row (as_newcomer c) held part x has
 
 -- a row that holds what the members of another bring holds what its own members bring
 pub filled_again : (row fresh : Part → ℕ → Type 0) → ((part : Part) (x : ℕ) → Brings row part x → fresh part x)
@@ -72,14 +51,7 @@ filled_again row fresh filled InheritableCaps x has = filled InheritableCaps x h
 filled_again row fresh filled BoundingCaps x has = filled BoundingCaps x has
 filled_again row fresh filled RootCounts x has = filled RootCounts x has
 filled_again row fresh filled LockClear x has = filled LockClear x has
-filled_again row fresh filled Uids x has = has
-filled_again row fresh filled EffectiveUids x has = has
-filled_again row fresh filled FsUids x has = has
-filled_again row fresh filled Gids x has = has
-filled_again row fresh filled EffectiveGids x has = has
-filled_again row fresh filled FsGids x has = has
-filled_again row fresh filled Groups x has = has
-filled_again row fresh filled NewPrivs x has = has
+filled_again row fresh filled _ x has = has
 
 -- the parent of a later space has its row, or is the standing space of that row
 row_parent : {k : ℕ} {spaces : Spaces} {m a : ℕ} → RowOf k spaces m (Fresh a) → (at : ℕ) → (space_of spaces m).parent ≡ Some at

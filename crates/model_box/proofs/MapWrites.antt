@@ -2,7 +2,7 @@
 use Rattle.std.proofs.Common.{◌≡◌, ℕ, ◌+◌, ◌-◌, ◌<◌, ◌≤◌, Bool, true, false, ◌&&◌, ◌||◌, not, Some, None, Option, List}
 use Rattle.std.proofs.Common.{[], ◌∷◌, length, refl, sym, ap, ◌∙◌, inl, inr, arith, ltb, leb, eqb}
 use Rattle.std.specs.Prelude.{◌⊎◌, ◌==◌, IsTrue, nat_le, is_none, if◌then◌else◌, option_map, option_and_then}
-use Rattle.std.proofs.lemmas.Bool.{false≢true, and_parts, and_from, or_cases, eqb-true, ltb-true, leb-true, lt-ltb, le-leb, not-false, not-true}
+use Rattle.std.proofs.lemmas.Bool.{false≢true, and_parts, or_cases, eqb-true, ltb-true, leb-true, not-false, not-true}
 use Rattle.cm_base.specs.CapSet.{holds}
 use Rattle.cm_base.specs.declared.errno.Errno.TheVariants.{EPERM, EINVAL}
 use Rattle.cm_base.proofs.CapSets.{member_of_wider}
@@ -21,6 +21,7 @@ use Rattle.model_rules.specs.Power.{has_over}
 use Rattle.model_box.specs.Row.{Part, EffectiveUids, EffectiveGids, MappedUids, MappedGids, PermittedCaps, Row, Standing, Fresh, HasMembers, space_under}
 use Rattle.model_box.specs.Closed.{ByMaps}
 use Rattle.model_box.specs.Covers.{RowOf, own, child, deeper, Stays, MapsAreIn, OwnersIn}
+use Rattle.model_box.proofs.Ids.{outside_here, outside_later}
 use Rattle.model_box.proofs.Trees.{Earlier, at_or_above_low, power_cases, row_standing}
 use Rattle.model_box.proofs.Fits.{TreeFits, AtAnchors, InRow, it_stands}
 use Rattle.model_box.proofs.Writing.{choose}
@@ -49,12 +50,8 @@ extent_outside (p ∷ map) e f down x held = go fits refl down (λ rest. extent_
       let two = and_parts (leb (p.outside + (e.outside - p.inside)) x) (ltb x ((p.outside + (e.outside - p.inside)) + e.length)) held' in
       let from : p.outside + (e.outside - p.inside) ≤ x = leb-true (p.outside + (e.outside - p.inside)) x two.0 in
       let to : x < (p.outside + (e.outside - p.inside)) + e.length = ltb-true x ((p.outside + (e.outside - p.inside)) + e.length) two.1 in
-      choose (λ (b : Bool). IsTrue b) (lies_in p.outside p.length x) true (is_outside map x) (λ _. refl)
-      (λ wrong.
-      absurd (false≢true (sym wrong
-      ∙ and_from (leb p.outside x) (ltb x (p.outside + p.length)) (le-leb p.outside x (omega arith))
-      (lt-ltb x (p.outside + p.length) (omega arith)))))
-  go false outside same rest = choose (λ (b : Bool). IsTrue b) (lies_in p.outside p.length x) true (is_outside map x) (λ _. refl) (λ _. rest same)
+      outside_here p map x (omega arith) (omega arith)
+  go false outside same rest = outside_later p map x (rest same)
 
 -- an outside id of a list taken down is one of the map
 list_outside : (map list mapped : List Extent) → list_down map list ≡ Some mapped → (x : ℕ) → IsTrue (is_outside mapped x) → IsTrue (is_outside map x)

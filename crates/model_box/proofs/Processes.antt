@@ -21,59 +21,52 @@ at_tail p ps q other = rw other
 one_of : (p new : Process) → Some p ≡ Some new → p ≡ new
 one_of p new same = cc
 
+-- the first of some processes, or one of the others
+first_found : (new : Process) (ps : List Process) (q : ℕ) (found : Process) → process_at (new ∷ ps) q ≡ Some found
+    → (found ≡ new) ⊎ ((eqb new.pid q ≡ false) × (process_at ps q ≡ Some found))
+first_found new ps q found at =
+    elim (cases_Bool (eqb new.pid q)) [
+      | inl is ↦ inl (sym (one_of new found (sym (at_head new ps q is) ∙ at)))
+      | inr not_it ↦ inr (not_it, sym (at_tail new ps q not_it) ∙ at)
+    ]
+
+-- what is found after a change is the new one or one from before, also with one process before all
+found_behind : (new p : Process) (ps after : List Process) (q : ℕ) (found : Process)
+    → (process_at after q ≡ Some found → (found ≡ new) ⊎ (process_at ps q ≡ Some found))
+    → process_at (p ∷ after) q ≡ Some found → (found ≡ new) ⊎ (process_at (p ∷ ps) q ≡ Some found)
+found_behind new p ps after q found rest at =
+    elim (cases_Bool (eqb p.pid q)) [
+      | inl is ↦ inr (at_head p ps q is ∙ sym (at_head p after q is) ∙ at)
+      | inr not_it ↦ elim (rest (sym (at_tail p after q not_it) ∙ at)) [
+        | inl same ↦ inl same
+        | inr old ↦ inr (at_tail p ps q not_it ∙ old)
+      ]
+    ]
+
 pub put_found : (new : Process) (ps : List Process) (q : ℕ) (found : Process) → process_at (put_process new ps) q ≡ Some found
     → (found ≡ new) ⊎ (process_at ps q ≡ Some found)
 put_found new [] q found at = inr at
 put_found new (p ∷ ps) q found at =
     choose (λ (after : List Process). process_at after q ≡ Some found → (found ≡ new) ⊎ (process_at (p ∷ ps) q ≡ Some found))
-    (eqb p.pid new.pid) (new ∷ ps) (p ∷ put_process new ps) here (there (put_found new ps q found)) at where
+    (eqb p.pid new.pid) (new ∷ ps) (p ∷ put_process new ps) here
+    (λ _. found_behind new p ps (put_process new ps) q found (put_found new ps q found)) at where
       here : eqb p.pid new.pid ≡ true → process_at (new ∷ ps) q ≡ Some found → (found ≡ new) ⊎ (process_at (p ∷ ps) q ≡ Some found)
       here same at' =
-          elim (cases_Bool (eqb new.pid q)) [
-            | inl is ↦ inl (sym (one_of new found (sym (at_head new ps q is) ∙ at')))
-            | inr not_it ↦
+          elim (first_found new ps q found at') [
+            | inl is ↦ inl is
+            | inr others ↦
                 let pids : p.pid ≡ new.pid = eqb-true p.pid new.pid same in
-                inr (at_tail p ps q (ap (λ (k : ℕ). eqb k q) pids ∙ not_it) ∙ sym (at_tail new ps q not_it) ∙ at')
+                inr (at_tail p ps q (ap (λ (k : ℕ). eqb k q) pids ∙ others.0) ∙ others.1)
           ]
-
-      there : (process_at (put_process new ps) q ≡ Some found → (found ≡ new) ⊎ (process_at ps q ≡ Some found))
-          → eqb p.pid new.pid ≡ false → process_at (p ∷ put_process new ps) q ≡ Some found → (found ≡ new) ⊎ (process_at (p ∷ ps) q ≡ Some found)
-      there rest other at' =
-          elim (cases_Bool (eqb p.pid q)) [
-            | inl is ↦ inr (at_head p ps q is ∙ sym (at_head p (put_process new ps) q is) ∙ at')
-            | inr not_it ↦ lift not_it (rest (sym (at_tail p (put_process new ps) q not_it) ∙ at'))
-          ] where
-            lift : eqb p.pid q ≡ false → (found ≡ new) ⊎ (process_at ps q ≡ Some found) → (found ≡ new) ⊎ (process_at (p ∷ ps) q ≡ Some found)
-            lift not_it (inl same) = inl same
-            lift not_it (inr old) = inr (at_tail p ps q not_it ∙ old)
 
 pub insert_found : (new : Process) (ps : List Process) (q : ℕ) (found : Process) → process_at (insert_process new ps) q ≡ Some found
     → (found ≡ new) ⊎ (process_at ps q ≡ Some found)
-insert_found new [] q found at =
-    elim (cases_Bool (eqb new.pid q)) [
-      | inl is ↦ inl (sym (one_of new found (sym (at_head new [] q is) ∙ at)))
-      | inr not_it ↦ inr (sym (at_tail new [] q not_it) ∙ at)
-    ]
+insert_found new [] q found at = elim (first_found new [] q found at) [ inl is ↦ inl is | inr others ↦ inr others.1 ]
 insert_found new (p ∷ ps) q found at =
     choose (λ (after : List Process). process_at after q ≡ Some found → (found ≡ new) ⊎ (process_at (p ∷ ps) q ≡ Some found))
-    (ltb new.pid p.pid) (new ∷ p ∷ ps) (p ∷ insert_process new ps) here (there (insert_found new ps q found)) at where
-      here : ltb new.pid p.pid ≡ true → process_at (new ∷ p ∷ ps) q ≡ Some found → (found ≡ new) ⊎ (process_at (p ∷ ps) q ≡ Some found)
-      here low at' =
-          elim (cases_Bool (eqb new.pid q)) [
-            | inl is ↦ inl (sym (one_of new found (sym (at_head new (p ∷ ps) q is) ∙ at')))
-            | inr not_it ↦ inr (sym (at_tail new (p ∷ ps) q not_it) ∙ at')
-          ]
-
-      there : (process_at (insert_process new ps) q ≡ Some found → (found ≡ new) ⊎ (process_at ps q ≡ Some found))
-          → ltb new.pid p.pid ≡ false → process_at (p ∷ insert_process new ps) q ≡ Some found → (found ≡ new) ⊎ (process_at (p ∷ ps) q ≡ Some found)
-      there rest high at' =
-          elim (cases_Bool (eqb p.pid q)) [
-            | inl is ↦ inr (at_head p ps q is ∙ sym (at_head p (insert_process new ps) q is) ∙ at')
-            | inr not_it ↦ lift not_it (rest (sym (at_tail p (insert_process new ps) q not_it) ∙ at'))
-          ] where
-            lift : eqb p.pid q ≡ false → (found ≡ new) ⊎ (process_at ps q ≡ Some found) → (found ≡ new) ⊎ (process_at (p ∷ ps) q ≡ Some found)
-            lift not_it (inl same) = inl same
-            lift not_it (inr old) = inr (at_tail p ps q not_it ∙ old)
+    (ltb new.pid p.pid) (new ∷ p ∷ ps) (p ∷ insert_process new ps)
+    (λ _ at'. elim (first_found new (p ∷ ps) q found at') [ inl is ↦ inl is | inr others ↦ inr others.1 ])
+    (λ _. found_behind new p ps (insert_process new ps) q found (insert_found new ps q found)) at
 
 -- what stays of a process at another's exit
 pub record Remains (ps : List Process) (q : ℕ) (found : Process) : Type 0 where
