@@ -48,16 +48,7 @@ within_is_cap_set a b within small =
 -- a credential keeps what it keeps with other permitted, effective and ambient sets that are included as they must be
 pub keeps_sets : (c : Credential) (p e a : ℕ) → Keeps c → IsCapSet p → IsTrue (is_within e p) → IsTrue (is_within a p)
     → IsTrue (is_within a c.inheritable) → Keeps (record c { permitted = p; effective = e; ambient = a })
-keeps_sets c p e a keeps small effective ambient inherited = record {
-  included = record { effective = effective; ambient_permitted = ambient; ambient_inheritable = inherited };
-  uid = keeps.uid;
-  gid = keeps.gid;
-  groups = keeps.groups;
-  inheritable = keeps.inheritable;
-  permitted = small;
-  bounding = keeps.bounding;
-  securebits = keeps.securebits;
-}
+keeps_sets c p e a keeps small effective ambient inherited = search
 
 -- with another effective set
 keeps_effective : (c : Credential) (e : ℕ) → Keeps c → IsTrue (is_within e c.permitted) → Keeps (record c { effective = e })
@@ -71,20 +62,7 @@ keeps_ambient c a keeps permitted inherited = keeps_sets c c.permitted c.effecti
 -- with other ids, groups, bounding set and securebits
 keeps_others : (c : Credential) (uids gids : FourIds) (groups : List ℕ) (b bits : ℕ) → Keeps c → AreIds uids → AreIds gids → AscendFrom 0 groups
     → IsCapSet b → bits < 2 ^ 8 → Keeps (record c { uid = uids; gid = gids; groups = groups; bounding = b; securebits = bits })
-keeps_others c uids gids groups b bits keeps are_uids are_gids ascends small few = record {
-  included = record {
-    effective = keeps.included.effective;
-    ambient_permitted = keeps.included.ambient_permitted;
-    ambient_inheritable = keeps.included.ambient_inheritable;
-  };
-  uid = are_uids;
-  gid = are_gids;
-  groups = ascends;
-  inheritable = keeps.inheritable;
-  permitted = keeps.permitted;
-  bounding = small;
-  securebits = few;
-}
+keeps_others c uids gids groups b bits keeps are_uids are_gids ascends small few = search
 
 -- with other user ids
 pub keeps_uids : (c : Credential) (ids : FourIds) → Keeps c → AreIds ids → Keeps (record c { uid = ids })
@@ -113,20 +91,7 @@ keeps_bits c bits keeps few =
 
 -- with no_new_privs set
 keeps_flag : (c : Credential) (flag : Bool) → Keeps c → Keeps (record c { no_new_privs = flag })
-keeps_flag c flag keeps = record {
-  included = record {
-    effective = keeps.included.effective;
-    ambient_permitted = keeps.included.ambient_permitted;
-    ambient_inheritable = keeps.included.ambient_inheritable;
-  };
-  uid = keeps.uid;
-  gid = keeps.gid;
-  groups = keeps.groups;
-  inheritable = keeps.inheritable;
-  permitted = keeps.permitted;
-  bounding = keeps.bounding;
-  securebits = keeps.securebits;
-}
+keeps_flag c flag keeps = search
 
 -- ---- the fixups
 keeps_without_root : (c : Credential) → Keeps c → Keeps (without_root c)

@@ -1,5 +1,5 @@
 -- Root's sets at execve, and the exception for a set-user-ID-root file with an attribute of its own.
-use Rattle.std.proofs.Common.{◌≡◌, ◌⊎◌, ℕ, ◌&&◌, ◌||◌, not, Bool, true, false, Some, if◌then◌else◌, refl, sym, ap, ◌∙◌, inl, inr, subst}
+use Rattle.std.proofs.Common.{arith, ◌≡◌, ◌⊎◌, ℕ, ◌&&◌, ◌||◌, not, Bool, true, false, Some, if◌then◌else◌, refl, sym, ap, ◌∙◌, inl, inr, subst}
 use Rattle.std.specs.Prelude.{IsTrue}
 use Rattle.std.proofs.lemmas.Bool.{eqb-true, and_parts, and_from, or_cases, or_left, or_right, not-true, not_from_false, false_from_ne_true}
 use Rattle.cm_base.specs.CapSet.{full, none, union, meet, is_within, IsCapSet}
@@ -38,78 +38,7 @@ record Table (n a r e : Bool) (own sets : FileSets) : Type 0 where
   noroot : n ≡ true → sets ≡ own
 
 table : (n a r e : Bool) (own : FileSets) → Table n a r e own (sets_by n a r e own)
-table true a r e own = record {
-  permitted = λ x y z. absurd (cc);
-  inheritable = λ x y z. absurd (cc);
-  bit = λ x y. absurd (cc);
-  others = λ x y. refl;
-  excepted = λ x. refl;
-  noroot = λ x. refl;
-}
-table false true true true own = record {
-  permitted = λ x y z. refl;
-  inheritable = λ x y z. refl;
-  bit = λ x y. refl;
-  others = λ x y. absurd (cc);
-  excepted = λ x. absurd (cc);
-  noroot = λ x. absurd (cc);
-}
-table false true true false own = record {
-  permitted = λ x y z. refl;
-  inheritable = λ x y z. refl;
-  bit = λ x y. refl;
-  others = λ x y. absurd (cc);
-  excepted = λ x. absurd (cc);
-  noroot = λ x. absurd (cc);
-}
-table false true false true own = record {
-  permitted = λ x y z. absurd (cc);
-  inheritable = λ x y z. absurd (cc);
-  bit = λ x y. absurd (cc);
-  others = λ x y. refl;
-  excepted = λ x. refl;
-  noroot = λ x. refl;
-}
-table false true false false own = record {
-  permitted = λ x y z. absurd (cc);
-  inheritable = λ x y z. absurd (cc);
-  bit = λ x y. refl;
-  others = λ x y. refl;
-  excepted = λ x. refl;
-  noroot = λ x. refl;
-}
-table false false true true own = record {
-  permitted = λ x y z. refl;
-  inheritable = λ x y z. refl;
-  bit = λ x y. refl;
-  others = λ x y. absurd (cc);
-  excepted = λ x. absurd (cc);
-  noroot = λ x. absurd (cc);
-}
-table false false true false own = record {
-  permitted = λ x y z. refl;
-  inheritable = λ x y z. refl;
-  bit = λ x y. refl;
-  others = λ x y. absurd (cc);
-  excepted = λ x. absurd (cc);
-  noroot = λ x. absurd (cc);
-}
-table false false false true own = record {
-  permitted = λ x y z. refl;
-  inheritable = λ x y z. refl;
-  bit = λ x y. refl;
-  others = λ x y. absurd (cc);
-  excepted = λ x. absurd (cc);
-  noroot = λ x. absurd (cc);
-}
-table false false false false own = record {
-  permitted = λ x y z. absurd (cc);
-  inheritable = λ x y z. absurd (cc);
-  bit = λ x y. refl;
-  others = λ x y. refl;
-  excepted = λ x. refl;
-  noroot = λ x. refl;
-}
+table n a r e own = grind arith
 
 -- the test for root's id and the sentence
 module _ (spaces : Spaces) (at : ℕ) where
