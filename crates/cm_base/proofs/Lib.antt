@@ -2,3 +2,5 @@
 pub mod CapSets
 pub mod Lengths
 pub mod Tables
+pub mod Texts
+pub mod Words

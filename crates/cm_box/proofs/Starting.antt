@@ -1,13 +1,13 @@
 -- The start bounds: the rows of all standing spaces, two by two, and what they come to.
 use Rattle.std.proofs.Common.{◌≡◌, ℕ, ◌+◌, ◌*◌, ◌<◌, ◌≤◌}
-use Rattle.std.proofs.Common.{List, [], ◌∷◌, ◌++◌, Option, None, length, get_or, refl, sym, ap, subst, ◌∙◌}
+use Rattle.std.proofs.Common.{List, [], ◌∷◌, ◌++◌, Option, length, get_or, sym, ap, subst, ◌∙◌}
 use Rattle.std.proofs.Common.{inl, inr, arith, length-append}
 use Rattle.std.specs.Prelude.{◌↔◌, All, unwrap_or}
-use Rattle.std.proofs.lemmas.Bool.{cases_lt, false≢true, ne_eqb, lt-ltb}
+use Rattle.std.proofs.lemmas.Bool.{cases_lt, false≢true, lt-ltb}
 use Rattle.std.proofs.lemmas.List.{get_or_past, get_or_append_left}
 use Rattle.std.proofs.Math.Seq.{get_or-append_seam}
 use Rattle.model_cred.specs.Process.{Process, State}
-use Rattle.model_cred.specs.Space.{Space, Spaces, no_space, space_at, space_of}
+use Rattle.model_cred.specs.Space.{Space, Spaces, no_space, space_of}
 use Rattle.model_box.specs.Bounds.{BoxRow, no_row}
 use Rattle.model_box.specs.Laws.{tested}
 use Rattle.model_box.specs.Row.{Part, MappedUids}
@@ -20,6 +20,7 @@ use Rattle.model_box.proofs.Starts.{covers_standing, holds_start}
 use Rattle.cm_box_rows.specs.Members.{IsLeastCover}
 use Rattle.cm_box_rows.specs.Rows.{RowHolds, RowsHold, AreSameRows}
 use Rattle.cm_box_rows.proofs.RowParts.{none_in}
+use Rattle.cm_state.proofs.SpacePlaces.{not_found}
 
 changed : (one other : BoxRow) (Q : Part → ℕ → Type 0) → other ≡ one → AreSameRows (RowHolds one) Q
     → AreSameRows (RowHolds other) Q
@@ -68,15 +69,10 @@ module _ (rows : List BoxRow) (new empty : BoxRow) where
   ]
 
 -- a space that doesn't stand maps nothing
-space_past : (spaces : Spaces) (n : ℕ) → length spaces ≤ n → space_at spaces n ≡ None
-space_past [] n past = refl
-space_past (s ∷ older) n past =
-    rw (ne_eqb n (length older) (λ (is : n ≡ length older). omega arith)) (space_past older n (omega arith))
-
 no_maps : (spaces : Spaces) (n : ℕ) → length spaces ≤ n → (part : Part) (x : ℕ) → SpaceMaps (space_of spaces n) part x
     → ⊥
 no_maps spaces n past part x has = by part (subst (λ (o : Option Space). SpaceMaps (unwrap_or o no_space) part x)
-    (space_past spaces n past) has) where
+    (not_found spaces n past) has) where
       by : (part : Part) → SpaceMaps no_space part x → ⊥
       by MappedUids out = false≢true out
       by MappedGids out = false≢true out

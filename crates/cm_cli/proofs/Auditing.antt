@@ -4,6 +4,7 @@ use Rattle.std.proofs.Common.{◌∙◌, ap, subst}
 use Rattle.std.proofs.Common.{[], ◌∷◌, ◌++◌, append_assoc, is_some, Result, Ok, slice_get, inl, inr, arith}
 use Rattle.std.proofs.lemmas.Option.{slice_get_cases}
 use Rattle.std.specs.Prelude.{codes, IfOk, IsSomeAnd}
+use Rattle.std.proofs.lemmas.Bool.{le-ltb, lt-ltb}
 use Rattle.cm_base.specs.declared.limited.Limited.TheVariants as limit
 use Rattle.cm_base.specs.Limited.{limit_number}
 use Rattle.cm_base.specs.declared.status.Status.{Status}
@@ -22,7 +23,6 @@ use Rattle.model_cred.specs.Right.{Right}
 use Rattle.model_cred.specs.Space.{Spaces}
 use Rattle.model_cred.specs.World.{World}
 use Rattle.model_report.proofs.Answers.{is_not, of_asked, of_large, of_no_space}
-use Rattle.model_report.proofs.Replayed.{is_above, not_above}
 use Rattle.model_report.specs.Answer.{answer, bad_query, certificate_line, certificate_report, undecided_text}
 use Rattle.model_report.specs.Answer.{confirmed_report, query_answer, task_report}
 use Rattle.model_report.specs.Causes.{Asks, AsksVerdict}
@@ -133,21 +133,21 @@ module _ (q : Query) (w : World) (s : State) where
     certificate_told text j size =
         ap (λ (b : Bool). cond b (limit_hit limit.Certificate)
         (certificate_report w s.spaces j.checked (certificate (length s.spaces) text)))
-        (not_above (limit_number limit.Certificate) (length text) size)
+        (le-ltb (limit_number limit.Certificate) (length text) size)
 
     pub certificate_past : (text : List ℕ) (j : Judged) → limit_number limit.Certificate < length text
         → task_report (ToCheck q text) j w s members right ≡ limit_hit limit.Certificate
     certificate_past text j over =
         ap (λ (b : Bool). cond b (limit_hit limit.Certificate)
         (certificate_report w s.spaces j.checked (certificate (length s.spaces) text)))
-        (is_above (limit_number limit.Certificate) (length text) over)
+        (lt-ltb (limit_number limit.Certificate) (length text) over)
 
     pub run_past : (text : List ℕ) (j : Judged) → limit_number limit.Run < length text
         → task_report (ToConfirm q text) j w s members right ≡ limit_hit limit.Run
     run_past text j over =
         ap (λ (b : Bool). cond b (limit_hit limit.Run)
         (confirmed_report (confirm_of w s members right (script_reading w text))))
-        (is_above (limit_number limit.Run) (length text) over)
+        (lt-ltb (limit_number limit.Run) (length text) over)
 
 -- ---- what is put
 -- what is put as one report is put as one that is equal

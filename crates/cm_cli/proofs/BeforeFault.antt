@@ -1,11 +1,12 @@
 -- What is written before a fault of reading, by which read failed.
 use Rattle.std.proofs.Common.{◌≡◌, ◌≢◌, ◌<◌, ◌∙◌, ℕ, Bool, true, false, IsTrue, List, [], ◌∷◌, ◌++◌, ◌⊎◌, Option, Ok, IfSome, arith}
 use Rattle.std.proofs.Common.{ap, inl, inr, refl, subst, sym}
+use Rattle.std.proofs.lemmas.Option.{IfSome_then}
 use Rattle.cm_base.specs.declared.limited.Limited.{Limited}
 use Rattle.cm_base.specs.declared.limited.Limited.TheVariants as limit
 use Rattle.cm_base.specs.declared.status.Status.{Status}
 use Rattle.cm_base.specs.declared.status.Status.TheVariants as answers
-use Rattle.cm_cli.proofs.Replaying.{always, asking_names, if_both, if_told}
+use Rattle.cm_cli.proofs.Replaying.{asking_names}
 use Rattle.cm_cli.specs.BeforeFault.{HoldsLines, HoldsShown, HoldsStart, RoseAt, WritesBefore, WritesBeforeFault, WritesLines}
 use Rattle.cm_cli.specs.Files.{ApartFor}
 use Rattle.cm_cli.specs.Query.{file_of, shows_of}
@@ -20,6 +21,7 @@ use Rattle.cm_declared.specs.World.{world_of}
 use Rattle.cm_declared.specs.declared.world.World as code
 use Rattle.cm_io.specs.Shelf.{CountsApart, Files, TakesAtMost, bytes_at}
 use Rattle.cm_io.specs.Sink.{then_written}
+use Rattle.cm_replay.proofs.Held.{always, if_both}
 use Rattle.cm_replay.specs.Shown.{start_shown}
 use Rattle.cm_replay.specs.Told.{TellsTaken, lines_report}
 use Rattle.model_cred.specs.World.{World}
@@ -124,9 +126,9 @@ module _ (held : Option Files) (counted : List ℕ → Bool) (t : Task) (world l
       | inr hidden ↦ holds.unshown hidden
     ];
     unshown = holds.unshown;
-    of_log = λ shown _ _ _. if_told held read
+    of_log = λ shown _ _ _. IfSome_then held read
         (λ files is. starts_in (bytes_at files world) c w w' (shows_of t) is holds shown);
-    either = λ shown. if_told held read
+    either = λ shown. IfSome_then held read
         (λ files is. inr (starts_in (bytes_at files world) c w w' (shows_of t) is holds shown));
   }
 

@@ -1,12 +1,12 @@
 -- A command that was carried out: what `run` says of the words that name it.
 use Rattle.std.proofs.Common.{◌≡◌, ◌≢◌, ℕ, List, Option, IfSome, refl}
+use Rattle.std.proofs.lemmas.Option.{IfSome_then}
 use Rattle.cm_base.specs.declared.status.Status.{Status}
 use Rattle.cm_base.specs.declared.status.Status.TheVariants as answers
 use Rattle.cm_cli.proofs.BeforeFault.{no_fault, no_lines}
 use Rattle.cm_cli.proofs.Complete.{by_cause, completed, decided, meaning, says_no, says_undecided, says_yes}
 use Rattle.cm_cli.proofs.Drills.{nothing_read}
 use Rattle.cm_cli.proofs.FileReads.{reads_still, takes_still}
-use Rattle.cm_cli.proofs.Replaying.{if_told}
 use Rattle.cm_cli.specs.Answers.{AnswersReport, AsksOfSettled, ComesByCause, IsCompleted, IsDecided, IsValid, NoneRose}
 use Rattle.cm_cli.specs.Carried.{CarriesOut}
 use Rattle.cm_cli.specs.Headline.{Headline, SaysNo, SaysUndecided, SaysYes}
@@ -51,20 +51,20 @@ pub record Says (words : List (List ℕ)) (answer : Status) (a b : Account) (w w
 pub carried_says : (words : List (List ℕ)) (answer : Status) (a b : Account) (w w' : Option (List ℕ)) (f f' : ℕ)
     → CarriesOut (command_of words) answer a b w w' f f' → Says words answer a b w w' f f'
 carried_says words answer a b w w' f f' done = record {
-  causes = if_told a.held done.report.status (λ files is told. by_cause words files answer is told);
-  yes = if_told a.held done.report.status (λ files is said. says_yes words files answer is said);
-  no = if_told a.held done.report.status (λ files is said. says_no words files answer is said);
-  undecided = if_told a.held done.report.status (λ files is said. says_undecided words files answer is said);
+  causes = IfSome_then a.held done.report.status (λ files is told. by_cause words files answer is told);
+  yes = IfSome_then a.held done.report.status (λ files is said. says_yes words files answer is said);
+  no = IfSome_then a.held done.report.status (λ files is said. says_no words files answer is said);
+  undecided = IfSome_then a.held done.report.status (λ files is said. says_undecided words files answer is said);
   headline = record {
     report = done.report;
     read_faults = done.read_faults;
     write_faults = done.write_faults;
     before_fault = done.before_fault;
-    means = if_told a.held done.report.status (λ files is. meaning words files answer is);
+    means = IfSome_then a.held done.report.status (λ files is. meaning words files answer is);
   };
-  complete = if_told a.held done.report.status (λ files is valid none.
+  complete = IfSome_then a.held done.report.status (λ files is valid none.
       completed words files answer a.faults b.faults f f' is done.read_faults.fault done.write_faults.fault valid none);
-  settled = if_told a.held done.report.status (λ files is valid none asks.
+  settled = IfSome_then a.held done.report.status (λ files is valid none asks.
       decided words files answer a.faults b.faults f f' is done.read_faults.fault done.write_faults.fault valid none
       asks);
 }

@@ -3,8 +3,8 @@ use Rattle.std.proofs.Common.{◌≡◌, ℕ, List, [], ◌∷◌, ◌++◌, Res
 use Rattle.cm_audit.specs.Told.{Told, told}
 use Rattle.cm_cli.specs.Drilling.{drilled_lines}
 use Rattle.cm_drill.specs.declared.telling.Drilled as code
-use Rattle.cm_report.proofs.ReportText.{text_of_append}
 use Rattle.model_drill.specs.Drill.{Drilled}
+use Rattle.model_report.proofs.Texts.{text_of_append}
 use Rattle.model_report.specs.Replay.{ReportLine, Plain, at_line, text_of}
 use Rattle.model_report.specs.Report.{drill_report, verdict_word}
 

@@ -2,10 +2,10 @@
 use Rattle.std.proofs.Common.{◌≢◌, ℕ, List, Option, refl, arith}
 use Rattle.cm_base.specs.declared.status.Status.{Status}
 use Rattle.cm_base.specs.declared.status.Status.TheVariants as answers
-use Rattle.cm_cli.proofs.Replaying.{always}
 use Rattle.cm_cli.specs.Answers.{AnswersReport, CountsReads}
 use Rattle.cm_cli.specs.Drilling.{drill_of, GivesDrill}
 use Rattle.cm_io.specs.Shelf.{Files}
+use Rattle.cm_replay.proofs.Held.{always}
 use Rattle.cm_report.specs.Telling.{TellsReport}
 use Rattle.model_report.specs.Command.{Command, Drill}
 use Rattle.model_report.specs.Judged.{Judged}

@@ -2,13 +2,14 @@
 use Rattle.std.proofs.Common.{◌≡◌, ◌≢◌, ◌≤◌, ◌<◌, ◌∙◌, ℕ, Bool, List, [], ◌∷◌, Option, Ok, arith}
 use Rattle.std.proofs.Common.{inl, inr, le_of_eq, refl, subst, sym}
 use Rattle.std.specs.Prelude.{IfSome}
+use Rattle.std.proofs.lemmas.Option.{IfSome_then}
 use Rattle.cm_base.specs.declared.limited.Limited.{Limited}
 use Rattle.cm_base.specs.declared.limited.Limited.TheVariants as limit
 use Rattle.cm_base.specs.declared.status.Status.{Status}
 use Rattle.cm_base.specs.declared.status.Status.TheVariants as answers
 use Rattle.cm_cli.proofs.FileReads.{reads_more, reads_then, rose_later, rose_since, takes_more, takes_then}
 use Rattle.cm_cli.proofs.FileReads.{unread_apart}
-use Rattle.cm_cli.proofs.Replaying.{always, asking_names, claiming_query, if_both, if_told}
+use Rattle.cm_cli.proofs.Replaying.{asking_names, claiming_query}
 use Rattle.cm_cli.specs.Answers.{CountsReads, FailsInOrder, at_world, at_log, at_third}
 use Rattle.cm_cli.specs.Files.{BothApart}
 use Rattle.cm_cli.specs.LogReading.{LogFails, ThirdStaysUnread}
@@ -24,6 +25,7 @@ use Rattle.cm_cli.specs.declared.query.Task.TheVariants as task
 use Rattle.cm_declared.specs.World.{world_of}
 use Rattle.cm_declared.specs.declared.world.World as code
 use Rattle.cm_io.specs.Shelf.{CountsApart, Files, Rose, bytes_at}
+use Rattle.cm_replay.proofs.Held.{always, if_both}
 use Rattle.model_report.specs.Command.{files_of}
 use Rattle.model_report.specs.Query.{Query}
 
@@ -137,7 +139,7 @@ module _ (held : Option Files) (world log : List ℕ) (w : code.World)
     risen n rose = let was = same n in omega (arith, was, rose)
 
     log_refused : LogRefused held world log reads reads''
-    log_refused = if_told held stands (λ files read none. absurd (none (world_of w, read)))
+    log_refused = IfSome_then held stands (λ files read none. absurd (none (world_of w, read)))
 
     third_in_order : (claim : Claim) → BothApart counted faults' faults'' reads' reads'' log claim.file.now
         → IfSome held (λ files. ThirdStaysUnread (task.Claims claim) (world_of w) log (bytes_at files log) reads' reads'')

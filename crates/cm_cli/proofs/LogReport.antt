@@ -3,12 +3,13 @@ use Rattle.std.proofs.Common.{◌≡◌, ◌≢◌, ◌≤◌, ℕ, List, [], �
 use Rattle.std.proofs.Common.{subst, refl, sym, ap, ◌∙◌, arith}
 use Rattle.cm_base.specs.declared.status.Status.{Status}
 use Rattle.cm_base.specs.declared.status.Status.TheVariants as answers
-use Rattle.cm_report.proofs.ReportText.{text_of_append}
+use Rattle.cm_replay.proofs.Shown.{same_status}
 use Rattle.cm_replay.specs.Shown.{shown_report, start_shown}
 use Rattle.model_cred.specs.Process.{State}
 use Rattle.model_cred.specs.World.{World, KeepsWorld}
 use Rattle.model_run.specs.Never.{MountsStand}
 use Rattle.model_report.proofs.Replayed.{of_end, of_stop, over_all, stop_is_other, status_of}
+use Rattle.model_report.proofs.Texts.{text_of_append}
 use Rattle.model_report.specs.Answer.{answer}
 use Rattle.model_report.specs.Judged.{Judged}
 use Rattle.model_report.specs.Replay.{Report, after, state_after, stopped, text_of}
@@ -35,15 +36,6 @@ pub shown_text : (b : Bool) (w : World) (reading : Reading)
 shown_text b w reading =
     ap (λ (r : Report). text_of r.lines) (shown_is b w reading)
     ∙ text_of_append (start_shown b w) (shown_report b (replay_of w reading)).lines
-
--- whether it is shown or not, it has one status
-pub shown_same : (b : Bool) (r : Report) → (shown_report b r).status ≡ r.status
-shown_same true r = refl
-shown_same false r = refl
-
--- one that isn't shown, and is accepted, has no lines
-pub silent_none : (r : Report) → r.status ≡ answers.Accepted → text_of (shown_report false r).lines ≡ []
-silent_none r is = ap (λ (st : Status). text_of (shown_report false (record { status = st; lines = r.lines })).lines) is
 
 -- ---- what comes after it
 -- What is reported is the replay, and then what comes after it in the state that an accepted log leads to.
@@ -87,7 +79,7 @@ module _ (task : Task) (j : Judged) (w : World) (reading : Reading) where
         status =
             ap (λ (r : Report). r.status) same
             ∙ status_of (shown (shows task) w reading) _ (shown_is (shows task) w reading)
-            ∙ shown_same (shows task) (replay_of w reading) ∙ is ∙ sym (ap (λ (r : Report). r.status) rest);
+            ∙ same_status (shows task) (replay_of w reading) ∙ is ∙ sym (ap (λ (r : Report). r.status) rest);
         text =
             ap (λ (r : Report). text_of r.lines) same ∙ sym (append-nil (text_of (shown (shows task) w reading).lines))
             ∙ ap (λ (r : Report). text_of (shown (shows task) w reading).lines ++ text_of r.lines) (sym rest);

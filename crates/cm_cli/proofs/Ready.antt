@@ -1,5 +1,6 @@
 -- What the bytes of a world come to, by how they were read.
-use Rattle.std.proofs.Common.{◌≡◌, ◌≤◌, nat_lt, ℕ, List, length, ap, sym, ◌∙◌, cond, Bool, None, Some, Ok, Err, inl, inr}
+use Rattle.std.proofs.Common.{◌≡◌, ◌≤◌, ℕ, List, length, ap, sym, ◌∙◌, cond, Bool, Ok, Err, inl, inr}
+use Rattle.std.proofs.lemmas.Bool.{lt-ltb}
 use Rattle.cm_base.specs.Limited.{limit_number}
 use Rattle.cm_base.specs.declared.limited.Limited.TheVariants as limit
 use Rattle.cm_cli.specs.LogReport.{WorldGives, log_report}
@@ -10,11 +11,10 @@ use Rattle.cm_declared.specs.declared.world.World as code
 use Rattle.cm_report.specs.Telling.{short_report}
 use Rattle.cm_report.specs.declared.short.Short.{Short}
 use Rattle.cm_report.specs.declared.short.Short.TheVariants as short
-use Rattle.model_cred.specs.Process.{State}
-use Rattle.model_report.proofs.Replayed.{of_size, not_above, is_above}
+use Rattle.model_report.proofs.Replayed.{of_size}
 use Rattle.model_report.specs.Given.{FilesGive}
 use Rattle.model_report.specs.Judged.{Judged}
-use Rattle.model_report.specs.Replay.{IsWithin, limit_hit}
+use Rattle.model_report.specs.Replay.{limit_hit}
 use Rattle.model_report.specs.Report.{files_report, by_world}
 use Rattle.model_report.specs.Task.{Task}
 use Rattle.model_text.specs.WorldText.{WorldText, Reads, Bad, Exceeds, world_text}
@@ -38,18 +38,8 @@ module _ (task : Task) (j : Judged) (world log : List ℕ) where
       → files_report task j world log ≡ short_report why
   world_refused (short.Limit l) (inl (is, over)) =
       ap (λ (b : Bool). cond b (limit_hit limit.World) (by_world task j (world_text world) log))
-      (is_above (limit_number limit.World) (length world) over)
+      (lt-ltb (limit_number limit.World) (length world) over)
       ∙ ap limit_hit (sym is)
   world_refused (short.Limit l) (inr read) = by_text (Exceeds l) read
   world_refused (short.BadWorld table row why) read = by_text (Bad table row why) read
   world_refused short.Usage never = absurd never
-
--- a state within both numbers is within the limits
-pub within_limits : (s : State) → length s.processes ≤ limit_number limit.Processes
-    → length s.spaces ≤ limit_number limit.Spaces → IsWithin s
-within_limits s processes spaces =
-    ap (λ (over : Bool). cond over (Some limit.Processes)
-    (cond (nat_lt (limit_number limit.Spaces) (length s.spaces)) (Some limit.Spaces) None))
-    (not_above (limit_number limit.Processes) (length s.processes) processes)
-    ∙ ap (λ (over : Bool). cond over (Some limit.Spaces) None)
-    (not_above (limit_number limit.Spaces) (length s.spaces) spaces)

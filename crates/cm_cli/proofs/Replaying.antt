@@ -1,6 +1,7 @@
 -- What the replay of a log in a world answers, with what is asked after it.
 use Rattle.std.proofs.Common.{◌≡◌, ◌≢◌, ℕ, List, [], ◌∷◌, Option, None, Some, subst, refl, sym, ap, ◌∙◌, inl, inr}
 use Rattle.std.specs.Prelude.{IfSome}
+use Rattle.std.proofs.lemmas.Option.{IfSome_then}
 use Rattle.cm_base.specs.declared.limited.Limited.TheVariants as limit
 use Rattle.cm_base.specs.declared.status.Status.{Status}
 use Rattle.cm_base.specs.declared.status.Status.TheVariants as answers
@@ -15,6 +16,7 @@ use Rattle.cm_cli.specs.declared.query.ClaimKind.TheVariants as kind
 use Rattle.cm_cli.specs.declared.query.Task.{Task}
 use Rattle.cm_cli.specs.declared.query.Task.TheVariants as task
 use Rattle.cm_io.specs.Shelf.{Files, bytes_at}
+use Rattle.cm_replay.proofs.Held.{always}
 use Rattle.cm_replay.specs.Coming.{IsReplayAnswer}
 use Rattle.cm_report.proofs.Told.{of_report}
 use Rattle.cm_report.proofs.Waiting.{all_waits}
@@ -26,22 +28,6 @@ use Rattle.model_report.specs.Given.{FilesGive, CommandGives}
 use Rattle.model_report.specs.Judged.{Judged}
 use Rattle.model_report.specs.Replay.{Report}
 use Rattle.model_report.specs.Report.{command_report, files_report}
-
--- a fact of what is told, from another
-pub if_told : {T : Type 0} {P Q : T → Type 0} (o : Option T) → IfSome o P → ((x : T) → P x → Q x) → IfSome o Q
-if_told None h f = h
-if_told (Some x) h f = f x h
-
--- what holds of each holds of what is told
-pub always : {T : Type 0} {P : T → Type 0} (o : Option T) → ((x : T) → P x) → IfSome o P
-always None f = tt
-always (Some x) f = f x
-
--- a fact of what is told, from two
-pub if_both : {T : Type 0} {P Q R : T → Type 0} (o : Option T) → IfSome o P → IfSome o Q → ((x : T) → P x → Q x → R x)
-    → IfSome o R
-if_both None p q f = tt
-if_both (Some x) p q f = f x p q
 
 -- and from three
 pub if_three : {T : Type 0} {P Q R S : T → Type 0} (o : Option T) → IfSome o P → IfSome o Q → IfSome o R
@@ -186,10 +172,10 @@ pub log_answers : (held : Option Files) (t : Task) (world log : List ℕ) (answe
     → AnswersReport held (asking t world log) answer w w'
 unfolding TellsFiles
 log_answers held t world log answer w w' told other = record {
-  status = if_told held told (λ files tells j gives is.
+  status = IfSome_then held told (λ files tells j gives is.
       (tells j (asking_gives t world log (bytes_at files) j gives)).status is
       ∙ ap (λ (r : Report). r.status) (sym (asking_report t world log (bytes_at files) j)));
-  text = if_told held told (λ files tells j gives.
+  text = IfSome_then held told (λ files tells j gives.
       rw (asking_report t world log (bytes_at files) j)
       ((tells j (asking_gives t world log (bytes_at files) j gives)).text));
   usage = λ is. absurd (other is);

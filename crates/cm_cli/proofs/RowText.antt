@@ -6,6 +6,7 @@ use Rattle.cm_box.specs.declared.rules.Rule.{Rule}
 use Rattle.cm_maker.specs.Sweeping.{blame_told}
 use Rattle.cm_cli.specs.Checking.{not_closed_report}
 use Rattle.cm_report.proofs.ReportText.{joined_four, text_of_one}
+use Rattle.model_box.proofs.Numbers.{under_half}
 use Rattle.model_box.specs.Row.{Row, Standing, Fresh, row_at, space_under}
 use Rattle.model_box.specs.Rule.{Rule as ClosureRule}
 use Rattle.model_box.specs.RuleNames.{rule_name}
@@ -15,13 +16,6 @@ use Rattle.model_report.specs.Replay.{Plain, text_of}
 use Rattle.model_text.specs.SpaceToken.{space_token}
 
 -- ---- one row
--- its space is half its number
-under_by : (row : ℕ) (b : Bool) → space_under (cond b (Standing (row / 2)) (Fresh (row / 2))) ≡ row / 2
-under_by row true = refl
-under_by row false = refl
-
-under : (row : ℕ) → space_under (row_at row) ≡ row / 2
-under row = under_by row (nat_eq (row % 2) 0)
 
 text_by : (names : List (List ℕ)) (spaces : Spaces) (row : Row) (b : Bool) → stands spaces (space_under row) ≡ b
     → row_text names spaces (Some row) ≡ cond b (row_token names row) (codes "document")
@@ -36,7 +30,7 @@ past spaces n is = grind (arith, is)
 pub text_past : (names : List (List ℕ)) (spaces : Spaces) (row : ℕ) → length spaces ≤ row / 2
     → row_text names spaces (Some (row_at row)) ≡ codes "document"
 text_past names spaces row over =
-    text_by names spaces (row_at row) false (ap (λ (n : ℕ). stands spaces n) (under row) ∙ past spaces (row / 2) over)
+    text_by names spaces (row_at row) false (ap (λ (n : ℕ). stands spaces n) (under_half row) ∙ past spaces (row / 2) over)
 
 pub text_standing : (names : List (List ℕ)) (spaces : Spaces) (row : ℕ) → row / 2 < length spaces
     → nat_eq (row % 2) 0 ≡ true

@@ -1,9 +1,10 @@
 -- The text of a run, and of the calls of one.
 use Rattle.std.proofs.Common.{◌≡◌, ℕ, ◌+◌, ◌<◌, length, List, [], ◌∷◌, ◌++◌, map, drop, get_or, sym, ap, ◌∙◌}
 use Rattle.std.specs.Prelude.{codes}
-use Rattle.cm_report.proofs.ReportText.{text_of_append, text_of_cons, joined, step_on}
+use Rattle.cm_report.proofs.ReportText.{text_of_cons, joined, step_on}
 use Rattle.model_cred.specs.Call.{Event}
 use Rattle.model_cred.specs.World.{World}
+use Rattle.model_report.proofs.Texts.{text_of_append}
 use Rattle.model_report.specs.Replay.{ReportLine, Plain, text_of, at_line}
 use Rattle.model_report.specs.Answer.{run_lines}
 use Rattle.model_text.specs.Print.{event_text}

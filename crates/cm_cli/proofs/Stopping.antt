@@ -1,7 +1,6 @@
 -- What is answered where the report of a log isn't told to its end, and what is written of it.
 use Rattle.std.proofs.Common.{◌≡◌, ◌≢◌, ℕ, List, [], Option, refl, sym, ap, ◌∙◌, append-nil, arith, le_of_eq}
-use Rattle.std.proofs.Common.{Result, Ok, Err}
-use Rattle.std.specs.Prelude.{OnErr}
+use Rattle.std.proofs.Common.{Result, Err}
 use Rattle.cm_base.specs.declared.status.Status.{Status}
 use Rattle.cm_base.specs.declared.status.Status.TheVariants as answers
 use Rattle.cm_cli.specs.LogReport.{TellsLog}
@@ -107,11 +106,6 @@ whole_told r answer w w' is sent = record {
     front = ([], sent);
   };
 }
-
--- whatever came, so it is at an error
-pub at_error : {T E P : Type 0} (r : Result T E) → P → OnErr r P
-at_error (Ok x) h = tt
-at_error (Err e) h = h
 
 -- nothing was written, and that wasn't the sink's fault
 pub wrote_none : (answer : Status) (faults : ℕ) → answer ≢ answers.WriteFault → CountsWrites answer faults faults

@@ -7,8 +7,9 @@ use Rattle.std.specs.Result.{is_ok, MatchResult}
 use mathlib.Core.Logic.{∥∥₁_elim}
 use Rattle.std.proofs.Math.Bridge.{le_prop}
 use Rattle.std.proofs.lemmas.Bool.{cases_Bool, cases_lt, cond-true, cond-false, eqb-true, eq-eqb, ne_eqb}
-use Rattle.std.proofs.lemmas.List.Elements.{All-append, All-cons, All-head, All-nil, All-tail, All-drop, All-take, All-filter, All-from_get_or, All-get_or}
+use Rattle.std.proofs.lemmas.List.Elements.{All-append, All-cons, All-head, All-nil, All-tail, All-drop, All-take, All-from_get_or, All-get_or}
 use Rattle.std.proofs.lemmas.List.Sorted.{searched}
+use Rattle.cm_state.proofs.IdSets.{or_swapped}
 use Rattle.model_plans.specs.Firsts.{PidsAscend}
 use Rattle.model_run.specs.Later.{is_member}
 
@@ -85,11 +86,6 @@ joined_ascend (p ∷ pids) (suc i) pid up found =
       ),
     )
 
-or_swapped : (a b c : Bool) → (a || (b || c)) ≡ (b || (a || c))
-or_swapped true true c = refl
-or_swapped true false c = refl
-or_swapped false b c = refl
-
 pub joined_members : (pids : List ℕ) (i pid other : ℕ) → i ≤ length pids → is_member (insert pids i pid) other ≡ is_member (pid ∷ pids) other
 joined_members [] zero pid other within = refl
 joined_members [] (suc i) pid other within = absurd (omega (arith, within))
@@ -139,11 +135,3 @@ left_is (p ∷ pids) (suc i) pid up within there =
     ap (λ (ps : List ℕ). p ∷ ps) (left_is pids i pid up.1 (omega (arith, within)) there)
     ∙ sym (cond-true (other_than pid p) (p ∷ filter (other_than pid) pids) (filter (other_than pid) pids)
     (is_other pid p (λ same. absurd (omega (arith, above, same, there)))))
-
-pub left_ascend : (test : ℕ → Bool) (pids : List ℕ) → PidsAscend pids → PidsAscend (filter test pids)
-left_ascend test [] up = tt
-left_ascend test (pid ∷ pids) up =
-    elim (test pid) as (λ (b : Bool). PidsAscend (if b then pid ∷ filter test pids else filter test pids)) [
-      | true ↦ (All-filter test (λ later. pid < later) pids up.0, left_ascend test pids up.1)
-      | false ↦ left_ascend test pids up.1
-    ]

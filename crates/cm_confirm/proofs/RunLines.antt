@@ -1,6 +1,7 @@
 -- What comes of a run's text, in which lines alone have a limit, is what comes of its lines one by one.
-use Rattle.std.proofs.Common.{◌≡◌, ◌≤◌, ◌<◌, ℕ, suc, ◌+◌, ◌-◌, ◌==◌, min, Bool, true, false, nat_lt, List, [], ◌∷◌, length, refl, ap, ◌∙◌, cond, arith}
+use Rattle.std.proofs.Common.{◌≡◌, ◌≤◌, ◌<◌, ℕ, suc, ◌+◌, ◌-◌, ◌==◌, min, Bool, true, false, List, [], ◌∷◌, length, refl, ap, ◌∙◌, cond, arith}
 use Rattle.std.proofs.Common.{inl, inr}
+use Rattle.std.proofs.lemmas.Bool.{lt-ltb, le-ltb}
 use Rattle.cm_base.specs.Limited.{limit_number}
 use Rattle.cm_base.specs.declared.limited.Limited.TheVariants as limit
 use Rattle.cm_confirm.specs.Lines.{line_before, lines_come}
@@ -29,22 +30,16 @@ lines_bytes (byte ∷ text) =
       | false ↦ omega (arith, grown_bytes byte (lines_of text) (length text) rest)
     ]
 
-is_more : (a b : ℕ) → a < b → nat_lt a b ≡ true
-is_more a b below = grind (arith, below)
-
-isnt_more : (a b : ℕ) → b ≤ a → nat_lt a b ≡ false
-isnt_more a b within = grind (arith, within)
-
 -- a line that ends within the text is past the limit of lines, or past none
 one_comes : (most whole place : ℕ) (line : List ℕ) (rest : Cut) → place + length line ≤ whole
     → cut_by (past_of most whole place (length line) (min (length line + 1) (whole - place))) line rest ≡ line_before most line rest
 one_comes most whole place line rest fits = elim (limits most whole place (length line) (min (length line + 1) (whole - place))) [
   | PastLine long first ↦
-      rw (past_line most whole place (length line) (min (length line + 1) (whole - place)) long first, is_more most (length line) long) refl
+      rw (past_line most whole place (length line) (min (length line + 1) (whole - place)) long first, lt-ltb most (length line) long) refl
   | PastWhole not more ↦ absurd (omega (arith, more, fits))
   | Within not within ↦
       let short : length line ≤ most = elim not [ inl short ↦ short | inr later ↦ omega (arith, later, fits) ] in
-      rw (past_none most whole place (length line) (min (length line + 1) (whole - place)) not within, isnt_more most (length line) short) refl
+      rw (past_none most whole place (length line) (min (length line + 1) (whole - place)) not within, le-ltb most (length line) short) refl
 ]
 
 come : (most whole place : ℕ) (lines : List (List ℕ)) → place + all_bytes lines ≤ whole + 1 → cut_lines most whole whole place lines ≡ lines_come most lines

@@ -1,7 +1,7 @@
 -- What a run comes to rests on who is a member, and not on the order of the list.
 use Rattle.std.proofs.Common.{◌≡◌, ℕ, ◌==◌, ◌||◌, ◌&&◌, Bool, true, false, List, [], ◌∷◌, filter, Option, None, Some}
 use Rattle.std.proofs.Common.{if◌then◌else◌, refl, sym, ◌∙◌, ap, inl, inr}
-use Rattle.std.proofs.lemmas.Bool.{cases_Bool, cond-true, cond-false, eqb-true}
+use Rattle.std.proofs.lemmas.Bool.{cases_Bool, cond-true, cond-false, eqb-true, and_right}
 use Rattle.cm_base.specs.declared.res.Res.{Res}
 use Rattle.cm_base.specs.declared.res.Res.TheVariants.{Done, Id, Child, Err}
 use Rattle.cm_confirm.proofs.Ascending.{other_than}
@@ -25,11 +25,7 @@ use Rattle.model_text.specs.Reading.{Placed, End, AtEnd, Stops}
 -- ---- after an event
 -- who is left of members of whom one goes
 pub left_members : (pids : List ℕ) (pid other : ℕ) → is_member (filter (other_than pid) pids) other ≡ (other_than pid other && is_member pids other)
-left_members [] pid other = by_test (other_than pid other)
-  where
-    by_test : (b : Bool) → false ≡ (b && false)
-    by_test true = refl
-    by_test false = refl
+left_members [] pid other = sym (and_right (other_than pid other) false refl)
 left_members (p ∷ pids) pid other =
     elim (cases_Bool (other_than pid p)) [
       | inl stays ↦

@@ -11,9 +11,10 @@ use Rattle.std.proofs.lemmas.List.Edits.{length-insert, get_or-insert_below, get
 use Rattle.std.proofs.lemmas.List.Folds.{Any-from_list_any, list_any-append, list_any_at, list_any_none}
 use Rattle.std.proofs.lemmas.List.Sums.{position_or_len_is}
 use Rattle.std.proofs.lemmas.Grind.{get_or_default_zero}
+use Rattle.cm_base.proofs.Texts.{text_other}
 use Rattle.cm_files.specs.Fault.{has_path}
 use Rattle.cm_files.specs.Index.{Ascend, HasKeys, IsIndex, IsPlace, is_before, no_row, path_at, path_key}
-use Rattle.cm_files.proofs.Paths.{before_itself, before_through, before_other, other_path, equal_path}
+use Rattle.cm_files.proofs.Paths.{before_itself, before_through, before_other, equal_path}
 use Rattle.model_cred.specs.Files.{FileRow, row_named}
 
 -- ---- by halves
@@ -68,7 +69,7 @@ position_is : (rows : List FileRow) (count : ℕ) (path : List ℕ) (n : ℕ) �
 position_is rows count path n few low before here =
     let long : length (take count rows) ≡ count = omega (arith, length-take count rows) in
     position_or_len_is (λ row. bytes_eq row.path path) (take count rows) n no_row (omega (arith, long))
-    (λ k less. ap (λ (r : FileRow). bytes_eq r.path path) (get_or-take count rows k no_row (omega arith)) ∙ other_path _ path (before k less))
+    (λ k less. ap (λ (r : FileRow). bytes_eq r.path path) (get_or-take count rows k no_row (omega arith)) ∙ text_other _ path (before k less))
     (λ less. let within : n < count = omega (arith, long) in
     ap (λ (r : FileRow). bytes_eq r.path path) (get_or-take count rows n no_row within) ∙ equal_path _ path (here within))
 
@@ -139,7 +140,7 @@ absent_path rows count order path at index place apart =
     sym (list_any_none (λ row. bytes_eq row.path path) (take count rows) (λ k d within.
     let low : k < count = omega (arith, length-take count rows) in
     ap (λ (r : FileRow). bytes_eq r.path path) (get_or-take count rows k d low ∙ get_or_default rows k d no_row (omega (arith, index.counted)))
-    ∙ other_path _ path (none_has rows count order path at index place apart k low)))
+    ∙ text_other _ path (none_has rows count order path at index place apart k low)))
 
 -- ---- one row more
 or_middle : (a b c : Bool) → (a || (b || c)) ≡ ((a || c) || b)

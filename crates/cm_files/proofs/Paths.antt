@@ -7,11 +7,12 @@ use Rattle.std.specs.Ordering.{is_lt, is_eq, nat_cmp, ordering_reverse, ordering
 use Rattle.std.specs.declared.cmp.Ordering.{Ordering}
 use Rattle.std.specs.declared.cmp.Ordering.TheVariants.{Less, Equal, Greater}
 use Rattle.std.proofs.Common.{arith}
-use Rattle.std.proofs.lemmas.Bool.{false≢true, false_from_ne_true}
+use Rattle.std.proofs.lemmas.Bool.{false≢true}
 use Rattle.std.proofs.lemmas.Bool.Decides.{nat_tests}
 use Rattle.std.proofs.lemmas.Cmp.{nat_cmp_total, nat_list_cmp_total, tied_itself}
 use Rattle.std.proofs.lemmas.Map.Text.{is_eq-slice_cmp}
 use Rattle.std.proofs.lemmas.Slice.Eq.{bytes_eq-Decides}
+use Rattle.cm_base.proofs.Texts.{text_other}
 use Rattle.cm_files.specs.Index.{is_before, keyed, path_key}
 
 pub same_path : (path other : List ℕ) → bytes_eq path other ≡ true → path ≡ other
@@ -19,9 +20,6 @@ same_path path other is = (bytes_eq-Decides path other).0 is
 
 pub equal_path : (path other : List ℕ) → path ≡ other → bytes_eq path other ≡ true
 equal_path path other is = (bytes_eq-Decides path other).1 is
-
-pub other_path : (path other : List ℕ) → path ≢ other → bytes_eq path other ≡ false
-other_path path other apart = false_from_ne_true _ (λ same. apart (same_path path other same))
 
 less_is : (o : Ordering) → is_lt o ≡ true → o ≡ Less
 less_is Less is = refl
@@ -44,7 +42,7 @@ pub before_other : (a b : List ℕ) → is_before a b ≡ false → a ≢ b → 
 before_other a b less apart =
     let differ : keyed a ≢ keyed b = λ same. apart (cc) in
     turned (slice_cmp nat_cmp (keyed a) (keyed b)) (slice_cmp nat_cmp (keyed b) (keyed a)) (nat_list_cmp_total.antisymm (keyed b) (keyed a)) less
-    (is_eq-slice_cmp (keyed a) (keyed b) ∙ other_path (keyed a) (keyed b) differ)
+    (is_eq-slice_cmp (keyed a) (keyed b) ∙ text_other (keyed a) (keyed b) differ)
 
 -- of two paths with one key the bytes decide
 pub before_alike : (a b : List ℕ) → path_key a ≡ path_key b → is_lt (slice_cmp nat_cmp a b) ≡ is_before a b

@@ -3,7 +3,7 @@ use Rattle.std.proofs.Common.{◌≡◌, ℕ, zero, suc, ◌+◌, ◌-◌, ◌<�
 use Rattle.std.proofs.Common.{length, drop, get_or, max, min, refl, sym, ap, subst, ◌∙◌, inl, inr, arith}
 use Rattle.std.specs.Prelude.{IsTrue, nat_lt, All}
 use Rattle.std.specs.Option.{option_to_list}
-use Rattle.std.proofs.lemmas.Bool.{cases_Bool, and_parts, and_from, or_cases, or_left, or_right}
+use Rattle.std.proofs.lemmas.Bool.{cases_Bool, and_parts, and_from, or_cases, or_left, or_right, and_right}
 use Rattle.std.proofs.lemmas.Bool.{cond-true, cond-false, ltb-true, ltb-false}
 use Rattle.std.proofs.lemmas.Bool.Decides.{nat_tests}
 use Rattle.std.proofs.lemmas.List.{append-nil, drop_all, get_or_default}
@@ -73,13 +73,9 @@ and_or : (p q r : Bool) → ((p && q) || (p && r)) ≡ (p && (q || r))
 and_or true q r = refl
 and_or false q r = refl
 
-and_false : (p : Bool) → false ≡ (p && false)
-and_false true = refl
-and_false false = refl
-
 images_hold : (e : Extent) (list : List Interval) (out : ℕ)
     → ids_hold (images e list) out ≡ (lies_in e.outside e.length out && ids_hold list (e.inside + (out - e.outside)))
-images_hold e [] out = and_false (lies_in e.outside e.length out)
+images_hold e [] out = sym (and_right (lies_in e.outside e.length out) false refl)
 images_hold e (i ∷ list) out =
     let id : ℕ = e.inside + (out - e.outside) in
     held_appended (option_to_list (image_of e i)) (images e list) out

@@ -1,36 +1,30 @@
 -- Which limit a line is past.
 use Rattle.std.proofs.Common.{◌≡◌, ◌⊎◌, ℕ, ◌+◌, ◌<◌, ◌≤◌, ◌&&◌, nat_lt, refl, ◌∙◌, sym, arith}
-use Rattle.std.proofs.Common.{true, false, inl, inr, None, Some}
-use Rattle.std.proofs.lemmas.Bool.{cases_lt}
+use Rattle.std.proofs.Common.{false, inl, inr, None, Some}
+use Rattle.std.proofs.lemmas.Bool.{cases_lt, lt-ltb, le-ltb}
 use Rattle.cm_lines.specs.Cut.{past_of}
 use Rattle.cm_lines.specs.declared.limits.Past.{Past}
 use Rattle.cm_lines.specs.declared.limits.Past.TheVariants.{Line, Whole}
 
-is_lt : (a b : ℕ) → a < b → nat_lt a b ≡ true
-is_lt a b below = grind (arith, below)
-
-isnt_lt : (a b : ℕ) → b ≤ a → nat_lt a b ≡ false
-isnt_lt a b within = grind (arith, within)
-
 -- past the limit of lines
 pub past_line : (line whole place len size : ℕ) → line < len → place + line < whole → past_of line whole place len size ≡ Some Line
-past_line line whole place len size long first = rw (is_lt line len long, is_lt (place + line) whole first) refl
+past_line line whole place len size long first = rw (lt-ltb line len long, lt-ltb (place + line) whole first) refl
 
 -- not past it
 not_line : (line whole place len : ℕ) → (len ≤ line) ⊎ (whole ≤ place + line) → (nat_lt line len && nat_lt (place + line) whole) ≡ false
-not_line line whole place len (inl short) = rw (isnt_lt line len short) refl
+not_line line whole place len (inl short) = rw (le-ltb line len short) refl
 not_line line whole place len (inr later) = elim (cases_lt line len) [
-  | inl long ↦ rw (is_lt line len long, isnt_lt (place + line) whole later) refl
-  | inr short ↦ rw (isnt_lt line len short) refl
+  | inl long ↦ rw (lt-ltb line len long, le-ltb (place + line) whole later) refl
+  | inr short ↦ rw (le-ltb line len short) refl
 ]
 
 pub past_whole : (line whole place len size : ℕ) → (len ≤ line) ⊎ (whole ≤ place + line) → whole < place + size
     → past_of line whole place len size ≡ Some Whole
-past_whole line whole place len size not more = rw (not_line line whole place len not, is_lt whole (place + size) more) refl
+past_whole line whole place len size not more = rw (not_line line whole place len not, lt-ltb whole (place + size) more) refl
 
 pub past_none : (line whole place len size : ℕ) → (len ≤ line) ⊎ (whole ≤ place + line) → place + size ≤ whole
     → past_of line whole place len size ≡ None
-past_none line whole place len size not within = rw (not_line line whole place len not, isnt_lt whole (place + size) within) refl
+past_none line whole place len size not within = rw (not_line line whole place len not, le-ltb whole (place + size) within) refl
 
 -- which limit a line is past, or none
 pub data Limits (line whole place len size : ℕ) : Type 0 where

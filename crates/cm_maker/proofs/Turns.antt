@@ -16,14 +16,12 @@ use Rattle.model_cred.specs.Space.{Spaces}
 use Rattle.cm_box.proofs.Rewriting.{widened_at}
 use Rattle.cm_box_rows.specs.Rows.{RowHolds, RowsHold, AreSameRows}
 use Rattle.cm_maker.specs.Sweeping.{IsSweptTo, Sweeps}
+use Rattle.model_verdict.proofs.Rounds.{one_more}
 use Rattle.model_verdict.specs.Sweep.{row_count, turn_at, turns_before, TurnsGoByRounds}
 use Rattle.model_verdict.proofs.Sweeps.{turns_go_by_rounds}
 use Rattle.model_verdict.proofs.Turned.{says_next}
 
 -- ---- the numbers of turns
-one_more : (a rows : ℕ) → (a + 1) * rows ≡ a * rows + rows
-one_more a rows = grind arith
-
 -- a rule after its last row, and a round after its last rule
 pub rule_end : (round n rows y : ℕ) → y ≡ rows → (14 * round + suc n) * rows ≡ (14 * round + n) * rows + y
 rule_end round n rows y is =

@@ -1,12 +1,12 @@
 -- With which answers a replay ends, whatever it is of.
-use Rattle.std.proofs.Common.{◌≡◌, ℕ, ◌+◌, List, [], ◌∷◌, Bool, true, false, Option, None, Some, refl, sym, ◌∙◌, subst}
+use Rattle.std.proofs.Common.{◌≡◌, ℕ, ◌+◌, List, [], ◌∷◌, Option, None, Some, sym, ◌∙◌, subst}
 use Rattle.std.proofs.Common.{Result, Ok, Err, IfOk}
 use Rattle.cm_base.specs.declared.limited.Limited.{Limited}
 use Rattle.cm_base.specs.declared.status.Status.{Status}
+use Rattle.cm_replay.proofs.Shown.{same_status}
 use Rattle.cm_replay.specs.Coming.{ComesTo, IsReplayAnswer}
 use Rattle.cm_replay.specs.Following.{Outgoing}
 use Rattle.cm_replay.specs.Replay.{report_from}
-use Rattle.cm_replay.specs.Shown.{shown_report}
 use Rattle.cm_replay.specs.declared.replay.Replay.{Replay}
 use Rattle.cm_replay.specs.declared.untold.Untold.{Untold}
 use Rattle.model_cred.specs.Process.{State}
@@ -40,10 +40,6 @@ replayed_answers w s count [] ending = end_answers count ending
 replayed_answers w s count (e ∷ events) ending =
     outcome_answers w e (λ (next : State). replayed w next (count + 1) events ending) (outcome w s e.event)
     (λ (next : State). replayed_answers w next (count + 1) events ending)
-
-same_status : (b : Bool) (r : Report) → (shown_report b r).status ≡ r.status
-same_status true r = refl
-same_status false r = refl
 
 -- whatever is read, from wherever a replay stands
 pub report_answers : (w : World) (from : Replay) (reading : Reading) (st : Status) → (report_from w from reading).status ≡ st

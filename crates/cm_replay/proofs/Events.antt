@@ -4,7 +4,6 @@ use Rattle.std.proofs.Common.{Some, refl, sym, ap, ◌∙◌, subst, append_asso
 use Rattle.cm_base.specs.declared.limited.Limited.{Limited}
 use Rattle.cm_base.specs.declared.status.Status.{Status}
 use Rattle.cm_base.specs.declared.status.Status.TheVariants as status
-use Rattle.cm_report.proofs.ReportText.{text_of_append}
 use Rattle.cm_replay.proofs.Shown.{shown_after, shown_end, shown_line, step_plain}
 use Rattle.cm_replay.specs.Replay.{report_from, event_lines, told_lines, shown_lines, shown_report, nothing, EndsWith, IsTurn}
 use Rattle.cm_report.specs.Reason.{reason_of}
@@ -15,6 +14,7 @@ use Rattle.cm_machine.specs.declared.error.StepError.{StepError}
 use Rattle.cm_machine.specs.declared.error.StepError.TheVariants as error
 use Rattle.model_cred.specs.Process.{State}
 use Rattle.model_cred.specs.World.{World}
+use Rattle.model_report.proofs.Texts.{text_of_append}
 use Rattle.model_run.specs.Step.{Outcome, Goes, NoProcess, NoSpace, PidInUse, Wrong, outcome}
 use Rattle.model_report.specs.Causes.{RunWithin}
 use Rattle.model_report.specs.Replay.{Report, ReportLine, Plain, text_of, by_outcome, after, impossible_text, limit_hit, limit_text, step_lines, replayed}

@@ -1,4 +1,5 @@
 -- Lemmas of this crate, by topic.
+pub mod Held
 pub mod Shown
 pub mod Events
 pub mod Standing

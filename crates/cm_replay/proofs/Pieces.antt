@@ -36,19 +36,10 @@ use Rattle.model_report.specs.Report.{replay_of}
 use Rattle.model_strace.specs.Logs.{form_of_cut, log_reading}
 use Rattle.model_text.specs.Reading.{Reading, events_of, log_cut}
 use Rattle.std.specs.Prelude.{OnErr}
-
--- facts of what is told, from others
-each : {T : Type 0} {P Q : T → Type 0} (o : Option T) → IfSome o P → ((x : T) → P x → Q x) → IfSome o Q
-each None p f = tt
-each (Some x) p f = f x p
-
-all_of : {T : Type 0} {P : T → Type 0} (o : Option T) → ((x : T) → P x) → IfSome o P
-all_of None f = tt
-all_of (Some x) f = f x
-
-both : {T : Type 0} {P Q R : T → Type 0} (o : Option T) → IfSome o P → IfSome o Q → ((x : T) → P x → Q x → R x) → IfSome o R
-both None p q f = tt
-both (Some x) p q f = f x p q
+use Rattle.std.proofs.lemmas.Option.{IfSome_then}
+use Rattle.cm_io.proofs.Kept.{on_err}
+use Rattle.cm_replay.proofs.Held.{always, if_both}
+use Rattle.cm_replay.proofs.Shown.{same_status, none_shown}
 
 -- ---- what is written
 -- All that waited at the beginning is written, and more; where the replay isn't shown, there is no more, and nothing waits.
@@ -106,14 +97,6 @@ all_sent false begun now grown =
       sent = quiet.0.written ∙ ap (then_written begun.written) (sym parts ∙ sym (append-nil begun.waits));
       unshown = λ _. append-nil begun.waits;
     }
-
--- a replay that isn't shown, and is accepted, has no lines
-none_shown : (r : Report) → r.status ≡ answers.Accepted → text_of (shown_report false r).lines ≡ []
-none_shown r is = ap (λ (st : Status). text_of (shown_report false (record { status = st; lines = r.lines })).lines) is
-
-same_status : (b : Bool) (r : Report) → (shown_report b r).status ≡ r.status
-same_status true r = refl
-same_status false r = refl
 
 -- at an accepted end
 more_sent : (shows : Bool) (w : World) (from to : Replay) (begun now next : Outgoing) (reading : Reading) → from.shows ≡ shows
@@ -261,7 +244,7 @@ module _ (held : Option Files) (w : World) (name : List ℕ) (first : Replay) (b
   -- at first
   pub gone_start : (log : Log) (cutter : Cutting) → ((files : Files) → reading files ≡ left w log (left_of cutter (bytes_at files name)))
       → Gone first begun log cutter
-  gone_start log cutter is = all_of held (λ files. stays w first begun (reading files) (left w log (left_of cutter (bytes_at files name))) (is files))
+  gone_start log cutter is = always held (λ files. stays w first begun (reading files) (left w log (left_of cutter (bytes_at files name))) (is files))
 
   pub gone_on : (mid to : Replay) (now next : Outgoing) (log log' : Log) (old new : Cutting) (line : List ℕ)
       → Gone mid now log old
@@ -269,19 +252,19 @@ module _ (held : Option Files) (w : World) (name : List ℕ) (first : Replay) (b
       → ((cut : Cut) → GoesOn w mid to now next (left w log (before line cut)) (left w log' cut))
       → Gone to next log' new
   gone_on mid to now next log log' old new line gone given goes =
-      both held gone given (λ files a b.
+      if_both held gone given (λ files a b.
       goes_then (subst (λ (cut : Cut). GoesOn w first mid begun now (reading files) (left w log cut)) b a)
       (goes (left_of new (bytes_at files name))))
 
   pub gone_sent : (replay : Replay) (now : Outgoing) (log : Log) (cutter : Cutting) (written : Option (List ℕ)) (waits : List ℕ)
       → Gone replay now log cutter → IsSent now.written written waits now.waits
       → Gone replay (record { written = written; waits = waits }) log cutter
-  gone_sent replay now log cutter written waits gone sent = each held gone (λ files a. goes_sent written waits a sent)
+  gone_sent replay now log cutter written waits gone sent = IfSome_then held gone (λ files a. goes_sent written waits a sent)
 
   pub gone_cut : (replay : Replay) (now next : Outgoing) (log : Log) (cutter : Cutting) (to : Replay) (why : Untold)
       → Gone replay now log cutter → IsFront now.written next.written now.waits
       → IfSome held (λ files. ComesTo w first to begun next (Err why) (reading files))
-  gone_cut replay now next log cutter to why gone front = each held gone (λ files a. cut_sent next a front)
+  gone_cut replay now next log cutter to why gone front = IfSome_then held gone (λ files a. cut_sent next a front)
 
   -- the line with which the report ends, or at which sending failed
   pub gone_to_line : (mid to : Replay) (now next : Outgoing) (log : Log) (old new : Cutting) (line : List ℕ) (result : Result Status Untold)
@@ -290,7 +273,7 @@ module _ (held : Option Files) (w : World) (name : List ℕ) (first : Replay) (b
       → ((cut : Cut) → ComesTo w mid to now next result (left w log (before line cut)))
       → IfSome held (λ files. ComesTo w first to begun next result (reading files))
   gone_to_line mid to now next log old new line result gone given comes =
-      both held gone given (λ files a b.
+      if_both held gone given (λ files a b.
       comes_then w first mid to begun now next (reading files) (left w log (left_of old (bytes_at files name))) result a
       (subst (λ (cut : Cut). ComesTo w mid to now next result (left w log cut)) (sym b) (comes (left_of new (bytes_at files name)))))
 
@@ -300,7 +283,7 @@ module _ (held : Option Files) (w : World) (name : List ℕ) (first : Replay) (b
       → ComesTo w mid to now next result (left w log (ends_by past))
       → IfSome held (λ files. ComesTo w first to begun next result (reading files))
   gone_to_end mid to now next log old past result gone given comes =
-      both held gone given (λ files a b.
+      if_both held gone given (λ files a b.
       comes_then w first mid to begun now next (reading files) (left w log (left_of old (bytes_at files name))) result a
       (subst (λ (cut : Cut). ComesTo w mid to now next result (left w log cut)) (sym b) comes))
 
@@ -327,15 +310,10 @@ whole_report w replay log cutter name text shows state none is reads first =
     ap (λ (c : Cutting). report_from w replay (left w log (left_of c text))) first
     ∙ cut_report w replay log (log_cut text) shows state none is reads
 
--- whatever came, so it is at an error
-pub at_error : {T E P : Type 0} (r : Result T E) → P → OnErr r P
-at_error (Ok x) h = tt
-at_error (Err e) h = h
-
 -- nothing was sent
 pub none_is_sent : {T E : Type 0} (held : Option Files) (r : Result T E) (written : Option (List ℕ)) (whole : Files → List ℕ)
     → IfSome held (λ files. OnErr r (IsFront written written (whole files)))
-none_is_sent held r written whole = all_of held (λ files. at_error r (whole files, all_waits written (whole files)))
+none_is_sent held r written whole = always held (λ files. on_err r _ (whole files, all_waits written (whole files)))
 
 -- a front of it was
 pub front_is_sent : {T E : Type 0} (held : Option Files) (r : Result T E) (w : World) (from to : Replay) (old new : Outgoing) (why : Untold)
@@ -344,5 +322,5 @@ pub front_is_sent : {T E : Type 0} (held : Option Files) (r : Result T E) (w : W
     → ((files : Files) → report_from w from (reading files) ≡ report files)
     → IfSome held (λ files. OnErr r (IsFront old.written new.written (old.waits ++ text_of (report files).lines)))
 front_is_sent held r w from to old new why reading report comes same =
-    each held comes (λ files cut. at_error r
+    IfSome_then held comes (λ files cut. on_err r _
     (subst (λ (x : Report). IsFront old.written new.written (old.waits ++ text_of x.lines)) (same files) cut))

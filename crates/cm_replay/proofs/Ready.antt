@@ -16,24 +16,19 @@ use Rattle.cm_replay.specs.Replay.{IsTurn}
 use Rattle.cm_replay.specs.declared.replay.Replay.{Replay}
 use Rattle.cm_replay.specs.declared.replay.Turn.TheVariants as turn
 use Rattle.model_cred.specs.Made.{spaces_made}
-use Rattle.model_cred.specs.Process.{State}
 use Rattle.model_cred.specs.World.{World}
-use Rattle.model_laws.proofs.MadeSpaces.{steps_make_spaces}
+use Rattle.model_laws.proofs.MadeSpaces.{steps_make_spaces, within_few}
 use Rattle.model_laws.specs.Steps.{StepsMakeSpaces}
 use Rattle.model_report.specs.Replay.{IsWithin}
 use Rattle.model_run.specs.Step.{outcome}
 use Rattle.model_text.specs.Reading.{Placed}
-
--- a state within the limits has no more user namespaces than it may
-spaces_within : (s : State) → IsWithin s → length s.spaces ≤ limit_number limit.Spaces
-spaces_within s within = grind (arith, within)
 
 -- there is a number for each user namespace that the line may make
 pub ready_room : (w : World) (replay : Replay) (log : Log) → IsReady w replay log → spaces_in log < greatest_number
 ready_room w replay log ready =
     let few : spaces_in log ≤ length replay.machine.state.spaces + limit_number limit.Held =
     spaces_few (length replay.machine.state.spaces) log ready.none ready.knows in
-    let spaces : length replay.machine.state.spaces ≤ limit_number limit.Spaces = spaces_within replay.machine.state ready.within in
+    let spaces : length replay.machine.state.spaces ≤ limit_number limit.Spaces = within_few replay.machine.state ready.within in
     omega (arith, few, spaces)
 
 -- A replay that begins, and a log no line of which has come, are between two lines.

@@ -7,16 +7,12 @@ use Rattle.cm_base.specs.declared.status.Status.TheVariants as status
 use Rattle.cm_replay.specs.Shown.{shown_lines, shown_report}
 use Rattle.model_cred.specs.Process.{Process, State, process_at}
 use Rattle.model_cred.specs.World.{World}
-use Rattle.model_report.specs.Replay.{Report, ReportLine, Credentials, Told, Plain, after, plain_lines, silenced, credentials_if, child_lines}
-use Rattle.model_report.specs.Replay.{step_lines}
+use Rattle.model_report.proofs.Texts.{plain_append, silenced_other}
+use Rattle.model_report.specs.Replay.{Report, ReportLine, Plain, after, plain_lines, silenced, credentials_if, child_lines}
+use Rattle.model_report.specs.Replay.{step_lines, text_of}
 use Rattle.model_text.specs.Reading.{Placed}
 
 -- ---- the lines of plain text
-pub plain_append : (one more : List ReportLine) → plain_lines (one ++ more) ≡ plain_lines one ++ plain_lines more
-plain_append [] more = refl
-plain_append (Plain text ∷ one) more = ap (λ (ls : List ReportLine). Plain text ∷ ls) (plain_append one more)
-plain_append (Credentials w p ∷ one) more = plain_append one more
-plain_append (Told w e ∷ one) more = plain_append one more
 
 credentials_plain : (w : World) (p : Option Process) → plain_lines (credentials_if w p) ≡ []
 credentials_plain w None = refl
@@ -36,6 +32,15 @@ step_plain w s e =
     ∙ child_plain w s e.event.res
 
 -- ---- what is shown
+-- whether it is shown or not, a report has one status
+pub same_status : (b : Bool) (r : Report) → (shown_report b r).status ≡ r.status
+same_status true r = refl
+same_status false r = refl
+
+-- one that isn't shown, and is accepted, has no lines
+pub none_shown : (r : Report) → r.status ≡ status.Accepted → text_of (shown_report false r).lines ≡ []
+none_shown r is = ap (λ (st : Status). text_of (shown_report false (record { status = st; lines = r.lines })).lines) is
+
 silenced_on : (st : Status) (lines more : List ReportLine) → plain_lines lines ≡ [] → silenced st (lines ++ more) ≡ plain_lines lines ++ silenced st more
 silenced_on status.Accepted lines more none = sym (ap (λ (ls : List ReportLine). ls ++ []) none)
 silenced_on _ lines more none = plain_append lines more
@@ -46,10 +51,6 @@ pub shown_after : (shows : Bool) (lines : List ReportLine) (r : Report) → plai
 shown_after true lines r none = refl
 shown_after false lines r none =
     ap (λ (ls : List ReportLine). record { status = r.status; lines = ls }) (silenced_on r.status lines r.lines none)
-
-silenced_other : (st : Status) (lines : List ReportLine) → st ≢ status.Accepted → silenced st lines ≡ plain_lines lines
-silenced_other status.Accepted lines other = absurd (other refl)
-silenced_other _ lines other = refl
 
 -- a report that isn't accepted
 pub shown_end : (shows : Bool) (st : Status) (lines : List ReportLine) → st ≢ status.Accepted

@@ -1,9 +1,9 @@
 -- How a replay follows a log: an event, an end, and one thing after another.
-use Rattle.std.proofs.Common.{◌≡◌, ◌∙◌, ◌≤◌, ℕ, ◌+◌, List, [], ◌∷◌, ◌++◌, length, Bool, true, false, Option, Result, Ok, Err, refl, sym, ap, subst, append-nil, arith}
+use Rattle.std.proofs.Common.{◌≡◌, ◌∙◌, ◌≤◌, ℕ, ◌+◌, List, [], ◌∷◌, ◌++◌, length, false, Option, Result, Ok, Err, refl, sym, ap, subst, append-nil, arith}
 use Rattle.cm_base.specs.declared.status.Status.{Status}
 use Rattle.cm_replay.proofs.Events.{end_status, end_waits, next_status, next_waits, passed_lines, run_on}
 use Rattle.cm_replay.proofs.Ready.{event_spaces}
-use Rattle.cm_replay.proofs.Shown.{no_step_lines}
+use Rattle.cm_replay.proofs.Shown.{no_step_lines, same_status}
 use Rattle.cm_replay.specs.Following.{EndsAs, Follows, GoesOn, IsCutOff, Outgoing}
 use Rattle.cm_replay.specs.Replay.{report_from, event_lines, shown_lines, shown_report, told_lines, EndsWith, IsTurn}
 use Rattle.cm_replay.specs.declared.replay.Replay.{Replay}
@@ -14,7 +14,7 @@ use Rattle.cm_report.proofs.Waiting.{all_waits, front_of_more, front_on, more_wa
 use Rattle.cm_report.specs.Sent.{IsFront, IsSent}
 use Rattle.model_cred.specs.Made.{spaces_made}
 use Rattle.model_cred.specs.World.{World}
-use Rattle.model_report.specs.Replay.{Report, ReportLine, text_of, by_end, step_lines}
+use Rattle.model_report.specs.Replay.{ReportLine, text_of, by_end, step_lines}
 use Rattle.model_run.specs.Step.{outcome}
 use Rattle.model_text.specs.Reading.{Placed, End, Reading, ends_at, reads_on}
 
@@ -123,9 +123,6 @@ event_ends w from to reading rest e old text st is ends lines = record {
 }
 
 -- ---- an end
-shown_status : (shows : Bool) (r : Report) → (shown_report shows r).status ≡ r.status
-shown_status true r = refl
-shown_status false r = refl
 
 -- the reading ends so
 pub reading_ends : (w : World) (from : Replay) (reading : Reading) (ending : End) (old : Outgoing) (text : List ℕ) (st : Status)
@@ -134,7 +131,7 @@ pub reading_ends : (w : World) (from : Replay) (reading : Reading) (ending : End
     → EndsAs w from from old (record { written = old.written; waits = text }) st reading
 reading_ends w from reading ending old text st is status lines =
     let ends : EndsAs w from from old (record { written = old.written; waits = text }) st (ends_at ending) = record {
-      status = shown_status from.shows (by_end from.events ending) ∙ sym status;
+      status = same_status from.shows (by_end from.events ending) ∙ sym status;
       sent = waits_as _ _ (sym lines) (all_waits old.written (old.waits ++ text_of (shown_report from.shows (by_end from.events ending)).lines));
       reached = λ accepted. refl;
     } in

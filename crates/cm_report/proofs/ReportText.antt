@@ -1,13 +1,9 @@
 -- The text of lines one after another, and what pieces written one after another come to.
 use Rattle.std.proofs.Common.{◌≡◌, ℕ, suc, ◌+◌, ◌<◌, List, [], ◌∷◌, ◌++◌, Result, length, map, drop, get_or, OnOk, sym, ap, ◌∙◌}
 use Rattle.std.proofs.Common.{append_assoc, append-nil, add-one, drop-cons}
-use Rattle.std.proofs.lemmas.Grind.{flat_map-append}
 use Rattle.std.proofs.lemmas.Result.{IfOk-equal}
+use Rattle.model_report.proofs.Texts.{text_of_append}
 use Rattle.model_report.specs.Replay.{ReportLine, Plain, line_text, text_of}
-
--- the text of lines and then more lines
-pub text_of_append : (a b : List ReportLine) → text_of (a ++ b) ≡ text_of a ++ text_of b
-text_of_append a b = flat_map-append (λ line. line_text line ++ 10 ∷ []) a b
 
 -- the text of a line and then more lines
 pub text_of_cons : (l : ReportLine) (ls : List ReportLine) → text_of (l ∷ ls) ≡ text_of (l ∷ []) ++ text_of ls

@@ -3,9 +3,9 @@ use Rattle.std.proofs.Common.{◌≡◌, ℕ, List, [], ◌∷◌, ◌++◌, map
 use Rattle.std.proofs.lemmas.Grind.{flat_map-append}
 use Rattle.std.proofs.lemmas.List.{map-append}
 use Rattle.std.proofs.lemmas.List.Elements.{All-nil, All-cons, All-append}
+use Rattle.cm_base.proofs.Words.{meet_full}
 use Rattle.cm_base.specs.CapSet.{full, meet}
 use Rattle.cm_filter.specs.declared.kind.CallKind.{CallKind}
-use Rattle.cm_script.proofs.OwnHex.{set_kept}
 use Rattle.cm_script.specs.Own.{IsOwn, Takes, TakesAll, TakesCall}
 use Rattle.model_cred.specs.Call.{Call, kind_of}
 use Rattle.model_cred.specs.IdMap.{Extent}
@@ -47,9 +47,9 @@ pub sets_taken : (w : World) (text mid later rest : List ℕ) (a b c eff prm inh
     → Takes w later (Set c) rest → eff ≡ meet a full → prm ≡ meet b full → inh ≡ meet c full
     → TakesAll w text (Set eff ∷ Set prm ∷ Set inh ∷ []) rest
 sets_taken w text mid later rest a b c eff prm inh one two three first second third =
-    let e : eff ≡ a = first ∙ set_kept a one.own in
-    let p : prm ≡ b = second ∙ set_kept b two.own in
-    let i : inh ≡ c = third ∙ set_kept c three.own in
+    let e : eff ≡ a = first ∙ meet_full a one.own in
+    let p : prm ≡ b = second ∙ meet_full b two.own in
+    let i : inh ≡ c = third ∙ meet_full c three.own in
     rw (e, p, i) (takes_three w text mid later rest (Set a) (Set b) (Set c) one two three)
 
 -- some, and those after them

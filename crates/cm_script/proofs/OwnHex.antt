@@ -1,11 +1,7 @@
 -- Hexadecimal digits that are read one by one, as they are written.
 use Rattle.std.proofs.Common.{◌≡◌, ℕ, ◌+◌, ◌*◌, ◌/◌, ◌%◌, ◌<◌, ◌^◌, List, [], ◌∷◌, ◌++◌, length, take, get_or}
 use Rattle.std.proofs.Common.{refl, sym, ap, ◌∙◌, arith, add-one}
-use Rattle.std.proofs.lemmas.Bool.{eqb-true}
-use Rattle.std.proofs.lemmas.Grind.{pow_more}
 use Rattle.std.proofs.lemmas.List.{take_more}
-use Rattle.cm_base.proofs.CapSets.{within_full}
-use Rattle.cm_base.specs.CapSet.{full, meet, IsCapSet}
 use Rattle.model_text.specs.Hex.{hex, hex_digit, hex_set}
 
 -- one digit more
@@ -14,9 +10,6 @@ hex_more k v d low =
     let front : (16 * v + d) / 16 ≡ v = omega arith in
     let last : (16 * v + d) % 16 ≡ d = omega arith in
     rw (add-one, front, last) refl
-
-pub hex_below : (number digit i : ℕ) → number < 16 ^ i → digit < 16 → 16 * number + digit < 16 ^ (i + 1)
-hex_below number digit i below small = rw (pow_more 16 i) (omega arith)
 
 pub hex_read_more : (digits : List ℕ) (i number value digit : ℕ) → i < length digits → take i digits ≡ hex i number
     → get_or digits i 0 ≡ hex_digit digit → value ≡ digit → digit < 16 → take (i + 1) digits ≡ hex (i + 1) (16 * number + value)
@@ -29,7 +22,3 @@ hex_read_more digits i number value digit within before here same low =
 pub hex_taken : (text digits rest : List ℕ) (bits : ℕ) → text ≡ digits ++ rest → digits ≡ hex 16 bits → text ≡ hex_set bits ++ rest
 unfolding hex_set
 hex_taken text digits rest bits is written = is ∙ ap (λ (t : List ℕ). t ++ rest) written
-
--- a set has no bits but those of capabilities
-pub set_kept : (n : ℕ) → IsCapSet n → meet n full ≡ n
-set_kept n small = eqb-true (meet n full) n (within_full n small)

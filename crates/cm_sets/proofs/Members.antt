@@ -1,22 +1,18 @@
 -- Sets of capabilities by their members: what the tests and the operations on words come to, with a member where a test
 -- fails.
-use Rattle.std.proofs.Common.{◌≡◌, ◌≢◌, ℕ, zero, suc, ◌^◌, ◌<◌, ◌≤◌, ◌⊎◌, Bool, false, not, ◌&&◌, ◌||◌, eqb, sym, ap, ◌∙◌, inl, inr, arith, lit<}
+use Rattle.std.proofs.Common.{◌≡◌, ◌≢◌, ℕ, zero, suc, ◌^◌, ◌<◌, ◌≤◌, ◌⊎◌, Bool, false, not, ◌&&◌, ◌||◌, eqb, sym, ap, ◌∙◌, inl, inr, arith}
 use Rattle.std.specs.Prelude.{IsTrue}
 use Rattle.std.specs.Int.{bit_at}
-use Rattle.std.proofs.Math.Nat.{two-pow-succ}
 use Rattle.std.proofs.lemmas.Bool.{cases_Bool, cases_lt, eqb-true, and_parts, and_from, or_cases, or_left, or_right, true_from_ne_false}
 use Rattle.std.proofs.lemmas.Nat.Bits.{bit_at_above}
 use Rattle.cm_base.specs.CapSet.{cap_count, none, holds, union, meet, minus, is_within, IsCapSet}
 use Rattle.cm_base.proofs.CapSets.{holds_none, holds_union, holds_meet, holds_minus, same_members, member_of_wider, within_from_members}
+use Rattle.cm_base.proofs.Words.{below_power}
 use Rattle.cm_sets.specs.Sets.{InEither, InBoth, AreSame, Exceeds, HoldsNone, HoldsSome, IsBelow}
 
 -- what a word holds
 abbrev pub In : ℕ → ℕ → Type 0
 In a c = IsTrue (holds a c)
-
-below_power : (n : ℕ) → n < 2 ^ n
-below_power zero = lit< tt
-below_power (suc n) = omega (arith, two-pow-succ n, below_power n)
 
 -- a number below a count passes a test, or none does
 one_below : (p : ℕ → Bool) (count : ℕ) → ((n : ℕ) × IsTrue (p n)) ⊎ ((n : ℕ) → n < count → p n ≡ false)

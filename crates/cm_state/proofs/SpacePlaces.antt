@@ -18,7 +18,7 @@ found (s ∷ older) n d h =
     ]
 
 -- none has a number past theirs
-not_found : (spaces : Spaces) (n : ℕ) → length spaces ≤ n → space_at spaces n ≡ None
+pub not_found : (spaces : Spaces) (n : ℕ) → length spaces ≤ n → space_at spaces n ≡ None
 not_found [] n h = refl
 not_found (s ∷ older) n h =
     let rest : space_at older n ≡ None = not_found older n (omega arith) in

@@ -1,5 +1,5 @@
 -- The table of names, in the words of the definitions.
-use Rattle.std.specs.Prelude.{ℕ, Bool, true, false, bytes_eq, find, List, [], ◌∷◌, Option, option_map}
+use Rattle.std.specs.Prelude.{ℕ, Bool, true, false, bytes_eq, find, List, ◌∷◌, Option, option_map}
 use Rattle.model_strace.specs.Calls.{Listed}
 
 -- the call of that name among these

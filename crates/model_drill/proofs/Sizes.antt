@@ -12,23 +12,16 @@ use Rattle.model_cred.proofs.Spaces.{length_put}
 use Rattle.model_cred.specs.Call.{Call, Fork, CloneUser, Unshare, WriteUidMap, WriteGidMap, WriteSetgroups, Exit}
 use Rattle.model_cred.specs.Credential.{Credential}
 use Rattle.model_cred.specs.IdMap.{Extent}
-use Rattle.model_cred.specs.Process.{Ascends, Process, State, after_exit, insert_process, is_pid, put_process, without_process}
+use Rattle.model_cred.specs.Process.{Ascends, Process, State, after_exit, insert_process, is_pid, without_process}
 use Rattle.model_cred.specs.Space.{Space, Spaces}
 use Rattle.model_cred.specs.World.{World}
+use Rattle.model_plans.proofs.Others.{put_length}
 use Rattle.model_rules.specs.Maps.{MapFile, Written, UidMap, GidMap, write_done, write_map, write_refused, write_setgroups, write_stored}
 use Rattle.model_rules.specs.Namespaces.{clone_user, unshare}
 use Rattle.model_rules.specs.Reply.{spaces_after, spaces_with}
 use Rattle.model_run.specs.Ruling.{Ruling, birth, birth_unless, clone_child, fork_child, reply_to, ruling, spaces_left, state_left}
 
 -- ---- processes
-put_count : (new : Process) (processes : List Process) → length (put_process new processes) ≡ length processes
-put_count new [] = refl
-put_count new (p ∷ processes) =
-    elim (p.pid == new.pid)
-    as (λ (b : Bool). length (cond b (new ∷ processes) (p ∷ put_process new processes)) ≡ suc (length processes)) [
-      | true ↦ refl
-      | false ↦ ap suc (put_count new processes)
-    ]
 
 insert_count : (new : Process) (processes : List Process) → length (insert_process new processes) ≡ suc (length processes)
 insert_count new [] = refl
@@ -174,7 +167,7 @@ after_count spaces at c _ = omega arith
 left_sizes : (w : World) (s : State) (p : Process) (call : Call) → births call ≡ 0 → exits call ≡ 0
     → Sizes s call (state_left s p call (reply_to w s p call))
 left_sizes w s p call unborn none =
-    let same = put_count (record p { space = (reply_to w s p call).space; cred = (reply_to w s p call).cred }) s.processes in
+    let same = put_length (record p { space = (reply_to w s p call).space; cred = (reply_to w s p call).cred }) s.processes in
     record {
       more = omega (arith, same);
       fewer = omega (arith, same);

@@ -1,5 +1,7 @@
 -- A step makes the user namespace that its event tells of, and no other.
-use Rattle.std.proofs.Common.{◌≡◌, ℕ, ◌+◌, Bool, true, false, not, List, [], ◌∷◌, length, Option, None, Some, if◌then◌else◌, refl, sym, ap, ◌∙◌, inl, inr, arith}
+use Rattle.std.proofs.Common.{◌≡◌, ◌≤◌, ℕ, ◌+◌, Bool, true, false, not, List, [], ◌∷◌, length, Option, None, Some, if◌then◌else◌, refl, sym, ap, ◌∙◌, inl, inr, arith}
+use Rattle.cm_base.specs.Limited.{limit_number}
+use Rattle.cm_base.specs.declared.limited.Limited.TheVariants as limit
 use Rattle.cm_base.specs.declared.errno.Errno.TheVariants.{EAGAIN, EINVAL, EPERM}
 use Rattle.cm_base.specs.declared.res.Res.{Res}
 use Rattle.cm_base.specs.declared.res.Res.TheVariants.{Done, Id, Child, Err}
@@ -22,6 +24,7 @@ use Rattle.model_rules.specs.Reply.{spaces_with}
 use Rattle.model_run.specs.Outside.{comes_from_outside}
 use Rattle.model_run.specs.Ruling.{Ruling, ruling, birth_unless, clone_child, fork_child}
 use Rattle.model_run.specs.Step.{told_child}
+use Rattle.model_run.specs.Within.{IsWithin}
 
 -- how many an event of that call with that result makes
 abbrev made : Call → Res → ℕ
@@ -120,3 +123,8 @@ pub steps_make_spaces : StepsMakeSpaces
 unfolding StepsMakeSpaces
 steps_make_spaces w s e s' step =
     let st : Stepped w s e s' = stepped w s e s' step in answers_make w s st.caller e s' st.answers
+
+-- ---- within the limits
+-- a state within the limits has no more user namespaces than it may
+pub within_few : (s : State) → IsWithin s → length s.spaces ≤ limit_number limit.Spaces
+within_few s within = grind (arith, within)

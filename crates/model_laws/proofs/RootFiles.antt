@@ -1,12 +1,13 @@
 -- Root's sets at execve, and the exception for a set-user-ID-root file with an attribute of its own.
 use Rattle.std.proofs.Common.{arith, ◌≡◌, ◌⊎◌, ℕ, ◌&&◌, ◌||◌, not, Bool, true, false, Some, if◌then◌else◌, refl, sym, ap, ◌∙◌, inl, inr, subst}
 use Rattle.std.specs.Prelude.{IsTrue}
-use Rattle.std.proofs.lemmas.Bool.{eqb-true, and_parts, and_from, or_cases, or_left, or_right, not-true, not_from_false, false_from_ne_true}
+use Rattle.std.proofs.lemmas.Bool.{and_parts, and_from, or_cases, or_left, or_right, not-true, not_from_false, false_from_ne_true}
 use Rattle.cm_base.specs.CapSet.{full, none, union, meet, is_within, IsCapSet}
 use Rattle.cm_base.specs.declared.errno.Errno.TheVariants.{EPERM, EACCES}
 use Rattle.cm_base.specs.declared.res.Res.TheVariants.{Done}
 use Rattle.cm_base.proofs.CapSets.{within_reflexive, within_transitive, within_antisymmetric, none_within, within_full}
 use Rattle.cm_base.proofs.CapSets.{within_meet, meet_within_second, first_within_union, union_within}
+use Rattle.cm_base.proofs.Words.{meet_full}
 use Rattle.model_cred.specs.Credential.{Credential, Keeps}
 use Rattle.model_cred.specs.Files.{FileCaps}
 use Rattle.model_cred.specs.Space.{Spaces, space_of}
@@ -109,9 +110,6 @@ exec_done c d false false is = refl
 
 full_meet : (b : ℕ) → IsCapSet b → meet full b ≡ b
 full_meet b small = within_antisymmetric (meet full b) b (meet_within_second full b) (within_meet full b b (within_full b small) (within_reflexive b))
-
-meet_full : (a : ℕ) → IsCapSet a → meet a full ≡ a
-meet_full a small = eqb-true (meet a full) a (within_full a small)
 
 union_absorbs : (a b : ℕ) → IsTrue (is_within b a) → union a b ≡ a
 union_absorbs a b within = within_antisymmetric (union a b) a (union_within a b a (within_reflexive a) within) (first_within_union a b)

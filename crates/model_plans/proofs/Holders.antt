@@ -134,7 +134,7 @@ pids_ascend low (p ∷ processes) ascends =
       (rest.0, rest.1),
     )
 
-filter_ascends : (test : ℕ → Bool) (pids : List ℕ) → PidsAscend pids → PidsAscend (filter test pids)
+pub filter_ascends : (test : ℕ → Bool) (pids : List ℕ) → PidsAscend pids → PidsAscend (filter test pids)
 filter_ascends test [] ascends = tt
 filter_ascends test (pid ∷ pids) ascends =
     elim (test pid) as (λ (b : Bool). PidsAscend (if b then pid ∷ filter test pids else filter test pids)) [

@@ -2,6 +2,7 @@
 use Rattle.std.proofs.Common.{◌≡◌, ℕ, ◌<◌, ◌≤◌, Bool, true, false, cond, nat_lt, length, List, Option}
 use Rattle.std.proofs.Common.{Some, None, refl, sym, ◌∙◌, ap, subst, arith}
 use Rattle.std.specs.Prelude.{codes}
+use Rattle.std.proofs.lemmas.Bool.{ltb-false, ltb-true, le-ltb, lt-ltb}
 use Rattle.cm_base.specs.declared.limited.Limited.TheVariants as limit
 use Rattle.cm_base.specs.Limited.{limit_number}
 use Rattle.model_box.specs.Meets.{IsOverStanding}
@@ -9,7 +10,6 @@ use Rattle.model_cred.specs.Process.{Process, State}
 use Rattle.model_cred.specs.Right.{Right, Cap, Uid, Gid}
 use Rattle.model_cred.specs.Space.{Spaces}
 use Rattle.model_cred.specs.World.{World}
-use Rattle.model_report.proofs.Replayed.{below_limit, above_limit, not_above, is_above}
 use Rattle.model_report.specs.Answer.{query_answer, asked_answer, right_answer, task_report, bad_query, unless_large, is_over_standing}
 use Rattle.model_report.specs.Causes.{Asks, AsksVerdict, IsBadQuery, IsLarge, no_process, no_right, no_space}
 use Rattle.model_report.specs.Judged.{Judged}
@@ -62,7 +62,7 @@ module _ (q : Query) (w : World) (s : State) where
     of_asked p right asked =
         of_asks p right asked.asks ∙ by_space p right true (standing_is s.spaces right asked.standing)
         ∙ by_size (length (family s p.pid)) (task_report task j w s (family s p.pid) right) false
-        (not_above (limit_number limit.Family) (length (family s p.pid)) asked.size)
+        (le-ltb (limit_number limit.Family) (length (family s p.pid)) asked.size)
 
     pub of_no_space : (p : Process) (right : Right) → Asks q w s p right → is_over_standing s.spaces right ≡ false
         → query_answer task j w s q ≡ bad_query (codes "space")
@@ -73,7 +73,7 @@ module _ (q : Query) (w : World) (s : State) where
     of_large p right named standing over =
         of_asks p right named ∙ by_space p right true (standing_is s.spaces right standing)
         ∙ by_size (length (family s p.pid)) (task_report task j w s (family s p.pid) right) true
-        (is_above (limit_number limit.Family) (length (family s p.pid)) over)
+        (lt-ltb (limit_number limit.Family) (length (family s p.pid)) over)
 
     pub of_no_process : asked_process s q.pid ≡ None → query_answer task j w s q ≡ bad_query (codes "pid")
     of_no_process none = ap (λ (o : Option Process). asked_answer task j w s o (right_token w.names q.right)) none
@@ -103,9 +103,9 @@ module _ (q : Query) (w : World) (s : State) where
   comes_by_size : (p : Process) (right : Right) → Asks q w s p right → IsOverStanding s.spaces right
       → (b : Bool) → nat_lt (limit_number limit.Family) (length (family s p.pid)) ≡ b → Comes
   comes_by_size p right named standing true is =
-      large (p, right, named, standing, above_limit (limit_number limit.Family) (length (family s p.pid)) is)
+      large (p, right, named, standing, ltb-true (limit_number limit.Family) (length (family s p.pid)) is)
   comes_by_size p right named standing false is =
-      asks p right (record { asks = named; standing = standing; size = below_limit (limit_number limit.Family) (length (family s p.pid)) is })
+      asks p right (record { asks = named; standing = standing; size = ltb-false (limit_number limit.Family) (length (family s p.pid)) is })
 
   comes_by_space : (p : Process) (right : Right) → Asks q w s p right → (b : Bool) → is_over_standing s.spaces right ≡ b → Comes
   comes_by_space p right named true is =

@@ -3,3 +3,4 @@ pub mod StepFacts
 pub mod Replays
 pub mod Replayed
 pub mod Answers
+pub mod Texts

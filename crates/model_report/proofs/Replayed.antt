@@ -1,6 +1,7 @@
 -- What the report of a log comes to: where all events of its reading are a run within the limits, where the reading stops,
 -- and where the replay breaks off at an event.
-use Rattle.std.proofs.Common.{◌≡◌, ◌≢◌, ℕ, ◌+◌, ◌<◌, ◌≤◌, Bool, true, false, cond, nat_lt, length, List, [], refl, sym, ◌∙◌, ap, arith, append-nil}
+use Rattle.std.proofs.Common.{◌≡◌, ◌≢◌, ℕ, ◌+◌, ◌<◌, ◌≤◌, Bool, true, false, cond, length, List, [], refl, sym, ◌∙◌, ap, arith, append-nil}
+use Rattle.std.proofs.lemmas.Bool.{le-ltb}
 use Rattle.cm_base.specs.declared.limited.Limited.TheVariants as limit
 use Rattle.cm_base.specs.declared.status.Status.{Status}
 use Rattle.cm_base.specs.declared.status.Status.TheVariants as status
@@ -77,21 +78,10 @@ of_end task j w reading s is run =
     (run_after w es w.start s (run_of_within w w.start es s run))
 
 -- ---- sizes
-pub below_limit : (limit size : ℕ) → nat_lt limit size ≡ false → size ≤ limit
-below_limit limit size is = grind (arith, is)
-
-pub above_limit : (limit size : ℕ) → nat_lt limit size ≡ true → limit < size
-above_limit limit size is = grind (arith, is)
-
-pub not_above : (limit size : ℕ) → size ≤ limit → nat_lt limit size ≡ false
-not_above limit size within = grind (arith, within)
-
-pub is_above : (limit size : ℕ) → limit < size → nat_lt limit size ≡ true
-is_above limit size over = grind (arith, over)
 
 -- the report of files of which the world is within its limit
 pub of_size : (task : Task) (j : Judged) (world log : List ℕ) → length world ≤ limit_number limit.World
     → files_report task j world log ≡ report.by_world task j (world_text world) log
 of_size task j world log within =
     ap (λ (over : Bool). cond over (limit_hit limit.World) (report.by_world task j (world_text world) log))
-    (not_above (limit_number limit.World) (length world) within)
+    (le-ltb (limit_number limit.World) (length world) within)

@@ -4,6 +4,7 @@ use Rattle.std.proofs.Common.{◌≡◌, ◌≢◌, ℕ, ◌⊎◌, inl, inr, Bo
 use Rattle.cm_base.specs.declared.errno.Errno.TheVariants.{EAGAIN}
 use Rattle.cm_base.specs.declared.res.Res.{Res}
 use Rattle.cm_base.specs.declared.res.Res.TheVariants.{Done, Id, Child, Err}
+use Rattle.model_box.proofs.Grows.{goes_to}
 use Rattle.model_cred.specs.Call.{Call, Event, Fork, CloneUser, Exit}
 use Rattle.model_cred.specs.Process.{Process, State, process_at, is_pid, put_process, insert_process, after_exit, without_process}
 use Rattle.model_cred.specs.Space.{Spaces}
@@ -76,9 +77,6 @@ changes_told s p told given s' same (inl stays) = inl stays
 changes_told s p told given s' same (inr (inl other)) = inr (inl other)
 changes_told s p told given s' same (inr (inr (inl (q, is, comes)))) = inr (inr (inl (q, child_told told given q.pid same is, comes)))
 changes_told s p told given s' same (inr (inr (inr goes))) = inr (inr (inr goes))
-
-goes_to : (s s' : State) → Goes s ≡ Goes s' → s ≡ s'
-goes_to s s' is = cc
 
 changes_by : (s : State) (p : Process) (told own : Res) (given : Ruling) (s' : State) (absent living outside same : Bool)
     → same_res told given.res ≡ same → Changes s p given.res given.state

@@ -2,6 +2,7 @@
 -- judged of one question says one thing.
 use Rattle.std.proofs.Common.{◌≡◌, ◌⊎◌, ℕ, ◌<◌, ◌≤◌, inl, inr, Bool, true, false, cond, nat_lt, length, List, Result, Ok, Err}
 use Rattle.std.proofs.Common.{Some, refl, sym, ◌∙◌, ap, subst}
+use Rattle.std.proofs.lemmas.Bool.{ltb-false, ltb-true, le-ltb, lt-ltb}
 use Rattle.cm_base.specs.declared.limited.Limited.TheVariants as limit
 use Rattle.cm_base.specs.declared.status.Status.{Status}
 use Rattle.cm_base.specs.declared.status.Status.TheVariants as status
@@ -25,7 +26,6 @@ use Rattle.model_cred.specs.World.{World, KeepsWorld}
 use Rattle.model_laws.proofs.Keeping.{world_run_keeps}
 use Rattle.model_laws.specs.Runs.{WorldRunKeeps}
 use Rattle.model_report.proofs.Answers.{of_asked, of_bad, of_larger, Comes, asks, bad, large, comes}
-use Rattle.model_report.proofs.Replayed.{below_limit, above_limit, not_above, is_above}
 use Rattle.model_report.proofs.Replays.{run_of_within}
 use Rattle.model_report.specs.Answer.{answer, query_answer, task_report, verdict_report, certificate_report, checked_report, confirmed_report}
 use Rattle.model_report.specs.Causes.{AsksVerdict, IsDone, IsAnsweredNo, IsLeftOpen, IsRefused, OfQuery, IsTooLong, IsPast, IsBadQuery, IsLarge}
@@ -203,13 +203,13 @@ module _ (q : Query) (w : World) (s : State) (j : Judged) where
         ≡ certificate_report w s.spaces j.checked (certificate (length s.spaces) text)
     check_size members right size =
         ap (λ (b : Bool). cond b (limit_hit limit.Certificate) (certificate_report w s.spaces j.checked (certificate (length s.spaces) text)))
-        (not_above (limit_number limit.Certificate) (length text) size)
+        (le-ltb (limit_number limit.Certificate) (length text) size)
 
     check_over : (members : List ℕ) (right : Right) → limit_number limit.Certificate < length text
         → task_report (ToCheck q text) j w s members right ≡ limit_hit limit.Certificate
     check_over members right over =
         ap (λ (b : Bool). cond b (limit_hit limit.Certificate) (certificate_report w s.spaces j.checked (certificate (length s.spaces) text)))
-        (is_above (limit_number limit.Certificate) (length text) over)
+        (lt-ltb (limit_number limit.Certificate) (length text) over)
 
     -- what it reads as
     pub check_read : (members : List ℕ) (right : Right) (read : Result (List BoxRow) CertFault) → ReadsAs s text read
@@ -235,12 +235,12 @@ module _ (q : Query) (w : World) (s : State) (j : Judged) where
         by_size : (p : Process) (right : Right) → AsksVerdict q w s p right → (b : Bool) → nat_lt (limit_number limit.Certificate) (length text) ≡ b
             → TaskCause (ToCheck q text) w s (task_report (ToCheck q text) j w s (family s p.pid) right).status
         by_size p right asked true is =
-            let over : limit_number limit.Certificate < length text = above_limit (limit_number limit.Certificate) (length text) is in
+            let over : limit_number limit.Certificate < length text = ltb-true (limit_number limit.Certificate) (length text) is in
             subst (λ (r : Report). TaskCause (ToCheck q text) w s r.status) (sym (check_over (family s p.pid) right over))
             (inr (inl (p, right, asked, over)))
         by_size p right asked false is =
             let reads : ReadsAs s text (certificate (length s.spaces) text)
-            = record { size = below_limit (limit_number limit.Certificate) (length text) is; reads = refl } in
+            = record { size = ltb-false (limit_number limit.Certificate) (length text) is; reads = refl } in
             subst (λ (r : Report). TaskCause (ToCheck q text) w s r.status)
             (sym (check_read (family s p.pid) right (certificate (length s.spaces) text) reads))
             (by_read p right asked (certificate (length s.spaces) text) reads)
@@ -289,13 +289,13 @@ module _ (q : Query) (w : World) (s : State) (j : Judged) where
         → task_report (ToConfirm q text) j w s members right ≡ confirmed_report (confirm_of w s members right (script_reading w text))
     confirm_size members right size =
         ap (λ (b : Bool). cond b (limit_hit limit.Run) (confirmed_report (confirm_of w s members right (script_reading w text))))
-        (not_above (limit_number limit.Run) (length text) size)
+        (le-ltb (limit_number limit.Run) (length text) size)
 
     confirm_over : (members : List ℕ) (right : Right) → limit_number limit.Run < length text
         → task_report (ToConfirm q text) j w s members right ≡ limit_hit limit.Run
     confirm_over members right over =
         ap (λ (b : Bool). cond b (limit_hit limit.Run) (confirmed_report (confirm_of w s members right (script_reading w text))))
-        (is_above (limit_number limit.Run) (length text) over)
+        (lt-ltb (limit_number limit.Run) (length text) over)
 
     -- the answer where it comes to this
     pub confirms_so : (p : Process) (right : Right) → AsksVerdict q w s p right → length text ≤ limit_number limit.Run
@@ -322,11 +322,11 @@ module _ (q : Query) (w : World) (s : State) (j : Judged) where
       by_size : (p : Process) (right : Right) → AsksVerdict q w s p right → (b : Bool) → nat_lt (limit_number limit.Run) (length text) ≡ b
           → TaskCause (ToConfirm q text) w s (task_report (ToConfirm q text) j w s (family s p.pid) right).status
       by_size p right asked true is =
-          let over : limit_number limit.Run < length text = above_limit (limit_number limit.Run) (length text) is in
+          let over : limit_number limit.Run < length text = ltb-true (limit_number limit.Run) (length text) is in
           subst (λ (r : Report). TaskCause (ToConfirm q text) w s r.status) (sym (confirm_over (family s p.pid) right over))
           (inr (inl (p, right, asked, over)))
       by_size p right asked false is =
-          let size : length text ≤ limit_number limit.Run = below_limit (limit_number limit.Run) (length text) is in
+          let size : length text ≤ limit_number limit.Run = ltb-false (limit_number limit.Run) (length text) is in
           subst (λ (r : Report). TaskCause (ToConfirm q text) w s r.status) (sym (confirm_size (family s p.pid) right size))
           (by_what p right asked size (confirm_of w s (family s p.pid) right (script_reading w text)) refl)
 

@@ -1,6 +1,5 @@
 -- A report's text doesn't rest on the form of log that the world declares.
 use Rattle.std.proofs.Common.{◌≡◌, ℕ, ◌+◌, List, [], ◌∷◌, ◌++◌, Option, None, Some, Bool, true, false, nat_lt, length, map, Result, Ok, Err, refl, sym, ap, ap₂, ◌∙◌, subst}
-use Rattle.std.proofs.lemmas.Grind.{flat_map-append}
 use Rattle.std.specs.Prelude.{codes, decimal, if◌then◌else◌}
 use Rattle.cm_filter.specs.Kinds.{call_name, kind_named}
 use Rattle.cm_base.specs.declared.limited.Limited.{Limited}
@@ -35,7 +34,7 @@ use Rattle.model_report.specs.Given.{StateGives, LogGives}
 use Rattle.model_report_laws.specs.Laws.{SameText}
 use Rattle.model_report.specs.Judged.{Judged}
 use Rattle.model_report.specs.Query.{Query, asked_process, right_token}
-use Rattle.model_report.specs.Replay.{Report, ReportLine, Credentials, Plain, text_of, line_text, after, at_line, by_end, by_outcome, child_lines}
+use Rattle.model_report.specs.Replay.{Report, ReportLine, Credentials, Plain, text_of, after, at_line, by_end, by_outcome, child_lines}
 use Rattle.model_report.specs.Replay.{plain_lines, silenced, silent}
 use Rattle.model_report.specs.Replay.{credentials_if, exceeded, impossible, limit_hit, replayed, state_after, state_or, step_lines, unless_exceeded}
 use Rattle.model_report.specs.Report.{go_on, log_report, replay_of, start_lines, shown, shows}
@@ -55,6 +54,7 @@ use Rattle.model_text.specs.Arguments as argument
 use Rattle.model_text.specs.Print.{credential_line, event_line, event_text, res_text}
 use Rattle.model_text.specs.Cut.{tokens_of}
 use Rattle.cm_base.specs.declared.faults.LineFault.TheVariants as fault
+use Rattle.model_report.proofs.Texts.{text_of_append}
 use Rattle.model_text.specs.Line.{Line, NoEvent, Parts, Tokens, parts_of, arguments_from, argument_before, call_read, outcome_line, parts_line}
 use Rattle.model_text.specs.Line.{kind_line, call_line, pid_line, tokens_line}
 use Rattle.model_text.specs.Reading.{Placed, End, Reading, events_of, from_line, line_cut, lines_reading, script_reading}
@@ -121,10 +121,8 @@ event_line_form v form e = ap (λ (text : List ℕ). decimal e.line ++ codes ": 
 -- ---- lines
 -- lines of the same text, and then others of the same text
 same_lines : (a b c d : List ReportLine) → text_of a ≡ text_of b → text_of c ≡ text_of d → text_of (a ++ c) ≡ text_of (b ++ d)
-same_lines a b c d one two = text_lines a c ∙ ap₂ (λ (s t : List ℕ). s ++ t) one two ∙ sym (text_lines b d)
-  where
-    text_lines : (x y : List ReportLine) → text_of (x ++ y) ≡ text_of x ++ text_of y
-    text_lines x y = flat_map-append (λ line. line_text line ++ 10 ∷ []) x y
+same_lines a b c d one two =
+    text_of_append a c ∙ ap₂ (λ (s t : List ℕ). s ++ t) one two ∙ sym (text_of_append b d)
 
 -- the lines of processes
 starts_form : (v : World) (form : LogForm) (ps : List Process) → text_of (map (Credentials v) ps) ≡ text_of (map (Credentials (in_form v form)) ps)

@@ -1,6 +1,7 @@
 -- What the words and the files give: there is such, and with each that they give the report is one.
 use Rattle.std.proofs.Common.{◌≡◌, ◌≢◌, ℕ, ◌≤◌, inl, inr, Bool, true, false, cond, nat_lt, length, List, [], Result, Ok, Err}
 use Rattle.std.proofs.Common.{refl, sym, ◌∙◌, ap, subst}
+use Rattle.std.proofs.lemmas.Bool.{ltb-false}
 use Rattle.cm_base.specs.declared.limited.Limited.TheVariants as limit
 use Rattle.cm_base.specs.declared.status.Status.{Status}
 use Rattle.cm_base.specs.declared.status.Status.TheVariants as status
@@ -18,7 +19,7 @@ use Rattle.model_drill.specs.DrillWorld.{drill_world}
 use Rattle.model_drill.specs.Laws.{DrillStateKeeps}
 use Rattle.model_report.proofs.Answers.{Comes, asks, bad, large, comes, of_asked, of_no_process, of_no_right, of_no_space, of_larger, is_not}
 use Rattle.model_report.proofs.Answers.{one_process, one_right, bad_asks_none, large_asks_none}
-use Rattle.model_report.proofs.Replayed.{over_all, over_break, status_of, stop_is_other, break_is_other, of_stop, of_end, below_limit}
+use Rattle.model_report.proofs.Replayed.{over_all, over_break, status_of, stop_is_other, break_is_other, of_stop, of_end}
 use Rattle.model_report.proofs.Replays.{said, run_of_within, run_after, runs_or_breaks}
 use Rattle.model_report.specs.Answer.{answer, query_answer, task_report, verdict_report, certificate_report, is_over_standing}
 use Rattle.model_report.specs.Causes.{AsksVerdict, ReadsAs, IsBadQuery, no_process, no_right, no_space}
@@ -186,7 +187,7 @@ module _ (j other : Judged) where
           ∙ sym (ap (λ (b : Bool). cond b (limit_hit limit.Certificate) (certificate_report w s.spaces other.checked (certificate (length s.spaces) text))) is)
       by_size p right asked false is =
           let reads : ReadsAs s text (certificate (length s.spaces) text)
-          = record { size = below_limit (limit_number limit.Certificate) (length text) is; reads = refl } in
+          = record { size = ltb-false (limit_number limit.Certificate) (length text) is; reads = refl } in
           check_read q w s j text (family s p.pid) right (certificate (length s.spaces) text) reads
           ∙ by_read p right asked (certificate (length s.spaces) text) reads
           ∙ sym (check_read q w s other text (family s p.pid) right (certificate (length s.spaces) text) reads)
@@ -239,7 +240,7 @@ module _ (j other : Judged) where
           ap (λ (b : Bool). cond b (limit_hit limit.World) (report.by_world task j (world_text world) log)) is
           ∙ sym (ap (λ (b : Bool). cond b (limit_hit limit.World) (report.by_world task other (world_text world) log)) is)
       by_length false is =
-          let size : length world ≤ limit_number limit.World = below_limit (limit_number limit.World) (length world) is in
+          let size : length world ≤ limit_number limit.World = ltb-false (limit_number limit.World) (length world) is in
           ap (λ (b : Bool). cond b (limit_hit limit.World) (report.by_world task j (world_text world) log)) is
           ∙ one_by_world task (world_text world) log (λ w reads. gives w size reads) (λ w reads. gives' w size reads)
           ∙ sym (ap (λ (b : Bool). cond b (limit_hit limit.World) (report.by_world task other (world_text world) log)) is)

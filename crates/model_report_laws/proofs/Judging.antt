@@ -1,6 +1,6 @@
 -- What is judged: there is a verdict with its bounds as rows, and something that rows are found to be; and of each there is
 -- one alone.
-use Rattle.std.proofs.Common.{◌≡◌, ◌⊎◌, ℕ, ◌<◌, Bool, List, sym, ◌∙◌, inl, inr, ap, ap₂, subst, arith}
+use Rattle.std.proofs.Common.{◌≡◌, ◌⊎◌, ℕ, ◌<◌, Bool, List, sym, ◌∙◌, inl, inr, ap, ap₂, subst}
 use Rattle.std.specs.Prelude.{◌↔◌}
 use Rattle.cm_filter.specs.Filters.{permits}
 use Rattle.cm_filter.specs.declared.kind.CallKind.{CallKind}
@@ -23,7 +23,7 @@ use Rattle.model_cred.specs.World.{World}
 use Rattle.model_report.specs.Checked.{Checked, NotStart, NotClosed, MeetsRight, Holds, IsChecked, RowsHold, IsFirstOpenIn}
 use Rattle.model_report.specs.Told.{Told, TellsNo, TellsYes, TellsUndecided, verdict_in, IsVerdictOn}
 use Rattle.model_report_laws.proofs.Answering.{exclude_holds}
-use Rattle.model_verdict.proofs.Blames.{same_row}
+use Rattle.model_verdict.proofs.Blames.{same_row, two_orders}
 use Rattle.model_verdict.proofs.Exists.{sweep_comes_to_least}
 use Rattle.model_verdict.proofs.Firsts.{first_lacking, first_open, first_met}
 use Rattle.model_verdict.proofs.RowLimits.{rows_limit, limit_high, rows_fine}
@@ -183,14 +183,11 @@ checked_there w s members right rows keeps =
         (first_met (permits w.filter) w.files s members keeps (rows_limit rows) (limit_high rows) (RowsHold rows) (rows_fine rows) right)
 
 -- ---- and one thing alone
--- of two numbers the one is less, or they are one
-three_ways : (a b : ℕ) → (a < b) ⊎ (b < a) ⊎ (a ≡ b)
-three_ways a b = grind arith
 
 module _ (w : World) (s : State) (members : List ℕ) (right : Right) (rows : List BoxRow) where
   lacks_once : (one other : Row) → IsFirstLacking s members (RowsHold rows) (row_number one)
       → IsFirstLacking s members (RowsHold rows) (row_number other) → one ≡ other
-  lacks_once one other is are = elim (three_ways (row_number one) (row_number other)) [
+  lacks_once one other is are = elim (two_orders (row_number one) (row_number other)) [
     | inl less ↦ absurd (is.lacks (are.earlier (row_number one) less))
     | inr (inl more) ↦ absurd (are.lacks (is.earlier (row_number other) more))
     | inr (inr same) ↦ same_row one other same
@@ -201,7 +198,7 @@ module _ (w : World) (s : State) (members : List ℕ) (right : Right) (rows : Li
 
   open_rows_once : (rule : Rule) (one other : Row) → IsFirstOpen (permits w.filter) w.files s.spaces (RowsHold rows) rule (row_number one)
       → IsFirstOpen (permits w.filter) w.files s.spaces (RowsHold rows) rule (row_number other) → one ≡ other
-  open_rows_once rule one other is are = elim (three_ways (row_number one) (row_number other)) [
+  open_rows_once rule one other is are = elim (two_orders (row_number one) (row_number other)) [
     | inl less ↦ absurd (is.row.unmet (are.row.earlier (row_number one) less))
     | inr (inl more) ↦ absurd (are.row.unmet (is.row.earlier (row_number other) more))
     | inr (inr same) ↦ same_row one other same
@@ -212,7 +209,7 @@ module _ (w : World) (s : State) (members : List ℕ) (right : Right) (rows : Li
 
   open_rules_once : (one other : Rule) (y z : ℕ) → IsFirstOpen (permits w.filter) w.files s.spaces (RowsHold rows) one y
       → IsFirstOpen (permits w.filter) w.files s.spaces (RowsHold rows) other z → one ≡ other
-  open_rules_once one other y z is are = elim (three_ways (rule_number one) (rule_number other)) [
+  open_rules_once one other y z is are = elim (two_orders (rule_number one) (rule_number other)) [
     | inl less ↦ absurd (is.row.unmet (are.earlier one less (row_at y) is.row.stands))
     | inr (inl more) ↦ absurd (are.row.unmet (is.earlier other more (row_at z) are.row.stands))
     | inr (inr same) ↦ one_rule one other same
@@ -230,7 +227,7 @@ module _ (w : World) (s : State) (members : List ℕ) (right : Right) (rows : Li
   open_never turn is closed = is.first.row.unmet (closed turn.rule (row_at (row_number turn.row)) is.first.row.stands)
 
   met_once : (one other : Row) → IsFirstMet s.spaces (RowsHold rows) right one → IsFirstMet s.spaces (RowsHold rows) right other → one ≡ other
-  met_once one other is are = elim (three_ways (row_number one) (row_number other)) [
+  met_once one other is are = elim (two_orders (row_number one) (row_number other)) [
     | inl less ↦ absurd (are.first one less is.meets)
     | inr (inl more) ↦ absurd (is.first other more are.meets)
     | inr (inr same) ↦ same_row one other same

@@ -37,6 +37,7 @@ use Rattle.model_report.specs.Task.{Task, NoTask, ToJudge, ToCheck, ToConfirm}
 use Rattle.model_report.specs.Told.{TellsNo, TellsYes, TellsUndecided}
 use Rattle.model_report.specs.Told as verdict
 use Rattle.model_cred.proofs.Finds.{IsFound, each_found}
+use Rattle.model_report.proofs.Texts.{silenced_other}
 use Rattle.model_text.proofs.Starts.{start_ascends}
 use Rattle.model_text.specs.Print.{event_text}
 use Rattle.model_text.specs.Reading.{Placed, events_of, script_reading}
@@ -186,12 +187,6 @@ told_passed w (e ∷ events) from to run =
     ∙ ap (λ (es : List Placed). e ∷ es) (told_passed w events run.0 to run.2)
 
 -- ---- a replay that isn't shown
-plain_lines_append : (one other : List ReportLine) → plain_lines (one ++ other) ≡ plain_lines one ++ plain_lines other
-plain_lines_append [] other = refl
-plain_lines_append (Plain text ∷ one) other = ap (λ (ls : List ReportLine). Plain text ∷ ls) (plain_lines_append one other)
-plain_lines_append (Credentials w p ∷ one) other = plain_lines_append one other
-plain_lines_append (Told w e ∷ one) other = plain_lines_append one other
-
 plain_if : (w : World) (found : Option Process) (rest : List ReportLine) → plain_lines (credentials_if w found ++ rest) ≡ plain_lines rest
 plain_if w None rest = refl
 plain_if w (Some p) rest = refl
@@ -218,10 +213,6 @@ plain_passed w (e ∷ events) s rest =
     ∙ plain_step w next e (later ++ rest) ∙ plain_passed w events next rest
 
 -- so of a replay that isn't accepted the line is left that says why
-silenced_other : (st : Status) (lines : List ReportLine) → st ≢ status.Accepted → silenced st lines ≡ plain_lines lines
-silenced_other status.Accepted lines other = absurd (other refl)
-silenced_other _ lines other = refl
-
 pub silent_end : (r : Report) (w : World) (events : List Placed) (s : State) (text : List ℕ) → r.status ≢ status.Accepted
     → r.lines ≡ passed_lines w s events ++ Plain text ∷ [] → (silent r).lines ≡ Plain text ∷ []
 silent_end r w events s text other is =

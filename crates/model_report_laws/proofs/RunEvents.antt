@@ -1,8 +1,8 @@
 -- The events of the runs of plans are writable: so the lines of the run that an audit tells are read again as that run.
 use Rattle.std.proofs.Common.{◌≡◌, ℕ, ◌<◌, ◌≤◌, ◌==◌, true, false, List, [], ◌∷◌, ◌++◌, length, map}
 use Rattle.std.proofs.Common.{Option, Some, None}
-use Rattle.std.proofs.Common.{IfSome, IsTrue, All, nat_lt, refl, sym, ap, ◌∙◌, subst, arith}
-use Rattle.std.proofs.lemmas.Bool.{cond_both, ltb-true, ltb-false}
+use Rattle.std.proofs.Common.{IfSome, IsTrue, All, refl, sym, ap, ◌∙◌, subst, arith}
+use Rattle.std.proofs.lemmas.Bool.{cond_both, ltb-true}
 use Rattle.std.proofs.lemmas.List.Elements.{All-nil, All-cons, All-weaker}
 use Rattle.cm_base.specs.CapSet.{IsCapSet}
 use Rattle.cm_base.specs.Limited.{limit_number}
@@ -40,14 +40,14 @@ use Rattle.model_plans.specs.Plan.{Plan, plans}
 use Rattle.model_plans.specs.PlanRun.{Found, PlanRun, call_made, move_made, moves_made, plan_run, setting_in}
 use Rattle.model_plans.specs.Shortcuts.{then_made}
 use Rattle.model_drill.proofs.Callers.{HasPid}
+use Rattle.model_laws.proofs.MadeSpaces.{within_few}
 use Rattle.model_report_laws.proofs.LivePids.{HavePids, run_has_pids, step_has_pids}
 use Rattle.model_report.proofs.Replays.{run_of_within}
 use Rattle.model_report_laws.proofs.Statuses.{accepted_fits}
 use Rattle.model_report.specs.Causes.{IsAccepted, RunWithin}
 use Rattle.model_report_laws.specs.Answers.{RunReadsBack}
 use Rattle.model_report.specs.Answer.{event_lines}
-use Rattle.model_report.specs.Replay.{IsWithin, text_of}
-use Rattle.model_rules.proofs.Options.{not_some}
+use Rattle.model_report.specs.Replay.{text_of}
 use Rattle.model_rules.proofs.Spaces.{keeps_space_of}
 use Rattle.model_rules.specs.Namespaces.{join}
 use Rattle.model_rules.specs.Reply.{reply}
@@ -366,12 +366,6 @@ found_brief permitted w s members right found has ready is =
     subst (All (IsBrief w)) (sym is.run) (all_at Brief is.before is.after is.plan (subst (All Brief) is.listed all))
 
 -- ---- the state after an accepted log
-pub within_few : (s : State) → IsWithin s → length s.spaces ≤ limit_number limit.Spaces
-within_few s within =
-    let rest = not_some (nat_lt (limit_number limit.Processes) (length s.processes)) limit.Processes _ within in
-    let last = not_some (nat_lt (limit_number limit.Spaces) (length s.spaces)) limit.Spaces None rest.1 in
-    ltb-false (limit_number limit.Spaces) (length s.spaces) last.0
-
 run_few : (w : World) (s : State) (es : List Event) (s' : State) → length s.spaces ≤ limit_number limit.Spaces
     → RunWithin w s es s'
     → length s'.spaces ≤ limit_number limit.Spaces

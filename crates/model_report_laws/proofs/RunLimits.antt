@@ -1,6 +1,7 @@
 -- The run of a plan stays within the limits of live processes and of spaces: its calls change their caller alone. So from the
 -- state after an accepted log, which is within them.
 use Rattle.std.proofs.Common.{◌≡◌, ℕ, ◌≤◌, Bool, true, false, cond, nat_lt, length, List, [], ◌∷◌, Option, Some, None, refl, sym, ◌∙◌, ap, ap₂, subst, All}
+use Rattle.std.proofs.lemmas.Bool.{le-ltb}
 use Rattle.cm_base.specs.declared.limited.Limited.{Limited}
 use Rattle.cm_base.specs.declared.limited.Limited.TheVariants as limit
 use Rattle.cm_base.specs.Limited.{limit_number}
@@ -21,7 +22,6 @@ use Rattle.model_plans.specs.Move.{seat_of, MayCall, Setting, Move, call_of}
 use Rattle.model_plans.specs.Plan.{Plan, plans}
 use Rattle.model_plans.specs.PlanRun.{PlanRun, Found, setting_in, moves_made, move_made, call_made, plan_run}
 use Rattle.model_plans.specs.Shortcuts.{then_made}
-use Rattle.model_report.proofs.Replayed.{not_above}
 use Rattle.model_report.specs.Causes.{IsAccepted}
 use Rattle.model_run.specs.Ruling.{Ruling, own}
 use Rattle.model_run.specs.Step.{names_no_space}
@@ -92,11 +92,11 @@ found_within permitted w s members right found within is =
     (all_at Stays is.before is.after is.plan (subst (All Stays) is.listed all))
 
 -- ---- the state after an accepted log
-sizes_within : (s : State) → length s.processes ≤ limit_number limit.Processes → length s.spaces ≤ limit_number limit.Spaces → IsWithin s
+pub sizes_within : (s : State) → length s.processes ≤ limit_number limit.Processes → length s.spaces ≤ limit_number limit.Spaces → IsWithin s
 sizes_within s live spaces =
     ap (λ (b : Bool). cond b (Some limit.Processes) (cond (nat_lt (limit_number limit.Spaces) (length s.spaces)) (Some limit.Spaces) None))
-    (not_above (limit_number limit.Processes) (length s.processes) live)
-    ∙ ap (λ (b : Bool). cond b (Some limit.Spaces) None) (not_above (limit_number limit.Spaces) (length s.spaces) spaces)
+    (le-ltb (limit_number limit.Processes) (length s.processes) live)
+    ∙ ap (λ (b : Bool). cond b (Some limit.Spaces) None) (le-ltb (limit_number limit.Spaces) (length s.spaces) spaces)
 
 run_within : (w : World) (s : State) (es : List Event) (s' : State) → IsWithin s → RunWithin w s es s' → IsWithin s'
 run_within w s [] s' within run = subst IsWithin (sym run) within

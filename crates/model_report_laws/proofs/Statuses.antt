@@ -1,6 +1,7 @@
 -- Each status comes exactly by its cause.
 use Rattle.std.proofs.Common.{◌≡◌, Some, ℕ, inl, inr, Bool, true, false, cond, nat_lt, length, List, []}
 use Rattle.std.proofs.Common.{◌∷◌, ◌++◌, refl, sym, ◌∙◌, ap, ap₂, subst}
+use Rattle.std.proofs.lemmas.Bool.{ltb-false, ltb-true, lt-ltb}
 use Rattle.cm_base.specs.declared.limited.Limited.{Limited}
 use Rattle.cm_base.specs.declared.limited.Limited.TheVariants as limit
 use Rattle.cm_base.specs.declared.status.Status.{Status}
@@ -11,7 +12,6 @@ use Rattle.model_cred.specs.World.{World}
 use Rattle.model_run.specs.Step.{Step}
 use Rattle.model_run.specs.Within.{exceeded}
 use Rattle.model_report.proofs.Replayed.{over_all, over_break, status_of, shown_status, stop_is_other, break_is_other, of_stop, of_end, of_size}
-use Rattle.model_report.proofs.Replayed.{below_limit, above_limit, is_above}
 use Rattle.model_report.proofs.Replays.{Breaks, Break, no_step, crowds, said, passed_lines, runs_or_breaks}
 use Rattle.model_report.specs.Answer.{answer}
 use Rattle.model_report.specs.Causes.{Names, Begins, ComesTo, IsImpossible, IsStopped, IsCrowded, IsLongWorld, IsAccepted, Cause}
@@ -163,10 +163,10 @@ module _ (words : List (List ℕ)) (bytes : List ℕ → List ℕ) (j : Judged) 
       → (over : Bool) → nat_lt (limit_number limit.World) (length (bytes world)) ≡ over
       → Cause words bytes (files_report task j (bytes world) (bytes log)).status
   caused_by_size world log more task command asked gives true is =
-      rw is (by_world (world, (log, limit.Log) ∷ more, command, above_limit (limit_number limit.World) (length (bytes world)) is))
+      rw is (by_world (world, (log, limit.Log) ∷ more, command, ltb-true (limit_number limit.World) (length (bytes world)) is))
   caused_by_size world log more task command asked gives false is =
       let names : Names words bytes (world_text (bytes world)) log
-      = record { world = world; more = more; command = command; size = below_limit (limit_number limit.World) (length (bytes world)) is; reads = refl } in
+      = record { world = world; more = more; command = command; size = ltb-false (limit_number limit.World) (length (bytes world)) is; reads = refl } in
       rw is (caused_by_world log task (world_text (bytes world)) asked names gives)
 
   caused_by_command : (command : Command) → command_of words ≡ command → CommandGives command bytes j
@@ -353,7 +353,7 @@ module _ (words : List (List ℕ)) (bytes : List ℕ → List ℕ) (j : Judged) 
       = of_first (command_of words) bytes j world more command in
       let rest : Report = report.by_world the_task j (world_text (bytes world)) there.0 in
       status_of (report words bytes j) _ there.1
-      ∙ ap (λ (b : Bool). (cond b (limit_hit limit.World) rest).status) (is_above (limit_number limit.World) (length (bytes world)) over)
+      ∙ ap (λ (b : Bool). (cond b (limit_hit limit.World) rest).status) (lt-ltb (limit_number limit.World) (length (bytes world)) over)
 
   -- ---- the status whose cause holds, with what is given
   module _ (gives : Gives words bytes j) where

@@ -10,13 +10,13 @@ use Rattle.model_cred.specs.Call.{Call, Event, SetGroups, SetNs, WriteUidMap, Wr
 use Rattle.model_cred.specs.Process.{State}
 use Rattle.model_cred.specs.Space.{Spaces, stands}
 use Rattle.model_cred.specs.World.{World}
+use Rattle.model_laws.proofs.MadeSpaces.{within_few}
 use Rattle.model_laws.proofs.StepParts.{stepped}
 use Rattle.model_report.specs.Command.{command_of, task_of}
 use Rattle.model_report.specs.Report.{report, shows}
 use Rattle.model_report_laws.proofs.Endings.{IsWrittenOf, begins_written, hidden_plain, tells_of_log}
 use Rattle.model_report_laws.proofs.Lines.{plain_untold, written_told}
 use Rattle.model_report_laws.proofs.LogEvents.{line_read_back}
-use Rattle.model_report_laws.proofs.RunEvents.{within_few}
 use Rattle.model_report_laws.specs.Laws.{LineStandsFor, ToldEventsReadBack, told_in}
 use Rattle.model_run.specs.Step.{Step, names_no_space}
 use Rattle.model_run.specs.Within.{RunWithin}

@@ -6,10 +6,11 @@ use Rattle.std.proofs.lemmas.List.Elements.{All-head, All-tail}
 use Rattle.std.proofs.lemmas.Option.{slice_get-map}
 use Rattle.std.specs.Prelude.{codes, bytes_eq, slice_get, option_map, unwrap_or}
 use Rattle.std.specs.List.{list_all}
+use Rattle.cm_base.proofs.Texts.{text_other}
 use Rattle.cm_base.specs.declared.res.FileRef.{FileRef}
 use Rattle.cm_base.specs.declared.res.FileRef.TheVariants.{Row, Plain}
 use Rattle.model_cred.specs.Files.{FileRow, FileTable, IsDeclared, row_named}
-use Rattle.model_text.proofs.Found.{text_same, text_other, all_at, all_weaker, position_at, distinct_at}
+use Rattle.model_text.proofs.Found.{text_same, all_at, all_weaker, position_at, distinct_at}
 use Rattle.model_text.proofs.Tokens.{IsToken, is_plain, plain_above}
 use Rattle.model_text.specs.NameText.{is_path_byte, is_path}
 use Rattle.model_text.specs.Written.{ArePaths}

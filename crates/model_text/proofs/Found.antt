@@ -1,21 +1,18 @@
 -- What stands first in a table of texts, and what stands nowhere in it.
 use Rattle.std.proofs.Common.{◌≡◌, ◌≢◌, ℕ, zero, suc, ◌+◌, ◌<◌, Bool, true, false, not, List, [], ◌∷◌, ◌++◌, length, refl, sym, ap, ◌∙◌, arith}
 use Rattle.std.proofs.Common.{Some, None}
-use Rattle.std.proofs.lemmas.Bool.{and_parts, and_from, not-true, false_from_ne_true}
+use Rattle.std.proofs.lemmas.Bool.{and_parts, and_from, not-true}
 use Rattle.std.proofs.lemmas.Iterator.Adapters.{position_from-zero}
 use Rattle.std.proofs.lemmas.Option.{get_or_from_slice_get, slice_get_within, same_Some}
 use Rattle.std.proofs.lemmas.Slice.Eq.{bytes_eq-Decides}
 use Rattle.std.specs.Prelude.{bytes_eq, position, slice_get, AllPairs}
 use Rattle.std.specs.List.{list_all, position_from}
+use Rattle.cm_base.proofs.Texts.{text_other}
 
 -- ---- texts
 -- a text is itself
 pub text_same : (text : List ℕ) → bytes_eq text text ≡ true
 text_same text = (bytes_eq-Decides text text).1 refl
-
--- two texts that differ are two
-pub text_other : (text other : List ℕ) → text ≢ other → bytes_eq text other ≡ false
-text_other text other differ = false_from_ne_true (bytes_eq text other) (λ same. differ ((bytes_eq-Decides text other).0 same))
 
 -- so are those of two lengths
 pub length_other : (text other : List ℕ) → length text ≢ length other → bytes_eq text other ≡ false

@@ -2,7 +2,8 @@
 use Rattle.std.proofs.Common.{◌≡◌, ℕ, zero, suc, ◌+◌, ◌-◌, ◌<◌, ◌≤◌, min, List, [], ◌∷◌, ◌++◌, length, take, drop, length-drop, Option, Some, None}
 use Rattle.std.proofs.Common.{refl, sym, ap, ap₂, ◌∙◌, arith, inl, inr, All, subst, append-nil}
 use Rattle.std.proofs.lemmas.List.{length-take-le}
-use Rattle.std.proofs.lemmas.List.Elements.{All-nil, All-cons, All-head, All-tail}
+use Rattle.std.proofs.lemmas.List.Elements.{All-nil, All-cons, All-head, All-drop}
+use Rattle.std.proofs.lemmas.List.Prefix.{front_rest}
 use Rattle.cm_base.specs.Limited.{limit_number}
 use Rattle.cm_base.specs.declared.limited.Limited.TheVariants as limit
 use Rattle.cm_lines.proofs.FirstCut.{first_comes}
@@ -112,10 +113,6 @@ cuts_are_fronts line whole text =
     record { later = f.later; front = f.front; short = f.short; all = f.all; long = f.long; large = f.large }
 
 -- ---- texts within their limit
--- what holds of two lists, one after the other, holds of the second one
-all_second : {A : Type 0} (P : A → Type 0) (xs ys : List A) → All P (xs ++ ys) → All P ys
-all_second P [] ys all = all
-all_second P (x ∷ xs) ys all = all_second P xs ys (All-tail P x (xs ++ ys) all)
 
 abbrev with_stop : List (List ℕ) → Option Past → Cut
 with_stop lines stop = record { lines = lines; stop = stop }
@@ -129,9 +126,12 @@ all_come line text lines None is short =
     ap (λ (ls : List (List ℕ)). with_stop ls None) (sym lines_are)
 all_come line text lines (Some Line) is short =
     let over = is.long refl in
-    let all : All (λ l. length l ≤ line) (lines ++ over.0 ∷ over.1) =
-    subst (λ (ls : List (List ℕ)). All (λ l. length l ≤ line) ls) (is.front ∙ ap (λ (more : List (List ℕ)). lines ++ more) over.2) short in
-    let fits : length over.0 ≤ line = All-head (λ l. length l ≤ line) over.0 over.1 (all_second (λ l. length l ≤ line) lines (over.0 ∷ over.1) all) in
+    let rest : drop (length lines) (lines_of text) ≡ over.0 ∷ over.1 =
+    front_rest (lines_of text) lines (over.0 ∷ over.1) (is.front ∙ ap (λ (more : List (List ℕ)). lines ++ more) over.2) in
+    let all : All (λ l. length l ≤ line) (over.0 ∷ over.1) =
+    subst (λ (ls : List (List ℕ)). All (λ l. length l ≤ line) ls) rest
+    (All-drop (λ l. length l ≤ line) (length lines) (lines_of text) short) in
+    let fits : length over.0 ≤ line = All-head (λ l. length l ≤ line) over.0 over.1 all in
     absurd (let long = over.3 in omega (arith, fits, long))
 all_come line text lines (Some Whole) is short = absurd (let more = is.large refl in omega (arith, more))
 

@@ -7,9 +7,10 @@ use Rattle.std.proofs.lemmas.List.Elements.{All-head, All-tail}
 use Rattle.std.specs.Prelude.{codes, decimal, bytes_eq, slice_get, unwrap_or}
 use Rattle.std.specs.List.{list_all, position_from}
 use Rattle.std.specs.Result.{result_ok}
+use Rattle.cm_base.proofs.Texts.{text_other}
 use Rattle.cm_base.specs.Limits.{greatest_number}
 use Rattle.model_text.proofs.DecimalTexts.{decimal_short, decimal_token, decimal_read}
-use Rattle.model_text.proofs.Found.{text_same, text_other, all_at, all_weaker, found_at, found_nowhere, distinct_at}
+use Rattle.model_text.proofs.Found.{text_same, all_at, all_weaker, found_at, found_nowhere, distinct_at}
 use Rattle.model_text.proofs.Tokens.{IsToken, is_plain, plain_above}
 use Rattle.model_text.specs.NameText.{is_name_byte, is_name}
 use Rattle.model_text.specs.Written.{AreNames}

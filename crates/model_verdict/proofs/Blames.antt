@@ -18,7 +18,7 @@ use Rattle.model_verdict.specs.Sweep.{turn_at, swept}
 use Rattle.model_verdict.specs.Blame.{Blame, AtStart, ByTurn, FirstMeets, IsBlame, IsBlamed, BlameIsWithin, OneBlame, BeforeAndAfter}
 use Rattle.model_verdict.proofs.Sweeps.{grows, stays_within}
 
-two_orders : (j k : ℕ) → (j < k) ⊎ (k < j) ⊎ (j ≡ k)
+pub two_orders : (j k : ℕ) → (j < k) ⊎ (k < j) ⊎ (j ≡ k)
 two_orders j k = grind arith
 
 pub same_row : (one two : Row) → row_number one ≡ row_number two → one ≡ two

@@ -29,7 +29,7 @@ use Rattle.model_verdict.specs.Rows.{part_limit}
 pub standing_low : (spaces : Spaces) (row : Row) → IsTrue (stands spaces (space_under row)) → row_number row < row_count spaces
 standing_low spaces row standing = number_low row (length spaces) (ltb-true (space_under row) (length spaces) standing)
 
-one_more : (a rows : ℕ) → (a + 1) * rows ≡ a * rows + rows
+pub one_more : (a rows : ℕ) → (a + 1) * rows ≡ a * rows + rows
 one_more a rows = grind arith
 
 module _ (permitted : CallKind → Bool) (files : FileTable) (s : State) (members : List ℕ) where

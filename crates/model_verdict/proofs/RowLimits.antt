@@ -2,9 +2,9 @@
 use Rattle.std.proofs.Common.{◌≡◌, ℕ, zero, suc, ◌+◌, ◌^◌, ◌<◌, ◌≤◌, ◌==◌, List, [], ◌∷◌, sym, ◌∙◌, inl, inr, subst, arith}
 use Rattle.std.specs.Prelude.{IsTrue, not}
 use Rattle.std.specs.Int.{bit_at}
-use Rattle.std.proofs.Math.Pow.{pow-lt}
 use Rattle.std.proofs.lemmas.Bool.{or_cases, cases_lt, eqb-true, false≢true, and_parts}
 use Rattle.std.proofs.lemmas.Nat.Bits.{bit_at_above}
+use Rattle.cm_base.proofs.Words.{below_power}
 use Rattle.cm_base.specs.CapSet.{holds, cap_count}
 use Rattle.model_box.specs.Bounds.{BoxRow, row_has, row_in, no_row, bounds_hold}
 use Rattle.model_box.specs.Laws.{tested}
@@ -28,10 +28,6 @@ ids_low (i ∷ list) x held = elim (or_cases (is_between i x) (ids_hold list x) 
   | inl here ↦ (let ends : (i.first ≤ x) × (x ≤ i.last) = between_parts i x here in omega (arith, ends.1))
   | inr later ↦ (let low : x < ids_top list = ids_low list x later in omega (arith, low))
 ]
-
-below_power : (n : ℕ) → n < 2 ^ n
-below_power zero = omega arith
-below_power (suc n) = omega (arith, below_power n, pow-lt {i = n} {j = suc n} (omega arith))
 
 caps_low : (set x : ℕ) → IsTrue (holds set x) → x < suc set
 caps_low set x held = elim (cases_lt x (suc set)) [

@@ -48,7 +48,7 @@ row_stands spaces y low =
     subst (λ (n : ℕ). IsTrue (stands spaces n)) (sym (under_half y))
     (lt-ltb (y / 2) (length spaces) (omega arith))
 
-tree_has_one : (spaces : Spaces) → IsTree spaces → 0 < length spaces
+pub tree_has_one : (spaces : Spaces) → IsTree spaces → 0 < length spaces
 tree_has_one [] wrong = absurd wrong
 tree_has_one (s ∷ older) tree = omega arith
 

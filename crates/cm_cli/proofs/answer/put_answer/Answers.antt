@@ -1,12 +1,13 @@
 use Rattle.std.proofs.Common.{[], refl, sym, append-nil}
 use Rattle.std.proofs.lemmas.Result.{err_from_is_err_and}
+use Rattle.std.proofs.lemmas.Option.{IfSome_then}
 use Rattle.cm_cli.proofs.FileReads.{none_of}
 use Rattle.cm_cli.proofs.Auditing.{claim_put}
-use Rattle.cm_cli.proofs.Replaying.{always, if_told}
 use Rattle.cm_cli.proofs.answer.put_answer.Goals as goal
 use Rattle.cm_cli.specs.Query.{query_view}
 use Rattle.cm_declared.specs.World.{world_of}
 use Rattle.cm_io.specs.Shelf.{bytes_at}
+use Rattle.cm_replay.proofs.Held.{always}
 
 pub returns-in-Nothing : goal.returns-in-Nothing
 returns-in-Nothing g c =
@@ -49,7 +50,7 @@ returns-in-Claims g c =
     let claim = c.in-Claims.claim in
     let w = world_of c.args.w.now in
     rw c.in-Claims.is (record {
-      report = if_told (g.H.Shelf.held c.args.shelf.now) c.put_claim.ensures.report (λ files put j gives.
+      report = IfSome_then (g.H.Shelf.held c.args.shelf.now) c.put_claim.ensures.report (λ files put j gives.
           claim_put claim.kind (query_view claim.query)
           (bytes_at files claim.file.now) j w c.args.machine.state c.put_claim.result _ _ (put j gives));
       answers = c.put_claim.ensures.answers;

@@ -5,7 +5,6 @@ use Rattle.cm_base.specs.declared.limited.Limited.{Limited}
 use Rattle.cm_cli.proofs.Asked.{refused_put, refused_so}
 use Rattle.cm_cli.proofs.Claiming.{claim_past, claim_put, unread_put}
 use Rattle.cm_cli.proofs.FileReads.{claim_file}
-use Rattle.cm_cli.proofs.Replaying.{always}
 use Rattle.cm_cli.proofs.claims.put_claim.Goals as goal
 use Rattle.cm_cli.specs.Asking.{refusal_report}
 use Rattle.cm_cli.specs.Query.{limit_of, query_view, task_by}
@@ -13,6 +12,7 @@ use Rattle.cm_cli.specs.Reading.{IsFileRead}
 use Rattle.cm_cli.specs.declared.reading.Unread.{Unread}
 use Rattle.cm_declared.specs.World.{world_of}
 use Rattle.cm_io.specs.Shelf.{bytes_at}
+use Rattle.cm_replay.proofs.Held.{always}
 use Rattle.model_report.specs.Answer.{query_answer}
 
 -- the query is refused

@@ -1,4 +1,5 @@
 use Rattle.std.proofs.Common.{◌∙◌, Err, ap, refl}
+use Rattle.std.proofs.lemmas.Option.{IfSome_then}
 use Rattle.cm_base.specs.declared.limited.Limited.TheVariants as limit
 use Rattle.cm_cli.proofs.Apart.{apart_as}
 use Rattle.cm_cli.proofs.BeforeFault.{before_asked, lines_asked, log_before, log_lines, no_fault, no_lines, world_before, world_lines}
@@ -6,7 +7,7 @@ use Rattle.cm_cli.proofs.FileReads.{reads_one, takes_one}
 use Rattle.cm_cli.proofs.InOrder.{all_reads, all_taken, no_read_fault, told_faults, told_waits, world_fault, world_reads}
 use Rattle.cm_cli.proofs.InOrder.{world_taken, world_waits}
 use Rattle.cm_cli.proofs.Ready.{world_gives, world_refused, world_report}
-use Rattle.cm_cli.proofs.Replaying.{TellsFiles, as_told, if_both, if_told, log_answers, short_not_usage, tells_as}
+use Rattle.cm_cli.proofs.Replaying.{TellsFiles, as_told, log_answers, short_not_usage, tells_as}
 use Rattle.cm_cli.proofs.Replaying.{told_not_usage, unread_answers}
 use Rattle.cm_cli.proofs.Stopping.{wrote_none}
 use Rattle.cm_cli.proofs.commands.run_log.Goals as goal
@@ -15,6 +16,7 @@ use Rattle.cm_cli.specs.Words.{asking}
 use Rattle.cm_cli.specs.declared.reading.Unready.TheVariants as unready
 use Rattle.cm_io.proofs.ReadCounts.{pieces_then}
 use Rattle.cm_io.specs.Shelf.{bytes_at}
+use Rattle.cm_replay.proofs.Held.{if_both}
 
 pub returns-in-Ok : goal.returns-in-Ok
 unfolding TellsFiles
@@ -71,7 +73,7 @@ returns-in-Err-Refused g c =
     let reads = reads_one _ _ _ _ world limit.World _ first.file.reads first.file.takes in
     record {
       report = log_answers held t world log c.tell_short.result _ _
-          (if_told held first.read (λ files read j gives.
+          (IfSome_then held first.read (λ files read j gives.
           tells_as _ _ _ _ _
           (world_refused (task_view t (bytes_at files)) j (bytes_at files world) (bytes_at files log)
           c.in-Err-Refused.short read) (as_told _ _ _ _ _ _ told)))

@@ -1,18 +1,20 @@
 use Rattle.std.proofs.Common.{[], ◌∙◌, inl, inr, refl, rules}
 use Rattle.std.proofs.lemmas.Result.{err_from_is_err_and}
+use Rattle.std.proofs.lemmas.Option.{IfSome_then}
 use Rattle.cm_cli.proofs.Apart.{log_alone, log_then}
 use Rattle.cm_cli.proofs.FileReads.{rose_later}
 use Rattle.cm_cli.proofs.LogReport.{mounts_there}
-use Rattle.cm_cli.proofs.Replaying.{always, if_both, if_three, if_told, replay_answer}
+use Rattle.cm_cli.proofs.Replaying.{if_three, replay_answer}
 use Rattle.cm_cli.proofs.Shown.{EndsIn, answered_sent, answered_status, claim_silent, ended_sent, ended_status}
 use Rattle.cm_cli.proofs.Shown.{fault_holds, from_status, front_after, front_of_start, front_told, holds_after}
 use Rattle.cm_cli.proofs.Shown.{quiet_holds, sent_after, stays_quiet, tells_after}
-use Rattle.cm_cli.proofs.Stopping.{at_error}
 use Rattle.cm_cli.proofs.telling.put_log.Goals as goal
 use Rattle.cm_cli.specs.Query.{file_of, shows_of}
 use Rattle.cm_declared.specs.World.{world_of}
 use Rattle.cm_io.proofs.FileReads.{file_within, none_read}
+use Rattle.cm_io.proofs.Kept.{on_err}
 use Rattle.cm_io.specs.Shelf.{bytes_at}
+use Rattle.cm_replay.proofs.Held.{always, if_both}
 use Rattle.cm_replay.proofs.Stopping.{err_as, none_failed, untold_as, untold_since}
 use Rattle.cm_report.specs.Sent.{IsSent}
 use Rattle.model_report.specs.Replay.{text_of}
@@ -60,7 +62,7 @@ returns-in_err-end g c =
     rw (p.1, p.2) (record {
       status = always held (λ files j gives. tt);
       sent = always held (λ files j gives. tt);
-      stopped = if_told held e.stopped (λ files front j.
+      stopped = IfSome_then held e.stopped (λ files front j.
           front_told files t w (log_reading w (bytes_at files log)) b c.shows-shown.ensures
           (front_after b w _ _ _ _ started (log_reading w (bytes_at files log)) front) j);
       answers = tt;
@@ -102,7 +104,7 @@ returns-in-Accepted g c =
       status = from_status b w (log_reading w (bytes_at files log)) ∙ is ∙ accepted;
       run = run accepted;
     }) in
-    let sent = if_told {Q = λ files. IsSent (g.K.Sink.written c.args.out.now) (g.K.Sink.written c.replay_log.new.out)
+    let sent = IfSome_then {Q = λ files. IsSent (g.K.Sink.written c.args.out.now) (g.K.Sink.written c.replay_log.new.out)
     c.replay_log.new.text.items (text_of (shown b w (log_reading w (bytes_at files log))).lines)} held first.sent
     (λ files sent. sent_after b w _ _ _ _ started (log_reading w (bytes_at files log)) _ sent) in
     record {
@@ -112,8 +114,8 @@ returns-in-Accepted g c =
       sent = if_three held ends sent report (λ files here sent put j gives.
           answered_sent files t w (log_reading w (bytes_at files log)) b c.shows-shown.ensures s here _ _ _ put _ _ sent
           j gives);
-      stopped = if_told held sent (λ files sent j.
-          at_error _ (front_told files t w (log_reading w (bytes_at files log)) b c.shows-shown.ensures (_, sent) j));
+      stopped = IfSome_then held sent (λ files sent j.
+          on_err _ _ (front_told files t w (log_reading w (bytes_at files log)) b c.shows-shown.ensures (_, sent) j));
       answers = e.answers;
       start = λ is.
           let hidden = claim_silent t w s (e.stands is) in
@@ -122,12 +124,12 @@ returns-in-Accepted g c =
       tells = λ is shown. absurd (let hidden = claim_silent t w s (e.stands is) in cc);
       cause = none_failed _ _ _ (first.cause.others (λ is. cc) ∙ c.in_ok-send_start.ensures.cause.others (λ is. cc))
           e.not_write_fault;
-      order = if_told held ends (λ files here is.
+      order = IfSome_then held ends (λ files here is.
           inr (
             holds_after files t w (log_reading w (bytes_at files log)) b c.shows-shown.ensures s here (e.stands is),
             rose_later [] (file_of t) _ _ _ same (e.files.faults.fault is),
           ));
-      waits = if_told held ends (λ files here none n other.
+      waits = IfSome_then held ends (λ files here none n other.
           e.waits (λ holds. none
           (holds_after files t w (log_reading w (bytes_at files log)) b c.shows-shown.ensures s here holds)) n
           ∙ first.file.reads.others n other);
@@ -146,7 +148,7 @@ returns-in_default g c =
     let started = rw c.requires.empty at c.in_ok-send_start.ensures.sent in
     let e = c.in_ok-end.ensures in
     record {
-      status = if_told held e.status (λ files is j gives.
+      status = IfSome_then held e.status (λ files is j gives.
           ended_status files t w (log_reading w (bytes_at files log)) b c.shows-shown.ensures s c.in_ok-end.end
           (from_status b w (log_reading w (bytes_at files log)) ∙ is) other j);
       sent = if_both held e.status e.sent (λ files is sent j gives.

@@ -1,6 +1,7 @@
 use Rattle.std.proofs.Common.{◌∙◌, refl}
+use Rattle.std.proofs.lemmas.Option.{IfSome_then}
 use Rattle.cm_cli.proofs.FileReads.{files_as}
-use Rattle.cm_cli.proofs.Replaying.{always, if_both, if_told, log_answer}
+use Rattle.cm_cli.proofs.Replaying.{log_answer}
 use Rattle.cm_cli.proofs.Stopping.{front_told, read_untold, stopped_counts, stopped_no_read, stopped_none}
 use Rattle.cm_cli.proofs.Stopping.{stopped_not_usage, untold_counts}
 use Rattle.cm_cli.proofs.Stopping.{untold_none, untold_not_usage, untold_read, whole_told, wrote_counts}
@@ -8,6 +9,7 @@ use Rattle.cm_cli.proofs.telling.tell_log.Goals as goal
 use Rattle.cm_cli.specs.LogReport.{log_report}
 use Rattle.cm_cli.specs.Query.{task_view}
 use Rattle.cm_io.specs.Shelf.{bytes_at}
+use Rattle.cm_replay.proofs.Held.{always, if_both}
 use Rattle.cm_report.proofs.Waiting.{front_on, sent_on}
 
 pub returns-in-Err : goal.returns-in-Err
@@ -16,14 +18,14 @@ returns-in-Err g c =
     let e = c.in-Err.ensures in
     let read = untold_read c.in-Err.why _ refl in
     rw c.status.ensures (record {
-      report = if_told held e.stopped (λ files front j gives.
+      report = IfSome_then held e.stopped (λ files front j gives.
           front_told (log_report (task_view c.args.task (bytes_at files)) j c.args.w.now
           (bytes_at files c.args.log.now)) _ _ _ (untold_none c.in-Err.why) (front j));
       start = λ is. e.start (read is);
       tells = λ is. e.tells (read is);
       not_usage = untold_not_usage c.in-Err.why;
       counts = untold_counts c.in-Err.why _ _ e.cause;
-      order = if_told held e.order (λ files failed is. failed (read is));
+      order = IfSome_then held e.order (λ files failed is. failed (read is));
       waits = e.waits;
       files = files_as _ _ _ _ _ (read_untold c.in-Err.why _ refl) read e.files;
     })
@@ -53,7 +55,7 @@ returns g c =
     let why = c.in-Err-send.why in
     let e = c.in-Ok.ensures in
     rw c.stopped.ensures (record {
-      report = if_told held e.sent (λ files sent j gives.
+      report = IfSome_then held e.sent (λ files sent j gives.
           front_told (log_report (task_view c.args.task (bytes_at files)) j c.args.w.now
           (bytes_at files c.args.log.now)) _ _ _ (stopped_none why)
           (front_on (sent j gives) c.in-Err-send.ensures.front));

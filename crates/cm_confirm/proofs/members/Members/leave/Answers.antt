@@ -1,6 +1,7 @@
 use Rattle.std.proofs.Common.{◌≡◌, ℕ, List, Result, filter, ap, subst, sym, ◌∙◌}
-use Rattle.cm_confirm.proofs.Ascending.{Found, ascends_there, left_ascend, left_is, none_is, none_leaves, other_than, search_finds}
+use Rattle.cm_confirm.proofs.Ascending.{Found, ascends_there, left_is, none_is, none_leaves, other_than, search_finds}
 use Rattle.cm_confirm.proofs.members.Members.leave.Goals as goal
+use Rattle.model_plans.proofs.Holders.{filter_ascends}
 use Rattle.model_plans.specs.Firsts.{PidsAscend}
 use Rattle.model_run.specs.Later.{is_member}
 
@@ -12,7 +13,7 @@ invariant_of-self c =
     let finds = search_finds pids c.args.pid c.binary_search.result up position in
     let found = subst (λ (r : Result ℕ ℕ). Found pids c.args.pid r) c.in-Ok.is finds in
     let rest = c.remove.ensures.items ∙ left_is pids c.in-Ok.at c.args.pid up found.0 found.1 in
-    ∣ subst PidsAscend (sym rest) (left_ascend (other_than c.args.pid) pids up) ∣₁
+    ∣ subst PidsAscend (sym rest) (filter_ascends (other_than c.args.pid) pids up) ∣₁
 
 pub returns-in-Ok : goal.returns-in-Ok
 returns-in-Ok c =

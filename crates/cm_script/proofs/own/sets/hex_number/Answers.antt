@@ -1,6 +1,6 @@
 use Rattle.std.proofs.Common.{arith}
-use Rattle.cm_tokens.proofs.CapTexts.{hex-fits}
-use Rattle.cm_script.proofs.OwnHex.{hex_read_more, hex_below}
+use Rattle.cm_tokens.proofs.CapTexts.{hex-fits, hex_below}
+use Rattle.cm_script.proofs.OwnHex.{hex_read_more}
 use Rattle.cm_script.proofs.own.sets.hex_number.Goals as goal
 
 pub overflow_mul-number : goal.overflow_mul-number
