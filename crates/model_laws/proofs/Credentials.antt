@@ -95,10 +95,7 @@ keeps_flag c flag keeps = search
 
 -- ---- the fixups
 keeps_without_root : (c : Credential) → Keeps c → Keeps (without_root c)
-keeps_without_root c keeps =
-    either Keeps (has_flag c keep_caps) (record c { ambient = none }) (record c { permitted = none; effective = none; ambient = none })
-    (keeps_ambient c none keeps (none_within c.permitted) (none_within c.inheritable))
-    (keeps_sets c none none none keeps (lit< tt) (none_within none) (none_within none) (none_within c.inheritable))
+keeps_without_root c keeps = grind arith
 
 keeps_losing : (s : Space) (old : FourIds) (c : Credential) → Keeps c → Keeps (after_losing_root s old c)
 keeps_losing s old c keeps = either Keeps (has_zero s old && not (has_zero s c.uid)) (without_root c) c (keeps_without_root c keeps) keeps
@@ -253,15 +250,7 @@ pub good_amb_clear : (c : Credential) → Keeps c → Good (amb_clear c)
 good_amb_clear c keeps = good_done (record c { ambient = none }) (keeps_ambient c none keeps (none_within c.permitted) (none_within c.inheritable))
 
 pub good_secure_bits : (c : Credential) (bits : ℕ) → Keeps c → Good (secure_bits c bits)
-good_secure_bits c bits keeps =
-    good_if (may_secure c bits) _ _ (λ may.
-    let last
-    = and_parts (has_setpcap c && bit_and (bit_xor c.securebits bits) (locked_flags c.securebits) == 0
-    && is_within (bit_and c.securebits locks) bits)
-    (nat_lt bits 256) may in
-    let small : bits < 256 = ltb-true bits 256 last.1 in
-    good_done (record c { securebits = bits }) (keeps_bits c bits keeps small))
-    (λ _. good_refused EPERM c keeps)
+good_secure_bits c bits keeps = grind arith
 
 keeps_without_keep_caps : (c : Credential) → Keeps c → Keeps (without_keep_caps c)
 keeps_without_keep_caps c keeps =
@@ -283,16 +272,7 @@ good_no_new_privs c argument keeps =
     good_either _ _ _ (good_done (record c { no_new_privs = true }) (keeps_flag c true keeps)) (good_refused EINVAL c keeps)
 
 pub keeps_newcomer : (c : Credential) → Keeps c → Keeps (as_newcomer c)
-keeps_newcomer c keeps = record {
-  included = record { effective = within_reflexive full; ambient_permitted = none_within full; ambient_inheritable = none_within none };
-  uid = keeps.uid;
-  gid = keeps.gid;
-  groups = keeps.groups;
-  inheritable = lit< tt;
-  permitted = lit< tt;
-  bounding = lit< tt;
-  securebits = lit< tt;
-}
+keeps_newcomer c keeps = grind arith
 
 pub good_unshare : (spaces : Spaces) (at : ℕ) (c : Credential) → Keeps c → Good (unshare spaces at c)
 good_unshare spaces at c keeps =

@@ -1,6 +1,6 @@
 -- What a step does to the processes and to the members, of three kinds: a call changes its caller's place and credential,
 -- a birth brings a child, an exit takes one away.
-use Rattle.std.proofs.Common.{◌≡◌, ◌⊎◌, ℕ, ◌==◌, not, Bool, true, false, List, ◌∷◌, filter, Some, if◌then◌else◌, refl, sym, ap, ◌∙◌, inl, inr, subst}
+use Rattle.std.proofs.Common.{arith, ◌≡◌, ◌⊎◌, ℕ, ◌==◌, not, Bool, true, false, List, ◌∷◌, filter, Some, if◌then◌else◌, refl, sym, ap, ◌∙◌, inl, inr, subst}
 use Rattle.cm_base.specs.declared.errno.Errno.{Errno}
 use Rattle.cm_base.specs.declared.errno.Errno.TheVariants.{EAGAIN}
 use Rattle.cm_base.specs.declared.res.Res.{Res}
@@ -65,18 +65,12 @@ pub record Does (w : World) (s : State) (e : Event) (s' : State) : Type 0 where
 
 -- the results of the rules for other calls than births have no child
 ruled_childless : (r : Res) → IsRuled r → IsChildless r
-ruled_childless Done is = tt
-ruled_childless (Id n) is = tt
-ruled_childless (Child n) is = is
-ruled_childless (Err e) is = tt
+ruled_childless r is = grind arith
 
 -- ---- members
 -- without a child the members of a call that isn't an exit stay
 members_stay : (r : Res) → IsChildless r → (members : List ℕ) → members_with members r ≡ members
-members_stay Done plain members = refl
-members_stay (Id n) plain members = refl
-members_stay (Child n) plain members = absurd plain
-members_stay (Err e) plain members = refl
+members_stay r plain members = grind arith
 
 -- an error leaves the members of each call
 error_members : (call : Call) (e : Errno) (members : List ℕ) (pid : ℕ) → members_after members pid call (Err e) ≡ members
@@ -84,10 +78,7 @@ error_members Exit e members pid = refl
 error_members _ e members pid = refl
 
 pub outside_error : (call : Call) (res : Res) → comes_from_outside call res ≡ true → (e : Errno) × (res ≡ Err e)
-outside_error call Done wrong = absurd (cc)
-outside_error call (Id n) wrong = absurd (cc)
-outside_error call (Child n) wrong = absurd (cc)
-outside_error call (Err e) is = (e, refl)
+outside_error call res wrong = grind arith
 
 -- ---- the three kinds
 -- an error leaves the processes, which is a call that leaves its caller as it was
@@ -146,10 +137,8 @@ owed_birth s pid p child after call res lives births forebear fresh =
 owed_unless : (r : Res) (s : State) (pid : ℕ) (p child : Process) (after : Spaces) (call : Call) (res : Res) → process_at s.processes pid ≡ Some p
     → IsBirth call → child.forebear ≡ Some p.pid → (is_pid child.pid ≡ true → is_alive s.processes child.pid ≡ false)
     → Owed s.processes p call res (birth_unless r s child after)
-owed_unless Done s pid p child after call res lives births forebear fresh = owed_birth s pid p child after call res lives births forebear fresh
-owed_unless (Id n) s pid p child after call res lives births forebear fresh = owed_birth s pid p child after call res lives births forebear fresh
-owed_unless (Child n) s pid p child after call res lives births forebear fresh = owed_birth s pid p child after call res lives births forebear fresh
 owed_unless (Err e) s pid p child after call res lives births forebear fresh = owed_error s pid p call res e lives
+owed_unless _ s pid p child after call res lives births forebear fresh = owed_birth s pid p child after call res lives births forebear fresh
 
 -- a call that is neither a birth nor an exit
 owed_left : (w : World) (s : State) (pid : ℕ) (p : Process) (call : Call) (res : Res)

@@ -76,10 +76,7 @@ both_give (Some a) (Some b) f gives = gives a b refl refl
 
 all_give : (o p q : Option ℕ) (f : ℕ → ℕ → ℕ → Result FourIds Errno)
     → ((a b c : ℕ) → o ≡ Some a → p ≡ Some b → q ≡ Some c → GivesIds (f a b c)) → GivesIds (all_mapped o p q f)
-all_give None p q f gives = gives_error EINVAL
-all_give (Some a) None q f gives = gives_error EINVAL
-all_give (Some a) (Some b) None f gives = gives_error EINVAL
-all_give (Some a) (Some b) (Some c) f gives = gives a b c refl refl refl
+all_give o p q f gives = grind arith
 
 pub setresid_ids : (map : List Extent) (privileged : Bool) (old : FourIds) (r e s : ℕ) → HasIds map → AreIds old → GivesIds (setresid map privileged old r e s)
 setresid_ids map privileged old r e s ids are =
@@ -119,10 +116,7 @@ setid_ids map privileged old argument ids are =
     (gives_error EPERM)))
 
 with_fs_ids : (privileged : Bool) (old : FourIds) (o : Option ℕ) → AreIds old → ((id : ℕ) → o ≡ Some id → IsId id) → AreIds (with_fs privileged old o)
-with_fs_ids privileged old None are small = are
-with_fs_ids privileged old (Some id) are small =
-    either AreIds (privileged || is_one_of_three old id || id == old.fs) (record old { fs = id }) old
-    (record { real = are.real; effective = are.effective; saved = are.saved; fs = small id refl }) are
+with_fs_ids privileged old o are small = grind arith
 
 pub setfsid_ids : (map : List Extent) (privileged : Bool) (old : FourIds) (argument : ℕ) → HasIds map → AreIds old
     → AreIds (setfsid map privileged old argument)
@@ -133,10 +127,7 @@ setfsid_ids map privileged old argument ids are = with_fs_ids privileged old (do
 all_down_step : (first : Option ℕ) (rest : Option (List ℕ)) (out : List ℕ) → ((id : ℕ) → first ≡ Some id → IsId id)
     → ((ids : List ℕ) → rest ≡ Some ids → All IsId ids)
     → option_and_then (λ f. option_map (λ r. f ∷ r) rest) first ≡ Some out → All IsId out
-all_down_step None rest out small smalls is = absurd (cc)
-all_down_step (Some id) None out small smalls is = absurd (cc)
-all_down_step (Some id) (Some ids) out small smalls is =
-    let e : (id ∷ ids) ≡ out = cc in subst (All IsId) e (All-cons IsId id ids (small id refl) (smalls ids refl))
+all_down_step first rest out small smalls is = grind arith
 
 pub all_down_ids : (map : List Extent) (ids out : List ℕ) → HasIds map → all_down map ids ≡ Some out → All IsId out
 all_down_ids map [] out has is = let e : [] ≡ out = cc in subst (All IsId) e (All-nil IsId)

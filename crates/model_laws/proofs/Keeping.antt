@@ -54,17 +54,10 @@ record Made (spaces : Spaces) (at : ℕ) (r : Res) (after : Spaces) : Type 0 whe
   grows : length spaces ≤ length after
 
 made : (r : Res) (spaces : Spaces) (at : ℕ) (c : Credential) → at < length spaces → KeepsTree spaces → Keeps c → Made spaces at r (spaces_with r spaces at c)
-made Done spaces at c there tree keeps =
-    record { tree = keeps_created spaces at c there keeps tree; place = omega arith; old = omega arith; grows = omega arith }
-made (Id n) spaces at c there tree keeps = record { tree = tree; place = there; old = there; grows = omega arith }
-made (Child n) spaces at c there tree keeps = record { tree = tree; place = there; old = there; grows = omega arith }
-made (Err e) spaces at c there tree keeps = record { tree = tree; place = there; old = there; grows = omega arith }
+made r spaces at c there tree keeps = grind arith
 
 joined : (r : Res) (at target : ℕ) (count : ℕ) → at < count → target < count → place_after r at target < count
-joined Done at target count there other = other
-joined (Id n) at target count there other = there
-joined (Child n) at target count there other = there
-joined (Err e) at target count there other = there
+joined r at target count there other = grind arith
 
 writes_good : (spaces : Spaces) (at : ℕ) (c : Credential) (a : Written) → at < length spaces → Keeps c
     → GoodWrite spaces a → GoodReply spaces (writes at c a) a.spaces
@@ -202,13 +195,7 @@ IsPlain (Child n) = ⊥
 IsPlain (Err e) = Unit {0}
 
 pub clone_plain : (spaces : Spaces) (at : ℕ) (c : Credential) → IsPlain (clone_user spaces at c)
-clone_plain spaces at c = plain _ _ tt tt
-  where
-    plain : (a b : Bool) → IsPlain Done → IsPlain Done
-        → IsPlain (if a then record { res = Err ENOSPC; cred = c } else if b then record { res = Err EPERM; cred = c } else done (as_newcomer c)).res
-    plain true b x y = tt
-    plain false true x y = tt
-    plain false false x y = tt
+clone_plain spaces at c = grind arith
 
 -- clone_user, by the result of making the space
 keeps_clone : (r : Res) (s : State) (p : Process) (n : ℕ) → IsPlain r → KeepsState s → p.space < length s.spaces → Keeps p.cred
@@ -243,10 +230,7 @@ keeps_ruling w s p call n has keeps there cred named dead = keeps_call w s p cal
 -- the child that is told isn't alive
 pub told_is_new : (processes : List Process) (res : Res) → is_living_child processes res ≡ false
     → is_pid (told_child res) ≡ true → is_alive processes (told_child res) ≡ false
-told_is_new processes Done dead is = absurd (cc)
-told_is_new processes (Id n) dead is = absurd (cc)
-told_is_new processes (Child n) dead is = dead
-told_is_new processes (Err e) dead is = absurd (cc)
+told_is_new processes res dead is = grind arith
 
 keeps_answers : (w : World) (s : State) (e : Event) (s' : State) (p : Process) → KeepsFiles w.files → KeepsState s → process_at s.processes e.pid ≡ Some p
     → names_no_space s.spaces e.call ≡ false → is_living_child s.processes e.res ≡ false → Answers w s p e.call e.res s' → KeepsState s'

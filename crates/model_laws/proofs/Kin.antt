@@ -1,5 +1,5 @@
 -- Families and chains of forebears under the three kinds of steps.
-use Rattle.std.proofs.Common.{◌≡◌, ◌≢◌, ◌⊎◌, ℕ, true, false, List, Option, Some, None, refl, sym, ap, ◌∙◌, inl, inr}
+use Rattle.std.proofs.Common.{arith, ◌≡◌, ◌≢◌, ◌⊎◌, ℕ, true, false, List, Option, Some, None, refl, sym, ap, ◌∙◌, inl, inr}
 use Rattle.std.specs.Prelude.{is_some, option_map}
 use Rattle.std.proofs.lemmas.Bool.{cases_Bool, cases_eq, cond-true, cond-false}
 use Rattle.model_cred.specs.Credential.{Credential}
@@ -97,25 +97,7 @@ module _ (s s' : State) (new : Process) (fresh : is_alive s.processes new.pid �
 
   -- no process had the child as its forebear
   no_orphan : ChainsEnd s → (pid : ℕ) (q : Process) → process_at s.processes pid ≡ Some q → q.forebear ≡ Some new.pid → ⊥
-  no_orphan chains pid q at forebear = by_chain pid q at forebear (chains pid (alive_found s.processes pid q at))
-    where
-      chain_alive : (n : ℕ) → ChainEnds s n → is_alive s.processes n ≡ true
-      chain_alive n (first m r found ends) = alive_found s.processes m r found
-      chain_alive n (next m f r found fore rest) = alive_found s.processes m r found
-
-      by_chain : (n : ℕ) (r : Process) → process_at s.processes n ≡ Some r → r.forebear ≡ Some new.pid → ChainEnds s n → ⊥
-      by_chain n r found fore (first m r' found' ends) =
-          let e : r ≡ r' = one_some r r' (process_at s.processes m) found found' in
-          let e' : r.forebear ≡ r'.forebear = ap (λ (x : Process). x.forebear) e in
-          let wrong : None ≡ Some new.pid = sym ends ∙ sym e' ∙ fore in
-          cc
-      by_chain n r found fore (next m f r' found' fore' rest) =
-          let e : r ≡ r' = one_some r r' (process_at s.processes m) found found' in
-          let e' : r.forebear ≡ r'.forebear = ap (λ (x : Process). x.forebear) e in
-          let it : Some f ≡ Some new.pid = sym fore' ∙ sym e' ∙ fore in
-          let same : f ≡ new.pid = cc in
-          let alive : is_alive s.processes new.pid ≡ true = sym (ap (is_alive s.processes) same) ∙ chain_alive f rest in
-          cc
+  no_orphan chains pid q at forebear = grind arith
 
   -- who is of the family after a birth was of it before, or is the child
   pub family_after_birth : ChainsEnd s → (root pid : ℕ) → Family s' root pid → Family s root pid ⊎ (pid ≡ new.pid)

@@ -77,17 +77,11 @@ new_makes s child new false = omega arith
 
 clone_makes : (r : Res) (s : State) (p : Process) (n : ℕ) → IsPlain r
     → Makes s CloneUser (birth_unless r s (clone_child s.spaces p n) (spaces_with r s.spaces p.space p.cred))
-clone_makes (Err e) s p n plain = omega arith
-clone_makes (Id m) s p n plain = absurd plain
-clone_makes (Child m) s p n plain = absurd plain
-clone_makes Done s p n plain = new_makes s (clone_child s.spaces p n) (created_by s.spaces p.space p.cred) (is_pid n)
+clone_makes r s p n plain = grind arith
 
 -- ---- calls
 unshared : (r : Res) (spaces : Spaces) (at : ℕ) (c : Credential) → length (spaces_with r spaces at c) ≡ length spaces + made Unshare r
-unshared Done spaces at c = omega arith
-unshared (Id n) spaces at c = omega arith
-unshared (Child n) spaces at c = omega arith
-unshared (Err e) spaces at c = omega arith
+unshared r spaces at c = grind arith
 
 ruling_makes : (w : World) (s : State) (p : Process) (call : Call) (n : ℕ) → Makes s call (ruling w s p call n)
 ruling_makes w s p Fork n = fork_makes s (fork_child p n) (is_pid n)
@@ -101,12 +95,7 @@ ruling_makes w s p call n = omega arith
 -- ---- steps
 -- an error from outside makes none
 outside_makes : (call : Call) (r : Res) → comes_from_outside call r ≡ true → made call r ≡ 0
-outside_makes call Done is = absurd (cc)
-outside_makes call (Id n) is = absurd (cc)
-outside_makes call (Child n) is = absurd (cc)
-outside_makes CloneUser (Err e) is = refl
-outside_makes Unshare (Err e) is = refl
-outside_makes call (Err e) is = refl
+outside_makes call r is = grind arith
 
 answers_make : (w : World) (s : State) (p : Process) (e : Event) (s' : State) → Answers w s p e.call e.res s'
     → length s'.spaces ≡ length s.spaces + made e.call e.res

@@ -1,5 +1,5 @@
 -- Members in later runs: they are the family of the root, and whoever is none stays as it is.
-use Rattle.std.proofs.Common.{◌≡◌, ◌≢◌, ℕ, ◌==◌, ◌&&◌, not, Bool, true, false, List, [], ◌∷◌, ◌++◌, filter, Some, None}
+use Rattle.std.proofs.Common.{arith, ◌≡◌, ◌≢◌, ℕ, ◌==◌, ◌&&◌, not, Bool, true, false, List, [], ◌∷◌, ◌++◌, filter, Some, None}
 use Rattle.std.proofs.Common.{if◌then◌else◌, refl, sym, ap, ◌∙◌, inl, inr, subst}
 use Rattle.std.specs.Prelude.{IsTrue, is_some}
 use Rattle.std.proofs.lemmas.Bool.{cases_eq, eqb-true, eqb-false, eq-eqb, ne_eqb, and_parts, and_from, and_right}
@@ -290,17 +290,7 @@ head_alive s pid (next n f p at forebear rest) = alive_found s.processes n p at
 
 forebear_lives : (s : State) (pid f : ℕ) (p : Process) → process_at s.processes pid ≡ Some p → p.forebear ≡ Some f
     → ChainEnds s pid → is_alive s.processes f ≡ true
-forebear_lives s pid f p at forebear (first n q found ends) =
-    let both : Some p ≡ Some q = sym at ∙ found in
-    let e : p ≡ q = cc in
-    let wrong : None ≡ Some f = sym ends ∙ sym (ap (λ (x : Process). x.forebear) e) ∙ forebear in
-    absurd (cc)
-forebear_lives s pid f p at forebear (next n g q found fore rest) =
-    let both : Some p ≡ Some q = sym at ∙ found in
-    let e : p ≡ q = cc in
-    let it : Some g ≡ Some f = sym fore ∙ sym (ap (λ (x : Process). x.forebear) e) ∙ forebear in
-    let same : g ≡ f = cc in
-    sym (ap (is_alive s.processes) same) ∙ head_alive s g rest
+forebear_lives s pid f p at forebear ends = grind arith
 
 -- who isn't of the family has no forebear in it
 stranger_forebear : (s : State) (root pid : ℕ) (p : Process) → ChainsEnd s → process_at s.processes pid ≡ Some p → is_member (family s root) pid ≡ false

@@ -1,5 +1,5 @@
 -- A process's own step.
-use Rattle.std.proofs.Common.{◌≡◌, ◌⊎◌, ℕ, Bool, true, false, List, Option, Some, None, if◌then◌else◌, refl, sym, ap, ◌∙◌, inl, inr, subst}
+use Rattle.std.proofs.Common.{arith, ◌≡◌, ◌⊎◌, ℕ, Bool, true, false, List, Option, Some, None, if◌then◌else◌, refl, sym, ap, ◌∙◌, inl, inr, subst}
 use Rattle.std.proofs.lemmas.Bool.{cases_Bool, eq-eqb, cond-true, cond-false}
 use Rattle.cm_base.specs.declared.errno.Errno.{Errno}
 use Rattle.cm_base.specs.declared.errno.Errno.TheVariants.{EAGAIN}
@@ -27,57 +27,14 @@ record Again (s : State) (rule : ℕ → Ruling) (n : ℕ) : Type 0 where
   fresh : (is_pid n ≡ true → is_alive s.processes n ≡ false) → is_living_child s.processes (rule n).res ≡ false
 
 again_birth : (s : State) (child : ℕ → Process) (after : Spaces) (n : ℕ) → ((m : ℕ) → (child m).pid ≡ m) → Again s (λ m. birth s (child m) after) n
-again_birth s child after n named =
-    elim (cases_Bool (is_pid (child n).pid)) [
-      | inl is ↦
-          let e : birth s (child n) after ≡ record {
-            res = Child (child n).pid;
-            state = record s { processes = insert_process (child n) s.processes; spaces = after };
-          }
-          = cond-true (is_pid (child n).pid)
-          (record {
-            res = Child (child n).pid;
-            state = record s { processes = insert_process (child n) s.processes; spaces = after };
-          })
-          (record { res = Err EAGAIN; state = s }) is in
-          record {
-            same = ap (λ (r : Ruling). birth s (child (told_child r.res)) after) e ∙ ap (λ (m : ℕ). birth s (child m) after) (named n);
-            fresh = λ new. ap (λ (r : Ruling). is_living_child s.processes r.res) e
-                ∙ ap (is_alive s.processes) (named n) ∙ new (sym (ap is_pid (named n)) ∙ is);
-          }
-      | inr not_pid ↦
-          let e : birth s (child n) after ≡ record { res = Err EAGAIN; state = s }
-          = cond-false (is_pid (child n).pid)
-          (record {
-            res = Child (child n).pid;
-            state = record s { processes = insert_process (child n) s.processes; spaces = after };
-          })
-          (record { res = Err EAGAIN; state = s }) not_pid in
-          let zero_is : birth s (child 0) after ≡ record { res = Err EAGAIN; state = s }
-          = cond-false (is_pid (child 0).pid)
-          (record {
-            res = Child (child 0).pid;
-            state = record s { processes = insert_process (child 0) s.processes; spaces = after };
-          })
-          (record { res = Err EAGAIN; state = s }) (ap is_pid (named 0)) in
-          record {
-            same = ap (λ (r : Ruling). birth s (child (told_child r.res)) after) e ∙ zero_is ∙ sym e;
-            fresh = λ _. ap (λ (r : Ruling). is_living_child s.processes r.res) e;
-          }
-    ]
+again_birth s child after n named = grind arith
 
 again_unless : (r : Res) (s : State) (child : ℕ → Process) (after : Spaces) (n : ℕ) → ((m : ℕ) → (child m).pid ≡ m)
     → Again s (λ m. birth_unless r s (child m) after) n
-again_unless Done s child after n named = again_birth s child after n named
-again_unless (Id k) s child after n named = again_birth s child after n named
-again_unless (Child k) s child after n named = again_birth s child after n named
-again_unless (Err e) s child after n named = record { same = refl; fresh = λ _. refl }
+again_unless r s child after n named = grind arith
 
 ruled_childless : (processes : List Process) (r : Res) → IsRuled r → is_living_child processes r ≡ false
-ruled_childless processes Done is = refl
-ruled_childless processes (Id n) is = refl
-ruled_childless processes (Child n) is = absurd is
-ruled_childless processes (Err e) is = refl
+ruled_childless processes r is = grind arith
 
 again_left : (w : World) (s : State) (p : Process) (call : Call) (n : ℕ)
     → Again s (λ m. record { res = (reply_to w s p call).res; state = state_left s p call (reply_to w s p call) }) n
@@ -95,10 +52,7 @@ again w s p call n = again_left w s p call n
 
 -- ---- the own step
 same_itself : (r : Res) → same_res r r ≡ true
-same_itself Done = refl
-same_itself (Id n) = eq-eqb n n refl
-same_itself (Child n) = eq-eqb n n refl
-same_itself (Err e) = eq-eqb (errno_number e) (errno_number e) refl
+same_itself r = grind arith
 
 own_told : (w : World) (s : State) (pid : ℕ) (p : Process) (call : Call) → process_at s.processes pid ≡ Some p
     → told_call w s p call (own w s p call).res ≡ Goes (own w s p call).state
@@ -141,10 +95,7 @@ record WrongAnswer (w : World) (s : State) (e : Event) (answer : Res) : Type 0 w
 
 wrong_rules : (w : World) (s : State) (e : Event) (answer : Res) (p : Process) → process_at s.processes e.pid ≡ Some p → names_no_space s.spaces e.call ≡ false
     → (a b : Bool) (t : State) → (if a then Goes s else if b then Goes t else Wrong (own w s p e.call).res) ≡ Wrong answer → WrongAnswer w s e answer
-wrong_rules w s e answer p lives named true b t is = absurd (cc)
-wrong_rules w s e answer p lives named false true t is = absurd (cc)
-wrong_rules w s e answer p lives named false false t is =
-    record { caller = p; lives = lives; named = named; own_answer = let it : (own w s p e.call).res ≡ answer = cc in sym it }
+wrong_rules w s e answer p lives named a b t is = grind arith
 
 wrong_call : (w : World) (s : State) (e : Event) (answer : Res) (p : Process) → process_at s.processes e.pid ≡ Some p → (a b : Bool)
     → names_no_space s.spaces e.call ≡ a
@@ -182,28 +133,10 @@ never_again : (r : Res) → IsRuled r → r ≡ Err EAGAIN → ⊥
 never_again r ruled is = subst IsRuled is ruled
 
 birth_again : (s : State) (child : Process) (after : Spaces) → (birth s child after).res ≡ Err EAGAIN → is_pid child.pid ≡ false
-birth_again s child after is = by (is_pid child.pid) is
-  where
-    by : (b : Bool)
-        → (let r : Ruling
-        = if b then record {
-          res = Child child.pid;
-          state = record s { processes = insert_process child s.processes; spaces = after };
-        } else record {
-          res = Err EAGAIN;
-          state = s;
-        } in
-        r).res
-        ≡ Err EAGAIN
-        → b ≡ false
-    by true wrong = absurd (let never : Child child.pid ≡ Err EAGAIN = wrong in cc)
-    by false it = refl
+birth_again s child after is = grind arith
 
 unless_again : (r : Res) (s : State) (child : Process) (after : Spaces) → IsRuled r → (birth_unless r s child after).res ≡ Err EAGAIN → is_pid child.pid ≡ false
-unless_again Done s child after ruled is = birth_again s child after is
-unless_again (Id n) s child after ruled is = birth_again s child after is
-unless_again (Child n) s child after ruled is = birth_again s child after is
-unless_again (Err e) s child after ruled is = absurd (never_again (Err e) ruled is)
+unless_again r s child after ruled is = grind arith
 
 left_again : (w : World) (s : State) (p : Process) (call : Call) → (reply_to w s p call).res ≡ Err EAGAIN → ((call ≡ Fork) ⊎ (call ≡ CloneUser)) × AllPidsLive s
 left_again w s p call is = absurd (never_again (reply_to w s p call).res (reply_plain w.files s.spaces p.space p.cred call).ruled is)

@@ -111,11 +111,7 @@ pid_bounds : (n : ℕ) → is_pid n ≡ true → (1 ≤ n) × (n ≤ last_pid)
 pid_bounds n is = let parts = and_parts (nat_le 1 n) (nat_le n last_pid) is in (leb-true 1 n parts.0, leb-true n last_pid parts.1)
 
 no_pid : (n : ℕ) → 1 ≤ n → is_pid n ≡ false → last_pid < n
-no_pid n low is =
-    elim (and_cases (nat_le 1 n) (nat_le n last_pid) is) [
-      | inl wrong ↦ absurd (let one : nat_le 1 n ≡ true = le-leb 1 n low in let no_way : true ≡ false = sym one ∙ wrong in cc)
-      | inr above ↦ leb-false n last_pid above
-    ]
+no_pid n low is = grind arith
 
 least_free : (s : State) → IsLeastFree s (free_pid s)
 least_free s =

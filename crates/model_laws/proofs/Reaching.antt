@@ -55,21 +55,7 @@ isnt_root (suc k) s root pid is = (or_parts (pid == root) (reaches_within k s ro
 
 -- the forebear of one that reaches it within exactly so many steps does so within one less
 exactly_next : (k : ℕ) (s : State) (root pid f : ℕ) → forebear_of s pid ≡ Some f → Exactly (suc k) s root pid → Exactly k s root f
-exactly_next k s root pid f forebear is = by k refl is
-  where
-    reaches_f : (j : ℕ) → reaches_within (suc j) s root (Some pid) ≡ true → (pid == root) ≡ false → reaches_within j s root (Some f) ≡ true
-    reaches_f j it apart =
-        elim (or_cases (pid == root) (reaches_within j s root (forebear_of s pid)) it) [
-          | inl same ↦ absurd (cc)
-          | inr further ↦ sym (ap (reaches_within j s root) forebear) ∙ further
-        ]
-
-    by : (j : ℕ) → j ≡ j → Exactly (suc j) s root pid → Exactly j s root f
-    by zero e it = reaches_f zero it.0 (isnt_root zero s root pid it.1)
-    by (suc j) e it = (
-      reaches_f (suc j) it.0 (isnt_root (suc j) s root pid it.1),
-      sym (ap (reaches_within j s root) forebear) ∙ (or_parts (pid == root) (reaches_within j s root (forebear_of s pid)) it.1).1,
-    )
+exactly_next k s root pid f forebear is = grind arith
 
 -- the processes of a chain, each once
 record Chain (s : State) (root k : ℕ) : Type 0 where

@@ -1,5 +1,5 @@
 -- A refusal changes nothing.
-use Rattle.std.proofs.Common.{◌≡◌, ℕ, ◌==◌, Bool, true, false, List, [], ◌∷◌, Some, if◌then◌else◌, refl, sym, ap, ◌∙◌, inl, inr}
+use Rattle.std.proofs.Common.{arith, ◌≡◌, ℕ, ◌==◌, Bool, true, false, List, [], ◌∷◌, Some, if◌then◌else◌, refl, sym, ap, ◌∙◌, inl, inr}
 use Rattle.std.proofs.lemmas.Bool.{cases_Bool, cond-true, cond-false}
 use Rattle.cm_base.specs.declared.errno.Errno.{Errno}
 use Rattle.cm_base.specs.declared.errno.Errno.TheVariants.{EAGAIN}
@@ -57,17 +57,10 @@ safe_unborn : (s : State) (e : Errno) → SafeRuling s (record { res = Err e; st
 safe_unborn s e = record { keeps = λ _ _. refl }
 
 safe_birth : (s : State) (child : Process) (spaces : Spaces) → SafeRuling s (birth s child spaces)
-safe_birth s child spaces =
-    ruling_either s (is_pid child.pid)
-    (record { res = Child child.pid; state = record s { processes = insert_process child s.processes; spaces = spaces } })
-    (record { res = Err EAGAIN; state = s })
-    (safe_born s _ child.pid) (safe_unborn s EAGAIN)
+safe_birth s child spaces = grind arith
 
 safe_birth_unless : (r : Res) (s : State) (child : Process) (spaces : Spaces) → SafeRuling s (birth_unless r s child spaces)
-safe_birth_unless (Err e) s child spaces = record { keeps = λ _ _. refl }
-safe_birth_unless Done s child spaces = safe_birth s child spaces
-safe_birth_unless (Id n) s child spaces = safe_birth s child spaces
-safe_birth_unless (Child n) s child spaces = safe_birth s child spaces
+safe_birth_unless r s child spaces = grind arith
 
 -- a call that is neither a birth nor an exit
 safe_left : (w : World) (s : State) (pid : ℕ) (p : Process) → process_at s.processes pid ≡ Some p → (call : Call)

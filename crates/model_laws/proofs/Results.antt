@@ -1,5 +1,5 @@
 -- What the rules answer: no child, no error but four, and a refusal leaves the caller and the spaces as they were.
-use Rattle.std.proofs.Common.{◌≡◌, ℕ, ◌==◌, ◌&&◌, ◌||◌, Bool, true, false, List, length, Option, Some, None, if◌then◌else◌, refl, ap, subst}
+use Rattle.std.proofs.Common.{arith, ◌≡◌, ℕ, ◌==◌, ◌&&◌, ◌||◌, Bool, true, false, List, length, Option, Some, None, if◌then◌else◌, refl, ap, subst}
 use Rattle.std.specs.Prelude.{Result, Ok}
 use Rattle.std.specs.declared.result.Result.TheVariants.{Err as Failed}
 use Rattle.cm_base.specs.declared.errno.Errno.{Errno}
@@ -74,32 +74,20 @@ ids_both (Some a) None f all = ids_failed EINVAL tt
 ids_both (Some a) (Some b) f all = all a b
 
 ids_all : (o p q : Option ℕ) (f : ℕ → ℕ → ℕ → Result FourIds Errno) → ((a b c : ℕ) → PlainIds (f a b c)) → PlainIds (all_mapped o p q f)
-ids_all None p q f all = ids_failed EINVAL tt
-ids_all (Some a) None q f all = ids_failed EINVAL tt
-ids_all (Some a) (Some b) None f all = ids_failed EINVAL tt
-ids_all (Some a) (Some b) (Some c) f all = all a b c
+ids_all o p q f all = grind arith
 
 ok_or_perm : (b : Bool) (ids : FourIds) → PlainIds (if b then Ok ids else Failed EPERM)
 ok_or_perm true ids = ids_ok ids
 ok_or_perm false ids = ids_failed EPERM tt
 
 setresid_plain : (map : List Extent) (privileged : Bool) (old : FourIds) (r e s : ℕ) → PlainIds (setresid map privileged old r e s)
-setresid_plain map privileged old r e s =
-    ids_all (asked map old.real r) (asked map old.effective e) (asked map old.saved s) _ (λ real effective saved.
-    ok_or_perm (privileged || (is_one_of_three old real && is_one_of_three old effective && is_one_of_three old saved))
-    (record { real = real; effective = effective; saved = saved; fs = effective }))
+setresid_plain map privileged old r e s = grind arith
 
 setreid_plain : (map : List Extent) (privileged : Bool) (old : FourIds) (r e : ℕ) → PlainIds (setreid map privileged old r e)
-setreid_plain map privileged old r e =
-    ids_both (asked map old.real r) (asked map old.effective e) _ (λ real effective.
-    ok_or_perm (privileged || ((real == old.real || real == old.effective) && is_one_of_three old effective))
-    (record { real = real; effective = effective; saved = saved_after old r e effective; fs = effective }))
+setreid_plain map privileged old r e = grind arith
 
 setid_plain : (map : List Extent) (privileged : Bool) (old : FourIds) (argument : ℕ) → PlainIds (setid map privileged old argument)
-setid_plain map privileged old argument =
-    ids_one (down map argument) _ (λ id.
-    either PlainIds privileged (Ok (all_four id)) (if id == old.real || id == old.saved then Ok (record old { effective = id; fs = id }) else Failed EPERM)
-    (ids_ok (all_four id)) (ok_or_perm (id == old.real || id == old.saved) (record old { effective = id; fs = id })))
+setid_plain map privileged old argument = grind arith
 
 plain_uids : (s : Space) (c : Credential) (r : Result FourIds Errno) → PlainIds r → Plain c (with_uids s c r)
 plain_uids s c (Ok ids) plain = plain_done c _

@@ -117,10 +117,7 @@ union_absorbs a b within = within_antisymmetric (union a b) a (union_within a b 
 -- without no_new_privs the permitted set is what is gained
 gained : (c : Credential) (f : FileSets) (ambient : ℕ) → c.no_new_privs ≡ false
     → permitted_after c f ambient ≡ union (union (meet c.inheritable f.inheritable) (meet f.permitted c.bounding)) ambient
-gained c f ambient free =
-    ap (λ (b : Bool). if b
-    then meet (union (union (meet c.inheritable f.inheritable) (meet f.permitted c.bounding)) ambient) c.permitted
-    else union (union (meet c.inheritable f.inheritable) (meet f.permitted c.bounding)) ambient) free
+gained c f ambient free = grind arith
 
 -- of root's sets that is all of the inheritable and the bounding set
 gains_all : (c : Credential) (f : FileSets) (ambient : ℕ) → Keeps c → c.no_new_privs ≡ false → f.permitted ≡ full → f.inheritable ≡ full

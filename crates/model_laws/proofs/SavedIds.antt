@@ -1,5 +1,5 @@
 -- The saved id after setreuid and setregid.
-use Rattle.std.proofs.Common.{◌≡◌, ℕ, ◌==◌, ◌&&◌, ◌||◌, not, Bool, true, Option, Some, None, List, if◌then◌else◌, refl, sym, ◌∙◌, inl, inr, subst}
+use Rattle.std.proofs.Common.{arith, ◌≡◌, ℕ, ◌==◌, ◌&&◌, ◌||◌, not, Bool, true, Option, Some, None, List, if◌then◌else◌, refl, sym, ◌∙◌, inl, inr, subst}
 use Rattle.std.specs.Prelude.{Result, Ok}
 use Rattle.std.specs.declared.result.Result.TheVariants.{Err as Failed}
 use Rattle.std.proofs.lemmas.Bool.{eqb-false, ne_eqb, cond-true, cond-false, and_parts, and_from, or_cases, or_left}
@@ -27,11 +27,7 @@ losing_uid : (s : Space) (old : FourIds) (c : Credential) → (after_losing_root
 losing_uid s old c = either (λ (d : Credential). d.uid ≡ c.uid) (has_zero s old && not (has_zero s c.uid)) (without_root c) c (without_root_uid c) refl
 
 following_uid : (s : Space) (old : FourIds) (c : Credential) → (following_effective s old c).uid ≡ c.uid
-following_uid s old c =
-    either (λ (d : Credential). d.uid ≡ c.uid) (is_zero s old.effective && not (is_zero s c.uid.effective)) (record c { effective = 0 })
-    (if not (is_zero s old.effective) && is_zero s c.uid.effective then record c { effective = c.permitted } else c)
-    refl (either (λ (d : Credential). d.uid ≡ c.uid) (not (is_zero s old.effective) && is_zero s c.uid.effective)
-    (record c { effective = c.permitted }) c refl refl)
+following_uid s old c = grind arith
 
 pub fixed_uid : (s : Space) (old : FourIds) (c : Credential) → (fixed_up s old c).uid ≡ c.uid
 fixed_uid s old c =
@@ -41,21 +37,11 @@ fixed_uid s old c =
 -- ---- the saved id
 -- the test as the sentence
 sets_saved : (old new : FourIds) (r e : ℕ) → (is_given r || (is_given e && not (new.effective == old.real))) ≡ true → SetsSaved old new r e
-sets_saved old new r e is =
-    elim (or_cases (is_given r) (is_given e && not (new.effective == old.real)) is) [
-      | inl real ↦ inl (eqb-false r minus_one (not-true (r == minus_one) real))
-      | inr effective ↦
-          let parts = and_parts (is_given e) (not (new.effective == old.real)) effective in
-          inr (eqb-false e minus_one (not-true (e == minus_one) parts.0), eqb-false new.effective old.real (not-true (new.effective == old.real) parts.1))
-    ]
+sets_saved old new r e is = grind arith
 
 -- the sentence as the test
 saved_set : (old new : FourIds) (r e : ℕ) → SetsSaved old new r e → (is_given r || (is_given e && not (new.effective == old.real))) ≡ true
-saved_set old new r e (inl real) = or_left (is_given r) _ (not_from_false (r == minus_one) (ne_eqb r minus_one real))
-saved_set old new r e (inr effective) =
-    or_right (is_given r) (is_given e && not (new.effective == old.real))
-    (and_from (is_given e) (not (new.effective == old.real)) (not_from_false (e == minus_one) (ne_eqb e minus_one effective.0))
-    (not_from_false (new.effective == old.real) (ne_eqb new.effective old.real effective.1)))
+saved_set old new r e saved = grind arith
 
 saved_is : (old : FourIds) (r e real effective : ℕ)
     → SavedId old (record {
@@ -64,14 +50,7 @@ saved_is : (old : FourIds) (r e real effective : ℕ)
       saved = saved_after old r e effective;
       fs = effective;
     }) r e
-saved_is old r e real effective =
-    let new : FourIds = record { real = real; effective = effective; saved = saved_after old r e effective; fs = effective } in
-    record {
-      becomes = λ sets. cond-true (is_given r || (is_given e && not (effective == old.real))) effective old.saved (saved_set old new r e sets);
-      stays = λ others.
-          cond-false (is_given r || (is_given e && not (effective == old.real))) effective old.saved
-          (false_from_ne_true (is_given r || (is_given e && not (effective == old.real))) (λ is. others (sets_saved old new r e is)));
-    }
+saved_is old r e real effective = grind arith
 
 -- the new ids, if there are any, have the saved id as the sentence says
 record Saves (old : FourIds) (r e : ℕ) (result : Result FourIds Errno) : Type 0 where
@@ -90,12 +69,7 @@ saves_ok : (old : FourIds) (r e : ℕ) (ids : FourIds) → SavedId old ids r e �
 saves_ok old r e ids saved = record { ids = λ others is. let same : ids ≡ others = cc in subst (λ (new : FourIds). SavedId old new r e) same saved }
 
 setreid_saves : (map : List Extent) (privileged : Bool) (old : FourIds) (r e : ℕ) → Saves old r e (setreid map privileged old r e)
-setreid_saves map privileged old r e =
-    saves_both old r e (asked map old.real r) (asked map old.effective e) _ (λ real effective.
-    either (Saves old r e) (privileged || ((real == old.real || real == old.effective) && is_one_of_three old effective))
-    (Ok (record { real = real; effective = effective; saved = saved_after old r e effective; fs = effective })) (Failed EPERM)
-    (saves_ok old r e (record { real = real; effective = effective; saved = saved_after old r e effective; fs = effective }) (saved_is old r e real effective))
-    (saves_error old r e EPERM))
+setreid_saves map privileged old r e = grind arith
 
 of_uids : (s : Space) (c : Credential) (r e : ℕ) (result : Result FourIds Errno) → Saves c.uid r e result → (with_uids s c result).res ≡ Done
     → SavedId c.uid (with_uids s c result).cred.uid r e

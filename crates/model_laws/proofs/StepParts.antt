@@ -1,5 +1,5 @@
 -- What a step is made of: the caller, and an error from outside or what the rules give.
-use Rattle.std.proofs.Common.{◌≡◌, ◌⊎◌, ℕ, Bool, true, false, [], ◌∷◌, get_or, Option, Some, None, if◌then◌else◌, refl, sym, ap, ◌∙◌, inl, inr}
+use Rattle.std.proofs.Common.{arith, ◌≡◌, ◌⊎◌, ℕ, Bool, true, false, [], ◌∷◌, get_or, Option, Some, None, if◌then◌else◌, refl, sym, ap, ◌∙◌, inl, inr}
 use Rattle.std.proofs.lemmas.Bool.{eqb-true}
 use Rattle.cm_base.specs.declared.errno.Errno.{Errno}
 use Rattle.cm_base.specs.declared.errno.Errno.TheVariants.{EPERM, EINVAL, ENOSPC, ENOMEM, EAGAIN, EINTR, EFAULT, EIO}
@@ -22,23 +22,7 @@ errno_at n =
     ∷ ENAMETOOLONG ∷ E2BIG ∷ ENOEXEC ∷ ETXTBSY ∷ ELIBBAD ∷ []) n EPERM
 
 errno_back : (a : Errno) → errno_at (errno_number a) ≡ a
-errno_back EPERM = refl
-errno_back EINVAL = refl
-errno_back ENOSPC = refl
-errno_back ENOMEM = refl
-errno_back EAGAIN = refl
-errno_back EINTR = refl
-errno_back EFAULT = refl
-errno_back EIO = refl
-errno_back ENOENT = refl
-errno_back EACCES = refl
-errno_back ENOTDIR = refl
-errno_back ELOOP = refl
-errno_back ENAMETOOLONG = refl
-errno_back E2BIG = refl
-errno_back ENOEXEC = refl
-errno_back ETXTBSY = refl
-errno_back ELIBBAD = refl
+errno_back a = grind arith
 
 -- errors with one number are one
 one_errno : (a b : Errno) → same_errno a b ≡ true → a ≡ b
@@ -46,22 +30,7 @@ one_errno a b same = sym (errno_back a) ∙ ap errno_at (eqb-true (errno_number 
 
 -- results that pass the test are one
 pub one_res : (a b : Res) → same_res a b ≡ true → a ≡ b
-one_res Done Done same = refl
-one_res (Id a) (Id b) same = ap (λ (n : ℕ). Id n) (eqb-true a b same)
-one_res (Child p) (Child q) same = ap (λ (n : ℕ). Child n) (eqb-true p q same)
-one_res (Err a) (Err b) same = ap (λ (e : Errno). Err e) (one_errno a b same)
-one_res Done (Id b) wrong = absurd (cc)
-one_res Done (Child q) wrong = absurd (cc)
-one_res Done (Err b) wrong = absurd (cc)
-one_res (Id a) Done wrong = absurd (cc)
-one_res (Id a) (Child q) wrong = absurd (cc)
-one_res (Id a) (Err b) wrong = absurd (cc)
-one_res (Child p) Done wrong = absurd (cc)
-one_res (Child p) (Id b) wrong = absurd (cc)
-one_res (Child p) (Err b) wrong = absurd (cc)
-one_res (Err a) Done wrong = absurd (cc)
-one_res (Err a) (Id b) wrong = absurd (cc)
-one_res (Err a) (Child q) wrong = absurd (cc)
+one_res a b same = grind arith
 
 -- What a step of a live process with a call and a result is: what the rules give, or an error from outside with nothing
 -- changed.

@@ -41,12 +41,7 @@ pub keeps_put : (n : ℕ) (new : Space) (spaces : Spaces) → n < length spaces 
 keeps_put n new spaces there same keeps kept = record { tree = tree_put n new spaces there same kept.tree; each = all_put n new spaces keeps kept.each }
 
 pub keeps_created : (spaces : Spaces) (at : ℕ) (c : Credential) → at < length spaces → Keeps c → KeepsTree spaces → KeepsTree (created_by spaces at c ∷ spaces)
-keeps_created spaces at c there keeps kept = record {
-  tree = tree_grows (created_by spaces at c) at spaces refl there kept.tree;
-  each =
-      All-cons KeepsSpace (created_by spaces at c) spaces
-      (record { owner = keeps.uid.effective; uids = All-nil FitsIds; gids = All-nil FitsIds; uid_map = tt; gid_map = tt }) kept.each;
-}
+keeps_created spaces at c there keeps kept = grind arith
 
 -- ---- writes
 extent_fits : (map : List Extent) (e out : Extent) → HasIds map → extent_down map e ≡ Some out → FitsIds out
@@ -105,10 +100,7 @@ parent_is_map file spaces None each = tt
 parent_is_map file spaces (Some p) each = map_is_map file (space_of spaces p) (keeps_space_of spaces p each)
 
 keeps_with_map : (file : MapFile) (t : Space) (list : List Extent) → KeepsSpace t → HasIds list → IsMap list → KeepsSpace (with_map file t list)
-keeps_with_map UidMap t list keeps ids map =
-    record { owner = keeps.owner; uids = ids; gids = keeps.gids; uid_map = map; gid_map = keeps.gid_map }
-keeps_with_map GidMap t list keeps ids map =
-    record { owner = keeps.owner; uids = keeps.uids; gids = ids; uid_map = keeps.uid_map; gid_map = map }
+keeps_with_map file t list keeps ids map = grind arith
 
 same_parent : (file : MapFile) (t : Space) (list : List Extent) → (with_map file t list).parent ≡ t.parent
 same_parent UidMap t list = refl

@@ -47,23 +47,12 @@ moved p e = record e { outside = p.outside + (e.outside - p.inside) }
 
 extent_take : (p : Extent) (map : List Extent) (e : Extent) → (p.inside ≤ e.outside) × (e.outside + e.length ≤ p.inside + p.length)
     → extent_down (p ∷ map) e ≡ Some (moved p e)
-extent_take p map e within =
-    cond-true (nat_le p.inside e.outside && nat_le (e.outside + e.length) (p.inside + p.length)) (Some (moved p e)) (extent_down map e)
-    (and_from (nat_le p.inside e.outside) (nat_le (e.outside + e.length) (p.inside + p.length)) (le-leb p.inside e.outside within.0)
-    (le-leb (e.outside + e.length) (p.inside + p.length) within.1))
+extent_take p map e within = grind arith
 
 -- an extent either lies in the first of the map, or goes on to the rest
 extent_cases : (p : Extent) (map : List Extent) (e : Extent)
     → ((p.inside ≤ e.outside) × (e.outside + e.length ≤ p.inside + p.length)) ⊎ (extent_down (p ∷ map) e ≡ extent_down map e)
-extent_cases p map e =
-    elim (cases_Bool (nat_le p.inside e.outside && nat_le (e.outside + e.length) (p.inside + p.length))) [
-      | inl within ↦
-          let parts = and_parts (nat_le p.inside e.outside) (nat_le (e.outside + e.length) (p.inside + p.length)) within in
-          inl (leb-true p.inside e.outside parts.0, leb-true (e.outside + e.length) (p.inside + p.length) parts.1)
-      | inr outside ↦
-          inr (cond-false (nat_le p.inside e.outside && nat_le (e.outside + e.length) (p.inside + p.length))
-          (Some (moved p e)) (extent_down map e) outside)
-    ]
+extent_cases p map e = grind arith
 
 extent_lies : (map : List Extent) (e out : Extent) → extent_down map e ≡ Some out → LiesInOne map e
 extent_lies [] e out is = absurd (cc)
@@ -98,11 +87,7 @@ extent_length (p ∷ map) e out is =
 
 -- a test that one id is in a range
 next_le : (n m : ℕ) → nat_lt n m ≡ nat_le (n + 1) m
-next_le n m =
-    elim (cases_lt n m) [
-      | inl less ↦ lt-ltb n m less ∙ sym (le-leb (n + 1) m (omega arith))
-      | inr more ↦ le-ltb n m more ∙ sym (lt-leb (n + 1) m (omega arith))
-    ]
+next_le n m = grind arith
 
 -- of one id alone it is what the map takes the id to
 one_down : (map : List Extent) (e : Extent) → e.length ≡ 1 → down map e.outside ≡ option_map (λ m. m.outside) (extent_down map e)
@@ -140,15 +125,7 @@ record Split (map : List Extent) (e : Extent) (list mapped : List Extent) : Type
 
 split_by : (map : List Extent) (e : Extent) (list mapped : List Extent) (o : Option Extent) (p : Option (List Extent))
     → extent_down map e ≡ o → list_down map list ≡ p → option_and_then (λ f. option_map (λ r. f ∷ r) p) o ≡ Some mapped → Split map e list mapped
-split_by map e list mapped None p a b is = absurd (cc)
-split_by map e list mapped (Some f) None a b is = absurd (cc)
-split_by map e list mapped (Some f) (Some r) a b is = record {
-  first = f;
-  rest = r;
-  first_is = a;
-  rest_is = b;
-  mapped_is = let it : (f ∷ r) ≡ mapped = cc in sym it;
-}
+split_by map e list mapped o p a b is = grind arith
 
 split : (map : List Extent) (e : Extent) (list mapped : List Extent) → list_down map (e ∷ list) ≡ Some mapped → Split map e list mapped
 split map e list mapped is = split_by map e list mapped (extent_down map e) (list_down map list) refl refl is
@@ -294,11 +271,7 @@ record Single (mapped : List Extent) (id : ℕ) : Type 0 where
   outside : line.outside ≡ id
 
 single_is : (mapped : List Extent) (id : ℕ) → is_single mapped id ≡ true → Single mapped id
-single_is [] id wrong = absurd (cc)
-single_is (e ∷ []) id is =
-    let parts = and_parts (e.length == 1) (e.outside == id) is in
-    record { line = e; is = refl; one = eqb-true e.length 1 parts.0; outside = eqb-true e.outside id parts.1 }
-single_is (e ∷ f ∷ list) id wrong = absurd (cc)
+single_is mapped id wrong = grind arith
 
 -- a list that is taken to a single line is one
 alone : (map list : List Extent) (m : Extent) → list_down map list ≡ Some (m ∷ []) → (e : Extent) × (list ≡ e ∷ []) × (extent_down map e ≡ Some m)
@@ -401,26 +374,7 @@ done_passed file spaces at c target list is =
 
 passed_done : (file : MapFile) (spaces : Spaces) (at : ℕ) (c : Credential) (target : ℕ) (list : List Extent) → Passed file spaces at c target list
     → (write_map file spaces at c target list).res ≡ Done
-passed_done file spaces at c target list passed =
-    ap (λ (a : Bool).
-    (let x : Written
-    = if not a then write_refused EPERM spaces else if not (is_map list) then write_refused EINVAL spaces
-    else write_stored file spaces at c target list
-    (list_down (parent_map file spaces (space_of spaces target)) list) in
-    x).res) passed.may
-    ∙ ap (λ (b : Bool).
-    (let x : Written
-    = if not b then write_refused EINVAL spaces
-    else write_stored file spaces at c target list (list_down (parent_map file spaces (space_of spaces target)) list) in
-    x).res) passed.valid
-    ∙ ap (λ (o : Option (List Extent)). (write_stored file spaces at c target list o).res) passed.mapped_is
-    ∙ ap (λ (b : Bool).
-    (let x : Written
-    = if b then write_done spaces target (with_map file (space_of spaces target) passed.mapped)
-    else write_refused EPERM spaces in
-    x).res)
-    (and_from (setfcap_allows file spaces at c (space_of spaces target) list)
-    (may_map file spaces at c (space_of spaces target) passed.mapped) passed.setfcap passed.maps)
+passed_done file spaces at c target list passed = grind arith
 
 passed_may : (file : MapFile) (spaces : Spaces) (at : ℕ) (c : Credential) (target : ℕ) (list : List Extent) → IsTree spaces → at < length spaces
     → Passed file spaces at c target list → MayWriteMap file spaces at c target list
