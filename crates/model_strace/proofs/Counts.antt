@@ -60,9 +60,7 @@ within_then count later most more (Halts es stop) next is rest = let fits : leng
 -- ---- one line
 given_once : (number : ℕ) (t : Turn) → Within none 1 (given_at number t)
 given_once number (Quiet p) = omega arith
-given_once number (Gives p e born) = omega arith
-given_once number (Refused why) = omega arith
-given_once number (Exceeds l) = omega arith
+given_once number _ = omega arith
 
 read_once : (w : World) (l : Line) (p : Parts) → Within none 1 (read_line w l p)
 read_once w l p = given_once l.number (turn w l.pid l.body p)
@@ -150,9 +148,7 @@ all_within w (line ∷ lines) t =
 end_turn_once : (number : ℕ) (t : Turn) (more : ℕ) (later : Parts → Reading) → ((p : Parts) → length (later p).events ≤ more)
     → length (at_end_turn number t later).events ≤ suc more
 end_turn_once number (Quiet p) more later rest = let fits : length (later p).events ≤ more = rest p in omega (arith, fits)
-end_turn_once number (Gives p e born) more later rest = omega arith
-end_turn_once number (Refused why) more later rest = omega arith
-end_turn_once number (Exceeds l) more later rest = omega arith
+end_turn_once number _ more later rest = omega arith
 
 end_within : (w : World) (lines : List Line) (p : Parts) → length (at_end w lines p).events ≤ length lines
 end_within w [] p = omega arith

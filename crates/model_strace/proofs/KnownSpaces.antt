@@ -13,10 +13,12 @@ use Rattle.model_cred.specs.Call as model
 use Rattle.model_cred.specs.Call.{Call, Event}
 use Rattle.model_cred.specs.Made.{makes_space, spaces_made}
 use Rattle.model_cred.specs.World.{World}
+use Rattle.model_strace.proofs.Ways.{Way, IsKnown, Rests, Drops, Follows, Begins, Makes, Births, Fails, Enters, Writes, Unwritten, Exits}
+use Rattle.model_strace.proofs.Ways.{Resumes, turn_way}
 use Rattle.model_strace.specs.After.{After, Goes, Halts, preceded, and_then}
 use Rattle.model_strace.specs.Body.{Body, Silent, Ends, Superseded, Begun, Resumed, Whole, PidLine, Blank, NoPid, Of, body_of, row_of}
 use Rattle.model_strace.specs.Calls as calls
-use Rattle.model_strace.specs.Calls.{Told, Nothing, Faulty, Does, Bears, Joins, Opens, Closes, Copies, CopiesTo, Writes}
+use Rattle.model_strace.specs.Calls.{Told, Nothing, Faulty, Does, Bears, Joins, Opens, Closes, Copies, CopiesTo}
 use Rattle.model_strace.specs.Calls.{Opening, call_told}
 use Rattle.model_strace.specs.Counts.{SpacesByEvents, spaces_known}
 use Rattle.model_strace.specs.Files.{Followed, Named, file_at, is_followed, is_space, relative_file}
@@ -45,14 +47,6 @@ TurnMakes n (Gives p e born) = p.spaces ≤ n + spaces_made (e ∷ [])
 TurnMakes n _ = Unit {0}
 
 module _ (n pid : ℕ) where
-  if_makes : (b : Bool) (x y : Turn) → TurnMakes n x → TurnMakes n y → TurnMakes n (if b then x else y)
-  if_makes true x y first second = first
-  if_makes false x y first second = second
-
-  limit_makes : (p : Parts) (t : Turn) → TurnMakes n t → TurnMakes n (within_limit p t)
-  limit_makes p t makes =
-      if_makes (nat_lt (limit_number limit.Descriptors) (length p.descriptors)) (Exceeds limit.Descriptors) t tt makes
-
   -- an event after which as many are known
   gives_makes : (p : Parts) (call : Call) (r : Res) (born : List ℕ) → p.spaces ≤ n
       → TurnMakes n (Gives p (record { pid = pid; call = call; res = r }) born)
@@ -69,140 +63,20 @@ module _ (n pid : ℕ) where
   child_makes child true shares p low = omega (arith, low)
   child_makes child false shares p low = omega (arith, low)
 
-  bears_makes : (user shares : Bool) (r : Res) (p : Parts) → p.spaces ≤ n → TurnMakes n (bears pid user shares r p)
-  bears_makes user shares (res.Child child) p low =
-      let after : Parts = with_child pid child user shares p in
-      let e : Event = record { pid = pid; call = birth_call user; res = res.Child child } in
-      if_makes (shares && has_descriptor pid p) (Refused fault.Descriptor) (gives_birth pid child user after) tt
-      (limit_makes after (Gives after e (child ∷ [])) (child_makes child user shares p low))
-  bears_makes user shares res.Done p low = gives_makes p (birth_call user) res.Done [] low
-  bears_makes user shares (res.Id k) p low = gives_makes p (birth_call user) (res.Id k) [] low
-  bears_makes user shares (res.Err e) p low = gives_makes p (birth_call user) (res.Err e) [] low
-
-  joins_space_makes : (space : ℕ) (r : Option Res) (p : Parts) → p.spaces ≤ n → TurnMakes n (joins_space pid space r p)
-  joins_space_makes space None p low = tt
-  joins_space_makes space (Some r) p low = done_makes (model.SetNs space) r p low
-
-  joins_makes : (d : Option Descriptor) (flags : List ℕ) (outcome : Outcome) (p : Parts) → p.spaces ≤ n
-      → TurnMakes n (joins pid d flags outcome p)
-  joins_makes None flags outcome p low = unknown (success outcome)
-    where
-      unknown : (k : Option ℕ) → TurnMakes n (joins_unknown flags k p)
-      unknown None = low
-      unknown (Some k) =
-          if_makes (bytes_eq flags (codes "0") || has_flag (codes "CLONE_NEWUSER") flags) (Refused fault.Descriptor)
-          (Quiet p) tt low
-  joins_makes (Some d) flags outcome p low =
-      if_makes (bytes_eq flags (codes "0") || bytes_eq flags (codes "CLONE_NEWUSER"))
-      (joins_space pid d.space (plain_result outcome) p) (Quiet p)
-      (joins_space_makes d.space (plain_result outcome) p low) low
-
-  opens_of_makes : (number : ℕ) (until_exec : Bool) (file : Followed) (task : Option Task) (p : Parts) → p.spaces ≤ n
-      → TurnMakes n (opens_of pid number until_exec file task p)
-  opens_of_makes number until_exec file None p low = tt
-  opens_of_makes number until_exec file (Some task) p low =
-      let d : Descriptor =
-      record { pid = pid; number = number; file = file; space = task.space; until_exec = until_exec } in
-      if_makes (shares_files pid p) (Refused fault.Descriptor) (follows d p) tt
-      (limit_makes (with_descriptor d p) (Quiet (with_descriptor d p)) low)
-
-  opens_other_makes : (number : ℕ) (writing : Bool) (file : Option Followed) (p : Parts) → p.spaces ≤ n
-      → TurnMakes n (opens_other pid number writing file p)
-  opens_other_makes number writing None p low = low
-  opens_other_makes number writing (Some file) p low =
-      if_makes (is_followed writing file) (Refused fault.Descriptor) (Quiet (without_descriptor pid number p)) tt low
-
-  opens_path_makes : (number : ℕ) (opened : Opening) (path : List ℕ) (name : Option Named) (p : Parts) → p.spaces ≤ n
-      → TurnMakes n (opens_path pid number opened path name p)
-  opens_path_makes number opened path None p low = opens_other_makes number opened.writes (relative_file path) p low
-  opens_path_makes number opened path (Some name) p low =
-      if_makes (is_followed opened.writes name.file)
-      (opens_of pid number opened.until_exec name.file (task_of name.process p) p)
-      (Quiet (without_descriptor pid number p))
-      (opens_of_makes number opened.until_exec name.file (task_of name.process p) p low) low
-
-  opens_makes : (number : ℕ) (opened : Opening) (path : Option (List ℕ)) (p : Parts) → p.spaces ≤ n
-      → TurnMakes n (opens pid number opened path p)
-  opens_makes number opened None p low = low
-  opens_makes number opened (Some path) p low = opens_path_makes number opened path (file_at pid path) p low
-
-  copies_makes : (d : Option Descriptor) (p : Parts) → p.spaces ≤ n → TurnMakes n (copies d p)
-  copies_makes None p low = low
-  copies_makes (Some d) p low = tt
-
-  copies_to_makes : (d : Option Descriptor) (number : ℕ) (p : Parts) → p.spaces ≤ n → TurnMakes n (copies_to pid d number p)
-  copies_to_makes None number p low = low
-  copies_to_makes (Some d) number p low = tt
-
-  wrote_call_makes : (call : Option Call) (p : Parts) → p.spaces ≤ n → TurnMakes n (wrote_call pid call p)
-  wrote_call_makes None p low = tt
-  wrote_call_makes (Some call) p low = done_makes call res.Done p low
-
-  failed_call_makes : (call : Option Call) (r : Res) (p : Parts) → p.spaces ≤ n → TurnMakes n (failed_call pid call r p)
-  failed_call_makes None r p low = low
-  failed_call_makes (Some call) r p low = gives_makes p call r [] low
-
-  wrote_makes : (d : Descriptor) (k : ℕ) (text : Quote) (p : Parts) → p.spaces ≤ n → TurnMakes n (wrote pid d k text p)
-  wrote_makes d k (Bytes text) p low =
-      if_makes (k == length text) (wrote_call pid (written_call d.file d.space text) p) (Refused fault.Outcome)
-      (wrote_call_makes (written_call d.file d.space text) p low) tt
-  wrote_makes d k _ p low = tt
-
-  failed_write_makes : (d : Descriptor) (r : Res) (text : Quote) (p : Parts) → p.spaces ≤ n
-      → TurnMakes n (failed_write pid d r text p)
-  failed_write_makes d r (Bytes text) p low = failed_call_makes (written_call d.file d.space text) r p low
-  failed_write_makes d r _ p low = low
-
-  writes_text_makes : (d : Descriptor) (text : Quote) (outcome : Outcome) (p : Parts) → p.spaces ≤ n
-      → TurnMakes n (writes_text pid d text outcome p)
-  writes_text_makes d text (Number k) p low = wrote_makes d k text p low
-  writes_text_makes d text (Error e) p low = failed_write_makes d (res.Err e) text p low
-  writes_text_makes d text _ p low = tt
-
-  writes_argument_makes : (d : Descriptor) (text : Option (List ℕ)) (outcome : Outcome) (p : Parts) → p.spaces ≤ n
-      → TurnMakes n (writes_argument pid d text outcome p)
-  writes_argument_makes d (Some text) outcome p low = writes_text_makes d (quote_of text) outcome p low
-  writes_argument_makes d None Other p low = tt
-  writes_argument_makes d None _ p low = tt
-
-  writes_makes : (d : Option Descriptor) (text : Option (List ℕ)) (outcome : Outcome) (p : Parts) → p.spaces ≤ n
-      → TurnMakes n (writes pid d text outcome p)
-  writes_makes None text outcome p low = low
-  writes_makes (Some d) text outcome p low =
-      if_makes (is_space d.file) (Quiet p) (writes_argument pid d text outcome p) low (writes_argument_makes d text outcome p low)
-
-  told_makes : (told : Told) (p : Parts) → p.spaces ≤ n → TurnMakes n (told_turn pid told p)
-  told_makes Nothing p low = low
-  told_makes (Faulty why) p low = tt
-  told_makes (calls.Exceeds l) p low = tt
-  told_makes (Does call r) p low = done_makes call r p low
-  told_makes (Bears user shares r) p low = bears_makes user shares r p low
-  told_makes (Joins number flags outcome) p low = joins_makes (for_space (followed pid number p)) flags outcome p low
-  told_makes (Opens opened number) p low = opens_makes number opened opened.path p low
-  told_makes (Closes number) p low = low
-  told_makes (Copies number) p low = copies_makes (descriptor_of pid number p) p low
-  told_makes (CopiesTo from number) p low = copies_to_makes (followed pid from p) number p low
-  told_makes (Writes number text outcome) p low = writes_makes (descriptor_of pid number p) text outcome p low
-
-  begins_makes : (text : List ℕ) (kept : Option (List ℕ)) (p : Parts) → p.spaces ≤ n → TurnMakes n (begins pid text kept p)
-  begins_makes text None p low = low
-  begins_makes text (Some kept) p low = tt
-
-  resumes_makes : (w : World) (name rest : List ℕ) (kept : Option (List ℕ)) (p : Parts) → p.spaces ≤ n
-      → TurnMakes n (resumes w pid name rest kept p)
-  resumes_makes w name rest None p low = tt
-  resumes_makes w name rest (Some kept) p low =
-      if_makes (bytes_eq (call_name kept) (without_32 name))
-      (told_turn pid (call_told w pid (kept ++ rest)) (without_kept pid p)) (Refused fault.Unfinished)
-      (told_makes (call_told w pid (kept ++ rest)) (without_kept pid p) low) tt
-
-  body_makes : (w : World) (body : Body) (p : Parts) → p.spaces ≤ n → TurnMakes n (body_turn w pid body p)
-  body_makes w Silent p low = low
-  body_makes w Ends p low = gives_makes (after_end pid p) model.Exit res.Done [] low
-  body_makes w Superseded p low = tt
-  body_makes w (Begun text) p low = begins_makes text (kept_of pid p) p low
-  body_makes w (Resumed name rest) p low = resumes_makes w name rest (kept_of pid p) p low
-  body_makes w (Whole text) p low = told_makes (call_told w pid text) p low
+  way_makes : (p : Parts) (t : Turn) → Way (λ told. Unit {0}) pid p t → p.spaces ≤ n → TurnMakes n t
+  way_makes p t Rests low = low
+  way_makes p t (Drops number) low = low
+  way_makes p t (Follows number until_exec file of task is) low = low
+  way_makes p t (Begins text) low = low
+  way_makes p t (Makes call r is) low = done_makes call r p low
+  way_makes p t (Births user shares child is) low = child_makes child user shares p low
+  way_makes p t (Fails user shares r is) low = gives_makes p (birth_call user) r [] low
+  way_makes p t (Enters d known r may) low = done_makes (model.SetNs d.space) r p low
+  way_makes p t (Writes d known text call is) low = done_makes call res.Done p low
+  way_makes p t (Unwritten d known text call is e) low = gives_makes p call (res.Err e) [] low
+  way_makes p t Exits low = gives_makes (after_end pid p) model.Exit res.Done [] low
+  way_makes p t (Resumes _ way) low = way_makes (without_kept pid p) t way low
+  way_makes p t _ low = tt
 
 -- ---- one thing after another
 -- how many of these events make one
@@ -241,7 +115,9 @@ given_makes n number (Exceeds l) low = tt
 
 module _ (w : World) where
   read_makes : (n : ℕ) (l : Line) (p : Parts) → p.spaces ≤ n → AfterMakes (λ r. r.parts) n (read_line w l p)
-  read_makes n l p low = given_makes n l.number (turn w l.pid l.body p) (body_makes n l.pid w (body_of l.body) p low)
+  read_makes n l p low =
+      given_makes n l.number (turn w l.pid l.body p)
+      (way_makes n l.pid p (turn w l.pid l.body p) (turn_way (λ told. Unit {0}) l.pid w (λ text. tt) l.body p) low)
 
   rest_makes : (n : ℕ) (x : Option Next) (t : Work) (rest : List ℕ → Work → After Work) → t.parts.spaces ≤ n
       → ((k : ℕ) (pids : List ℕ) (t' : Work) → t'.parts.spaces ≤ k → AfterMakes (λ t. t.parts) k (rest pids t'))

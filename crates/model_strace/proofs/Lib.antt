@@ -12,9 +12,10 @@ pub mod HeldLines
 pub mod RestLaws
 pub mod LineNumbers
 pub mod Counts
-pub mod KnownSpaces
 pub mod ToldValues
 pub mod ToldCalls
+pub mod Ways
+pub mod KnownSpaces
 pub mod ToldEvents
 pub mod NamedSpaces
 pub mod Few

@@ -20,11 +20,13 @@ use Rattle.model_cred.specs.Call.{Call, Event}
 use Rattle.model_cred.specs.IdMap.{Extent}
 use Rattle.model_cred.specs.World.{World}
 use Rattle.model_strace.proofs.ToldCalls.{ToldFits, call_told_fits, names_space}
+use Rattle.model_strace.proofs.Ways.{Way, IsKnown, Rests, Drops, Follows, Begins, Makes, Births, Fails, Enters, Writes, Unwritten, Exits}
+use Rattle.model_strace.proofs.Ways.{Resumes, turn_way}
 use Rattle.model_strace.specs.After.{After, Goes, Halts, preceded, and_then}
 use Rattle.model_strace.specs.Body.{Body, Silent, Ends, Superseded, Begun, Resumed, Whole, PidLine, Blank, NoPid}
 use Rattle.model_strace.specs.Body.{Of, body_of, row_of}
 use Rattle.model_strace.specs.Calls as calls
-use Rattle.model_strace.specs.Calls.{Told, Nothing, Faulty, Does, Bears, Joins, Opens, Closes, Copies, CopiesTo, Writes}
+use Rattle.model_strace.specs.Calls.{Told, Nothing, Faulty, Does, Bears, Joins, Opens, Closes, Copies, CopiesTo}
 use Rattle.model_strace.specs.Calls.{Opening, call_told}
 use Rattle.model_strace.specs.Files.{Followed, UidMap, GidMap, SetgroupsWord, UserSpace, Named, file_at, is_followed}
 use Rattle.model_strace.specs.Files.{is_space, relative_file}
@@ -253,14 +255,6 @@ TurnWithin most (Gives p e born) = KnowsWithin (most + 1) p × EventWithin most 
 TurnWithin most _ = Unit {0}
 
 module _ (most pid : ℕ) where
-  if_within : (b : Bool) (x y : Turn) → TurnWithin most x → TurnWithin most y → TurnWithin most (if b then x else y)
-  if_within true x y first second = first
-  if_within false x y first second = second
-
-  limit_within : (p : Parts) (t : Turn) → TurnWithin most t → TurnWithin most (within_limit p t)
-  limit_within p t within =
-      if_within (nat_lt (limit_number limit.Descriptors) (length p.descriptors)) (Exceeds limit.Descriptors) t tt within
-
   -- an event after which as much is known
   gives_within : (p : Parts) (call : Call) (r : Res) (born : List ℕ) → KnowsWithin most p
       → SpacesWithin most (arguments_of call)
@@ -284,92 +278,8 @@ module _ (most pid : ℕ) where
   birth_names_none true = tt
   birth_names_none false = tt
 
-  bears_within : (user shares : Bool) (r : Res) (p : Parts) → KnowsWithin most p
-      → TurnWithin most (bears pid user shares r p)
-  bears_within user shares (res.Child child) p knows =
-      let after : Parts = with_child pid child user shares p in
-      let e : Event = record { pid = pid; call = birth_call user; res = res.Child child } in
-      if_within (shares && has_descriptor pid p) (Refused fault.Descriptor) (gives_birth pid child user after) tt
-      (limit_within after (Gives after e (child ∷ []))
-      (child_known most p knows pid child user shares, birth_names_none user))
-  bears_within user shares res.Done p knows = gives_within p (birth_call user) res.Done [] knows (birth_names_none user)
-  bears_within user shares (res.Id n) p knows =
-      gives_within p (birth_call user) (res.Id n) [] knows (birth_names_none user)
-  bears_within user shares (res.Err e) p knows =
-      gives_within p (birth_call user) (res.Err e) [] knows (birth_names_none user)
-
-  joins_space_within : (space : ℕ) (r : Option Res) (p : Parts) → KnowsWithin most p → space ≤ most
-      → TurnWithin most (joins_space pid space r p)
-  joins_space_within space None p knows low = tt
-  joins_space_within space (Some r) p knows low = done_within (model.SetNs space) r p knows (low, tt)
-
-  joins_within : (d : Option Descriptor) (flags : List ℕ) (outcome : Outcome) (p : Parts) → KnowsWithin most p
-      → IfSome d (λ d. d.space ≤ most) → TurnWithin most (joins pid d flags outcome p)
-  joins_within None flags outcome p knows low = unknown (success outcome)
-    where
-      unknown : (n : Option ℕ) → TurnWithin most (joins_unknown flags n p)
-      unknown None = knows
-      unknown (Some n) =
-          if_within (bytes_eq flags (codes "0") || has_flag (codes "CLONE_NEWUSER") flags) (Refused fault.Descriptor)
-          (Quiet p) tt knows
-  joins_within (Some d) flags outcome p knows low =
-      if_within (bytes_eq flags (codes "0") || bytes_eq flags (codes "CLONE_NEWUSER"))
-      (joins_space pid d.space (plain_result outcome) p) (Quiet p)
-      (joins_space_within d.space (plain_result outcome) p knows low) knows
-
-  followed_low : (number : Option ℕ) (p : Parts) → KnowsWithin most p
-      → IfSome (followed pid number p) (λ d. d.space ≤ most)
-  followed_low None p knows = tt
-  followed_low (Some number) p knows = descriptor_low most p knows pid number
-
-  for_space_low : (d : Option Descriptor) → IfSome d (λ d. d.space ≤ most) → IfSome (for_space d) (λ d. d.space ≤ most)
-  for_space_low None low = tt
-  for_space_low (Some d) low =
-      cond_both (is_space d.file) (Some d) None (λ o. IfSome o (λ d. d.space ≤ most)) (λ _. low) (λ _. tt)
-
-  opens_of_within : (number : ℕ) (until_exec : Bool) (file : Followed) (task : Option Task) (p : Parts)
-      → KnowsWithin most p
-      → IfSome task (λ task. task.space ≤ most) → TurnWithin most (opens_of pid number until_exec file task p)
-  opens_of_within number until_exec file None p knows low = tt
-  opens_of_within number until_exec file (Some task) p knows low =
-      let d : Descriptor =
-      record { pid = pid; number = number; file = file; space = task.space; until_exec = until_exec } in
-      if_within (shares_files pid p) (Refused fault.Descriptor) (follows d p) tt
-      (limit_within (with_descriptor d p) (Quiet (with_descriptor d p)) (with_known most p knows d low))
-
-  opens_other_within : (number : ℕ) (writing : Bool) (file : Option Followed) (p : Parts) → KnowsWithin most p
-      → TurnWithin most (opens_other pid number writing file p)
-  opens_other_within number writing None p knows = without_known most p knows pid number
-  opens_other_within number writing (Some file) p knows =
-      if_within (is_followed writing file) (Refused fault.Descriptor) (Quiet (without_descriptor pid number p)) tt
-      (without_known most p knows pid number)
-
-  opens_path_within : (number : ℕ) (opened : Opening) (path : List ℕ) (name : Option Named) (p : Parts)
-      → KnowsWithin most p
-      → TurnWithin most (opens_path pid number opened path name p)
-  opens_path_within number opened path None p knows =
-      opens_other_within number opened.writes (relative_file path) p knows
-  opens_path_within number opened path (Some name) p knows =
-      if_within (is_followed opened.writes name.file)
-      (opens_of pid number opened.until_exec name.file (task_of name.process p) p)
-      (Quiet (without_descriptor pid number p))
-      (opens_of_within number opened.until_exec name.file (task_of name.process p) p knows
-      (task_low most p knows name.process))
-      (without_known most p knows pid number)
-
-  opens_within : (number : ℕ) (opened : Opening) (path : Option (List ℕ)) (p : Parts) → KnowsWithin most p
-      → TurnWithin most (opens pid number opened path p)
-  opens_within number opened None p knows = without_known most p knows pid number
-  opens_within number opened (Some path) p knows = opens_path_within number opened path (file_at pid path) p knows
-
-  copies_within : (d : Option Descriptor) (p : Parts) → KnowsWithin most p → TurnWithin most (copies d p)
-  copies_within None p knows = knows
-  copies_within (Some d) p knows = tt
-
-  copies_to_within : (d : Option Descriptor) (number : ℕ) (p : Parts) → KnowsWithin most p
-      → TurnWithin most (copies_to pid d number p)
-  copies_to_within None number p knows = without_known most p knows pid number
-  copies_to_within (Some d) number p knows = tt
+  known_low : (d : Descriptor) (p : Parts) → KnowsWithin most p → IsKnown pid p d → d.space ≤ most
+  known_low d p knows known = rw known.1 at (descriptor_low most p knows pid known.0)
 
   written_within : (file : Followed) (space : ℕ) (text : List ℕ) → space ≤ most
       → IfSome (written_call file space text) (λ call. SpacesWithin most (arguments_of call))
@@ -387,92 +297,29 @@ module _ (most pid : ℕ) where
       (if_there (λ deny. Unit {0}) (written_word text) (λ deny _. tt)) (λ deny _. (low, tt))
   written_within UserSpace space text low = tt
 
-  wrote_call_within : (call : Option Call) (p : Parts) → KnowsWithin most p
-      → IfSome call (λ call. SpacesWithin most (arguments_of call))
-      → TurnWithin most (wrote_call pid call p)
-  wrote_call_within None p knows within = tt
-  wrote_call_within (Some call) p knows within = done_within call res.Done p knows within
+  call_within : (d : Descriptor) (p : Parts) (text : List ℕ) (call : Call) → KnowsWithin most p → IsKnown pid p d
+      → written_call d.file d.space text ≡ Some call → SpacesWithin most (arguments_of call)
+  call_within d p text call knows known is = rw is at (written_within d.file d.space text (known_low d p knows known))
 
-  failed_call_within : (call : Option Call) (r : Res) (p : Parts) → KnowsWithin most p
-      → IfSome call (λ call. SpacesWithin most (arguments_of call))
-      → TurnWithin most (failed_call pid call r p)
-  failed_call_within None r p knows within = knows
-  failed_call_within (Some call) r p knows within = gives_within p call r [] knows within
-
-  wrote_within : (d : Descriptor) (n : ℕ) (text : Quote) (p : Parts) → KnowsWithin most p → d.space ≤ most
-      → TurnWithin most (wrote pid d n text p)
-  wrote_within d n (Bytes text) p knows low =
-      if_within (n == length text) (wrote_call pid (written_call d.file d.space text) p) (Refused fault.Outcome)
-      (wrote_call_within (written_call d.file d.space text) p knows (written_within d.file d.space text low)) tt
-  wrote_within d n _ p knows low = tt
-
-  failed_write_within : (d : Descriptor) (r : Res) (text : Quote) (p : Parts) → KnowsWithin most p → d.space ≤ most
-      → TurnWithin most (failed_write pid d r text p)
-  failed_write_within d r (Bytes text) p knows low =
-      failed_call_within (written_call d.file d.space text) r p knows (written_within d.file d.space text low)
-  failed_write_within d r _ p knows low = knows
-
-  writes_text_within : (d : Descriptor) (text : Quote) (outcome : Outcome) (p : Parts) → KnowsWithin most p
-      → d.space ≤ most
-      → TurnWithin most (writes_text pid d text outcome p)
-  writes_text_within d text (Number n) p knows low = wrote_within d n text p knows low
-  writes_text_within d text (Error e) p knows low = failed_write_within d (res.Err e) text p knows low
-  writes_text_within d text _ p knows low = tt
-
-  writes_argument_within : (d : Descriptor) (text : Option (List ℕ)) (outcome : Outcome) (p : Parts)
-      → KnowsWithin most p → d.space ≤ most
-      → TurnWithin most (writes_argument pid d text outcome p)
-  writes_argument_within d (Some text) outcome p knows low = writes_text_within d (quote_of text) outcome p knows low
-  writes_argument_within d None Other p knows low = tt
-  writes_argument_within d None _ p knows low = tt
-
-  writes_within : (d : Option Descriptor) (text : Option (List ℕ)) (outcome : Outcome) (p : Parts) → KnowsWithin most p
-      → IfSome d (λ d. d.space ≤ most) → TurnWithin most (writes pid d text outcome p)
-  writes_within None text outcome p knows low = knows
-  writes_within (Some d) text outcome p knows low =
-      if_within (is_space d.file) (Quiet p) (writes_argument pid d text outcome p) knows
-      (writes_argument_within d text outcome p knows low)
-
-  told_within : (w : World) (told : Told) (p : Parts) → ToldFits w told → KnowsWithin most p
-      → TurnWithin most (told_turn pid told p)
-  told_within w Nothing p fits knows = knows
-  told_within w (Faulty why) p fits knows = tt
-  told_within w (calls.Exceeds l) p fits knows = tt
-  told_within w (Does call r) p fits knows = done_within call r p knows (none_named most call fits.1)
-  told_within w (Bears user shares r) p fits knows = bears_within user shares r p knows
-  told_within w (Joins number flags outcome) p fits knows =
-      joins_within (for_space (followed pid number p)) flags outcome p knows
-      (for_space_low (followed pid number p) (followed_low number p knows))
-  told_within w (Opens opened number) p fits knows = opens_within number opened opened.path p knows
-  told_within w (Closes number) p fits knows = without_known most p knows pid number
-  told_within w (Copies number) p fits knows = copies_within (descriptor_of pid number p) p knows
-  told_within w (CopiesTo from number) p fits knows = copies_to_within (followed pid from p) number p knows
-  told_within w (Writes number text outcome) p fits knows =
-      writes_within (descriptor_of pid number p) text outcome p knows (descriptor_low most p knows pid number)
-
-  begins_within : (text : List ℕ) (kept : Option (List ℕ)) (p : Parts) → KnowsWithin most p
-      → TurnWithin most (begins pid text kept p)
-  begins_within text None p knows = same_known most p knows (keeping pid text p) refl refl refl
-  begins_within text (Some kept) p knows = tt
-
-  resumes_within : (w : World) (name rest : List ℕ) (kept : Option (List ℕ)) (p : Parts) → AreFew w → KnowsWithin most p
-      → TurnWithin most (resumes w pid name rest kept p)
-  resumes_within w name rest None p few knows = tt
-  resumes_within w name rest (Some kept) p few knows =
-      let q : Parts = without_kept pid p in
-      if_within (bytes_eq (call_name kept) (without_32 name)) (told_turn pid (call_told w pid (kept ++ rest)) q)
-      (Refused fault.Unfinished)
-      (told_within w (call_told w pid (kept ++ rest)) q (call_told_fits w pid (kept ++ rest) few)
-      (same_known most p knows q refl refl refl)) tt
-
-  body_within : (w : World) (body : Body) (p : Parts) → AreFew w → KnowsWithin most p
-      → TurnWithin most (body_turn w pid body p)
-  body_within w Silent p few knows = knows
-  body_within w Ends p few knows = gives_within (after_end pid p) model.Exit res.Done [] (end_known most p knows pid) tt
-  body_within w Superseded p few knows = tt
-  body_within w (Begun text) p few knows = begins_within text (kept_of pid p) p knows
-  body_within w (Resumed name rest) p few knows = resumes_within w name rest (kept_of pid p) p few knows
-  body_within w (Whole text) p few knows = told_within w (call_told w pid text) p (call_told_fits w pid text few) knows
+  way_within : (w : World) (p : Parts) (t : Turn) → Way (ToldFits w) pid p t → KnowsWithin most p → TurnWithin most t
+  way_within w p t Rests knows = knows
+  way_within w p t (Drops number) knows = without_known most p knows pid number
+  way_within w p t (Follows number until_exec file of task is) knows =
+      with_known most p knows (record { pid = pid; number = number; file = file; space = task.space; until_exec = until_exec })
+      (rw is at (task_low most p knows of))
+  way_within w p t (Begins text) knows = same_known most p knows (keeping pid text p) refl refl refl
+  way_within w p t (Makes call r fits) knows = done_within call r p knows (none_named most call fits.1)
+  way_within w p t (Births user shares child is) knows = (child_known most p knows pid child user shares, birth_names_none user)
+  way_within w p t (Fails user shares r is) knows = gives_within p (birth_call user) r [] knows (birth_names_none user)
+  way_within w p t (Enters d known r may) knows = done_within (model.SetNs d.space) r p knows (known_low d p knows known, tt)
+  way_within w p t (Writes d known text call is) knows =
+      done_within call res.Done p knows (call_within d p text call knows known is)
+  way_within w p t (Unwritten d known text call is e) knows =
+      gives_within p call (res.Err e) [] knows (call_within d p text call knows known is)
+  way_within w p t Exits knows = gives_within (after_end pid p) model.Exit res.Done [] (end_known most p knows pid) tt
+  way_within w p t (Resumes _ way) knows =
+      way_within w (without_kept pid p) t way (same_known most p knows (without_kept pid p) refl refl refl)
+  way_within w p t _ knows = tt
 
 -- ---- one thing after another
 -- Where so much was known, the events name spaces within that and one for each; and so is what is known after them.
@@ -530,7 +377,9 @@ given_within most number (Exceeds l) within = All-nil (PlacedWithin (most + 0))
 
 module _ (w : World) (few : AreFew w) where
   turn_within : (most pid : ℕ) (text : List ℕ) (p : Parts) → KnowsWithin most p → TurnWithin most (turn w pid text p)
-  turn_within most pid text p knows = body_within most pid w (body_of text) p few knows
+  turn_within most pid text p knows =
+      way_within most pid w p (turn w pid text p)
+      (turn_way (ToldFits w) pid w (λ told. call_told_fits w pid told few) text p) knows
 
   read_within : (most : ℕ) (l : Line) (p : Parts) → KnowsWithin most p
       → AfterWithin (λ r. r.parts) most (read_line w l p)

@@ -46,10 +46,8 @@ if_after true x y first second = first
 if_after false x y first second = second
 
 given_stops : (number : ℕ) (t : Turn) → TurnStops t → AfterStops (given_at number t)
-given_stops number (Quiet p) stops = tt
-given_stops number (Gives p e born) stops = tt
-given_stops number (Refused why) stops = tt
 given_stops number (Exceeds l) stops = stops
+given_stops number _ stops = tt
 
 -- ---- ends
 -- an end is that of the log, or such a stop
