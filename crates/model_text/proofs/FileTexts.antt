@@ -1,16 +1,16 @@
 -- Files as they are written: a token, no `=`, which is read as the file, where the paths of the table keep their rules.
 use Rattle.std.proofs.Common.{◌≡◌, ℕ, zero, suc, ◌<◌, ◌≤◌, Bool, true, false, not, ◌&&◌, List, [], ◌∷◌, length, map, refl, ap, ◌∙◌, arith, All}
-use Rattle.std.proofs.Common.{Option, Some, None, lit<, nat_le, eqb, IsTrue}
+use Rattle.std.proofs.Common.{Option, Some, None, inl, inr, lit<, nat_le, eqb, IsTrue}
 use Rattle.std.proofs.lemmas.Bool.{and_parts, and_from, not-true, leb-true}
 use Rattle.std.proofs.lemmas.List.Elements.{All-head, All-tail}
-use Rattle.std.proofs.lemmas.Option.{slice_get-map}
+use Rattle.std.proofs.lemmas.Option.{slice_get-map, slice_get_cases}
 use Rattle.std.specs.Prelude.{codes, bytes_eq, slice_get, option_map, unwrap_or}
 use Rattle.std.specs.List.{list_all}
 use Rattle.cm_base.proofs.Texts.{text_other}
 use Rattle.cm_base.specs.declared.res.FileRef.{FileRef}
 use Rattle.cm_base.specs.declared.res.FileRef.TheVariants.{Row, Plain}
 use Rattle.model_cred.specs.Files.{FileRow, FileTable, IsDeclared, row_named}
-use Rattle.model_text.proofs.Found.{text_same, all_at, all_weaker, position_at, distinct_at}
+use Rattle.model_text.proofs.Found.{text_same, all_at, all_weaker, position_at, distinct_at, all_passes}
 use Rattle.model_text.proofs.Tokens.{IsToken, is_plain, plain_above}
 use Rattle.model_text.specs.NameText.{is_path_byte, is_path}
 use Rattle.model_text.specs.Written.{ArePaths}
@@ -51,16 +51,8 @@ path_is path is =
       equals = not-true (is_equals path) five.1;
     }
 
--- each of the paths is one
-each_path : (paths : List (List ℕ)) → All (λ path. IsTrue (is_path path)) paths → list_all is_path paths ≡ true
-each_path [] all = refl
-each_path (path ∷ paths) all =
-    and_from (is_path path) (list_all is_path paths)
-    (All-head (λ path. IsTrue (is_path path)) path paths all)
-    (each_path paths (All-tail (λ path. IsTrue (is_path path)) path paths all))
-
 -- the paths of rows
-abbrev paths_of : List FileRow → List (List ℕ)
+abbrev pub paths_of : List FileRow → List (List ℕ)
 paths_of rows = map (λ row. row.path) rows
 
 -- the path of the row at a place
@@ -72,7 +64,7 @@ row_written : (files : FileTable) (i : ℕ) (row : FileRow) → ArePaths (paths_
 row_written files i row are is =
     let path : List ℕ = row.path in
     let there : slice_get (paths_of files.rows) i ≡ Some path = path_at files.rows i row is in
-    let rule : is_path path ≡ true = all_at is_path (paths_of files.rows) i path (each_path (paths_of files.rows) are.each) there in
+    let rule : is_path path ≡ true = all_at is_path (paths_of files.rows) i path (all_passes is_path (paths_of files.rows) are.each) there in
     let kept : IsPath path = path_is path rule in
     let place : row_named files.rows path ≡ Some i =
     position_at (λ (row : FileRow). bytes_eq row.path path) files.rows i row is (text_same path)
@@ -84,12 +76,11 @@ row_written files i row are is =
 row_there : (files : FileTable) (i : ℕ) (row : Option FileRow) → ArePaths (paths_of files.rows) → i < length files.rows → slice_get files.rows i ≡ row
     → FileWritten files (Row i) (unwrap_or (option_map (λ (row : FileRow). row.path) row) (codes "-"))
 row_there files i (Some row) are within is = row_written files i row are is
-row_there files i None are within is = absurd (none_there files.rows i within is)
-  where
-    none_there : (rows : List FileRow) (i : ℕ) → i < length rows → slice_get rows i ≡ None → ⊥
-    none_there [] i within is = omega arith
-    none_there (row ∷ rows) zero within is = cc
-    none_there (row ∷ rows) (suc i) within is = none_there rows i (omega arith) is
+row_there files i None are within is =
+    elim (slice_get_cases files.rows i).1 [
+      | inl inside ↦ absurd (let found = inside.2 in cc)
+      | inr past ↦ absurd (let over = past.0 in omega arith)
+    ]
 
 pub file_written : (files : FileTable) (file : FileRef) → ArePaths (paths_of files.rows) → IsDeclared files file
     → FileWritten files file (file_text files file)

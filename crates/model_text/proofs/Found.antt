@@ -1,8 +1,9 @@
 -- What stands first in a table of texts, and what stands nowhere in it.
 use Rattle.std.proofs.Common.{◌≡◌, ◌≢◌, ℕ, zero, suc, ◌+◌, ◌<◌, Bool, true, false, not, List, [], ◌∷◌, ◌++◌, length, refl, sym, ap, ◌∙◌, arith}
-use Rattle.std.proofs.Common.{Some, None}
-use Rattle.std.proofs.lemmas.Bool.{and_parts, and_from, not-true}
+use Rattle.std.proofs.Common.{Some, None, All, IsTrue}
+use Rattle.std.proofs.lemmas.Bool.{and_parts, and_from, not-true, false_from_ne_true}
 use Rattle.std.proofs.lemmas.Iterator.Adapters.{position_from-zero}
+use Rattle.std.proofs.lemmas.List.Elements.{All-head, All-tail}
 use Rattle.std.proofs.lemmas.Option.{get_or_from_slice_get, slice_get_within, same_Some}
 use Rattle.std.proofs.lemmas.Slice.Eq.{bytes_eq-Decides}
 use Rattle.std.specs.Prelude.{bytes_eq, position, slice_get, AllPairs}
@@ -26,6 +27,12 @@ all_at {A} p (y ∷ ys) zero x all is =
     let same : y ≡ x = same_Some y x is in
     ap p (sym same) ∙ (and_parts (p y) (list_all p ys) all).0
 all_at p (y ∷ ys) (suc i) x all is = all_at p ys i x (and_parts (p y) (list_all p ys) all).1 is
+
+-- what passes each by itself passes together
+pub all_passes : {A : Type 0} (p : A → Bool) (xs : List A) → All (λ x. IsTrue (p x)) xs → list_all p xs ≡ true
+all_passes p [] all = refl
+all_passes p (x ∷ xs) all =
+    and_from (p x) (list_all p xs) (All-head (λ x. IsTrue (p x)) x xs all) (all_passes p xs (All-tail (λ x. IsTrue (p x)) x xs all))
 
 -- what follows of each follows of all
 pub all_weaker : {A : Type 0} (p q : A → Bool) → ((x : A) → p x ≡ true → q x ≡ true) → (xs : List A) → list_all p xs ≡ true → list_all q xs ≡ true

@@ -13,6 +13,7 @@ use Rattle.cm_base.specs.declared.faults.Table.TheVariants as table
 use Rattle.cm_base.specs.declared.limited.Limited.TheVariants as limit
 use Rattle.model_cred.specs.Files.{FileRow, Mount}
 use Rattle.model_cred.specs.World.{World}
+use Rattle.model_text.proofs.FileTexts.{paths_of}
 use Rattle.model_text.proofs.Found.{text_same}
 use Rattle.model_text.proofs.Rows.{any_rows, none_stands, read_ok, rows_keep, unless_ok}
 use Rattle.model_text.proofs.Starts.{Declares, Made, declares}
@@ -63,9 +64,6 @@ names_keep rows d is =
     (any_rows rows) (read_ok table.Space limit.Spaces 1 space_row none_declared rows d is).1
 
 -- ---- paths
-abbrev paths_of : List FileRow → List (List ℕ)
-paths_of rows = map (λ row. row.path) rows
-
 -- a path that no row has is none of the rows' paths
 no_row : (n : ℕ) (rows : List FileRow) (path : List ℕ) → is_some (position_from (λ row. bytes_eq row.path path) n rows) ≡ false
     → is_one_of (paths_of rows) path ≡ false

@@ -244,10 +244,8 @@ pid_fits : (pid : ℕ) → IsTrue (is_pid pid) → pid ≤ greatest_number
 pid_fits pid is = let high : pid ≤ last_pid = leb-true pid last_pid (and_parts (nat_le 1 pid) (nat_le pid last_pid) is).1 in omega arith
 
 old_id_written : (answer : Res) → IsOldId answer → ResultWritten old_id_token answer
-old_id_written res.Done never = absurd never
 old_id_written (res.Id n) fits = record { token = decimal_token n fits; back = ap (option_map res.Id) (number_back n fits) }
-old_id_written (res.Child pid) never = absurd never
-old_id_written (res.Err e) never = absurd never
+old_id_written _ never = absurd never
 
 birth_written : (answer : Res) → IsBirth answer → ResultWritten birth_token answer
 birth_written res.Done never = absurd never

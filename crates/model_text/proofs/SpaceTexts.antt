@@ -10,7 +10,7 @@ use Rattle.std.specs.Result.{result_ok}
 use Rattle.cm_base.proofs.Texts.{text_other}
 use Rattle.cm_base.specs.Limits.{greatest_number}
 use Rattle.model_text.proofs.DecimalTexts.{decimal_short, decimal_token, decimal_read}
-use Rattle.model_text.proofs.Found.{text_same, all_at, all_weaker, found_at, found_nowhere, distinct_at}
+use Rattle.model_text.proofs.Found.{text_same, all_at, all_weaker, found_at, found_nowhere, distinct_at, all_passes}
 use Rattle.model_text.proofs.Tokens.{IsToken, is_plain, plain_above}
 use Rattle.model_text.specs.NameText.{is_name_byte, is_name}
 use Rattle.model_text.specs.Written.{AreNames}
@@ -82,17 +82,9 @@ number_is_place n [] token = refl
 number_is_place n (name ∷ names) token =
     ap (λ (later : Option ℕ). cond (bytes_eq name token) (Some n) later) (number_is_place (n + 1) names token)
 
--- each of the names is one
-each_name : (names : List (List ℕ)) → All (λ name. IsTrue (is_name name)) names → list_all is_name names ≡ true
-each_name [] all = refl
-each_name (name ∷ names) all =
-    and_from (is_name name) (list_all is_name names)
-    (All-head (λ name. IsTrue (is_name name)) name names all)
-    (each_name names (All-tail (λ name. IsTrue (is_name name)) name names all))
-
 declared_written : (names : List (List ℕ)) (i : ℕ) (name : List ℕ) → AreNames names → slice_get names i ≡ Some name → SpaceWritten names (1 + i) name
 declared_written names i name are is =
-    let kept : IsName name = name_is name (all_at is_name names i name (each_name names are.each) is) in
+    let kept : IsName name = name_is name (all_at is_name names i name (all_passes is_name names are.each) is) in
     let place : number_named 1 names name ≡ Some (1 + i) =
     number_is_place 1 names name
     ∙ found_at (λ other. bytes_eq other name) 1 names i name is (text_same name)
@@ -111,7 +103,7 @@ numbered_written names n are fits =
     number_is_place 1 names (35 ∷ decimal n)
     ∙ found_nowhere (λ name. bytes_eq name (35 ∷ decimal n)) 1 names
     (all_weaker is_name (λ name. not (bytes_eq name (35 ∷ decimal n)))
-    (λ name is. ap not (name_begins name (decimal n) 35 (name_is name is).bytes refl)) names (each_name names are.each)) in
+    (λ name is. ap not (name_begins name (decimal n) 35 (name_is name is).bytes refl)) names (all_passes is_name names are.each)) in
     record {
       token = record { some = omega arith; short = omega (arith, size); plain = digits.plain };
       plain = refl;
