@@ -45,11 +45,7 @@ use Rattle.model_verdict.specs.Verdict.{UndecidedExactly, UndecidedIsUnsettled}
 -- a task has the query of its command
 pub query_of_task : (command : Command) (bytes : List ℕ → List ℕ) → query_of command ≡ query_in (task_of command bytes)
 query_of_task (Replay world log) bytes = refl
-query_of_task (Audit world log pid right) bytes = refl
-query_of_task (Check world log pid right text) bytes = refl
-query_of_task (Confirm world log pid right text) bytes = refl
-query_of_task (Drill n) bytes = refl
-query_of_task NoForm bytes = refl
+query_of_task _ bytes = refl
 
 module _ (words : List (List ℕ)) (bytes : List ℕ → List ℕ) where
   abbrev the_task : Task
@@ -99,16 +95,12 @@ module _ (words : List (List ℕ)) (bytes : List ℕ → List ℕ) where
 
   -- ---- the tasks of causes
   no_task : (task : Task) (w : World) (s : State) → the_task ≡ task → IsAnsweredNo task w s → (q : Query) × (the_task ≡ ToJudge q) × IsNo q w s
-  no_task NoTask w s same is = absurd is
   no_task (ToJudge q) w s same is = (q, same, is)
-  no_task (ToCheck q text) w s same is = absurd is
-  no_task (ToConfirm q text) w s same is = absurd is
+  no_task _ w s same is = absurd is
 
   open_task : (task : Task) (w : World) (s : State) → the_task ≡ task → IsLeftOpen task w s → (q : Query) × (the_task ≡ ToJudge q) × IsUndecided q w s
-  open_task NoTask w s same is = absurd is
   open_task (ToJudge q) w s same is = (q, same, is)
-  open_task (ToCheck q text) w s same is = absurd is
-  open_task (ToConfirm q text) w s same is = absurd is
+  open_task _ w s same is = absurd is
 
   done_judge : (q : Query) → the_task ≡ ToJudge q → Cause words bytes status.Accepted → (is : IsAccepted words bytes) × IsDone (ToJudge q) is.world is.state
   done_judge q asked (inl (is, done)) = (is, subst (λ (t : Task). IsDone t is.world is.state) asked done)

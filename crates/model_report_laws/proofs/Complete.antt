@@ -14,35 +14,22 @@ module _ (words : List (List ℕ)) (bytes : List ℕ → List ℕ) where
   -- an accepted command has a form
   accepted_form : (command : Command) → command_of words ≡ command → (¬ Cause words bytes status.Usage) → IsAsAsked command status.Accepted
   accepted_form (Replay world log) is form = refl
-  accepted_form (Audit world log pid right) is form = inl refl
-  accepted_form (Check world log pid right text) is form = inl refl
-  accepted_form (Confirm world log pid right text) is form = inl refl
   accepted_form (Drill n) is form = refl
   accepted_form NoForm is form = absurd (form is)
+  accepted_form _ is form = inl refl
 
   no_form : (command : Command) → (w : World) (s : State) → IsAnsweredNo (task_of command bytes) w s → IsAsAsked command status.No
   no_form (Audit world log pid right) w s is = inr (inl refl)
-  no_form (Replay world log) w s is = absurd is
-  no_form (Check world log pid right text) w s is = absurd is
-  no_form (Confirm world log pid right text) w s is = absurd is
-  no_form (Drill n) w s is = absurd is
-  no_form NoForm w s is = absurd is
+  no_form _ w s is = absurd is
 
   open_form : (command : Command) → (w : World) (s : State) → IsLeftOpen (task_of command bytes) w s → IsAsAsked command status.Undecided
   open_form (Audit world log pid right) w s is = inr (inr refl)
-  open_form (Replay world log) w s is = absurd is
-  open_form (Check world log pid right text) w s is = absurd is
-  open_form (Confirm world log pid right text) w s is = absurd is
-  open_form (Drill n) w s is = absurd is
-  open_form NoForm w s is = absurd is
+  open_form _ w s is = absurd is
 
   refused_form : (command : Command) → (w : World) (s : State) → IsRefused (task_of command bytes) w s → IsAsAsked command status.Refused
   refused_form (Check world log pid right text) w s is = inr refl
   refused_form (Confirm world log pid right text) w s is = inr refl
-  refused_form (Audit world log pid right) w s is = absurd is
-  refused_form (Replay world log) w s is = absurd is
-  refused_form (Drill n) w s is = absurd is
-  refused_form NoForm w s is = absurd is
+  refused_form _ w s is = absurd is
 
   as_asked : (st : Status) → IsValid words bytes → Cause words bytes st → IsAsAsked (command_of words) st
   as_asked status.Accepted valid cause = accepted_form (command_of words) refl valid.usage

@@ -96,12 +96,7 @@ state_form v form s (e ∷ es) =
 -- ---- how events are written
 argument_form : (v : World) (form : LogForm) (a : Argument) → argument_text (in_form v form) a ≡ argument_text v a
 argument_form v form (argument.Id n) = refl
-argument_form v form (argument.Number n) = refl
-argument_form v form (argument.Cap n) = refl
-argument_form v form (argument.Set n) = refl
-argument_form v form (argument.Space n) = refl
-argument_form v form (argument.Word deny) = refl
-argument_form v form (argument.File file) = refl
+argument_form v form _ = refl
 
 arguments_form : (v : World) (form : LogForm) (arguments : List Argument) → spaced_texts (in_form v form) arguments ≡ spaced_texts v arguments
 arguments_form v form [] = refl
@@ -135,9 +130,7 @@ credentials_form v form (Some p) = refl
 
 child_form : (v : World) (form : LogForm) (s : State) (told : Res) → text_of (child_lines v s told) ≡ text_of (child_lines (in_form v form) s told)
 child_form v form s (res.Child pid) = credentials_form v form (process_at s.processes pid)
-child_form v form s res.Done = refl
-child_form v form s (res.Id n) = refl
-child_form v form s (res.Err e) = refl
+child_form v form s _ = refl
 
 steps_form : (v : World) (form : LogForm) (s : State) (e : Placed) → text_of (step_lines v s e) ≡ text_of (step_lines (in_form v form) s e)
 steps_form v form s e =
@@ -147,6 +140,33 @@ steps_form v form s e =
     (credentials_form v form (process_at s.processes e.event.pid)) (child_form v form s e.event.res))
 
 -- ---- the replay
+-- Reports that are alike so, where each is like itself, and stays so after the lines of a step.
+module _ (Same : Report → Report → Type 0) (self : (r : Report) → Same r r) (v : World) (form : LogForm)
+    (step : (s : State) (e : Placed) (r q : Report) → Same r q
+    → Same (after (step_lines v s e) r) (after (step_lines (in_form v form) s e) q)) where
+  goes_same : (s : State) (e : Placed) (r q : Report) → Same r q → (over : Option Limited)
+      → Same (unless_exceeded over (after (step_lines v s e) r)) (unless_exceeded over (after (step_lines (in_form v form) s e) q))
+  goes_same s e r q is None = step s e r q is
+  goes_same s e r q is (Some l) = self (limit_hit l)
+
+  turn_same : (e : Placed) (rest more : State → Report) → ((s : State) → Same (rest s) (more s)) → (o : Outcome)
+      → Same (by_outcome v e rest o) (by_outcome (in_form v form) e more o)
+  turn_same e rest more is (Goes s) = goes_same s e (rest s) (more s) (is s) (exceeded s)
+  turn_same e rest more is NoProcess = self (impossible e.line NoProcess)
+  turn_same e rest more is NoSpace = self (impossible e.line NoSpace)
+  turn_same e rest more is PidInUse = self (impossible e.line PidInUse)
+  turn_same e rest more is (Wrong told) = self (impossible e.line (Wrong told))
+
+  replayed_same : (s : State) (count : ℕ) (es : List Placed) (ending : End)
+      → Same (replayed v s count es ending) (replayed (in_form v form) s count es ending)
+  replayed_same s count [] ending = self (by_end count ending)
+  replayed_same s count (e ∷ es) ending =
+      subst (λ (o : Outcome). Same (replayed v s count (e ∷ es) ending)
+      (by_outcome (in_form v form) e (λ s'. replayed (in_form v form) s' (count + 1) es ending) o))
+      (sym (outcome_form v form s e.event))
+      (turn_same e (λ s'. replayed v s' (count + 1) es ending) (λ s'. replayed (in_form v form) s' (count + 1) es ending)
+      (λ s'. replayed_same s' (count + 1) es ending) (outcome v s e.event))
+
 same_self : (r : Report) → SameText r r
 same_self r = record { status = refl; text = refl }
 
@@ -154,28 +174,11 @@ same_self r = record { status = refl; text = refl }
 same_after : (a b : List ReportLine) (r q : Report) → text_of a ≡ text_of b → SameText r q → SameText (after a r) (after b q)
 same_after a b r q lines is = record { status = is.status; text = same_lines a b r.lines q.lines lines is.text }
 
-goes_form : (v : World) (form : LogForm) (s : State) (e : Placed) (r q : Report) → SameText r q → (over : Option Limited)
-    → SameText (unless_exceeded over (after (step_lines v s e) r)) (unless_exceeded over (after (step_lines (in_form v form) s e) q))
-goes_form v form s e r q is None = same_after (step_lines v s e) (step_lines (in_form v form) s e) r q (steps_form v form s e) is
-goes_form v form s e r q is (Some l) = same_self (limit_hit l)
-
-turn_form : (v : World) (form : LogForm) (e : Placed) (rest more : State → Report) → ((s : State) → SameText (rest s) (more s)) → (o : Outcome)
-    → SameText (by_outcome v e rest o) (by_outcome (in_form v form) e more o)
-turn_form v form e rest more is (Goes s) = goes_form v form s e (rest s) (more s) (is s) (exceeded s)
-turn_form v form e rest more is NoProcess = same_self (impossible e.line NoProcess)
-turn_form v form e rest more is NoSpace = same_self (impossible e.line NoSpace)
-turn_form v form e rest more is PidInUse = same_self (impossible e.line PidInUse)
-turn_form v form e rest more is (Wrong told) = same_self (impossible e.line (Wrong told))
-
 replayed_form : (v : World) (form : LogForm) (s : State) (count : ℕ) (es : List Placed) (ending : End)
     → SameText (replayed v s count es ending) (replayed (in_form v form) s count es ending)
-replayed_form v form s count [] ending = same_self (by_end count ending)
-replayed_form v form s count (e ∷ es) ending =
-    subst (λ (o : Outcome). SameText (replayed v s count (e ∷ es) ending)
-    (by_outcome (in_form v form) e (λ s'. replayed (in_form v form) s' (count + 1) es ending) o))
-    (sym (outcome_form v form s e.event))
-    (turn_form v form e (λ s'. replayed v s' (count + 1) es ending) (λ s'. replayed (in_form v form) s' (count + 1) es ending)
-    (λ s'. replayed_form v form s' (count + 1) es ending) (outcome v s e.event))
+replayed_form v form =
+    replayed_same SameText same_self v form
+    (λ s e r q is. same_after (step_lines v s e) (step_lines (in_form v form) s e) r q (steps_form v form s e) is)
 
 -- ---- a replay that isn't shown
 -- the reports have the same status, and the same lines of plain text
@@ -183,34 +186,14 @@ record SameUnshown (one other : Report) : Type 0 where
   status : one.status ≡ other.status
   lines : plain_lines one.lines ≡ plain_lines other.lines
 
-unshown_self : (r : Report) → SameUnshown r r
-unshown_self r = record { status = refl; lines = refl }
-
-unshown_goes : (v : World) (form : LogForm) (s : State) (e : Placed) (r q : Report) → SameUnshown r q → (over : Option Limited)
-    → SameUnshown (unless_exceeded over (after (step_lines v s e) r)) (unless_exceeded over (after (step_lines (in_form v form) s e) q))
-unshown_goes v form s e r q is None = record {
-  status = is.status;
-  lines = plain_step v s e r.lines ∙ is.lines ∙ sym (plain_step (in_form v form) s e q.lines);
-}
-unshown_goes v form s e r q is (Some l) = unshown_self (limit_hit l)
-
-unshown_turn : (v : World) (form : LogForm) (e : Placed) (rest more : State → Report) → ((s : State) → SameUnshown (rest s) (more s)) → (o : Outcome)
-    → SameUnshown (by_outcome v e rest o) (by_outcome (in_form v form) e more o)
-unshown_turn v form e rest more is (Goes s) = unshown_goes v form s e (rest s) (more s) (is s) (exceeded s)
-unshown_turn v form e rest more is NoProcess = unshown_self (impossible e.line NoProcess)
-unshown_turn v form e rest more is NoSpace = unshown_self (impossible e.line NoSpace)
-unshown_turn v form e rest more is PidInUse = unshown_self (impossible e.line PidInUse)
-unshown_turn v form e rest more is (Wrong told) = unshown_self (impossible e.line (Wrong told))
-
 unshown_form : (v : World) (form : LogForm) (s : State) (count : ℕ) (es : List Placed) (ending : End)
     → SameUnshown (replayed v s count es ending) (replayed (in_form v form) s count es ending)
-unshown_form v form s count [] ending = unshown_self (by_end count ending)
-unshown_form v form s count (e ∷ es) ending =
-    subst (λ (o : Outcome). SameUnshown (replayed v s count (e ∷ es) ending)
-    (by_outcome (in_form v form) e (λ s'. replayed (in_form v form) s' (count + 1) es ending) o))
-    (sym (outcome_form v form s e.event))
-    (unshown_turn v form e (λ s'. replayed v s' (count + 1) es ending) (λ s'. replayed (in_form v form) s' (count + 1) es ending)
-    (λ s'. unshown_form v form s' (count + 1) es ending) (outcome v s e.event))
+unshown_form v form =
+    replayed_same SameUnshown (λ r. record { status = refl; lines = refl }) v form
+    (λ s e r q is. record {
+      status = is.status;
+      lines = plain_step v s e r.lines ∙ is.lines ∙ sym (plain_step (in_form v form) s e q.lines);
+    })
 
 silenced_same : (st : Status) (one other : List ReportLine) → plain_lines one ≡ plain_lines other → silenced st one ≡ silenced st other
 silenced_same status.Accepted one other is = refl
@@ -233,12 +216,7 @@ shown_form false v form reading =
 -- ---- what is read of scripts
 token_form : (v : World) (form : LogForm) (f : Form) (token : List ℕ) → argument_token (in_form v form) f token ≡ argument_token v f token
 token_form v form argument.AnId token = refl
-token_form v form argument.ANumber token = refl
-token_form v form argument.ACap token = refl
-token_form v form argument.ASet token = refl
-token_form v form argument.ASpace token = refl
-token_form v form argument.AWord token = refl
-token_form v form argument.AFile token = refl
+token_form v form _ token = refl
 
 arguments_read : (v : World) (form : LogForm) (pattern : Pattern) (place : ℕ) (tokens : Tokens)
     → arguments_from (in_form v form) pattern place tokens ≡ arguments_from v pattern place tokens
@@ -285,10 +263,7 @@ confirm_turn : (v : World) (form : LogForm) (members : List ℕ) (e : Placed) (r
     → confirm.by_outcome (in_form v form) members e rest o ≡ confirm.by_outcome v members e more o
 confirm_turn v form members e rest more is (Goes s) =
     ap (λ (r : Confirmed). unless_past (exceeded s) (if is_for_members v members e.event then r else RefusesLine e.line)) (is s)
-confirm_turn v form members e rest more is NoProcess = refl
-confirm_turn v form members e rest more is NoSpace = refl
-confirm_turn v form members e rest more is PidInUse = refl
-confirm_turn v form members e rest more is (Wrong told) = refl
+confirm_turn v form members e rest more is _ = refl
 
 confirm_form : (v : World) (form : LogForm) (s : State) (members : List ℕ) (right : Right) (es : List Placed) (ending : End)
     → events_confirm (in_form v form) s members right es ending ≡ events_confirm v s members right es ending

@@ -112,9 +112,7 @@ plain_checked w spaces Holds (Ok rows) = tt
 
 plain_confirmed : (x : Confirmed) → ArePlain (confirmed_report x).lines
 plain_confirmed (Confirms pid) = tt
-plain_confirmed (RefusesLine number) = tt
-plain_confirmed RefusesEnd = tt
-plain_confirmed (PastLimit l) = tt
+plain_confirmed _ = tt
 
 plain_either : (b : Bool) (one other : Report) → ArePlain one.lines → ArePlain other.lines → ArePlain (cond b one other).lines
 plain_either true one other plain more = plain

@@ -32,9 +32,7 @@ born_has s child spaces have =
 cloned_has : (r : Res) (s : State) (child : Process) (spaces : Spaces) → HavePids s
     → HavePids (birth_unless r s child spaces).state
 cloned_has (Err e) s child spaces have = have
-cloned_has Done s child spaces have = born_has s child spaces have
-cloned_has (Id n) s child spaces have = born_has s child spaces have
-cloned_has (Child n) s child spaces have = born_has s child spaces have
+cloned_has _ s child spaces have = born_has s child spaces have
 
 call_has : (w : World) (s : State) (p : Process) (call : Call) → HavePids s → HasPid p
     → HavePids (state_left s p call (reply_to w s p call))
