@@ -27,9 +27,7 @@ use Rattle.model_box.proofs.MapWrites.{write_by}
 
 with_grows : (res : Res) (spaces : Spaces) (at : ℕ) (c : Credential) → length spaces ≤ length (spaces_with res spaces at c)
 with_grows Done spaces at c = omega arith
-with_grows (Id n) spaces at c = omega arith
-with_grows (Child n) spaces at c = omega arith
-with_grows (Err e) spaces at c = omega arith
+with_grows _ spaces at c = omega arith
 
 same_grows : (spaces after : Spaces) → length after ≡ length spaces → length spaces ≤ length after
 same_grows spaces after same = omega arith
@@ -64,10 +62,8 @@ birth_grows s baby after more =
 
 unless_grows : (res : Res) (s : State) (baby : Process) (after : Spaces) → length s.spaces ≤ length after
     → length s.spaces ≤ length (birth_unless res s baby after).state.spaces
-unless_grows Done s baby after more = birth_grows s baby after more
-unless_grows (Id n) s baby after more = birth_grows s baby after more
-unless_grows (Child n) s baby after more = birth_grows s baby after more
 unless_grows (Err e) s baby after more = omega arith
+unless_grows _ s baby after more = birth_grows s baby after more
 
 ruled_grows : (w : World) (s : State) (p : Process) (call : Call) (pid : ℕ) → length s.spaces ≤ length (ruling w s p call pid).state.spaces
 ruled_grows w s p Fork pid = birth_grows s (fork_child p pid) s.spaces (omega arith)

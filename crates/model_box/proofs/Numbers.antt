@@ -8,19 +8,7 @@ use Rattle.model_box.specs.Rule.{ExecGid, ExecCaps, ExecRoot, Create, Join, Maps
 -- the rule of a number is one of fourteen
 pub rule_low : (rule : Rule) → rule_number rule < 14
 rule_low SetUid = lit< tt
-rule_low SetFsUid = lit< tt
-rule_low SetGid = lit< tt
-rule_low SetFsGid = lit< tt
-rule_low SetGroups = lit< tt
-rule_low CapSet = lit< tt
-rule_low SecureBits = lit< tt
-rule_low ExecUid = lit< tt
-rule_low ExecGid = lit< tt
-rule_low ExecCaps = lit< tt
-rule_low ExecRoot = lit< tt
-rule_low Create = lit< tt
-rule_low Join = lit< tt
-rule_low Maps = lit< tt
+rule_low _ = lit< tt
 
 -- the space of a row by its number
 pub under_half : (y : ℕ) → space_under (row_at y) ≡ y / 2

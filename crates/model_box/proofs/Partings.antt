@@ -51,16 +51,12 @@ cell_with : (ps : List Process) (parting : List InCell) (caller q : ℕ) (res : 
 cell_with ps parting caller q (Child k) free alive =
     cell_below (record { pid = k; cell = cell_of parting caller }) parting q
     (ne_eqb k q (λ same. false≢true (sym free ∙ ap (is_alive ps) same ∙ alive)))
-cell_with ps parting caller q Done free alive = refl
-cell_with ps parting caller q (Id k) free alive = refl
-cell_with ps parting caller q (Err e) free alive = refl
+cell_with ps parting caller q _ free alive = refl
 
 without_cell : (parting : List InCell) (caller q : ℕ) (res : Res) → (res ≡ Done → q ≡ caller → ⊥)
     → cell_of (parting_without parting caller res) q ≡ cell_of parting q
 without_cell parting caller q Done stays = cell_without parting caller q (stays refl)
-without_cell parting caller q (Id k) stays = refl
-without_cell parting caller q (Child k) stays = refl
-without_cell parting caller q (Err e) stays = refl
+without_cell parting caller q _ stays = refl
 
 -- Who lives before and after a call keeps its cell.
 pub cell_stays : (ps : List Process) (parting : List InCell) (caller q : ℕ) (call : Call) (res : Res) → is_living_child ps res ≡ false
@@ -76,9 +72,7 @@ cell_born parting caller k = cell_here (record { pid = k; cell = cell_of parting
 -- ---- results
 pub is_child : (res : Res) (k : ℕ) → IsTrue (same_res res (Child k)) → res ≡ Child k
 is_child (Child j) k same = ap Child (eqb-true j k same)
-is_child Done k wrong = absurd (false≢true wrong)
-is_child (Id j) k wrong = absurd (false≢true wrong)
-is_child (Err e) k wrong = absurd (false≢true wrong)
+is_child _ k wrong = absurd (false≢true wrong)
 
 -- an error ends no process
 pub no_end : (res : Res) (e : Errno) → IsTrue (same_res res (Err e)) → res ≡ Done → ⊥

@@ -146,9 +146,7 @@ kept_member (m ∷ members) pid q held =
 
 without_member : (members : List ℕ) (pid q : ℕ) (res : Res) → IsTrue (is_member (members_without members pid res) q) → IsTrue (is_member members q)
 without_member members pid q Done held = kept_member members pid q held
-without_member members pid q (Id k) held = held
-without_member members pid q (Child k) held = held
-without_member members pid q (Err e) held = held
+without_member members pid q _ held = held
 
 with_member : (ps : List Process) (members : List ℕ) (q : ℕ) (res : Res) → is_living_child ps res ≡ false
     → IsTrue (is_alive ps q) → IsTrue (is_member (members_with members res) q)
@@ -158,9 +156,7 @@ with_member ps members q (Child k) free alive held =
       | inl is ↦ absurd (false≢true (sym free ∙ ap (is_alive ps) (eqb-true k q is) ∙ alive))
       | inr more ↦ more
     ]
-with_member ps members q Done free alive held = held
-with_member ps members q (Id k) free alive held = held
-with_member ps members q (Err e) free alive held = held
+with_member ps members q _ free alive held = held
 
 -- Who is a member after a call and was alive before it was a member.
 pub was_member : (ps : List Process) (members : List ℕ) (pid q : ℕ) (call : Call) (res : Res) → is_living_child ps res ≡ false → IsTrue (is_alive ps q)

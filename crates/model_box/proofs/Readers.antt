@@ -145,16 +145,6 @@ put_above : (spaces : Spaces) (a n : ℕ) (from : Row) → IsTrue (is_at_or_abov
 put_above spaces a n from above is = subst (λ (r : Row). IsAbove spaces n r) (sym is) above
 
 pub read_rows_are_above : ReadRowsAreAbove
-read_rows_are_above spaces earlier SetUid row from standing read = inl read
-read_rows_are_above spaces earlier SetFsUid row from standing read = inl read
-read_rows_are_above spaces earlier SetGid row from standing read = inl read
-read_rows_are_above spaces earlier SetFsGid row from standing read = inl read
-read_rows_are_above spaces earlier SetGroups row from standing read = inl read
-read_rows_are_above spaces earlier CapSet row from standing read = inl read
-read_rows_are_above spaces earlier SecureBits row from standing read = inl read
-read_rows_are_above spaces earlier ExecUid row from standing read = inl read
-read_rows_are_above spaces earlier ExecGid row from standing read = inl read
-read_rows_are_above spaces earlier ExecRoot row from standing read = inl read
 read_rows_are_above spaces earlier ExecCaps row from standing read = read
 read_rows_are_above spaces earlier Create (Standing n) from standing wrong = absurd wrong
 read_rows_are_above spaces earlier Create (Fresh n) from standing read = inr (self_above spaces earlier n from standing read)
@@ -164,3 +154,4 @@ read_rows_are_above spaces earlier Maps (Standing n) from standing (inl own) = i
 read_rows_are_above spaces earlier Maps (Standing n) from standing (inr (q, parent, is)) = inr (put_above spaces q n from (parent_up spaces earlier n q parent) is)
 read_rows_are_above spaces earlier Maps (Fresh n) from standing (inl own) = inl own
 read_rows_are_above spaces earlier Maps (Fresh n) from standing (inr is) = inr (self_above spaces earlier n from standing is)
+read_rows_are_above spaces earlier _ row from standing read = inl read

@@ -86,22 +86,10 @@ merged standing fresh (Fresh n) = fresh (Fresh n)
 module _ (permitted : CallKind → Bool) (files : FileTable) (spaces : Spaces) (bounds other : Row → Part → ℕ → Type 0) where
   merged_adds : (rule : Rule) (n : ℕ) (part : Part) (x : ℕ) → Adds permitted files spaces (merged other bounds) rule (Standing n) part x
       → Adds permitted files spaces other rule (Standing n) part x
-  merged_adds SetUid n part x added = added
-  merged_adds SetFsUid n part x added = added
-  merged_adds SetGid n part x added = added
-  merged_adds SetFsGid n part x added = added
-  merged_adds SetGroups n part x added = added
-  merged_adds CapSet n part x added = added
-  merged_adds SecureBits n part x added = added
-  merged_adds ExecUid n part x added = added
-  merged_adds ExecGid n part x added = added
-  merged_adds ExecCaps n part x added = added
-  merged_adds ExecRoot n part x added = added
-  merged_adds Create n part x added = added
-  merged_adds Join n part x added = added
   merged_adds Maps n MappedUids x added = added
   merged_adds Maps n MappedGids x added = added
   merged_adds Maps n _ x added = added
+  merged_adds _ n part x added = added
 
   -- No later space is above a standing one, so what comes to a standing row is read from standing rows alone.
   pub standing_apart : ((n : ℕ) (part : Part) (x : ℕ) → bounds (Standing n) part x → other (Standing n) part x) → (rule : Rule) (n : ℕ) (part : Part) (x : ℕ)
@@ -146,16 +134,13 @@ module _ (permitted : CallKind → Bool) (files : FileTable) (spaces : Spaces) (
   excluded_adds_nothing SetGroups none row part x added = false≢true (sym (none kind.SetGroups refl) ∙ added.0)
   excluded_adds_nothing CapSet none row part x added = false≢true (sym (none kind.CapSet refl) ∙ added.0)
   excluded_adds_nothing SecureBits none row part x added = false≢true (sym (none kind.SecureBits refl) ∙ added.0)
-  excluded_adds_nothing ExecUid none row part x added = false≢true (sym (none kind.Exec refl) ∙ added.0)
-  excluded_adds_nothing ExecGid none row part x added = false≢true (sym (none kind.Exec refl) ∙ added.0)
-  excluded_adds_nothing ExecCaps none row part x added = false≢true (sym (none kind.Exec refl) ∙ added.0)
-  excluded_adds_nothing ExecRoot none row part x added = false≢true (sym (none kind.Exec refl) ∙ added.0)
   excluded_adds_nothing Create none (Standing n) part x added = added
   excluded_adds_nothing Create none (Fresh n) part x added =
       none_of_two (permitted kind.Unshare) (permitted kind.CloneUser) (none kind.Unshare (inl refl)) (none kind.CloneUser (inr refl)) added.0
   excluded_adds_nothing Join none (Standing n) part x added = false≢true (sym (none kind.SetNs refl) ∙ added.0)
   excluded_adds_nothing Join none (Fresh n) part x added = added
   excluded_adds_nothing Maps none row part x added = maps_need_writes (none kind.WriteUidMap (inl refl)) (none kind.WriteGidMap (inr refl)) row part x added
+  excluded_adds_nothing _ none row part x added = false≢true (sym (none kind.Exec refl) ∙ added.0)
 
 -- ---- rows by number
 pub row_back : (row : Row) → row_at (row_number row) ≡ row

@@ -53,19 +53,7 @@ rows_by_number = record { row = starts.row_back; number = starts.number_back }
 
 pub rules_by_number : RulesByNumber
 rules_by_number SetUid = refl
-rules_by_number SetFsUid = refl
-rules_by_number SetGid = refl
-rules_by_number SetFsGid = refl
-rules_by_number SetGroups = refl
-rules_by_number CapSet = refl
-rules_by_number SecureBits = refl
-rules_by_number ExecUid = refl
-rules_by_number ExecGid = refl
-rules_by_number ExecCaps = refl
-rules_by_number ExecRoot = refl
-rules_by_number Create = refl
-rules_by_number Join = refl
-rules_by_number Maps = refl
+rules_by_number _ = refl
 
 pub kept_states_fit : KeptStatesFit
 kept_states_fit s keeps = state_fits s keeps

@@ -194,17 +194,13 @@ module _ (permitted : CallKind → Bool) (files : FileTable) (old new : Spaces) 
   caller_fits (NoNewPrivs argument) stays allowed named =
       own_call (reply files new at c (NoNewPrivs argument)).cred
       (λ row is standing fine. set_no_new_privs_fine permitted files old bounds closed row standing (space_of new at) (mapped at row is) c fine argument)
-  caller_fits Fork stays allowed named = member
   caller_fits CloneUser wrong allowed named = absurd wrong
   caller_fits Unshare wrong allowed named = absurd wrong
   caller_fits (SetNs target) stays allowed named = setns_call allowed target (ltb-true target (length new) (not-false (stands new target) named))
-  caller_fits (WriteUidMap target list) stays allowed named = member
-  caller_fits (WriteGidMap target list) stays allowed named = member
-  caller_fits (WriteSetgroups target deny) stays allowed named = member
   caller_fits (Exec f) stays allowed named =
       own_call (reply files new at c (Exec f)).cred
       (λ row is standing fine. execve_fine permitted files old new bounds closed fit mapped row standing at is c fine allowed files_fit f)
-  caller_fits Exit stays allowed named = member
+  caller_fits _ stays allowed named = member
 
 -- ---- the spaces, and all who are covered
 -- After a change of the spaces they are covered, and so is each member of each cell that was.

@@ -157,11 +157,7 @@ only_1000 x one = go (or_cases (eqb x 1000 || eqb x 1000) (eqb x 1000) one) wher
 
 member_in : (n : ℕ) (part : Part) (x : ℕ) → CredHas plain_cred part x → plain_bounds (Standing n) part x
 member_in n Uids x has = only_1000 x has
-member_in n EffectiveUids x has = has
-member_in n FsUids x has = has
 member_in n Gids x has = only_1000 x has
-member_in n EffectiveGids x has = has
-member_in n FsGids x has = has
 member_in n Groups x has = false≢true has
 member_in n MappedUids x has = absurd has
 member_in n MappedGids x has = absurd has
@@ -171,6 +167,7 @@ member_in n BoundingCaps x has = false≢true (sym (holds_none x) ∙ has)
 member_in n NewPrivs x has = false≢true (sym has.1)
 member_in n RootCounts x has = has.0
 member_in n LockClear x has = has.0
+member_in n _ x has = has
 
 -- the outside ids of the initial space's maps are the ids
 id_below : (x : ℕ) → IsTrue (is_outside (extents_of (Some (record { inside = 0; outside = 0; length = id_count } ∷ []))) x) → x < id_count

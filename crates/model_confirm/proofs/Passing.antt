@@ -22,10 +22,7 @@ one_state become one other is it = let same : Goes one ≡ Goes other = sym is �
 -- an event is a step or none
 pub goes_or_not : (become : Outcome) → ((s : State) × (become ≡ Goes s)) ⊎ ((s : State) → become ≡ Goes s → ⊥)
 goes_or_not (Goes s) = inl (s, refl)
-goes_or_not NoProcess = inr (λ s is. cc)
-goes_or_not NoSpace = inr (λ s is. cc)
-goes_or_not PidInUse = inr (λ s is. cc)
-goes_or_not (Wrong res) = inr (λ s is. cc)
+goes_or_not _ = inr (λ s is. cc)
 
 -- both tests hold
 pub both : (a b : Bool) → a ≡ true → b ≡ true → (a && b) ≡ true
@@ -52,10 +49,7 @@ module _ (w : World) (members : List ℕ) (e : Placed) (rest : State → Confirm
   -- so is what is no step
   pub refuses_no_step : (become : Outcome) → ((s : State) → become ≡ Goes s → ⊥) → by_outcome w members e rest become ≡ RefusesLine e.line
   refuses_no_step (Goes s) none = absurd (none s refl)
-  refuses_no_step NoProcess none = refl
-  refuses_no_step NoSpace none = refl
-  refuses_no_step PidInUse none = refl
-  refuses_no_step (Wrong res) none = refl
+  refuses_no_step _ none = refl
 
   -- a step past a limit, whoever makes it
   pub past : (become : Outcome) (after : State) (l : Limited) → become ≡ Goes after → exceeded after ≡ Some l

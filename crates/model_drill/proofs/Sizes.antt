@@ -113,16 +113,12 @@ birth_sizes s child call after one none fits =
 unless_sizes : (r : Res) (s : State) (child : Process) (call : Call) (after : Spaces) → births call ≡ 1 → exits call ≡ 0
     → length after ≤ length s.spaces + makes call → Sizes s call (birth_unless r s child after).state
 unless_sizes (Err e) s child call after one none fits = record { more = omega arith; fewer = omega arith; spaces = omega arith }
-unless_sizes Done s child call after one none fits = birth_sizes s child call after one none fits
-unless_sizes (Id n) s child call after one none fits = birth_sizes s child call after one none fits
-unless_sizes (Child n) s child call after one none fits = birth_sizes s child call after one none fits
+unless_sizes _ s child call after one none fits = birth_sizes s child call after one none fits
 
 -- ---- spaces
 with_count : (r : Res) (spaces : Spaces) (at : ℕ) (c : Credential) → length (spaces_with r spaces at c) ≤ length spaces + 1
 with_count Done spaces at c = omega arith
-with_count (Id n) spaces at c = omega arith
-with_count (Child n) spaces at c = omega arith
-with_count (Err e) spaces at c = omega arith
+with_count _ spaces at c = omega arith
 
 -- as many spaces as before
 record SameCount (spaces : Spaces) (w : Written) : Type 0 where

@@ -37,10 +37,8 @@ use Rattle.model_plans.proofs.Holders.{all_members}
 -- ---- one call
 -- a result of the rules that is no child leaves the members of a call that isn't an exit
 members_stay : (members : List ℕ) (r : Res) → IsRuled r → members_with members r ≡ members
-members_stay members Done ruled = refl
-members_stay members (Id n) ruled = refl
 members_stay members (Child n) ruled = absurd ruled
-members_stay members (Err e) ruled = refl
+members_stay members _ ruled = refl
 
 alone_members : (members : List ℕ) (pid : ℕ) (call : Call) (r : Res) → changes_caller_alone call ≡ true → IsRuled r
     → members_after members pid call r ≡ members

@@ -58,14 +58,9 @@ has_under n c uid gid permitted inheritable groups Gids x has = three_1000 x (ap
 has_under n c uid gid permitted inheritable groups EffectiveGids x has = has ∙ ap (λ ids. ids.effective) gid
 has_under n c uid gid permitted inheritable groups FsGids x has = has ∙ ap (λ ids. ids.fs) gid
 has_under n c uid gid permitted inheritable groups Groups x has = groups x has
-has_under n c uid gid permitted inheritable groups MappedUids x has = tt
-has_under n c uid gid permitted inheritable groups MappedGids x has = tt
 has_under n c uid gid permitted inheritable groups PermittedCaps x has = no_cap x (ap (λ (set : ℕ). holds set x) (sym permitted) ∙ has)
 has_under n c uid gid permitted inheritable groups InheritableCaps x has = no_cap x (ap (λ (set : ℕ). holds set x) (sym inheritable) ∙ has)
-has_under n c uid gid permitted inheritable groups BoundingCaps x has = tt
-has_under n c uid gid permitted inheritable groups NewPrivs x has = tt
-has_under n c uid gid permitted inheritable groups RootCounts x has = tt
-has_under n c uid gid permitted inheritable groups LockClear x has = tt
+has_under n c uid gid permitted inheritable groups _ x has = tt
 
 group_34 : (x : ℕ) → list_any (λ group. group == x) (34 ∷ []) ≡ true → x ≡ 34
 group_34 x held = elim (or_cases (34 == x) false held) [ inl is ↦ sym (eqb-true 34 x is) | inr wrong ↦ absurd (false≢true wrong) ]
@@ -128,23 +123,11 @@ early_under CapSet early (Fresh n) part x (may, (id, wrong), added) = absurd wro
 early_under SecureBits early (Standing n) RootCounts x (may, has, added) = tt
 early_under SecureBits early (Standing n) _ x (may, has, wrong) = absurd wrong
 early_under SecureBits early (Fresh n) part x (may, (id, wrong), added) = absurd wrong
-early_under ExecUid early row part x added = absurd (omega (arith, early))
-early_under ExecGid early row part x added = absurd (omega (arith, early))
-early_under ExecCaps early row part x added = absurd (omega (arith, early))
-early_under ExecRoot early row part x added = absurd (omega (arith, early))
-early_under Create early row part x added = absurd (omega (arith, early))
-early_under Join early row part x added = absurd (omega (arith, early))
-early_under Maps early row part x added = absurd (omega (arith, early))
+early_under _ early row part x added = absurd (omega (arith, early))
 
 early_rule : (n : ℕ) → n < 7 → rule_number (rule_at n) < 7
-early_rule zero low = omega arith
-early_rule (suc zero) low = omega arith
-early_rule (suc (suc zero)) low = omega arith
-early_rule (suc (suc (suc zero))) low = omega arith
-early_rule (suc (suc (suc (suc zero)))) low = omega arith
-early_rule (suc (suc (suc (suc (suc zero))))) low = omega arith
-early_rule (suc (suc (suc (suc (suc (suc zero)))))) low = omega arith
 early_rule (suc (suc (suc (suc (suc (suc (suc n))))))) low = absurd (omega (arith, low))
+early_rule _ low = omega arith
 
 -- the bounds after so many turns
 abbrev bounds_at : ℕ → Row → Part → ℕ → Type 0

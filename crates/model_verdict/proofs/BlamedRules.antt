@@ -57,14 +57,7 @@ module _ (permitted : CallKind → Bool) (files : FileTable) (spaces : Spaces) (
   }
   quiet Maps (Standing n) is = by_none Maps (Standing n) (λ x. (λ t. t, λ t. t, λ t. t, λ t. t))
   quiet Maps (Fresh n) is = by_none Maps (Fresh n) (λ x. (λ t. t, λ t. t, λ t. t, λ t. t))
-  quiet SetUid row wrong = absurd (false≢true (sym wrong))
-  quiet SetGid row wrong = absurd (false≢true (sym wrong))
-  quiet SetGroups row wrong = absurd (false≢true (sym wrong))
-  quiet ExecUid row wrong = absurd (false≢true (sym wrong))
-  quiet ExecGid row wrong = absurd (false≢true (sym wrong))
-  quiet ExecCaps row wrong = absurd (false≢true (sym wrong))
-  quiet ExecRoot row wrong = absurd (false≢true (sym wrong))
-  quiet Join row wrong = absurd (false≢true (sym wrong))
+  quiet _ row wrong = absurd (false≢true (sym wrong))
 
   module _ (turn : Turn) (is : Quiet turn.rule turn.row) where
     abbrev After : Row → Part → ℕ → Type 0

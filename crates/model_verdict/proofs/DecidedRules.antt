@@ -148,14 +148,12 @@ module _ (row : Part → ℕ → Type 0) (each : (part : Part) (x : ℕ) → Dec
   brings EffectiveGids x = each EffectiveGids x
   brings FsGids x = each FsGids x
   brings Groups x = each Groups x
-  brings MappedUids x = never
-  brings MappedGids x = never
   brings PermittedCaps x = tested_so (holds full x)
-  brings InheritableCaps x = never
   brings BoundingCaps x = tested_so (holds full x)
   brings NewPrivs x = each NewPrivs x
   brings RootCounts x = same_number x 0
   brings LockClear x = same_number x 0
+  brings _ x = never
 
 -- ---- bounds
 -- each is decided, and all are below the limit

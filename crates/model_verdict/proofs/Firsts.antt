@@ -67,20 +67,7 @@ first_not P each limit = by (some_below (λ x. P x → ⊥) (λ x. not_so (each 
 -- the rule of a place has no greater number
 rule_at_low : (m : ℕ) → rule_number (rule_at m) ≤ m
 rule_at_low zero = omega arith
-rule_at_low (suc zero) = omega arith
-rule_at_low (suc (suc zero)) = omega arith
-rule_at_low (suc (suc (suc zero))) = omega arith
-rule_at_low (suc (suc (suc (suc zero)))) = omega arith
-rule_at_low (suc (suc (suc (suc (suc zero))))) = omega arith
-rule_at_low (suc (suc (suc (suc (suc (suc zero)))))) = omega arith
-rule_at_low (suc (suc (suc (suc (suc (suc (suc zero))))))) = omega arith
-rule_at_low (suc (suc (suc (suc (suc (suc (suc (suc zero)))))))) = omega arith
-rule_at_low (suc (suc (suc (suc (suc (suc (suc (suc (suc zero))))))))) = omega arith
-rule_at_low (suc (suc (suc (suc (suc (suc (suc (suc (suc (suc zero)))))))))) = omega arith
-rule_at_low (suc (suc (suc (suc (suc (suc (suc (suc (suc (suc (suc zero))))))))))) = omega arith
-rule_at_low (suc (suc (suc (suc (suc (suc (suc (suc (suc (suc (suc (suc zero)))))))))))) = omega arith
-rule_at_low (suc (suc (suc (suc (suc (suc (suc (suc (suc (suc (suc (suc (suc zero))))))))))))) = omega arith
-rule_at_low (suc (suc (suc (suc (suc (suc (suc (suc (suc (suc (suc (suc (suc (suc m)))))))))))))) = omega arith
+rule_at_low _ = omega arith
 
 module _ (permitted : CallKind → Bool) (files : FileTable) (s : State) (members : List ℕ) (keeps : KeepsState s)
     (limit : ℕ) (high : cap_count ≤ limit) (bounds : Row → Part → ℕ → Type 0) (fine : Fine limit bounds) where

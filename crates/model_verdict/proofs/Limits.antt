@@ -107,14 +107,12 @@ module _ (ids caps flag : ℕ) (row : Part → ℕ → Type 0) (low : (part : Pa
   brings_low EffectiveGids x is = low EffectiveGids x is
   brings_low FsGids x is = low FsGids x is
   brings_low Groups x is = low Groups x is
-  brings_low MappedUids x wrong = absurd wrong
-  brings_low MappedGids x wrong = absurd wrong
   brings_low PermittedCaps x held = full_low x held
-  brings_low InheritableCaps x wrong = absurd wrong
   brings_low BoundingCaps x held = full_low x held
   brings_low NewPrivs x is = low NewPrivs x is
   brings_low RootCounts x is = zero_low x is
   brings_low LockClear x is = zero_low x is
+  brings_low _ x wrong = absurd wrong
 
   in_part : (id : Option ℕ) (part : Part) (x : ℕ) → id ≡ Some x → IdIn id (row part) → x < part_bar ids caps flag part
   in_part id part x is held = low part x (subst (λ (o : Option ℕ). IdIn o (row part)) is held)
@@ -233,53 +231,14 @@ start_low s members keeps (Fresh n) part x wrong = absurd wrong
 -- the limits of the parts are such
 pub limit_is : (part : Part) → part_limit part ≡ part_bar id_count cap_count 1 part
 limit_is Uids = refl
-limit_is EffectiveUids = refl
-limit_is FsUids = refl
-limit_is Gids = refl
-limit_is EffectiveGids = refl
-limit_is FsGids = refl
-limit_is Groups = refl
-limit_is MappedUids = refl
-limit_is MappedGids = refl
-limit_is PermittedCaps = refl
-limit_is InheritableCaps = refl
-limit_is BoundingCaps = refl
-limit_is NewPrivs = refl
-limit_is RootCounts = refl
-limit_is LockClear = refl
+limit_is _ = refl
 
 -- and so is one limit for all
 pub one_bar : (limit : ℕ) (part : Part) → part_bar limit limit limit part ≡ limit
 one_bar limit Uids = refl
-one_bar limit EffectiveUids = refl
-one_bar limit FsUids = refl
-one_bar limit Gids = refl
-one_bar limit EffectiveGids = refl
-one_bar limit FsGids = refl
-one_bar limit Groups = refl
-one_bar limit MappedUids = refl
-one_bar limit MappedGids = refl
-one_bar limit PermittedCaps = refl
-one_bar limit InheritableCaps = refl
-one_bar limit BoundingCaps = refl
-one_bar limit NewPrivs = refl
-one_bar limit RootCounts = refl
-one_bar limit LockClear = refl
+one_bar limit _ = refl
 
 -- each limit of a part is at most that of ids
 pub limit_low : (part : Part) → part_limit part ≤ id_count
 limit_low Uids = omega arith
-limit_low EffectiveUids = omega arith
-limit_low FsUids = omega arith
-limit_low Gids = omega arith
-limit_low EffectiveGids = omega arith
-limit_low FsGids = omega arith
-limit_low Groups = omega arith
-limit_low MappedUids = omega arith
-limit_low MappedGids = omega arith
-limit_low PermittedCaps = omega arith
-limit_low InheritableCaps = omega arith
-limit_low BoundingCaps = omega arith
-limit_low NewPrivs = omega arith
-limit_low RootCounts = omega arith
-limit_low LockClear = omega arith
+limit_low _ = omega arith

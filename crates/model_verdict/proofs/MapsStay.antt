@@ -74,9 +74,7 @@ written_stays file spaces at c t list all =
 
 made_stays : (res : Res) (spaces : Spaces) (at : ℕ) (c : Credential) → All TakeBack spaces → All TakeBack (spaces_with res spaces at c)
 made_stays Done spaces at c all = All-cons TakeBack _ spaces (record { uids = no_outside; gids = no_outside }) all
-made_stays (Id n) spaces at c all = all
-made_stays (Child n) spaces at c all = all
-made_stays (Err e) spaces at c all = all
+made_stays _ spaces at c all = all
 
 after_stays : (spaces : Spaces) (at : ℕ) (c : Credential) (call : Call) → All TakeBack spaces → All TakeBack (spaces_after spaces at c call)
 after_stays spaces at c CloneUser all = made_stays (clone_user spaces at c) spaces at c all
@@ -100,10 +98,8 @@ birth_stays s child after all new =
 
 unless_stays : (res : Res) (s : State) (child : Process) (after : Spaces) → All TakeBack s.spaces → All TakeBack after
     → All TakeBack (birth_unless res s child after).state.spaces
-unless_stays Done s child after all new = birth_stays s child after all new
-unless_stays (Id n) s child after all new = birth_stays s child after all new
-unless_stays (Child n) s child after all new = birth_stays s child after all new
 unless_stays (Err e) s child after all new = all
+unless_stays _ s child after all new = birth_stays s child after all new
 
 ruled_stays : (w : World) (s : State) (p : Process) (call : Call) (pid : ℕ) → All TakeBack s.spaces → All TakeBack (ruling w s p call pid).state.spaces
 ruled_stays w s p Fork pid all = birth_stays s (fork_child p pid) s.spaces all all

@@ -306,15 +306,7 @@ no_row_has BoundingCaps x held = false≢true (sym (holds_none x) ∙ held)
 no_row_has NewPrivs x held = false≢true (and_parts (x == 0) false held).1
 no_row_has RootCounts x held = false≢true (and_parts (x == 0) false held).1
 no_row_has LockClear x held = false≢true (and_parts (x == 0) false held).1
-no_row_has Uids x held = false≢true held
-no_row_has EffectiveUids x held = false≢true held
-no_row_has FsUids x held = false≢true held
-no_row_has Gids x held = false≢true held
-no_row_has EffectiveGids x held = false≢true held
-no_row_has FsGids x held = false≢true held
-no_row_has Groups x held = false≢true held
-no_row_has MappedUids x held = false≢true held
-no_row_has MappedGids x held = false≢true held
+no_row_has _ x held = false≢true held
 
 -- ---- rows
 module _ (test : Test) where

@@ -364,11 +364,9 @@ module _ (permitted : CallKind → Bool) (files : FileTable) (s : State) (member
   member_has n pid p member at same Uids x has = some_from s members n (λ c. is_one_of_three c.uid x) pid p member at same has
   member_has n pid p member at same EffectiveUids x has =
       or_left _ _ (some_from s members n (λ c. x == c.uid.effective) pid p member at same (eq-eqb x p.cred.uid.effective has))
-  member_has n pid p member at same FsUids x has = refl
   member_has n pid p member at same Gids x has = some_from s members n (λ c. is_one_of_three c.gid x) pid p member at same has
   member_has n pid p member at same EffectiveGids x has =
       or_left _ _ (some_from s members n (λ c. x == c.gid.effective) pid p member at same (eq-eqb x p.cred.gid.effective has))
-  member_has n pid p member at same FsGids x has = refl
   member_has n pid p member at same Groups x has = some_from s members n (λ c. list_any (λ group. group == x) c.groups) pid p member at same has
   member_has n pid p member at same MappedUids x wrong = absurd wrong
   member_has n pid p member at same MappedGids x wrong = absurd wrong
@@ -382,7 +380,7 @@ module _ (permitted : CallKind → Bool) (files : FileTable) (s : State) (member
   member_has n pid p member at same RootCounts x (is, clear) =
       and_from _ _ (eq-eqb x 0 is)
       (some_from s members n (λ c. not (has_flag c noroot)) pid p member at same (flag_held (has_flag p.cred noroot) clear))
-  member_has n pid p member at same LockClear x has = refl
+  member_has n pid p member at same _ x has = refl
 
   maps_has : (n : ℕ) (part : Part) (x : ℕ) → SpaceMaps (space_of s.spaces n) part x → Reached (Standing n) part x
   maps_has n MappedUids x has = mapped_start (space_of s.spaces n).uids x has
