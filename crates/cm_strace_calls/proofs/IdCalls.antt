@@ -10,11 +10,12 @@ use Rattle.cm_filter.specs.declared.shape.Shape.{Shape}
 use Rattle.cm_filter.specs.declared.shape.Shape.TheVariants.{OneId, TwoIds, ThreeIds}
 use Rattle.cm_filter.specs.Shapes.{Pattern, arguments_by, pattern_of, shape_of}
 use Rattle.cm_strace_calls.specs.Made.{has_ids}
+use Rattle.cm_strace_calls.specs.Readers.{next_read}
 use Rattle.cm_strace_calls.specs.Told.{then_read}
 use Rattle.model_cred.specs.Arguments.{Argument, Id, arguments_of, carried_in}
 use Rattle.model_cred.specs.Call.{Call, kind_of}
 use Rattle.model_cred.specs.World.{World}
-use Rattle.model_strace.specs.Calls.{argument_count, ids_call, ids_read, read_argument}
+use Rattle.model_strace.specs.Calls.{argument_count, ids_call, ids_read}
 use Rattle.model_text.proofs.ReadBack.{made_call}
 use Rattle.model_text.specs.Line.{arguments_from}
 use Rattle.model_text.specs.Token.{id_token}
@@ -38,9 +39,21 @@ lacks : (kind : CallKind) (ids : List Argument) → is_none (carried_in (pattern
 lacks kind ids none =
     none_made (λ carried. (kind, carried)) (carried_in (pattern_of kind) ids) (fault.Argument (length ids + 1)) none
 
+-- what is read after a first id, in a call of the shape
+abbrev pub ids_after : CallKind → Shape → ℕ → List (List ℕ) → Result Call LineFault
+ids_after kind OneId a texts = made kind (Id a ∷ [])
+ids_after kind TwoIds a texts = then_read (next_read id_token 2 texts) (λ b. made kind (Id a ∷ Id b.0 ∷ []))
+ids_after kind _ a texts =
+    then_read (next_read id_token 2 texts) (λ b.
+    then_read (next_read id_token 3 b.1) (λ c. made kind (Id a ∷ Id b.0 ∷ Id c.0 ∷ [])))
+
+-- what is read of arguments in a call of the shape
+abbrev in_turn : CallKind → Shape → List (List ℕ) → Result Call LineFault
+in_turn kind shape arguments = then_read (next_read id_token 1 arguments) (λ a. ids_after kind shape a.0 a.1)
+
 -- a call of one id
 one : (w : World) (kind : CallKind) (arguments : List (List ℕ)) → shape_of kind ≡ OneId
-    → ids_read w kind arguments ≡ then_read (read_argument id_token 1 arguments) (λ a. made kind (Id a ∷ []))
+    → ids_read w kind arguments ≡ in_turn kind OneId arguments
 one w kind [] shape =
     ap (λ s. ids_call kind (read_by w [] (arguments_by s))) shape ∙ lacks kind [] (rw shape refl)
 one w kind (a ∷ more) shape =
@@ -49,9 +62,7 @@ one w kind (a ∷ more) shape =
 
 -- a call of two ids
 two : (w : World) (kind : CallKind) (arguments : List (List ℕ)) → shape_of kind ≡ TwoIds
-    → ids_read w kind arguments
-    ≡ then_read (read_argument id_token 1 arguments) (λ a.
-    then_read (read_argument id_token 2 arguments) (λ b. made kind (Id a ∷ Id b ∷ [])))
+    → ids_read w kind arguments ≡ in_turn kind TwoIds arguments
 two w kind [] shape =
     ap (λ s. ids_call kind (read_by w [] (arguments_by s))) shape ∙ lacks kind [] (rw shape refl)
 two w kind (a ∷ []) shape =
@@ -69,10 +80,7 @@ two w kind (a ∷ b ∷ more) shape =
 
 -- a call of three ids
 three : (w : World) (kind : CallKind) (arguments : List (List ℕ)) → shape_of kind ≡ ThreeIds
-    → ids_read w kind arguments
-    ≡ then_read (read_argument id_token 1 arguments) (λ a.
-    then_read (read_argument id_token 2 arguments) (λ b.
-    then_read (read_argument id_token 3 arguments) (λ c. made kind (Id a ∷ Id b ∷ Id c ∷ []))))
+    → ids_read w kind arguments ≡ in_turn kind ThreeIds arguments
 three w kind [] shape =
     ap (λ s. ids_call kind (read_by w [] (arguments_by s))) shape ∙ lacks kind [] (rw shape refl)
 three w kind (a ∷ []) shape =
@@ -103,22 +111,46 @@ three w kind (a ∷ b ∷ c ∷ more) shape =
       ]
     ]
 
--- the same where what is read is at hand
-pub one_read : (w : World) (kind : CallKind) (arguments : List (List ℕ)) (first : Result ℕ LineFault) → shape_of kind ≡ OneId
-    → first ≡ read_argument id_token 1 arguments → ids_read w kind arguments ≡ then_read first (λ a. made kind (Id a ∷ []))
-one_read w kind arguments first shape is = rw is (one w kind arguments shape)
+-- a call of ids, by its shape
+by_shape : (w : World) (kind : CallKind) (shape : Shape) (arguments : List (List ℕ)) → shape_of kind ≡ shape
+    → IsTrue (has_ids shape) → ids_read w kind arguments ≡ in_turn kind shape arguments
+by_shape w kind OneId arguments is has = one w kind arguments is
+by_shape w kind TwoIds arguments is has = two w kind arguments is
+by_shape w kind ThreeIds arguments is has = three w kind arguments is
+by_shape w kind _ arguments is has = absurd (cc)
 
-pub two_read : (w : World) (kind : CallKind) (arguments : List (List ℕ)) (first second : Result ℕ LineFault)
-    → shape_of kind ≡ TwoIds → first ≡ read_argument id_token 1 arguments → second ≡ read_argument id_token 2 arguments
-    → ids_read w kind arguments ≡ then_read first (λ a. then_read second (λ b. made kind (Id a ∷ Id b ∷ [])))
-two_read w kind arguments first second shape is next = rw (is, next) (two w kind arguments shape)
+-- the same where what is read of the first argument is at hand
+pub after_first : (w : World) (kind : CallKind) (arguments : List (List ℕ)) (first : Result (ℕ × List (List ℕ)) LineFault)
+    → IsTrue (has_ids (shape_of kind)) → first ≡ next_read id_token 1 arguments
+    → ids_read w kind arguments ≡ then_read first (λ a. ids_after kind (shape_of kind) a.0 a.1)
+after_first w kind arguments first has is =
+    by_shape w kind (shape_of kind) arguments refl has
+    ∙ ap (λ read. then_read read (λ a. ids_after kind (shape_of kind) a.0 a.1)) (sym is)
 
-pub three_read : (w : World) (kind : CallKind) (arguments : List (List ℕ)) (first second third : Result ℕ LineFault)
-    → shape_of kind ≡ ThreeIds → first ≡ read_argument id_token 1 arguments → second ≡ read_argument id_token 2 arguments
-    → third ≡ read_argument id_token 3 arguments
-    → ids_read w kind arguments
-    ≡ then_read first (λ a. then_read second (λ b. then_read third (λ c. made kind (Id a ∷ Id b ∷ Id c ∷ []))))
-three_read w kind arguments first second third shape is next last = rw (is, next, last) (three w kind arguments shape)
+-- and of the second
+pub two_after : (kind : CallKind) (a : ℕ) (texts : List (List ℕ)) (second : Result (ℕ × List (List ℕ)) LineFault)
+    → shape_of kind ≡ TwoIds → second ≡ next_read id_token 2 texts
+    → ids_after kind (shape_of kind) a texts ≡ then_read second (λ b. made kind (Id a ∷ Id b.0 ∷ []))
+two_after kind a texts second shape is =
+    ap (λ s. ids_after kind s a texts) shape
+    ∙ ap (λ read. then_read read (λ b. made kind (Id a ∷ Id b.0 ∷ []))) (sym is)
+
+pub three_after : (kind : CallKind) (a : ℕ) (texts : List (List ℕ)) (second : Result (ℕ × List (List ℕ)) LineFault)
+    → shape_of kind ≡ ThreeIds → second ≡ next_read id_token 2 texts
+    → ids_after kind (shape_of kind) a texts
+    ≡ then_read second (λ b. then_read (next_read id_token 3 b.1) (λ c. made kind (Id a ∷ Id b.0 ∷ Id c.0 ∷ [])))
+three_after kind a texts second shape is =
+    ap (λ s. ids_after kind s a texts) shape
+    ∙ ap (λ read. then_read read (λ b.
+    then_read (next_read id_token 3 b.1) (λ c. made kind (Id a ∷ Id b.0 ∷ Id c.0 ∷ [])))) (sym is)
+
+-- and of the third
+pub last_after : (kind : CallKind) (a b : ℕ) (texts : List (List ℕ)) (third : Result (ℕ × List (List ℕ)) LineFault)
+    → third ≡ next_read id_token 3 texts
+    → then_read (next_read id_token 3 texts) (λ c. made kind (Id a ∷ Id b ∷ Id c.0 ∷ []))
+    ≡ then_read third (λ c. made kind (Id a ∷ Id b ∷ Id c.0 ∷ []))
+last_after kind a b texts third is =
+    ap (λ read. then_read read (λ c. made kind (Id a ∷ Id b ∷ Id c.0 ∷ []))) (sym is)
 
 -- the call that is made of its own ids
 pub made_is : (kind : CallKind) (ids : List Argument) (call : Call) → kind_of call ≡ kind → arguments_of call ≡ ids

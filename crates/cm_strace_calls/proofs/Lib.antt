@@ -2,3 +2,5 @@
 pub mod FirstBytes
 pub mod IdCalls
 pub mod NumberCalls
+pub mod Readers
+pub mod Texts

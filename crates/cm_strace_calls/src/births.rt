@@ -3,9 +3,9 @@ ghost use Rattle.std.specs.Prelude.{◌≡◌};
 ghost use Rattle.cm_strace_calls.specs.Told.{told_is};
 ghost use Rattle.cm_strace_text.specs.Depths.{arguments_in};
 ghost use Rattle.cm_strace_values.specs.Outcomes.{outcome_is};
-ghost use Rattle.model_strace.specs.Calls.{birth_told, birth_with, unshare_told, setns_told};
+ghost use Rattle.model_strace.specs.Calls.{birth_told, birth_with, unshare_told, setns_told, text_of};
 
-use crate::arguments::needed;
+use crate::arguments::{needed, next_text};
 use crate::told::Told;
 use cm_base::{LineFault, Res};
 use cm_state::Call;
@@ -41,9 +41,11 @@ fn birth_with<'a>(user: bool, shares: bool, res: Res) -> Told<'a>
 }
 
 /// unshare(2): one that makes no user namespace tells nothing, whatever it answers.
-pub(crate) fn read_unshare<'a>(flags: &[u8], outcome: Outcome) -> Told<'a>
-    ensures { told_is result ≡ unshare_told flags.now (outcome_is outcome) }
+pub(crate) fn read_unshare<'a>(arguments: Option<&[u8]>, outcome: Outcome) -> Told<'a>
+    ensures { told_is result
+        ≡ unshare_told (text_of 1 (arguments_in arguments.entry)) (outcome_is outcome) }
 {
+    let (flags, _) = next_text(arguments);
     if !has_flag(b"CLONE_NEWUSER", flags) {
         return Told::Nothing;
     }
@@ -57,12 +59,12 @@ pub(crate) fn read_unshare<'a>(flags: &[u8], outcome: Outcome) -> Told<'a>
 pub(crate) fn read_setns<'a>(arguments: Option<&'a [u8]>, outcome: Outcome) -> Told<'a>
     ensures { told_is result ≡ setns_told (arguments_in arguments.entry) (outcome_is outcome) }
 {
-    let descriptor = match needed(1, arguments) {
-        Ok(text) => text,
+    let (descriptor, left) = match needed(arguments, LineFault::Argument(1)) {
+        Ok(next) => next,
         Err(why) => return Told::Faulty(why),
     };
-    match needed(2, arguments) {
-        Ok(flags) => Told::Joins(read_number(descriptor), flags, outcome),
+    match needed(left, LineFault::Argument(2)) {
+        Ok((flags, _)) => Told::Joins(read_number(descriptor), flags, outcome),
         Err(why) => Told::Faulty(why),
     }
 }

@@ -9,10 +9,9 @@ ghost use Rattle.model_strace.specs.Calls.{call_told, listed_told, outcome_told,
 ghost use Rattle.model_strace.specs.Outcome.{outcome_of};
 ghost use Rattle.model_strace.specs.Written.{arguments_of};
 
-use crate::arguments::text_of;
 use crate::births::{read_birth, read_setns, read_unshare};
 use crate::files::{
-    read_close, read_creat, read_dup, read_dup_to, read_fcntl, read_open, read_write,
+    read_close, read_creat, read_dup, read_dup_to, read_fcntl, read_open, read_open_at, read_write,
 };
 use crate::listed::{Listed, ReadFor};
 use crate::names::named_call;
@@ -95,10 +94,10 @@ fn returned<'a>(
         ReadFor::SetsCaps => Ok(caps::read(pid, arguments, outcome)),
         ReadFor::Prctl => Ok(prctl::read(arguments, outcome)),
         ReadFor::Birth => Ok(read_birth(birth_flags(arguments), outcome)),
-        ReadFor::Unshare => Ok(read_unshare(text_of(1, arguments), outcome)),
+        ReadFor::Unshare => Ok(read_unshare(arguments, outcome)),
         ReadFor::SetNs => Ok(read_setns(arguments, outcome)),
-        ReadFor::OpenFile => Ok(read_open(1, arguments, outcome)),
-        ReadFor::OpenAt => Ok(read_open(2, arguments, outcome)),
+        ReadFor::OpenFile => Ok(read_open(arguments, outcome)),
+        ReadFor::OpenAt => Ok(read_open_at(arguments, outcome)),
         ReadFor::Creat => Ok(read_creat(arguments, outcome)),
         ReadFor::Close => Ok(read_close(arguments, outcome)),
         ReadFor::Dup => Ok(read_dup(arguments, outcome)),

@@ -43,22 +43,20 @@ fn read_call(pid: Pid, arguments: Option<&[u8]>) -> Result<Sets, LineFault>
     ensures { and_make sets_is result ≡ then_read (read_argument (own_header pid) 1 (arguments_in arguments.entry))
         (λ p. read_argument sets_of 2 (arguments_in arguments.entry)) }
 {
-    own_header(pid, arguments)?;
-    let text = needed(2, arguments)?;
+    let (header, left) = needed(arguments, LineFault::Argument(1))?;
+    own_header(pid, header).ok_or(LineFault::Argument(1))?;
+    let (text, _) = needed(left, LineFault::Argument(2))?;
     read_sets(text).ok_or(LineFault::Argument(2))
 }
 
 // The process of a header that names 0, or the caller.
-fn own_header(pid: Pid, arguments: Option<&[u8]>) -> Result<u32, LineFault>
-    ensures { result ≡ read_argument (own_header pid) 1 (arguments_in arguments.entry) }
+fn own_header(pid: Pid, header: &[u8]) -> Option<u32>
+    ensures { result ≡ own_header pid header.now }
 {
-    let text = needed(1, arguments)?;
-    match read_header(text) {
-        Some(named) => if named == 0 || named == pid.number() {
-            Ok(named)
-        } else {
-            Err(LineFault::Argument(1))
-        },
-        None => Err(LineFault::Argument(1)),
+    let named = read_header(header)?;
+    if named == 0 || named == pid.number() {
+        Some(named)
+    } else {
+        None
     }
 }

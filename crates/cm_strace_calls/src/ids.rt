@@ -46,14 +46,17 @@ fn read_call(kind: CallKind, arguments: Option<&[u8]>) -> Result<Call, LineFault
     requires { IsTrue (has_ids (shape_of kind)) }
     ensures { (w : World) → and_make call_of result ≡ ids_read w kind (arguments_in arguments.entry) }
 {
+    let (first, left) = id(1, arguments)?;
     match kind.shape() {
-        Shape::OneId => Ok(Call::with_id(kind, id(1, arguments)?)),
-        Shape::TwoIds => Ok(Call::with_two_ids(kind, id(1, arguments)?, id(2, arguments)?)),
-        _ => Ok(Call::with_three_ids(
-            kind,
-            id(1, arguments)?,
-            id(2, arguments)?,
-            id(3, arguments)?,
-        )),
+        Shape::OneId => Ok(Call::with_id(kind, first)),
+        Shape::TwoIds => {
+            let (second, _) = id(2, left)?;
+            Ok(Call::with_two_ids(kind, first, second))
+        }
+        _ => {
+            let (second, left) = id(2, left)?;
+            let (third, _) = id(3, left)?;
+            Ok(Call::with_three_ids(kind, first, second, third))
+        }
     }
 }

@@ -1,5 +1,5 @@
 // prctl(2), by its option; other options tell nothing, whatever they answer.
-ghost use Rattle.std.specs.Prelude.{◌≡◌, IsTrue, codes};
+ghost use Rattle.std.specs.Prelude.{◌≡◌, ◌∷◌, ℕ, IsTrue, List, codes};
 ghost use Rattle.cm_filter.specs.Shapes.{shape_of};
 ghost use Rattle.cm_state.specs.Call.{call_of};
 ghost use Rattle.cm_strace_calls.specs.Made.{has_number, number_call};
@@ -10,7 +10,7 @@ ghost use Rattle.model_cred.specs.Call.{AmbClear};
 ghost use Rattle.model_strace.specs.Calls.{Does, with_result, plain_call, prctl_told, option_told, ambient_told};
 ghost use Rattle.model_strace.specs.Outcome.{plain_result};
 
-use crate::arguments::{bits, capability, deciding, number};
+use crate::arguments::{bits, capability, lacking, needed, number};
 use crate::told::Told;
 use cm_base::LineFault;
 use cm_filter::{CallKind, Shape};
@@ -21,50 +21,52 @@ use cm_strace_values::Outcome;
 pub(crate) fn read<'a>(arguments: Option<&[u8]>, outcome: Outcome) -> Told<'a>
     ensures { told_is result ≡ prctl_told (arguments_in arguments.entry) (outcome_is outcome) }
 {
-    match deciding(1, arguments, outcome) {
-        Ok(option) => read_option(option, arguments, outcome),
+    match needed(arguments, lacking(outcome, 1)) {
+        Ok((option, left)) => read_option(option, left, outcome),
         Err(why) => Told::Faulty(why),
     }
 }
 
-// The same by its option.
-fn read_option<'a>(option: &[u8], arguments: Option<&[u8]>, outcome: Outcome) -> Told<'a>
-    ensures { told_is result ≡ option_told option.now (arguments_in arguments.entry) (outcome_is outcome) }
+// The same by its option, and the arguments after it.
+fn read_option<'a>(option: &[u8], left: Option<&[u8]>, outcome: Outcome) -> Told<'a>
+    ensures { told_is result
+        ≡ option_told option.now (option.now ∷ arguments_in left.entry) (outcome_is outcome) }
 {
     if option == b"PR_SET_KEEPCAPS".as_slice() {
-        with_number(outcome, CallKind::KeepCaps, number(2, arguments))
+        with_number(outcome, CallKind::KeepCaps, number(2, left))
     } else if option == b"PR_SET_NO_NEW_PRIVS".as_slice() {
-        with_number(outcome, CallKind::NoNewPrivs, number(2, arguments))
+        with_number(outcome, CallKind::NoNewPrivs, number(2, left))
     } else if option == b"PR_SET_SECUREBITS".as_slice() {
-        with_number(outcome, CallKind::SecureBits, bits(2, arguments))
+        with_number(outcome, CallKind::SecureBits, bits(2, left))
     } else if option == b"PR_CAPBSET_DROP".as_slice() {
-        with_number(outcome, CallKind::BsetDrop, capability(2, arguments))
+        with_number(outcome, CallKind::BsetDrop, capability(2, left))
     } else if option == b"PR_CAP_AMBIENT".as_slice() {
-        read_ambient(arguments, outcome)
+        read_ambient(left, outcome)
     } else {
         Told::Nothing
     }
 }
 
-// PR_CAP_AMBIENT, by its second argument.
-fn read_ambient<'a>(arguments: Option<&[u8]>, outcome: Outcome) -> Told<'a>
-    ensures { told_is result
-        ≡ option_told (codes "PR_CAP_AMBIENT") (arguments_in arguments.entry) (outcome_is outcome) }
+// PR_CAP_AMBIENT, by the argument after it.
+fn read_ambient<'a>(left: Option<&[u8]>, outcome: Outcome) -> Told<'a>
+    ensures { (option : List ℕ) → told_is result
+        ≡ option_told (codes "PR_CAP_AMBIENT") (option ∷ arguments_in left.entry) (outcome_is outcome) }
 {
-    match deciding(2, arguments, outcome) {
-        Ok(what) => read_change(what, arguments, outcome),
+    match needed(left, lacking(outcome, 2)) {
+        Ok((what, left)) => read_change(what, left, outcome),
         Err(why) => Told::Faulty(why),
     }
 }
 
-// The same by what is to change.
-fn read_change<'a>(what: &[u8], arguments: Option<&[u8]>, outcome: Outcome) -> Told<'a>
-    ensures { told_is result ≡ ambient_told what.now (arguments_in arguments.entry) (outcome_is outcome) }
+// The same by what is to change, and the arguments after it.
+fn read_change<'a>(what: &[u8], left: Option<&[u8]>, outcome: Outcome) -> Told<'a>
+    ensures { (option : List ℕ) → told_is result
+        ≡ ambient_told what.now (option ∷ what.now ∷ arguments_in left.entry) (outcome_is outcome) }
 {
     if what == b"PR_CAP_AMBIENT_RAISE".as_slice() {
-        with_number(outcome, CallKind::AmbRaise, capability(3, arguments))
+        with_number(outcome, CallKind::AmbRaise, capability(3, left))
     } else if what == b"PR_CAP_AMBIENT_LOWER".as_slice() {
-        with_number(outcome, CallKind::AmbLower, capability(3, arguments))
+        with_number(outcome, CallKind::AmbLower, capability(3, left))
     } else if what == b"PR_CAP_AMBIENT_CLEAR_ALL".as_slice() {
         clear(outcome)
     } else {

@@ -5,7 +5,7 @@ use Rattle.model_cred.specs.Call.{AmbLower}
 use Rattle.model_strace.specs.Calls.{plain_call}
 
 pub returns-then-eq-2 : goal.returns-then-eq-2
-returns-then-eq-2 c =
+returns-then-eq-2 c = λ option.
     c.with_number-then-eq-2.ensures
     ∙ ap (λ read. plain_call (outcome_is c.args.outcome) read AmbLower) c.capability-then-eq-2.ensures
     ∙ search rules
