@@ -120,8 +120,8 @@ by_shape w kind ThreeIds arguments is has = three w kind arguments is
 by_shape w kind _ arguments is has = absurd (cc)
 
 -- the same where what is read of the first argument is at hand
-pub after_first : (w : World) (kind : CallKind) (arguments : List (List ℕ)) (first : Result (ℕ × List (List ℕ)) LineFault)
-    → IsTrue (has_ids (shape_of kind)) → first ≡ next_read id_token 1 arguments
+pub after_first : (w : World) (kind : CallKind) (arguments : List (List ℕ))
+    (first : Result (ℕ × List (List ℕ)) LineFault) → IsTrue (has_ids (shape_of kind)) → first ≡ next_read id_token 1 arguments
     → ids_read w kind arguments ≡ then_read first (λ a. ids_after kind (shape_of kind) a.0 a.1)
 after_first w kind arguments first has is =
     by_shape w kind (shape_of kind) arguments refl has

@@ -1,5 +1,5 @@
-// The arguments of a call, one after another: each is taken from the front of those that are left. Their numbers, from 1
-// on, are for the faults alone.
+// The arguments of a call, one after another: each is taken from the front of those that are left. Their numbers, from
+// 1 on, are for the faults alone.
 ghost use Rattle.std.specs.Prelude.{◌≡◌, ◌∷◌, [], IfErr, IfOk, drop};
 ghost use Rattle.cm_strace_calls.specs.Readers.{first_read, first_capability, next_is, next_read};
 ghost use Rattle.cm_strace_calls.specs.Told.{and_make};
@@ -29,7 +29,8 @@ pub(crate) fn needed(
     }
 }
 
-/// The fault where the argument of that number is missing, which decides what a call is: that of the result comes first.
+/// The fault where the argument of that number is missing, which decides what a call is: that of the result comes
+/// first.
 pub(crate) fn lacking(outcome: Outcome, number: u32) -> LineFault
     ensures { result ≡ lacking (outcome_is outcome) number }
 {

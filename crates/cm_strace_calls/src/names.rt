@@ -12,9 +12,30 @@ use crate::listed::{Listed, ReadFor};
 use cm_filter::CallKind;
 use cm_strace_text::{call_name, is_word};
 
-/// The call that a text names. None exactly where it isn't read.
+/// The call that a text names. None exactly where it isn't read. The calls that come most are told here, without their
+/// rows.
 #[inline]
+#[tactic(auto, using(crate::proofs::Fronts::closes, crate::proofs::Fronts::writes, crate::proofs::Fronts::opens_at))]
 pub fn named_call(text: &[u8]) -> Option<Listed>
+    ensures { option_map listed_is result ≡ listed_named (call_name text.now) }
+{
+    match text {
+        [b'c', b'l', b'o', b's', b'e', b'(', ..] => Some(Listed {
+            read_for: ReadFor::Close,
+        }),
+        [b'w', b'r', b'i', b't', b'e', b'(', ..] => Some(Listed {
+            read_for: ReadFor::Write,
+        }),
+        [b'o', b'p', b'e', b'n', b'a', b't', b'(', ..] => Some(Listed {
+            read_for: ReadFor::OpenAt,
+        }),
+        _ => call_begun(text),
+    }
+}
+
+// The same, by the rows of the names that begin as the text does.
+#[inline]
+fn call_begun(text: &[u8]) -> Option<Listed>
     ensures { option_map listed_is result ≡ listed_named (call_name text.now) }
 {
     match text {

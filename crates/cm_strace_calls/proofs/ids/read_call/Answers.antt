@@ -8,7 +8,8 @@ use Rattle.cm_strace_text.specs.Depths.{arguments_in}
 
 pub returns-in_err-first : goal.returns-in_err-first
 returns-in_err-first c = λ w.
-    let p = err_from_is_err_and c.from_residual.result c.from_residual.ensures.1 in rw (p.1, p.2)
+    let p = err_from_is_err_and c.from_residual.result
+    c.from_residual.ensures.1 in rw (p.1, p.2)
     (sym (after_first w c.args.kind (arguments_in c.args.arguments) _ c.requires
     (ap (and_make next_is) (sym c.in_err-first.was) ∙ c.id.ensures)))
 
@@ -22,23 +23,27 @@ returns-in-OneId c = λ w.
 
 pub returns-in_err-second-in-TwoIds : goal.returns-in_err-second-in-TwoIds
 returns-in_err-second-in-TwoIds c = λ w.
-    let p = err_from_is_err_and c.from_residual-in_err-second-in-TwoIds.result c.from_residual-in_err-second-in-TwoIds.ensures.1 in rw (p.1, p.2)
+    let p = err_from_is_err_and c.from_residual-in_err-second-in-TwoIds.result
+    c.from_residual-in_err-second-in-TwoIds.ensures.1 in rw (p.1, p.2)
     (sym (after_first w c.args.kind (arguments_in c.args.arguments) _ c.requires
     (ap (and_make next_is) (sym c.in_ok-first.was) ∙ c.id.ensures)
-    ∙ two_after c.args.kind c.in_ok-first.first (arguments_in c.in_ok-first.left) _ (sym c.shape.ensures ∙ c.in-TwoIds.is)
+    ∙ two_after c.args.kind c.in_ok-first.first (arguments_in c.in_ok-first.left) _
+    (sym c.shape.ensures ∙ c.in-TwoIds.is)
     (ap (and_make next_is) (sym c.in_err-second-in-TwoIds.was) ∙ c.id-in-TwoIds.ensures)))
 
 pub returns-in_ok-second-in-TwoIds : goal.returns-in_ok-second-in-TwoIds
 returns-in_ok-second-in-TwoIds c = λ w.
     sym (after_first w c.args.kind (arguments_in c.args.arguments) _ c.requires
     (ap (and_make next_is) (sym c.in_ok-first.was) ∙ c.id.ensures)
-    ∙ two_after c.args.kind c.in_ok-first.first (arguments_in c.in_ok-first.left) _ (sym c.shape.ensures ∙ c.in-TwoIds.is)
+    ∙ two_after c.args.kind c.in_ok-first.first (arguments_in c.in_ok-first.left) _
+    (sym c.shape.ensures ∙ c.in-TwoIds.is)
     (ap (and_make next_is) (sym c.in_ok-second-in-TwoIds.was) ∙ c.id-in-TwoIds.ensures)
     ∙ made_is c.args.kind _ _ c.with_two_ids.ensures.kind c.with_two_ids.ensures.arguments)
 
 pub returns-in_err-second-in_default : goal.returns-in_err-second-in_default
 returns-in_err-second-in_default c = λ w.
-    let p = err_from_is_err_and c.from_residual-in_err-second-in_default.result c.from_residual-in_err-second-in_default.ensures.1 in rw (p.1, p.2)
+    let p = err_from_is_err_and c.from_residual-in_err-second-in_default.result
+    c.from_residual-in_err-second-in_default.ensures.1 in rw (p.1, p.2)
     (sym (after_first w c.args.kind (arguments_in c.args.arguments) _ c.requires
     (ap (and_make next_is) (sym c.in_ok-first.was) ∙ c.id.ensures)
     ∙ three_after c.args.kind c.in_ok-first.first (arguments_in c.in_ok-first.left) _
@@ -47,7 +52,8 @@ returns-in_err-second-in_default c = λ w.
 
 pub returns-in_err-third-in_default : goal.returns-in_err-third-in_default
 returns-in_err-third-in_default c = λ w.
-    let p = err_from_is_err_and c.from_residual-in_err-third-in_default.result c.from_residual-in_err-third-in_default.ensures.1 in rw (p.1, p.2)
+    let p = err_from_is_err_and c.from_residual-in_err-third-in_default.result
+    c.from_residual-in_err-third-in_default.ensures.1 in rw (p.1, p.2)
     (sym (after_first w c.args.kind (arguments_in c.args.arguments) _ c.requires
     (ap (and_make next_is) (sym c.in_ok-first.was) ∙ c.id.ensures)
     ∙ three_after c.args.kind c.in_ok-first.first (arguments_in c.in_ok-first.left) _
