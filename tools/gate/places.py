@@ -19,7 +19,7 @@ from dataclasses import dataclass
 
 TOP = os.path.normpath(os.path.join(os.path.dirname(os.path.abspath(__file__)), "..", ".."))
 PASSED = re.compile(r"\s*(--|//|(pub |ghost |pub ghost )?use\s)")
-CRATES_PASSED = re.compile(r"(_cases|_bench)$|^container_start$")
+CRATES_PASSED = re.compile(r"(_cases|_bench)$|^(container_start|case_lines)$")
 FILES_PASSED = re.compile(r"(^|/)(tests?(/.*)?\.rt|[a-z_]*tests\.rt|[A-Za-z]*Cases\.antt|must-fail/.*|data/.*)$")
 NONE = re.compile(r"(?!)")
 

@@ -2,7 +2,7 @@
 ghost use Rattle.std.specs.Prelude.{◌≡◌, ◌<◌, ◌*◌, ◌^◌, IsTrue, length};
 
 use crate::case::Case;
-use crate::stop::Stop;
+use case_lines::Stop;
 use cm_base::Pid;
 use cm_box::{Bounds, Rule, Setting, closed, covers_start, meets, rule, start_bounds};
 use cm_maker::{least, least_by_rounds};

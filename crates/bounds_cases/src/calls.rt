@@ -1,5 +1,5 @@
 // Filters by the names of the calls that they permit, or exclude.
-use crate::stop::Stop;
+use case_lines::Stop;
 use cm_filter::{CallKind, Filter};
 use std::alloc::Global;
 

@@ -1,5 +1,5 @@
 // What a case is about: a world, the filter that is asked about, members, and bounds.
-use crate::stop::Stop;
+use case_lines::Stop;
 use cm_base::Pid;
 use cm_box::{Bounds, BoxRow, Rows};
 use cm_declared::World;

@@ -2,8 +2,7 @@
 use crate::asked::{applied, closed_least, started};
 use crate::case::Case;
 use crate::rules::rule_named;
-use crate::stop::Stop;
-use crate::values::{number, pids};
+use case_lines::{Stop, number, pids};
 use std::alloc::Global;
 
 // Changes the bounds by `start PIDS`, `rule NAME ROW` or `close`. A bad line leaves all as it was.

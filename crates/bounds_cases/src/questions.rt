@@ -1,8 +1,7 @@
 // The lines that ask, and their answers.
 use crate::asked::{first_open, lacking, met};
 use crate::case::Case;
-use crate::stop::Stop;
-use crate::values::{pids, right};
+use case_lines::{Stop, pids, right};
 use cm_box::Rule;
 use std::alloc::{AllocError, Global};
 

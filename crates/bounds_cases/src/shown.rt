@@ -1,5 +1,5 @@
 // Rows as text: each part that holds something, in the form in which a line of a case writes it.
-use crate::stop::Stop;
+use case_lines::Stop;
 use cm_base::{Cap, CapWord};
 use cm_box::{Bounds, BoxRow};
 use cm_idset::{IdSet, Interval};

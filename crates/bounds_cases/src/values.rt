@@ -1,16 +1,9 @@
 // Values as the lines of cases write them. What is none is bad.
-use crate::stop::Stop;
-use cm_base::{Cap, Kgid, Kuid, Pid, SpaceId, read_u32};
+use case_lines::{Stop, number};
 use cm_idset::IdSet;
 use cm_sets::{CapSet, SetLike};
-use cm_state::Right;
 use cm_tokens::read_cap_text;
 use std::alloc::Global;
-
-// A number of at most 4294967295.
-pub(crate) fn number(word: &str) -> Result<u32, Stop> {
-    read_u32(word.as_bytes()).map_err(|_| Stop::Bad)
-}
 
 // The ids from the one to the other, `first-last`, or a single id.
 fn range(alloc: Global, word: &str) -> Result<IdSet, Stop> {
@@ -49,36 +42,6 @@ pub(crate) fn flag(words: &[&str]) -> Result<bool, Stop> {
     match words {
         [] => Ok(false),
         ["yes"] => Ok(true),
-        _ => Err(Stop::Bad),
-    }
-}
-
-// The pids of these.
-pub(crate) fn pids(alloc: Global, words: &[&str]) -> Result<Vec<Pid>, Stop> {
-    let mut list = Vec::new(alloc);
-    for word in words {
-        let pid = Pid::new(number(word)?).ok_or(Stop::Bad)?;
-        list.push(pid)?;
-    }
-    Ok(list)
-}
-
-// A right: `uid K`, `gid K`, or `NAME N`, the capability over the space of that number.
-pub(crate) fn right(words: &[&str]) -> Result<Right, Stop> {
-    match words {
-        ["uid", id] => {
-            let id = Kuid::new(number(id)?).ok_or(Stop::Bad)?;
-            Ok(Right::Uid(id))
-        }
-        ["gid", id] => {
-            let id = Kgid::new(number(id)?).ok_or(Stop::Bad)?;
-            Ok(Right::Gid(id))
-        }
-        [name, n] => {
-            let cap = Cap::from_name(name.as_bytes()).ok_or(Stop::Bad)?;
-            let n = number(n)?;
-            Ok(Right::Cap(cap, SpaceId(n)))
-        }
         _ => Err(Stop::Bad),
     }
 }

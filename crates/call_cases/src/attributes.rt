@@ -1,5 +1,5 @@
 // The attribute security.capability of a file (capabilities(7)), by its bytes.
-use crate::stop::Stop;
+use case_lines::Stop;
 use cm_vfscap::{FileCaps, read, write};
 use hex::{FromHexError, decode, encode};
 use std::alloc::Global;

@@ -4,7 +4,7 @@ ghost use Rattle.std.specs.Prelude.{◌<◌, length, IfOk};
 use crate::groups::ranges;
 use crate::made::made;
 use crate::shown::all_shown;
-use crate::stop::Stop;
+use case_lines::Stop;
 use cm_base::{Pid, Res};
 use cm_credentials::credentials;
 use cm_declared::World;

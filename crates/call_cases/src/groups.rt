@@ -1,6 +1,5 @@
 // Lists of groups that are longer than a script line may tell.
-use crate::stop::Stop;
-use crate::values::number;
+use case_lines::{Stop, number};
 use cm_base::{Kgid, NoMemory};
 use cm_tokens::{put, put_decimal};
 use std::alloc::Global;

@@ -1,6 +1,6 @@
 // A call of a process, made by the rules: its credential, its place and the spaces are then as the rules leave them.
 use crate::spaces::space_call;
-use crate::stop::Stop;
+use case_lines::Stop;
 use cm_base::Res;
 use cm_capcalls::{
     amb_clear, amb_lower, amb_raise, bset_drop, cap_set, keep_caps, no_new_privs, secure_bits,

@@ -11,19 +11,18 @@ mod questions;
 mod session;
 mod shown;
 mod spaces;
-mod stop;
 mod strace;
 mod values;
 
-use crate::session::told;
-use crate::stop::Stop;
+use crate::session::Session;
+use case_lines::{Stop, answers};
 use cm_io::{RealSink, write_all};
 use std::io;
 
 fn main(rt: HostRuntime) -> Result<(), Stop> {
     let alloc = rt.alloc();
     let text = io::read_to_string(alloc, rt.stdin())?;
-    let told = told(alloc, text.as_str())?;
+    let told = answers(alloc, &mut Session::first(alloc)?, " = ", text.as_str())?;
     write_all(&mut RealSink::new(io::writer(&rt)), &told)?;
     Ok(())
 }

@@ -1,8 +1,8 @@
 // The lines that ask for a word or a value, and their answers.
 use crate::attributes::attribute;
 use crate::case::Case;
-use crate::stop::Stop;
 use crate::values::{pid, right};
+use case_lines::Stop;
 use std::alloc::Global;
 
 // The answer to `may PID PATH`, `holds PID RIGHT` or `attribute DIGITS`.

@@ -1,5 +1,5 @@
 // The calls of user namespaces, called spaces here. A process that makes or joins one is in it from then on.
-use crate::stop::Stop;
+use case_lines::Stop;
 use cm_base::{Res, SpaceId};
 use cm_idmap::Extent;
 use cm_nscalls::{MapFile, join_space, new_space, write_gid_map, write_setgroups, write_uid_map};

@@ -1,5 +1,5 @@
 // What lines of strace(1) tell, as text.
-use crate::stop::Stop;
+use case_lines::Stop;
 use cm_base::Pid;
 use cm_declared::World;
 use cm_strace_calls::{Told, read_call};

@@ -1,14 +1,9 @@
 // Values as the lines of cases write them. What is none is bad.
-use crate::stop::Stop;
-use cm_base::{Cap, Kgid, Kuid, Pid, read_u32};
+use case_lines::{Stop, number};
+use cm_base::{Cap, Kgid, Kuid, Pid};
 use cm_declared::Names;
 use cm_script::read_pid;
 use cm_state::Right;
-
-// A number of at most 4294967295.
-pub(crate) fn number(word: &str) -> Result<u32, Stop> {
-    read_u32(word.as_bytes()).map_err(|_| Stop::Bad)
-}
 
 pub(crate) fn pid(word: &str) -> Result<Pid, Stop> {
     read_pid(word.as_bytes()).ok_or(Stop::Bad)

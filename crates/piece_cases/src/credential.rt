@@ -1,6 +1,5 @@
 // Credential lines of the processes of a world.
-use crate::stop::Stop;
-use crate::values::number;
+use case_lines::{Stop, number};
 use cm_base::{Pid, SpaceId};
 use cm_credentials::credentials;
 use cm_declared::World;

@@ -1,6 +1,6 @@
 // Mounts and files as lines of cases declare them: a name or a path, and parts that `;` parts.
-use crate::stop::Stop;
-use crate::values::{extent, number};
+use crate::values::extent;
+use case_lines::{Stop, number};
 use cm_base::{CapWord, Kgid, Kuid, SpaceId};
 use cm_files::{FileRow, MapPair, Mount, Text};
 use cm_idmap::{Extent, IdMap};

@@ -1,7 +1,6 @@
 // Tables of files: what is declared for one, and what a table answers.
-use crate::escapes::bytes_of;
-use crate::stop::Stop;
-use crate::values::{id_or_none, named, number, word};
+use crate::values::id_or_none;
+use case_lines::{Stop, bytes_of, named, number, word};
 use cm_base::read_octal;
 use cm_files::{FileRow, FileTable, FileView, Mount};
 use std::alloc::Global;

@@ -1,7 +1,5 @@
 // Script lines, as they are read and written again; the laws of cm_script.
-use crate::escapes::bytes_of;
-use crate::stop::Stop;
-use crate::values::{named, word};
+use case_lines::{Stop, bytes_of, named, word};
 use cm_declared::World;
 use cm_script::{lines_read_back, numbers_are_lines, read_line, read_own, write_line};
 use cm_state::Event;

@@ -5,23 +5,21 @@
 
 mod credential;
 mod declared;
-mod escapes;
 mod files;
 mod lines;
 mod maps;
 mod session;
-mod stop;
 mod values;
 
-use crate::session::answers;
-use crate::stop::Stop;
+use crate::session::Session;
+use case_lines::{Stop, answers};
 use cm_io::{RealSink, write_all};
 use std::io;
 
 fn main(rt: HostRuntime) -> Result<(), Stop> {
     let alloc = rt.alloc();
     let text = io::read_to_string(alloc, rt.stdin())?;
-    let told = answers(alloc, text.as_str())?;
+    let told = answers(alloc, &mut Session::first(alloc)?, " => ", text.as_str())?;
     write_all(&mut RealSink::new(io::writer(&rt)), &told)?;
     Ok(())
 }

@@ -1,6 +1,6 @@
 // Id maps: which lists of extents are one, and what they take ids to.
-use crate::stop::Stop;
-use crate::values::{extents, id_or_none, named, number, word};
+use crate::values::{extents, id_or_none};
+use case_lines::{Stop, named, number, word};
 use cm_idmap::{Extent, IdMap};
 use std::alloc::Global;
 

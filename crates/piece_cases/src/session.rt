@@ -1,10 +1,10 @@
-// The lines of cases, one after the other, and the answers to them.
+// What the lines of cases ask, of the world and of the map and the files of their case.
 use crate::credential::credential_line;
 use crate::declared::{declared_file, declared_mount};
 use crate::files::Files;
 use crate::lines::{laws_called, line_answer};
 use crate::maps::map_answer;
-use crate::stop::Stop;
+use case_lines::{Cases, Stop, Told};
 use cm_declared::World;
 use cm_idmap::IdMap;
 use cm_world::read_world;
@@ -13,108 +13,60 @@ use std::alloc::Global;
 // The world before the first one that is written.
 const FIRST: &str = "log = \"script\"\n";
 
-// What is read so far: the world; the lines of one that hasn't ended yet; the map and the files of the case; the answers.
+// What is read so far: the world; the map and the files of the case.
 #[derive(Drop)]
-struct Session {
+pub(crate) struct Session {
     world: World,
-    text: Option<String>,
     map: Option<IdMap>,
     files: Files,
-    told: Vec<u8>,
-}
-
-// The answers to the lines of a text.
-pub(crate) fn answers(alloc: Global, text: &str) -> Result<Vec<u8>, Stop> {
-    let world = read_world(alloc, FIRST.as_bytes())?;
-    let mut s = Session {
-        world,
-        text: None,
-        map: None,
-        files: Files::none(alloc),
-        told: Vec::new(alloc),
-    };
-    for line in text.lines() {
-        s.take(alloc, line)?;
-    }
-    Ok(s.told)
 }
 
 impl Session {
-    // Takes a line. One that is bad, or for which there is no memory, is answered so.
-    fn take(&mut self, alloc: Global, line: &str) -> Result<(), Stop> {
-        match self.taken(alloc, line) {
-            Err(Stop::Bad) => self.tell(line, b"bad"),
-            Err(Stop::NoMemory) => self.tell(line, b"NoMemory"),
-            other => other,
-        }
+    // That before any line.
+    pub(crate) fn first(alloc: Global) -> Result<Session, Stop> {
+        Ok(Session {
+            world: read_world(alloc, FIRST.as_bytes())?,
+            map: None,
+            files: Files::none(alloc),
+        })
     }
 
-    fn taken(&mut self, alloc: Global, line: &str) -> Result<(), Stop> {
-        match self.text.take() {
-            Some(text) => self.world_line(alloc, text, line),
-            None => self.case_line(alloc, line),
-        }
-    }
-
-    // A line of a world, which `end` ends.
-    fn world_line(&mut self, alloc: Global, text: String, line: &str) -> Result<(), Stop> {
-        if line == "end" {
-            self.world = read_world(alloc, text.as_bytes())?;
-            return Ok(());
-        }
-        let mut text = text;
-        text.push_str(line)?;
-        text.push_str("\n")?;
-        self.text = Some(text);
-        Ok(())
-    }
-
-    // Another line: its first word, and what stands after the blank that follows it.
-    fn case_line(&mut self, alloc: Global, line: &str) -> Result<(), Stop> {
-        let (word, rest) = line.split_once(' ').unwrap_or((line, ""));
+    fn asked(&mut self, alloc: Global, word: &str, rest: &str) -> Result<Vec<u8>, Stop> {
         match word {
-            "" | "#" => Ok(()),
-            "world" => self.begin_world(alloc),
-            "case" => self.begin(alloc, line),
-            "mount" => self.files.add_mount(declared_mount(alloc, rest)?),
-            "file" => self.files.add_row(declared_file(alloc, rest)?),
-            _ => self.ask(alloc, line, word, rest),
+            "read" | "event" => line_answer(alloc, word, rest, &self.world),
+            "laws" => laws_called(alloc),
+            "credentials" => credential_line(alloc, rest, &self.world),
+            "table" | "find" | "rows" | "mounts" | "program" | "view" | "bits" => {
+                self.files.answer(alloc, word, rest)
+            }
+            _ => map_answer(alloc, &mut self.map, word, rest),
         }
     }
+}
 
-    fn begin_world(&mut self, alloc: Global) -> Result<(), Stop> {
-        self.text = Some(String::new(alloc));
+impl Cases for Session {
+    fn declare(&mut self, alloc: Global, world: &str) -> Result<(), Stop> {
+        self.world = read_world(alloc, world.as_bytes())?;
         Ok(())
     }
 
-    // A case begins, under its name, without a map and without files.
-    fn begin(&mut self, alloc: Global, line: &str) -> Result<(), Stop> {
+    // Without a map and without files.
+    fn begin(&mut self, alloc: Global) -> Result<(), Stop> {
         self.map = None;
         self.files = Files::none(alloc);
-        self.told.extend_from_slice(line.as_bytes())?;
-        self.told.push(b'\n')?;
         Ok(())
     }
 
-    fn ask(&mut self, alloc: Global, line: &str, word: &str, rest: &str) -> Result<(), Stop> {
-        let answer = match word {
-            "read" | "event" => line_answer(alloc, word, rest, &self.world)?,
-            "laws" => laws_called(alloc)?,
-            "credentials" => credential_line(alloc, rest, &self.world)?,
-            "table" | "find" | "rows" | "mounts" | "program" | "view" | "bits" => {
-                self.files.answer(alloc, word, rest)?
+    // A line: its first word, and what stands after the blank that follows it.
+    fn take(&mut self, alloc: Global, line: &str, told: &mut Told) -> Result<(), Stop> {
+        let (word, rest) = line.split_once(' ').unwrap_or((line, ""));
+        match word {
+            "mount" => self.files.add_mount(declared_mount(alloc, rest)?),
+            "file" => self.files.add_row(declared_file(alloc, rest)?),
+            _ => {
+                let answer = self.asked(alloc, word, rest)?;
+                told.answer(line, &answer)
             }
-            _ => map_answer(alloc, &mut self.map, word, rest)?,
-        };
-        self.tell(line, &answer)
-    }
-
-    // A line and an answer to it.
-    fn tell(&mut self, line: &str, answer: &[u8]) -> Result<(), Stop> {
-        self.told.extend_from_slice(line.as_bytes())?;
-        self.told.extend_from_slice(b" => ")?;
-        self.told.extend_from_slice(answer)?;
-        self.told.push(b'\n')?;
-        Ok(())
+        }
     }
 }

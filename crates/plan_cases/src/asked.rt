@@ -1,6 +1,6 @@
 // The calls of cm_plans, and their answers as text.
 use crate::shown::put_run;
-use crate::stop::Stop;
+use case_lines::Stop;
 use cm_base::Pid;
 use cm_declared::World;
 use cm_machine::Machine;

@@ -1,6 +1,5 @@
 // Machines: what their steps, own steps and families are, and what a step leaves.
-use crate::stop::Stop;
-use crate::values::{number, pid};
+use case_lines::{Stop, number, pid};
 use cm_base::{Errno, Res};
 use cm_declared::World;
 use cm_machine::Machine;

@@ -7,17 +7,16 @@ mod asked;
 mod machine;
 mod session;
 mod shown;
-mod stop;
-mod values;
 
-use crate::session::answers;
-use crate::stop::Stop;
+use crate::session::Session;
+use case_lines::{Stop, answers};
+use cm_io::{RealSink, write_all};
 use std::io;
 
 fn main(rt: HostRuntime) -> Result<(), Stop> {
     let alloc = rt.alloc();
     let text = io::read_to_string(alloc, rt.stdin())?;
-    let told = answers(alloc, text.as_str())?;
-    print!(rt; "{told}")?;
+    let told = answers(alloc, &mut Session::first(alloc)?, "\n", text.as_str())?;
+    write_all(&mut RealSink::new(io::writer(&rt)), &told)?;
     Ok(())
 }

@@ -1,5 +1,5 @@
 // Runs as text: each a line, its events as a log writes them, parted by `; `.
-use crate::stop::Stop;
+use case_lines::Stop;
 use cm_declared::World;
 use cm_script::write_line;
 use cm_state::Event;

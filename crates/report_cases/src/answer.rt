@@ -3,7 +3,7 @@ ghost use Rattle.std.specs.Prelude.{[], Some, IfOk};
 ghost use Rattle.cm_cli.specs.Answers.{AnswersReport};
 ghost use Rattle.cm_cli.specs.Words.{command_in};
 
-use crate::stop::Stop;
+use case_lines::Stop;
 use cm_cli::{Status, run};
 use cm_io::{MemShelf, MemSink, Shelf, are_distinct};
 use std::alloc::{AllocError, Global};
@@ -58,7 +58,7 @@ fn shelf(alloc: Global, texts: &Texts) -> Result<MemShelf, Stop> {
         held.push(text.to_vec(alloc)?)?;
     }
     if !are_distinct(&names) || held.len() != names.len() {
-        return Err(Stop::NoShelf);
+        return Err(Stop::Bad);
     }
     Ok(MemShelf::new(alloc, names, held, Vec::new(alloc))?)
 }

@@ -5,10 +5,9 @@
 
 mod answer;
 mod session;
-mod stop;
 
 use crate::session::told;
-use crate::stop::Stop;
+use case_lines::Stop;
 use cm_io::{RealSink, write_all};
 use std::io;
 

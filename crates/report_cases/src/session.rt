@@ -2,7 +2,7 @@
 ghost use Rattle.std.specs.Prelude.{◌≡◌, ◌++◌, OnOk, [], ◌∷◌};
 
 use crate::answer::{Texts, answered};
-use crate::stop::Stop;
+use case_lines::Stop;
 use std::alloc::{AllocError, Global};
 
 // One of the files.
@@ -22,7 +22,8 @@ struct Session {
     told: Vec<u8>,
 }
 
-// What the lines of a text tell: each case's name, and each report with its status.
+// What the lines of a text tell: each case's name, and each report with its status. It is bad where the text ends within
+// that of a file.
 pub(crate) fn told(alloc: Global, text: &str) -> Result<Vec<u8>, Stop> {
     let mut s = Session {
         texts: Texts {
@@ -39,7 +40,7 @@ pub(crate) fn told(alloc: Global, text: &str) -> Result<Vec<u8>, Stop> {
     }
     match s.open {
         None => Ok(s.told),
-        Some(_) => Err(Stop::Open),
+        Some(_) => Err(Stop::Bad),
     }
 }
 

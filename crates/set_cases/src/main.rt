@@ -5,17 +5,17 @@
 mod session;
 mod sets;
 mod shown;
-mod stop;
 mod values;
 
-use crate::session::answers;
-use crate::stop::Stop;
+use crate::session::Sets;
+use case_lines::{Stop, answers};
+use cm_io::{RealSink, write_all};
 use std::io;
 
 fn main(rt: HostRuntime) -> Result<(), Stop> {
     let alloc = rt.alloc();
     let text = io::read_to_string(alloc, rt.stdin())?;
-    let told = answers(alloc, text.as_str())?;
-    print!(rt; "{told}")?;
+    let told = answers(alloc, &mut Sets, " = ", text.as_str())?;
+    write_all(&mut RealSink::new(io::writer(&rt)), &told)?;
     Ok(())
 }

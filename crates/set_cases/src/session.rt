@@ -1,41 +1,15 @@
-// The lines of cases, one after the other, and the answers to them.
+// What the lines of cases ask of sets.
 use crate::sets::set_answered;
-use crate::stop::Stop;
+use case_lines::{Cases, Stop, Told};
 use std::alloc::Global;
 
-// The answers to the lines of a text.
-pub(crate) fn answers(alloc: Global, text: &str) -> Result<String, Stop> {
-    let mut told = String::new(alloc);
-    for line in text.lines() {
-        if !line.is_empty() && !line.starts_with('#') {
-            take(alloc, &mut told, line)?;
-        }
-    }
-    Ok(told)
-}
+// Each line asks anew: nothing is kept from line to line.
+#[derive(Drop)]
+pub(crate) struct Sets;
 
-// Takes a line. One that is bad, or for which there is no memory, is answered so.
-fn take(alloc: Global, told: &mut String, line: &str) -> Result<(), Stop> {
-    match taken(alloc, told, line) {
-        Err(Stop::Bad) => tell(told, line, " = ", "bad"),
-        Err(Stop::NoMemory) => tell(told, line, " = ", "no memory"),
-        other => other,
+impl Cases for Sets {
+    fn take(&mut self, alloc: Global, line: &str, told: &mut Told) -> Result<(), Stop> {
+        let answer = set_answered(alloc, line)?;
+        told.answer(line, answer.as_bytes())
     }
-}
-
-// A line: the name of a case, or a question.
-fn taken(alloc: Global, told: &mut String, line: &str) -> Result<(), Stop> {
-    if line.starts_with("case ") {
-        return tell(told, line, "", "");
-    }
-    let answer = set_answered(alloc, line)?;
-    tell(told, line, " = ", answer.as_str())
-}
-
-fn tell(told: &mut String, line: &str, mark: &str, answer: &str) -> Result<(), Stop> {
-    told.push_str(line)?;
-    told.push_str(mark)?;
-    told.push_str(answer)?;
-    told.push_str("\n")?;
-    Ok(())
 }

@@ -1,7 +1,7 @@
 // Sets of ids: what the calls of cm_idset answer. The sets and numbers of a line are parted by `/`.
 use crate::shown::ids_shown;
-use crate::stop::Stop;
-use crate::values::{ids, interval, number, yes_or_no};
+use crate::values::{ids, interval, yes_or_no};
+use case_lines::{Stop, number};
 use cm_idmap::{Extent, IdMap};
 use cm_idset::{IdSet, one_meaning_one_list};
 use cm_sets::SetLike;

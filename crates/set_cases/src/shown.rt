@@ -1,5 +1,5 @@
 // Sets as text: their ranges, in the form in which a line of a case writes them.
-use crate::stop::Stop;
+use case_lines::Stop;
 use cm_idset::{IdSet, Interval};
 use std::alloc::Global;
 

@@ -1,14 +1,8 @@
 // Numbers and ranges as the lines of cases write them. What is none is bad.
-use crate::stop::Stop;
-use cm_base::read_u32;
+use case_lines::{Stop, number};
 use cm_idset::{IdSet, Interval};
 use cm_sets::SetLike;
 use std::alloc::Global;
-
-// A number of at most 4294967295.
-pub(crate) fn number(word: &str) -> Result<u32, Stop> {
-    read_u32(word.as_bytes()).map_err(|_| Stop::Bad)
-}
 
 // Two numbers, `first-last`, or a single one, which is both.
 pub(crate) fn interval(word: &str) -> Result<Interval, Stop> {

@@ -1,8 +1,6 @@
 // What is known while a log of strace(1) is read: what the calls of cm_strace_parts answer and leave.
-use crate::escapes::bytes_of;
 use crate::shown::{optional, yes_or_no};
-use crate::stop::Stop;
-use crate::values::{number, pid, word};
+use case_lines::{Stop, bytes_of, number, pid, word};
 use cm_base::{Pid, SpaceId};
 use cm_declared::World;
 use cm_strace_parts::{Descriptor, Parts};

@@ -1,8 +1,6 @@
 // What arguments and results stand for, as strace(1) writes them: what the calls of cm_strace_values make of texts.
-use crate::escapes::bytes_of;
 use crate::shown::yes_or_no;
-use crate::stop::Stop;
-use crate::values::{named, pid};
+use case_lines::{Stop, bytes_of, named, pid};
 use cm_strace_text::read_arguments;
 use cm_strace_values::{
     birth_flags, file_at, has_flag, read_capability, read_header, read_id_list, read_outcome,

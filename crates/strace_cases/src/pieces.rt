@@ -1,8 +1,6 @@
 // Pieces of lines of strace(1): what the calls of cm_strace_text make of texts.
-use crate::escapes::bytes_of;
 use crate::shown::{optional, put_quoted, quoted, yes_or_no};
-use crate::stop::Stop;
-use crate::values::word;
+use case_lines::{Stop, bytes_of, word};
 use cm_base::Pid;
 use cm_strace_text::{
     Body, PidLine, Quote, after_mark, before_mark, bracketed, bracketed_whole, call_name, cut_at,

@@ -1,6 +1,5 @@
 // Texts and answers of two words, as answers show them.
-use crate::stop::Stop;
-use crate::values::word;
+use case_lines::{Stop, word};
 use std::alloc::Global;
 
 // A text, with a quote at each end.

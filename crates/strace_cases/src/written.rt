@@ -1,8 +1,6 @@
 // What the texts give that are written to a process's map files and setgroups file: what the calls of cm_strace_parts
 // answer.
-use crate::escapes::bytes_of;
-use crate::stop::Stop;
-use crate::values::word;
+use case_lines::{Stop, bytes_of, word};
 use cm_idmap::Extent;
 use cm_strace_parts::{read_extents, read_written_word};
 use std::alloc::Global;

@@ -1,13 +1,15 @@
 // Why a line is not done.
 use cm_base::NoMemory;
-use cm_io::Outside;
+use cm_idmap::BadMap;
+use cm_io::{NoMemory as OutOfMemory, Outside};
 use cm_world::WorldError;
 use std::alloc::{AllocError, AllocFailed};
 use std::io;
 
+/// What stops a program of cases, or one line of it.
 #[derive(Debug, Drop)]
-pub(crate) enum Stop {
-    /// The line is none of the forms, or names what isn't there.
+pub enum Stop {
+    /// The text is none of the forms, or names what isn't there.
     Bad,
     NoMemory,
     /// A read or a write failed.
@@ -16,6 +18,12 @@ pub(crate) enum Stop {
 
 impl From<NoMemory> for Stop {
     fn from(_: NoMemory) -> Stop {
+        Stop::NoMemory
+    }
+}
+
+impl From<OutOfMemory> for Stop {
+    fn from(_: OutOfMemory) -> Stop {
         Stop::NoMemory
     }
 }
@@ -36,6 +44,15 @@ impl From<WorldError> for Stop {
     fn from(e: WorldError) -> Stop {
         match e {
             WorldError::NoMemory => Stop::NoMemory,
+            _ => Stop::Bad,
+        }
+    }
+}
+
+impl From<BadMap> for Stop {
+    fn from(e: BadMap) -> Stop {
+        match e {
+            BadMap::NoMemory => Stop::NoMemory,
             _ => Stop::Bad,
         }
     }

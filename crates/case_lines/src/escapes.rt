@@ -4,9 +4,9 @@ use crate::values::number;
 use cm_tokens::hex_value;
 use std::alloc::Global;
 
-// The bytes of a text, in which `\t` and `\r` stand for tab and CR, `\xHH` for the byte of these two digits, and
-// `\(N:TEXT)` for TEXT so many times.
-pub(crate) fn bytes_of(alloc: Global, text: &str) -> Result<Vec<u8>, Stop> {
+/// The bytes of a text, in which `\t` and `\r` stand for tab and CR, `\xHH` for the byte of these two digits, and
+/// `\(N:TEXT)` for TEXT so many times. `Bad` where an escape is none of these.
+pub fn bytes_of(alloc: Global, text: &str) -> Result<Vec<u8>, Stop> {
     let mut pieces = text.split('\\');
     let plain = pieces.next().unwrap_or("");
     let mut bytes = Vec::from_slice(alloc, plain.as_bytes())?;
