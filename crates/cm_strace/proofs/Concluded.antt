@@ -24,7 +24,8 @@ use Rattle.model_strace.specs.Turn.{Turn, body_turn, turn}
 use Rattle.model_text.specs.Reading.{Placed}
 
 -- no line is next after a deed that no lines wait for
-born_alone : (d : Deed) (lines : List Line) (p : Parts) → awaits lines d ≡ false → next_line p lines (born_is (child_of d)) ≡ None
+born_alone : (d : Deed) (lines : List Line) (p : Parts) → awaits lines d ≡ false
+    → next_line p lines (born_is (child_of d)) ≡ None
 born_alone (deed.Bears birth) lines p alone = next_none p lines birth.child (any_none birth.child lines alone)
 born_alone (deed.Does call answer) lines p alone = refl
 born_alone deed.Ends lines p alone = refl
@@ -58,7 +59,8 @@ deed_turn w pid resumed body text d p old one two is =
 pub concluded_read : (w : World) (origin : Origin) (body : List ℕ) (d : Deed) (p : Parts) (old : Work)
     → line_turn origin d p ≡ turn w origin.pid body old.parts → origin.line ≡ old.count + 1
     → concluded w origin d (record old { parts = p; count = old.count + 1 })
-    ≡ read_fed w (record { number = old.count + 1; pid = origin.pid; body = body }) (record old { count = old.count + 1 })
+    ≡ read_fed w (record { number = old.count + 1; pid = origin.pid; body = body })
+    (record old { count = old.count + 1 })
 concluded_read w origin body d p old is line =
     ap (λ (n : ℕ). and_then (given_at n (line_turn origin d p)) (λ r. released w (length old.held) r.born
     (record old { parts = r.parts; count = old.count + 1 }))) line
@@ -72,9 +74,11 @@ at_world (Ok x) P w h = h w
 at_world (Err e) P w h = h
 
 -- what gave nothing but a stop gives it after earlier events
-gave_after : (at : Stage) (events : List Placed) (t : Work) (a : After Work) → Gave at [] t a → Gave at events t (preceded events a)
+gave_after : (at : Stage) (events : List Placed) (t : Work) (a : After Work) → Gave at [] t a
+    → Gave at events t (preceded events a)
 gave_after stage.Going events t a is = ap (λ es. Goes es t) (sym (append-nil events)) ∙ ap (preceded events) is
-gave_after (stage.Stopped stop) events t a is = ap (λ es. Halts es (stop_is stop)) (sym (append-nil events)) ∙ ap (preceded events) is
+gave_after (stage.Stopped stop) events t a is = ap (λ es. Halts es (stop_is stop)) (sym (append-nil events))
+    ∙ ap (preceded events) is
 gave_after stage.Finished events t a is = absurd is
 
 pub held_on : (r : Result Stage NoMemory) (events : List Placed) (t : Work) (a : After Work)

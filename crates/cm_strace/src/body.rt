@@ -32,8 +32,8 @@ pub(crate) fn is_resumed(body: Body<'_>) -> bool
     matches!(body, Body::Resumed(..))
 }
 
-/// What the body of a line of a process does. It fails only where memory runs out, and then leaves the parts as they were,
-/// or to be rolled back.
+/// What the body of a line of a process does. It fails only where memory runs out, and then leaves the parts as they
+/// were, or to be rolled back.
 pub(crate) fn read_deed(
     alloc: Global,
     w: &World,
@@ -41,7 +41,8 @@ pub(crate) fn read_deed(
     pid: Pid,
     body: Body<'_>,
 ) -> Result<Deed, NoMemory>
-    ensures turn { OrNoMemory result (λ deed. deed_is pid deed (left_of (is_resumed (body_is body.entry)) pid parts.new.known)
+    ensures turn { OrNoMemory result (λ deed.
+        deed_is pid deed (left_of (is_resumed (body_is body.entry)) pid parts.new.known)
         ≡ body_turn (world_of w.now) pid (body_is body.entry) parts.old.known) }
     ensures saved { parts.new.saved ≡ parts.old.saved }
     ensures unchanged { LeftOnErr result parts.new parts.old }

@@ -1,5 +1,5 @@
-// What a line does, as far as it is done later: what gives an event is done once the event has a place and all memory for
-// it is there.
+// What a line does, as far as it is done later: what gives an event is done once the event has a place and all memory
+// for it is there.
 ghost use Rattle.std.specs.Prelude.{◌≡◌};
 ghost use Rattle.cm_strace.specs.Deeds.{child_of};
 

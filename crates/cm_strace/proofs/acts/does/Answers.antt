@@ -22,6 +22,7 @@ call_given false line pid call answer old events start changed made first second
 
 pub returns-clause-given : goal.returns-clause-given
 returns-clause-given c =
-    call_given c.args.origin.resumed c.args.origin.line c.args.origin.pid (call_of c.args.call) c.args.answer c.args.events.now.items _
+    call_given c.args.origin.resumed c.args.origin.line c.args.origin.pid
+    (call_of c.args.call) c.args.answer c.args.events.now.items _
     c.args.parts.now.known _ _ c.in_ok-change.ensures.changed c.in_ok-forget.ensures.changed
     (rw c.reserve.ensures.items at c.put_event.ensures)

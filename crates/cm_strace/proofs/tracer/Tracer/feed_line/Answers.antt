@@ -37,7 +37,8 @@ returns-in_ok-stage-in-Going-clause-told c cut =
     ap (λ s. rest w s (before line cut)) (sym c.self.view_is ∙ ap (λ s. session_is s t) c.in-Going.is)
     ∙ lines_go_on w (Going t) line cut
     ∙ ap (λ a. answered_then a (rest w (after_line w (Going t) line) cut))
-    (sym (answer_after events c.feed.new.self (fed w line t) stage (rw c.clear.ensures.items at c.in_ok-stage-in-Going.ensures.fed)))
+    (sym (answer_after events c.feed.new.self (fed w line t) stage
+    (rw c.clear.ensures.items at c.in_ok-stage-in-Going.ensures.fed)))
     ∙ ap (λ s. answered_then (reading_is events stage) (rest w s cut))
     (sym (session_after events c.feed.new.self (t.count + 1) (fed w line t) stage
     (rw c.clear.ensures.items at c.in_ok-stage-in-Going.ensures.fed) c.in_ok-stage-in-Going.ensures.counted))

@@ -8,5 +8,6 @@ returns-clause-done c w =
     let t = c.self.inside in
     let now : Work = record { parts = t.parts.known; held = t.held.items; count = t.count + 1 } in
     rw (← c.self.view_is, c.pass.ensures)
-    (concluded_alone w c.in_ok-stage.stage c.args.events.now.items c.conclude.new.events.items c.args.origin c.args.deed now
+    (concluded_alone w c.in_ok-stage.stage c.args.events.now.items c.conclude.new.events.items c.args.origin
+    c.args.deed now
     c.conclude.new.parts.known (rw (← c.self.view_is) at c.requires.alone) c.in_ok-stage.ensures.given)
