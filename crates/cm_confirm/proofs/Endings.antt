@@ -1,8 +1,11 @@
 -- Where a run stands: an event is taken, or it is over.
 use Rattle.std.proofs.Common.{◌≡◌, ℕ, List}
-use Rattle.std.proofs.Common.{sym, ◌∙◌, ap}
+use Rattle.std.proofs.Common.{sym, subst, ◌∙◌, ap}
 use Rattle.cm_confirm.proofs.Sames.{run_same}
-use Rattle.cm_confirm.specs.Confirmed.{GoesOn}
+use Rattle.cm_confirm.specs.Confirmed.{ComesTo, GoesOn}
+use Rattle.cm_confirm.specs.declared.confirming.Turn.{Turn}
+use Rattle.cm_log.specs.Left.{told_then}
+use Rattle.cm_strace.specs.declared.stage.Stage.{Stage}
 use Rattle.model_confirm.proofs.Passing.{taken}
 use Rattle.model_confirm.specs.Confirm.{Confirmed, by_outcome, confirm_of, events_confirm}
 use Rattle.model_cred.specs.Process.{State}
@@ -31,3 +34,14 @@ module _ (w : World) (s : State) (members : List ℕ) (right : Right) (reading r
   pub ends_with : (c : Confirmed) → ((rest : State → Confirmed) → by_outcome w members e rest (outcome w s e.event) ≡ c)
       → confirm_of w s members right reading ≡ c
   ends_with c ends = by_event ∙ ends next
+
+-- what comes of what a line told is what comes of the line
+pub line_comes : (w : World) (s : State) (members : List ℕ) (right : Right) (reading later : Reading)
+    (told events : List Placed) (at : Stage) (answer : Turn)
+    (after : State) (members_then : List ℕ) → reading ≡ told_then told at later → events ≡ told
+    → ComesTo w s members right (told_then events at later) answer after members_then later
+    → ComesTo w s members right reading answer after members_then later
+line_comes w s members right reading later told events at answer after members_then is same comes =
+    subst (λ (r : Reading). ComesTo w s members right r answer after members_then later) (sym is)
+    (subst (λ (es : List Placed). ComesTo w s members right
+    (told_then es at later) answer after members_then later) same comes)

@@ -6,13 +6,14 @@ use Rattle.cm_confirm.specs.declared.confirming.Turn.{Turn}
 use Rattle.cm_confirm.specs.declared.confirming.Turn.TheVariants as turn
 use Rattle.cm_confirm.specs.Members.{SameMembers}
 use Rattle.model_confirm.specs.Confirm as model
-use Rattle.model_confirm.specs.Confirm.{by_outcome, is_for_members}
+use Rattle.model_confirm.specs.Confirm.{by_outcome, confirm_of, is_for_members}
 use Rattle.model_cred.specs.Process.{State}
+use Rattle.model_cred.specs.Right.{Right}
 use Rattle.model_cred.specs.World.{World}
 use Rattle.model_run.specs.Later.{members_after}
 use Rattle.model_run.specs.Step.{Outcome, Goes}
 use Rattle.model_run.specs.Within.{IsWithin}
-use Rattle.model_text.specs.Reading.{Placed}
+use Rattle.model_text.specs.Reading.{Placed, Reading}
 
 -- what a run comes to
 abbrev pub confirmed_of : Confirmed → model.Confirmed
@@ -33,3 +34,11 @@ abbrev pub IsTurn : World → List ℕ → Placed → Turn → Outcome → State
 IsTurn w members e turn.Goes become after members_then = GoesOn w members e become after members_then
 IsTurn w members e (turn.Ends c) become after members_then =
     (rest : State → model.Confirmed) → by_outcome w members e rest become ≡ confirmed_of c
+
+-- The run goes on: what it comes to from where it was is what it comes to from there, by what is left; or this is what
+-- it comes to.
+abbrev pub ComesTo : World → State → List ℕ → Right → Reading → Turn → State → List ℕ → Reading → Type 0
+ComesTo w s members right reading turn.Goes after members_then later =
+    (confirm_of w s members right reading ≡ confirm_of w after members_then right later) × IsWithin after
+ComesTo w s members right reading (turn.Ends c) after members_then later = confirm_of w s members right reading
+    ≡ confirmed_of c

@@ -4,27 +4,26 @@ ghost use Rattle.std.specs.Prelude.{◌≡◌, ◌<◌, ◌≤◌, ◌+◌, ◌^
 ghost use Rattle.cm_base.specs.Limited.{limit_number};
 ghost use Rattle.cm_base.specs.Outcome.{OrNoMemory};
 ghost use Rattle.cm_base.specs.declared.limited.Limited.TheVariants as limit;
-ghost use Rattle.cm_confirm.specs.Confirmed.{confirmed_of, IsTurn};
+ghost use Rattle.cm_confirm.specs.Confirmed.{confirmed_of, ComesTo, IsTurn};
 ghost use Rattle.cm_confirm.specs.Lines.{line_before};
 ghost use Rattle.cm_declared.specs.World.{world_of};
-ghost use Rattle.cm_lines.specs.Cut.{Cut, ends_by};
+ghost use Rattle.cm_lines.specs.Cut.{Cut};
 ghost use Rattle.cm_log.specs.Counts.{lines_read};
-ghost use Rattle.cm_log.specs.Left.{left, IsScript};
-ghost use Rattle.cm_log.specs.Next.{IsNext};
+ghost use Rattle.cm_log.specs.Left.{left, told_of, told_then, IsScript};
 ghost use Rattle.cm_state.specs.Right.{right_of};
-ghost use Rattle.cm_strace.specs.Answers.{ending_is};
-ghost use Rattle.model_confirm.specs.Confirm.{by_ending, confirm_of, is_for_members};
+ghost use Rattle.cm_strace.specs.Answers.{stop_is};
+ghost use Rattle.model_confirm.specs.Confirm.{by_ending, by_stop, confirm_of, is_for_members};
 ghost use Rattle.model_plans.specs.Firsts.{PidsAscend};
 ghost use Rattle.model_run.specs.Step.{outcome};
 ghost use Rattle.model_run.specs.Within.{IsWithin};
-ghost use Rattle.model_text.specs.Reading.{ends_at, script_reading};
+ghost use Rattle.model_text.specs.Reading.{AtEnd, Reading, script_reading};
 
 use crate::confirmed::Confirmed;
 use crate::members::Members;
 use cm_base::{Limited, NoMemory, Pid};
 use cm_declared::World;
 use cm_lines::{Past, next_line};
-use cm_log::{Log, Next, Placed, Stop};
+use cm_log::{Log, Placed, Stage, Stop};
 use cm_machine::{Machine, StepError};
 use cm_state::{Event, Right, State};
 use std::alloc::Global;
@@ -49,67 +48,76 @@ pub fn confirm(
 {
     let mut machine = machine;
     let mut members = Members::new(members);
-    let mut run = Log::of_script();
+    let mut run = Log::of_script(alloc);
     let mut rest = text;
     while let Some((line, after)) = next_line(rest) {
-        match next_of_line(alloc, w, &mut run, line)? {
-            Next::Event(event) => {
-                match take_event(alloc, w, &mut machine, &mut members, &event)? {
-                    Turn::Goes => let_go(event),
-                    Turn::Ends(confirmed) => return Ok(confirmed),
-                }
-            }
-            Next::Nothing => {}
-            Next::Ends(stop) => return Ok(end_run(&machine.state, &members, right, stop)),
+        let stage = read_line(alloc, w, &mut run, line)?;
+        let told = run.events();
+        match take_told(alloc, w, &mut machine, &mut members, right, told, stage)? {
+            Turn::Goes => {}
+            Turn::Ends(confirmed) => return Ok(confirmed),
         }
         rest = after;
     }
-    let stop = end_of(alloc, w, &mut run, None)?;
-    Ok(end_run(&machine.state, &members, right, stop))
+    let end = run.end(alloc, w, None)?;
+    let last = run.events();
+    match take_told(alloc, w, &mut machine, &mut members, right, last, end)? {
+        Turn::Ends(confirmed) => Ok(confirmed),
+        Turn::Goes => unreachable!(),
+    }
 }
 
-// What a line of the run tells; one that has more bytes than lines may have ends its reading.
-fn next_of_line(alloc: Global, w: &World, run: &mut Log, line: &[u8]) -> Result<Next, NoMemory>
+// A line of the run is read; one that has more bytes than lines may have ends its reading.
+fn read_line(alloc: Global, w: &World, run: &mut Log, line: &[u8]) -> Result<Stage, NoMemory>
     requires script { IsScript run.old }
     requires lines { lines_read run.old < 2 ^ 63 }
-    ensures next { OrNoMemory result (λ next. (cut : Cut) → IsNext next (left (world_of w.now) run.old (line_before (limit_number limit.Line) line.now cut)) (left (world_of w.now) run.new cut)) }
+    ensures told { OrNoMemory result (λ stage. (cut : Cut) →
+        left (world_of w.now) run.old (line_before (limit_number limit.Line) line.now cut)
+        ≡ told_then (told_of run.new) stage (left (world_of w.now) run.new cut)) }
     ensures script { OrNoMemory result (λ _. IsScript run.new) }
     ensures lines { OrNoMemory result (λ _. lines_read run.new ≤ lines_read run.old + 1) }
 {
     if line.len() as u64 > Limited::Line.number() {
-        let stop = end_of(alloc, w, run, Some(Past::Line))?;
-        return Ok(Next::Ends(stop));
+        return run.end(alloc, w, Some(Past::Line));
     }
     run.read_line(alloc, w, line)
 }
 
-// How the run ends where no line of it comes any more.
-fn end_of(
-    alloc: Global,
-    w: &World,
-    run: &mut Log,
-    past: Option<Past>,
-) -> Result<Option<Stop>, NoMemory>
-    requires { IsScript run.old }
-    ensures ends { OrNoMemory result (λ stop. left (world_of w.now) run.old (ends_by past) ≡ ends_at (ending_is stop)) }
-    ensures script { OrNoMemory result (λ _. IsScript run.new) }
-    ensures lines { OrNoMemory result (λ _. lines_read run.new ≤ lines_read run.old) }
-{
-    match run.end(alloc, w, past)? {
-        Next::Ends(stop) => Ok(stop),
-        Next::Event(_) => unreachable!(),
-        Next::Nothing => unreachable!(),
-    }
-}
-
-// Lets go of an event, whatever its call holds.
-fn let_go(_: Placed) {}
-
-// What an event is to the run: it goes on, or comes to this.
+// What a line is to the run, or an event: it goes on, or comes to this.
 #[derive(Clone, Copy, Debug)]
 enum Turn {
     Goes,
     Ends(Confirmed),
+}
+
+// The events that a line told are taken, or that the end told, and then the run goes on or is over, by what its reading
+// is at.
+fn take_told(
+    alloc: Global,
+    w: &World,
+    machine: &mut Machine,
+    members: &mut Members,
+    right: &Right,
+    told: &[Placed],
+    stage: Stage,
+) -> Result<Turn, NoMemory>
+    requires within { IsWithin machine.old.state }
+    ensures turn { OrNoMemory result (λ turn. (later : Reading)
+        → ComesTo (world_of w.now) machine.old.state members.old (right_of right.now)
+        (told_then told.now stage later) turn machine.new.state members.new later) }
+    ensures goes { OrNoMemory result (λ turn. turn ≡ Turn.Goes → stage ≡ Stage.Going) }
+{
+    for event in told {
+        match take_event(alloc, w, machine, members, event)? {
+            Turn::Goes => {}
+            Turn::Ends(confirmed) => return Ok(Turn::Ends(confirmed)),
+        }
+    }
+    match stage {
+        Stage::Going => Ok(Turn::Goes),
+        Stage::Stopped(stop) => Ok(Turn::Ends(stop_run(stop))),
+        Stage::Finished => Ok(Turn::Ends(end_run(&machine.state, members, right))),
+    }
 }
 
 // One event of the run. Where it is a step the machine makes it, whoever's it is; the machine isn't used any more after an end.
@@ -152,16 +160,22 @@ fn is_for_members(w: &World, members: &Members, e: &Event) -> bool
     members.has(e.pid) && w.filter.permits(e.call.kind())
 }
 
-// What the run comes to at its end, or at the line that stops its reading.
-fn end_run(state: &State, members: &Members, right: &Right, stop: Option<Stop>) -> Confirmed
-    ensures { confirmed_of result ≡ by_ending state.now members.now (right_of right.now) (ending_is stop) }
+// What the run comes to at its end.
+fn end_run(state: &State, members: &Members, right: &Right) -> Confirmed
+    ensures { confirmed_of result ≡ by_ending state.now members.now (right_of right.now) AtEnd }
+{
+    match members.holder(state, right) {
+        Some(pid) => Confirmed::Confirms(pid),
+        None => Confirmed::RefusesEnd,
+    }
+}
+
+// What it comes to at the line that stops its reading.
+fn stop_run(stop: Stop) -> Confirmed
+    ensures { confirmed_of result ≡ by_stop (stop_is stop) }
 {
     match stop {
-        None => match members.holder(state, right) {
-            Some(pid) => Confirmed::Confirms(pid),
-            None => Confirmed::RefusesEnd,
-        },
-        Some(Stop::Fault(number, _)) => Confirmed::RefusesLine(number),
-        Some(Stop::Limit(limit)) => Confirmed::PastLimit(limit),
+        Stop::Fault(number, _) => Confirmed::RefusesLine(number),
+        Stop::Limit(limit) => Confirmed::PastLimit(limit),
     }
 }

@@ -2,3 +2,4 @@
 pub mod LeftAfter
 pub mod Counted
 pub mod Known
+pub mod ToldEvents

@@ -1,4 +1,3 @@
--- What is left of a log, what is read of it next, and what it counts.
+-- What is left of a log, what is told of its lines, and what it counts.
 pub mod Left
-pub mod Next
 pub mod Counts

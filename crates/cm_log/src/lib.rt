@@ -3,11 +3,9 @@
 #![tactic(auto)]
 
 mod log;
-mod next;
 mod script;
 mod strace;
 
 pub use cm_declared::Placed;
-pub use cm_strace::Stop;
+pub use cm_strace::{Stage, Stop};
 pub use log::Log;
-pub use next::Next;

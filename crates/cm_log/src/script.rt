@@ -1,17 +1,13 @@
 // The reading of a script log, line by line: the event of each with the number of its line, and how the reading ends.
-ghost use Rattle.std.specs.Prelude.{◌≡◌, ◌<◌, ◌≤◌, ◌+◌, ◌^◌, false, true, length, IfNone, IfSome, Some};
+ghost use Rattle.std.specs.Prelude.{◌≡◌, ◌≢◌, [], ◌<◌, ◌≤◌, ◌+◌, ◌^◌, length, IfNone, IfSome};
 ghost use Rattle.cm_base.specs.Outcome.{OrNoMemory};
 ghost use Rattle.cm_declared.specs.World.{world_of};
 ghost use Rattle.cm_lines.specs.Cut.{Cut, before, ends_by};
-ghost use Rattle.cm_log.specs.Counts.{given};
-ghost use Rattle.cm_log.specs.Left.{is_going, script_left, stage_past};
-ghost use Rattle.cm_log.specs.Next.{IsNext, EndsAgain, Leaves};
-ghost use Rattle.cm_log.specs.declared.log.Log.TheVariants.{Script};
+ghost use Rattle.cm_log.specs.Left.{script_left, stage_past, told_then, EndsAgain};
 ghost use Rattle.model_cred.specs.World as model;
 ghost use Rattle.model_text.specs.Print.{event_text};
 ghost use Rattle.model_text.specs.Reading.{reads_on, script_of_cut};
 
-use crate::next::Next;
 use cm_base::NoMemory;
 use cm_declared::{Placed, World};
 use cm_lines::Past;
@@ -19,22 +15,24 @@ use cm_script::{LineError, read_line, read_own};
 use cm_strace::{Stage, Stop};
 use std::alloc::Global;
 
-/// How many lines of a script came, and whether it is still read.
+/// How many lines of a script came, whether it is still read, and the event of the last line, where it told one.
 #[derive(Debug, Drop)]
 pub struct ScriptLog {
     lines: u64,
     stage: Stage,
+    pub(crate) events: Vec<Placed>,
 }
 
 impl ScriptLog {
     /// Before the first line.
-    pub(crate) fn new() -> ScriptLog
+    pub(crate) fn new(alloc: Global) -> ScriptLog
         ensures reading { (w : model.World) (cut : Cut) → script_left w result cut ≡ script_of_cut w cut }
         ensures lines { result.lines ≡ 0 }
     {
         ScriptLog {
             lines: 0,
             stage: Stage::Going,
+            events: Vec::new(alloc),
         }
     }
 
@@ -45,19 +43,22 @@ impl ScriptLog {
         alloc: Global,
         w: &World,
         line: &[u8],
-    ) -> Result<Next, NoMemory>
+    ) -> Result<Stage, NoMemory>
         requires line { length line.now < 2 ^ 32 }
         requires lines { self.old.lines < 2 ^ 63 }
-        ensures next { OrNoMemory result (λ next. (cut : Cut) →
-            IsNext next (script_left (world_of w.now) self.old (before line.now cut)) (script_left (world_of w.now) self.new cut)) }
-        ensures again { OrNoMemory result (λ next. (cut : Cut) → EndsAgain next (script_left (world_of w.now) self.new cut)) }
-        ensures leaves { OrNoMemory result (λ next. Leaves next (Script self.new)) }
+        ensures told { OrNoMemory result (λ stage. (cut : Cut)
+            → script_left (world_of w.now) self.old (before line.now cut)
+            ≡ told_then self.new.events.items stage (script_left (world_of w.now) self.new cut)) }
+        ensures again { OrNoMemory result (λ stage. (cut : Cut)
+            → EndsAgain stage (script_left (world_of w.now) self.new cut)) }
         ensures lines { OrNoMemory result (λ _. self.new.lines ≤ self.old.lines + 1) }
+        ensures few { OrNoMemory result (λ _. length self.new.events.items ≤ 1) }
     {
+        self.events.clear();
         match self.stage {
             Stage::Going => self.read_on(alloc, w, line),
-            Stage::Stopped(stop) => Ok(Next::Ends(Some(stop))),
-            Stage::Finished => Ok(Next::Ends(None)),
+            Stage::Stopped(stop) => Ok(Stage::Stopped(stop)),
+            Stage::Finished => Ok(Stage::Finished),
         }
     }
 
@@ -70,7 +71,6 @@ impl ScriptLog {
         ensures next { IfSome result (λ event. (cut : Cut) →
             script_left (world_of w.now) self.old (before line.now cut) ≡ reads_on event (script_left (world_of w.now) self.new cut)) }
         ensures own { IfSome result (λ event. event_text (world_of w.now) event.event ≡ line.now) }
-        ensures open_still { IfSome result (λ _. is_going self.new.stage ≡ true) }
         ensures lines { IfSome result (λ _. self.new.lines ≡ self.old.lines + 1) }
         ensures same { IfNone result (self.new ≡ self.old) }
     {
@@ -86,28 +86,32 @@ impl ScriptLog {
     }
 
     // A line comes while the script is still read.
-    fn read_on(&mut self, alloc: Global, w: &World, line: &[u8]) -> Result<Next, NoMemory>
+    fn read_on(&mut self, alloc: Global, w: &World, line: &[u8]) -> Result<Stage, NoMemory>
         requires reads { self.old.stage ≡ Stage.Going }
+        requires none { self.old.events.items ≡ [] }
         requires line { length line.now < 2 ^ 32 }
         requires lines { self.old.lines < 2 ^ 63 }
-        ensures next { OrNoMemory result (λ next. (cut : Cut) →
-            IsNext next (script_left (world_of w.now) self.old (before line.now cut)) (script_left (world_of w.now) self.new cut)) }
-        ensures again { OrNoMemory result (λ next. (cut : Cut) → EndsAgain next (script_left (world_of w.now) self.new cut)) }
-        ensures leaves { OrNoMemory result (λ next. Leaves next (Script self.new)) }
+        ensures told { OrNoMemory result (λ stage. (cut : Cut)
+            → script_left (world_of w.now) self.old (before line.now cut)
+            ≡ told_then self.new.events.items stage (script_left (world_of w.now) self.new cut)) }
+        ensures again { OrNoMemory result (λ stage. (cut : Cut)
+            → EndsAgain stage (script_left (world_of w.now) self.new cut)) }
         ensures lines { OrNoMemory result (λ _. self.new.lines ≤ self.old.lines + 1) }
+        ensures few { OrNoMemory result (λ _. length self.new.events.items ≤ 1) }
     {
         let number = self.lines + 1;
         match read_line(alloc, line, w) {
             Ok(None) => {
                 self.lines = number;
-                Ok(Next::Nothing)
+                Ok(Stage::Going)
             }
             Ok(Some(event)) => {
                 self.lines = number;
-                Ok(Next::Event(Placed {
+                self.events.push(Placed {
                     line: number,
                     event,
-                }))
+                })?;
+                Ok(Stage::Going)
             }
             Err(LineError::Bad(why)) => Ok(self.stop(Stop::Fault(number, why))),
             Err(LineError::Limit(limit)) => Ok(self.stop(Stop::Limit(limit))),
@@ -116,43 +120,30 @@ impl ScriptLog {
     }
 
     // The reading stops so.
-    fn stop(&mut self, stop: Stop) -> Next
-        ensures ends { result ≡ Next.Ends (Some stop) }
+    fn stop(&mut self, stop: Stop) -> Stage
+        ensures ends { result ≡ Stage.Stopped stop }
         ensures lines { self.new.lines ≡ self.old.lines }
         ensures stage { self.new.stage ≡ Stage.Stopped stop }
+        ensures events { self.new.events ≡ self.old.events }
     {
         self.stage = Stage::Stopped(stop);
-        Next::Ends(Some(stop))
-    }
-
-    /// Nothing, while the script is still read; else how the reading ended.
-    #[inline]
-    pub(crate) fn next_waiting(&self) -> Next
-        ensures next { (w : model.World) (cut : Cut) → IsNext result (script_left w self.now cut) (script_left w self.now cut) }
-        ensures again { (w : model.World) (cut : Cut) → EndsAgain result (script_left w self.now cut) }
-        ensures leaves { Leaves result (Script self.now) }
-        ensures none { given result ≡ 0 }
-    {
-        match self.stage {
-            Stage::Going => Next::Nothing,
-            Stage::Stopped(stop) => Next::Ends(Some(stop)),
-            Stage::Finished => Next::Ends(None),
-        }
+        self.stage
     }
 
     /// No line comes any more: how the reading ends.
-    pub(crate) fn end(&mut self, past: Option<Past>) -> Next
-        ensures next { (w : model.World) (cut : Cut) → IsNext result (script_left w self.old (ends_by past)) (script_left w self.new cut) }
+    pub(crate) fn end(&mut self, past: Option<Past>) -> Stage
+        ensures told { (w : model.World) (cut : Cut) → script_left w self.old (ends_by past)
+            ≡ told_then self.new.events.items result (script_left w self.new cut) }
         ensures again { (w : model.World) (cut : Cut) → EndsAgain result (script_left w self.new cut) }
-        ensures leaves { Leaves result (Script self.new) }
-        ensures over { is_going self.new.stage ≡ false }
-        ensures none { given result ≡ 0 }
+        ensures over { result ≢ Stage.Going }
+        ensures none { self.new.events.items ≡ [] }
         ensures lines { self.new.lines ≡ self.old.lines }
     {
+        self.events.clear();
         if let Stage::Going = self.stage {
             self.stage = stage_after_last(past);
         }
-        self.next_waiting()
+        self.stage
     }
 }
 

@@ -1,22 +1,28 @@
 -- How a replay follows a log: an event, an end, and one thing after another.
-use Rattle.std.proofs.Common.{◌≡◌, ◌∙◌, ◌≤◌, ℕ, ◌+◌, List, [], ◌∷◌, ◌++◌, length, false, Option, Result, Ok, Err, refl, sym, ap, subst, append-nil, arith}
+use Rattle.std.proofs.Common.{◌≡◌, ◌∙◌, ◌≤◌, ℕ, ◌+◌, List, [], ◌∷◌, ◌++◌, length}
+use Rattle.std.proofs.Common.{false, Option, Result, Ok, Err, refl, sym, ap, subst, append-nil, arith}
 use Rattle.cm_base.specs.declared.status.Status.{Status}
 use Rattle.cm_replay.proofs.Events.{end_status, end_waits, next_status, next_waits, passed_lines, run_on}
 use Rattle.cm_replay.proofs.Ready.{event_spaces}
 use Rattle.cm_replay.proofs.Shown.{no_step_lines, same_status}
 use Rattle.cm_replay.specs.Following.{EndsAs, Follows, GoesOn, IsCutOff, Outgoing}
-use Rattle.cm_replay.specs.Replay.{report_from, event_lines, shown_lines, shown_report, told_lines, EndsWith, IsTurn}
+use Rattle.cm_log.specs.Left.{told_then}
+use Rattle.cm_replay.specs.Replay.{report_from, event_lines, shown_lines, shown_report}
+use Rattle.cm_replay.specs.Replay.{told_lines, EndsBy, EndsWith, IsTurn}
 use Rattle.cm_replay.specs.declared.replay.Replay.{Replay}
 use Rattle.cm_replay.specs.declared.replay.Turn.{Turn}
 use Rattle.cm_replay.specs.declared.replay.Turn.TheVariants as turn
 use Rattle.cm_replay.specs.declared.untold.Untold.{Untold}
 use Rattle.cm_report.proofs.Waiting.{all_waits, front_of_more, front_on, more_waits, sent_on, waits_as}
 use Rattle.cm_report.specs.Sent.{IsFront, IsSent}
+use Rattle.cm_strace.specs.Answers.{stop_is}
+use Rattle.cm_strace.specs.declared.stage.Stage.{Stage}
+use Rattle.cm_strace.specs.declared.stage.Stage.TheVariants as stage
 use Rattle.model_cred.specs.Made.{spaces_made}
 use Rattle.model_cred.specs.World.{World}
 use Rattle.model_report.specs.Replay.{ReportLine, text_of, by_end, step_lines}
 use Rattle.model_run.specs.Step.{outcome}
-use Rattle.model_text.specs.Reading.{Placed, End, Reading, ends_at, reads_on}
+use Rattle.model_text.specs.Reading.{Placed, End, AtEnd, Stops, Reading, ends_at, reads_on}
 
 -- ---- one thing after another
 -- nothing is next
@@ -136,3 +142,25 @@ reading_ends w from reading ending old text st is status lines =
       reached = λ accepted. refl;
     } in
     subst (λ (r : Reading). EndsAs w from from old (record { written = old.written; waits = text }) st r) (sym is) ends
+
+-- ---- what a line told
+-- after all its events
+pub told_ends : (w : World) (from to : Replay) (old now : Outgoing) (told : List Placed) (at : Stage) (answer : Turn)
+    (text : List ℕ) (later : Reading)
+    → GoesOn w from to old now (told_then told at later) (told_then [] at later) → EndsBy to at answer now.waits text
+    → Follows w from to old (record { written = now.written; waits = text }) (Ok answer) (told_then told at later) later
+told_ends w from to old now told stage.Going answer text later goes ends =
+    rw (ends.0, ends.1) goes
+told_ends w from to old now told (stage.Stopped stop) answer text later goes ends =
+    rw ends.status (ends_then goes
+    (reading_ends w to (told_then [] (stage.Stopped stop) later) (Stops (stop_is stop)) now text _ refl refl ends.text))
+told_ends w from to old now told stage.Finished answer text later goes ends =
+    rw ends.status (ends_then goes
+    (reading_ends w to (told_then [] stage.Finished later) AtEnd now text _ refl refl ends.text))
+
+-- it goes on where the reading does
+pub goes_by : (replay : Replay) (at : Stage) (text text' : List ℕ) → EndsBy replay at turn.Goes text text'
+    → at ≡ stage.Going
+goes_by replay stage.Going text text' ends = refl
+goes_by replay (stage.Stopped stop) text text' ends = let is = ends.status in cc
+goes_by replay stage.Finished text text' ends = let is = ends.status in cc

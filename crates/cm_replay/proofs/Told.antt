@@ -10,7 +10,7 @@ use Rattle.cm_io.specs.WholeLines.{after_lines, whole_lines}
 use Rattle.cm_lines.specs.Cut.{Cut, before, ends_by}
 use Rattle.cm_lines.specs.Lines.{line_len, line_size}
 use Rattle.cm_lines.specs.declared.limits.Past.TheVariants.{Line}
-use Rattle.cm_log.specs.Left.{NoneWaits, left, lines_left}
+use Rattle.cm_log.specs.Left.{left, lines_left}
 use Rattle.cm_log.specs.declared.log.Log.{Log}
 use Rattle.cm_log.specs.declared.log.Log.TheVariants.{Script, Strace}
 use Rattle.cm_replay.proofs.Pieces.{goes_sent}
@@ -27,7 +27,6 @@ use Rattle.model_cred.specs.World.{World}
 use Rattle.model_report.specs.Replay.{Report, by_end, replayed, text_of}
 use Rattle.model_strace.specs.Rest.{Finished, Going, Session, Stopped, rest}
 use Rattle.model_text.specs.Reading.{Placed, Reading}
-use Rattle.std.specs.Prelude.{reverse}
 
 -- ---- a replay between two lines
 -- all that waited was sent
@@ -102,15 +101,14 @@ module _ (held : Option Files) (w : World) (name : List ℕ) (first : Replay) (w
 
 -- ---- what is told when a read fails
 -- a line that is too long tells no event
-none_too_long : (w : World) (log : Log) → NoneWaits log → (left w log (ends_by (Some Line))).events ≡ []
-none_too_long w (Script log) none = by log.stage (log.lines + 1)
+none_too_long : (w : World) (log : Log) → (left w log (ends_by (Some Line))).events ≡ []
+none_too_long w (Script log) = by log.stage (log.lines + 1)
   where
     by : (s : Stage) (n : ℕ) → (lines_left w s n (ends_by (Some Line))).events ≡ []
     by stage.Going n = refl
     by (stage.Stopped stop) n = refl
     by stage.Finished n = refl
-none_too_long w (Strace log) none =
-    ap (λ (waiting : List Placed). reverse waiting ++ (rest w log.tracer (ends_by (Some Line))).events) none ∙ by log.tracer
+none_too_long w (Strace log) = by log.tracer
   where
     by : (session : Session) → (rest w session (ends_by (Some Line))).events ≡ []
     by (Going t) = refl
@@ -131,13 +129,14 @@ BreaksAt c taken taken' text = taken' c.name + length c.kept ≤ taken c.name + 
 pub tells_taken : (held h : Option Files) (w : World) (name : List ℕ) (first replay : Replay) (written0 written : Option (List ℕ)) (log0 log : Log)
     (now : Outgoing) (cutter : Cutting) (text0 : List ℕ) (taken0 taken taken' : List ℕ → ℕ)
     → GonePast held w name first written log0 replay now log cutter
-    → now.waits ≡ [] → cutter.ended ≡ false → NoneWaits log → h ≡ held → cutter.name ≡ name
+    → now.waits ≡ [] → cutter.ended ≡ false → h ≡ held → cutter.name ≡ name
     → written ≡ then_written written0 text0
     → taken name ≤ taken0 name + read_to cutter
     → IfSome h (λ files. BreaksAt cutter taken taken' (bytes_at files cutter.name))
     → IfSome held (λ files. TellsTaken first.shows (report_of_lines w first log0) (bytes_at files name) (taken0 name) (taken' name) text0 written0
     now.written)
-tells_taken held h w name first replay written0 written log0 log now cutter text0 taken0 taken taken' gone sent_all open_ none same named begun_ few breaks =
+tells_taken held h w name first replay written0 written log0 log now cutter text0 taken0 taken taken' gone sent_all
+    open_ same named begun_ few breaks =
     by held (gone.whole open_) (subst (λ (x : Option Files). IfSome x (λ files. BreaksAt cutter taken taken' (bytes_at files cutter.name))) same breaks)
   where
     by : (x : Option Files) → IfSome x (λ files. LinesTo (bytes_at files name) cutter.place gone.lines)
@@ -153,7 +152,7 @@ tells_taken held h w name first replay written0 written log0 log now cutter text
         let within : taken' name + length cutter.kept ≤ taken name + line_len (drop cutter.place text) =
         subst (λ (n : List ℕ). taken' n + length cutter.kept ≤ taken n + line_len (drop cutter.place (bytes_at files n))) named b in
         let end_is : report_from w replay end_ ≡ shown_report first.shows (by_end replay.events end_.ending) =
-        only_end w replay end_ first.shows (none_too_long w log none) goes.shows in
+        only_end w replay end_ first.shows (none_too_long w log) goes.shows in
         record {
           seen = seen;
           all = omega (arith, within, few);

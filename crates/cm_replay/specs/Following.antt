@@ -3,24 +3,20 @@ use Rattle.std.specs.Prelude.{◌≡◌, ◌≤◌, ℕ, ◌+◌, false, List, �
 use Rattle.cm_base.specs.declared.status.Status.{Status}
 use Rattle.cm_base.specs.declared.status.Status.TheVariants.{Accepted}
 use Rattle.cm_credentials.specs.Kept.{Keeps}
-use Rattle.cm_log.specs.Counts.{KnowsWithin, events_due, given, lines_read, made}
-use Rattle.cm_log.specs.Left.{NoneWaits}
+use Rattle.cm_log.specs.Counts.{KnowsWithin, events_due, lines_read}
 use Rattle.cm_log.specs.declared.log.Log.{Log}
-use Rattle.cm_log.specs.declared.next.Next.{Next}
-use Rattle.cm_log.specs.declared.next.Next.TheVariants as next
 use Rattle.cm_replay.specs.Replay.{report_from}
 use Rattle.cm_replay.specs.declared.replay.Replay.{Replay}
-use Rattle.cm_replay.specs.declared.replay.Taken.{Taken}
-use Rattle.cm_replay.specs.declared.replay.Taken.TheVariants as taken
 use Rattle.cm_replay.specs.declared.replay.Turn.{Turn}
 use Rattle.cm_replay.specs.declared.replay.Turn.TheVariants as turn
 use Rattle.cm_replay.specs.declared.untold.Untold.{Untold}
 use Rattle.cm_report.specs.Sent.{IsSent, IsFront}
+use Rattle.model_cred.specs.Made.{spaces_made}
 use Rattle.model_cred.specs.Process.{State}
 use Rattle.model_cred.specs.World.{World}
 use Rattle.model_report.specs.Causes.{RunWithin}
 use Rattle.model_report.specs.Replay.{text_of, IsWithin}
-use Rattle.model_text.specs.Reading.{Reading, events_of}
+use Rattle.model_text.specs.Reading.{Placed, Reading, events_of}
 
 -- ---- what is reported
 -- What the sink has taken, and what waits in the buffer.
@@ -58,19 +54,12 @@ Follows w from to old new (Ok turn.Goes) reading rest = GoesOn w from to old new
 Follows w from to old new (Ok (turn.Ends st)) reading rest = EndsAs w from to old new st reading
 Follows w from to old new (Err why) reading rest = IsCutOff w from old new reading
 
--- the same of what is next of a log
-abbrev pub Takes : World → Replay → Replay → Outgoing → Outgoing → Result Taken Untold → Reading → Reading → Type 0
-Takes w from to old new (Ok (taken.End st)) reading rest = EndsAs w from to old new st reading
-Takes w from to old new (Ok _) reading rest = GoesOn w from to old new reading rest
-Takes w from to old new (Err why) reading rest = IsCutOff w from old new reading
-
 -- ---- what is counted
--- Between two lines of a log: no event waits; the state is within the limits; each kept text of a credential line is
--- that of the values kept beside it; and the log knows of no more user namespaces than there are.
+-- Between two lines of a log: the state is within the limits; each kept text of a credential line is that of the values
+-- kept beside it; and the log knows of no more user namespaces than there are.
 pub record IsReady (w : World) (replay : Replay) (log : Log) : Type 0 where
   pub keeps : Keeps w.names replay.kept
   pub within : IsWithin replay.machine.state
-  pub none : NoneWaits log
   pub knows : KnowsWithin (length replay.machine.state.spaces) log
 
 -- After so many lines more, which told so many events more: the replay and the log are between two lines; each line was counted;
@@ -80,17 +69,10 @@ pub record Advances (w : World) (more told : ℕ) (from to : Replay) (old new : 
   pub lines : lines_read new ≤ lines_read old + more
   pub events : to.events + events_due new ≤ from.events + events_due old + told
 
--- An event was taken, which was counted, and leads to a state within the limits that has the user namespaces which it
--- makes; each kept text is still that of the values beside it.
-pub record TookEvent (w : World) (next : Next) (from to : Replay) : Type 0 where
+-- These events were taken, each of which was counted, and lead to a state within the limits that has the user
+-- namespaces which they make; each kept text is still that of the values beside it.
+pub record Took (w : World) (events : List Placed) (from to : Replay) : Type 0 where
   pub keeps : Keeps w.names to.kept
-  pub given : given next ≡ 1
-  pub events : to.events ≡ from.events + 1
+  pub events : to.events ≡ from.events + length events
   pub within : IsWithin to.machine.state
-  pub spaces : length from.machine.state.spaces + made next ≤ length to.machine.state.spaces
-
--- what was taken is what was next, and is counted
-abbrev pub TakesCount : World → Next → Replay → Replay → Taken → Type 0
-TakesCount w next from to taken.Event = TookEvent w next from to
-TakesCount w what from to taken.Nothing = (what ≡ next.Nothing) × (to ≡ from)
-TakesCount w next from to (taken.End st) = Unit {0}
+  pub spaces : length from.machine.state.spaces + spaces_made (events_of events) ≤ length to.machine.state.spaces

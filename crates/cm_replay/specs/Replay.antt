@@ -1,16 +1,19 @@
 -- What the events of a log come to, as the code goes over them.
-use Rattle.std.specs.Prelude.{◌≡◌, ◌≢◌, Bool, List, []}
+use Rattle.std.specs.Prelude.{◌≡◌, ◌≢◌, ℕ, ◌++◌, Bool, List, []}
 use Rattle.cm_base.specs.declared.status.Status.{Status}
 use Rattle.cm_base.specs.declared.status.Status.TheVariants as status
 pub use Rattle.cm_replay.specs.Shown.{shown_lines, shown_report}
 use Rattle.cm_replay.specs.declared.replay.Replay.{Replay}
 use Rattle.cm_replay.specs.declared.replay.Turn.{Turn}
 use Rattle.cm_replay.specs.declared.replay.Turn.TheVariants as turn
+use Rattle.cm_strace.specs.Answers.{stop_is}
+use Rattle.cm_strace.specs.declared.stage.Stage.{Stage}
+use Rattle.cm_strace.specs.declared.stage.Stage.TheVariants as stage
 use Rattle.model_cred.specs.Process.{State}
 use Rattle.model_cred.specs.World.{World}
 use Rattle.model_run.specs.Step.{Outcome, Goes}
-use Rattle.model_report.specs.Replay.{Report, ReportLine, replayed, by_outcome, IsWithin}
-use Rattle.model_text.specs.Reading.{Placed, Reading}
+use Rattle.model_report.specs.Replay.{Report, ReportLine, replayed, by_end, by_outcome, text_of, IsWithin}
+use Rattle.model_text.specs.Reading.{AtEnd, End, Placed, Reading, Stops}
 
 -- the report of what is left of a log, from where a replay stands
 abbrev pub report_from : World → Replay → Reading → Report
@@ -38,3 +41,15 @@ pub record EndsWith (w : World) (e : Placed) (st : Status) (become : Outcome) : 
 abbrev pub IsTurn : World → Placed → Turn → Outcome → State → Type 0
 IsTurn w e turn.Goes become s = (become ≡ Goes s) × IsWithin s
 IsTurn w e (turn.Ends st) become s = EndsWith w e st become
+
+-- The report ends as the reading does, with this status, and its last line is written, where it is shown or isn't
+-- accepted.
+pub record IsEnd (replay : Replay) (ending : End) (answer : Turn) (text text' : List ℕ) : Type 0 where
+  pub status : answer ≡ turn.Ends (by_end replay.events ending).status
+  pub text : text' ≡ text ++ text_of (shown_report replay.shows (by_end replay.events ending)).lines
+
+-- what the reading is at to the replay: it goes on, or its report ends
+abbrev pub EndsBy : Replay → Stage → Turn → (text text' : List ℕ) → Type 0
+EndsBy replay stage.Going answer text text' = (answer ≡ turn.Goes) × (text' ≡ text)
+EndsBy replay (stage.Stopped stop) answer text text' = IsEnd replay (Stops (stop_is stop)) answer text text'
+EndsBy replay stage.Finished answer text text' = IsEnd replay AtEnd answer text text'

@@ -1,20 +1,17 @@
 // The replay of a log, a line at a time, whatever its form: each event is made a step of the machine, and its lines of the report
 // are written where the replay is shown.
-ghost use Rattle.std.specs.Prelude.{◌≡◌, ◌≢◌, ◌<◌, ◌+◌, ◌^◌, ◌++◌, true, length, Ok, Err, IfOk, IfSome};
+ghost use Rattle.std.specs.Prelude.{◌≡◌, ◌≢◌, ◌<◌, ◌+◌, ◌^◌, ◌++◌, ◌∷◌, [], length, Ok, Err, IfSome};
 ghost use Rattle.cm_base.specs.Outcome.{OrNoMemory};
 ghost use Rattle.cm_credentials.specs.Kept.{Keeps};
 ghost use Rattle.cm_declared.specs.World.{world_of};
 ghost use Rattle.cm_lines.specs.Cut.{Cut, before, ends_by};
-ghost use Rattle.cm_log.specs.Counts.{KnowsWithin, events_due, given, lines_read, made};
-ghost use Rattle.cm_log.specs.Left.{is_open, left};
-ghost use Rattle.cm_log.specs.Next.{IsNext, Leaves};
-ghost use Rattle.cm_log.specs.declared.next.Next.TheVariants as next;
+ghost use Rattle.cm_log.specs.Counts.{events_due, lines_read};
+ghost use Rattle.cm_log.specs.Left.{left, told_then};
 ghost use Rattle.cm_replay.specs.Coming.{ComesTo};
-ghost use Rattle.cm_replay.specs.Following.{Advances, Follows, IsReady, Takes, TakesCount, TookEvent};
-ghost use Rattle.cm_replay.specs.Replay.{event_lines, IsTurn, shown_report};
+ghost use Rattle.cm_replay.specs.Following.{Advances, Follows, IsReady, Took};
+ghost use Rattle.cm_replay.specs.Replay.{event_lines, EndsBy, IsTurn};
 ghost use Rattle.cm_replay.specs.Untold.{UntoldFaults};
-ghost use Rattle.cm_strace.specs.Answers.{ending_is};
-ghost use Rattle.model_report.specs.Replay.{text_of, by_end, IsWithin};
+ghost use Rattle.model_report.specs.Replay.{text_of, IsWithin};
 ghost use Rattle.model_run.specs.Step.{outcome};
 ghost use Rattle.model_text.specs.Print.{event_text};
 ghost use Rattle.model_text.specs.Reading.{Reading, reads_on};
@@ -25,7 +22,7 @@ use cm_credentials::KeptLines;
 use cm_declared::World;
 use cm_io::Sink;
 use cm_lines::Past;
-use cm_log::{Log, Next, Placed, Stop};
+use cm_log::{Log, Placed, Stage, Stop};
 use cm_machine::Machine;
 use cm_report::{put_bad_log, put_end, put_impossible, put_limit, put_step, send_full};
 use std::alloc::Global;
@@ -95,8 +92,9 @@ pub fn replay_line<K: Sink>(
     if let Some(event) = log.read_own(alloc, w, line) {
         return take_and_send(alloc, w, replay, &event, Some(line), text, out);
     }
-    let next = log.read_line(alloc, w, line)?;
-    follow(alloc, w, replay, log, &next, text, out)
+    let stage = log.read_line(alloc, w, line)?;
+    let told = log.events();
+    follow(alloc, w, replay, told, stage, text, out)
 }
 
 /// Replays what the log still tells where no line comes any more, since it ends or since the line that comes is past a limit;
@@ -119,118 +117,45 @@ pub fn replay_end<K: Sink>(
     ensures no_read_fault { result ≢ Err Untold.ReadFault }
     ensures cause { UntoldFaults (K.faults out.old) (K.faults out.new) result }
 {
-    let next = log.end(alloc, w, past)?;
-    match follow(alloc, w, replay, log, &next, text, out)? {
+    let stage = log.end(alloc, w, past)?;
+    let told = log.events();
+    match follow(alloc, w, replay, told, stage, text, out)? {
         Turn::Ends(status) => Ok(status),
         Turn::Goes => unreachable!(),
     }
 }
 
-// What the log gave is taken, and what else waits, until a line is wanted or the report ends.
+// The events that a line told are taken, or that the end told, and then a line is wanted or the report ends, by what
+// the reading is at.
 fn follow<K: Sink>(
     alloc: Global,
     w: &World,
     replay: &mut Replay,
-    log: &mut Log,
-    next: &Next,
+    told: &[Placed],
+    stage: Stage,
     text: &mut Vec<u8>,
     out: &mut K,
 ) -> Result<Turn, Untold>
     requires within { IsWithin replay.old.machine.state }
     requires keeps { Keeps w.now.names replay.old.kept }
-    requires leaves { Leaves next.now log.old }
-    requires knows { KnowsWithin (length replay.old.machine.state.spaces + made next.now) log.old }
-    requires events { replay.old.events + (given next.now + events_due log.old) < 2 ^ 64 }
-    ensures follows { (cut : Cut) (reading : Reading) → IsNext next.now reading (left (world_of w.now) log.old cut)
-        → Follows (world_of w.now) replay.old replay.new
+    requires events { replay.old.events + length told.now < 2 ^ 64 }
+    ensures follows { (later : Reading) → Follows (world_of w.now) replay.old replay.new
         (record { written = K.written out.old; waits = text.old.items })
         (record { written = K.written out.new; waits = text.new.items })
-        result reading (left (world_of w.now) log.new cut) }
-    ensures advances { result ≡ Ok Turn.Goes → Advances (world_of w.now) 0 (given next.now) replay.old replay.new log.old log.new }
-    ensures open_still { result ≡ Ok Turn.Goes → is_open log.old ≡ true }
+        result (told_then told.now stage later) later }
+    ensures took { result ≡ Ok Turn.Goes → Took (world_of w.now) told.now replay.old replay.new }
+    ensures goes { result ≡ Ok Turn.Goes → stage ≡ Stage.Going }
     ensures no_read_fault { result ≢ Err Untold.ReadFault }
     ensures cause { UntoldFaults (K.faults out.old) (K.faults out.new) result }
 {
-    match take_next(alloc, w, replay, next, text, out)? {
-        Taken::Event => follow_waiting(alloc, w, replay, log, text, out),
-        Taken::Nothing => Ok(Turn::Goes),
-        Taken::End(status) => Ok(Turn::Ends(status)),
-    }
-}
-
-// The events that wait are taken, until a line is wanted or the report ends.
-fn follow_waiting<K: Sink>(
-    alloc: Global,
-    w: &World,
-    replay: &mut Replay,
-    log: &mut Log,
-    text: &mut Vec<u8>,
-    out: &mut K,
-) -> Result<Turn, Untold>
-    requires within { IsWithin replay.old.machine.state }
-    requires keeps { Keeps w.now.names replay.old.kept }
-    requires knows { KnowsWithin (length replay.old.machine.state.spaces) log.old }
-    requires events { replay.old.events + events_due log.old < 2 ^ 64 }
-    ensures follows { (cut : Cut) → Follows (world_of w.now) replay.old replay.new
-        (record { written = K.written out.old; waits = text.old.items })
-        (record { written = K.written out.new; waits = text.new.items })
-        result (left (world_of w.now) log.old cut) (left (world_of w.now) log.new cut) }
-    ensures advances { result ≡ Ok Turn.Goes → Advances (world_of w.now) 0 0 replay.old replay.new log.old log.new }
-    ensures open_still { result ≡ Ok Turn.Goes → is_open log.old ≡ true }
-    ensures no_read_fault { result ≢ Err Untold.ReadFault }
-    ensures cause { UntoldFaults (K.faults out.old) (K.faults out.new) result }
-{
-    loop {
-        let next = log.next_waiting();
-        match take_next(alloc, w, replay, &next, text, out)? {
-            Taken::Event => let_go(next),
-            Taken::Nothing => return Ok(Turn::Goes),
-            Taken::End(status) => return Ok(Turn::Ends(status)),
+    for event in told {
+        match take_and_send(alloc, w, replay, event, None, text, out)? {
+            Turn::Goes => {}
+            Turn::Ends(status) => return Ok(Turn::Ends(status)),
         }
     }
-}
-
-// Lets go of what was read, whatever the call of an event holds.
-fn let_go(_: Next) {}
-
-// What is next of the log to the replay: an event, which was taken; nothing; its end, with this status.
-#[derive(Clone, Copy, Debug)]
-enum Taken {
-    Event,
-    Nothing,
-    End(Status),
-}
-
-// What is next of the log is taken: an event with its lines, which are sent where they fill a piece, or the end.
-fn take_next<K: Sink>(
-    alloc: Global,
-    w: &World,
-    replay: &mut Replay,
-    next: &Next,
-    text: &mut Vec<u8>,
-    out: &mut K,
-) -> Result<Taken, Untold>
-    requires within { IsWithin replay.old.machine.state }
-    requires keeps { Keeps w.now.names replay.old.kept }
-    requires events { replay.old.events + given next.now < 2 ^ 64 }
-    ensures takes { (reading rest : Reading) → IsNext next.now reading rest → Takes (world_of w.now) replay.old replay.new
-        (record { written = K.written out.old; waits = text.old.items })
-        (record { written = K.written out.new; waits = text.new.items }) result reading rest }
-    ensures counts { IfOk result (TakesCount (world_of w.now) next.now replay.old replay.new) }
-    ensures no_read_fault { result ≢ Err Untold.ReadFault }
-    ensures cause { UntoldFaults (K.faults out.old) (K.faults out.new) result }
-{
-    match next {
-        Next::Event(event) => match take_and_send(alloc, w, replay, event, None, text, out)? {
-            Turn::Goes => Ok(Taken::Event),
-            Turn::Ends(status) => Ok(Taken::End(status)),
-        },
-        Next::Nothing => Ok(Taken::Nothing),
-        Next::Ends(stop) => {
-            let status = put_ending(text, replay, *stop)?;
-            Ok(Taken::End(status))
-        }
-    }
+    let turn = put_ending(text, replay, stage)?;
+    Ok(turn)
 }
 
 // An event is taken with its lines, which are sent where they fill a piece. Where its line stands as events are
@@ -251,7 +176,7 @@ fn take_and_send<K: Sink>(
     ensures takes { (reading rest : Reading) → reading ≡ reads_on event.now rest → Follows (world_of w.now) replay.old replay.new
         (record { written = K.written out.old; waits = text.old.items })
         (record { written = K.written out.new; waits = text.new.items }) result reading rest }
-    ensures counts { result ≡ Ok Turn.Goes → TookEvent (world_of w.now) (next.Event event.now) replay.old replay.new }
+    ensures took { result ≡ Ok Turn.Goes → Took (world_of w.now) (event.now ∷ []) replay.old replay.new }
     ensures no_read_fault { result ≢ Err Untold.ReadFault }
     ensures cause { UntoldFaults (K.faults out.old) (K.faults out.new) result }
 {
@@ -304,26 +229,25 @@ fn take_event(
     }
 }
 
-// The line that ends the report of a log, and the report's status.
-fn put_ending(text: &mut Vec<u8>, replay: &Replay, stop: Option<Stop>) -> Result<Status, NoMemory>
-    ensures status { OrNoMemory result (λ status. status ≡ (by_end replay.now.events (ending_is stop)).status) }
-    ensures text { OrNoMemory result (λ _. text.new.items ≡ text.old.items
-        ++ text_of (shown_report replay.now.shows (by_end replay.now.events (ending_is stop))).lines) }
+// What the reading is at to the replay: it goes on, or the line that ends the report is written.
+fn put_ending(text: &mut Vec<u8>, replay: &Replay, stage: Stage) -> Result<Turn, NoMemory>
+    ensures { OrNoMemory result (λ turn. EndsBy replay.now stage turn text.old.items text.new.items) }
 {
-    match stop {
-        None => {
+    match stage {
+        Stage::Going => Ok(Turn::Goes),
+        Stage::Finished => {
             if replay.shows {
                 put_end(text, replay.events)?;
             }
-            Ok(Status::Accepted)
+            Ok(Turn::Ends(Status::Accepted))
         }
-        Some(Stop::Fault(number, why)) => {
+        Stage::Stopped(Stop::Fault(number, why)) => {
             put_bad_log(text, number, why)?;
-            Ok(Status::BadLog)
+            Ok(Turn::Ends(Status::BadLog))
         }
-        Some(Stop::Limit(limit)) => {
+        Stage::Stopped(Stop::Limit(limit)) => {
             put_limit(text, limit)?;
-            Ok(Status::Limit)
+            Ok(Turn::Ends(Status::Limit))
         }
     }
 }

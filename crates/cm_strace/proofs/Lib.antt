@@ -10,3 +10,4 @@ pub mod Retained
 pub mod Dues
 pub mod Sessions
 pub mod Unchanged
+pub mod Ended

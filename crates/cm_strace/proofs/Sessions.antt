@@ -1,17 +1,17 @@
 -- A session after a line: it goes on, or it is stopped, by what the line gave; at which stage it is; and where it is cut off.
-use Rattle.std.proofs.Common.{◌≡◌, ℕ, List, [], Some, refl}
+use Rattle.std.proofs.Common.{◌≡◌, ℕ, List, [], Some, refl, ap}
 use Rattle.cm_lines.specs.Cut.{Cut, ends_by}
 use Rattle.cm_lines.specs.declared.limits.Past.{Past}
 use Rattle.cm_lines.specs.declared.limits.Past.TheVariants as past
-use Rattle.cm_strace.specs.Answers.{reading_is, stop_is, stop_past}
+use Rattle.cm_strace.specs.Answers.{ending_at, reading_is}
 use Rattle.cm_strace.specs.Given.{Gave}
 use Rattle.cm_strace.specs.Stages.{cut_off, session_is, IsAt}
 use Rattle.cm_strace.specs.declared.stage.Stage.{Stage}
 use Rattle.cm_strace.specs.declared.stage.Stage.TheVariants as stage
 use Rattle.model_cred.specs.World.{World}
 use Rattle.model_strace.specs.After.{After, Goes, Halts, preceded}
-use Rattle.model_strace.specs.Rest.{Finished, Going, Session, Stopped, Work, answer_of, rest, session_of}
-use Rattle.model_text.specs.Reading.{Limit, Placed, limit_past}
+use Rattle.model_strace.specs.Rest.{Finished, Going, Session, Stopped, Work, answer_of, rest, session_ended, session_of}
+use Rattle.model_text.specs.Reading.{End, Placed}
 
 -- what the line answers
 pub answer_after : (events : List Placed) (t : Work) (a : After Work) (at : Stage) → Gave at events t (preceded [] a)
@@ -42,3 +42,10 @@ pub cut_off_gives : (w : World) (past : Past) (session : Session) (cut : Cut) �
 cut_off_gives w past (Going t) cut = refl
 cut_off_gives w past (Stopped count stop) cut = refl
 cut_off_gives w past (Finished count) cut = refl
+
+-- the session is the one after the log's end
+pub session_ended_at : (at : Stage) (t : Work) (ending : End) → (at ≡ stage.Going → ⊥) → ending_at at ≡ ending
+    → session_is at t ≡ session_ended t.count ending
+session_ended_at stage.Going t ending over is = absurd (over refl)
+session_ended_at (stage.Stopped stop) t ending over is = ap (session_ended t.count) is
+session_ended_at stage.Finished t ending over is = ap (session_ended t.count) is

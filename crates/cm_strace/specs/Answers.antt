@@ -1,10 +1,10 @@
 -- What a session answers, in the words of the definitions.
-use Rattle.std.specs.Prelude.{List, Option, Some, None}
+use Rattle.std.specs.Prelude.{List}
 use Rattle.cm_base.specs.declared.limited.Limited.TheVariants as limit
 use Rattle.cm_lines.specs.declared.limits.Past.{Past}
 use Rattle.cm_lines.specs.declared.limits.Past.TheVariants as past
-use Rattle.cm_strace.specs.declared.placed.Stop.{Stop}
-use Rattle.cm_strace.specs.declared.placed.Stop.TheVariants as code
+use Rattle.cm_strace.specs.declared.stage.Stop.{Stop}
+use Rattle.cm_strace.specs.declared.stage.Stop.TheVariants as code
 use Rattle.cm_strace.specs.declared.stage.Stage.{Stage}
 use Rattle.cm_strace.specs.declared.stage.Stage.TheVariants as stage
 use Rattle.model_text.specs.Reading as reading
@@ -18,11 +18,6 @@ stop_is (code.Limit limit) = reading.Limit limit
 abbrev pub stop_past : Past → Stop
 stop_past past.Line = code.Limit limit.Line
 stop_past past.Whole = code.Limit limit.Log
-
--- how a reading ends
-abbrev pub ending_is : Option Stop → reading.End
-ending_is None = reading.AtEnd
-ending_is (Some stop) = reading.Stops (stop_is stop)
 
 -- how what was read ends, at that stage: where it goes on nothing stops it
 abbrev pub ending_at : Stage → reading.End

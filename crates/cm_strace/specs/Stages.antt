@@ -1,10 +1,9 @@
 -- A session by its work and the stage that it is at.
-use Rattle.std.specs.Prelude.{◌≡◌, ◌≤◌, Option, Some, None}
+use Rattle.std.specs.Prelude.{◌≡◌, ◌≤◌}
 use Rattle.cm_base.specs.Limits.{greatest_number}
 use Rattle.cm_lines.specs.declared.limits.Past.{Past}
 use Rattle.cm_strace.specs.Answers.{stop_is}
 use Rattle.cm_strace.specs.Works.{uses}
-use Rattle.cm_strace.specs.declared.placed.Stop.{Stop}
 use Rattle.cm_strace.specs.declared.stage.Stage.{Stage}
 use Rattle.cm_strace.specs.declared.stage.Stage.TheVariants as stage
 use Rattle.model_strace.specs.Rest as model
@@ -29,11 +28,6 @@ abbrev pub cut_off : Past → Session → Session
 cut_off past (model.Going t) = model.Stopped t.count (Limit (limit_past past))
 cut_off past (model.Stopped count stop) = model.Stopped count stop
 cut_off past (model.Finished count) = model.Finished count
-
--- the stage after a log's end
-abbrev pub stage_ended : Option Stop → Stage
-stage_ended None = stage.Finished
-stage_ended (Some stop) = stage.Stopped stop
 
 -- The number of user namespaces that a session counts is one of 32 bits, as their own numbers are.
 abbrev pub IsRoomy : Stage → Work → Type 0

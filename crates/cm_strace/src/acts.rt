@@ -16,8 +16,7 @@ ghost use Rattle.model_strace.specs.Lines.{given_at};
 ghost use Rattle.model_strace.specs.Turn.{after_call, done, with_child};
 
 use crate::deed::{Birth, Deed, Origin};
-use crate::placed::Stop;
-use crate::stage::Stage;
+use crate::stage::{Stage, Stop};
 use crate::told::birth_call;
 use cm_base::{Limited, NoMemory, Pid, Res};
 use cm_declared::Placed;

@@ -10,7 +10,6 @@ mod deed;
 mod ending;
 mod line;
 mod opens;
-mod placed;
 mod stage;
 mod told;
 mod tracer;
@@ -18,6 +17,5 @@ mod waiting;
 mod work;
 mod writes;
 
-pub use placed::{Fed, Stop};
-pub use stage::Stage;
+pub use stage::{Stage, Stop};
 pub use tracer::Tracer;

@@ -1,8 +1,28 @@
-// Whether a session, or the reading of a log, goes on.
+// Whether a session, or the reading of a log, goes on, and what stops it.
 ghost use Rattle.std.specs.Prelude.{◌≡◌};
-ghost use Rattle.cm_strace.specs.Stages.{stage_ended};
+ghost use Rattle.cm_strace.specs.Answers.{stop_past};
 
-use crate::placed::Stop;
+use cm_base::{Limited, LineFault};
+use cm_lines::Past;
+
+/// What stops a reading before the log's end: the fault of the line of that number, or a limit that is exceeded.
+#[derive(Clone, Copy, Debug)]
+pub enum Stop {
+    Fault(u64, LineFault),
+    Limit(Limited),
+}
+
+impl Stop {
+    /// The stop at a line that is past that limit.
+    pub fn of_past(past: Past) -> Stop
+        ensures { result ≡ stop_past past }
+    {
+        match past {
+            Past::Line => Stop::Limit(Limited::Line),
+            Past::Whole => Stop::Limit(Limited::Log),
+        }
+    }
+}
 
 /// It goes on; it was stopped; the log has ended.
 #[derive(Clone, Copy, Debug)]
@@ -10,16 +30,4 @@ pub enum Stage {
     Going,
     Stopped(Stop),
     Finished,
-}
-
-impl Stage {
-    /// The stage after the log's end, which told of this stop, or of none.
-    pub fn at_end(stop: Option<Stop>) -> Stage
-        ensures { result ≡ stage_ended stop }
-    {
-        match stop {
-            Some(stop) => Stage::Stopped(stop),
-            None => Stage::Finished,
-        }
-    }
 }

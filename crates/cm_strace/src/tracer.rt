@@ -1,8 +1,8 @@
 // A session of a reader of strace(1).
-ghost use Rattle.std.specs.Prelude.{◌≡◌, ◌+◌, ◌<◌, ◌≤◌, ◌^◌, None, Some};
+ghost use Rattle.std.specs.Prelude.{◌≡◌, ◌≢◌, ◌+◌, ◌<◌, ◌≤◌, ◌^◌, None, Some};
 ghost use Rattle.cm_base.specs.Limits.{greatest_number};
 ghost use Rattle.cm_base.specs.Outcome.{OrNoMemory, UnchangedOnErr};
-ghost use Rattle.cm_strace.specs.Answers.{stop_is, reading_is};
+ghost use Rattle.cm_strace.specs.Answers.{reading_is};
 ghost use Rattle.cm_lines.specs.Cut.{Cut, before, ends_by};
 ghost use Rattle.cm_strace.specs.Stages.{cut_off, IsAt};
 ghost use Rattle.cm_declared.specs.World.{world_of};
@@ -12,11 +12,9 @@ ghost use Rattle.model_strace.specs.Counts.{spaces_counted};
 ghost use Rattle.model_strace.specs.Lines.{strace_of_cut};
 ghost use Rattle.model_strace.specs.Rest.{first_session, lines_fed, rest, line_answer, after_line};
 ghost use Rattle.model_strace.specs.Rest.{after_finish, answered_then};
-ghost use Rattle.model_text.specs.Reading.{AtEnd, Stops, ends_at};
 
 use crate::ending::read_end;
-use crate::placed::{Fed, Stop};
-use crate::stage::Stage;
+use crate::stage::{Stage, Stop};
 use crate::work::Work;
 use cm_base::NoMemory;
 use cm_declared::{Placed, World};
@@ -115,60 +113,50 @@ impl Tracer {
         }
     }
 
-    /// What the session is at: it goes on; it was stopped; the log has ended.
-    #[inline]
-    pub fn stage(&self) -> Stage
-        ensures { IsAt result self.now }
-    {
-        self.stage
-    }
-
     /// The line that comes is past a limit: that limit stops a session that goes on, and the held lines tell nothing
-    /// more. A session that was stopped, or whose log has ended, stays as it was.
-    pub fn break_off(&mut self, past: Past)
+    /// more. A session that was stopped, or whose log has ended, stays as it was. What it is at then.
+    pub fn break_off(&mut self, past: Past) -> Stage
         ensures after { self.new ≡ cut_off past self.old }
         ensures told { (w : model.World) (cut : Cut) → rest w self.new cut ≡ rest w self.old (ends_by (Some past)) }
-    {
-        if let Stage::Going = self.stage {
-            self.stage = Stage::Stopped(Stop::of_past(past));
-        }
-    }
-
-    /// The log ends: what the held lines still give. It fails only where memory runs out, and then leaves the session
-    /// as it was.
-    pub fn finish(&mut self, alloc: Global, w: &World) -> Result<Fed, NoMemory>
-        ensures told { OrNoMemory result (λ fed. fed ≡ rest (world_of w.now) self.old (ends_by None)) }
-        ensures after { OrNoMemory result (λ _. self.new ≡ after_finish (world_of w.now) self.old) }
-        ensures unchanged { UnchangedOnErr result self.new self.old }
+        ensures at { IsAt result self.new }
+        ensures over { result ≢ Stage.Going }
     {
         match self.stage {
             Stage::Going => {
-                let fed = read_end(alloc, w, &self.work)?;
-                self.stage = Stage::at_end(fed.stop);
-                Ok(fed)
+                let stop = Stop::of_past(past);
+                self.stage = Stage::Stopped(stop);
+                Stage::Stopped(stop)
             }
-            Stage::Stopped(stop) => Ok(stopped(alloc, stop)),
-            Stage::Finished => Ok(nothing(alloc)),
+            Stage::Stopped(stop) => Stage::Stopped(stop),
+            Stage::Finished => Stage::Finished,
         }
     }
-}
 
-// No event, and no stop.
-fn nothing(alloc: Global) -> Fed
-    ensures { result ≡ ends_at AtEnd }
-{
-    Fed {
-        events: Vec::new(alloc),
-        stop: None,
-    }
-}
-
-// No event, and that stop.
-fn stopped(alloc: Global, stop: Stop) -> Fed
-    ensures { result ≡ ends_at (Stops (stop_is stop)) }
-{
-    Fed {
-        events: Vec::new(alloc),
-        stop: Some(stop),
+    /// The log ends: what the held lines still give, and what the session is at then. The events are all that the
+    /// caller's
+    /// list holds then. It fails only where memory runs out, and then leaves the session as it was.
+    pub fn finish(
+        &mut self,
+        alloc: Global,
+        w: &World,
+        events: &mut Vec<Placed>,
+    ) -> Result<Stage, NoMemory>
+        ensures told { OrNoMemory result (λ stage. reading_is events.new.items stage
+            ≡ rest (world_of w.now) self.old (ends_by None)) }
+        ensures after { OrNoMemory result (λ _. self.new ≡ after_finish (world_of w.now) self.old) }
+        ensures at { OrNoMemory result (λ stage. IsAt stage self.new) }
+        ensures over { OrNoMemory result (λ stage. stage ≢ Stage.Going) }
+        ensures unchanged { UnchangedOnErr result self.new self.old }
+    {
+        events.clear();
+        match self.stage {
+            Stage::Going => {
+                let stage = read_end(alloc, w, &self.work, events)?;
+                self.stage = stage;
+                Ok(stage)
+            }
+            Stage::Stopped(stop) => Ok(Stage::Stopped(stop)),
+            Stage::Finished => Ok(Stage::Finished),
+        }
     }
 }

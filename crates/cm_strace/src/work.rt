@@ -1,7 +1,7 @@
 // A session that goes on: what is known, the held lines, and how many lines came (model_strace/specs, Rest). All lines
 // are read in place. Before a line that bears a child with held lines a savepoint of what is known is set, to which it
 // is rolled back where memory runs out; the held lines are read where they stand and go out at the end.
-ghost use Rattle.std.specs.Prelude.{◌≡◌, ℕ, [], ◌+◌, ◌<◌, ◌≤◌, ◌^◌, false, length, IsTrue, OnErr};
+ghost use Rattle.std.specs.Prelude.{◌≡◌, ℕ, [], ◌+◌, ◌<◌, ◌≤◌, ◌^◌, false, IsTrue, OnErr};
 ghost use Rattle.cm_base.specs.Limits.{greatest_number};
 ghost use Rattle.cm_base.specs.Outcome.{OrNoMemory, UnchangedOnErr};
 ghost use Rattle.cm_strace.specs.Deeds.{deed_is, left_of, GivesEvent};
@@ -19,8 +19,7 @@ use crate::births::read_on;
 use crate::body::{is_resumed, read_deed};
 use crate::deed::{Deed, Origin};
 use crate::line::{Line, has_line, remove_taken};
-use crate::placed::Stop;
-use crate::stage::Stage;
+use crate::stage::{Stage, Stop};
 use crate::waiting::Waiting;
 use cm_base::{Limited, LineFault, NoMemory, Pid};
 use cm_declared::{Placed, World};
@@ -76,7 +75,8 @@ impl Work {
         self.parts.spaces() + self.held.len() as u32
     }
 
-    /// A line comes: whether the session goes on. It fails only where memory runs out, and then leaves the session as it
+    /// A line comes: whether the session goes on. It fails only where memory runs out, and then leaves the session as
+    /// it
     /// was.
     pub(crate) fn feed(
         &mut self,

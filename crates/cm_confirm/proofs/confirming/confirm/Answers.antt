@@ -1,7 +1,7 @@
 use Rattle.std.proofs.Common.{◌≡◌, ◌∙◌, ◌+◌, ◌≤◌, ◌∷◌, List, ℕ, ap, arith, length, sym}
 use Rattle.cm_base.specs.Limited.{limit_number}
 use Rattle.cm_base.specs.declared.limited.Limited.TheVariants as limit
-use Rattle.cm_confirm.proofs.Endings.{goes_on}
+use Rattle.cm_confirm.proofs.Endings.{line_comes}
 use Rattle.cm_confirm.proofs.RunLines.{run_comes}
 use Rattle.cm_confirm.proofs.confirming.confirm.Goals as goal
 use Rattle.cm_confirm.specs.Lines.{lines_come}
@@ -9,7 +9,8 @@ use Rattle.cm_declared.specs.World.{world_of}
 use Rattle.cm_lines.specs.Cut.{Cut}
 use Rattle.cm_lines.specs.Lines.{lines_of}
 use Rattle.cm_log.specs.Counts.{lines_read}
-use Rattle.cm_log.specs.Left.{left}
+use Rattle.cm_confirm.specs.declared.confirming.Turn.TheVariants as turn
+use Rattle.cm_log.specs.Left.{left, told_of}
 use Rattle.cm_state.specs.Right.{right_of}
 use Rattle.model_confirm.specs.Confirm.{confirm_of}
 use Rattle.model_text.specs.Reading.{Reading, script_of_cut}
@@ -29,24 +30,44 @@ loop-line-init c =
       lines = omega (arith, c.of_script-run.ensures.fresh.lines, c.requires.text);
     }
 
-pub loop-line-preserved-in-Goes : goal.loop-line-preserved-in-Goes
-loop-line-preserved-in-Goes c =
+pub loop-line-preserved : goal.loop-line-preserved
+loop-line-preserved c =
     let w = world_of c.args.w.now in
     let right = right_of c.args.right.now in
     let rest = lines_come (limit_number limit.Line) (lines_of c.in-Some.after.now) in
+    let later = left w c.read_line.new.run rest in
     let cut : lines_of c.loop-line.rest.now ≡ c.in-Some.line.now ∷ lines_of c.in-Some.after.now = c.in-Some.ensures.line in
-    let next = rw c.in-Event.is at c.in_ok-event.ensures.next in
-    let is = ap (λ (ls : List (List ℕ)). left w c.loop-line.run (lines_come (limit_number limit.Line) ls)) cut ∙ next rest in
-    let goes = rw c.in-Goes.is at c.in_ok-take_event-in-Event.ensures in
-    let lines : lines_read c.next_of_line.new.run ≤ lines_read c.loop-line.run + 1 = c.in_ok-event.ensures.lines in
+    let reading = left w c.loop-line.run (lines_come (limit_number limit.Line) (lines_of c.loop-line.rest.now)) in
+    let is = ap (λ (ls : List (List ℕ)). left w c.loop-line.run (lines_come (limit_number limit.Line) ls)) cut
+    ∙ c.in_ok-stage.ensures.told rest in
+    let goes = rw c.in-Goes.is at c.in_ok-take_told.ensures.turn in
+    let comes = line_comes w c.loop-line.machine.state c.loop-line.members right reading later
+    (told_of c.read_line.new.run) c.events-told.result.now
+    c.in_ok-stage.stage turn.Goes c.take_told.new.machine.state c.take_told.new.members is c.events-told.ensures
+    (goes later) in
+    let lines : lines_read c.read_line.new.run ≤ lines_read c.loop-line.run + 1 = c.in_ok-stage.ensures.lines in
     let shorter : length c.in-Some.after.now + 1 ≤ length c.loop-line.rest.now = c.in-Some.ensures.shorter in
     record {
-      same = c.loop-line.invariant.same
-          ∙ goes_on w c.loop-line.machine.state c.loop-line.members right
-          (left w c.loop-line.run (lines_come (limit_number limit.Line) (lines_of c.loop-line.rest.now)))
-          (left w c.next_of_line.new.run rest) c.in-Event.event is c.take_event.new.machine.state
-          c.take_event.new.members goes;
-      within = goes.within;
-      script = c.in_ok-event.ensures.script;
+      same = c.loop-line.invariant.same ∙ comes.0;
+      within = comes.1;
+      script = c.in_ok-stage.ensures.script;
       lines = omega (arith, lines, shorter, c.loop-line.invariant.lines);
     }
+
+pub returns-in-Ends : goal.returns-in-Ends
+returns-in-Ends c =
+    let w = world_of c.args.w.now in
+    let right = right_of c.args.right.now in
+    let rest = lines_come (limit_number limit.Line) (lines_of c.in-Some.after.now) in
+    let later = left w c.read_line.new.run rest in
+    let cut : lines_of c.loop-line.rest.now
+    ≡ c.in-Some.line.now ∷ lines_of c.in-Some.after.now = c.in-Some.ensures.line in
+    let reading = left w c.loop-line.run (lines_come (limit_number limit.Line) (lines_of c.loop-line.rest.now)) in
+    let is = ap (λ (ls : List (List ℕ)). left w c.loop-line.run (lines_come (limit_number limit.Line) ls)) cut
+    ∙ c.in_ok-stage.ensures.told rest in
+    let ends = rw c.in-Ends.is at c.in_ok-take_told.ensures.turn in
+    let comes = line_comes w c.loop-line.machine.state c.loop-line.members right reading later
+    (told_of c.read_line.new.run) c.events-told.result.now
+    c.in_ok-stage.stage (turn.Ends c.in-Ends.confirmed) c.take_told.new.machine.state c.take_told.new.members is
+    c.events-told.ensures (ends later) in
+    sym comes ∙ sym c.loop-line.invariant.same

@@ -359,7 +359,7 @@ returns-in-Err-Read-clause-tells g c fault =
     tells_taken held _ w name c.args.replay.now c.loop-replay.replay (g.K.Sink.written c.args.out.now) _ c.args.log.now c.loop-replay.log
     (record { written = g.K.Sink.written c.loop-replay.out; waits = c.loop-replay.text.items }) c.loop-replay.cutter c.args.text.now.items
     (g.H.Shelf.taken c.args.shelf.now) (g.H.Shelf.taken c.loop-replay.shelf) (g.H.Shelf.taken c.next_line.new.shelf)
-    inv.past (inv.waits (c.next_line.ensures.wants is) open_) open_ inv.ready.none inv.file.held inv.name inv.first inv.file.takes.here
+    inv.past (inv.waits (c.next_line.ensures.wants is) open_) open_ inv.file.held inv.name inv.first inv.file.takes.here
     (c.next_line.ensures.breaks is)
 
 -- ---- what was read of the log

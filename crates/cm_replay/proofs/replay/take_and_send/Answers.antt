@@ -19,8 +19,8 @@ returns-in_ok-send_full-in-Goes-clause-takes g c reading rest is =
     (record { written = g.K.Sink.written c.send_full.new.out; waits = c.send_full.new.text.items }) is goes
     c.in_ok-send_full-in-Goes.ensures.sent
 
-pub returns-in_ok-send_full-in-Goes-clause-counts : goal.returns-in_ok-send_full-in-Goes-clause-counts
-returns-in_ok-send_full-in-Goes-clause-counts g c _ =
+pub returns-in_ok-send_full-in-Goes-clause-took : goal.returns-in_ok-send_full-in-Goes-clause-took
+returns-in_ok-send_full-in-Goes-clause-took g c _ =
     event_took (world_of c.args.w.now) c.args.replay.now c.take_event.new.replay c.args.event.now
     (rw c.in-Goes.is at c.in_ok-take_event.ensures.turn) ((rw c.in-Goes.is at c.in_ok-take_event.ensures.events) refl)
     c.in_ok-take_event.ensures.keeps
