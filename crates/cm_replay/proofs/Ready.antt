@@ -106,7 +106,7 @@ took_one w e left_ whole from mid to before took =
     let more : length mid.machine.state.spaces + spaces_made (e.event ∷ []) ≤ length to.machine.state.spaces =
     took.spaces in
     let all : length from.machine.state.spaces + spaces_made (events_of whole)
-        ≤ length mid.machine.state.spaces + spaces_made (events_of (e ∷ left_)) = before.spaces in
+    ≤ length mid.machine.state.spaces + spaces_made (events_of (e ∷ left_)) = before.spaces in
     let counted : mid.events + length (e ∷ left_) ≡ from.events + length whole = before.events in
     let one : to.events ≡ mid.events + 1 = took.events in
     record {

@@ -14,7 +14,7 @@ use Rattle.model_text.specs.Reading.{Placed, Reading}
 module _ (events : List Placed) (s : Read) (number : ℕ) (later : Parts → Reading) where
   -- it stops the reading
   pub stopped_line : (at : Stage) (t : Turn) → (at ≡ stage.Going → ⊥)
-  → Gave at events s (preceded [] (given_at number t))
+      → Gave at events s (preceded [] (given_at number t))
       → reading_is events at ≡ at_end_turn number t later
   stopped_line stage.Going t stops is = absurd (stops refl)
   stopped_line (stage.Stopped stop) (Quiet p) stops is = cc

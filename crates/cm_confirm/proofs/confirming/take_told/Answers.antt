@@ -48,8 +48,7 @@ pub returns-in-Going-clause-turn : goal.returns-in-Going-clause-turn
 returns-in-Going-clause-turn c later =
     let w = world_of c.args.w.now in
     let right = right_of c.args.right.now in
-    let none = drop_all c.loop-event.event-index c.args.told.now c.loop-event-test.false in
-    (
+    let none = drop_all c.loop-event.event-index c.args.told.now c.loop-event-test.false in (
       c.loop-event.invariant.same later
           ∙ ap (λ (es : List Placed). confirm_of w c.loop-event.machine.state c.loop-event.members right
           (told_then es c.args.stage later)) none

@@ -34,7 +34,10 @@ returns-else-awaits-clause-read c =
     (body_is c.read_body-told.result) c.args.body.now c.in_ok-deed.deed
     c.read_deed.new.parts.known t.parts c.is_resumed-resumed.ensures c.read_body-told.ensures
     c.in_ok-deed.ensures.turn in
-    rw (← c.self.view_is, ← concluded_read w origin c.args.body.now c.in_ok-deed.deed c.read_deed.new.parts.known t
-    turn_is refl)
+    rw (
+      ← c.self.view_is,
+      ← concluded_read w origin c.args.body.now c.in_ok-deed.deed c.read_deed.new.parts.known t
+          turn_is refl,
+    )
     (at_world c.read_here.result (λ w stage. Gave stage c.read_here.new.events.items c.read_here.new.self
     (preceded c.args.events.now.items (concluded w origin c.in_ok-deed.deed now))) w c.read_here.ensures.done)
