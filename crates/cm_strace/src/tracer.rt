@@ -133,8 +133,7 @@ impl Tracer {
     }
 
     /// The log ends: what the held lines still give, and what the session is at then. The events are all that the
-    /// caller's
-    /// list holds then. It fails only where memory runs out, and then leaves the session as it was.
+    /// caller's list holds then. It fails only where memory runs out, and then leaves the session as it was.
     pub fn finish(
         &mut self,
         alloc: Global,

@@ -76,8 +76,7 @@ impl Work {
     }
 
     /// A line comes: whether the session goes on. It fails only where memory runs out, and then leaves the session as
-    /// it
-    /// was.
+    /// it was.
     pub(crate) fn feed(
         &mut self,
         alloc: Global,
