@@ -1,4 +1,5 @@
--- A session after a line: it goes on, or it is stopped, by what the line gave; at which stage it is; and where it is cut off.
+-- A session after a line: it goes on, or it is stopped, by what the line gave; at which stage it is; and where it is
+-- cut off.
 use Rattle.std.proofs.Common.{◌≡◌, ℕ, List, [], Some, refl, ap}
 use Rattle.cm_lines.specs.Cut.{Cut, ends_by}
 use Rattle.cm_lines.specs.declared.limits.Past.{Past}
@@ -38,7 +39,8 @@ at_stage (stage.Stopped stop) t = refl
 at_stage stage.Finished t = tt
 
 -- a session that is cut off gives what it gives where no line comes but one that is past the limit
-pub cut_off_gives : (w : World) (past : Past) (session : Session) (cut : Cut) → rest w (cut_off past session) cut ≡ rest w session (ends_by (Some past))
+pub cut_off_gives : (w : World) (past : Past) (session : Session) (cut : Cut)
+    → rest w (cut_off past session) cut ≡ rest w session (ends_by (Some past))
 cut_off_gives w past (Going t) cut = refl
 cut_off_gives w past (Stopped count stop) cut = refl
 cut_off_gives w past (Finished count) cut = refl
