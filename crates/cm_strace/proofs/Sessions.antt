@@ -1,17 +1,12 @@
--- A session after a line: it goes on, or it is stopped, by what the line gave; at which stage it is; and where it is
--- cut off.
-use Rattle.std.proofs.Common.{◌≡◌, ℕ, List, [], Some, refl, ap}
-use Rattle.cm_lines.specs.Cut.{Cut, ends_by}
-use Rattle.cm_lines.specs.declared.limits.Past.{Past}
-use Rattle.cm_lines.specs.declared.limits.Past.TheVariants as past
+-- A session after a line, or after the log's end: it goes on, or it is stopped; at which stage it is.
+use Rattle.std.proofs.Common.{◌≡◌, ℕ, List, [], refl, ap}
 use Rattle.cm_strace.specs.Answers.{ending_at, reading_is}
 use Rattle.cm_strace.specs.Given.{Gave}
-use Rattle.cm_strace.specs.Stages.{cut_off, session_is, IsAt}
+use Rattle.cm_strace.specs.Stages.{session_is, IsAt}
 use Rattle.cm_strace.specs.declared.stage.Stage.{Stage}
 use Rattle.cm_strace.specs.declared.stage.Stage.TheVariants as stage
-use Rattle.model_cred.specs.World.{World}
 use Rattle.model_strace.specs.After.{After, Goes, Halts, preceded}
-use Rattle.model_strace.specs.Rest.{Finished, Going, Session, Stopped, Work, answer_of, rest, session_ended, session_of}
+use Rattle.model_strace.specs.Rest.{Work, answer_of, session_ended, session_of}
 use Rattle.model_text.specs.Reading.{End, Placed}
 
 -- what the line answers
@@ -37,13 +32,6 @@ pub at_stage : (at : Stage) (t : Work) → IsAt at (session_is at t)
 at_stage stage.Going t = tt
 at_stage (stage.Stopped stop) t = refl
 at_stage stage.Finished t = tt
-
--- a session that is cut off gives what it gives where no line comes but one that is past the limit
-pub cut_off_gives : (w : World) (past : Past) (session : Session) (cut : Cut)
-    → rest w (cut_off past session) cut ≡ rest w session (ends_by (Some past))
-cut_off_gives w past (Going t) cut = refl
-cut_off_gives w past (Stopped count stop) cut = refl
-cut_off_gives w past (Finished count) cut = refl
 
 -- the session is the one after the log's end
 pub session_ended_at : (at : Stage) (t : Work) (ending : End) → (at ≡ stage.Going → ⊥) → ending_at at ≡ ending
