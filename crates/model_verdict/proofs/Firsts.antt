@@ -1,6 +1,7 @@
 -- Where rows first fail is found, or they enclose the members: the first row that lacks what the start bounds hold; the
 -- first rule and row at which they aren't closed; the first row by which they meet a right.
-use Rattle.std.proofs.Common.{◌⊎◌, ℕ, zero, suc, ◌<◌, ◌≤◌, Bool, List, sym, inl, inr, subst, arith}
+use Rattle.std.proofs.Common.{◌⊎◌, ℕ, ◌<◌, ◌≤◌, Bool, true, List, nat_le, refl, sym, inl, inr, subst, arith}
+use Rattle.std.proofs.lemmas.Bool.{agree_below_at, cases_lt, leb-true}
 use Rattle.std.specs.Prelude.{IsTrue}
 use Rattle.cm_base.specs.CapSet.{cap_count}
 use Rattle.cm_base.specs.Limits.{id_count}
@@ -66,8 +67,13 @@ first_not P each limit = by (some_below (λ x. P x → ⊥) (λ x. not_so (each 
 
 -- the rule of a place has no greater number
 rule_at_low : (m : ℕ) → rule_number (rule_at m) ≤ m
-rule_at_low zero = omega arith
-rule_at_low _ = omega arith
+rule_at_low m =
+    elim (cases_lt m 14) [
+      | inl low ↦
+          leb-true (rule_number (rule_at m)) m
+          (agree_below_at (λ n. nat_le (rule_number (rule_at n)) n) (λ _. true) 14 m refl low)
+      | inr high ↦ let few = rule_low (rule_at m) in omega (arith, few)
+    ]
 
 module _ (permitted : CallKind → Bool) (files : FileTable) (s : State) (members : List ℕ) (keeps : KeepsState s)
     (limit : ℕ) (high : cap_count ≤ limit) (bounds : Row → Part → ℕ → Type 0) (fine : Fine limit bounds) where
