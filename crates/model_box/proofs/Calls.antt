@@ -13,6 +13,9 @@ use Rattle.cm_base.proofs.CapSets.{within_from_members, within_reflexive, within
 use Rattle.cm_base.proofs.CapSets.{meet_within_first, meet_within_second, union_within, minus_within}
 use Rattle.cm_filter.specs.declared.kind.CallKind.{CallKind}
 use Rattle.cm_filter.specs.declared.kind.CallKind.TheVariants as kind
+use Rattle.model_cred.specs.Call.{Call, SetUid, SetReUid, SetResUid, SetFsUid, SetGid, SetReGid, SetResGid, SetFsGid}
+use Rattle.model_cred.specs.Call.{SetGroups, CapSet, BsetDrop, AmbRaise, AmbLower, AmbClear, SecureBits, KeepCaps}
+use Rattle.model_cred.specs.Call.{NoNewPrivs, Unshare, SetNs, Exec, kind_of}
 use Rattle.model_cred.specs.Credential.{Credential, FourIds, id_set, insert_id}
 use Rattle.model_cred.specs.Files.{FileTable}
 use Rattle.model_cred.specs.IdMap.{Extent, down, extents_of, is_outside}
@@ -23,6 +26,7 @@ use Rattle.model_rules.specs.CapCalls.{has_setpcap, may_capset, with_capset, cap
 use Rattle.model_rules.specs.CapCalls.{amb_lower, amb_clear, may_secure, secure_bits, without_keep_caps, with_keep_caps}
 use Rattle.model_rules.specs.CapCalls.{set_keep_caps, set_no_new_privs}
 use Rattle.model_rules.specs.Fixups.{without_root, after_losing_root, following_effective, fixed_up, following_fs, fs_fixed_up}
+use Rattle.model_rules.specs.Reply.{reply}
 use Rattle.model_rules.specs.Securebits.{has_flag, keep_caps, no_setuid_fixup, no_cap_ambient_raise, lock_of, noroot, locks, locked_flags}
 use Rattle.model_rules.specs.SetGroups.{setgroups, with_groups, all_down, most_groups}
 use Rattle.model_rules.specs.SetId.{with_uids, with_gids, has_setuid, has_setgid, setuid, setreuid, setresuid, setfsuid}
@@ -32,11 +36,11 @@ use Rattle.model_box.specs.Row.{Part, Uids, EffectiveUids, FsUids, Gids, Effecti
 use Rattle.model_box.specs.Row.{MappedGids, PermittedCaps, InheritableCaps, BoundingCaps, NewPrivs, RootCounts}
 use Rattle.model_box.specs.Row.{LockClear, Row}
 use Rattle.model_box.specs.Row.{space_under, HasMembers}
-use Rattle.model_box.specs.Rule.{SetUid, SetFsUid, SetGid, SetFsGid, SetGroups, CapSet, SecureBits}
+use Rattle.model_box.specs.Rule as rule
 use Rattle.model_box.specs.Closed.{Closed}
 use Rattle.model_box.specs.Covers.{MapsIn}
 use Rattle.model_box.specs.Gains.{SettableUid, SettableGid}
-use Rattle.model_box.proofs.Ids.{IdsIn, OkIn, down_outside, setresid_in, setreid_in, setid_in, setfsid_in}
+use Rattle.model_box.proofs.Ids.{IdsIn, OkIn, SetsIn, down_outside, sets_in, setfsid_in}
 use Rattle.model_box.proofs.Rows.{Fine, noroot_is, lock_is, locked_stays}
 use Rattle.model_box.proofs.Writing.{choose}
 
@@ -170,9 +174,30 @@ all_outside map (i ∷ list) ids down' x held = first (λ more rest there. all_o
   first later (Some k) one same = second later k one (all_down map list) refl same
 
 -- ---- the calls
+-- the call makes no space, joins none and runs no program
+abbrev pub IsOwn : Call → Type 0
+IsOwn Unshare = ⊥
+IsOwn (SetNs target) = ⊥
+IsOwn (Exec f) = ⊥
+IsOwn _ = Unit {0}
+
+-- one of three is permitted
+one_allowed : (a b d : Bool) → IsTrue a → IsTrue (a || b || d)
+one_allowed a b d held = or_left (a || b) d (or_left a b held)
+
+two_allowed : (a b d : Bool) → IsTrue b → IsTrue (a || b || d)
+two_allowed a b d held = or_left (a || b) d (or_right a b held)
+
+pub three_allowed : (a b d : Bool) → IsTrue d → IsTrue (a || b || d)
+three_allowed a b d held = or_right (a || b) d held
+
 module _ (permitted : CallKind → Bool) (files : FileTable) (old : Spaces) (bounds : Row → Part → ℕ → Type 0) (closed : Closed permitted files old bounds)
-    (row : Row) (standing : IsTrue (stands old (space_under row))) (s : Space) (maps : MapsIn s (bounds row))
+    (row : Row) (standing : IsTrue (stands old (space_under row))) (new : Spaces) (at : ℕ)
+    (maps : MapsIn (space_of new at) (bounds row))
     (c : Credential) (fine : Fine (bounds row) c) where
+  abbrev s : Space
+  s = space_of new at
+
   members : HasMembers (bounds row)
   members = (c.uid.effective, fine.held.uid.effective c.uid.effective refl)
 
@@ -181,86 +206,60 @@ module _ (permitted : CallKind → Bool) (files : FileTable) (old : Spaces) (bou
   cap_in cap held = fine.held.permitted cap (member_of_wider c.effective c.permitted fine.included.effective cap held)
 
   module _ (allowed : IsTrue (permitted kind.SetUid || permitted kind.SetReUid || permitted kind.SetResUid)) where
-    uid_gain : (x : ℕ) → SettableUid (bounds row) x → bounds row EffectiveUids x
-    uid_gain x set = closed SetUid row standing EffectiveUids x (allowed, members, set)
+    uids_in : SetsIn (bounds row Uids) (bounds row EffectiveUids) (bounds row FsUids) (extents_of s.uids)
+        (has_setuid c) c.uid
+    uids_in =
+        sets_in (bounds row Uids) (bounds row EffectiveUids) (bounds row FsUids) (bounds row MappedUids)
+        (bounds row PermittedCaps cap_setuid) (extents_of s.uids) maps.uids (has_setuid c)
+        (cap_in cap_setuid) c.uid fine.held.uid
+        (λ x set. closed rule.SetUid row standing EffectiveUids x (allowed, members, set))
+        (λ x held. closed rule.SetUid row standing Uids x (allowed, members, inl held))
+        (λ x held. closed rule.SetUid row standing FsUids x (allowed, members, inl held))
 
-    uid_old : (x : ℕ) → bounds row EffectiveUids x → bounds row Uids x
-    uid_old x held = closed SetUid row standing Uids x (allowed, members, inl held)
-
-    uid_fs : (x : ℕ) → bounds row EffectiveUids x → bounds row FsUids x
-    uid_fs x held = closed SetUid row standing FsUids x (allowed, members, inl held)
-
-    pub setresuid_fine : (r e v : ℕ) → Fine (bounds row) (setresuid s c r e v).cred
+    setresuid_fine : (r e v : ℕ) → Fine (bounds row) (setresuid s c r e v).cred
     setresuid_fine r e v =
         with_uids_fine (bounds row) s c fine (setresid (extents_of s.uids) (has_setuid c) c.uid r e v)
-        (setresid_in (bounds row Uids) (bounds row EffectiveUids) (bounds row FsUids) (bounds row MappedUids)
-        (bounds row PermittedCaps cap_setuid) (extents_of s.uids) maps.uids (has_setuid c)
-        (cap_in cap_setuid) c.uid fine.held.uid uid_gain uid_old uid_fs r e v)
+        (uids_in.resid r e v)
 
-    pub setreuid_fine : (r e : ℕ) → Fine (bounds row) (setreuid s c r e).cred
+    setreuid_fine : (r e : ℕ) → Fine (bounds row) (setreuid s c r e).cred
     setreuid_fine r e =
-        with_uids_fine (bounds row) s c fine (setreid (extents_of s.uids) (has_setuid c) c.uid r e)
-        (setreid_in (bounds row Uids) (bounds row EffectiveUids) (bounds row FsUids) (bounds row MappedUids)
-        (bounds row PermittedCaps cap_setuid) (extents_of s.uids) maps.uids (has_setuid c)
-        (cap_in cap_setuid) c.uid fine.held.uid uid_gain uid_old uid_fs r e)
+        with_uids_fine (bounds row) s c fine (setreid (extents_of s.uids) (has_setuid c) c.uid r e) (uids_in.reid r e)
 
-    pub setuid_fine : (id : ℕ) → Fine (bounds row) (setuid s c id).cred
+    setuid_fine : (id : ℕ) → Fine (bounds row) (setuid s c id).cred
     setuid_fine id =
-        with_uids_fine (bounds row) s c fine (setid (extents_of s.uids) (has_setuid c) c.uid id)
-        (setid_in (bounds row Uids) (bounds row EffectiveUids) (bounds row FsUids) (bounds row MappedUids)
-        (bounds row PermittedCaps cap_setuid) (extents_of s.uids) maps.uids (has_setuid c)
-        (cap_in cap_setuid) c.uid fine.held.uid uid_gain uid_old uid_fs id)
+        with_uids_fine (bounds row) s c fine (setid (extents_of s.uids) (has_setuid c) c.uid id) (uids_in.id id)
 
-  pub setfsuid_fine : IsTrue (permitted kind.SetFsUid) → (id : ℕ) → Fine (bounds row) (setfsuid s c id).cred
+  setfsuid_fine : IsTrue (permitted kind.SetFsUid) → (id : ℕ) → Fine (bounds row) (setfsuid s c id).cred
   setfsuid_fine allowed id =
       fs_fixed_up_fine (bounds row) s c.uid.fs (record c { uid = setfsid (extents_of s.uids) (has_setuid c) c.uid id })
       (with_uid_fine (bounds row) c fine (setfsid (extents_of s.uids) (has_setuid c) c.uid id)
       (setfsid_in (bounds row Uids) (bounds row EffectiveUids) (bounds row FsUids) (bounds row MappedUids)
       (bounds row PermittedCaps cap_setuid) (extents_of s.uids) maps.uids (has_setuid c)
       (cap_in cap_setuid) c.uid fine.held.uid
-      (λ x set. closed SetFsUid row standing FsUids x (allowed, members, set)) id))
+      (λ x set. closed rule.SetFsUid row standing FsUids x (allowed, members, set)) id))
 
   module _ (allowed : IsTrue (permitted kind.SetGid || permitted kind.SetReGid || permitted kind.SetResGid)) where
-    gid_gain : (x : ℕ) → SettableGid (bounds row) x → bounds row EffectiveGids x
-    gid_gain x set = closed SetGid row standing EffectiveGids x (allowed, members, set)
-
-    gid_old : (x : ℕ) → bounds row EffectiveGids x → bounds row Gids x
-    gid_old x held = closed SetGid row standing Gids x (allowed, members, inl held)
-
-    gid_fs : (x : ℕ) → bounds row EffectiveGids x → bounds row FsGids x
-    gid_fs x held = closed SetGid row standing FsGids x (allowed, members, inl held)
-
-    pub setresgid_fine : (r e v : ℕ) → Fine (bounds row) (setresgid s c r e v).cred
-    setresgid_fine r e v =
-        with_gids_fine (bounds row) c fine (setresid (extents_of s.gids) (has_setgid c) c.gid r e v)
-        (setresid_in (bounds row Gids) (bounds row EffectiveGids) (bounds row FsGids) (bounds row MappedGids)
+    gids_in : SetsIn (bounds row Gids) (bounds row EffectiveGids) (bounds row FsGids) (extents_of s.gids)
+        (has_setgid c) c.gid
+    gids_in =
+        sets_in (bounds row Gids) (bounds row EffectiveGids) (bounds row FsGids) (bounds row MappedGids)
         (bounds row PermittedCaps cap_setgid) (extents_of s.gids) maps.gids (has_setgid c)
-        (cap_in cap_setgid) c.gid fine.held.gid gid_gain gid_old gid_fs r e v)
+        (cap_in cap_setgid) c.gid fine.held.gid
+        (λ x set. closed rule.SetGid row standing EffectiveGids x (allowed, members, set))
+        (λ x held. closed rule.SetGid row standing Gids x (allowed, members, inl held))
+        (λ x held. closed rule.SetGid row standing FsGids x (allowed, members, inl held))
 
-    pub setregid_fine : (r e : ℕ) → Fine (bounds row) (setregid s c r e).cred
-    setregid_fine r e =
-        with_gids_fine (bounds row) c fine (setreid (extents_of s.gids) (has_setgid c) c.gid r e)
-        (setreid_in (bounds row Gids) (bounds row EffectiveGids) (bounds row FsGids) (bounds row MappedGids)
-        (bounds row PermittedCaps cap_setgid) (extents_of s.gids) maps.gids (has_setgid c)
-        (cap_in cap_setgid) c.gid fine.held.gid gid_gain gid_old gid_fs r e)
-
-    pub setgid_fine : (id : ℕ) → Fine (bounds row) (setgid s c id).cred
-    setgid_fine id =
-        with_gids_fine (bounds row) c fine (setid (extents_of s.gids) (has_setgid c) c.gid id)
-        (setid_in (bounds row Gids) (bounds row EffectiveGids) (bounds row FsGids) (bounds row MappedGids)
-        (bounds row PermittedCaps cap_setgid) (extents_of s.gids) maps.gids (has_setgid c)
-        (cap_in cap_setgid) c.gid fine.held.gid gid_gain gid_old gid_fs id)
-
-  pub setfsgid_fine : IsTrue (permitted kind.SetFsGid) → (id : ℕ) → Fine (bounds row) (setfsgid s c id).cred
+  setfsgid_fine : IsTrue (permitted kind.SetFsGid) → (id : ℕ) → Fine (bounds row) (setfsgid s c id).cred
   setfsgid_fine allowed id =
       with_gid_fine (bounds row) c fine (setfsid (extents_of s.gids) (has_setgid c) c.gid id)
       (setfsid_in (bounds row Gids) (bounds row EffectiveGids) (bounds row FsGids) (bounds row MappedGids)
       (bounds row PermittedCaps cap_setgid) (extents_of s.gids) maps.gids (has_setgid c)
       (cap_in cap_setgid) c.gid fine.held.gid
-      (λ x set. closed SetFsGid row standing FsGids x (allowed, members, set)) id)
+      (λ x set. closed rule.SetFsGid row standing FsGids x (allowed, members, set)) id)
 
   -- setgroups(2): the word of the query holds as long as it is "deny"
-  pub setgroups_fine : IsTrue (permitted kind.SetGroups) → ((space_of old (space_under row)).deny ≡ true → s.deny ≡ true) → (ids : List ℕ)
+  setgroups_fine : IsTrue (permitted kind.SetGroups) → ((space_of old (space_under row)).deny ≡ true → s.deny ≡ true)
+      → (ids : List ℕ)
       → Fine (bounds row) (setgroups s c ids).cred
   setgroups_fine allowed word ids =
       choose (λ (a : Answer). Fine (bounds row) a.cred) (not (has_setgid c) || is_none s.gids || s.deny) (refused EPERM c)
@@ -288,7 +287,7 @@ module _ (permitted : CallKind → Bool) (files : FileTable) (old : Spaces) (bou
         go None down' has free = fine
         go (Some list) down' has free =
             let added : (x : ℕ) → IsTrue (list_any (λ group. eqb group x) (id_set list)) → bounds row Groups x =
-            λ x held. closed SetGroups row standing Groups x (
+            λ x held. closed rule.SetGroups row standing Groups x (
               allowed,
               members,
               allow free (space_of old (space_under row)).deny refl,
@@ -299,11 +298,12 @@ module _ (permitted : CallKind → Bool) (files : FileTable) (old : Spaces) (bou
             ) in search
 
   -- capset(2)
-  pub capset_fine : IsTrue (permitted kind.CapSet) → (e p i : ℕ) → Fine (bounds row) (capset c e p i).cred
+  capset_fine : IsTrue (permitted kind.CapSet) → (e p i : ℕ) → Fine (bounds row) (capset c e p i).cred
   capset_fine allowed e p i =
-      choose (λ (a : Answer). Fine (bounds row) a.cred) (may_capset c e p i) (done (with_capset c e p i)) (refused EPERM c) (λ may. new may) (λ _. fine) where
-        new : IsTrue (may_capset c e p i) → Fine (bounds row) (with_capset c e p i)
-        new may = record {
+      choose (λ (a : Answer). Fine (bounds row) a.cred) (may_capset c e p i) (done (with_capset c e p i))
+      (refused EPERM c) (λ may. changed may) (λ _. fine) where
+        changed : IsTrue (may_capset c e p i) → Fine (bounds row) (with_capset c e p i)
+        changed may = record {
           held =
               let fewer : (x : ℕ) → IsTrue (holds p x) → bounds row PermittedCaps x =
               λ x held. fine.held.permitted x (member_of_wider p c.permitted three.1 x held) in
@@ -343,7 +343,7 @@ module _ (permitted : CallKind → Bool) (files : FileTable) (old : Spaces) (bou
               → (bounds row PermittedCaps x × bounds row BoundingCaps x)
               ⊎ (bounds row PermittedCaps cap_setpcap × bounds row BoundingCaps x)
               → bounds row InheritableCaps x
-          gains x gain = closed CapSet row standing InheritableCaps x (allowed, members, gain)
+          gains x gain = closed rule.CapSet row standing InheritableCaps x (allowed, members, gain)
 
           by_permitted : (x : ℕ) → IsTrue (holds c.bounding x)
               → (IsTrue (holds c.inheritable x)) ⊎ (IsTrue (holds c.permitted x)) → bounds row InheritableCaps x
@@ -364,7 +364,7 @@ module _ (permitted : CallKind → Bool) (files : FileTable) (old : Spaces) (bou
           by x (inr b) held = by_cap x b held (or_cases (has_setpcap c) (is_within i (union c.inheritable c.permitted)) two.0)
 
   -- prctl(2), PR_CAPBSET_DROP: no rule is needed, the set shrinks
-  pub bset_drop_fine : (cap : ℕ) → Fine (bounds row) (bset_drop c cap).cred
+  bset_drop_fine : (cap : ℕ) → Fine (bounds row) (bset_drop c cap).cred
   bset_drop_fine cap =
       choose (λ (a : Answer). Fine (bounds row) a.cred) (not (has_setpcap c)) (refused EPERM c)
       (if nat_lt last_cap cap then refused EINVAL c else done (record c { bounding = without c.bounding cap })) (λ _. fine)
@@ -378,7 +378,7 @@ module _ (permitted : CallKind → Bool) (files : FileTable) (old : Spaces) (bou
             (member_of_wider (without c.bounding cap) c.bounding (minus_within c.bounding (single cap)) x held) in search
 
   -- PR_CAP_AMBIENT_RAISE, LOWER and CLEAR_ALL: the ambient set is within the permitted one, which has a part
-  pub amb_raise_fine : (cap : ℕ) → Fine (bounds row) (amb_raise c cap).cred
+  amb_raise_fine : (cap : ℕ) → Fine (bounds row) (amb_raise c cap).cred
   amb_raise_fine cap =
       choose (λ (a : Answer). Fine (bounds row) a.cred) (ltb last_cap cap) (refused EINVAL c)
       (if may_raise c cap then done (record c { ambient = with c.ambient cap }) else refused EPERM c) (λ _. fine)
@@ -398,14 +398,14 @@ module _ (permitted : CallKind → Bool) (files : FileTable) (old : Spaces) (bou
             (union_within c.ambient (single cap) c.permitted fine.included.ambient_permitted (single_within c.permitted second.0))
             (union_within c.ambient (single cap) c.inheritable fine.included.ambient_inheritable (single_within c.inheritable second.1))
 
-  pub amb_lower_fine : (cap : ℕ) → Fine (bounds row) (amb_lower c cap).cred
+  amb_lower_fine : (cap : ℕ) → Fine (bounds row) (amb_lower c cap).cred
   amb_lower_fine cap =
       choose (λ (a : Answer). Fine (bounds row) a.cred) (ltb last_cap cap) (refused EINVAL c) (done (record c { ambient = without c.ambient cap })) (λ _. fine)
       (λ _. with_ambient_fine (bounds row) c fine (without c.ambient cap)
       (within_transitive (without c.ambient cap) c.ambient c.permitted (minus_within c.ambient (single cap)) fine.included.ambient_permitted)
       (within_transitive (without c.ambient cap) c.ambient c.inheritable (minus_within c.ambient (single cap)) fine.included.ambient_inheritable))
 
-  pub amb_clear_fine : Fine (bounds row) (amb_clear c).cred
+  amb_clear_fine : Fine (bounds row) (amb_clear c).cred
   amb_clear_fine = with_ambient_fine (bounds row) c fine none (none_within c.permitted) (none_within c.inheritable)
 
   -- other securebits, of which only SECBIT_NOROOT and its lock count
@@ -414,12 +414,12 @@ module _ (permitted : CallKind → Bool) (files : FileTable) (old : Spaces) (bou
   with_bits_fine bits root lock = search
 
   -- PR_SET_SECUREBITS: a locked flag stays, and a lock is never cleared
-  pub secure_bits_fine : IsTrue (permitted kind.SecureBits) → (bits : ℕ) → Fine (bounds row) (secure_bits c bits).cred
+  secure_bits_fine : IsTrue (permitted kind.SecureBits) → (bits : ℕ) → Fine (bounds row) (secure_bits c bits).cred
   secure_bits_fine allowed bits =
       choose (λ (a : Answer). Fine (bounds row) a.cred) (may_secure c bits) (done (record c { securebits = bits }))
-      (refused EPERM c) (λ may. new may) (λ _. fine) where
-        new : IsTrue (may_secure c bits) → Fine (bounds row) (record c { securebits = bits })
-        new may = with_bits_fine bits root_by lock_by where
+      (refused EPERM c) (λ may. changed may) (λ _. fine) where
+        changed : IsTrue (may_secure c bits) → Fine (bounds row) (record c { securebits = bits })
+        changed may = with_bits_fine bits root_by lock_by where
           three : IsTrue (has_setpcap c && bit_and (bit_xor c.securebits bits) (locked_flags c.securebits) == 0
               && is_within (bit_and c.securebits locks) bits)
               × IsTrue (nat_lt bits 256)
@@ -459,7 +459,8 @@ module _ (permitted : CallKind → Bool) (files : FileTable) (old : Spaces) (bou
             by (inl set) (inl locked) =
                 absurd (false≢true (sym (sym (noroot_is (record c { securebits = bits })) ∙ clear) ∙ locked_stays c.securebits bits one.1 locked set))
             by (inl set) (inr open_) =
-                closed SecureBits row standing RootCounts 0 (allowed, members, (refl, cap_in cap_setpcap one.0, fine.held.lock (lock_is c ∙ open_)))
+                closed rule.SecureBits row standing RootCounts 0
+                (allowed, members, (refl, cap_in cap_setpcap one.0, fine.held.lock (lock_is c ∙ open_)))
 
   -- PR_SET_KEEPCAPS, and what execve does to SECBIT_KEEP_CAPS: the other flags stay
   other_flags : (bits : ℕ) → holds bits 0 ≡ holds c.securebits 0 → holds bits 1 ≡ holds c.securebits 1 → Fine (bounds row) (record c { securebits = bits })
@@ -486,7 +487,7 @@ module _ (permitted : CallKind → Bool) (files : FileTable) (old : Spaces) (bou
       other_flags (union c.securebits keep_caps) (holds_union c.securebits keep_caps 0 ∙ or_no (holds c.securebits 0))
       (holds_union c.securebits keep_caps 1 ∙ or_no (holds c.securebits 1))
 
-  pub set_keep_caps_fine : (argument : ℕ) → Fine (bounds row) (set_keep_caps c argument).cred
+  set_keep_caps_fine : (argument : ℕ) → Fine (bounds row) (set_keep_caps c argument).cred
   set_keep_caps_fine argument =
       choose (λ (a : Answer). Fine (bounds row) a.cred) (ltb 1 argument) (refused EINVAL c)
       (if has_flag c (lock_of keep_caps) then refused EPERM c else if argument == 0 then done (without_keep_caps c) else done (with_keep_caps c)) (λ _. fine)
@@ -497,10 +498,50 @@ module _ (permitted : CallKind → Bool) (files : FileTable) (old : Spaces) (bou
       (done (with_keep_caps c)) (λ _. without_keep_caps_fine) (λ _. with_keep_caps_fine)))
 
   -- PR_SET_NO_NEW_PRIVS: the flag is never cleared
-  pub set_no_new_privs_fine : (argument : ℕ) → Fine (bounds row) (set_no_new_privs c argument).cred
+  set_no_new_privs_fine : (argument : ℕ) → Fine (bounds row) (set_no_new_privs c argument).cred
   set_no_new_privs_fine argument =
       choose (λ (a : Answer). Fine (bounds row) a.cred) (argument == 1) (done (record c { no_new_privs = true }))
       (refused EINVAL c) (λ _. set) (λ _. fine) where
         set : Fine (bounds row) (record c { no_new_privs = true })
         set =
             let never : true ≡ false → bounds row NewPrivs 0 = λ clear. absurd (false≢true (sym clear)) in search
+
+  -- Each of these calls, and those that leave the credential. Of setgroups the row's word has to be that of the space.
+  pub call_fine : ((space_of old (space_under row)).deny ≡ true → s.deny ≡ true) → (call : Call) → IsOwn call
+      → IsTrue (permitted (kind_of call))
+      → Fine (bounds row) (reply files new at c call).cred
+  call_fine word (SetUid id) own allowed =
+      setuid_fine (one_allowed (permitted kind.SetUid) (permitted kind.SetReUid) (permitted kind.SetResUid) allowed) id
+  call_fine word (SetReUid r e) own allowed =
+      setreuid_fine (two_allowed (permitted kind.SetUid) (permitted kind.SetReUid) (permitted kind.SetResUid) allowed)
+      r e
+  call_fine word (SetResUid r e v) own allowed =
+      setresuid_fine (three_allowed (permitted kind.SetUid) (permitted kind.SetReUid)
+      (permitted kind.SetResUid) allowed) r e v
+  call_fine word (SetFsUid id) own allowed = setfsuid_fine allowed id
+  call_fine word (SetGid id) own allowed =
+      with_gids_fine (bounds row) c fine (setid (extents_of s.gids) (has_setgid c) c.gid id)
+      ((gids_in (one_allowed (permitted kind.SetGid) (permitted kind.SetReGid)
+      (permitted kind.SetResGid) allowed)).id id)
+  call_fine word (SetReGid r e) own allowed =
+      with_gids_fine (bounds row) c fine (setreid (extents_of s.gids) (has_setgid c) c.gid r e)
+      ((gids_in (two_allowed (permitted kind.SetGid) (permitted kind.SetReGid)
+      (permitted kind.SetResGid) allowed)).reid r e)
+  call_fine word (SetResGid r e v) own allowed =
+      with_gids_fine (bounds row) c fine (setresid (extents_of s.gids) (has_setgid c) c.gid r e v)
+      ((gids_in (three_allowed (permitted kind.SetGid) (permitted kind.SetReGid)
+      (permitted kind.SetResGid) allowed)).resid r e v)
+  call_fine word (SetFsGid id) own allowed = setfsgid_fine allowed id
+  call_fine word (SetGroups ids) own allowed = setgroups_fine allowed word ids
+  call_fine word (CapSet e p i) own allowed = capset_fine allowed e p i
+  call_fine word (BsetDrop cap) own allowed = bset_drop_fine cap
+  call_fine word (AmbRaise cap) own allowed = amb_raise_fine cap
+  call_fine word (AmbLower cap) own allowed = amb_lower_fine cap
+  call_fine word AmbClear own allowed = amb_clear_fine
+  call_fine word (SecureBits bits) own allowed = secure_bits_fine allowed bits
+  call_fine word (KeepCaps argument) own allowed = set_keep_caps_fine argument
+  call_fine word (NoNewPrivs argument) own allowed = set_no_new_privs_fine argument
+  call_fine word Unshare other allowed = absurd other
+  call_fine word (SetNs target) other allowed = absurd other
+  call_fine word (Exec f) other allowed = absurd other
+  call_fine word _ own allowed = fine

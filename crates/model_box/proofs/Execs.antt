@@ -465,7 +465,7 @@ module _ (permitted : CallKind → Bool) (files : FileTable) (old new : Spaces) 
         let sets : Fine (bounds row) (with_sets c (sets_for new at c f) (ambient_after c (is_privileged new at c f)))
         = with_sets_fine (sets_for new at c f) (ambient_after c (is_privileged new at c f)) ambient_less sets_in in
         let kept : Fine (bounds row) (without_keep_caps (with_sets c (sets_for new at c f) (ambient_after c (is_privileged new at c f))))
-        = without_keep_caps_fine permitted files old bounds closed row standing (space_of new at) maps_here
+        = without_keep_caps_fine permitted files old bounds closed row standing new at maps_here
         (with_sets c (sets_for new at c f) (ambient_after c (is_privileged new at c f))) sets in
         with_gid_fine (bounds row)
         (record (without_keep_caps

@@ -78,6 +78,12 @@ from_each Old Effective Fs ids real saved old_effective effective fs = record {
   by x (inl two) = first x (or_cases (eqb x ids.real) (eqb x ids.effective) two)
   by x (inr same) = rw (eqb-true x ids.saved same) saved
 
+-- what the calls that give more than the fs id give is within the sets, for each argument
+pub record SetsIn (Old Effective Fs : ℕ → Type 0) (map : List Extent) (privileged : Bool) (old : FourIds) : Type 0 where
+  pub resid : (r e s : ℕ) → OkIn (IdsIn Old Effective Fs) (setresid map privileged old r e s)
+  pub reid : (r e : ℕ) → OkIn (IdsIn Old Effective Fs) (setreid map privileged old r e)
+  pub id : (argument : ℕ) → OkIn (IdsIn Old Effective Fs) (setid map privileged old argument)
+
 module _ (Old Effective Fs Mapped : ℕ → Type 0) (Privileged : Type 0) (map : List Extent) (maps : (x : ℕ) → IsTrue (is_outside map x) → Mapped x)
     (privileged : Bool) (cap : IsTrue privileged → Privileged) (old : FourIds) (held : IdsIn Old Effective Fs old) where
   asked_cases : (o given k : ℕ) → asked map o given ≡ Some k → (k ≡ o) ⊎ IsTrue (is_outside map k)
@@ -117,7 +123,7 @@ module _ (Old Effective Fs Mapped : ℕ → Type 0) (Privileged : Type 0) (map :
         from_each Old Effective Fs (record { real = real; effective = effective; saved = saved; fs = effective }) r s (to_old effective e) e (to_fs effective e)
 
     -- setresuid and setresgid
-    pub setresid_in : (r e s : ℕ) → OkIn (IdsIn Old Effective Fs) (setresid map privileged old r e s)
+    setresid_in : (r e s : ℕ) → OkIn (IdsIn Old Effective Fs) (setresid map privileged old r e s)
     setresid_in r e s = go (asked map old.real r) (asked map old.effective e) (asked map old.saved s) refl refl refl where
       ids : (real effective saved : ℕ) → asked map old.real r ≡ Some real → asked map old.effective e ≡ Some effective → asked map old.saved s ≡ Some saved
           → IsTrue (privileged || (is_one_of_three old real && is_one_of_three old effective && is_one_of_three old saved))
@@ -153,7 +159,7 @@ module _ (Old Effective Fs Mapped : ℕ → Type 0) (Privileged : Type 0) (map :
           (λ may. ids real effective saved a b c may) (λ _. tt)
 
     -- setreuid and setregid
-    pub setreid_in : (r e : ℕ) → OkIn (IdsIn Old Effective Fs) (setreid map privileged old r e)
+    setreid_in : (r e : ℕ) → OkIn (IdsIn Old Effective Fs) (setreid map privileged old r e)
     setreid_in r e = go (asked map old.real r) (asked map old.effective e) refl refl where
       real_may : (real : ℕ) → IsTrue (real == old.real || real == old.effective) → Old real
       real_may real one =
@@ -197,7 +203,7 @@ module _ (Old Effective Fs Mapped : ℕ → Type 0) (Privileged : Type 0) (map :
           (λ _. tt)
 
     -- setuid and setgid
-    pub setid_in : (argument : ℕ) → OkIn (IdsIn Old Effective Fs) (setid map privileged old argument)
+    setid_in : (argument : ℕ) → OkIn (IdsIn Old Effective Fs) (setid map privileged old argument)
     setid_in argument = go (down map argument) refl where
       one_of : (id : ℕ) → IsTrue (id == old.real || id == old.saved) → Old id
       one_of id one =
@@ -228,6 +234,9 @@ module _ (Old Effective Fs Mapped : ℕ → Type 0) (Privileged : Type 0) (map :
           (λ may. all_ids id (down_outside map argument id same) may)
           (λ _. choose (OkIn (IdsIn Old Effective Fs)) (id == old.real || id == old.saved) (Ok (record old { effective = id; fs = id })) (Err EPERM)
           (λ one. two_ids id (down_outside map argument id same) (one_of id one)) (λ _. tt))
+
+    pub sets_in : SetsIn Old Effective Fs map privileged old
+    sets_in = record { resid = setresid_in; reid = setreid_in; id = setid_in }
 
   -- setfsuid and setfsgid
   pub setfsid_in : ((x : ℕ) → Settable Old Mapped Privileged x → Fs x) → (argument : ℕ) → IdsIn Old Effective Fs (setfsid map privileged old argument)

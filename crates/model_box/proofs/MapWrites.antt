@@ -11,7 +11,7 @@ use Rattle.cm_filter.specs.declared.kind.CallKind.TheVariants as kind
 use Rattle.model_cred.specs.Credential.{Credential, Included}
 use Rattle.model_cred.specs.IdMap.{Extent, extents_of, is_outside, is_the, lies_in}
 use Rattle.model_cred.specs.MapFault.{is_map}
-use Rattle.model_cred.specs.Space.{Spaces, space_of, put_space, is_at_or_above, stands}
+use Rattle.model_cred.specs.Space.{Space, Spaces, space_of, put_space, is_at_or_above, stands}
 use Rattle.model_rules.specs.Caps.{cap_setuid, cap_setgid, cap_sys_admin}
 use Rattle.model_rules.specs.Maps.{Written, MapFile, UidMap, GidMap, map_of, with_map, cap_for, effective_id}
 use Rattle.model_rules.specs.Maps.{parent_map, extent_down, list_down, has_over_parent, may_write, setfcap_allows}
@@ -20,7 +20,7 @@ use Rattle.model_rules.specs.Maps.{write_done, write_setgroups, may_say}
 use Rattle.model_rules.specs.Power.{has_over}
 use Rattle.model_box.specs.Row.{Part, EffectiveUids, EffectiveGids, MappedUids, MappedGids, PermittedCaps, Row, Standing, Fresh, HasMembers, space_under}
 use Rattle.model_box.specs.Closed.{ByMaps}
-use Rattle.model_box.specs.Covers.{RowOf, own, child, deeper, Stays, MapsAreIn, OwnersIn}
+use Rattle.model_box.specs.Covers.{RowOf, own, child, deeper, Stays, MapsIn, MapsAreIn, OwnersIn}
 use Rattle.model_box.proofs.Ids.{outside_here, outside_later}
 use Rattle.model_box.proofs.Trees.{Earlier, at_or_above_low, power_cases, row_standing}
 use Rattle.model_box.proofs.Fits.{TreeFits, AtAnchors, InRow, it_stands}
@@ -208,6 +208,27 @@ cause file new earlier at c t list mapped writes down may x held =
         },
       )
 
+-- the part of a row that a map file fills, and the call that writes the file
+abbrev pub part_of : MapFile → Part
+part_of UidMap = MappedUids
+part_of GidMap = MappedGids
+
+abbrev pub writer_of : MapFile → CallKind
+writer_of UidMap = kind.WriteUidMap
+writer_of GidMap = kind.WriteGidMap
+
+mapped_part : (file : MapFile) {s : Space} {row : Part → ℕ → Type 0} → MapsIn s row → (x : ℕ)
+    → IsTrue (is_outside (extents_of (map_of file s)) x)
+    → row (part_of file) x
+mapped_part UidMap maps = maps.uids
+mapped_part GidMap maps = maps.gids
+
+-- with another map of that file, whose ids are in the row too
+pub with_map_in : (file : MapFile) (s : Space) (row : Part → ℕ → Type 0) (map : List Extent) → MapsIn s row
+    → ((x : ℕ) → IsTrue (is_outside map x) → row (part_of file) x) → MapsIn (with_map file s map) row
+with_map_in UidMap s row map maps ids = record { uids = ids; gids = maps.gids }
+with_map_in GidMap s row map maps ids = record { uids = maps.uids; gids = ids }
+
 -- what isn't written now wasn't written at the query
 unwritten : (before now : Option (List Extent)) → ((map : List Extent) → before ≡ Some map → now ≡ Some map) → IsTrue (is_none now) → IsTrue (is_none before)
 unwritten None now stays free = refl
@@ -242,123 +263,113 @@ module _ (permitted : CallKind → Bool) (old new : Spaces) (bounds wider : Row 
       → bounds row EffectiveUids (space_of old t).owner
   owner_at low n row same here is = held_at n row here is EffectiveUids (space_of old t).owner (sym (owner_is low same))
 
-  module _ (x q : ℕ) where
-    row_q : t < length old → (space_of new t).parent ≡ Some q → RowOf (length old) new q (Standing q)
-    row_q low parent = let before : q < t = fit.earlier t q parent in own q (omega arith)
-
+  module _ (file : MapFile) (allowed : IsTrue (permitted (writer_of file))) (x q : ℕ)
+      (cause_ : Cause file new at c t q x) where
     -- of a standing space
-    uid_standing : IsTrue (permitted kind.WriteUidMap) → t < length old → IsTrue (is_none (space_of new t).uids) → Cause UidMap new at c t q x
-        → wider (Standing t) MappedUids x
-    uid_standing allowed low free cause_ =
-        let is_q : RowOf (length old) new q (Standing q) = row_q low cause_.parent in
-        into (Standing t) (it_stands old new fit t low) MappedUids x (
-          allowed,
-          unwritten (space_of old t).uids (space_of new t).uids (fit.stay t low).uids free,
-          (
-            q,
-            old_parent q low cause_.parent,
-            (
-              (mapped q (Standing q) is_q).uids x cause_.outside,
-              by_why cause_
-                  (λ here cap. inl (cap_at cap_setuid q (Standing q) here is_q cap))
-                  (λ same owner here cap.
-                  inr (
-                    same ∙ owner_is low owner,
-                    inr (
-                      owner_at low t (Standing t) owner here (own t low),
-                      cap_at cap_setuid t (Standing t) here (own t low) cap,
-                    ),
-                  ))
-                  (λ same owner here. inr (same ∙ owner_is low owner, inl (owner_at low q (Standing q) owner here is_q))),
-            ),
-          ),
-        )
+    standing : t < length old → IsTrue (is_none (map_of file (space_of new t))) → wider (Standing t) (part_of file) x
+    standing low free =
+        into (Standing t) (it_stands old new fit t low) (part_of file) x (by file allowed free cause_ in_q) where
+          is_q : RowOf (length old) new q (Standing q)
+          is_q = let before : q < t = fit.earlier t q cause_.parent in own q (omega arith)
 
-    gid_standing : IsTrue (permitted kind.WriteGidMap) → t < length old → IsTrue (is_none (space_of new t).gids) → Cause GidMap new at c t q x
-        → wider (Standing t) MappedGids x
-    gid_standing allowed low free cause_ =
-        let is_q : RowOf (length old) new q (Standing q) = row_q low cause_.parent in
-        into (Standing t) (it_stands old new fit t low) MappedGids x (
-          allowed,
-          unwritten (space_of old t).gids (space_of new t).gids (fit.stay t low).gids free,
-          (
-            q,
-            old_parent q low cause_.parent,
+          in_q : bounds (Standing q) (part_of file) x
+          in_q = mapped_part file (mapped q (Standing q) is_q) x cause_.outside
+
+          by : (file : MapFile) → IsTrue (permitted (writer_of file)) → IsTrue (is_none (map_of file (space_of new t)))
+              → Cause file new at c t q x
+              → bounds (Standing q) (part_of file) x → ByMaps permitted old bounds (Standing t) (part_of file) x
+          by UidMap may free why in_q = (
+            may,
+            unwritten (space_of old t).uids (space_of new t).uids (fit.stay t low).uids free,
             (
-              (mapped q (Standing q) is_q).gids x cause_.outside,
-              by_why cause_
-                  (λ here cap. inl (cap_at cap_setgid q (Standing q) here is_q cap))
-                  (λ same owner here cap.
-                  inr (inr (
-                    owner_at low t (Standing t) owner here (own t low),
-                    cap_at cap_setgid t (Standing t) here (own t low) cap,
-                    held_at t (Standing t) here (own t low) EffectiveGids x same,
-                  )))
-                  (λ same owner here. inr (inl (owner_at low q (Standing q) owner here is_q, held_at q (Standing q) here is_q EffectiveGids x same))),
+              q,
+              old_parent q low why.parent,
+              (
+                in_q,
+                by_why why
+                    (λ here cap. inl (cap_at cap_setuid q (Standing q) here is_q cap))
+                    (λ same owner here cap.
+                    inr (
+                      same ∙ owner_is low owner,
+                      inr (
+                        owner_at low t (Standing t) owner here (own t low),
+                        cap_at cap_setuid t (Standing t) here (own t low) cap,
+                      ),
+                    ))
+                    (λ same owner here. inr (same ∙ owner_is low owner, inl (owner_at low q (Standing q) owner here is_q))),
+              ),
             ),
-          ),
-        )
+          )
+          by GidMap may free why in_q = (
+            may,
+            unwritten (space_of old t).gids (space_of new t).gids (fit.stay t low).gids free,
+            (
+              q,
+              old_parent q low why.parent,
+              (
+                in_q,
+                by_why why
+                    (λ here cap. inl (cap_at cap_setgid q (Standing q) here is_q cap))
+                    (λ same owner here cap.
+                    inr (inr (
+                      owner_at low t (Standing t) owner here (own t low),
+                      cap_at cap_setgid t (Standing t) here (own t low) cap,
+                      held_at t (Standing t) here (own t low) EffectiveGids x same,
+                    )))
+                    (λ same owner here.
+                    inr (inl (owner_at low q (Standing q) owner here is_q, held_at q (Standing q) here is_q EffectiveGids x same))),
+              ),
+            ),
+          )
 
     -- Of a later space whose parent stands.
-    uid_child : IsTrue (permitted kind.WriteUidMap) → (a : ℕ) → length old ≤ t → (space_of new t).parent ≡ Some q → RowOf (length old) new q (Standing a)
-        → Cause UidMap new at c t q x → wider (Fresh a) MappedUids x
-    uid_child allowed a late parent is_q cause_ =
-        let owner_in : bounds (Standing a) EffectiveUids (space_of new t).owner = owners t q (Standing a) late parent is_q in
-        into (Fresh a) (it_stands old new fit a (rw (← (row_standing is_q).0) (row_standing is_q).1)) MappedUids x (
-          allowed,
-          peopled t a (child t q a late parent is_q),
-          (
-            (mapped q (Standing a) is_q).uids x cause_.outside,
-            by_why cause_
-                (λ here cap. inr (cap_at cap_setuid q (Standing a) here is_q cap))
-                (λ same owner here cap. inl (rw (same ∙ sym owner) owner_in))
-                (λ same owner here. inl (rw (same ∙ sym owner) owner_in)),
-          ),
-        )
+    below : (a : ℕ) → length old ≤ t → RowOf (length old) new q (Standing a) → wider (Fresh a) (part_of file) x
+    below a late is_q =
+        into (Fresh a) (it_stands old new fit a (rw (← (row_standing is_q).0) (row_standing is_q).1)) (part_of file) x
+        (by file allowed cause_ (mapped_part file (mapped q (Standing a) is_q) x cause_.outside)) where
+          is_t : RowOf (length old) new t (Fresh a)
+          is_t = child t q a late cause_.parent is_q
 
-    gid_child : IsTrue (permitted kind.WriteGidMap) → (a : ℕ) → length old ≤ t → (space_of new t).parent ≡ Some q → RowOf (length old) new q (Standing a)
-        → Cause GidMap new at c t q x → wider (Fresh a) MappedGids x
-    gid_child allowed a late parent is_q cause_ =
-        into (Fresh a) (it_stands old new fit a (rw (← (row_standing is_q).0) (row_standing is_q).1)) MappedGids x (
-          allowed,
-          peopled t a (child t q a late parent is_q),
-          (
-            (mapped q (Standing a) is_q).gids x cause_.outside,
-            by_why cause_
-                (λ here cap. inr (inr (cap_at cap_setgid q (Standing a) here is_q cap)))
-                (λ same owner here cap. inr (inl (held_at t (Fresh a) here (child t q a late parent is_q) EffectiveGids x same)))
-                (λ same owner here. inl (held_at q (Standing a) here is_q EffectiveGids x same)),
-          ),
-        )
+          owner_in : bounds (Standing a) EffectiveUids (space_of new t).owner
+          owner_in = owners t q (Standing a) late cause_.parent is_q
 
-  -- Of any space. Below a later parent the ids are in its row already.
-  pub uid_in : IsTrue (permitted kind.WriteUidMap) → IsTrue (is_none (space_of new t).uids) → (row : Row) → RowOf (length old) new t row
-      → (x q : ℕ) → Cause UidMap new at c t q x → wider row MappedUids x
-  uid_in allowed free row row_t x q why_ = go row_t refl where
-    go : {n : ℕ} {row : Row} → RowOf (length old) new n row → n ≡ t → wider row MappedUids x
-    go (own n low) same = rw same (uid_standing x q allowed (rw same at low) free why_)
-    go (child n p a late parent up) same =
-        let both : Some p ≡ Some q = sym parent ∙ ap (λ (k : ℕ). (space_of new k).parent) same ∙ why_.parent in
-        let p_is : p ≡ q = cc in
-        uid_child x q allowed a (rw same at late) why_.parent (rw p_is at up) why_
-    go (deeper n p a late parent up) same =
-        let both : Some p ≡ Some q = sym parent ∙ ap (λ (k : ℕ). (space_of new k).parent) same ∙ why_.parent in
-        let p_is : p ≡ q = cc in
-        (mapped_wider q (Fresh a) (rw p_is at up)).uids x why_.outside
+          by : (file : MapFile) → IsTrue (permitted (writer_of file)) → Cause file new at c t q x
+              → bounds (Standing a) (part_of file) x
+              → ByMaps permitted old bounds (Fresh a) (part_of file) x
+          by UidMap may why in_a = (
+            may,
+            peopled t a is_t,
+            (
+              in_a,
+              by_why why (λ here cap. inr (cap_at cap_setuid q (Standing a) here is_q cap))
+                  (λ same owner here cap. inl (rw (same ∙ sym owner) owner_in))
+                  (λ same owner here. inl (rw (same ∙ sym owner) owner_in)),
+            ),
+          )
+          by GidMap may why in_a = (
+            may,
+            peopled t a is_t,
+            (
+              in_a,
+              by_why why (λ here cap. inr (inr (cap_at cap_setgid q (Standing a) here is_q cap)))
+                  (λ same owner here cap. inr (inl (held_at t (Fresh a) here is_t EffectiveGids x same)))
+                  (λ same owner here. inl (held_at q (Standing a) here is_q EffectiveGids x same)),
+            ),
+          )
 
-  pub gid_in : IsTrue (permitted kind.WriteGidMap) → IsTrue (is_none (space_of new t).gids) → (row : Row) → RowOf (length old) new t row
-      → (x q : ℕ) → Cause GidMap new at c t q x → wider row MappedGids x
-  gid_in allowed free row row_t x q why_ = go row_t refl where
-    go : {n : ℕ} {row : Row} → RowOf (length old) new n row → n ≡ t → wider row MappedGids x
-    go (own n low) same = rw same (gid_standing x q allowed (rw same at low) free why_)
-    go (child n p a late parent up) same =
-        let both : Some p ≡ Some q = sym parent ∙ ap (λ (k : ℕ). (space_of new k).parent) same ∙ why_.parent in
-        let p_is : p ≡ q = cc in
-        gid_child x q allowed a (rw same at late) why_.parent (rw p_is at up) why_
-    go (deeper n p a late parent up) same =
-        let both : Some p ≡ Some q = sym parent ∙ ap (λ (k : ℕ). (space_of new k).parent) same ∙ why_.parent in
-        let p_is : p ≡ q = cc in
-        (mapped_wider q (Fresh a) (rw p_is at up)).gids x why_.outside
+    -- Of any space. Below a later parent the ids are in its row already.
+    pub in_map : IsTrue (is_none (map_of file (space_of new t))) → (row : Row) → RowOf (length old) new t row
+        → wider row (part_of file) x
+    in_map free row row_t = go row_t refl where
+      parent_is : {n p : ℕ} → n ≡ t → (space_of new n).parent ≡ Some p → p ≡ q
+      parent_is {p = p} same parent =
+          let both : Some p ≡ Some q = sym parent ∙ ap (λ (k : ℕ). (space_of new k).parent) same ∙ cause_.parent in cc
+
+      go : {n : ℕ} {row : Row} → RowOf (length old) new n row → n ≡ t → wider row (part_of file) x
+      go (own n low) same = rw same (standing (rw same at low) free)
+      go (child n p a late parent up) same = below a (rw same at late) (rw (parent_is same parent) at up)
+      go (deeper n p a late parent up) same =
+          mapped_part file (mapped_wider q (Fresh a) (rw (parent_is same parent) at up)) x cause_.outside
 
 -- ---- the writes
 -- A write goes through its tests. That a list which maps 0 asks for CAP_SETFCAP isn't used: without it the rows are only
@@ -397,17 +408,13 @@ module _ (new : Spaces) (at : ℕ) (c : Credential) (t : ℕ) where
   written_none None map free same = cc
   written_none (Some m) map free same = false≢true free
 
-  pub uid_map_stays : IsTrue (may_write UidMap new at c t) → (mapped : List Extent) → Stays (space_of new t) (with_map UidMap (space_of new t) mapped)
-  uid_map_stays may mapped = record {
-    parent = refl;
-    owner = refl;
-    uids = λ map written. absurd (written_none (space_of new t).uids map (free_of UidMap may) written);
-    gids = λ map written. written;
-    deny = λ word. word;
-  }
-
-  pub gid_map_stays : IsTrue (may_write GidMap new at c t) → (mapped : List Extent) → Stays (space_of new t) (with_map GidMap (space_of new t) mapped)
-  gid_map_stays may mapped = record {
+  pub map_stays : (file : MapFile) → IsTrue (may_write file new at c t) → (mapped : List Extent)
+      → Stays (space_of new t) (with_map file (space_of new t) mapped)
+  map_stays UidMap may mapped =
+      let uids : (map : List Extent) → (space_of new t).uids ≡ Some map → Some mapped ≡ Some map =
+      λ map written. absurd (written_none (space_of new t).uids map (free_of UidMap may) written) in
+      record { parent = refl; owner = refl; uids = uids; gids = λ map written. written; deny = λ word. word }
+  map_stays GidMap may mapped = record {
     parent = refl;
     owner = refl;
     uids = λ map written. written;

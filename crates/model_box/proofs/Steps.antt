@@ -15,7 +15,7 @@ use Rattle.model_cred.specs.IdMap.{Extent}
 use Rattle.model_cred.specs.Space.{Space, Spaces, space_of, put_space, stands, level}
 use Rattle.model_rules.specs.Answer.{Answer, done, refused}
 use Rattle.model_rules.specs.Caps.{cap_sys_admin}
-use Rattle.model_rules.specs.Maps.{UidMap, GidMap, with_map, write_map, write_setgroups}
+use Rattle.model_rules.specs.Maps.{MapFile, UidMap, GidMap, with_map, write_map, write_setgroups}
 use Rattle.model_rules.specs.Namespaces.{unshare, clone_user, created_by, join, as_newcomer, is_mapped_in, deepest}
 use Rattle.model_rules.specs.Power.{has_over}
 use Rattle.model_rules.specs.Reply.{reply, place_after, spaces_with, spaces_after}
@@ -29,13 +29,10 @@ use Rattle.model_box.proofs.Trees.{row_standing, row_stands}
 use Rattle.model_box.proofs.Fits.{TreeFits, AtAnchors, FilledAt, FilledIfPeopled, ClosedTogether, SpacesFit, InRow, MemberFits, it_stands}
 use Rattle.model_box.proofs.Rows.{Fine, held_in, in_row}
 use Rattle.model_box.proofs.Writing.{choose, put_tree, put_mapped, put_owners, put_anchors, put_members}
-use Rattle.model_box.proofs.MapWrites.{cause, uid_in, gid_in, write_by, free_of, uid_map_stays, gid_map_stays, word_written, word_by}
+use Rattle.model_box.proofs.MapWrites.{cause, in_map, write_by, writer_of, with_map_in, free_of, map_stays, word_written, word_by}
 use Rattle.model_box.proofs.Making.{made_tree, made_mapped, made_owners, made_anchors, others_fit, maker_fits, maker_can, row_low}
 use Rattle.model_box.proofs.Joins.{join_fits}
-use Rattle.model_box.proofs.Calls.{setresuid_fine, setreuid_fine, setuid_fine, setfsuid_fine, setresgid_fine}
-use Rattle.model_box.proofs.Calls.{setregid_fine, setgid_fine, setfsgid_fine, setgroups_fine, capset_fine}
-use Rattle.model_box.proofs.Calls.{bset_drop_fine, amb_raise_fine, amb_lower_fine, amb_clear_fine, secure_bits_fine}
-use Rattle.model_box.proofs.Calls.{set_keep_caps_fine, set_no_new_privs_fine}
+use Rattle.model_box.proofs.Calls.{three_allowed, call_fine}
 use Rattle.model_box.proofs.Execs.{execve_fine}
 
 -- a row of a standing space
@@ -70,16 +67,6 @@ abbrev pub MakesNoSpace : Call → Type 0
 MakesNoSpace CloneUser = ⊥
 MakesNoSpace Unshare = ⊥
 MakesNoSpace _ = Unit {0}
-
--- one of three is permitted
-one_allowed : (a b d : Bool) → IsTrue a → IsTrue (a || b || d)
-one_allowed a b d held = or_left (a || b) d (or_left a b held)
-
-two_allowed : (a b d : Bool) → IsTrue b → IsTrue (a || b || d)
-two_allowed a b d held = or_left (a || b) d (or_right a b held)
-
-three_allowed : (a b d : Bool) → IsTrue d → IsTrue (a || b || d)
-three_allowed a b d held = or_right (a || b) d held
 
 -- ---- the caller, by its own cell
 module _ (permitted : CallKind → Bool) (files : FileTable) (old new : Spaces) (bounds : Row → Part → ℕ → Type 0)
@@ -129,78 +116,17 @@ module _ (permitted : CallKind → Bool) (files : FileTable) (old new : Spaces) 
   -- Each call but those that make spaces keeps its caller covered.
   pub caller_fits : (call : Call) → MakesNoSpace call → IsTrue (permitted (kind_of call)) → names_no_space new call ≡ false
       → MemberFits old new bounds (reply files new at c call).space (reply files new at c call).cred
-  caller_fits (SetUid id) stays allowed named =
-      own_call (reply files new at c (SetUid id)).cred
-      (λ row is standing fine.
-      setuid_fine permitted files old bounds closed row standing (space_of new at) (mapped at row is) c fine
-      (one_allowed (permitted kind.SetUid) (permitted kind.SetReUid) (permitted kind.SetResUid) allowed) id)
-  caller_fits (SetReUid r e) stays allowed named =
-      own_call (reply files new at c (SetReUid r e)).cred
-      (λ row is standing fine.
-      setreuid_fine permitted files old bounds closed row standing (space_of new at) (mapped at row is) c fine
-      (two_allowed (permitted kind.SetUid) (permitted kind.SetReUid) (permitted kind.SetResUid) allowed) r e)
-  caller_fits (SetResUid r e v) stays allowed named =
-      own_call (reply files new at c (SetResUid r e v)).cred
-      (λ row is standing fine.
-      setresuid_fine permitted files old bounds closed row standing (space_of new at) (mapped at row is) c fine
-      (three_allowed (permitted kind.SetUid) (permitted kind.SetReUid) (permitted kind.SetResUid) allowed) r e v)
-  caller_fits (SetFsUid id) stays allowed named =
-      own_call (reply files new at c (SetFsUid id)).cred
-      (λ row is standing fine. setfsuid_fine permitted files old bounds closed row standing (space_of new at) (mapped at row is) c fine allowed id)
-  caller_fits (SetGid id) stays allowed named =
-      own_call (reply files new at c (SetGid id)).cred
-      (λ row is standing fine.
-      setgid_fine permitted files old bounds closed row standing (space_of new at) (mapped at row is) c fine
-      (one_allowed (permitted kind.SetGid) (permitted kind.SetReGid) (permitted kind.SetResGid) allowed) id)
-  caller_fits (SetReGid r e) stays allowed named =
-      own_call (reply files new at c (SetReGid r e)).cred
-      (λ row is standing fine.
-      setregid_fine permitted files old bounds closed row standing (space_of new at) (mapped at row is) c fine
-      (two_allowed (permitted kind.SetGid) (permitted kind.SetReGid) (permitted kind.SetResGid) allowed) r e)
-  caller_fits (SetResGid r e v) stays allowed named =
-      own_call (reply files new at c (SetResGid r e v)).cred
-      (λ row is standing fine.
-      setresgid_fine permitted files old bounds closed row standing (space_of new at) (mapped at row is) c fine
-      (three_allowed (permitted kind.SetGid) (permitted kind.SetReGid) (permitted kind.SetResGid) allowed) r e v)
-  caller_fits (SetFsGid id) stays allowed named =
-      own_call (reply files new at c (SetFsGid id)).cred
-      (λ row is standing fine. setfsgid_fine permitted files old bounds closed row standing (space_of new at) (mapped at row is) c fine allowed id)
-  caller_fits (SetGroups ids) stays allowed named =
-      own_call (reply files new at c (SetGroups ids)).cred
-      (λ row is standing fine.
-      setgroups_fine permitted files old bounds closed row standing (space_of new at)
-      (mapped at row is) c fine allowed (word_stays row is) ids)
-  caller_fits (CapSet e p i) stays allowed named =
-      own_call (reply files new at c (CapSet e p i)).cred
-      (λ row is standing fine. capset_fine permitted files old bounds closed row standing (space_of new at) (mapped at row is) c fine allowed e p i)
-  caller_fits (BsetDrop cap) stays allowed named =
-      own_call (reply files new at c (BsetDrop cap)).cred
-      (λ row is standing fine. bset_drop_fine permitted files old bounds closed row standing (space_of new at) (mapped at row is) c fine cap)
-  caller_fits (AmbRaise cap) stays allowed named =
-      own_call (reply files new at c (AmbRaise cap)).cred
-      (λ row is standing fine. amb_raise_fine permitted files old bounds closed row standing (space_of new at) (mapped at row is) c fine cap)
-  caller_fits (AmbLower cap) stays allowed named =
-      own_call (reply files new at c (AmbLower cap)).cred
-      (λ row is standing fine. amb_lower_fine permitted files old bounds closed row standing (space_of new at) (mapped at row is) c fine cap)
-  caller_fits AmbClear stays allowed named =
-      own_call (reply files new at c AmbClear).cred
-      (λ row is standing fine. amb_clear_fine permitted files old bounds closed row standing (space_of new at) (mapped at row is) c fine)
-  caller_fits (SecureBits bits) stays allowed named =
-      own_call (reply files new at c (SecureBits bits)).cred
-      (λ row is standing fine. secure_bits_fine permitted files old bounds closed row standing (space_of new at) (mapped at row is) c fine allowed bits)
-  caller_fits (KeepCaps argument) stays allowed named =
-      own_call (reply files new at c (KeepCaps argument)).cred
-      (λ row is standing fine. set_keep_caps_fine permitted files old bounds closed row standing (space_of new at) (mapped at row is) c fine argument)
-  caller_fits (NoNewPrivs argument) stays allowed named =
-      own_call (reply files new at c (NoNewPrivs argument)).cred
-      (λ row is standing fine. set_no_new_privs_fine permitted files old bounds closed row standing (space_of new at) (mapped at row is) c fine argument)
   caller_fits CloneUser wrong allowed named = absurd wrong
   caller_fits Unshare wrong allowed named = absurd wrong
   caller_fits (SetNs target) stays allowed named = setns_call allowed target (ltb-true target (length new) (not-false (stands new target) named))
   caller_fits (Exec f) stays allowed named =
       own_call (reply files new at c (Exec f)).cred
       (λ row is standing fine. execve_fine permitted files old new bounds closed fit mapped row standing at is c fine allowed files_fit f)
-  caller_fits _ stays allowed named = member
+  caller_fits call stays allowed named =
+      own_call (reply files new at c call).cred
+      (λ row is standing fine.
+      call_fine permitted files old bounds closed row standing new at (mapped at row is) c fine
+      (word_stays row is) call tt allowed)
 
 -- ---- the spaces, and all who are covered
 -- After a change of the spaces they are covered, and so is each member of each cell that was.
@@ -268,29 +194,19 @@ module _ (files : FileTable) (old : Spaces) (Cell : ℕ → Type 0) (permits : �
     write_call : (after : Spaces) → StillFits old new after Cell bounds all Made → AfterCall old new after Cell bounds all Made j at c
     write_call after still = record { still = still; caller = still.members j cell at c member }
 
-    uid_map_fits : IsTrue (permits j kind.WriteUidMap) → (t : ℕ) (list : List Extent)
-        → StillFits old new (write_map UidMap new at c t list).spaces Cell bounds all Made
-    uid_map_fits allowed t list =
-        write_by (λ (after : Spaces). StillFits old new after Cell bounds all Made) UidMap new at c t list nothing_changes
-        (λ may mapped down maps. one_changes t (with_map UidMap (space_of new t) mapped) (uid_map_stays new at c t may mapped)
-        (λ i cell_i row row_t. record {
-          uids = λ x out. let why_ = cause UidMap new fit.tree.earlier at c t list mapped may down maps x out in
-              uid_in common old new all (bounds i) fit.tree mapped_all fit.owners peopled_all (fit.mapped i cell_i) (closed.maps i cell_i)
-              at c held_all member.included t (closed.less j cell kind.WriteUidMap allowed) (free_of new at c t UidMap may) row row_t x why_.0 why_.1;
-          gids = (fit.mapped i cell_i t row row_t).gids;
-        }))
-
-    gid_map_fits : IsTrue (permits j kind.WriteGidMap) → (t : ℕ) (list : List Extent)
-        → StillFits old new (write_map GidMap new at c t list).spaces Cell bounds all Made
-    gid_map_fits allowed t list =
-        write_by (λ (after : Spaces). StillFits old new after Cell bounds all Made) GidMap new at c t list nothing_changes
-        (λ may mapped down maps. one_changes t (with_map GidMap (space_of new t) mapped) (gid_map_stays new at c t may mapped)
-        (λ i cell_i row row_t. record {
-          uids = (fit.mapped i cell_i t row row_t).uids;
-          gids = λ x out. let why_ = cause GidMap new fit.tree.earlier at c t list mapped may down maps x out in
-              gid_in common old new all (bounds i) fit.tree mapped_all fit.owners peopled_all (fit.mapped i cell_i) (closed.maps i cell_i)
-              at c held_all member.included t (closed.less j cell kind.WriteGidMap allowed) (free_of new at c t GidMap may) row row_t x why_.0 why_.1;
-        }))
+    map_fits : (file : MapFile) → IsTrue (permits j (writer_of file)) → (t : ℕ) (list : List Extent)
+        → StillFits old new (write_map file new at c t list).spaces Cell bounds all Made
+    map_fits file allowed t list =
+        write_by (λ (after : Spaces). StillFits old new after Cell bounds all Made) file new at c t list nothing_changes
+        (λ may mapped down maps. one_changes t (with_map file (space_of new t) mapped)
+        (map_stays new at c t file may mapped)
+        (λ i cell_i row row_t. with_map_in file (space_of new t) (bounds i row) mapped (fit.mapped i cell_i t row row_t)
+        (λ x out.
+        let why_ = cause file new fit.tree.earlier at c t list mapped may down maps x out in
+        in_map common old new all (bounds i) fit.tree mapped_all fit.owners peopled_all (fit.mapped i cell_i)
+        (closed.maps i cell_i)
+        at c held_all member.included t file (closed.less j cell (writer_of file) allowed) x why_.0 why_.1
+        (free_of new at c t file may) row row_t)))
 
     word_fits : (t : ℕ) (deny : Bool) → StillFits old new (write_setgroups new at c t deny).spaces Cell bounds all Made
     word_fits t deny =
@@ -357,9 +273,9 @@ module _ (files : FileTable) (old : Spaces) (Cell : ℕ → Type 0) (permits : �
     after_call CloneUser allowed named = clone_call (or_right (permits j kind.Unshare) (permits j kind.CloneUser) allowed)
     after_call Unshare allowed named = unshare_call (or_left (permits j kind.Unshare) (permits j kind.CloneUser) allowed)
     after_call (WriteUidMap target list) allowed named =
-        write_call (spaces_after new at c (WriteUidMap target list)) (uid_map_fits allowed target list)
+        write_call (spaces_after new at c (WriteUidMap target list)) (map_fits UidMap allowed target list)
     after_call (WriteGidMap target list) allowed named =
-        write_call (spaces_after new at c (WriteGidMap target list)) (gid_map_fits allowed target list)
+        write_call (spaces_after new at c (WriteGidMap target list)) (map_fits GidMap allowed target list)
     after_call (WriteSetgroups target deny) allowed named =
         write_call (spaces_after new at c (WriteSetgroups target deny)) (word_fits target deny)
     after_call call allowed named = stay_call call tt allowed named

@@ -196,37 +196,52 @@ row_same new old same (own n low) = own n low
 row_same new old same (child n p a late parent up) = child n p a late (sym (same n) ∙ parent) (row_same new old same up)
 row_same new old same (deeper n p a late parent up) = deeper n p a late (sym (same n) ∙ parent) (row_same new old same up)
 
+-- the parent of an older space is older too
+older_parent : (t : Space) (older : Spaces) → Earlier (t ∷ older) → (n p : ℕ) → (space_of (t ∷ older) n).parent ≡ Some p
+    → n < length older
+    → ((space_of older n).parent ≡ Some p) × (p < length older)
+older_parent t older earlier n p parent stands =
+    let before : p < n = earlier n p parent in
+    (sym (ap (λ (s : Space). s.parent) (space_of_older t older n (λ e. omega arith))) ∙ parent, omega arith)
+
 pub row_older : {k : ℕ} (t : Space) (older : Spaces) → Earlier (t ∷ older) → {n : ℕ} {row : Row} → RowOf k (t ∷ older) n row → n < length older
     → RowOf k older n row
 row_older t older earlier (own n low) stands = own n low
 row_older t older earlier (child n p a late parent up) stands =
-    let before : p < n = earlier n p parent in
-    child n p a late (sym (ap (λ (s : Space). s.parent) (space_of_older t older n (λ e. omega arith))) ∙ parent) (row_older t older earlier up (omega arith))
+    let was = older_parent t older earlier n p parent stands in
+    child n p a late was.0 (row_older t older earlier up was.1)
 row_older t older earlier (deeper n p a late parent up) stands =
-    let before : p < n = earlier n p parent in
-    deeper n p a late (sym (ap (λ (s : Space). s.parent) (space_of_older t older n (λ e. omega arith))) ∙ parent) (row_older t older earlier up (omega arith))
+    let was = older_parent t older earlier n p parent stands in
+    deeper n p a late was.0 (row_older t older earlier up was.1)
 
 -- the standing space of a fresh row stands
 pub row_stands : {k : ℕ} {spaces : Spaces} {n a : ℕ} → RowOf k spaces n (Fresh a) → (a < k) × (k ≤ n)
 row_stands (child n p a late parent up) = let two = row_standing up in (rw (← two.0) two.1, late)
 row_stands (deeper n p a late parent up) = ((row_stands up).0, late)
 
+-- what is at or above a space with a parent is that space, or at or above the parent
+above_parent : (spaces : Spaces) → Earlier spaces → (m t p : ℕ) → (space_of spaces t).parent ≡ Some p
+    → IsTrue (is_at_or_above spaces m t)
+    → (m ≡ t) ⊎ IsTrue (is_at_or_above spaces m p)
+above_parent spaces earlier m t p parent above =
+    elim (at_or_above_cases spaces earlier m t above) [
+      | inl same ↦ inl same
+      | inr more ↦
+          let both : Some more.0 ≡ Some p = sym more.1 ∙ parent in
+          let one : more.0 ≡ p = cc in
+          inr (rw one at more.2)
+    ]
+
 -- What is above a later space has its row, or is the standing space of that row or above it.
 pub split_chain : {k : ℕ} {spaces : Spaces} → Earlier spaces → (m : ℕ) → {t a : ℕ} → RowOf k spaces t (Fresh a) → IsTrue (is_at_or_above spaces m t)
     → RowOf k spaces m (Fresh a) ⊎ IsTrue (is_at_or_above spaces m a)
 split_chain {spaces = spaces} earlier m (child t p a late parent up) above =
-    elim (at_or_above_cases spaces earlier m t above) [
+    elim (above_parent spaces earlier m t p parent above) [
       | inl same ↦ inl (rw same (child t p a late parent up))
-      | inr more ↦
-          let both : Some more.0 ≡ Some p = sym more.1 ∙ parent in
-          let one : more.0 ≡ p = cc in
-          inr (rw (one ∙ (row_standing up).0) at more.2)
+      | inr more ↦ inr (rw (row_standing up).0 at more)
     ]
 split_chain {spaces = spaces} earlier m (deeper t p a late parent up) above =
-    elim (at_or_above_cases spaces earlier m t above) [
+    elim (above_parent spaces earlier m t p parent above) [
       | inl same ↦ inl (rw same (deeper t p a late parent up))
-      | inr more ↦
-          let both : Some more.0 ≡ Some p = sym more.1 ∙ parent in
-          let one : more.0 ≡ p = cc in
-          split_chain earlier m up (rw one at more.2)
+      | inr more ↦ split_chain earlier m up more
     ]
