@@ -1,6 +1,6 @@
 #!/usr/bin/env python3
 """Tells in how many places stand what one may want to add another of: a call, a key of a world, a closure rule, a form
-of the command line, a form of log. Of each one that is there is taken (PROBES).
+of the command line, a form of log, a call that strace writes. Of each one that is there is taken (PROBES).
 
   places.py [--list] [--in FOLDER] [PROBE ..]
 
@@ -49,6 +49,8 @@ PROBES = {
                      re.compile("_confirm$")),
     # strace's log, without the crates that read its lines.
     "log": Probe("a form of log", re.compile(r"\b(StraceLog|Strace)\b"), re.compile(r"strace")),
+    # fcntl, a call on descriptors, by which nothing is told that isn't told by another.
+    "strace": Probe("a call that strace writes, or a shape of its lines", re.compile(r"[Ff]cntl")),
 }
 
 
