@@ -3,4 +3,3 @@ pub mod LeftAfter
 pub mod Counted
 pub mod Known
 pub mod ToldEvents
-pub mod ScriptLeft

@@ -127,7 +127,7 @@ impl ScriptLog {
         ensures events { self.new.events ≡ self.old.events }
     {
         self.stage = Stage::Stopped(stop);
-        Stage::Stopped(stop)
+        self.stage
     }
 
     /// No line comes any more: how the reading ends.
@@ -140,15 +140,10 @@ impl ScriptLog {
         ensures lines { self.new.lines ≡ self.old.lines }
     {
         self.events.clear();
-        match self.stage {
-            Stage::Going => {
-                let stage = stage_after_last(past);
-                self.stage = stage;
-                stage
-            }
-            Stage::Stopped(stop) => Stage::Stopped(stop),
-            Stage::Finished => Stage::Finished,
+        if let Stage::Going = self.stage {
+            self.stage = stage_after_last(past);
         }
+        self.stage
     }
 }
 
