@@ -71,8 +71,8 @@ pub record Advances (w : World) (more told : ℕ) (from to : Replay) (old new : 
 
 -- These events were taken, each of which was counted, and lead to a state within the limits that has the user
 -- namespaces which they make; each kept text is still that of the values beside it.
-pub record Took (w : World) (events : List Placed) (from to : Replay) : Type 0 where
+pub record Took (w : World) (told : List Placed) (from to : Replay) : Type 0 where
   pub keeps : Keeps w.names to.kept
-  pub events : to.events ≡ from.events + length events
+  pub events : to.events ≡ from.events + length told
   pub within : IsWithin to.machine.state
-  pub spaces : length from.machine.state.spaces + spaces_made (events_of events) ≤ length to.machine.state.spaces
+  pub spaces : length from.machine.state.spaces + spaces_made (events_of told) ≤ length to.machine.state.spaces

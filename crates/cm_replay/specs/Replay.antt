@@ -44,12 +44,12 @@ IsTurn w e (turn.Ends st) become s = EndsWith w e st become
 
 -- The report ends as the reading does, with this status, and its last line is written, where it is shown or isn't
 -- accepted.
-pub record IsEnd (replay : Replay) (ending : End) (answer : Turn) (text text' : List ℕ) : Type 0 where
+pub record IsEnd (replay : Replay) (ending : End) (answer : Turn) (was is : List ℕ) : Type 0 where
   pub status : answer ≡ turn.Ends (by_end replay.events ending).status
-  pub text : text' ≡ text ++ text_of (shown_report replay.shows (by_end replay.events ending)).lines
+  pub text : is ≡ was ++ text_of (shown_report replay.shows (by_end replay.events ending)).lines
 
 -- what the reading is at to the replay: it goes on, or its report ends
-abbrev pub EndsBy : Replay → Stage → Turn → (text text' : List ℕ) → Type 0
-EndsBy replay stage.Going answer text text' = (answer ≡ turn.Goes) × (text' ≡ text)
-EndsBy replay (stage.Stopped stop) answer text text' = IsEnd replay (Stops (stop_is stop)) answer text text'
-EndsBy replay stage.Finished answer text text' = IsEnd replay AtEnd answer text text'
+abbrev pub EndsBy : Replay → Stage → Turn → (was is : List ℕ) → Type 0
+EndsBy replay stage.Going answer was is = (answer ≡ turn.Goes) × (is ≡ was)
+EndsBy replay (stage.Stopped stop) answer was is = IsEnd replay (Stops (stop_is stop)) answer was is
+EndsBy replay stage.Finished answer was is = IsEnd replay AtEnd answer was is
