@@ -1,6 +1,6 @@
 // Rows that are written by hand, part by part.
-use crate::values::{caps, flag, ids};
-use case_lines::Stop;
+use crate::values::{caps, flag};
+use case_lines::{Stop, ids};
 use cm_box::{Bounds, BoxRow};
 use cm_idset::IdSet;
 use cm_sets::{CapSet, Flag, RevFlag};

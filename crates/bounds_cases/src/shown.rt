@@ -1,8 +1,8 @@
 // Rows as text: each part that holds something, in the form in which a line of a case writes it.
-use case_lines::Stop;
+use case_lines::{Stop, ranges};
 use cm_base::{Cap, CapWord};
 use cm_box::{Bounds, BoxRow};
-use cm_idset::{IdSet, Interval};
+use cm_idset::IdSet;
 use cm_sets::CapSet;
 use std::alloc::Global;
 
@@ -52,26 +52,11 @@ fn show_name(text: &mut String, name: &str) -> Result<(), Stop> {
 }
 
 fn show_ids(alloc: Global, text: &mut String, name: &str, set: &IdSet) -> Result<(), Stop> {
-    let list = set.intervals();
-    if list.is_empty() {
+    if set.intervals().is_empty() {
         return Ok(());
     }
     show_name(text, name)?;
-    for i in list {
-        show_range(alloc, text, i)?;
-    }
-    Ok(())
-}
-
-fn show_range(alloc: Global, text: &mut String, i: &Interval) -> Result<(), Stop> {
-    let first = i.first;
-    let last = i.last;
-    let piece = if first == last {
-        format!(in alloc; " {first}")?
-    } else {
-        format!(in alloc; " {first}-{last}")?
-    };
-    text.push_str(piece.as_str())?;
+    text.push_str(ranges(alloc, set)?.as_str())?;
     Ok(())
 }
 

@@ -1,16 +1,19 @@
 //! What the programs of cases have in common. A text of cases is taken line by line, and each answer is told after its
-//! line (`Cases`, `answers`, `Told`). Lines write texts with escapes (`bytes_of`), numbers, pids and rights (`number`,
-//! `pid`, `pids`, `right`), and answers words and values (`word`, `named`). `Stop` is why a line isn't done.
+//! line (`Cases`, `tell_cases`, `Told`). Lines write texts with escapes (`bytes_of`), numbers, pids and rights (`number`,
+//! `pid`, `pids`, `right`) and sets of ids (`ids`), and answers words, values and ranges of ids (`word`, `named`, `ranges`).
+//! `Stop` is why a line isn't done.
 #![tactic(auto)]
 
 mod escapes;
+mod ids;
 mod lines;
 mod stop;
 mod told;
 mod values;
 
 pub use escapes::bytes_of;
-pub use lines::{Cases, answers};
+pub use ids::{ids, interval, ranges};
+pub use lines::{Cases, tell_cases};
 pub use stop::Stop;
 pub use told::Told;
 pub use values::{named, number, pid, pids, right, word};

@@ -1,6 +1,9 @@
 // The lines of a text of cases, one after the other, and the answers to them.
 use crate::{Stop, Told};
+use cm_io::{RealSink, write_all};
 use std::alloc::Global;
+use std::io;
+use std::io::Read;
 
 /// What a program of cases does with their lines.
 pub trait Cases {
@@ -18,10 +21,23 @@ pub trait Cases {
     fn take(&mut self, alloc: Global, line: &str, told: &mut Told) -> Result<(), Stop>;
 }
 
-/// What is told of the lines of a text, with the mark between a line and its answer. The text of a world stands between
-/// the lines `world` and `end`; a line that begins with `case` begins a case; an empty line, and one that begins with
-/// `#`, tell nothing. A line that is bad, or for which there is no memory, is answered so.
-pub fn answers<C: Cases>(
+/// Reads cases to their end, and prints what is told of their lines, with the mark between a line and its answer. The
+/// text of a world stands between the lines `world` and `end`; a line that begins with `case` begins a case; an empty
+/// line, and one that begins with `#`, tell nothing. A line that is bad, or for which there is no memory, is answered so.
+pub fn tell_cases<P: Print + AllocGlobal, R: Read + Drop, C: Cases>(
+    rt: &P,
+    input: R,
+    cases: &mut C,
+    mark: &'static str,
+) -> Result<(), Stop> {
+    let alloc = rt.alloc();
+    let text = io::read_to_string(alloc, input)?;
+    let told = answers(alloc, cases, mark, text.as_str())?;
+    write_all(&mut RealSink::new(io::writer(rt)), &told)?;
+    Ok(())
+}
+
+fn answers<C: Cases>(
     alloc: Global,
     cases: &mut C,
     mark: &'static str,

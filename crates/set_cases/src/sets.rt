@@ -1,7 +1,6 @@
 // Sets of ids: what the calls of cm_idset answer. The sets and numbers of a line are parted by `/`.
-use crate::shown::ids_shown;
-use crate::values::{ids, interval, yes_or_no};
-use case_lines::{Stop, number};
+use crate::shown::{ids_shown, yes_or_no};
+use case_lines::{Stop, ids, interval, number};
 use cm_idmap::{Extent, IdMap};
 use cm_idset::{IdSet, one_meaning_one_list};
 use cm_sets::SetLike;

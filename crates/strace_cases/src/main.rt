@@ -11,14 +11,8 @@ mod shown;
 mod written;
 
 use crate::session::Session;
-use case_lines::{Stop, answers};
-use cm_io::{RealSink, write_all};
-use std::io;
+use case_lines::{Stop, tell_cases};
 
 fn main(rt: HostRuntime) -> Result<(), Stop> {
-    let alloc = rt.alloc();
-    let text = io::read_to_string(alloc, rt.stdin())?;
-    let told = answers(alloc, &mut Session::first(alloc)?, " => ", text.as_str())?;
-    write_all(&mut RealSink::new(io::writer(&rt)), &told)?;
-    Ok(())
+    tell_cases(&rt, rt.stdin(), &mut Session::first(rt.alloc())?, " => ")
 }
