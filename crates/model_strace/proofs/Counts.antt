@@ -17,7 +17,7 @@ use Rattle.model_strace.specs.Parts.{Parts, is_known, without_any_kept}
 use Rattle.model_strace.specs.Rest.{Work, Going, Stopped, Finished, without_first, then_released, released, read_fed}
 use Rattle.model_strace.specs.Rest.{held_fed, line_fed, row_fed, fed, all_fed, work_end, work_ended, answer_of}
 use Rattle.model_strace.specs.Rest.{lines_fed, session_of, session_ended, after_line}
-use Rattle.model_strace.specs.Turn.{Turn, Quiet, Gives, Refused, Exceeds, turn}
+use Rattle.model_strace.specs.Turn.{Turn, Quiet, turn}
 use Rattle.model_text.specs.Reading.{Placed, Limit, End, AtEnd, Stops, Reading}
 
 -- So many events, and what is known then counts so many more, are at most this.

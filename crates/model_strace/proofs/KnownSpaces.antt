@@ -1,42 +1,27 @@
 -- A session learns of no more user namespaces in a line than the events that the line tells make.
-use Rattle.std.proofs.Common.{◌≡◌, ℕ, zero, suc, ◌+◌, ◌≤◌, ◌==◌, ◌&&◌, ◌||◌, Bool, true, false, List, [], ◌∷◌, ◌++◌, length}
-use Rattle.std.proofs.Common.{Option, Some, None, ap, ◌∙◌, arith, nat_lt, if◌then◌else◌}
+use Rattle.std.proofs.Common.{◌≡◌, ℕ, zero, suc, ◌+◌, ◌≤◌, Bool, true, false, List, [], ◌∷◌, ◌++◌, length, Option, Some}
+use Rattle.std.proofs.Common.{None, ap, ◌∙◌, arith, nat_lt, if◌then◌else◌}
 use Rattle.std.proofs.lemmas.List.{map-append}
 use Rattle.std.proofs.lemmas.List.Sums.{sum_by-append}
-use Rattle.std.specs.Prelude.{bytes_eq, codes, cond}
+use Rattle.std.specs.Prelude.{cond}
 use Rattle.cm_base.specs.Limited.{limit_number}
-use Rattle.cm_base.specs.declared.faults.LineFault.TheVariants as fault
 use Rattle.cm_base.specs.declared.limited.Limited.TheVariants as limit
 use Rattle.cm_base.specs.declared.res.Res.{Res}
 use Rattle.cm_base.specs.declared.res.Res.TheVariants as res
 use Rattle.model_cred.specs.Call as model
-use Rattle.model_cred.specs.Call.{Call, Event}
+use Rattle.model_cred.specs.Call.{Call}
 use Rattle.model_cred.specs.Made.{makes_space, spaces_made}
 use Rattle.model_cred.specs.World.{World}
-use Rattle.model_strace.proofs.Ways.{Way, IsKnown, Rests, Drops, Follows, Begins, Makes, Births, Fails, Enters, Writes, Unwritten, Exits}
-use Rattle.model_strace.proofs.Ways.{Resumes, turn_way}
+use Rattle.model_strace.proofs.Ways.{Way, Rests, Drops, Follows, Begins, Makes, Births, Fails, Enters, Writes}
+use Rattle.model_strace.proofs.Ways.{Unwritten, Exits, Resumes, turn_way}
 use Rattle.model_strace.specs.After.{After, Goes, Halts, preceded, and_then}
-use Rattle.model_strace.specs.Body.{Body, Silent, Ends, Superseded, Begun, Resumed, Whole, PidLine, Blank, NoPid, Of, body_of, row_of}
-use Rattle.model_strace.specs.Calls as calls
-use Rattle.model_strace.specs.Calls.{Told, Nothing, Faulty, Does, Bears, Joins, Opens, Closes, Copies, CopiesTo}
-use Rattle.model_strace.specs.Calls.{Opening, call_told}
+use Rattle.model_strace.specs.Body.{PidLine, Blank, NoPid, Of, row_of}
 use Rattle.model_strace.specs.Counts.{SpacesByEvents, spaces_known}
-use Rattle.model_strace.specs.Files.{Followed, Named, file_at, is_followed, is_space, relative_file}
-use Rattle.model_strace.specs.Flags.{has_flag}
 use Rattle.model_strace.specs.Lines.{Line, Read, Next, given_at, next_line, read_line}
-use Rattle.model_strace.specs.Outcome.{Outcome, Number, Error, Other, plain_result, success}
-use Rattle.model_strace.specs.Parts.{Parts, Task, Descriptor, after_end, descriptor_of, has_descriptor, is_known}
-use Rattle.model_strace.specs.Parts.{kept_of, shares_files, task_of, with_descriptor, without_descriptor, without_kept}
-use Rattle.model_strace.specs.Quoted.{Quote, Bytes, quote_of}
+use Rattle.model_strace.specs.Parts.{Parts, after_end, is_known, without_kept}
 use Rattle.model_strace.specs.Rest.{Work, Going, Stopped, Finished, answer_of, session_of, fed, held_fed, line_fed, read_fed, row_fed}
 use Rattle.model_strace.specs.Rest.{released, then_released, without_first}
-use Rattle.model_strace.specs.Turn.{Turn, Quiet, Gives, Refused, Exceeds, bears, begins, birth_call}
-use Rattle.model_strace.specs.Turn.{body_turn, copies, copies_to, done, failed_call}
-use Rattle.model_strace.specs.Turn.{failed_write, followed, follows, for_space, gives_birth, joins, joins_space}
-use Rattle.model_strace.specs.Turn.{joins_unknown, opens, opens_of, opens_other}
-use Rattle.model_strace.specs.Turn.{opens_path, resumes, told_turn, turn, with_child, within_limit, writes}
-use Rattle.model_strace.specs.Turn.{writes_argument, writes_text, written_call, wrote, wrote_call}
-use Rattle.model_strace.specs.Written.{call_name, without_32}
+use Rattle.model_strace.specs.Turn.{Turn, Quiet, Gives, Refused, Exceeds, birth_call, done, turn, with_child}
 use Rattle.model_text.specs.Reading.{Placed, Limit, events_of}
 
 -- ---- turns

@@ -1,17 +1,15 @@
 -- The user namespaces that the events of a log of strace name: their numbers are at most how many there were at its
 -- begin, and
 -- one for each event.
-use Rattle.std.proofs.Common.{◌≡◌, ℕ, zero, suc, ◌+◌, ◌<◌, ◌≤◌, ◌==◌, ◌&&◌, ◌||◌, Bool, true, false, not, List, [], ◌∷◌}
-use Rattle.std.proofs.Common.{◌++◌, length, map}
-use Rattle.std.proofs.Common.{filter, find, Option, Some, None, IfSome, All, refl, sym, arith, subst, if◌then◌else◌}
+use Rattle.std.proofs.Common.{◌≡◌, ℕ, zero, suc, ◌+◌, ◌<◌, ◌≤◌, ◌||◌, Bool, true, false, not, List, [], ◌∷◌, ◌++◌}
+use Rattle.std.proofs.Common.{length, map, filter, find, Option, Some, None, IfSome, All, refl, sym, arith, subst}
 use Rattle.std.proofs.Common.{nat_lt, length-append}
 use Rattle.std.proofs.lemmas.Bool.{cond_both}
 use Rattle.std.proofs.lemmas.List.Elements.{All-nil, All-cons, All-head, All-tail, All-append, All-filter, All-map}
 use Rattle.std.proofs.lemmas.List.Elements.{All-weaker}
-use Rattle.std.specs.Prelude.{bytes_eq, codes, flat_map}
+use Rattle.std.specs.Prelude.{flat_map}
 use Rattle.std.specs.Option.{option_map_or}
 use Rattle.cm_base.specs.Limited.{limit_number}
-use Rattle.cm_base.specs.declared.faults.LineFault.TheVariants as fault
 use Rattle.cm_base.specs.declared.limited.Limited.TheVariants as limit
 use Rattle.cm_base.specs.declared.res.Res.{Res}
 use Rattle.cm_base.specs.declared.res.Res.TheVariants as res
@@ -23,34 +21,19 @@ use Rattle.model_strace.proofs.ToldCalls.{ToldFits, call_told_fits, names_space}
 use Rattle.model_strace.proofs.Ways.{Way, IsKnown, Rests, Drops, Follows, Begins, Makes, Births, Fails, Enters, Writes, Unwritten, Exits}
 use Rattle.model_strace.proofs.Ways.{Resumes, turn_way}
 use Rattle.model_strace.specs.After.{After, Goes, Halts, preceded, and_then}
-use Rattle.model_strace.specs.Body.{Body, Silent, Ends, Superseded, Begun, Resumed, Whole, PidLine, Blank, NoPid}
-use Rattle.model_strace.specs.Body.{Of, body_of, row_of}
-use Rattle.model_strace.specs.Calls as calls
-use Rattle.model_strace.specs.Calls.{Told, Nothing, Faulty, Does, Bears, Joins, Opens, Closes, Copies, CopiesTo}
-use Rattle.model_strace.specs.Calls.{Opening, call_told}
-use Rattle.model_strace.specs.Files.{Followed, UidMap, GidMap, SetgroupsWord, UserSpace, Named, file_at, is_followed}
-use Rattle.model_strace.specs.Files.{is_space, relative_file}
-use Rattle.model_strace.specs.Files.{written_extents, written_word}
-use Rattle.model_strace.specs.Flags.{has_flag}
+use Rattle.model_strace.specs.Body.{PidLine, Blank, NoPid, Of, row_of}
+use Rattle.model_strace.specs.Files.{Followed, UidMap, GidMap, SetgroupsWord, UserSpace, written_extents, written_word}
 use Rattle.model_strace.specs.Lines.{Line, Read, Moment, Next, Progress, arrives, at_end, at_end_turn, beginning, ended}
 use Rattle.model_strace.specs.Lines.{given_at, held, hold, line_read, log_end}
 use Rattle.model_strace.specs.Lines.{moment_after, next_line, read_born, read_line, read_now, row_read, rows_read}
 use Rattle.model_strace.specs.Lines.{strace_reading, then_rest}
-use Rattle.model_strace.specs.Outcome.{Outcome, Number, Error, Other, plain_result, success}
 use Rattle.model_strace.specs.Parts.{Parts, Task, Descriptor, after_birth, after_end, after_exec, copied_to, copies_for}
-use Rattle.model_strace.specs.Parts.{descriptor_before, descriptor_of, first_parts}
-use Rattle.model_strace.specs.Parts.{first_task, has_descriptor, is_closed_at_exec, is_descriptor, is_known, is_of}
-use Rattle.model_strace.specs.Parts.{is_task, kept_of, keeping, moved, moved_task, moved_to_new}
-use Rattle.model_strace.specs.Parts.{put, put_all, shares_files, sharing_task, space_of, task_before, task_of}
-use Rattle.model_strace.specs.Parts.{with_descriptor, without_any_kept, without_descriptor, without_kept}
-use Rattle.model_strace.specs.Quoted.{Quote, Bytes, quote_of}
-use Rattle.model_strace.specs.Turn.{Turn, Quiet, Gives, Refused, Exceeds, after_call, bears, begins, birth_call}
-use Rattle.model_strace.specs.Turn.{body_turn, copies, copies_to, done, failed_call}
-use Rattle.model_strace.specs.Turn.{failed_write, followed, follows, for_space, gives_birth, joins, joins_space}
-use Rattle.model_strace.specs.Turn.{joins_unknown, opens, opens_of, opens_other}
-use Rattle.model_strace.specs.Turn.{opens_path, resumes, told_turn, turn, with_child, within_limit, writes}
-use Rattle.model_strace.specs.Turn.{writes_argument, writes_text, written_call, wrote, wrote_call}
-use Rattle.model_strace.specs.Written.{call_name, without_32}
+use Rattle.model_strace.specs.Parts.{descriptor_before, descriptor_of, first_parts, first_task, is_closed_at_exec}
+use Rattle.model_strace.specs.Parts.{is_descriptor, is_known, is_of, is_task, keeping, moved, moved_task, moved_to_new}
+use Rattle.model_strace.specs.Parts.{put, put_all, sharing_task, space_of, task_before, task_of, with_descriptor}
+use Rattle.model_strace.specs.Parts.{without_any_kept, without_descriptor, without_kept}
+use Rattle.model_strace.specs.Turn.{Turn, Quiet, Gives, Refused, Exceeds, after_call, birth_call, done, turn}
+use Rattle.model_strace.specs.Turn.{with_child, written_call}
 use Rattle.model_text.proofs.CapTexts.{if_mapped, if_there}
 use Rattle.model_text.proofs.ToldEvents.{AreFew, SpacesWithin}
 use Rattle.model_text.specs.Arguments.{Argument, Id, Space, arguments_of, triple_of}

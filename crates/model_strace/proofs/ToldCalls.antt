@@ -16,26 +16,19 @@ use Rattle.cm_base.specs.declared.res.Res.TheVariants as res
 use Rattle.cm_filter.specs.declared.kind.CallKind.{CallKind}
 use Rattle.cm_filter.specs.declared.kind.CallKind.TheVariants as kind
 use Rattle.model_cred.specs.Call as model
-use Rattle.model_cred.specs.Call.{Call, Event, kind_of}
+use Rattle.model_cred.specs.Call.{Call, kind_of}
 use Rattle.model_cred.specs.Files.{IsDeclared, file_named}
 use Rattle.model_cred.specs.World.{World}
 use Rattle.model_strace.specs.Calls as calls
 use Rattle.model_strace.specs.Calls.{Listed, SetsIds, SetsGroups, SetsCaps, Prctl, Birth, Unshare, SetNs, Execve}
-use Rattle.model_strace.specs.Calls.{ExecveAt, OpenFile, OpenAt}
-use Rattle.model_strace.specs.Calls.{Creat, Close, Dup, DupTo, Fcntl, Write, listed_calls, listed_named, Opening}
-use Rattle.model_strace.specs.Calls.{opening}
-use Rattle.model_strace.specs.Calls.{Told, Nothing, Faulty, Does, Bears, Joins, Opens, Closes, Copies, CopiesTo, Writes}
-use Rattle.model_strace.specs.Calls.{then_tells, where_some, read_argument, needed, deciding, text_of, number_of}
-use Rattle.model_strace.specs.Calls.{with_result, plain_call}
-use Rattle.model_strace.specs.Calls.{ids_result, argument_count, ids_call, ids_read, ids_told, ids_of_length}
-use Rattle.model_strace.specs.Calls.{groups_call, groups_told}
-use Rattle.model_strace.specs.Calls.{own_header, caps_call, caps_told, number_told, capability_argument, cap_told}
-use Rattle.model_strace.specs.Calls.{ambient_told, option_told, prctl_told}
-use Rattle.model_strace.specs.Calls.{birth_with, birth_told, unshare_told, setns_told, file_quoted, execve_told}
-use Rattle.model_strace.specs.Calls.{execve_at, execveat_told}
-use Rattle.model_strace.specs.Calls.{open_told, creat_told, close_told, dup_told, dup_to_told, makes_copy, fcntl_told}
-use Rattle.model_strace.specs.Calls.{write_told}
-use Rattle.model_strace.specs.Calls.{returned, outcome_told, written_told, listed_told, call_told}
+use Rattle.model_strace.specs.Calls.{ExecveAt, OpenFile, OpenAt, Creat, Close, Dup, DupTo, Fcntl, Write, listed_calls}
+use Rattle.model_strace.specs.Calls.{listed_named, opening, Told, Nothing, Faulty, Does, Bears, Joins, Opens, Closes}
+use Rattle.model_strace.specs.Calls.{Copies, CopiesTo, Writes, then_tells, where_some, read_argument, needed, deciding}
+use Rattle.model_strace.specs.Calls.{text_of, number_of, with_result, plain_call, ids_result, ids_call, ids_read}
+use Rattle.model_strace.specs.Calls.{ids_told, ids_of_length, groups_call, groups_told, own_header, caps_call}
+use Rattle.model_strace.specs.Calls.{caps_told, number_told, capability_argument, cap_told, ambient_told, option_told}
+use Rattle.model_strace.specs.Calls.{birth_with, unshare_told, file_quoted, execve_told, execve_at, dup_told}
+use Rattle.model_strace.specs.Calls.{makes_copy, returned, outcome_told, written_told, listed_told, call_told}
 use Rattle.model_strace.specs.Flags.{birth_flags, has_flag}
 use Rattle.model_strace.specs.Numbers.{capability}
 use Rattle.model_strace.specs.Numbers.{id_list}
@@ -235,23 +228,19 @@ module _ (w : World) where
       ))))
 
   -- ---- prctl
-  keep_fits : (n : ℕ) (r : Res) → Fits n → IsOutcome r → CallTold w (model.KeepCaps n) r
-  keep_fits n r fits may = (record { arguments = λ _. one_fits (ANumber n) fits; groups = refl; may = may }, refl)
-
-  privs_fit : (n : ℕ) (r : Res) → Fits n → IsOutcome r → CallTold w (model.NoNewPrivs n) r
-  privs_fit n r fits may = (record { arguments = λ _. one_fits (ANumber n) fits; groups = refl; may = may }, refl)
-
-  secure_fits : (n : ℕ) (r : Res) → Fits n → IsOutcome r → CallTold w (model.SecureBits n) r
-  secure_fits n r fits may = (record { arguments = λ _. one_fits (ANumber n) fits; groups = refl; may = may }, refl)
-
-  drop_fits : (n : ℕ) (r : Res) → Fits n → IsOutcome r → CallTold w (model.BsetDrop n) r
-  drop_fits n r fits may = (record { arguments = λ _. one_fits (Cap n) fits; groups = refl; may = may }, refl)
-
-  raise_fits : (n : ℕ) (r : Res) → Fits n → IsOutcome r → CallTold w (model.AmbRaise n) r
-  raise_fits n r fits may = (record { arguments = λ _. one_fits (Cap n) fits; groups = refl; may = may }, refl)
-
-  lower_fits : (n : ℕ) (r : Res) → Fits n → IsOutcome r → CallTold w (model.AmbLower n) r
-  lower_fits n r fits may = (record { arguments = λ _. one_fits (Cap n) fits; groups = refl; may = may }, refl)
+  -- a call with one argument, which is in its range and no space
+  one_told : (call : Call) (a : Argument) (r : Res) → arguments_of call ≡ a ∷ [] → IsInRange w a
+      → IsTrue (groups_fit call)
+      → MayAnswer (kind_of call) r → names_space call ≡ false → CallTold w call r
+  one_told call a r are is groups may none = (
+    record {
+      arguments = λ _. subst (All (IsInRange w)) (sym are)
+          (one_fits a is);
+      groups = groups;
+      may = may;
+    },
+    none,
+  )
 
   number_told_fits : (call : ℕ → Call) (arguments : List (List ℕ)) (outcome : Outcome)
       → ((n : ℕ) (r : Res) → Fits n → IsOutcome r → CallTold w (call n) r)
@@ -272,9 +261,11 @@ module _ (w : World) where
       → ToldFits w (ambient_told what arguments outcome)
   ambient_fits what arguments outcome =
       if_fits (bytes_eq what (codes "PR_CAP_AMBIENT_RAISE")) (cap_told model.AmbRaise 3 arguments outcome) _
-      (cap_told_fits model.AmbRaise 3 arguments outcome raise_fits)
+      (cap_told_fits model.AmbRaise 3 arguments outcome
+      (λ n r fits may. one_told (model.AmbRaise n) (Cap n) r refl fits refl may refl))
       (if_fits (bytes_eq what (codes "PR_CAP_AMBIENT_LOWER")) (cap_told model.AmbLower 3 arguments outcome) _
-      (cap_told_fits model.AmbLower 3 arguments outcome lower_fits)
+      (cap_told_fits model.AmbLower 3 arguments outcome
+      (λ n r fits may. one_told (model.AmbLower n) (Cap n) r refl fits refl may refl))
       (if_fits (bytes_eq what (codes "PR_CAP_AMBIENT_CLEAR_ALL"))
       (with_result (plain_result outcome) (Does model.AmbClear)) Nothing
       (result_fits IsOutcome (plain_result outcome) (Does model.AmbClear) (plain_may outcome)
@@ -285,15 +276,19 @@ module _ (w : World) where
       → ToldFits w (option_told option arguments outcome)
   option_fits option arguments outcome =
       if_fits (bytes_eq option (codes "PR_SET_KEEPCAPS")) (number_told model.KeepCaps arguments outcome) _
-      (number_told_fits model.KeepCaps arguments outcome keep_fits)
+      (number_told_fits model.KeepCaps arguments outcome
+      (λ n r fits may. one_told (model.KeepCaps n) (ANumber n) r refl fits refl may refl))
       (if_fits (bytes_eq option (codes "PR_SET_NO_NEW_PRIVS")) (number_told model.NoNewPrivs arguments outcome) _
-      (number_told_fits model.NoNewPrivs arguments outcome privs_fit)
+      (number_told_fits model.NoNewPrivs arguments outcome
+      (λ n r fits may. one_told (model.NoNewPrivs n) (ANumber n) r refl fits refl may refl))
       (if_fits (bytes_eq option (codes "PR_SET_SECUREBITS"))
       (plain_call outcome (read_argument securebits 2 arguments) model.SecureBits) _
       (plain_fits Fits outcome (read_argument securebits 2 arguments) model.SecureBits
-      (argument_is Fits securebits bits_fit 2 arguments) secure_fits)
+      (argument_is Fits securebits bits_fit 2 arguments)
+      (λ n r fits may. one_told (model.SecureBits n) (ANumber n) r refl fits refl may refl))
       (if_fits (bytes_eq option (codes "PR_CAPBSET_DROP")) (cap_told model.BsetDrop 2 arguments outcome) _
-      (cap_told_fits model.BsetDrop 2 arguments outcome drop_fits)
+      (cap_told_fits model.BsetDrop 2 arguments outcome
+      (λ n r fits may. one_told (model.BsetDrop n) (Cap n) r refl fits refl may refl))
       (if_fits (bytes_eq option (codes "PR_CAP_AMBIENT"))
       (then_tells (deciding 2 arguments outcome) (λ what. ambient_told what arguments outcome)) Nothing
       (then_fits (λ what. Unit {0}) (deciding 2 arguments outcome) (λ what. ambient_told what arguments outcome)

@@ -1,63 +1,25 @@
 -- Each event that a line of a log of strace tells over a world is writable over it, where the spaces that it names have
 -- numbers of 32 bits.
-use Rattle.std.proofs.Common.{◌≡◌, ℕ, ◌==◌, ◌&&◌, ◌||◌, Bool, true, false, List, [], ◌∷◌, ◌++◌}
-use Rattle.std.proofs.Common.{length}
-use Rattle.std.proofs.Common.{Option, Some, None, IfSome, All, IsTrue, refl}
-use Rattle.std.proofs.Common.{subst, if◌then◌else◌, nat_lt}
+use Rattle.std.proofs.Common.{◌≡◌, ℕ, Bool, true, false, List, [], ◌∷◌, length, Option, Some, None, IfSome, All, IsTrue}
+use Rattle.std.proofs.Common.{refl, subst}
 use Rattle.std.proofs.lemmas.List.Elements.{All-nil, All-cons, All-head, All-tail}
-use Rattle.std.specs.Prelude.{bytes_eq, codes, flat_map}
-use Rattle.cm_base.specs.Limited.{limit_number}
-use Rattle.cm_base.specs.declared.errno.Errno.{Errno}
-use Rattle.cm_base.specs.declared.faults.LineFault.TheVariants as fault
-use Rattle.cm_base.specs.declared.limited.Limited.TheVariants as limit
+use Rattle.std.specs.Prelude.{flat_map}
 use Rattle.cm_base.specs.declared.res.Res.{Res}
 use Rattle.cm_base.specs.declared.res.Res.TheVariants as res
 use Rattle.model_cred.specs.Call as model
-use Rattle.model_cred.specs.Call.{Call, Event, kind_of}
+use Rattle.model_cred.specs.Call.{Call, Event}
 use Rattle.model_cred.specs.IdMap.{Extent}
 use Rattle.model_cred.specs.Process.{is_pid}
 use Rattle.model_cred.specs.World.{World}
-use Rattle.model_strace.proofs.Ways.{Way, IsKnown, Rests, Drops, Follows, Begins, Makes, Births, Fails, Enters, Writes, Unwritten, Exits}
-use Rattle.model_strace.proofs.Ways.{Resumes, turn_way}
-use Rattle.model_strace.specs.Body.{Body, Silent, Ends, Superseded, Begun, Resumed, Whole, PidLine, Blank, NoPid}
-use Rattle.model_strace.specs.Body.{Of, body_of, pid_row, row_cut, row_of}
-use Rattle.model_strace.specs.Calls as calls
-use Rattle.model_strace.specs.Calls.{Listed, SetsIds, SetsGroups, SetsCaps, Prctl, Birth, Unshare, SetNs, Execve}
-use Rattle.model_strace.specs.Calls.{ExecveAt, OpenFile, OpenAt}
-use Rattle.model_strace.specs.Calls.{Creat, Close, Dup, DupTo, Fcntl, Write, listed_calls, listed_named, Opening}
-use Rattle.model_strace.specs.Calls.{opening}
-use Rattle.model_strace.specs.Calls.{Told, Nothing, Faulty, Does, Bears, Joins, Opens, Closes, Copies, CopiesTo}
-use Rattle.model_strace.specs.Calls.{then_tells, where_some, read_argument, needed, deciding, text_of, number_of}
-use Rattle.model_strace.specs.Calls.{with_result, plain_call}
-use Rattle.model_strace.specs.Calls.{ids_result, argument_count, ids_call, ids_read, ids_told, ids_of_length}
-use Rattle.model_strace.specs.Calls.{groups_call, groups_told}
-use Rattle.model_strace.specs.Calls.{own_header, caps_call, caps_told, number_told, capability_argument, cap_told}
-use Rattle.model_strace.specs.Calls.{ambient_told, option_told, prctl_told}
-use Rattle.model_strace.specs.Calls.{birth_with, birth_told, unshare_told, setns_told, file_quoted, execve_told}
-use Rattle.model_strace.specs.Calls.{execve_at, execveat_told}
-use Rattle.model_strace.specs.Calls.{open_told, creat_told, close_told, dup_told, dup_to_told, makes_copy, fcntl_told}
-use Rattle.model_strace.specs.Calls.{write_told}
-use Rattle.model_strace.specs.Calls.{returned, outcome_told, written_told, listed_told, call_told}
-use Rattle.model_strace.specs.Files.{Followed, UidMap, GidMap, SetgroupsWord, UserSpace, Named}
-use Rattle.model_strace.specs.Files.{file_at}
-use Rattle.model_strace.specs.Files.{is_followed, is_space, relative_file, written_extents, written_word}
-use Rattle.model_strace.specs.Flags.{has_flag}
+use Rattle.model_strace.proofs.Ways.{Way, Makes, Births, Fails, Enters, Writes, Unwritten, Exits, Resumes, turn_way}
+use Rattle.model_strace.specs.Body.{PidLine, Blank, NoPid, Of, pid_row, row_cut, row_of}
+use Rattle.model_strace.specs.Calls.{SetNs}
+use Rattle.model_strace.specs.Files.{Followed, UidMap, GidMap, SetgroupsWord, UserSpace, written_extents, written_word}
 use Rattle.model_strace.specs.LineNumbers.{StandsFor, row_told, told_by}
 use Rattle.model_strace.specs.Marks.{after_first_word, first_word}
 use Rattle.model_strace.specs.Marks.{without_end}
-use Rattle.model_strace.specs.Outcome.{Outcome, Number, Error, Other}
-use Rattle.model_strace.specs.Outcome.{plain_result, success}
-use Rattle.model_strace.specs.Parts.{Parts, Task, Descriptor, descriptor_of, has_descriptor, kept_of, shares_files}
-use Rattle.model_strace.specs.Parts.{task_of, with_descriptor, without_descriptor, without_kept}
-use Rattle.model_strace.specs.Quoted.{Quote, Bytes, quote_of}
-use Rattle.model_strace.specs.Turn.{Turn, Quiet, Gives, Refused, Exceeds, bears, begins, birth_call, body_turn, copies}
-use Rattle.model_strace.specs.Turn.{copies_to, failed_call, failed_write}
-use Rattle.model_strace.specs.Turn.{followed, follows, for_space, gives_birth, joins, joins_space, joins_unknown, opens}
-use Rattle.model_strace.specs.Turn.{opens_of, opens_other, opens_path}
-use Rattle.model_strace.specs.Turn.{resumes, told_turn, turn, with_child, within_limit, writes, writes_argument}
-use Rattle.model_strace.specs.Turn.{writes_text, written_call, wrote, wrote_call}
-use Rattle.model_strace.specs.Written.{call_name}
-use Rattle.model_strace.specs.Written.{without_32}
+use Rattle.model_strace.specs.Parts.{Parts, Descriptor, without_kept}
+use Rattle.model_strace.specs.Turn.{Turn, Gives, birth_call, turn, written_call}
 use Rattle.model_text.proofs.CapTexts.{if_mapped}
 use Rattle.model_text.proofs.ToldEvents.{AreFew, CanWrite}
 use Rattle.model_text.proofs.ToldEvents.{pid_is}
@@ -68,7 +30,7 @@ use Rattle.cm_lines.specs.Lines.{lines_of}
 use Rattle.model_text.specs.Line.{Tells}
 use Rattle.model_text.specs.Token.{pid_token}
 use Rattle.model_text.specs.Written.{IsBirth, IsInRange, IsOutcome}
-use Rattle.model_strace.proofs.ToldValues.{any_some, ExtentFits, extents_fit, plain_may}
+use Rattle.model_strace.proofs.ToldValues.{any_some, ExtentFits, extents_fit}
 use Rattle.model_strace.proofs.ToldCalls.{CallFits, ToldFits, one_fits, call_told_fits}
 
 -- ---- turns
@@ -95,26 +57,22 @@ module _ (w : World) (pid : ℕ) (is : IsTrue (is_pid pid)) where
       (All-cons (IsInRange w) (ANumber e.outside) (ANumber e.length ∷ others) first.1
       (All-cons (IsInRange w) (ANumber e.length) others first.2 (triples_fit list (All-tail ExtentFits e list all))))
 
+  -- those of a write of a map
+  written_fit : (space : ℕ) (list : List Extent) → All ExtentFits list → IsInRange w (Space space)
+      → All (IsInRange w) (Space space ∷ flat_map triple_of list)
+  written_fit space list all is =
+      All-cons (IsInRange w) (Space space) (flat_map triple_of list) is (triples_fit list all)
+
   written_fits : (file : Followed) (space : ℕ) (text : List ℕ) (r : Res) → IsOutcome r
       → IfSome (written_call file space text) (λ call. CallFits w call r)
   written_fits UidMap space text r may =
       if_mapped (All ExtentFits) (λ call. CallFits w call r) (model.WriteUidMap space) (written_extents text)
       (extents_fit (lines_of text))
-      (λ list all. record {
-        arguments =
-            λ spaces. All-cons (IsInRange w) (Space space) (flat_map triple_of list) spaces.0 (triples_fit list all);
-        groups = refl;
-        may = may;
-      })
+      (λ list all. record { arguments = λ spaces. written_fit space list all spaces.0; groups = refl; may = may })
   written_fits GidMap space text r may =
       if_mapped (All ExtentFits) (λ call. CallFits w call r) (model.WriteGidMap space) (written_extents text)
       (extents_fit (lines_of text))
-      (λ list all. record {
-        arguments =
-            λ spaces. All-cons (IsInRange w) (Space space) (flat_map triple_of list) spaces.0 (triples_fit list all);
-        groups = refl;
-        may = may;
-      })
+      (λ list all. record { arguments = λ spaces. written_fit space list all spaces.0; groups = refl; may = may })
   written_fits SetgroupsWord space text r may =
       if_mapped (λ deny. Unit {0}) (λ call. CallFits w call r) (model.WriteSetgroups space) (written_word text)
       (any_some (written_word text))

@@ -17,14 +17,14 @@ use Rattle.model_cred.specs.Call.{Call}
 use Rattle.model_cred.specs.World.{World}
 use Rattle.model_strace.specs.Calls as calls
 use Rattle.model_strace.specs.Calls.{Listed, SetsIds, SetsGroups, SetsCaps, Prctl, Birth, Unshare, SetNs, Execve}
-use Rattle.model_strace.specs.Calls.{ExecveAt, OpenFile, OpenAt, Creat, Close, Dup, DupTo, Fcntl, Write, Opening}
-use Rattle.model_strace.specs.Calls.{Told, Nothing, Faulty, Does, Bears, Joins, Opens, Closes, Copies, CopiesTo, Writes}
-use Rattle.model_strace.specs.Calls.{then_tells, where_some, read_argument, needed, deciding, text_of, number_of, with_result, plain_call}
-use Rattle.model_strace.specs.Calls.{ids_result, ids_read, ids_told, ids_of_length, groups_call, groups_told, own_header, caps_call, caps_told}
-use Rattle.model_strace.specs.Calls.{number_told, capability_argument, cap_told, ambient_told, option_told, prctl_told, birth_with, birth_told}
-use Rattle.model_strace.specs.Calls.{unshare_told, setns_told, file_quoted, execve_told, execve_at, execveat_told, open_told, opening}
-use Rattle.model_strace.specs.Calls.{creat_told, close_told, dup_told, dup_to_told, makes_copy, fcntl_told, write_told}
-use Rattle.model_strace.specs.Calls.{returned, outcome_told, written_told, listed_told, listed_named, call_told}
+use Rattle.model_strace.specs.Calls.{ExecveAt, OpenFile, OpenAt, Creat, Close, Dup, DupTo, Fcntl, Write, Told, Nothing}
+use Rattle.model_strace.specs.Calls.{Faulty, Does, Joins, Opens, Closes, Copies, CopiesTo, Writes, then_tells}
+use Rattle.model_strace.specs.Calls.{where_some, read_argument, needed, deciding, text_of, number_of, with_result}
+use Rattle.model_strace.specs.Calls.{plain_call, ids_result, ids_read, ids_told, ids_of_length, groups_call}
+use Rattle.model_strace.specs.Calls.{groups_told, own_header, caps_call, caps_told, number_told, capability_argument}
+use Rattle.model_strace.specs.Calls.{cap_told, ambient_told, option_told, birth_with, birth_told, setns_told}
+use Rattle.model_strace.specs.Calls.{file_quoted, execve_told, execve_at, opening, dup_told, makes_copy, returned}
+use Rattle.model_strace.specs.Calls.{outcome_told, written_told, listed_told, listed_named, call_told}
 use Rattle.model_strace.specs.Flags.{birth_flags, has_flag}
 use Rattle.model_strace.specs.Numbers.{securebits, sets_of}
 use Rattle.model_strace.specs.Outcome.{Outcome, NoReturn, birth_result, plain_result, success, outcome_of}

@@ -167,9 +167,7 @@ ids_fit (text ∷ texts) = before (id_token text) (ids_of texts) (id_fits text) 
   where
     before : (id : Option ℕ) (ids : Option (List ℕ)) → IfSome id Fits → IfSome ids (All Fits)
         → IfSome (id_before id ids) (All Fits)
-    before None ids fits all = tt
-    before (Some id) None fits all = tt
-    before (Some id) (Some ids) fits all = All-cons Fits id ids fits all
+    before id ids fits all = grind (arith, All-cons)
 
 pub list_fits : (text : List ℕ) → IfSome (id_list text) (All Fits)
 list_fits text =
@@ -204,9 +202,7 @@ extents_fit (line ∷ lines) =
   where
     before : (e : Option Extent) (list : Option (List Extent)) → IfSome e ExtentFits → IfSome list (All ExtentFits)
         → IfSome (extent_before e list) (All ExtentFits)
-    before None list fits all = tt
-    before (Some e) None fits all = tt
-    before (Some e) (Some list) fits all = All-cons ExtentFits e list fits all
+    before e list fits all = grind (arith, All-cons)
 
 -- ---- results
 -- a number that is told is one of 32 bits, or the one past them

@@ -1,11 +1,9 @@
 -- Files as they are written: a token, no `=`, which is read as the file, where the paths of the table keep their rules.
-use Rattle.std.proofs.Common.{◌≡◌, ℕ, zero, suc, ◌<◌, ◌≤◌, Bool, true, false, not, ◌&&◌, List, [], ◌∷◌, length, map, refl, ap, ◌∙◌, arith, All}
-use Rattle.std.proofs.Common.{Option, Some, None, inl, inr, lit<, nat_le, eqb, IsTrue}
-use Rattle.std.proofs.lemmas.Bool.{and_parts, and_from, not-true, leb-true}
-use Rattle.std.proofs.lemmas.List.Elements.{All-head, All-tail}
+use Rattle.std.proofs.Common.{◌≡◌, ℕ, ◌<◌, true, false, not, List, length, map, refl, ap, ◌∙◌, arith, Option, Some}
+use Rattle.std.proofs.Common.{None, inl, inr, lit<, nat_le, eqb}
+use Rattle.std.proofs.lemmas.Bool.{and_parts, leb-true}
 use Rattle.std.proofs.lemmas.Option.{slice_get-map, slice_get_cases}
 use Rattle.std.specs.Prelude.{codes, bytes_eq, slice_get, option_map, unwrap_or}
-use Rattle.std.specs.List.{list_all}
 use Rattle.cm_base.proofs.Texts.{text_other}
 use Rattle.cm_base.specs.declared.res.FileRef.{FileRef}
 use Rattle.cm_base.specs.declared.res.FileRef.TheVariants.{Row, Plain}
@@ -33,23 +31,17 @@ plain_byte byte is = plain_above byte (leb-true 33 byte (and_parts (nat_le 33 by
 
 path_is : (path : List ℕ) → is_path path ≡ true → IsPath path
 unfolding is_path
-path_is path is =
-    let low : Bool = nat_le 1 (length path) in
-    let high : Bool = nat_le (length path) 4095 in
-    let bytes : Bool = list_all is_path_byte path in
-    let dash : Bool = not (bytes_eq path (codes "-")) in
-    let equals : Bool = not (is_equals path) in
-    let five : ((low && high && bytes && dash) ≡ true) × (equals ≡ true) = and_parts (low && high && bytes && dash) equals is in
-    let four : ((low && high && bytes) ≡ true) × (dash ≡ true) = and_parts (low && high && bytes) dash five.0 in
-    let three : ((low && high) ≡ true) × (bytes ≡ true) = and_parts (low && high) bytes four.0 in
-    let two : (low ≡ true) × (high ≡ true) = and_parts low high three.0 in
-    let one : 1 ≤ length path = leb-true 1 (length path) two.0 in
-    let few : length path ≤ 4095 = leb-true (length path) 4095 two.1 in
-    record {
-      token = record { some = omega arith; short = omega arith; plain = all_weaker is_path_byte is_plain plain_byte path three.1 };
-      dash = not-true (bytes_eq path (codes "-")) four.1;
-      equals = not-true (is_equals path) five.1;
-    }
+path_is path is = record {
+  token =
+      record {
+        some = grind arith;
+        short = grind arith;
+        plain = all_weaker is_path_byte is_plain plain_byte path
+            (grind arith);
+      };
+  dash = grind arith;
+  equals = grind arith;
+}
 
 -- the paths of rows
 abbrev pub paths_of : List FileRow → List (List ℕ)

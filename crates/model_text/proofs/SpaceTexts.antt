@@ -1,9 +1,7 @@
 -- Spaces as they are written: a token, no `=`, which is read as the space, where the names of spaces keep their rules.
-use Rattle.std.proofs.Common.{◌≡◌, ℕ, zero, suc, ◌+◌, ◌-◌, ◌<◌, ◌≤◌, Bool, true, false, not, ◌&&◌}
-use Rattle.std.proofs.Common.{List, [], ◌∷◌, ◌++◌, length, refl, sym, ap, ◌∙◌, arith, inl, inr, All}
-use Rattle.std.proofs.Common.{Option, Some, None, cond, lit<, nat_le, eqb, IsTrue}
-use Rattle.std.proofs.lemmas.Bool.{and_parts, and_from, not-true, ne_eqb, leb-true, cases_lt, agree_below_at, both_ways}
-use Rattle.std.proofs.lemmas.List.Elements.{All-head, All-tail}
+use Rattle.std.proofs.Common.{◌≡◌, ℕ, zero, suc, ◌+◌, ◌-◌, ◌<◌, ◌≤◌, true, false, not, List, [], ◌∷◌, ◌++◌, length}
+use Rattle.std.proofs.Common.{refl, sym, ap, ◌∙◌, arith, inl, inr, Option, Some, None, cond, lit<, eqb}
+use Rattle.std.proofs.lemmas.Bool.{and_parts, ne_eqb, cases_lt, agree_below_at, both_ways}
 use Rattle.std.specs.Prelude.{codes, decimal, bytes_eq, slice_get, unwrap_or}
 use Rattle.std.specs.List.{list_all, position_from}
 use Rattle.std.specs.Result.{result_ok}
@@ -33,16 +31,7 @@ record IsName (name : List ℕ) : Type 0 where
 
 name_is : (name : List ℕ) → is_name name ≡ true → IsName name
 unfolding is_name
-name_is name is =
-    let low : Bool = nat_le 1 (length name) in
-    let high : Bool = nat_le (length name) 32 in
-    let bytes : Bool = list_all is_name_byte name in
-    let other : Bool = not (bytes_eq name (codes "init")) in
-    let last : ((low && high && bytes) ≡ true) × (other ≡ true) = and_parts (low && high && bytes) other is in
-    let middle : ((low && high) ≡ true) × (bytes ≡ true) = and_parts (low && high) bytes last.0 in
-    let first : (low ≡ true) × (high ≡ true) = and_parts low high middle.0 in
-    let one : 1 ≤ length name = leb-true 1 (length name) first.0 in
-    record { some = omega arith; short = leb-true (length name) 32 first.1; bytes = middle.1; other = not-true (bytes_eq name (codes "init")) last.1 }
+name_is name is = grind arith
 
 -- a byte of a name is above the space
 name_byte_above : (byte : ℕ) → is_name_byte byte ≡ true → 32 < byte
