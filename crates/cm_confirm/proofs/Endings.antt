@@ -1,8 +1,11 @@
 -- Where a run stands: an event is taken, or it is over.
 use Rattle.std.proofs.Common.{◌≡◌, ℕ, List}
 use Rattle.std.proofs.Common.{sym, subst, ◌∙◌, ap}
+use Rattle.std.specs.Prelude.{Result, Ok, Err}
+use Rattle.cm_base.specs.Outcome.{OrNoMemory}
 use Rattle.cm_confirm.proofs.Sames.{run_same}
-use Rattle.cm_confirm.specs.Confirmed.{ComesTo, GoesOn}
+use Rattle.cm_confirm.specs.Confirmed.{ComesTo, GoesOn, confirmed_of}
+use Rattle.cm_confirm.specs.declared.confirmed.Confirmed.{Confirmed as Told}
 use Rattle.cm_confirm.specs.declared.confirming.Turn.{Turn}
 use Rattle.cm_log.specs.Left.{told_then}
 use Rattle.cm_strace.specs.declared.stage.Stage.{Stage}
@@ -45,3 +48,9 @@ line_comes w s members right reading later told events at answer after members_t
     subst (λ (r : Reading). ComesTo w s members right r answer after members_then later) (sym is)
     (subst (λ (es : List Placed). ComesTo w s members right
     (told_then es at later) answer after members_then later) same comes)
+
+-- what a run comes to is what comes of the same
+pub finished_same : {E : Type 0} (r : Result Told E) (a b : Confirmed) → a ≡ b
+    → OrNoMemory r (λ confirmed. a ≡ confirmed_of confirmed) → OrNoMemory r (λ confirmed. confirmed_of confirmed ≡ b)
+finished_same (Ok confirmed) a b is comes = sym comes ∙ is
+finished_same (Err why) a b is comes = tt

@@ -7,7 +7,7 @@ ghost use Rattle.cm_base.specs.declared.limited.Limited.TheVariants as limit;
 ghost use Rattle.cm_confirm.specs.Confirmed.{confirmed_of, ComesTo, IsTurn};
 ghost use Rattle.cm_confirm.specs.Lines.{line_before};
 ghost use Rattle.cm_declared.specs.World.{world_of};
-ghost use Rattle.cm_lines.specs.Cut.{Cut};
+ghost use Rattle.cm_lines.specs.Cut.{Cut, ends_by};
 ghost use Rattle.cm_log.specs.Counts.{lines_read};
 ghost use Rattle.cm_log.specs.Left.{left, told_of, told_then, IsScript};
 ghost use Rattle.cm_state.specs.Right.{right_of};
@@ -59,9 +59,25 @@ pub fn confirm(
         }
         rest = after;
     }
-    let end = run.end(alloc, w, None)?;
-    let last = run.events();
-    match take_told(alloc, w, &mut machine, &mut members, right, last, end)? {
+    finish(alloc, w, &mut machine, &mut members, right, &mut run)
+}
+
+// No line of the run comes any more: what its end tells is taken, and this is what the run comes to.
+fn finish(
+    alloc: Global,
+    w: &World,
+    machine: &mut Machine,
+    members: &mut Members,
+    right: &Right,
+    run: &mut Log,
+) -> Result<Confirmed, NoMemory>
+    requires { IsWithin machine.old.state }
+    ensures { OrNoMemory result (λ confirmed. confirm_of (world_of w.now) machine.old.state members.old (right_of right.now)
+        (left (world_of w.now) run.old (ends_by None)) ≡ confirmed_of confirmed) }
+{
+    let stage = run.end(alloc, w, None)?;
+    let told = run.events();
+    match take_told(alloc, w, machine, members, right, told, stage)? {
         Turn::Ends(confirmed) => Ok(confirmed),
         Turn::Goes => unreachable!(),
     }

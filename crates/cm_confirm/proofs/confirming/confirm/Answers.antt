@@ -1,7 +1,8 @@
-use Rattle.std.proofs.Common.{◌≡◌, ◌∙◌, ◌+◌, ◌≤◌, ◌∷◌, List, ℕ, ap, arith, length, sym}
+use Rattle.std.proofs.Common.{◌≡◌, ◌∙◌, ◌+◌, ◌≤◌, List, [], ◌∷◌, ℕ, ap, arith, length, rules, sym}
+use Rattle.std.proofs.lemmas.Grind.{common_steps}
 use Rattle.cm_base.specs.Limited.{limit_number}
 use Rattle.cm_base.specs.declared.limited.Limited.TheVariants as limit
-use Rattle.cm_confirm.proofs.Endings.{line_comes}
+use Rattle.cm_confirm.proofs.Endings.{finished_same, line_comes}
 use Rattle.cm_confirm.proofs.RunLines.{run_comes}
 use Rattle.cm_confirm.proofs.confirming.confirm.Goals as goal
 use Rattle.cm_confirm.specs.Lines.{lines_come}
@@ -13,7 +14,7 @@ use Rattle.cm_confirm.specs.declared.confirming.Turn.TheVariants as turn
 use Rattle.cm_log.specs.Left.{left, told_of}
 use Rattle.cm_state.specs.Right.{right_of}
 use Rattle.model_confirm.specs.Confirm.{confirm_of}
-use Rattle.model_text.specs.Reading.{Reading, script_of_cut}
+use Rattle.model_text.specs.Reading.{Reading, script_of_cut, script_reading}
 
 pub loop-line-init : goal.loop-line-init
 loop-line-init c =
@@ -71,3 +72,17 @@ returns-in-Ends c =
     c.in_ok-stage.stage (turn.Ends c.in-Ends.confirmed) c.take_told.new.machine.state c.take_told.new.members is
     c.events-told.ensures (ends later) in
     sym comes ∙ sym c.loop-line.invariant.same
+    ∙ ap (λ (ms : List ℕ). confirm_of w c.args.machine.state ms right (script_reading w c.args.text.now))
+    c.new-members.ensures
+
+pub returns : goal.returns
+returns c =
+    let w = world_of c.args.w.now in
+    let right = right_of c.args.right.now in
+    let none : lines_of c.loop-line.rest.now ≡ [] = first_of (search rules, grind (arith, common_steps)) in
+    let same = c.loop-line.invariant.same
+    ∙ ap (λ (ls : List (List ℕ)). confirm_of w c.loop-line.machine.state c.loop-line.members right
+    (left w c.loop-line.run (lines_come (limit_number limit.Line) ls))) none in
+    finished_same c.finish.result _ _
+    (sym same ∙ ap (λ (ms : List ℕ). confirm_of w c.args.machine.state ms right (script_reading w c.args.text.now))
+    c.new-members.ensures) c.finish.ensures
