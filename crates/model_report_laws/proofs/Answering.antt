@@ -1,8 +1,9 @@
 -- The answer to what is asked: its statuses come by their causes in the state that an accepted log leads to, and all that is
 -- judged of one question says one thing.
-use Rattle.std.proofs.Common.{◌≡◌, ◌⊎◌, ℕ, ◌<◌, ◌≤◌, inl, inr, Bool, true, false, cond, nat_lt, length, List, Result, Ok, Err}
-use Rattle.std.proofs.Common.{Some, refl, sym, ◌∙◌, ap, subst}
-use Rattle.std.proofs.lemmas.Bool.{ltb-false, ltb-true, le-ltb, lt-ltb}
+use Rattle.std.proofs.Common.{◌≡◌, ◌⊎◌, ℕ, ◌<◌, ◌≤◌, inl, inr, Bool, cond, nat_lt, length, List, Result, Ok, Err, Some}
+use Rattle.std.proofs.Common.{refl, sym, ◌∙◌, ap, subst}
+use Rattle.std.proofs.lemmas.Bool.{le-ltb, lt-ltb, cases_lt}
+use Rattle.cm_base.specs.declared.limited.Limited.{Limited}
 use Rattle.cm_base.specs.declared.limited.Limited.TheVariants as limit
 use Rattle.cm_base.specs.declared.status.Status.{Status}
 use Rattle.cm_base.specs.declared.status.Status.TheVariants as status
@@ -35,7 +36,7 @@ use Rattle.model_report.specs.Given.{StateGives}
 use Rattle.model_report.specs.Judged.{Judged}
 use Rattle.model_report.specs.Query.{Query}
 use Rattle.model_report.specs.Replay.{Report, limit_hit}
-use Rattle.model_report.specs.Task.{Task, NoTask, ToJudge, ToCheck, ToConfirm}
+use Rattle.model_report.specs.Task.{Task, NoTask, ToJudge, ToCheck, ToConfirm, query_in}
 use Rattle.model_report.specs.Told.{Told, TellsNo, TellsYes, TellsUndecided, verdict_in, IsVerdictOn}
 use Rattle.model_run.specs.Family.{family}
 use Rattle.model_run.specs.Within.{RunWithin}
@@ -150,8 +151,43 @@ large_by q q' task j w s same is =
     subst (λ (x : Query). (query_answer task j w s x).status ≡ status.Limit) (sym one)
     (ap (λ (r : Report). r.status) (of_larger q' w s task j is))
 
+-- ---- limits of texts
+-- a text within its limit, and one past it
+fits_limit : (l : Limited) (text : List ℕ) (r : Report) → length text ≤ limit_number l
+    → cond (nat_lt (limit_number l) (length text)) (limit_hit l) r ≡ r
+fits_limit l text r size = ap (λ (b : Bool). cond b (limit_hit l) r) (le-ltb (limit_number l) (length text) size)
+
+over_limit : (l : Limited) (text : List ℕ) (r : Report) → limit_number l < length text
+    → cond (nat_lt (limit_number l) (length text)) (limit_hit l) r ≡ limit_hit l
+over_limit l text r over = ap (λ (b : Bool). cond b (limit_hit l) r) (lt-ltb (limit_number l) (length text) over)
+
+-- what holds of the status in both cases
+by_limit : (l : Limited) (text : List ℕ) (r : Report) (P : Status → Type 0)
+    → (length text ≤ limit_number l → P r.status)
+    → (limit_number l < length text → P status.Limit)
+    → P (cond (nat_lt (limit_number l) (length text)) (limit_hit l) r).status
+by_limit l text r P within past =
+    elim (cases_lt (limit_number l) (length text)) [
+      | inl over ↦ subst (λ (x : Report). P x.status) (sym (over_limit l text r over)) (past over)
+      | inr size ↦ subst (λ (x : Report). P x.status) (sym (fits_limit l text r size)) (within size)
+    ]
+
 -- ---- the answer and its cause
 module _ (q : Query) (w : World) (s : State) (j : Judged) where
+  -- whatever is asked for, by the cause of the answer to a query that stands
+  cause_of_query : (task : Task) → query_in task ≡ Some q
+      → ((p : Process) (right : Right) → AsksVerdict q w s p right → TaskCause task w s
+      (task_report task j w s (family s p.pid) right).status)
+      → TaskCause task w s (query_answer task j w s q).status
+  cause_of_query task same stands = by (comes q w s) where
+    by : Comes q w s → TaskCause task w s (query_answer task j w s q).status
+    by (asks p right asked) =
+        subst (λ (r : Report). TaskCause task w s r.status) (sym (of_asked q w s task j p right asked))
+        (stands p right asked)
+    by (bad is) = subst (λ (r : Report). TaskCause task w s r.status) (sym (of_bad q w s task j is).1) (q, same, is)
+    by (large is) =
+        subst (λ (r : Report). TaskCause task w s r.status) (sym (of_larger q w s task j is)) (inl (q, same, is))
+
   -- an audit's
   module _ (gives : StateGives (ToJudge q) w s j) (fits : Fits w s) where
     verdict_cause : (p : Process) (right : Right) → AsksVerdict q w s p right → (x : Told) → IsVerdictOn w s (family s p.pid) right x
@@ -164,13 +200,8 @@ module _ (q : Query) (w : World) (s : State) (j : Judged) where
         (p, right, asked, (undecided_exactly (each_may w) (permits w.filter) w s (family s p.pid) right fits.keeps).0 (blame, _, is.verdict))
 
     judge_cause : TaskCause (ToJudge q) w s (answer (ToJudge q) j w s).status
-    judge_cause = by (comes q w s) where
-      by : Comes q w s → TaskCause (ToJudge q) w s (answer (ToJudge q) j w s).status
-      by (asks p right asked) =
-          subst (λ (r : Report). TaskCause (ToJudge q) w s r.status) (sym (of_asked q w s (ToJudge q) j p right asked))
-          (verdict_cause p right asked j.verdict (gives p right asked))
-      by (bad is) = subst (λ (r : Report). TaskCause (ToJudge q) w s r.status) (sym (of_bad q w s (ToJudge q) j is).1) (q, refl, is)
-      by (large is) = subst (λ (r : Report). TaskCause (ToJudge q) w s r.status) (sym (of_larger q w s (ToJudge q) j is)) (inl (q, refl, is))
+    judge_cause =
+        cause_of_query (ToJudge q) refl (λ p right asked. verdict_cause p right asked j.verdict (gives p right asked))
 
     judged_by : (p : Process) (right : Right) → AsksVerdict q w s p right → (u : Verdict) → VerdictIn w s (family s p.pid) right u
         → (answer (ToJudge q) j w s).status ≡ verdict_status u
@@ -197,61 +228,33 @@ module _ (q : Query) (w : World) (s : State) (j : Judged) where
 
   -- that of the check of a certificate
   module _ (text : List ℕ) where
-    -- within its limit, and past it
-    check_size : (members : List ℕ) (right : Right) → length text ≤ limit_number limit.Certificate
-        → task_report (ToCheck q text) j w s members right
-        ≡ certificate_report w s.spaces j.checked (certificate (length s.spaces) text)
-    check_size members right size =
-        ap (λ (b : Bool). cond b (limit_hit limit.Certificate) (certificate_report w s.spaces j.checked (certificate (length s.spaces) text)))
-        (le-ltb (limit_number limit.Certificate) (length text) size)
-
-    check_over : (members : List ℕ) (right : Right) → limit_number limit.Certificate < length text
-        → task_report (ToCheck q text) j w s members right ≡ limit_hit limit.Certificate
-    check_over members right over =
-        ap (λ (b : Bool). cond b (limit_hit limit.Certificate) (certificate_report w s.spaces j.checked (certificate (length s.spaces) text)))
-        (lt-ltb (limit_number limit.Certificate) (length text) over)
-
     -- what it reads as
     pub check_read : (members : List ℕ) (right : Right) (read : Result (List BoxRow) CertFault) → ReadsAs s text read
         → task_report (ToCheck q text) j w s members right ≡ certificate_report w s.spaces j.checked read
     check_read members right read reads =
-        check_size members right reads.size
+        fits_limit limit.Certificate text
+        (certificate_report w s.spaces j.checked (certificate (length s.spaces) text)) reads.size
         ∙ ap (λ (r : Result (List BoxRow) CertFault). certificate_report w s.spaces j.checked r) reads.reads
 
     module _ (gives : StateGives (ToCheck q text) w s j) where
       check_cause : TaskCause (ToCheck q text) w s (answer (ToCheck q text) j w s).status
-      check_cause = by (comes q w s) where
-        by_read : (p : Process) (right : Right) → AsksVerdict q w s p right → (read : Result (List BoxRow) CertFault) → ReadsAs s text read
-            → TaskCause (ToCheck q text) w s (certificate_report w s.spaces j.checked read).status
-        by_read p right asked (Err why) reads = (p, right, asked, by_reading why reads)
-        by_read p right asked (Ok rows) reads =
-            elim (checked_cause w s (family s p.pid) right rows j.checked (gives p right rows asked reads)) [
-              | inl holds ↦
-                  subst (λ (st : Status). TaskCause (ToCheck q text) w s st) (sym holds.0) (p, right, asked, (rows, reads, holds.1))
-              | inr refused ↦
-                  subst (λ (st : Status). TaskCause (ToCheck q text) w s st) (sym refused.0) (p, right, asked, by_rows rows reads refused.1)
-            ]
-
-        by_size : (p : Process) (right : Right) → AsksVerdict q w s p right → (b : Bool) → nat_lt (limit_number limit.Certificate) (length text) ≡ b
-            → TaskCause (ToCheck q text) w s (task_report (ToCheck q text) j w s (family s p.pid) right).status
-        by_size p right asked true is =
-            let over : limit_number limit.Certificate < length text = ltb-true (limit_number limit.Certificate) (length text) is in
-            subst (λ (r : Report). TaskCause (ToCheck q text) w s r.status) (sym (check_over (family s p.pid) right over))
-            (inr (inl (p, right, asked, over)))
-        by_size p right asked false is =
-            let reads : ReadsAs s text (certificate (length s.spaces) text)
-            = record { size = ltb-false (limit_number limit.Certificate) (length text) is; reads = refl } in
-            subst (λ (r : Report). TaskCause (ToCheck q text) w s r.status)
-            (sym (check_read (family s p.pid) right (certificate (length s.spaces) text) reads))
-            (by_read p right asked (certificate (length s.spaces) text) reads)
-
-        by : Comes q w s → TaskCause (ToCheck q text) w s (answer (ToCheck q text) j w s).status
-        by (asks p right asked) =
-            subst (λ (r : Report). TaskCause (ToCheck q text) w s r.status) (sym (of_asked q w s (ToCheck q text) j p right asked))
-            (by_size p right asked (nat_lt (limit_number limit.Certificate) (length text)) refl)
-        by (bad is) = subst (λ (r : Report). TaskCause (ToCheck q text) w s r.status) (sym (of_bad q w s (ToCheck q text) j is).1) (q, refl, is)
-        by (large is) =
-            subst (λ (r : Report). TaskCause (ToCheck q text) w s r.status) (sym (of_larger q w s (ToCheck q text) j is)) (inl (q, refl, is))
+      check_cause =
+          cause_of_query (ToCheck q text) refl
+          (λ p right asked.
+          by_limit limit.Certificate text (certificate_report w s.spaces j.checked (certificate (length s.spaces) text))
+          (TaskCause (ToCheck q text) w s)
+          (λ size. by_read p right asked (certificate (length s.spaces) text) (record { size = size; reads = refl }))
+          (λ over. inr (inl (p, right, asked, over)))) where
+            by_read : (p : Process) (right : Right) → AsksVerdict q w s p right → (read : Result (List BoxRow) CertFault) → ReadsAs s text read
+                → TaskCause (ToCheck q text) w s (certificate_report w s.spaces j.checked read).status
+            by_read p right asked (Err why) reads = (p, right, asked, by_reading why reads)
+            by_read p right asked (Ok rows) reads =
+                elim (checked_cause w s (family s p.pid) right rows j.checked (gives p right rows asked reads)) [
+                  | inl holds ↦
+                      subst (λ (st : Status). TaskCause (ToCheck q text) w s st) (sym holds.0) (p, right, asked, (rows, reads, holds.1))
+                  | inr refused ↦
+                      subst (λ (st : Status). TaskCause (ToCheck q text) w s st) (sym refused.0) (p, right, asked, by_rows rows reads refused.1)
+                ]
 
       -- the answer where it reads so
       pub checks_so : (p : Process) (right : Right) → AsksVerdict q w s p right → (read : Result (List BoxRow) CertFault) → ReadsAs s text read
@@ -280,63 +283,44 @@ module _ (q : Query) (w : World) (s : State) (j : Judged) where
       check_by status.BadQuery (q', same, is) = bad_by q q' (ToCheck q text) j w s same is
       check_by status.Limit (inl (q', same, is)) = large_by q q' (ToCheck q text) j w s same is
       check_by status.Limit (inr (inl (p, right, asked, over))) =
-          ap (λ (r : Report). r.status) (of_asked q w s (ToCheck q text) j p right asked ∙ check_over (family s p.pid) right over)
+          ap (λ (r : Report). r.status)
+          (of_asked q w s (ToCheck q text) j p right asked
+          ∙ over_limit limit.Certificate text
+          (certificate_report w s.spaces j.checked (certificate (length s.spaces) text)) over)
       check_by status.Limit (inr (inr never)) = absurd never
       check_by _ never = absurd never
 
     -- ---- that of a run
-    confirm_size : (members : List ℕ) (right : Right) → length text ≤ limit_number limit.Run
-        → task_report (ToConfirm q text) j w s members right ≡ confirmed_report (confirm_of w s members right (script_reading w text))
-    confirm_size members right size =
-        ap (λ (b : Bool). cond b (limit_hit limit.Run) (confirmed_report (confirm_of w s members right (script_reading w text))))
-        (le-ltb (limit_number limit.Run) (length text) size)
-
-    confirm_over : (members : List ℕ) (right : Right) → limit_number limit.Run < length text
-        → task_report (ToConfirm q text) j w s members right ≡ limit_hit limit.Run
-    confirm_over members right over =
-        ap (λ (b : Bool). cond b (limit_hit limit.Run) (confirmed_report (confirm_of w s members right (script_reading w text))))
-        (lt-ltb (limit_number limit.Run) (length text) over)
-
     -- the answer where it comes to this
     pub confirms_so : (p : Process) (right : Right) → AsksVerdict q w s p right → length text ≤ limit_number limit.Run
         → (x : Confirmed) → confirm_of w s (family s p.pid) right (script_reading w text) ≡ x
         → answer (ToConfirm q text) j w s ≡ confirmed_report x
     confirms_so p right asked size x is =
-        of_asked q w s (ToConfirm q text) j p right asked ∙ confirm_size (family s p.pid) right size ∙ ap (λ (c : Confirmed). confirmed_report c) is
+        of_asked q w s (ToConfirm q text) j p right asked
+        ∙ fits_limit limit.Run text
+        (confirmed_report (confirm_of w s (family s p.pid) right (script_reading w text))) size
+        ∙ ap (λ (c : Confirmed). confirmed_report c) is
 
     confirm_cause : TaskCause (ToConfirm q text) w s (answer (ToConfirm q text) j w s).status
     unfolding ConfirmsLaterRuns RefusesLines RefusesEnds StopsAtLimits
-    confirm_cause = by (comes q w s) where
-      by_what : (p : Process) (right : Right) → AsksVerdict q w s p right → length text ≤ limit_number limit.Run
-          → (x : Confirmed) → confirm_of w s (family s p.pid) right (script_reading w text) ≡ x
-          → TaskCause (ToConfirm q text) w s (confirmed_report x).status
-      by_what p right asked size (Confirms pid) is =
-          (size, (p, right, asked, (pid, (confirms_later_runs w s (family s p.pid) right (script_reading w text) pid).0 is)))
-      by_what p right asked size (RefusesLine number) is =
-          (size, (p, right, asked, at_its_line number ((refuses_lines w s (family s p.pid) right (script_reading w text) number).0 is)))
-      by_what p right asked size RefusesEnd is =
-          (size, (p, right, asked, at_its_end ((refuses_ends w s (family s p.pid) right (script_reading w text)).0 is)))
-      by_what p right asked size (PastLimit l) is =
-          inr (inr (size, (p, right, asked, (l, (stops_at_limits w s (family s p.pid) right (script_reading w text) l).0 is))))
-
-      by_size : (p : Process) (right : Right) → AsksVerdict q w s p right → (b : Bool) → nat_lt (limit_number limit.Run) (length text) ≡ b
-          → TaskCause (ToConfirm q text) w s (task_report (ToConfirm q text) j w s (family s p.pid) right).status
-      by_size p right asked true is =
-          let over : limit_number limit.Run < length text = ltb-true (limit_number limit.Run) (length text) is in
-          subst (λ (r : Report). TaskCause (ToConfirm q text) w s r.status) (sym (confirm_over (family s p.pid) right over))
-          (inr (inl (p, right, asked, over)))
-      by_size p right asked false is =
-          let size : length text ≤ limit_number limit.Run = ltb-false (limit_number limit.Run) (length text) is in
-          subst (λ (r : Report). TaskCause (ToConfirm q text) w s r.status) (sym (confirm_size (family s p.pid) right size))
-          (by_what p right asked size (confirm_of w s (family s p.pid) right (script_reading w text)) refl)
-
-      by : Comes q w s → TaskCause (ToConfirm q text) w s (answer (ToConfirm q text) j w s).status
-      by (asks p right asked) =
-          subst (λ (r : Report). TaskCause (ToConfirm q text) w s r.status) (sym (of_asked q w s (ToConfirm q text) j p right asked))
-          (by_size p right asked (nat_lt (limit_number limit.Run) (length text)) refl)
-      by (bad is) = subst (λ (r : Report). TaskCause (ToConfirm q text) w s r.status) (sym (of_bad q w s (ToConfirm q text) j is).1) (q, refl, is)
-      by (large is) =
-          subst (λ (r : Report). TaskCause (ToConfirm q text) w s r.status) (sym (of_larger q w s (ToConfirm q text) j is)) (inl (q, refl, is))
+    confirm_cause =
+        cause_of_query (ToConfirm q text) refl
+        (λ p right asked.
+        by_limit limit.Run text (confirmed_report (confirm_of w s (family s p.pid) right (script_reading w text)))
+        (TaskCause (ToConfirm q text) w s)
+        (λ size. by_what p right asked size (confirm_of w s (family s p.pid) right (script_reading w text)) refl)
+        (λ over. inr (inl (p, right, asked, over)))) where
+          by_what : (p : Process) (right : Right) → AsksVerdict q w s p right → length text ≤ limit_number limit.Run
+              → (x : Confirmed) → confirm_of w s (family s p.pid) right (script_reading w text) ≡ x
+              → TaskCause (ToConfirm q text) w s (confirmed_report x).status
+          by_what p right asked size (Confirms pid) is =
+              (size, (p, right, asked, (pid, (confirms_later_runs w s (family s p.pid) right (script_reading w text) pid).0 is)))
+          by_what p right asked size (RefusesLine number) is =
+              (size, (p, right, asked, at_its_line number ((refuses_lines w s (family s p.pid) right (script_reading w text) number).0 is)))
+          by_what p right asked size RefusesEnd is =
+              (size, (p, right, asked, at_its_end ((refuses_ends w s (family s p.pid) right (script_reading w text)).0 is)))
+          by_what p right asked size (PastLimit l) is =
+              inr (inr (size, (p, right, asked, (l, (stops_at_limits w s (family s p.pid) right (script_reading w text) l).0 is))))
 
     run_refused_by : (p : Process) (right : Right) → AsksVerdict q w s p right → length text ≤ limit_number limit.Run
         → RunRefused text w s (family s p.pid) right → (answer (ToConfirm q text) j w s).status ≡ status.Refused
@@ -357,7 +341,10 @@ module _ (q : Query) (w : World) (s : State) (j : Judged) where
     confirm_by status.BadQuery (q', same, is) = bad_by q q' (ToConfirm q text) j w s same is
     confirm_by status.Limit (inl (q', same, is)) = large_by q q' (ToConfirm q text) j w s same is
     confirm_by status.Limit (inr (inl (p, right, asked, over))) =
-        ap (λ (r : Report). r.status) (of_asked q w s (ToConfirm q text) j p right asked ∙ confirm_over (family s p.pid) right over)
+        ap (λ (r : Report). r.status)
+        (of_asked q w s (ToConfirm q text) j p right asked
+        ∙ over_limit limit.Run text
+        (confirmed_report (confirm_of w s (family s p.pid) right (script_reading w text))) over)
     confirm_by status.Limit (inr (inr (size, (p, right, asked, (l, past))))) =
         ap (λ (r : Report). r.status)
         (confirms_so p right asked size (PastLimit l) ((stops_at_limits w s (family s p.pid) right (script_reading w text) l).1 past))
@@ -370,9 +357,6 @@ nothing_by j w s status.BadQuery (q, same, is) = absurd (cc)
 nothing_by j w s status.Limit (inl (q, same, is)) = absurd (cc)
 nothing_by j w s status.Limit (inr (inl never)) = absurd never
 nothing_by j w s status.Limit (inr (inr never)) = absurd never
-nothing_by j w s status.No never = absurd never
-nothing_by j w s status.Undecided never = absurd never
-nothing_by j w s status.Refused never = absurd never
 nothing_by j w s _ never = absurd never
 
 -- The answer has its cause.

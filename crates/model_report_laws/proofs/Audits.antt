@@ -21,7 +21,7 @@ use Rattle.model_report.proofs.Answers.{of_asked}
 use Rattle.model_report.specs.Answer.{answer, verdict_report}
 use Rattle.model_report.specs.Causes.{AsksVerdict, AfterLog, Cause, IsAccepted, IsDone, IsAnsweredNo, IsLeftOpen, IsRefused, IsNo, IsUndecided}
 use Rattle.model_report.specs.Causes.{IsConfirmed, RunRefused, OfFamily, at_its_line, at_its_end}
-use Rattle.model_report.specs.Command.{Command, Replay, Audit, Check, Confirm, Drill, NoForm, command_of, query_of, task_of}
+use Rattle.model_report.specs.Command.{Command, Replay, command_of, query_of, task_of}
 use Rattle.model_report.specs.Given.{StateGives, Gives}
 use Rattle.model_report.specs.Judged.{Judged}
 use Rattle.model_report.specs.Query.{Query}
@@ -153,10 +153,9 @@ module _ (words : List (List ℕ)) (bytes : List ℕ → List ℕ) where
       before = before_answer is;
       last = ap (λ (r : Report). r.lines) same;
     }
-    shows_least is q p right asked asks (TellsNo found) given same said =
-        let wrong : status.No ≡ status.Accepted = told_status is (TellsNo found) status.Accepted same said in absurd (cc)
-    shows_least is q p right asked asks (TellsUndecided blame rows) given same said =
-        let wrong : status.Undecided ≡ status.Accepted = told_status is (TellsUndecided blame rows) status.Accepted same said in absurd (cc)
+    shows_least is q p right asked asks x given same said =
+        let wrong : (verdict_report is.world is.state.spaces x).status ≡ status.Accepted =
+        told_status is x status.Accepted same said in absurd (cc)
 
     shows_run : (is : IsAccepted words bytes) (q : Query) (p : Process) (right : Right) → the_task ≡ ToJudge q
         → AsksVerdict q is.world is.state p right → (x : Told) → IsVerdictOn is.world is.state (family is.state p.pid) right x
@@ -172,10 +171,9 @@ module _ (words : List (List ℕ)) (bytes : List ℕ → List ℕ) where
           before = before_answer is;
           last = ap (λ (r : Report). r.lines) same;
         }
-    shows_run is q p right asked asks (TellsYes rows) given same said =
-        let wrong : status.Accepted ≡ status.No = told_status is (TellsYes rows) status.No same said in absurd (cc)
-    shows_run is q p right asked asks (TellsUndecided blame rows) given same said =
-        let wrong : status.Undecided ≡ status.No = told_status is (TellsUndecided blame rows) status.No same said in absurd (cc)
+    shows_run is q p right asked asks x given same said =
+        let wrong : (verdict_report is.world is.state.spaces x).status ≡ status.No =
+        told_status is x status.No same said in absurd (cc)
 
     shows_blame : (is : IsAccepted words bytes) (q : Query) (p : Process) (right : Right) → the_task ≡ ToJudge q → IsUndecided q is.world is.state
         → (asks : AsksVerdict q is.world is.state p right) → (x : Told) → IsVerdictOn is.world is.state (family is.state p.pid) right x
@@ -200,10 +198,9 @@ module _ (words : List (List ℕ)) (bytes : List ℕ → List ℕ) where
           before = before_answer is;
           last = ap (λ (r : Report). r.lines) same;
         }
-    shows_blame is q p right asked open_so asks (TellsYes rows) given same said =
-        let wrong : status.Accepted ≡ status.Undecided = told_status is (TellsYes rows) status.Undecided same said in absurd (cc)
-    shows_blame is q p right asked open_so asks (TellsNo found) given same said =
-        let wrong : status.No ≡ status.Undecided = told_status is (TellsNo found) status.Undecided same said in absurd (cc)
+    shows_blame is q p right asked open_so asks x given same said =
+        let wrong : (verdict_report is.world is.state.spaces x).status ≡ status.Undecided =
+        told_status is x status.Undecided same said in absurd (cc)
 
     least_of : (q : Query) → the_task ≡ ToJudge q → (report words bytes j).status ≡ status.Accepted → ShowsLeast words bytes (report words bytes j).lines
     least_of q asked said = by (done_judge q asked (caused words bytes j status.Accepted gives said)) where

@@ -1,6 +1,6 @@
 -- What is judged: there is a verdict with its bounds as rows, and something that rows are found to be; and of each there is
 -- one alone.
-use Rattle.std.proofs.Common.{◌≡◌, ◌⊎◌, ℕ, ◌<◌, Bool, List, sym, ◌∙◌, inl, inr, ap, ap₂, subst}
+use Rattle.std.proofs.Common.{◌≡◌, ◌⊎◌, ℕ, Bool, List, sym, ◌∙◌, inl, inr, ap, ap₂, subst}
 use Rattle.std.specs.Prelude.{◌↔◌}
 use Rattle.cm_filter.specs.Filters.{permits}
 use Rattle.cm_filter.specs.declared.kind.CallKind.{CallKind}

@@ -13,7 +13,7 @@ use Rattle.cm_base.specs.declared.status.Status.TheVariants as status
 use Rattle.model_box.specs.Bounds.{BoxRow}
 use Rattle.model_cert.specs.Document.{certificate}
 use Rattle.model_cert.specs.Fault.{CertFault}
-use Rattle.model_confirm.specs.Confirm.{Confirmed, Confirms, RefusesLine, RefusesEnd, PastLimit, confirm_of}
+use Rattle.model_confirm.specs.Confirm.{Confirmed, Confirms, confirm_of}
 use Rattle.model_cred.specs.Call.{Event}
 use Rattle.model_cred.specs.Process.{Process, State, Ascends, process_at}
 use Rattle.model_cred.specs.Right.{Right}

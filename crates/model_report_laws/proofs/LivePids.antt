@@ -3,7 +3,7 @@ use Rattle.std.proofs.Common.{◌≡◌, ℕ, List, [], ◌∷◌, Some, All, sy
 use Rattle.std.proofs.lemmas.Bool.{cond_both}
 use Rattle.cm_base.specs.declared.errno.Errno.TheVariants.{EAGAIN}
 use Rattle.cm_base.specs.declared.res.Res.{Res}
-use Rattle.cm_base.specs.declared.res.Res.TheVariants.{Done, Id, Child, Err}
+use Rattle.cm_base.specs.declared.res.Res.TheVariants.{Child, Err}
 use Rattle.model_cred.proofs.Orders.{all_put, all_insert, all_without, all_found}
 use Rattle.model_cred.specs.Call.{Call, Fork, CloneUser, Exit, Event}
 use Rattle.model_cred.specs.Process.{Process, State, is_pid, insert_process, process_at}

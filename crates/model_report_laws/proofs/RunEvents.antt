@@ -12,7 +12,8 @@ use Rattle.cm_base.specs.declared.limited.Limited.TheVariants as limit
 use Rattle.cm_base.specs.declared.res.FileRef.{FileRef}
 use Rattle.model_cred.proofs.Lookups.{pid_of_found}
 use Rattle.model_cred.proofs.Orders.{all_found}
-use Rattle.model_cred.specs.Call.{Call, CapSet, SetNs, Exec, Event, kind_of}
+use Rattle.model_cred.specs.Call.{Call, SetUid, SetReUid, SetResUid, SetGid, SetReGid, SetResGid, SetGroups}
+use Rattle.model_cred.specs.Call.{CapSet, SetNs, Exec, Event, kind_of}
 use Rattle.model_cred.specs.Credential.{Credential, Keeps}
 use Rattle.model_cred.specs.Files.{IsDeclared, KeepsFiles}
 use Rattle.model_cred.specs.IdMap.{Extent, extents_of, up}
@@ -96,37 +97,34 @@ module _ (w : World) where
   three_fit : (a b c : Argument) → IsInRange w a → IsInRange w b → IsInRange w c → All (IsInRange w) (a ∷ b ∷ c ∷ [])
   three_fit a b c is are too = All-cons (IsInRange w) a (b ∷ c ∷ []) is (two_fit b c are too)
 
+  spelled : (call : Call) → All (IsInRange w) (arguments_of call) → length (arguments_of call) ≤ 3
+      → IsTrue (groups_fit call)
+      → ((spaces : Spaces) (at : ℕ) (c : Credential) → MayAnswer (kind_of call) (reply w.files spaces at c call).res)
+      → IsSpelled w call
+  spelled call fit few groups answers = record { fit = fit; few = few; groups = groups; answers = answers }
+
   capset_spelled : (e p i : ℕ) → IsCapSet e → IsCapSet p → IsCapSet i → IsSpelled w (CapSet e p i)
-  capset_spelled e p i first second third = record {
-    fit = three_fit (Set e) (Set p) (Set i) first second third;
-    few = omega arith;
-    groups = refl;
-    answers = λ spaces at c. (plain_capset c e p i).outcome;
-  }
+  capset_spelled e p i first second third =
+      spelled (CapSet e p i) (three_fit (Set e) (Set p) (Set i) first second third) (omega arith) refl
+      (λ spaces at c. (plain_capset c e p i).outcome)
+
+  -- the calls that set one id: the other ids that they can name stay
+  one_of_three : (id : ℕ) → Fits id → All (IsInRange w) (Id minus_one ∷ Id id ∷ Id minus_one ∷ [])
+  one_of_three id fits = three_fit (Id minus_one) (Id id) (Id minus_one) minus_one_fits fits minus_one_fits
+
+  one_of_two : (id : ℕ) → Fits id → All (IsInRange w) (Id minus_one ∷ Id id ∷ [])
+  one_of_two id fits = two_fit (Id minus_one) (Id id) minus_one_fits fits
 
   uid_spelled : (id : ℕ) → Fits id → Each (IsSpelled w) (uid_calls id)
   uid_spelled id fits = (
-    record {
-      fit = three_fit (Id minus_one) (Id id) (Id minus_one) minus_one_fits fits minus_one_fits;
-      few = omega arith;
-      groups = refl;
-      answers = λ spaces at c. (plain_uids (space_of spaces at) c _).outcome;
-    },
+    spelled (SetResUid minus_one id minus_one) (one_of_three id fits) (omega arith) refl
+        (λ spaces at c. (plain_uids (space_of spaces at) c _).outcome),
     (
-      record {
-        fit = two_fit (Id minus_one) (Id id) minus_one_fits fits;
-        few = omega arith;
-        groups = refl;
-        answers = λ spaces at c. (plain_uids (space_of spaces at) c _).outcome;
-      },
+      spelled (SetReUid minus_one id) (one_of_two id fits) (omega arith) refl
+          (λ spaces at c. (plain_uids (space_of spaces at) c _).outcome),
       (
-        record {
-          fit = one_fits (Id id) fits;
-          few = omega arith;
-          groups = refl;
-          answers = λ spaces at c.
-              (plain_uids (space_of spaces at) c _).outcome;
-        },
+        spelled (SetUid id) (one_fits (Id id) fits) (omega arith) refl
+            (λ spaces at c. (plain_uids (space_of spaces at) c _).outcome),
         tt,
       ),
     ),
@@ -134,58 +132,30 @@ module _ (w : World) where
 
   gid_spelled : (id : ℕ) → Fits id → Each (IsSpelled w) (gid_calls id)
   gid_spelled id fits = (
-    record {
-      fit = three_fit (Id minus_one) (Id id) (Id minus_one) minus_one_fits fits minus_one_fits;
-      few = omega arith;
-      groups = refl;
-      answers = λ spaces at c. (plain_gids c _).outcome;
-    },
+    spelled (SetResGid minus_one id minus_one) (one_of_three id fits) (omega arith) refl
+        (λ spaces at c. (plain_gids c _).outcome),
     (
-      record {
-        fit = two_fit (Id minus_one) (Id id) minus_one_fits fits;
-        few = omega arith;
-        groups = refl;
-        answers = λ spaces at c. (plain_gids c _).outcome;
-      },
-      (
-        record {
-          fit = one_fits (Id id) fits;
-          few = omega arith;
-          groups = refl;
-          answers = λ spaces at c.
-              (plain_gids c _).outcome;
-        },
-        tt,
-      ),
+      spelled (SetReGid minus_one id) (one_of_two id fits) (omega arith) refl (λ spaces at c. (plain_gids c _).outcome),
+      (spelled (SetGid id) (one_fits (Id id) fits) (omega arith) refl (λ spaces at c. (plain_gids c _).outcome), tt),
     ),
   )
 
   group_spelled : (id : ℕ) → Fits id → Each (IsSpelled w) (group_calls id)
   group_spelled id fits = (
-    record {
-      fit = one_fits (Id id) fits;
-      few = omega arith;
-      groups = refl;
-      answers = λ spaces at c. (plain_groups (space_of spaces at) c (id ∷ [])).outcome;
-    },
+    spelled (SetGroups (id ∷ [])) (one_fits (Id id) fits) (omega arith) refl
+        (λ spaces at c. (plain_groups (space_of spaces at) c (id ∷ [])).outcome),
     tt,
   )
 
   exec_spelled : (file : FileRef) → IsDeclared w.files file → IsSpelled w (Exec file)
-  exec_spelled file there = record {
-    fit = one_fits (File file) there;
-    few = omega arith;
-    groups = refl;
-    answers = λ spaces at c. (plain_exec w.files spaces at c file).outcome;
-  }
+  exec_spelled file there =
+      spelled (Exec file) (one_fits (File file) there) (omega arith) refl
+      (λ spaces at c. (plain_exec w.files spaces at c file).outcome)
 
   join_spelled : (n : ℕ) → Fits n → IsSpelled w (SetNs n)
-  join_spelled n fits = record {
-    fit = one_fits (ASpace n) fits;
-    few = omega arith;
-    groups = refl;
-    answers = λ spaces at c. (plain_join spaces at c n).outcome;
-  }
+  join_spelled n fits =
+      spelled (SetNs n) (one_fits (ASpace n) fits) (omega arith) refl
+      (λ spaces at c. (plain_join spaces at c n).outcome)
 
 -- ---- inside ids
 -- the inside ids of a map that a space has are numbers of 32 bits

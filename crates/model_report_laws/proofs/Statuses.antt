@@ -20,7 +20,7 @@ use Rattle.model_report.specs.Command.{Command, Replay, Audit, Check, Confirm, D
 use Rattle.model_report.specs.Given.{StateGives, LogGives, FilesGive, CommandGives, Gives}
 use Rattle.model_report.specs.Judged.{Judged}
 use Rattle.model_report.specs.Replay.{Report, stopped, limit_hit, after}
-use Rattle.model_report.specs.Report.{report, command_report, drill_report, files_report, log_report, replay_of, shown, shows}
+use Rattle.model_report.specs.Report.{report, command_report, files_report, log_report, replay_of, shown, shows}
 use Rattle.model_report.specs.Report as report
 use Rattle.model_report.specs.Task.{Task, NoTask, ToJudge, ToCheck, ToConfirm}
 use Rattle.model_report_laws.proofs.Answering.{TaskCause, Fits, run_fit, answer_cause, answer_by}
