@@ -5,15 +5,15 @@
 #![tactic(auto)]
 
 mod escapes;
-mod ids;
 mod lines;
+mod sets;
 mod stop;
 mod told;
 mod values;
 
 pub use escapes::bytes_of;
-pub use ids::{ids, interval, ranges};
 pub use lines::{Cases, tell_cases};
+pub use sets::{ids, interval, ranges};
 pub use stop::Stop;
 pub use told::Told;
 pub use values::{named, number, pid, pids, right, word};
