@@ -1,15 +1,16 @@
-use Rattle.std.proofs.Common.{◌≡◌, ◌∙◌, ◌+◌, List, ◌∷◌, ap, arith, drop, length, refl, subst}
+use Rattle.std.proofs.Common.{◌≡◌, ◌∙◌, ◌+◌, List, ◌∷◌, ◌++◌, ap, arith, drop, length, refl, subst}
 use Rattle.std.proofs.lemmas.List.{drop_all}
 use Rattle.std.proofs.lemmas.Result.{err_from_is_err_and}
 use Rattle.cm_declared.specs.World.{world_of}
 use Rattle.cm_log.proofs.ToldEvents.{told_from, told_on}
 use Rattle.cm_log.specs.Left.{told_then}
 use Rattle.cm_replay.proofs.Ready.{TookAllBut, took_all, took_none, took_one}
-use Rattle.cm_replay.proofs.Standing.{cut_then, ends_then, goes_by, goes_then, stays, told_ends}
+use Rattle.cm_replay.proofs.Standing.{cut_then, ends_then, goes_by, goes_then, none_sent, stays, told_ends}
 use Rattle.cm_replay.proofs.replay.follow.Goals as goal
 use Rattle.cm_replay.specs.Following.{GoesOn, Outgoing}
-use Rattle.cm_replay.specs.Replay.{EndsBy}
+use Rattle.cm_replay.specs.Replay.{EndsBy, report_from}
 use Rattle.cm_replay.specs.declared.replay.Turn.{Turn}
+use Rattle.model_report.specs.Replay.{text_of}
 use Rattle.model_text.specs.Reading.{Placed}
 
 pub loop-event-init : goal.loop-event-init
@@ -110,3 +111,18 @@ returns-clause-goes g c is =
     goes_by c.loop-event.replay c.args.stage _ _
     (subst (λ (t : Turn). EndsBy c.loop-event.replay c.args.stage t c.loop-event.text.items c.put_ending.new.text.items)
     goes c.in_ok-turn.ensures)
+
+-- there was no memory for the line that ends the report
+pub returns-in_err-turn-clause-follows : goal.returns-in_err-turn-clause-follows
+returns-in_err-turn-clause-follows g c later =
+    let w = world_of c.args.w.now in
+    let told = c.args.told.now in
+    let between = told_then (drop c.loop-event.event-index told) c.args.stage later in
+    let p = err_from_is_err_and c.from_residual-in_err-turn.result c.from_residual-in_err-turn.ensures.1 in
+    rw p.1 (cut_then w c.args.replay.now c.loop-event.replay
+    (record { written = g.K.Sink.written c.args.out.now; waits = c.args.text.now.items })
+    (record { written = g.K.Sink.written c.loop-event.out; waits = c.loop-event.text.items })
+    (record { written = g.K.Sink.written c.loop-event.out; waits = c.put_ending.new.text.items })
+    (told_then told c.args.stage later) between (c.loop-event.invariant.goes later)
+    (none_sent (g.K.Sink.written c.loop-event.out)
+    (c.loop-event.text.items ++ text_of (report_from w c.loop-event.replay between).lines)))
