@@ -30,7 +30,7 @@ use Rattle.model_rules.specs.Reply.{reply}
 use Rattle.model_rules.specs.Securebits.{has_flag, keep_caps, no_setuid_fixup, no_cap_ambient_raise, lock_of, noroot, locks, locked_flags}
 use Rattle.model_rules.specs.SetGroups.{setgroups, with_groups, all_down, most_groups}
 use Rattle.model_rules.specs.SetId.{with_uids, with_gids, has_setuid, has_setgid, setuid, setreuid, setresuid, setfsuid}
-use Rattle.model_rules.specs.SetId.{setgid, setregid, setresgid, setfsgid, setresid, setreid, setid, setfsid}
+use Rattle.model_rules.specs.SetId.{setfsgid, setresid, setreid, setid, setfsid}
 use Rattle.model_rules.specs.Zero.{is_zero, has_zero}
 use Rattle.model_box.specs.Row.{Part, Uids, EffectiveUids, FsUids, Gids, EffectiveGids, FsGids, Groups, MappedUids}
 use Rattle.model_box.specs.Row.{MappedGids, PermittedCaps, InheritableCaps, BoundingCaps, NewPrivs, RootCounts}
@@ -39,7 +39,6 @@ use Rattle.model_box.specs.Row.{space_under, HasMembers}
 use Rattle.model_box.specs.Rule as rule
 use Rattle.model_box.specs.Closed.{Closed}
 use Rattle.model_box.specs.Covers.{MapsIn}
-use Rattle.model_box.specs.Gains.{SettableUid, SettableGid}
 use Rattle.model_box.proofs.Ids.{IdsIn, OkIn, SetsIn, down_outside, sets_in, setfsid_in}
 use Rattle.model_box.proofs.Rows.{Fine, noroot_is, lock_is, locked_stays}
 use Rattle.model_box.proofs.Writing.{choose}

@@ -11,7 +11,7 @@ use Rattle.cm_base.proofs.CapSets.{holds_none, holds_union, holds_meet, member_o
 use Rattle.cm_filter.specs.declared.kind.CallKind.{CallKind}
 use Rattle.cm_filter.specs.declared.kind.CallKind.TheVariants as kind
 use Rattle.model_cred.specs.Credential.{Credential}
-use Rattle.model_cred.specs.Files.{FileTable, FileCaps, Mount}
+use Rattle.model_cred.specs.Files.{FileTable, Mount}
 use Rattle.model_cred.specs.Files as declared_files
 use Rattle.model_cred.specs.IdMap.{Extent, down, extents_of, is_outside, is_the}
 use Rattle.model_cred.specs.Space.{Space, Spaces, stands, space_of, chain, is_at_or_above}

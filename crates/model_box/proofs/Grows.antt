@@ -4,7 +4,7 @@ use Rattle.std.specs.Prelude.{◌&&◌, if◌then◌else◌}
 use Rattle.std.proofs.lemmas.Bool.{ltb-true, lt-ltb}
 use Rattle.cm_base.specs.declared.errno.Errno.TheVariants.{EPERM, EAGAIN}
 use Rattle.cm_base.specs.declared.res.Res.{Res}
-use Rattle.cm_base.specs.declared.res.Res.TheVariants.{Done, Id, Child, Err}
+use Rattle.cm_base.specs.declared.res.Res.TheVariants.{Done, Child, Err}
 use Rattle.model_cred.proofs.Spaces.{length_put}
 use Rattle.model_cred.specs.Call.{Call, Fork, CloneUser, Unshare, WriteUidMap, WriteGidMap, WriteSetgroups, Exit, Event}
 use Rattle.model_cred.specs.Credential.{Credential}

@@ -2,8 +2,7 @@
 use Rattle.std.proofs.Common.{◌≡◌, ℕ, ◌*◌, ◌/◌, ◌%◌, ◌<◌, ◌==◌, Bool, true, false, refl, arith, lit<}
 use Rattle.std.specs.Prelude.{if◌then◌else◌}
 use Rattle.model_box.specs.Row.{Row, Standing, Fresh, row_number, row_at, space_under}
-use Rattle.model_box.specs.Rule.{Rule, SetUid, SetFsUid, SetGid, SetFsGid, SetGroups, CapSet, SecureBits, ExecUid}
-use Rattle.model_box.specs.Rule.{ExecGid, ExecCaps, ExecRoot, Create, Join, Maps, rule_number}
+use Rattle.model_box.specs.Rule.{Rule, SetUid, rule_number}
 
 -- the rule of a number is one of fourteen
 pub rule_low : (rule : Rule) → rule_number rule < 14

@@ -4,7 +4,7 @@ use Rattle.std.specs.Prelude.{◌⊎◌, ◌==◌, IsTrue, filter, map}
 use Rattle.std.proofs.lemmas.Bool.{false≢true, or_cases, or_left, or_right, eqb-true, eqb-false, ne_eqb, cases_Bool, not-true}
 use Rattle.std.specs.List.{list_any}
 use Rattle.cm_base.specs.declared.res.Res.{Res}
-use Rattle.cm_base.specs.declared.res.Res.TheVariants.{Done, Id, Child, Err}
+use Rattle.cm_base.specs.declared.res.Res.TheVariants.{Done, Child}
 use Rattle.model_cred.specs.Call.{Call, Exit}
 use Rattle.model_cred.specs.IdMap.{is_the}
 use Rattle.model_cred.specs.Process.{Process, process_at, put_process, is_alive, insert_process, after_exit, without_process}

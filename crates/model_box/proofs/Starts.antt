@@ -9,8 +9,8 @@ use Rattle.model_cred.specs.Process.{Process, State, process_at}
 use Rattle.model_cred.specs.Space.{Spaces, space_of, stands}
 use Rattle.model_run.specs.Later.{is_member}
 use Rattle.model_box.specs.Row.{Part, MappedUids, MappedGids, Row, Standing, Fresh, row_number, row_at, IsWithin, CredHas}
-use Rattle.model_box.specs.Rule.{Rule, SetUid, SetFsUid, SetGid, SetFsGid, SetGroups, CapSet, SecureBits, ExecUid}
-use Rattle.model_box.specs.Rule.{ExecGid, ExecCaps, ExecRoot, Create, Join, Maps}
+use Rattle.model_box.specs.Rule.{Rule, SetUid, SetFsUid, SetGid, SetFsGid, SetGroups, CapSet, SecureBits, Create, Join}
+use Rattle.model_box.specs.Rule.{Maps}
 use Rattle.model_box.specs.Closed.{Adds, ByMaps}
 use Rattle.model_box.specs.Covers.{RowOf, Covers, StateFits, MapsIn, child, deeper}
 use Rattle.model_box.specs.Covers as rows

@@ -5,8 +5,7 @@ use Rattle.model_box.specs.Laws.{common, ClosedInCommon, StandingApart, Excluded
 use Rattle.model_box.specs.Laws.{FilesOfWorldsFit, RowsByNumber, RulesByNumber}
 use Rattle.std.proofs.lemmas.Bool.{and_parts, and_from}
 use Rattle.model_box.specs.Row.{row_number}
-use Rattle.model_box.specs.Rule.{SetUid, SetFsUid, SetGid, SetFsGid, SetGroups, CapSet, SecureBits, ExecUid, ExecGid}
-use Rattle.model_box.specs.Rule.{ExecCaps, ExecRoot, Create, Join, Maps}
+use Rattle.model_box.specs.Rule.{SetUid}
 use Rattle.model_box.proofs.Excludes as ends
 use Rattle.model_box.proofs.Monotone as more
 use Rattle.model_box.proofs.Monotone.{adds_more}

@@ -12,9 +12,9 @@ use Rattle.model_cred.specs.Process.{Process, process_at}
 use Rattle.model_cred.specs.Right.{Right, Cap, Uid}
 use Rattle.model_cred.specs.Space.{initial_space, first_spaces, space_of, stands}
 use Rattle.model_run.specs.Holds.{process_holds}
-use Rattle.model_box.specs.Row.{Part, Uids, EffectiveUids, FsUids, Gids, EffectiveGids, FsGids, Groups, MappedUids}
-use Rattle.model_box.specs.Row.{MappedGids, PermittedCaps, InheritableCaps, BoundingCaps, NewPrivs, RootCounts}
-use Rattle.model_box.specs.Row.{LockClear, Row, Standing, Fresh, space_under, CredHas}
+use Rattle.model_box.specs.Row.{Part, Uids, Gids, Groups, MappedUids, MappedGids, PermittedCaps, InheritableCaps}
+use Rattle.model_box.specs.Row.{BoundingCaps, NewPrivs, RootCounts, LockClear, Row, Standing, Fresh, space_under}
+use Rattle.model_box.specs.Row.{CredHas}
 use Rattle.model_box.specs.Rule.{SetUid, SetFsUid, SetGid, SetFsGid, SetGroups, CapSet, SecureBits, ExecUid, ExecGid, ExecCaps, ExecRoot, Create, Join, Maps}
 use Rattle.model_box.specs.Gains.{SettableUid, SettableGid, SpreadsUid, SpreadsGid, GainsFsUid, GainsFsGid, GainsGroups, GainsInheritable, GainsRoot}
 use Rattle.model_box.specs.Spread.{Brings, IsNext}

@@ -1,24 +1,24 @@
 -- What a run comes to, and why: each answer and its cause.
-use Rattle.std.proofs.Common.{◌≡◌, ◌≢◌, ℕ, Bool, true, false, List, [], ◌∷◌, ◌++◌, ◌&&◌, Option, None, Some, append-nil}
-use Rattle.std.proofs.Common.{if◌then◌else◌, refl, sym, ap, ◌∙◌, inl, inr, subst}
-use Rattle.std.proofs.lemmas.Bool.{cases_Bool, cond-true, cond-false}
+use Rattle.std.proofs.Common.{◌≡◌, ℕ, Bool, true, false, List, [], ◌∷◌, ◌&&◌, Option, None, Some, append-nil}
+use Rattle.std.proofs.Common.{if◌then◌else◌, refl, sym, ap, ◌∙◌, subst}
 use Rattle.cm_base.specs.declared.limited.Limited.{Limited}
 use Rattle.cm_filter.specs.Filters.{permits}
 use Rattle.model_confirm.proofs.LeastHolders.{Least, least_is, least_only}
-use Rattle.model_confirm.proofs.Passing.{one_state, goes_or_not, refuses, past, run_passes}
-use Rattle.model_confirm.specs.Causes.{LaterWithin, GoesThrough, GoesUpTo, EndsWithHolder, EndsWithout, IsRefused, RefusesEvent, StepsPast}
-use Rattle.model_confirm.specs.Causes.{no_member, excluded, no_step, IsLineRefused, by_fault, by_event, IsPastLimit, by_line, by_step}
+use Rattle.model_confirm.proofs.Passing.{one_state, refuses, past, run_passes}
+use Rattle.model_confirm.specs.Causes.{LaterWithin, GoesThrough, GoesUpTo, EndsWithHolder, EndsWithout, IsRefused}
+use Rattle.model_confirm.specs.Causes.{no_member, excluded, no_step, IsLineRefused, by_fault, by_event, IsPastLimit}
+use Rattle.model_confirm.specs.Causes.{by_line, by_step}
 use Rattle.model_confirm.specs.Confirm.{Confirmed, Confirms, RefusesLine, RefusesEnd, PastLimit, by_holder, by_ending, least_holder}
 use Rattle.model_confirm.specs.Confirm.{by_outcome, unless_past, events_confirm, is_for_members, confirm_of}
 use Rattle.model_confirm.specs.Laws.{ConfirmsLaterRuns, RefusesLines, RefusesEnds, StopsAtLimits, OthersEndWithout}
-use Rattle.model_cred.specs.Call.{Event, kind_of}
+use Rattle.model_cred.specs.Call.{kind_of}
 use Rattle.model_cred.specs.Process.{State}
 use Rattle.model_cred.specs.Right.{Right}
 use Rattle.model_cred.specs.World.{World}
 use Rattle.model_run.specs.Later.{is_member, members_after}
 use Rattle.model_run.specs.Step.{Outcome, Goes, NoProcess, NoSpace, PidInUse, Wrong, Step, outcome}
 use Rattle.model_run.specs.Within.{exceeded, IsWithin}
-use Rattle.model_text.specs.Reading.{Placed, Stop, Fault, Limit, End, AtEnd, Stops, Reading, reads_on, ends_at}
+use Rattle.model_text.specs.Reading.{Placed, Fault, Limit, End, AtEnd, Stops, Reading, reads_on, ends_at}
 
 -- the cause of each answer
 abbrev pub CauseOf : World → State → List ℕ → Right → Reading → Confirmed → Type 0

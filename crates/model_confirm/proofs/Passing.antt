@@ -1,17 +1,17 @@
 -- How a run goes: over events that are a later run within the limits it goes on from where they lead.
-use Rattle.std.proofs.Common.{◌≡◌, ◌⊎◌, ℕ, Bool, true, false, List, [], ◌∷◌, ◌++◌, ◌&&◌, Option, None, Some}
-use Rattle.std.proofs.Common.{if◌then◌else◌, refl, sym, ap, ◌∙◌, inl, inr, subst}
+use Rattle.std.proofs.Common.{◌≡◌, ◌⊎◌, ℕ, Bool, true, false, List, [], ◌∷◌, ◌++◌, ◌&&◌, Option, Some, if◌then◌else◌}
+use Rattle.std.proofs.Common.{refl, sym, ap, ◌∙◌, inl, inr, subst}
 use Rattle.std.proofs.lemmas.Bool.{cond-true, cond-false}
 use Rattle.cm_base.specs.declared.limited.Limited.{Limited}
 use Rattle.cm_filter.specs.Filters.{permits}
-use Rattle.model_confirm.specs.Causes.{LaterWithin, IsRefused, no_member, excluded, no_step}
+use Rattle.model_confirm.specs.Causes.{IsRefused, no_member, excluded, no_step}
 use Rattle.model_confirm.specs.Confirm.{Confirmed, RefusesLine, PastLimit, by_outcome, unless_past, events_confirm, is_for_members}
-use Rattle.model_cred.specs.Call.{Event, kind_of}
+use Rattle.model_cred.specs.Call.{kind_of}
 use Rattle.model_cred.specs.Process.{State}
 use Rattle.model_cred.specs.Right.{Right}
 use Rattle.model_cred.specs.World.{World}
 use Rattle.model_run.specs.Later.{is_member, members_after, LaterRun}
-use Rattle.model_run.specs.Step.{Outcome, Goes, NoProcess, NoSpace, PidInUse, Wrong, Step, outcome}
+use Rattle.model_run.specs.Step.{Outcome, Goes, Step, outcome}
 use Rattle.model_run.specs.Within.{exceeded, IsWithin, RunWithin}
 use Rattle.model_text.specs.Reading.{Placed, End, events_of}
 

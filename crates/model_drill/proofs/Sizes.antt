@@ -6,7 +6,7 @@ use Rattle.std.proofs.lemmas.List.{length-map}
 use Rattle.cm_base.specs.declared.errno.Errno.{Errno}
 use Rattle.cm_base.specs.declared.errno.Errno.TheVariants.{EAGAIN, EPERM, EINVAL}
 use Rattle.cm_base.specs.declared.res.Res.{Res}
-use Rattle.cm_base.specs.declared.res.Res.TheVariants.{Done, Id, Child, Err}
+use Rattle.cm_base.specs.declared.res.Res.TheVariants.{Done, Child, Err}
 use Rattle.model_cred.proofs.Orders.{AscendsFrom, ascends_forth}
 use Rattle.model_cred.proofs.Spaces.{length_put}
 use Rattle.model_cred.specs.Call.{Call, Fork, CloneUser, Unshare, WriteUidMap, WriteGidMap, WriteSetgroups, Exit}

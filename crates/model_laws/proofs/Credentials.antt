@@ -1,13 +1,14 @@
 -- Each call keeps what a credential keeps.
 use Rattle.std.proofs.Common.{◌≡◌, ℕ, ◌^◌, ◌<◌, ◌≤◌, ◌==◌, ◌&&◌, ◌||◌, not, Bool, true, false, List, Option, Some, None}
 use Rattle.std.proofs.Common.{if◌then◌else◌, refl, sym, ap, ◌∙◌, inl, inr, subst, arith, lit<}
-use Rattle.std.specs.Prelude.{Result, Ok, IsTrue, nat_lt, All, IfSome, option_and_then, option_map, slice_get, unwrap_or, bit_and, bit_xor}
+use Rattle.std.specs.Prelude.{Result, Ok, IsTrue, nat_lt, All, IfSome, option_and_then, option_map, slice_get}
+use Rattle.std.specs.Prelude.{unwrap_or, bit_and}
 use Rattle.std.specs.declared.result.Result.TheVariants.{Err}
-use Rattle.std.proofs.lemmas.Bool.{eqb-true, ltb-true, and_parts, or_cases}
+use Rattle.std.proofs.lemmas.Bool.{eqb-true, and_parts, or_cases}
 use Rattle.std.proofs.lemmas.List.Elements.{All-get_or}
 use Rattle.std.proofs.lemmas.Nat.{and_le_l, and_le_r, or_lt, xor_lt}
 use Rattle.std.proofs.lemmas.Option.{slice_get_within, get_or_from_slice_get}
-use Rattle.cm_base.specs.CapSet.{is_within, IsCapSet, union, meet, minus, full, none, with, without, holds}
+use Rattle.cm_base.specs.CapSet.{is_within, IsCapSet, union, meet, minus, none, with, without, holds}
 use Rattle.cm_base.specs.declared.errno.Errno.{Errno}
 use Rattle.cm_base.specs.declared.errno.Errno.TheVariants.{EPERM, EINVAL, ENOSPC, EACCES}
 use Rattle.cm_base.specs.declared.res.FileRef.{FileRef}
@@ -22,8 +23,8 @@ use Rattle.model_cred.specs.IdMap.{Extent, HasIds, extents_of, down, up}
 use Rattle.model_cred.specs.Space.{Space, Spaces, KeepsSpace}
 use Rattle.model_rules.specs.Answer.{Answer, done, refused}
 use Rattle.model_rules.specs.CapCalls.{capset, may_capset, has_setpcap, bset_drop, amb_raise, may_raise, amb_lower}
-use Rattle.model_rules.specs.CapCalls.{amb_clear, secure_bits, may_secure, set_keep_caps, set_no_new_privs}
-use Rattle.model_rules.specs.CapCalls.{with_keep_caps, without_keep_caps}
+use Rattle.model_rules.specs.CapCalls.{amb_clear, secure_bits, set_keep_caps, set_no_new_privs, with_keep_caps}
+use Rattle.model_rules.specs.CapCalls.{without_keep_caps}
 use Rattle.model_rules.specs.Caps.{fs_caps, last_cap}
 use Rattle.model_rules.specs.Exec.{FileSets, execve, cred_after, uids_after, gids_after, with_effective, with_sets}
 use Rattle.model_rules.specs.Exec.{permitted_after, ambient_after, sets_for, is_privileged, setuid_counts}
@@ -31,7 +32,7 @@ use Rattle.model_rules.specs.Exec.{setgid_counts, run_file, interpreter_of}
 use Rattle.model_rules.specs.FileView.{FileView, view, view_in, view_if, view_on, plain_view, id_on, mount_uids, mount_gids}
 use Rattle.model_rules.specs.Fixups.{fixed_up, fs_fixed_up, following_effective, following_fs, after_losing_root, without_root}
 use Rattle.model_rules.specs.Namespaces.{as_newcomer, unshare, join}
-use Rattle.model_rules.specs.Securebits.{has_flag, keep_caps, no_setuid_fixup, locks, locked_flags}
+use Rattle.model_rules.specs.Securebits.{has_flag, keep_caps, no_setuid_fixup}
 use Rattle.model_rules.specs.SetGroups.{all_down, with_groups, setgroups}
 use Rattle.model_rules.specs.SetId.{with_uids, with_gids, has_setuid, has_setgid, setfsid, setfsuid, setfsgid}
 use Rattle.model_rules.specs.Zero.{is_zero, has_zero}

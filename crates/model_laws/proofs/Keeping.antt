@@ -2,7 +2,7 @@
 use Rattle.std.proofs.Common.{◌≡◌, ℕ, ◌<◌, ◌≤◌, Bool, true, false, List, [], ◌∷◌, length, Some, if◌then◌else◌, refl, sym, inl, inr, subst, arith}
 use Rattle.std.specs.Prelude.{All}
 use Rattle.std.proofs.lemmas.List.Elements.{All-weaker}
-use Rattle.cm_base.specs.declared.errno.Errno.TheVariants.{EPERM, ENOSPC, EAGAIN}
+use Rattle.cm_base.specs.declared.errno.Errno.TheVariants.{EAGAIN}
 use Rattle.cm_base.specs.declared.res.Res.{Res}
 use Rattle.cm_base.specs.declared.res.Res.TheVariants.{Done, Id, Child, Err}
 use Rattle.model_cred.specs.Call.{Call, SetUid, SetReUid, SetResUid, SetFsUid, SetGid, SetReGid, SetResGid, SetFsGid}
@@ -17,9 +17,9 @@ use Rattle.model_cred.specs.Process.{Process, State, KeepsState, process_at, put
 use Rattle.model_cred.specs.Space.{Spaces, KeepsSpace, space_of}
 use Rattle.model_cred.specs.World.{World}
 use Rattle.model_rules.proofs.Spaces.{keeps_space_of, stands_there}
-use Rattle.model_rules.specs.Answer.{Answer, done}
+use Rattle.model_rules.specs.Answer.{Answer}
 use Rattle.model_rules.specs.Maps.{UidMap, GidMap, Written}
-use Rattle.model_rules.specs.Namespaces.{unshare, clone_user, join, as_newcomer}
+use Rattle.model_rules.specs.Namespaces.{unshare, clone_user, join}
 use Rattle.model_rules.specs.Reply.{Reply, reply, spaces_after, stays, place_after, spaces_with, writes}
 use Rattle.model_rules.specs.SetId.{has_setuid, has_setgid}
 use Rattle.model_run.specs.Later.{Later, members_after}
@@ -33,7 +33,7 @@ use Rattle.model_laws.proofs.Credentials.{good_execve, keeps_newcomer}
 use Rattle.model_laws.proofs.Ids.{setresid_ids, setreid_ids, setid_ids}
 use Rattle.model_cred.proofs.Orders.{ascends_forth, ascends_back, ascends_put, ascends_insert, ascends_without, all_put, all_insert, all_without, all_found}
 use Rattle.model_laws.proofs.StepParts.{Stepped, Answers, stepped}
-use Rattle.model_laws.proofs.Trees.{KeepsTree, keeps_created, GoodWrite, good_map, good_word}
+use Rattle.model_laws.proofs.Trees.{KeepsTree, GoodWrite, good_map, good_word}
 
 -- What a reply leaves: the caller is in a space that stands and keeps what a credential keeps, and the spaces are a tree
 -- of as many or more.

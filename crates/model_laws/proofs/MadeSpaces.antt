@@ -4,7 +4,7 @@ use Rattle.cm_base.specs.Limited.{limit_number}
 use Rattle.cm_base.specs.declared.limited.Limited.TheVariants as limit
 use Rattle.cm_base.specs.declared.errno.Errno.TheVariants.{EAGAIN, EINVAL, EPERM}
 use Rattle.cm_base.specs.declared.res.Res.{Res}
-use Rattle.cm_base.specs.declared.res.Res.TheVariants.{Done, Id, Child, Err}
+use Rattle.cm_base.specs.declared.res.Res.TheVariants.{Child, Err}
 use Rattle.model_cred.proofs.Spaces.{length_put}
 use Rattle.model_cred.specs.Call.{Call, Event, Fork, CloneUser, Unshare, WriteUidMap, WriteGidMap, WriteSetgroups}
 use Rattle.model_cred.specs.Credential.{Credential}
@@ -19,7 +19,7 @@ use Rattle.model_laws.proofs.StepParts.{Stepped, Answers, stepped}
 use Rattle.model_laws.specs.Steps.{StepsMakeSpaces}
 use Rattle.model_rules.specs.Maps.{MapFile, UidMap, GidMap, Written, write_done, write_refused, write_map, write_stored, with_map, write_setgroups}
 use Rattle.model_rules.specs.Maps.{parent_map, list_down, may_write}
-use Rattle.model_rules.specs.Namespaces.{clone_user, created_by, unshare}
+use Rattle.model_rules.specs.Namespaces.{clone_user, unshare}
 use Rattle.model_rules.specs.Reply.{spaces_with}
 use Rattle.model_run.specs.Outside.{comes_from_outside}
 use Rattle.model_run.specs.Ruling.{Ruling, ruling, birth_unless, clone_child, fork_child}

@@ -4,8 +4,8 @@ use Rattle.std.proofs.Common.{None, refl, sym, ap, ◌∙◌, inl, inr, subst, a
 use Rattle.std.specs.Prelude.{find, unwrap_or, nat_le}
 use Rattle.std.specs.List.{list_any, range_with_len, IsDistinct}
 use Rattle.std.specs.Cmp.{nat_eq_equiv}
-use Rattle.std.proofs.lemmas.Bool.{cases_Bool, cases_lt, eqb-true, leb-true, le-leb, leb-false, cond-true, cond-false}
-use Rattle.std.proofs.lemmas.Bool.{and_parts, and_cases, or_cases, not_from_true, not_from_false, false_from_ne_true}
+use Rattle.std.proofs.lemmas.Bool.{cases_Bool, cases_lt, eqb-true, leb-true, cond-true, cond-false, and_parts, or_cases}
+use Rattle.std.proofs.lemmas.Bool.{not_from_true, not_from_false, false_from_ne_true}
 use Rattle.std.proofs.lemmas.List.{length-map}
 use Rattle.std.proofs.lemmas.List.FromFn.{length-range_with_len}
 use Rattle.std.proofs.lemmas.Map.Made.{length-le_from_is_member}

@@ -2,13 +2,12 @@
 use Rattle.std.proofs.Common.{arith, ◌≡◌, ℕ, ◌==◌, Bool, true, false, List, [], ◌∷◌, Some, if◌then◌else◌, refl, sym, ap, ◌∙◌, inl, inr}
 use Rattle.std.proofs.lemmas.Bool.{cases_Bool, cond-true, cond-false}
 use Rattle.cm_base.specs.declared.errno.Errno.{Errno}
-use Rattle.cm_base.specs.declared.errno.Errno.TheVariants.{EAGAIN}
 use Rattle.cm_base.specs.declared.res.Res.{Res}
-use Rattle.cm_base.specs.declared.res.Res.TheVariants.{Done, Id, Child, Err}
+use Rattle.cm_base.specs.declared.res.Res.TheVariants.{Done, Child, Err}
 use Rattle.model_cred.proofs.Lookups.{pid_of_found}
 use Rattle.model_cred.specs.Call.{Call, Fork, CloneUser, Exit}
 use Rattle.model_cred.specs.Credential.{Credential}
-use Rattle.model_cred.specs.Process.{Process, State, process_at, put_process, insert_process, is_pid}
+use Rattle.model_cred.specs.Process.{Process, State, process_at, put_process}
 use Rattle.model_cred.specs.Space.{Spaces}
 use Rattle.model_cred.specs.World.{World}
 use Rattle.model_rules.specs.Reply.{spaces_after}

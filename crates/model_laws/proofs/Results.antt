@@ -1,5 +1,6 @@
 -- What the rules answer: no child, no error but four, and a refusal leaves the caller and the spaces as they were.
-use Rattle.std.proofs.Common.{arith, ◌≡◌, ℕ, ◌==◌, ◌&&◌, ◌||◌, Bool, true, false, List, length, Option, Some, None, if◌then◌else◌, refl, ap, subst}
+use Rattle.std.proofs.Common.{arith, ◌≡◌, ℕ, Bool, true, false, List, length, Option, Some, None, if◌then◌else◌, refl}
+use Rattle.std.proofs.Common.{ap, subst}
 use Rattle.std.specs.Prelude.{Result, Ok}
 use Rattle.std.specs.declared.result.Result.TheVariants.{Err as Failed}
 use Rattle.cm_base.specs.declared.errno.Errno.{Errno}
@@ -10,18 +11,17 @@ use Rattle.model_cred.specs.Call.{Call, SetUid, SetReUid, SetResUid, SetFsUid, S
 use Rattle.model_cred.specs.Call.{SetGroups, CapSet, BsetDrop, AmbRaise, AmbLower, AmbClear, SecureBits, KeepCaps}
 use Rattle.model_cred.specs.Call.{NoNewPrivs, Fork, CloneUser, Unshare, SetNs, WriteUidMap, WriteGidMap, WriteSetgroups}
 use Rattle.model_cred.specs.Call.{Exec, Exit}
-use Rattle.model_cred.specs.Credential.{Credential, FourIds, is_one_of_three, all_four}
+use Rattle.model_cred.specs.Credential.{Credential, FourIds}
 use Rattle.model_cred.specs.Files.{FileTable}
-use Rattle.model_cred.specs.IdMap.{Extent, down, extents_of}
+use Rattle.model_cred.specs.IdMap.{Extent, extents_of}
 use Rattle.model_cred.specs.Space.{Space, Spaces, space_of}
 use Rattle.model_rules.specs.Answer.{Answer, done, refused}
 use Rattle.model_rules.specs.Maps.{MapFile, UidMap, GidMap, Written, write_map, write_stored, write_setgroups, write_done, write_refused}
 use Rattle.model_rules.specs.Namespaces.{unshare, clone_user, join}
 use Rattle.model_rules.specs.Reply.{Reply, reply, spaces_after, stays, place_after, spaces_with, writes}
 use Rattle.model_rules.specs.SetGroups.{with_groups}
-use Rattle.model_rules.specs.SetId.{asked, one_mapped, both_mapped, all_mapped, setresid, setreid, setid, saved_after}
-use Rattle.model_rules.specs.SetId.{with_uids, with_gids, has_setuid, has_setgid}
-use Rattle.model_laws.proofs.Ids.{either}
+use Rattle.model_rules.specs.SetId.{one_mapped, both_mapped, all_mapped, setresid, setreid, setid, with_uids, with_gids}
+use Rattle.model_rules.specs.SetId.{has_setuid, has_setgid}
 
 -- the errors of the rules
 abbrev pub IsRuleError : Errno → Type 0

@@ -1,19 +1,19 @@
 -- The saved id after setreuid and setregid.
-use Rattle.std.proofs.Common.{arith, ◌≡◌, ℕ, ◌==◌, ◌&&◌, ◌||◌, not, Bool, true, Option, Some, None, List, if◌then◌else◌, refl, sym, ◌∙◌, inl, inr, subst}
+use Rattle.std.proofs.Common.{arith, ◌≡◌, ℕ, ◌==◌, ◌&&◌, ◌||◌, not, Bool, true, Option, Some, None, List, refl, sym}
+use Rattle.std.proofs.Common.{◌∙◌, subst}
 use Rattle.std.specs.Prelude.{Result, Ok}
 use Rattle.std.specs.declared.result.Result.TheVariants.{Err as Failed}
-use Rattle.std.proofs.lemmas.Bool.{eqb-false, ne_eqb, cond-true, cond-false, and_parts, and_from, or_cases, or_left}
-use Rattle.std.proofs.lemmas.Bool.{or_right, not-true, not_from_false, false_from_ne_true}
 use Rattle.cm_base.specs.declared.errno.Errno.{Errno}
-use Rattle.cm_base.specs.declared.errno.Errno.TheVariants.{EPERM, EINVAL}
+use Rattle.cm_base.specs.declared.errno.Errno.TheVariants.{EINVAL}
 use Rattle.cm_base.specs.declared.res.Res.TheVariants.{Done}
-use Rattle.model_cred.specs.Credential.{Credential, FourIds, is_one_of_three}
+use Rattle.model_cred.specs.Credential.{Credential, FourIds}
 use Rattle.model_cred.specs.IdMap.{Extent, extents_of}
 use Rattle.model_cred.specs.Space.{Space}
 use Rattle.model_rules.specs.Fixups.{fixed_up, following_effective, after_losing_root, without_root}
 use Rattle.model_rules.specs.Securebits.{has_flag, keep_caps, no_setuid_fixup}
-use Rattle.model_rules.specs.SetId.{asked, minus_one, is_given, both_mapped, setreid, saved_after, with_uids, with_gids, has_setuid, has_setgid}
-use Rattle.model_rules.specs.Zero.{is_zero, has_zero}
+use Rattle.model_rules.specs.SetId.{is_given, both_mapped, setreid, saved_after, with_uids, with_gids, has_setuid}
+use Rattle.model_rules.specs.SetId.{has_setgid}
+use Rattle.model_rules.specs.Zero.{has_zero}
 use Rattle.model_laws.specs.Sentences.{SetsSaved, SavedId, SavedAfterSetReUid, SavedAfterSetReGid}
 use Rattle.model_laws.proofs.Ids.{either}
 

@@ -17,7 +17,7 @@ use Rattle.model_cred.specs.Space.{Space, Spaces, KeepsSpace, IsTree, space_of, 
 use Rattle.model_rules.specs.Maps.{MapFile, UidMap, GidMap, Written, write_done, write_refused, write_map, write_stored}
 use Rattle.model_rules.specs.Maps.{write_setgroups, map_of, with_map, parent_map, extent_down, list_down}
 use Rattle.model_rules.specs.Namespaces.{created_by}
-use Rattle.model_cred.proofs.Trees.{put_newest, put_older, tree_put, tree_grows}
+use Rattle.model_cred.proofs.Trees.{put_newest, put_older, tree_put}
 use Rattle.model_laws.proofs.Ids.{FitsIds}
 
 -- a tree and what each of its spaces keeps

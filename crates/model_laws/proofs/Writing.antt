@@ -3,9 +3,9 @@ use Rattle.std.proofs.Common.{◌≡◌, ◌≢◌, ◌⊎◌, ℕ, zero, suc, �
 use Rattle.std.proofs.Common.{List, [], ◌∷◌, length, Option, Some, None, if◌then◌else◌, refl, sym, ap, ◌∙◌, inl, inr}
 use Rattle.std.proofs.Common.{subst, arith}
 use Rattle.std.specs.Prelude.{IsTrue, All, Any, is_none, nat_le, nat_lt, option_and_then, option_map, slice_index_or, unwrap_or}
-use Rattle.std.proofs.lemmas.Bool.{cases_Bool, cases_lt, eqb-true, eq-eqb, ltb-true, lt-ltb, le-ltb, leb-true, le-leb}
-use Rattle.std.proofs.lemmas.Bool.{lt-leb, cond-true, cond-false, and_parts, and_from, or_cases, or_left, or_right}
-use Rattle.std.proofs.lemmas.Bool.{not-true, not_from_false}
+use Rattle.std.proofs.lemmas.Bool.{cases_Bool, eqb-true, eq-eqb, ltb-true, lt-ltb, leb-true, le-leb, cond-true}
+use Rattle.std.proofs.lemmas.Bool.{cond-false, and_parts, and_from, or_cases, or_left, or_right, not-true}
+use Rattle.std.proofs.lemmas.Bool.{not_from_false}
 use Rattle.std.proofs.lemmas.List.Elements.{All-head, All-tail, All-nil, All-cons}
 use Rattle.cm_base.specs.declared.errno.Errno.TheVariants.{EPERM, EINVAL}
 use Rattle.cm_base.specs.declared.res.Res.TheVariants.{Done}

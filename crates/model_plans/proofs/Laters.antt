@@ -6,7 +6,7 @@ use Rattle.std.proofs.lemmas.Bool.{lt-ltb}
 use Rattle.std.specs.List.{flat_map}
 use Rattle.std.proofs.lemmas.List.Elements.{All-cons, All-nil, All-append, All-map, All-filter, All-take, All-weaker}
 use Rattle.cm_base.specs.declared.res.Res.{Res}
-use Rattle.cm_base.specs.declared.res.Res.TheVariants.{Done, Id, Child, Err}
+use Rattle.cm_base.specs.declared.res.Res.TheVariants.{Child}
 use Rattle.cm_base.specs.declared.res.FileRef.TheVariants.{Plain}
 use Rattle.model_cred.specs.Call.{Call, Event, Exit, kind_of}
 use Rattle.model_cred.specs.Files.{FileTable, IsDeclared}

@@ -13,7 +13,7 @@ use Rattle.model_box.specs.Row.{Part, Uids, EffectiveUids, FsUids, Gids, Effecti
 use Rattle.model_box.specs.Row.{PermittedCaps, InheritableCaps, BoundingCaps, NewPrivs, RootCounts, LockClear, Row, Standing, Fresh}
 use Rattle.model_box.specs.Row.{CredHas, IsWithin}
 use Rattle.model_box.specs.Rule.{Rule, SetUid, SetFsUid, SetGid, SetFsGid, SetGroups, CapSet, SecureBits, ExecUid}
-use Rattle.model_box.specs.Rule.{ExecGid, ExecCaps, ExecRoot, Create, Join, Maps, rule_number}
+use Rattle.model_box.specs.Rule.{rule_number}
 use Rattle.model_box.specs.Closed.{Adds}
 use Rattle.model_box.specs.Meets.{Meets}
 use Rattle.model_box.specs.Start.{StartHas, SpaceMaps}

@@ -7,8 +7,7 @@ use Rattle.model_cred.specs.Files.{FileTable}
 use Rattle.model_cred.specs.Right.{Right, Cap, Uid, Gid}
 use Rattle.model_cred.specs.Space.{Spaces, stands}
 use Rattle.model_box.specs.Row.{Part, EffectiveUids, EffectiveGids, Groups, PermittedCaps, Row, Standing, Fresh, space_under}
-use Rattle.model_box.specs.Rule.{Rule, SetUid, SetFsUid, SetGid, SetFsGid, SetGroups, CapSet, SecureBits, ExecUid}
-use Rattle.model_box.specs.Rule.{ExecGid, ExecCaps, ExecRoot, Create, Join, Maps}
+use Rattle.model_box.specs.Rule.{Rule, SetFsUid, SetFsGid, CapSet, SecureBits, Create, Maps}
 use Rattle.model_box.specs.Closed.{Adds}
 use Rattle.model_box.specs.Meets.{MeetsAt, Meets}
 use Rattle.model_verdict.specs.Sweep.{Turn, widened, turn_at, swept}
