@@ -2,13 +2,13 @@
 """Runs programs that were recorded or judged wrongly, and looks whether the commands tell each of them.
 
   try_traps.py [--jobs N] [--slow N] [--keep FOLDER] [NAME ..]    as root; needs cc, strace, unshare and credaudit
-  try_traps.py --list | --table
+  try_traps.py --list | --page
 
 Each case (tools/traps) runs twice, in namespaces of its own: alone, where the kernel's own answer must show that its
 danger really happens, and under credaudit-trace with a scan of all files, whose summary must tell it. NAME is
 PROGRAM/CASE, or PROGRAM for all of its cases. --slow gives each N times its time, on a machine with much other work: a
 recording of two seconds may end there before its program has begun. --keep leaves recordings and what was said in
-FOLDER. --table writes the table of docs/TESTING-tools.md. Status 0: each danger happens, and each is told; 1: some
+FOLDER. --page writes docs/TESTING-traps.md. Status 0: each danger happens, and each is told; 1: some
 isn't; 2: it can't be tried.
 """
 import argparse
@@ -100,14 +100,14 @@ def main() -> int:
     ask.add_argument("--slow", type=float, default=1.0)
     ask.add_argument("--keep")
     ask.add_argument("--list", action="store_true")
-    ask.add_argument("--table", action="store_true")
+    ask.add_argument("--page", action="store_true")
     ask.add_argument("--inside", choices=("show", "record"), help=argparse.SUPPRESS)
     ask.add_argument("--folder", help=argparse.SUPPRESS)
     ask.add_argument("names", nargs="*", metavar="NAME")
     asked = ask.parse_args()
     traps = chosen(asked.names, asked.slow)
-    if asked.list or asked.table:
-        print(table.document() if asked.table else "\n".join(each.name for each in traps))
+    if asked.list or asked.page:
+        print(table.document().rstrip("\n") if asked.page else "\n".join(each.name for each in traps))
         return 0
     if os.geteuid() != 0:
         sys.exit("try_traps.py: it is to be run as root")

@@ -1,4 +1,4 @@
-"""The programs of tools/traps, without running them: the table beside their sources and beside docs/TESTING-tools.md;
+"""The programs of tools/traps, without running them: the table beside their sources and beside docs/TESTING-traps.md;
 what is called wrong of what was seen.
 """
 import glob
@@ -30,9 +30,9 @@ def source(name: str) -> str:
         return file.read()
 
 
-def page() -> str:
-    """docs/TESTING-tools.md."""
-    with open(os.path.join(TOOLS, "..", "docs", "TESTING-tools.md"), encoding="utf-8") as file:
+def page(name: str) -> str:
+    """A page of docs/."""
+    with open(os.path.join(TOOLS, "..", "docs", name), encoding="utf-8") as file:
         return file.read()
 
 
@@ -68,10 +68,12 @@ class Table(unittest.TestCase):
             for word in (word for each in trap.told for word in each.split(" or ")):
                 self.assertTrue(word in PLAIN | names or word.partition(" ")[2] in KINDS, (trap.name, word))
 
-    def test_the_page_has_the_table(self) -> None:
+    def test_the_page_is_what_is_made(self) -> None:
+        self.assertEqual(page("TESTING-traps.md"), table.document(), "run tools/traps/try_traps.py --page")
+
+    def test_the_page_of_the_tools_has_the_counts(self) -> None:
         dangers = len({each.danger for each in table.TRAPS})
-        self.assertIn(table.document(), page())
-        self.assertIn(f"{len(table.TRAPS)} cases of {dangers} dangers", page())
+        self.assertIn(f"{len(table.TRAPS)} cases of {dangers} dangers", page("TESTING-tools.md"))
 
 
 class Judging(unittest.TestCase):
