@@ -11,12 +11,12 @@ import argparse
 import os
 import re
 import sys
-import textwrap
 
 import tools_path
 from credaudit_tools.provenance import sources
 from gate import rests_on
 from gate.rests_on import Row
+from pages.items import item
 
 PAGE = os.path.join(tools_path.TOP, "docs", "DEFINITIONS.md")
 FRONT = """# Definitions
@@ -33,12 +33,6 @@ Their statements are the kit's. By module, the words of theirs that are used:
 
 """
 OWN_USE = r"use Rattle\.{crate}\.specs\.(\w+)"
-WIDTH = 120
-
-
-def item(text: str) -> list[str]:
-    """An item of a list, in lines of at most 120 columns."""
-    return textwrap.wrap(text, WIDTH, initial_indent="- ", subsequent_indent="  ", break_on_hyphens=False)
 
 
 def crate_of(path: str) -> str:

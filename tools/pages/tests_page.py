@@ -1,7 +1,7 @@
 #!/usr/bin/env python3
-"""Writes docs/TESTING-tests.md: of each crate its tests, cases, worked cases and must-fail edits, and of each file of
-tests of the tools how many it has and what it says of itself. All is counted in the tree. A test holds the page
-against what this makes.
+"""Writes docs/TESTING-tests.md: of each crate its tests, cases, worked cases and must-fail edits, of each file of
+tests of the tools how many it has and what it says of itself, and of each command its first sentence. All is read in
+the tree. A test holds the page against what this makes.
 
   tests_page.py [--check]
 
@@ -13,16 +13,16 @@ import glob
 import os
 import re
 import sys
-import textwrap
 from typing import NamedTuple
 
 import tools_path
 from credaudit_tools.provenance import sources
+from pages.items import item
 
 PAGE = os.path.join(tools_path.TOP, "docs", "TESTING-tests.md")
 FRONT = """# Tests, file by file
 
-For whoever looks for a test, or wonders how many there are. `tools/pages/tests_page.py` writes this page: run it after
+For whoever looks for a test or a command that tries something, or wonders how many tests there are. `tools/pages/tests_page.py` writes this page: run it after
 a test, a case or an edit has come or gone.
 
 ## Of the crates
@@ -44,7 +44,14 @@ so it is to be `{both} passed, 0 failed`. The cases of `report_cases` are {runs}
 `tools/run_tests` runs all; a file is named with its number of tests, and by its own first words.
 
 """
-COLUMNS = 120
+COMMANDS = """
+## Commands
+
+What can be run by hand, each by the first sentence of its own text, which says more; TESTING.md says on which page its
+outcomes stand.
+
+"""
+FOLDERS = ("tools/*/*", "tools/*/tests/*", "tools/*/tests/*/*", "bench/*", "examples/*", "examples/*/*")
 
 
 class Counts(NamedTuple):
@@ -107,6 +114,27 @@ def crate_part(top: str) -> str:
         both=len(found) + total.edits, runs=runs)
 
 
+def first_sentence(text: str) -> str:
+    """The first sentence of what a program says of itself: of its docstring, or of the comment at its front."""
+    if '"""' in text.split("\n", 2)[1]:
+        said = ast.get_docstring(ast.parse(text)) or ""
+    else:
+        lines = text.split("\n")[1:]
+        end = next((at for at, line in enumerate(lines) if not line.startswith("#")), len(lines))
+        said = "\n".join(line.removeprefix("#").strip() for line in lines[:end])
+    return re.split(r"(?<=\.) (?=[A-Z`])", " ".join(said.split("\n\n")[0].split()))[0]
+
+
+def command_part(top: str) -> str:
+    """The section on the commands: programs that can be executed, but those that the package installs."""
+    lines = []
+    for path in sorted(path for folder in FOLDERS for path in glob.glob(os.path.join(top, folder))):
+        if os.path.isfile(path) and os.access(path, os.X_OK) and not path.endswith(".c"):
+            with open(path, encoding="utf-8") as file:
+                lines += item(f"`{os.path.relpath(path, top)}`: {first_sentence(file.read())}")
+    return COMMANDS + "\n".join(lines) + "\n" if lines else ""
+
+
 def tool_part(top: str) -> str:
     """The section on the tools."""
     lines = []
@@ -116,14 +144,13 @@ def tool_part(top: str) -> str:
         count = sum(isinstance(node, ast.FunctionDef) and node.name.startswith("test_") for node in ast.walk(tree))
         says = " ".join((ast.get_docstring(tree) or "").split())
         name = os.path.relpath(path, top)
-        lines += textwrap.wrap(f"`{name}`, {count} test{'s' * (count != 1)}. {says}", COLUMNS, initial_indent="- ",
-                               subsequent_indent="  ", break_on_hyphens=False, break_long_words=False)
+        lines += item(f"`{name}`, {count} test{'s' * (count != 1)}. {says}")
     return "\n".join(lines) + "\n"
 
 
 def page(top: str = tools_path.TOP) -> str:
     """The page."""
-    return FRONT + crate_part(top) + tool_part(top)
+    return FRONT + crate_part(top) + tool_part(top) + command_part(top)
 
 
 def main() -> int:

@@ -7,7 +7,7 @@ import unittest
 from commands.tests.support import EXAMPLES
 
 TOP = os.path.normpath(os.path.join(EXAMPLES, ".."))
-MADE = ("docs/DEFINITIONS.md", "docs/TESTING-tests.md", "docs/TESTING-traps.md")         # by scripts
+MADE = ("docs/DEFINITIONS.md", "docs/TESTING-tests.md", "docs/TESTING-traps.md", "docs/MODULES.md")         # by scripts
 MOST_LINES, MOST_WORDS, MOST_IN_A_CELL = 400, 92000, 40
 README_LINES, INDEX_LINES = 90, 250
 LONGER = {"docs/DECISIONS.md": 420}

@@ -41,9 +41,18 @@ class Page(Case):
         self.assertIn("`5 passed, 0 failed`. The cases of `report_cases` are 2 runs.", page)
         self.assertTrue(page.endswith("\n- `tools/part/tests/test_it.py`, 2 tests. What it holds.\n"), page)
 
+    def test_commands(self) -> None:
+        """Each that can be executed, with its first sentence; a module isn't one."""
+        texts = {"bench/time.py": b'#!/usr/bin/env python3\n"""Times a\nthing. And more.\n\n  time.py"""\n',
+                 "tools/part/look.sh": b"#!/bin/sh\n# Looks at it.\n# More.\ntrue\n", "bench/module.py": b"x = 1\n"}
+        for name, text in texts.items():
+            os.chmod(self.put(name, text), 0o644 if "module" in name else 0o755)
+        part = tests_page.command_part(self.work)
+        self.assertTrue(part.endswith("\n\n- `bench/time.py`: Times a thing.\n- `tools/part/look.sh`: Looks at it.\n"))
+
     def test_each_file_says_something(self) -> None:
         """Of each file of tests stands what it says of itself, in at most four lines."""
-        for item in tests_page.page().split("\n- `tools/")[1:]:
+        for item in tests_page.page().split("\n## Commands\n")[0].split("\n- `tools/")[1:]:
             self.assertRegex(item, r"tests?\. \w")
             self.assertLessEqual(len(item.split("\n")), 6, item)
             self.assertTrue(os.path.isfile(os.path.join(TOP, "tools", item.split("`")[0])), item)
