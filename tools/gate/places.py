@@ -7,7 +7,7 @@ of the command line, a form of log, a call that strace writes. Of each one that 
 They are counted in FOLDER, or in this repository. A place is a line that names what was taken, or several such lines
 that follow one another. Not counted are comments and imports; tests, worked cases (*Cases.antt) and must-fail edits;
 crates of cases, benches and examples; and what a probe passes. --list shows each place. Status 1: a probe has more
-places or files than it may, or docs/MAP.md doesn't name a file in its row of that probe ("To add something").
+places or files than it may, or docs/MAP.md doesn't name a file in its section of that probe ("To add something").
 """
 import argparse
 import glob
@@ -26,7 +26,7 @@ NONE = re.compile(r"(?!)")
 
 @dataclass(frozen=True)
 class Probe:
-    """What was taken: how MAP's row begins, the name in definitions, code and proofs, the crates that are passed, and
+    """What was taken: what MAP's section is called, the name in definitions, code and proofs, the crates that are passed, and
     how many places and files there may be."""
 
     row: str
@@ -83,12 +83,12 @@ def places(probe: Probe, top: str = TOP) -> dict[str, list[int]]:
 
 
 def row_of(probe: Probe, text: str) -> str:
-    """The probe's row of the page, or nothing."""
-    return next((line for line in text.split("\n") if line.startswith(f"| {probe.row} |")), "")
+    """The probe's section of the page, or nothing."""
+    return re.split(r"\n#", text.partition(f"\n### {probe.row}\n")[2], maxsplit=1)[0]
 
 
 def named(row: str, crates: Sequence[str]) -> dict[str, set[str]]:
-    """What a row names of each crate: all in backquotes that follows the crate's name, without specs/ and proofs/."""
+    """What a section names of each crate: all in backquotes that follows the crate's name, without specs/ and proofs/."""
     found: dict[str, set[str]] = {}
     crate = ""
     for word in re.findall(r"`([^`]+)`", row):
@@ -107,7 +107,7 @@ def is_named(path: str, names: dict[str, set[str]]) -> bool:
 
 
 def unnamed(probe: Probe, found: dict[str, list[int]], top: str = TOP) -> list[str]:
-    """The files with places that the page's row doesn't name."""
+    """The files with places that the page's section doesn't name."""
     with open(os.path.join(top, "docs", "MAP.md"), encoding="utf-8") as file:
         names = named(row_of(probe, file.read()), os.listdir(os.path.join(top, "crates")))
     return [path for path in found if not is_named(path, names)]

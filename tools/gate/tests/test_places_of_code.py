@@ -21,7 +21,7 @@ fn name(kind: CallKind) -> &'static str {
 }
 """
 CALL = places.PROBES["call"]
-ROW = "| a call | `cm_filter`: `Kinds` (its `name`), `model_laws/proofs`: `in/Keeping` | `cm_filter`: `kind::as` | |\n"
+ROW = "\n### a call\n\n`cm_filter`: `Kinds` (its `name`), `model_laws/proofs`: `in/Keeping`\n- `cm_filter`: `kind::as`\n"
 
 
 class Places(Case):
@@ -54,7 +54,7 @@ call: 4 places in 2 files
 
     def test_too_many_are_refused(self) -> None:
         names = [f"cm_filter/src/kind{number}.rt" for number in range(11)]
-        row = "| a call | `cm_filter`: " + ", ".join(f"`kind{number}`" for number in range(11)) + " | |\n"
+        row = "\n### a call\n\n`cm_filter`: " + ", ".join(f"`kind{number}`" for number in range(11)) + "\n"
         self.lay(*names[:10], row=row)
         self.assertEqual(self.said(), (0, "call: 20 places in 10 files\n"))
         self.lay(names[10], row=row)
@@ -66,14 +66,15 @@ call: 4 places in 2 files
                                           "docs/MAP.md doesn't name crates/model_laws/proofs/Kinds.antt\n"))
 
     def test_a_row_that_is_not_there_names_nothing(self) -> None:
-        self.lay("cm_filter/src/kind.rt", row="| a cell | `cm_filter`: `kind` |\n")
+        self.lay("cm_filter/src/kind.rt", row="\n### a cell\n\n`cm_filter`: `kind`\n")
         self.assertEqual(self.said()[0], 1)
 
     def test_the_map_names_all_and_has_the_figures(self) -> None:
         status, text, _ = self.told(places.main)
         self.assertEqual(status, 0, text)
         with open(os.path.join(places.TOP, "docs", "MAP.md"), encoding="utf-8") as file:
-            told = next((line for line in file if "`places.py`" in line), "")
+            page = file.read()
+        told = next((line for line in page.split("\n") if "`places.py`" in line), "")
         figures = re.findall(r"`(\w+)` (\d+ places in \d+ files)", told)
         self.assertEqual([f"{name}: {figure}" for name, figure in figures], text.splitlines())
-        self.assertIn("`call` may have at most 20 in 15", told)
+        self.assertIn("`call` may have at most 20 in 15", page)
