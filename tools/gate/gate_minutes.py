@@ -7,7 +7,7 @@ edits.
 COMMAND is `rt ci`, or what is given, such as `rt must-fail cm_io`. It is run at the top of the repository, what it
 writes passes through unchanged, and its status is this command's. Meanwhile /proc is read some times a second: the
 processes that COMMAND starts, and those that they start, tell by their words and their folder which crate they work
-for, and on what, and how much user and system time they have had. After COMMAND the table of docs/TESTING-gate.md is
+for, and on what, and how much user and system time they have had. After COMMAND the table is
 written to standard error, and to FILE:
 
   proof   proves the crate, and of a program compiles it

@@ -26,8 +26,8 @@ NONE = re.compile(r"(?!)")
 
 @dataclass(frozen=True)
 class Probe:
-    """What was taken: what MAP's section is called, the name in definitions, code and proofs, the crates that are passed, and
-    how many places and files there may be."""
+    """What was taken: the title of MAP's section, the name in definitions, code and proofs, the crates that are passed,
+    and how many places and files there may be."""
 
     row: str
     name: re.Pattern[str]
@@ -88,7 +88,7 @@ def row_of(probe: Probe, text: str) -> str:
 
 
 def named(row: str, crates: Sequence[str]) -> dict[str, set[str]]:
-    """What a section names of each crate: all in backquotes that follows the crate's name, without specs/ and proofs/."""
+    """What a section names of each crate: all in backquotes behind the crate's name, without specs/ and proofs/."""
     found: dict[str, set[str]] = {}
     crate = ""
     for word in re.findall(r"`([^`]+)`", row):

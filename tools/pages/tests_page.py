@@ -22,8 +22,8 @@ from pages.items import item
 PAGE = os.path.join(tools_path.TOP, "docs", "TESTING-tests.md")
 FRONT = """# Tests, file by file
 
-For whoever looks for a test or a command that tries something, or wonders how many tests there are. `tools/pages/tests_page.py` writes this page: run it after
-a test, a case or an edit has come or gone.
+For whoever looks for a test, or for a command that tries something. `tools/pages/tests_page.py` writes this page: run
+it after a test, a case or an edit has come or gone.
 
 ## Of the crates
 
