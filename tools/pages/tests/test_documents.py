@@ -101,10 +101,10 @@ class Blocks(unittest.TestCase):
 
 
 def theorems() -> list[tuple[str, str]]:
-    """The rows of docs/PROVED.md: a theorem and its contract."""
+    """The items of docs/PROVED.md: a theorem, and on a line of its own its contract."""
     with open(os.path.join(TOP, "docs", "PROVED.md"), encoding="utf-8") as file:
-        rows = [line.strip("|").split(" | ") for line in file.read().split("\n") if line.startswith("| ")]
-    return [(row[0].strip(), row[1].strip()) for row in rows if row[0].strip() != "Theorem"]
+        items = re.findall(r"^- (.*?):\n  (`\w+::.*?)(?=\n-|\n\n)", file.read(), re.MULTILINE | re.DOTALL)
+    return [(" ".join(theorem.split()), " ".join(contract.split())) for theorem, contract in items]
 
 
 def source(crate: str) -> str:
