@@ -21,7 +21,7 @@ fn name(kind: CallKind) -> &'static str {
 }
 """
 CALL = places.PROBES["call"]
-ROW = "\n### a call\n\n`cm_filter`: `Kinds` (its `name`), `model_laws/proofs`: `in/Keeping`\n- `cm_filter`: `kind::as`\n"
+ROW = "\n### a call\n\n`cm_filter`: `Kinds` (its `name`), `model_laws/proofs`: `in/Keeping`, `cm_filter`:\n`kind::as`\n"
 
 
 class Places(Case):
