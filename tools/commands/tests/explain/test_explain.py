@@ -241,7 +241,7 @@ class Refused(support.Case):
     def test_each_rule_has_words(self) -> None:
         with open(os.path.join(support.EXAMPLES, "..", "docs", "BOUNDS.md"), encoding="utf-8") as file:
             section = file.read().split("\n## The rules\n")[1].split("\n## ")[0]
-        rules = re.findall(r"^\| \d+ \| (\w+) \|", section, re.MULTILINE)
+        rules = re.findall(r"^- \d+, (\w+): ", section, re.MULTILINE)
         self.assertEqual(set(verdicts.RULES), {*rules, "start"})
 
 
