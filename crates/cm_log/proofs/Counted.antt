@@ -10,7 +10,9 @@ use Rattle.cm_log.specs.Counts.{Counts, SessionWithin}
 use Rattle.cm_log.specs.declared.log.Log.TheVariants.{Script, Strace}
 use Rattle.cm_log.specs.declared.script.ScriptLog.{ScriptLog}
 use Rattle.cm_log.specs.declared.strace.StraceLog.{StraceLog}
+use Rattle.cm_strace.specs.Answers.{reading_is}
 use Rattle.cm_strace.specs.Stages.{cut_off}
+use Rattle.cm_strace.specs.declared.stage.Stage.{Stage}
 use Rattle.model_cred.specs.Made.{spaces_made}
 use Rattle.model_cred.specs.World.{World}
 use Rattle.model_strace.proofs.Counts.{ends_are_not_counted, events_of_end, events_of_line, held_is_limited, lines_are_counted}
@@ -18,7 +20,7 @@ use Rattle.model_strace.proofs.KnownSpaces.{spaces_by_events}
 use Rattle.model_strace.specs.Counts.{EndsAreNotCounted, EventsOfEnd, EventsOfLine, HeldIsLimited, LinesAreCounted, SpacesByEvents}
 use Rattle.model_strace.specs.Counts.{held_count, spaces_known}
 use Rattle.model_strace.specs.Rest.{Session, Going, Stopped, Finished, after_finish, after_line, line_answer, lines_fed, rest, session_ended, work_end}
-use Rattle.model_text.specs.Reading.{Placed, End, AtEnd, Stops, events_of}
+use Rattle.model_text.specs.Reading.{Placed, End, AtEnd, Stops, Reading, events_of}
 
 -- ---- logs of strace
 -- after a line
@@ -49,6 +51,14 @@ counted_line w old new line after told =
           } in
           all;
     }
+
+-- after a line that there was memory for
+pub counted_line_if : {E : Type 0} (w : World) (r : Result Stage E) (old new : StraceLog) (line : List ℕ)
+    → OrNoMemory r (λ _. new.tracer ≡ after_line w old.tracer line)
+    → OrNoMemory r (λ at. reading_is new.events.items at ≡ line_answer w old.tracer line)
+    → OrNoMemory r (λ _. Counts 1 new.events.items (Strace old) (Strace new))
+counted_line_if w (Ok at) old new line after told = counted_line w old new line after (ap (λ (r : Reading). r.events) told)
+counted_line_if w (Err e) old new line after told = tt
 
 -- what a session counts that goes on no more
 ended_holds_none : (count : ℕ) (ending : End) → held_count (session_ended count ending) ≡ 0
@@ -105,6 +115,14 @@ counted_end w old new after told =
     let same : length new.events.items ≡ length (rest w old.tracer (ends_by None)).events = ap length told in
     counted_over old new (ap held_count after ∙ finished_holds_none w old.tracer) (ap spaces_known after ∙ finished_knows_none w old.tracer)
     (ap lines_fed after ∙ ends_are_not_counted w old.tracer) (omega (arith, few, same))
+
+-- after an end that there was memory for
+pub counted_end_if : {E : Type 0} (w : World) (r : Result Stage E) (old new : StraceLog)
+    → OrNoMemory r (λ _. new.tracer ≡ after_finish w old.tracer)
+    → OrNoMemory r (λ at. reading_is new.events.items at ≡ rest w old.tracer (ends_by None))
+    → OrNoMemory r (λ _. Counts 0 new.events.items (Strace old) (Strace new))
+counted_end_if w (Ok at) old new after told = counted_end w old new after (ap (λ (r : Reading). r.events) told)
+counted_end_if w (Err e) old new after told = tt
 
 -- where the session was cut off
 pub counted_cut_off : (past : Past) (old new : StraceLog) → new.events.items ≡ [] → new.tracer ≡ cut_off past old.tracer

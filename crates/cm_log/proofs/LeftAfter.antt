@@ -1,5 +1,6 @@
 -- What a log of strace still gives after a line, or where no line comes any more.
-use Rattle.std.proofs.Common.{◌≡◌, ◌∙◌, List, [], Some, refl, sym, ap, append-nil}
+use Rattle.std.proofs.Common.{◌≡◌, ◌∙◌, List, [], Some, Result, Ok, Err, refl, sym, ap, append-nil}
+use Rattle.cm_base.specs.Outcome.{OrNoMemory}
 use Rattle.cm_lines.specs.Cut.{Cut, ends_by}
 use Rattle.cm_lines.specs.declared.limits.Past.{Past}
 use Rattle.cm_log.specs.Left.{EndsAgain, told_then}
@@ -49,3 +50,23 @@ told_cut_off w past stage.Going old new cut over is told = absurd (over refl)
 told_cut_off w past (stage.Stopped stop) old new cut over is told = sym told
     ∙ again_at w (stage.Stopped stop) new cut is
 told_cut_off w past stage.Finished old new cut over is told = sym told ∙ again_at w stage.Finished new cut is
+
+-- What holds of the stage at which a line or the end leaves the session, where there was memory.
+module _ (w : World) (session : Session) where
+  pub again_if : {E : Type 0} (r : Result Stage E) → OrNoMemory r (λ at. IsAt at session)
+      → OrNoMemory r (λ at. (cut : Cut) → EndsAgain at (rest w session cut))
+  again_if (Ok at) is = λ cut. again_at w at session cut is
+  again_if (Err e) is = tt
+
+  pub told_if : {E : Type 0} (r : Result Stage E) (events : List Placed) (before : Cut → Reading)
+      → OrNoMemory r (λ at. (cut : Cut) → before cut ≡ answered_then (reading_is events at) (rest w session cut))
+      → OrNoMemory r (λ at. IsAt at session)
+      → OrNoMemory r (λ at. (cut : Cut) → before cut ≡ told_then events at (rest w session cut))
+  told_if (Ok at) events before told is = λ cut. told cut ∙ told_at w events at session cut is
+  told_if (Err e) events before told is = tt
+
+  pub told_if_over : {E : Type 0} (r : Result Stage E) (events : List Placed) (before : Reading)
+      → OrNoMemory r (λ at. reading_is events at ≡ before) → OrNoMemory r (λ at. at ≡ stage.Going → ⊥)
+      → OrNoMemory r (λ at. (cut : Cut) → before ≡ told_then events at (rest w session cut))
+  told_if_over (Ok at) events before told over = λ cut. told_at_end events at before (rest w session cut) over told
+  told_if_over (Err e) events before told over = tt

@@ -57,8 +57,7 @@ impl StraceLog {
             → EndsAgain stage (rest (world_of w.now) self.new.tracer cut)) }
         ensures counts { OrNoMemory result (λ _. Counts 1 self.new.events.items (Strace self.old) (Strace self.new)) }
     {
-        let stage = self.tracer.feed_line(alloc, w, line, &mut self.events)?;
-        Ok(stage)
+        self.tracer.feed_line(alloc, w, line, &mut self.events)
     }
 
     /// No line comes any more. It fails only where memory runs out.
@@ -80,10 +79,7 @@ impl StraceLog {
                 self.events.clear();
                 Ok(self.tracer.break_off(past))
             }
-            None => {
-                let stage = self.tracer.finish(alloc, w, &mut self.events)?;
-                Ok(stage)
-            }
+            None => self.tracer.finish(alloc, w, &mut self.events),
         }
     }
 }

@@ -154,8 +154,7 @@ fn follow<K: Sink>(
             Turn::Ends(status) => return Ok(Turn::Ends(status)),
         }
     }
-    let turn = put_ending(text, replay, stage)?;
-    Ok(turn)
+    Ok(put_ending(text, replay, stage)?)
 }
 
 // An event is taken with its lines, which are sent where they fill a piece. Where its line stands as events are

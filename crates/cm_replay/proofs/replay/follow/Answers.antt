@@ -89,12 +89,12 @@ returns-clause-follows g c later =
     let none = drop_all c.loop-event.event-index told c.loop-event-test.false in
     let old : Outgoing = record { written = g.K.Sink.written c.args.out.now; waits = c.args.text.now.items } in
     let now : Outgoing = record { written = g.K.Sink.written c.loop-event.out; waits = c.loop-event.text.items } in
-    told_ends w c.args.replay.now c.loop-event.replay old now told c.args.stage c.in_ok-turn.turn
+    told_ends w c.args.replay.now c.loop-event.replay old now told c.args.stage c.in_ok-put_ending.field-0
     c.put_ending.new.text.items later
     (subst (λ (es : List Placed). GoesOn w c.args.replay.now c.loop-event.replay old now
     (told_then told c.args.stage later) (told_then es c.args.stage later))
     none (c.loop-event.invariant.goes later))
-    c.in_ok-turn.ensures
+    c.in_ok-put_ending.ensures
 
 pub returns-clause-took : goal.returns-clause-took
 returns-clause-took g c is =
@@ -107,18 +107,18 @@ returns-clause-took g c is =
 
 pub returns-clause-goes : goal.returns-clause-goes
 returns-clause-goes g c is =
-    let goes : c.in_ok-turn.turn ≡ Turn.Goes = cc in
+    let goes : c.in_ok-put_ending.field-0 ≡ Turn.Goes = cc in
     goes_by c.loop-event.replay c.args.stage _ _
     (subst (λ (t : Turn). EndsBy c.loop-event.replay c.args.stage t c.loop-event.text.items c.put_ending.new.text.items)
-    goes c.in_ok-turn.ensures)
+    goes c.in_ok-put_ending.ensures)
 
 -- there was no memory for the line that ends the report
-pub returns-in_err-turn-clause-follows : goal.returns-in_err-turn-clause-follows
-returns-in_err-turn-clause-follows g c later =
+pub returns-in_err-put_ending-clause-follows : goal.returns-in_err-put_ending-clause-follows
+returns-in_err-put_ending-clause-follows g c later =
     let w = world_of c.args.w.now in
     let told = c.args.told.now in
     let between = told_then (drop c.loop-event.event-index told) c.args.stage later in
-    let p = err_from_is_err_and c.from_residual-in_err-turn.result c.from_residual-in_err-turn.ensures.1 in
+    let p = err_from_is_err_and c.from_residual-in_err-put_ending.result c.from_residual-in_err-put_ending.ensures.1 in
     rw p.1 (cut_then w c.args.replay.now c.loop-event.replay
     (record { written = g.K.Sink.written c.args.out.now; waits = c.args.text.now.items })
     (record { written = g.K.Sink.written c.loop-event.out; waits = c.loop-event.text.items })
