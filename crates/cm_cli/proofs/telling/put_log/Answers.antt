@@ -104,8 +104,9 @@ returns-in-Accepted g c =
       status = from_status b w (log_reading w (bytes_at files log)) ∙ is ∙ accepted;
       run = run accepted;
     }) in
-    let sent = IfSome_then {Q = λ files. IsSent (g.K.Sink.written c.args.out.now) (g.K.Sink.written c.replay_log.new.out)
-    c.replay_log.new.text.items (text_of (shown b w (log_reading w (bytes_at files log))).lines)} held first.sent
+    let sent = IfSome_then held {Q = λ files. IsSent (g.K.Sink.written c.args.out.now)
+    (g.K.Sink.written c.replay_log.new.out)
+    c.replay_log.new.text.items (text_of (shown b w (log_reading w (bytes_at files log))).lines)} first.sent
     (λ files sent. sent_after b w _ _ _ _ started (log_reading w (bytes_at files log)) _ sent) in
     record {
       status = if_both held ends report (λ files here put j gives.
