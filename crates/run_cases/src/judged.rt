@@ -226,18 +226,35 @@ fn lines_of_runs_have_a_limit(rt: HostRuntime) -> Result<(), Fail> {
 #[test]
 fn groups_of_a_run_have_a_limit(rt: HostRuntime) -> Result<(), Fail> {
     let alloc = rt.alloc();
-    // The faults of the line come before.
-    let told: [(&[u8], Status, &str); 3] = [
-        (b" = EPERM\n", Status::Accepted, "confirmed 100\n"),
-        (b" 7 = EPERM\n", Status::Limit, "limit groups 1024\n"),
-        (b" 7 = 00\n", Status::Refused, "refused line 1\n"),
-    ];
-    let groups = repeated(alloc, b" 7", 1024)?;
-    for (rest, status, report) in &told {
-        let run = joined(alloc, &[b"100 setgroups", &groups, *rest])?;
-        check_run(&rt, alloc, WORLD, &run, (*status, *report))?;
+    let mut run = b"100 setgroups".to_vec(alloc)?;
+    for _ in 0..1024 {
+        run.extend_from_slice(b" 7")?;
     }
-    Ok(())
+    let within = joined(alloc, &[&run, b" = EPERM\n"])?;
+    check_run(
+        &rt,
+        alloc,
+        WORLD,
+        &within,
+        (Status::Accepted, "confirmed 100\n"),
+    )?;
+    let past = joined(alloc, &[&run, b" 7 = EPERM\n"])?;
+    check_run(
+        &rt,
+        alloc,
+        WORLD,
+        &past,
+        (Status::Limit, "limit groups 1024\n"),
+    )?;
+    // The faults of the line come before.
+    let bad = joined(alloc, &[&run, b" 7 = 00\n"])?;
+    check_run(
+        &rt,
+        alloc,
+        WORLD,
+        &bad,
+        (Status::Refused, "refused line 1\n"),
+    )
 }
 
 // A world with the processes 100 and 50, and a row for each of these numbers.
