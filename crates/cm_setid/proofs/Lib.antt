@@ -1,1 +1,2 @@
 mod FsSets
+mod Roots

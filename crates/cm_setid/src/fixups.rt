@@ -1,11 +1,10 @@
 // What a change of user ids does to the sets (capabilities(7), "Effect of user ID changes on capabilities"), unless
 // SECBIT_NO_SETUID_FIXUP is set. Root is here the id that the space's map of user ids gives to inside 0.
-ghost use Rattle.std.specs.Prelude.{◌≡◌, Option};
-ghost use Rattle.model_cred.specs.IdMap.{is_the};
+ghost use Rattle.std.specs.Prelude.{◌≡◌, Some};
 ghost use Rattle.model_cred.specs.Space as model;
 ghost use Rattle.model_rules.specs.Caps.{fs_caps};
-ghost use Rattle.model_rules.specs.Fixups.{without_root, after_losing_root, following_effective, fixed_up, following_fs, fs_fixed_up};
-ghost use Rattle.model_rules.specs.Zero.{zero_of, is_zero, has_zero};
+ghost use Rattle.model_rules.specs.Fixups.{without_root, fixed_up, following_fs, fs_fixed_up};
+ghost use Rattle.model_rules.specs.Zero.{zero_of};
 
 use cm_base::{CapWord, SecBits};
 use cm_state::{Cred, FourIds, Space};
@@ -14,44 +13,28 @@ use cm_state::{Cred, FourIds, Space};
 // CAP_MAC_OVERRIDE, which follow the fs user id.
 const FS_CAPS: u64 = 0x1_0800_021f;
 
-// The fixups of setresuid(2), setreuid(2) and setuid(2), from the old user ids to those that the credential has now.
+// The fixups of setresuid(2), setreuid(2) and setuid(2), from the old user ids to those that the credential has now. Where
+// one of the real, effective and saved id was root's and none is now, sets are cleared. And where the effective id went
+// from root's to another the effective set is cleared; the other way it becomes the permitted set.
 pub(crate) fn fix_up(c: &mut Cred, s: &Space, old: FourIds)
     ensures { c.new ≡ fixed_up s.now old c.old }
 {
     if c.sec.has(SecBits::NO_SETUID_FIXUP) {
         return;
     }
-    let root = s.zero();
-    clear_without_root(c, root, old);
-    follow_effective(c, root, old);
-}
-
-// The id is root's.
-#[inline]
-fn is_root(root: Option<u32>, id: u32) -> bool
-    ensures { result ≡ is_the root id }
-{
-    match root {
-        Some(root) => id == root,
-        None => false,
-    }
-}
-
-// The real, the effective or the saved id is root's.
-#[inline]
-fn has_root(root: Option<u32>, ids: FourIds) -> bool
-    ensures { (s : model.Space) → root ≡ zero_of s → result ≡ has_zero s ids }
-{
-    is_root(root, ids.real) || is_root(root, ids.effective) || is_root(root, ids.saved)
-}
-
-// Where one of the three ids was root's and none is now.
-fn clear_without_root(c: &mut Cred, root: Option<u32>, old: FourIds)
-    ensures { (s : model.Space) → root ≡ zero_of s → c.new ≡ after_losing_root s old c.old }
-{
+    let Some(root) = s.zero() else {
+        return;
+    };
     let now = c.user_ids();
-    if has_root(root, old) && !has_root(root, now) {
+    if old.has(root) && !now.has(root) {
         clear(c);
+    }
+    let was = old.effective == root;
+    let is = now.effective == root;
+    if was && !is {
+        c.eff = CapWord::empty();
+    } else if !was && is {
+        c.eff = c.prm;
     }
 }
 
@@ -66,36 +49,26 @@ fn clear(c: &mut Cred)
     c.amb = CapWord::empty();
 }
 
-// Where the effective id went from root's to another the effective set is cleared; the other way it becomes the
-// permitted set.
-fn follow_effective(c: &mut Cred, root: Option<u32>, old: FourIds)
-    ensures { (s : model.Space) → root ≡ zero_of s → c.new ≡ following_effective s old c.old }
-{
-    let was = is_root(root, old.effective);
-    let is = is_root(root, c.euid.number());
-    if was && !is {
-        c.eff = CapWord::empty();
-    } else if !was && is {
-        c.eff = c.prm;
-    }
-}
-
 // The fixup of setfsuid(2), from the old fs user id to the one that the credential has now.
 pub(crate) fn fix_up_fs(c: &mut Cred, s: &Space, old: u32)
     ensures { c.new ≡ fs_fixed_up s.now old c.old }
 {
-    if !c.sec.has(SecBits::NO_SETUID_FIXUP) {
-        follow_fs(c, s.zero(), old);
+    if c.sec.has(SecBits::NO_SETUID_FIXUP) {
+        return;
     }
+    let Some(root) = s.zero() else {
+        return;
+    };
+    follow_fs(c, root, old);
 }
 
 // Where the fs id went from root's to another, the capabilities that follow it leave the effective set; the other way
 // those of them that are permitted come in.
-fn follow_fs(c: &mut Cred, root: Option<u32>, old: u32)
-    ensures { (s : model.Space) → root ≡ zero_of s → c.new ≡ following_fs s old c.old }
+fn follow_fs(c: &mut Cred, root: u32, old: u32)
+    ensures { (s : model.Space) → zero_of s ≡ Some root → c.new ≡ following_fs s old c.old }
 {
-    let was = is_root(root, old);
-    let is = is_root(root, c.fsuid.number());
+    let was = old == root;
+    let is = c.fsuid.number() == root;
     if was && !is {
         c.eff = c.eff.minus(followers());
     } else if !was && is {

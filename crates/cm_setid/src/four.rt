@@ -1,13 +1,17 @@
 // The rules by which the calls change the real, effective, saved and fs id, of user or of group (setresuid(2),
-// setreuid(2), setuid(2), setfsuid(2)). A rule knows the caller's map, and whether the caller has the capability.
-ghost use Rattle.std.specs.Prelude.{◌≡◌};
-ghost use Rattle.model_cred.specs.IdMap.{extents_of};
-ghost use Rattle.model_rules.specs.SetId.{setresid, setreid, setid, setfsid, saved_after};
+// setreuid(2), setuid(2), setfsuid(2)). A rule knows the caller's map, and whether the caller has the capability. Ids go
+// through the map of the caller's space, which may not be written yet: such a map maps nothing.
+ghost use Rattle.std.specs.Prelude.{◌≡◌, ◌<◌, IfSome};
+ghost use Rattle.cm_base.specs.Limits.{id_count};
+ghost use Rattle.model_cred.specs.IdMap.{down, extents_of};
+ghost use Rattle.model_rules.specs.SetId.{asked, seen_id, setresid, setreid, setid, setfsid, saved_after};
 
-use crate::mapped::{asked_for, down_in};
 use cm_base::{Errno, MINUS_ONE};
 use cm_idmap::IdMap;
 use cm_state::FourIds;
+
+// What an id without a mapping is seen as (user_namespaces(7), "Unmapped user and group IDs").
+const OVERFLOW_ID: u32 = 65_534;
 
 // setresuid(2) and setresgid(2): EINVAL for a given id without a mapping; else EPERM where without the capability one is
 // none of the old real, effective and saved id.
@@ -122,5 +126,42 @@ pub(crate) fn set_fsid(
     match down_in(map, argument) {
         Some(id) if privileged || old.has(id) || id == old.fs => FourIds { fs: id, ..old },
         _ => old,
+    }
+}
+
+// The id that an inside id stands for, None where it has no mapping.
+#[inline]
+pub(crate) fn down_in(map: &Option<IdMap>, inside: u32) -> Option<u32>
+    ensures image { result ≡ down (extents_of map.now) inside }
+    ensures is_id { IfSome result (λ id. id < id_count) }
+{
+    match map {
+        Some(map) => map.down(inside),
+        None => None,
+    }
+}
+
+// The id that an argument asks for: the old one at -1, else the one that it is mapped to.
+#[inline]
+pub(crate) fn asked_for(map: &Option<IdMap>, old: u32, given: u32) -> Option<u32>
+    requires { old < id_count }
+    ensures image { result ≡ asked (extents_of map.now) old given }
+    ensures is_id { IfSome result (λ id. id < id_count) }
+{
+    if given == MINUS_ONE {
+        Some(old)
+    } else {
+        down_in(map, given)
+    }
+}
+
+// An id as the space sees it.
+#[inline]
+pub(crate) fn seen(map: &Option<IdMap>, id: u32) -> u32
+    ensures { result ≡ seen_id (extents_of map.now) id }
+{
+    match map {
+        Some(map) => map.up(id).unwrap_or(OVERFLOW_ID),
+        None => OVERFLOW_ID,
     }
 }

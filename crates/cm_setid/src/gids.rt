@@ -5,8 +5,7 @@ ghost use Rattle.cm_base.specs.declared.errno.Errno.{Errno};
 ghost use Rattle.cm_base.specs.declared.res.Res.TheVariants.{Err};
 ghost use Rattle.model_rules.specs.SetId.{has_setgid as model_has_setgid, with_gids, setresgid, setregid, setgid, setfsgid};
 
-use crate::four::{set_fsid, set_id, set_reid, set_resid};
-use crate::mapped::seen;
+use crate::four::{seen, set_fsid, set_id, set_reid, set_resid};
 use cm_base::{Cap, Errno, Res};
 use cm_state::{Cred, FourIds, Space};
 

@@ -6,8 +6,8 @@ ghost use Rattle.cm_base.specs.declared.res.Res.TheVariants.{Err};
 ghost use Rattle.model_cred.specs.IdMap.{extents_of};
 ghost use Rattle.model_rules.specs.SetGroups.{all_down as model_all_down, setgroups};
 
+use crate::four::down_in;
 use crate::gids::has_setgid;
-use crate::mapped::down_in;
 use cm_base::{Errno, Kgid, NoMemory, Res};
 use cm_idmap::IdMap;
 use cm_state::{Cred, Groups, Space};

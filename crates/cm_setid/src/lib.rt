@@ -7,7 +7,6 @@ mod fixups;
 mod four;
 mod gids;
 mod groups;
-mod mapped;
 mod uids;
 
 pub use gids::{set_fsgid, set_gid, set_regid, set_resgid};

@@ -6,8 +6,7 @@ ghost use Rattle.cm_base.specs.declared.res.Res.TheVariants.{Err};
 ghost use Rattle.model_rules.specs.SetId.{has_setuid as model_has_setuid, with_uids, setresuid, setreuid, setuid, setfsuid};
 
 use crate::fixups::{fix_up, fix_up_fs};
-use crate::four::{set_fsid, set_id, set_reid, set_resid};
-use crate::mapped::seen;
+use crate::four::{seen, set_fsid, set_id, set_reid, set_resid};
 use cm_base::{Cap, Errno, Res};
 use cm_state::{Cred, FourIds, Space};
 
