@@ -9,3 +9,4 @@ pub mod Families
 pub mod Errors
 pub mod Chains
 pub mod ChildPids
+pub mod Steps

@@ -4,7 +4,7 @@
 // one that is gone, and what was never made needs no undoing.
 ghost use Rattle.std.specs.Prelude.{◌≡◌, ◌<◌, length, true, OnErr};
 ghost use Rattle.cm_base.specs.Outcome.{OrNoMemory, UnchangedOnErr};
-ghost use Rattle.cm_machine.specs.Asking.{CanKeep, OfCaller, kept, makes_new, undone, undone_cred, without_groups};
+ghost use Rattle.cm_machine.specs.Asking.{CanKeep, OfCaller, kept, makes_new, undone, undone_cred};
 ghost use Rattle.model_cred.specs.Credential.{Credential};
 ghost use Rattle.model_cred.specs.Process.{Process};
 
@@ -81,17 +81,6 @@ pub(crate) fn keep(
         }
         Change::Nothing | Change::Fields | Change::Groups(_) => Ok(()),
     }
-}
-
-/// The credentials of the process at this place, without groups: what is needed to undo a change of fields.
-#[inline]
-pub(crate) fn fields_of(alloc: Global, state: &State, at: usize) -> Cred
-    requires { at < length state.now.processes }
-    ensures { OfCaller state.now at (λ p. result ≡ without_groups p.cred) }
-{
-    let procs = &state.procs;
-    let p = &procs.list[at];
-    p.cred.without_groups(alloc)
 }
 
 /// Undoes what the process at this place has changed, which had the old credentials. Their groups aren't looked at.

@@ -10,12 +10,9 @@ mod exits;
 mod family;
 mod laws;
 mod machine;
-mod naming;
-mod outside;
 mod own;
 mod pids;
 mod ruling;
-mod same;
 mod step;
 
 pub use error::StepError;

@@ -1,4 +1,5 @@
-// The machine and its public calls. The steps themselves are made on its state.
+// The machine and its public calls: they look for the process, and for the space that its call names. The steps
+// themselves are made on its state.
 ghost use Rattle.std.specs.Prelude.{◌≡◌, ◌<◌, None, true, false, length, IfOk, IfErr};
 ghost use Rattle.cm_base.specs.Limits.{greatest_number};
 ghost use Rattle.cm_base.specs.Outcome.{OrNoMemory, UnchangedOnErr};
@@ -13,12 +14,11 @@ ghost use Rattle.model_run.specs.Step.{outcome, names_no_space};
 
 use crate::error::StepError;
 use crate::family::family_of;
-use crate::naming::names_no_space;
 use crate::own::make_own;
-use crate::step::take_step;
+use crate::step::told_call;
 use cm_base::{NoMemory, Pid, Res};
 use cm_declared::World;
-use cm_state::{Call, Event, State};
+use cm_state::{Call, Event, Spaces, State};
 use std::alloc::Global;
 
 /// The machine: the state that it is in.
@@ -55,7 +55,16 @@ impl Machine {
         ensures unchanged { UnchangedOnErr result self.new self.old }
         ensures told_error { (error : Errno) → e.now.res ≡ Res.Err error → self.new ≡ self.old }
     {
-        take_step(alloc, w, &mut self.state, e)
+        let Some(at) = self.state.procs.find(e.pid) else {
+            return Err(StepError::NoProcess);
+        };
+        if names_no_space(&self.state.spaces, &e.call) {
+            return Err(StepError::NoSpace);
+        }
+        match e.res {
+            Res::Child(pid) if self.state.procs.find(pid).is_some() => Err(StepError::PidInUse),
+            _ => told_call(alloc, w, &mut self.state, at, e),
+        }
     }
 
     /// Makes the call of the process as the rules give it, and says what it answers, an error of the rules too. The child
@@ -97,5 +106,19 @@ impl Machine {
         ensures { OrNoMemory result (λ pids. pids.items ≡ family self.now.state root) }
     {
         family_of(alloc, &self.state, root)
+    }
+}
+
+// The call names a space that doesn't stand.
+#[inline]
+fn names_no_space(spaces: &Spaces, call: &Call) -> bool
+    ensures { result ≡ names_no_space spaces.now (call_of call.now) }
+{
+    match call {
+        Call::SetNs(n) | Call::WriteUidMap(n, _) | Call::WriteGidMap(n, _) => {
+            n.0 >= spaces.count()
+        }
+        Call::WriteSetgroups { space, .. } => space.0 >= spaces.count(),
+        _ => false,
     }
 }

@@ -1,5 +1,5 @@
 use Rattle.std.proofs.Common.{rules, inl, inr}
-use Rattle.cm_machine.proofs.naming.names_no_space.Goals as goal
+use Rattle.cm_machine.proofs.machine.names_no_space.Goals as goal
 
 pub returns-in-SetNs : goal.returns-in-SetNs
 returns-in-SetNs c = elim c.in-SetNs.is [
