@@ -1,17 +1,17 @@
 -- What a cutter finds at the front of what it keeps is what comes next in the file.
 use Rattle.std.proofs.Common.{◌≡◌, ℕ, ◌+◌, ◌-◌, ◌<◌, ◌≤◌, ◌==◌, length, List, [], ◌∷◌, take, drop, refl, ◌∙◌, sym, ap, ap₂, subst, arith, length-take, length-drop}
-use Rattle.std.proofs.Common.{Bool, false, IsTrue, inl, inr, Option, None, Some, IfSome, Ok, Err}
-use Rattle.std.proofs.lemmas.Bool.{cases_Bool, cases_lt}
+use Rattle.std.proofs.Common.{◌⊎◌, Bool, false, IsTrue, inl, inr, Option, None, Some, IfSome, Ok, Err}
+use Rattle.std.proofs.lemmas.Bool.{cases_Bool, cases_lt, eqb-true, eqb-false}
 use Rattle.std.proofs.lemmas.List.{take-take, take_all}
 use Rattle.cm_lines.specs.Lines.{line_len, line_size}
 use Rattle.cm_lines.specs.Cut.{past_of}
 use Rattle.cm_lines.specs.declared.limits.Past.{Past}
 use Rattle.cm_lines.specs.declared.limits.Past.TheVariants.{Line, Whole}
 use Rattle.cm_lines.proofs.Lengths.{len_within, len_front, len_past}
-use Rattle.cm_lines.proofs.PastLimits.{past_more, some_past}
+use Rattle.cm_lines.proofs.PastLimits.{PastLine, PastWhole, Within, limits, past_line, past_more, past_whole, some_past}
 use Rattle.cm_io.specs.Cutter.{Cutting, FitsText, Fits, SameFile, unless_past, next_cut, next_of, error_of, is_at_hand}
 use Rattle.cm_io.specs.Cutter.{past_kept, read_to}
-use Rattle.cm_io.specs.CutterSteps.{KeepsMore, IsFound, found_of}
+use Rattle.cm_io.specs.CutterSteps.{KeepsMore, Finds, IsFound, Tells, found_of}
 use Rattle.cm_io.specs.Shelf.{Files, bytes_at, TakesAtMost}
 use Rattle.cm_io.specs.declared.cutter.CutError.{CutError}
 use Rattle.cm_io.specs.declared.cutter.CutError.TheVariants.{Read, TooLong, TooMuch, NoMemory}
@@ -219,6 +219,54 @@ end_is_found (Some files) old cur new more len size keeps fits none same whole l
     (found_kept old cur new (bytes_at files cur.name) len size same
     (last_is_found old cur (bytes_at files cur.name) more len size keeps fits whole len_is size_is
     (let most = open_kept cur none in omega (arith, len_is, size_is, most)) found))
+
+-- ---- what stands at the front
+-- A line that is past no limit.
+past_none : (line whole place len size : ℕ) → past_of line whole place len size ≡ None → ((len ≤ line) ⊎ (whole ≤ place + line)) × (place + size ≤ whole)
+past_none line whole place len size none = elim (limits line whole place len size) [
+  | PastLine long first ↦ absurd (let some = past_line line whole place len size long first in cc)
+  | PastWhole not more ↦ absurd (let some = past_whole line whole place len size not more in cc)
+  | Within not within ↦ (not, within)
+]
+
+no_bytes : (bytes : List ℕ) → length bytes ≡ 0 → bytes ≡ []
+no_bytes [] none = refl
+no_bytes (byte ∷ bytes) none = absurd (omega (arith, none))
+
+-- It is a line, or nothing is kept.
+pub finds_front : (old cur new : Cutting) (more : ℕ) → KeepsMore old cur more → past_kept cur ≡ None → new.kept ≡ cur.kept
+    → Finds old new (found_of (line_len cur.kept) (line_size cur.kept))
+finds_front old cur new more keeps none same =
+    let (not, within) = past_none cur.line cur.whole cur.place (line_len cur.kept) (line_size cur.kept) none in
+    let most = len_within cur.kept in
+    let size = ap length same in
+    let line = keeps.same.line in
+    let whole = keeps.same.whole in
+    let place = keeps.place in
+    elim (cases_Bool (line_size cur.kept == 0)) [
+      | inl is ↦ rw is (no_bytes new.kept (omega (arith, eqb-true (line_size cur.kept) 0 is, size)))
+      | inr isnt ↦
+          let some : line_size cur.kept ≡ 0 → ⊥ = eqb-false (line_size cur.kept) 0 isnt in
+          rw isnt (record {
+            len = omega (arith, most);
+            short = elim not [ inl short ↦ omega (arith, short, line) | inr later ↦ omega (arith, later, within, most, line, whole) ];
+            some = omega (arith, some);
+            kept = omega (arith, size);
+            within = omega (arith, within, place, whole);
+          })
+    ]
+
+-- No LF is kept, and it is told that the file ends: the line goes up to there.
+pub tells_end : (cur new : Cutting) → is_at_hand cur ≡ false → new.kept ≡ cur.kept → IsTrue new.ended
+    → Tells new (found_of (line_len cur.kept) (line_size cur.kept))
+tells_end cur new none same ended =
+    let most = open_kept cur none in
+    let within = len_within cur.kept in
+    let size = ap length same in
+    elim (cases_Bool (line_size cur.kept == 0)) [
+      | inl is ↦ rw is ended
+      | inr isnt ↦ rw isnt (λ _. omega (arith, most, within, size), λ on. absurd (cc))
+    ]
 
 -- ---- more is kept
 pub keeps_on : (old cur new : Cutting) (more n : ℕ) → KeepsMore old cur more → KeepsMore cur new n

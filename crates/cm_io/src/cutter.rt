@@ -4,8 +4,7 @@ ghost use Rattle.std.specs.Prelude.{◌≡◌, ◌≤◌, ◌<◌, ◌+◌, ◌-
 ghost use Rattle.std.specs.Prelude.{Option, Some, None, false, IfOk, IfSome, OnOk, OnErr, IsTrue, Ok, Err};
 ghost use Rattle.std.specs.Borrow.{sem};
 ghost use Rattle.std.specs.Io.BufRead.{Rests};
-ghost use Rattle.cm_lines.specs.Lines.{line_len};
-ghost use Rattle.cm_lines.specs.Cut.{past_of};
+ghost use Rattle.cm_lines.specs.Lines.{line_len, line_size};
 ghost use Rattle.cm_io.specs.Account.{account, ReadsFile};
 ghost use Rattle.cm_io.specs.Shelf.{Files, bytes_at, bytes_given};
 ghost use Rattle.cm_io.specs.Cutter.{Cutting, begun, read_to, is_at_hand, ends, error_of, past_kept, Fits, IsCut, IsAfter};
@@ -180,22 +179,16 @@ impl LineCutter {
         ensures wants { result ≡ Err CutError.Read → is_at_hand self.old ≡ false }
         ensures few { read_to self.old ≤ self.old.whole + 1 }
     {
-        let kept = self.kept().len();
+        let kept = self.end - self.start;
         loop {
-            let len = self.first_len();
-            let size = self.kept().len().min(len + 1);
-            if let Some(past) = self.past(len, size) {
+            if let Some(past) = self.past() {
                 return Err(error_of(past));
             }
             if self.is_at_hand() {
-                self.note_end(false);
-                return Ok(found_of(len, size));
+                return Ok(self.front(false));
             }
             match self.fill(shelf) {
-                Ok(0) => {
-                    self.note_end(true);
-                    return Ok(found_of(len, size));
-                }
+                Ok(0) => return Ok(self.front(true)),
                 Ok(_) => {}
                 Err(why) => {
                     self.keep(kept);
@@ -205,35 +198,35 @@ impl LineCutter {
         }
     }
 
-    // The bytes that are kept.
-    fn kept(&self) -> &[u8]
-        ensures is { result.now ≡ self.now.kept }
+    // The limit that the first line of what is kept is past.
+    fn past(&self) -> Option<Past>
+        ensures is { result ≡ past_kept self.now }
         ensures few { read_to self.now ≤ self.now.whole + 1 }
         ensures reached { self.now.place ≤ self.now.whole }
     {
-        &self.buffer[self.start..self.end]
-    }
-
-    // How long the first line of what is kept is.
-    #[tactic(auto, using(cm_lines::proofs::Lengths::len_within))]
-    fn first_len(&self) -> usize
-        ensures len { result ≡ line_len self.now.kept }
-        ensures within { result ≤ length self.now.kept }
-    {
-        self.len
-    }
-
-    // The limit that a line is past that has so many bytes, and so many with its LF.
-    fn past(&self, len: usize, size: usize) -> Option<Past>
-        requires { size ≤ length self.now.kept }
-        ensures { result ≡ past_of self.now.line self.now.whole self.now.place len size }
-    {
-        if self.line < len as u64 && self.place + self.line < self.whole {
+        let size = (self.end - self.start).min(self.len + 1);
+        if self.line < self.len as u64 && self.place + self.line < self.whole {
             Some(Past::Line)
         } else if self.whole < self.place + size as u64 {
             Some(Past::Whole)
         } else {
             None
+        }
+    }
+
+    // What stands at the front of what is kept: a line, or none where nothing is kept. Whether a read told that no byte
+    // comes after it is noted.
+    fn front(&mut self, ended: bool) -> Option<Found>
+        ensures noted { self.new ≡ record self.old { ended = ended } }
+        ensures is { result ≡ found_of (line_len self.old.kept) (line_size self.old.kept) }
+    {
+        self.ended = ended;
+        let len = self.len;
+        let size = (self.end - self.start).min(len + 1);
+        if size == 0 {
+            None
+        } else {
+            Some(Found { len, size })
         }
     }
 
@@ -244,13 +237,6 @@ impl LineCutter {
     {
         self.end = self.start + kept;
         self.len = self.len.min(kept);
-    }
-
-    // Notes whether a read told that no byte comes after what is given next.
-    fn note_end(&mut self, ended: bool)
-        ensures { self.new ≡ record self.old { ended = ended } }
-    {
-        self.ended = ended;
     }
 
     // Reads on, behind what is kept, and says how many bytes came: 0 at the end of the file alone.
@@ -297,17 +283,6 @@ impl LineCutter {
 pub(crate) struct Found {
     len: usize,
     size: usize,
-}
-
-// A line of so many bytes, and so many with its LF; none where that is none.
-fn found_of(len: usize, size: usize) -> Option<Found>
-    ensures { result ≡ found_of len size }
-{
-    if size == 0 {
-        None
-    } else {
-        Some(Found { len, size })
-    }
 }
 
 // What is answered at a limit.

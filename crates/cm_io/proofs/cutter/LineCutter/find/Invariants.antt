@@ -1,4 +1,4 @@
-use Rattle.std.proofs.Common.{◌≡◌, ◌+◌, ◌-◌, length, IsTrue}
+use Rattle.std.proofs.Common.{◌≡◌, ◌≤◌, ◌+◌, ◌-◌, length, IsTrue}
 use Rattle.std.specs.Prelude.{IfSome, Some}
 use Rattle.cm_io.specs.Account.{account, ReadsFile}
 use Rattle.cm_io.specs.Cutter.{Fits, read_to, is_at_hand, past_kept}
@@ -12,6 +12,7 @@ invariant-loop-past g l = record {
   ended : l.self.ended ≡ l.initial.self.ended;
   shows : IfSome (past_kept l.initial.self) (λ past. past_kept l.self ≡ Some past);
   kept : l.kept ≡ length l.initial.self.kept;
+  few : read_to l.initial.self ≤ l.initial.self.whole + 1;
   fits : Fits (g.H.Shelf.held l.initial.shelf) l.self;
   unread : IsTrue (is_at_hand l.initial.self) → l.shelf ≡ l.initial.shelf;
   file : ReadsFile (account g.H.Shelf l.initial.shelf) (account g.H.Shelf l.shelf) l.initial.self.name
