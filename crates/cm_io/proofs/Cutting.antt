@@ -11,7 +11,7 @@ use Rattle.cm_lines.proofs.Lengths.{len_within, len_front, len_past}
 use Rattle.cm_lines.proofs.PastLimits.{PastLine, PastWhole, Within, limits, past_line, past_more, past_whole, some_past}
 use Rattle.cm_io.specs.Cutter.{Cutting, FitsText, Fits, SameFile, unless_past, next_cut, next_of, error_of, is_at_hand}
 use Rattle.cm_io.specs.Cutter.{past_kept, read_to}
-use Rattle.cm_io.specs.CutterSteps.{KeepsMore, Finds, IsFound, Tells, found_of}
+use Rattle.cm_io.specs.CutterSteps.{KeepsMore, Finds, IsFound, found_of}
 use Rattle.cm_io.specs.Shelf.{Files, bytes_at, TakesAtMost}
 use Rattle.cm_io.specs.declared.cutter.CutError.{CutError}
 use Rattle.cm_io.specs.declared.cutter.CutError.TheVariants.{Read, TooLong, TooMuch, NoMemory}
@@ -229,7 +229,8 @@ past_none line whole place len size none = elim (limits line whole place len siz
   | Within not within ↦ (not, within)
 ]
 
-no_bytes : (bytes : List ℕ) → length bytes ≡ 0 → bytes ≡ []
+-- No byte.
+pub no_bytes : (bytes : List ℕ) → length bytes ≡ 0 → bytes ≡ []
 no_bytes [] none = refl
 no_bytes (byte ∷ bytes) none = absurd (omega (arith, none))
 
@@ -254,18 +255,6 @@ finds_front old cur new more keeps none same =
             kept = omega (arith, size);
             within = omega (arith, within, place, whole);
           })
-    ]
-
--- No LF is kept, and it is told that the file ends: the line goes up to there.
-pub tells_end : (cur new : Cutting) → is_at_hand cur ≡ false → new.kept ≡ cur.kept → IsTrue new.ended
-    → Tells new (found_of (line_len cur.kept) (line_size cur.kept))
-tells_end cur new none same ended =
-    let most = open_kept cur none in
-    let within = len_within cur.kept in
-    let size = ap length same in
-    elim (cases_Bool (line_size cur.kept == 0)) [
-      | inl is ↦ rw is ended
-      | inr isnt ↦ rw isnt (λ _. omega (arith, most, within, size), λ on. absurd (cc))
     ]
 
 -- ---- more is kept

@@ -1,5 +1,5 @@
 -- A cutter after the line that it gave.
-use Rattle.std.proofs.Common.{◌≡◌, ℕ, ◌+◌, ◌-◌, ◌≤◌, length, List, [], ◌∷◌, take, drop, refl, ◌∙◌, sym, ap, ap₂, subst, arith}
+use Rattle.std.proofs.Common.{◌≡◌, ℕ, ◌+◌, ◌-◌, ◌≤◌, length, List, [], take, drop, refl, ◌∙◌, sym, ap, ap₂, subst, arith}
 use Rattle.std.proofs.Common.{Bool, IsTrue, Option, None, Some, IfSome, Result, Ok, Err, Bor}
 use Rattle.std.proofs.lemmas.List.{drop-take, take-take, drop-drop}
 use Rattle.cm_lines.specs.Lines.{line_size}
@@ -12,6 +12,7 @@ use Rattle.cm_io.specs.declared.cutter.CutError.{CutError}
 use Rattle.cm_io.specs.declared.cutter.CutError.TheVariants.{Read, TooLong, TooMuch, NoMemory}
 use Rattle.cm_io.specs.declared.cutter.Found.{Found}
 use Rattle.cm_io.proofs.Coming.{gives_line, gives_limit}
+use Rattle.cm_io.proofs.Cutting.{no_bytes}
 use Rattle.cm_io.proofs.Kept.{part, part_len, part_after, cutting}
 
 -- what fits fits past some bytes of it
@@ -71,10 +72,6 @@ given_after {F} account account' old mid name line whole place ended xs a b more
           (λ files all. omega (arith, all, before, now, finds.kept)) (end is_end);
     })
   where
-    no_bytes : (bytes : List ℕ) → length bytes ≡ 0 → bytes ≡ []
-    no_bytes [] none = refl
-    no_bytes (byte ∷ bytes) none = absurd (omega (arith, none))
-
     moved : (held' : Option Files) (P Q : Files → Type 0) → ((files : Files) → P files → Q files) → IfSome held' P → IfSome held' Q
     moved None P Q goes holds = tt
     moved (Some files) P Q goes holds = goes files holds

@@ -3,11 +3,9 @@ use Rattle.std.proofs.Common.{◌≡◌, ℕ, ◌+◌, ◌-◌, ◌≤◌, min, 
 use Rattle.std.proofs.Common.{Bool, Option, None, Some, IfSome, Result, Ok, Err, OnErr}
 use Rattle.std.proofs.Math.Seq.{take-add}
 use Rattle.std.proofs.lemmas.List.{drop-take, take-take, drop-drop}
-use Rattle.cm_lines.specs.Cut.{past_of}
-use Rattle.cm_lines.specs.Lines.{line_len, line_size}
-use Rattle.cm_lines.specs.declared.limits.Past.{Past}
+use Rattle.cm_lines.specs.Lines.{line_len}
 use Rattle.cm_lines.proofs.Lengths.{len_within, len_from, len_take}
-use Rattle.cm_io.specs.Cutter.{Cutting, FitsText, Fits, past_kept, read_to}
+use Rattle.cm_io.specs.Cutter.{Cutting, FitsText, Fits, read_to}
 use Rattle.cm_io.specs.CutterSteps.{KeepsMore}
 use Rattle.cm_io.specs.Shelf.{Files, bytes_at}
 
@@ -60,17 +58,6 @@ cutting name line whole place ended xs a b =
 -- its first line is no longer than what is kept
 pub len_part : (xs : List ℕ) (a b len : ℕ) → b ≤ length xs → len ≡ line_len (part xs a b) → len ≤ b - a
 len_part xs a b len within is = omega (arith, is, len_within (part xs a b), part_len xs a b within)
-
--- nor with its LF
-pub size_part : (xs : List ℕ) (a b len : ℕ) → b ≤ length xs → len ≡ line_len (part xs a b) → min (b - a) (len + 1) ≡ line_size (part xs a b)
-size_part xs a b len within is = omega (arith, is, part_len xs a b within)
-
--- the limit that it is past
-pub past_part : (c : Cutting) (name : List ℕ) (line whole place : ℕ) (ended : Bool) (xs : List ℕ) (a b len size : ℕ) (past : Option Past)
-    → cutting name line whole place ended xs a b ≡ c → b ≤ length xs → len ≡ line_len (part xs a b) → size ≡ min (b - a) (len + 1)
-    → past ≡ past_of line whole place len size → past ≡ past_kept c
-past_part c name line whole place ended xs a b len size past is within len_is size_is found =
-    found ∙ ap₂ (λ (l : ℕ) (s : ℕ). past_of line whole place l s) len_is (size_is ∙ size_part xs a b len within len_is) ∙ ap past_kept is
 
 -- After a read of n bytes behind what is kept.
 pub keeps_read : (old : Cutting) (name : List ℕ) (line whole place : ℕ) (e : Bool) (xs ys : List ℕ) (a b n : ℕ)

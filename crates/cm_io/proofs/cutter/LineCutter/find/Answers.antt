@@ -1,8 +1,8 @@
-use Rattle.std.proofs.Common.{arith, rules, ap, ◌≡◌, List, ℕ, ◌-◌, length, refl, sym, ◌∙◌}
+use Rattle.std.proofs.Common.{arith, rules, ap, List, ℕ, refl, sym, ◌∙◌}
 use Rattle.cm_lines.specs.Lines.{line_len, line_size}
 use Rattle.cm_io.specs.Cutter.{Cutting}
 use Rattle.cm_io.specs.CutterSteps.{found_of}
-use Rattle.cm_io.proofs.Cutting.{past_now, past_found, line_is_found, end_is_found, finds_front, tells_end, kept_same, keeps_noted, keeps_on, none_was, not_hand, breaks_within}
+use Rattle.cm_io.proofs.Cutting.{past_now, past_found, line_is_found, end_is_found, finds_front, kept_same, keeps_noted, keeps_on, none_was, not_hand, breaks_within}
 use Rattle.cm_io.proofs.FileReads.{file_then}
 use Rattle.cm_io.proofs.cutter.LineCutter.find.Goals as goal
 
@@ -33,14 +33,6 @@ returns-in-Ok-eq0-clause-is g c =
     (ap (λ (v : Cutting). v.kept) c.front-in-Ok-eq0.ensures.noted ∙ same)
     (rw c.loop-past.invariant.file.held at (c.in-Ok-eq0.ensures.whole c.in-Ok-eq0.field-0-test))
     refl refl (sym c.past.ensures.is ∙ c.in_default.is))
-
-pub returns-in-Ok-eq0-clause-ends : goal.returns-in-Ok-eq0-clause-ends
-returns-in-Ok-eq0-clause-ends g c =
-    let same = kept_same c.loop-past.self c.fill.new.self _ c.in-Ok-eq0.ensures.keeps c.in-Ok-eq0.field-0-test in
-    rw (c.front-in-Ok-eq0.ensures.is ∙ ap (λ (kept : List ℕ). found_of (line_len kept) (line_size kept)) same)
-    (tells_end c.loop-past.self c.front-in-Ok-eq0.new.self (sym c.is_at_hand.ensures ∙ c.if-is_at_hand.false)
-    (ap (λ (v : Cutting). v.kept) c.front-in-Ok-eq0.ensures.noted ∙ same)
-    (ap (λ (v : Cutting). v.ended) c.front-in-Ok-eq0.ensures.noted))
 
 pub returns-then-is_at_hand-clause-stays : goal.returns-then-is_at_hand-clause-stays
 returns-then-is_at_hand-clause-stays g c =
