@@ -9,4 +9,3 @@ pub mod Families
 pub mod Errors
 pub mod Chains
 pub mod ChildPids
-pub mod Steps

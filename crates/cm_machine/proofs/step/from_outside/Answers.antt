@@ -21,8 +21,8 @@ others (Exec f) error a b c d e g h = absurd (g f refl)
 others Exit error a b c d e g h = absurd (h refl)
 others call error a b c d e g h = refl
 
-pub returns-in_default-2 : goal.returns-in_default-2
-returns-in_default-2 c =
+pub returns-in_default-call : goal.returns-in_default-call
+returns-in_default-call c =
     rw c.in-Err.is (c.is_common_error.ensures
-    ∙ others c.args.call.now c.in-Err.error c.in_default-2.not-SetFsUid c.in_default-2.not-SetFsGid c.in_default-2.not-CloneUser c.in_default-2.not-Unshare
-    c.in_default-2.not-SetNs c.in_default-2.not-Exec c.in_default-2.not-Exit)
+    ∙ others c.args.call.now c.in-Err.error c.in_default-call.not-SetFsUid c.in_default-call.not-SetFsGid c.in_default-call.not-CloneUser c.in_default-call.not-Unshare
+    c.in_default-call.not-SetNs c.in_default-call.not-Exec c.in_default-call.not-Exit)

@@ -19,5 +19,5 @@ returns-else-is_same-clause-unchanged c =
     let it : c.index-p.result.now ≡ p.0
     = same_there c.procs.inside.list.items c.args.at c.index-p.result.now p.0 (rw items c.requires.here) c.index-p.ensures (rw items p.1) in
     let old : c.without_groups-old.result ≡ without_groups p.0.cred
-    = c.without_groups-old.ensures ∙ ap without_groups c.deref.ensures.value ∙ ap (λ (q : Process). without_groups q.cred) (c.p.view_is ∙ it) in
+    = c.without_groups-old.ensures ∙ ap without_groups c.deref.ensures ∙ ap (λ (q : Process). without_groups q.cred) (c.p.view_is ∙ it) in
     undone_before _ _ _ c.args.at c.ask.new.state c.args.state.now c.undo.new.state _ (c.in_ok-res.ensures.asked p.0 p.1) old c.undo.ensures
