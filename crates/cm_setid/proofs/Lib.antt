@@ -1,2 +1,1 @@
 mod FsSets
-mod Roots
