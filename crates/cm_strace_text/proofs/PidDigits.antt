@@ -1,11 +1,13 @@
 -- Pids that stand at the front of a line, digit by digit.
-use Rattle.std.proofs.Common.{◌≡◌, ℕ, ◌+◌, ◌-◌, ◌*◌, ◌<◌, suc, length, take, true, false, List, ◌∷◌, Option, None, refl, ap, ◌∙◌, arith}
+use Rattle.std.proofs.Common.{◌≡◌, ℕ, ◌+◌, ◌-◌, ◌*◌, ◌<◌, ◌≤◌, suc, length, take, true, false, List, [], ◌∷◌, Option, Some, None}
+use Rattle.std.proofs.Common.{refl, ap, sym, ◌∙◌, arith}
+use Rattle.std.proofs.lemmas.Bool.{and_from, cond-true, le-leb}
 use Rattle.std.specs.List.{list_all, prefix_len}
 use Rattle.std.specs.Prelude.{fold, nat_le, if◌then◌else◌}
-use Rattle.cm_base.specs.Limits.{greatest_number}
+use Rattle.cm_base.specs.Limits.{greatest_number, last_pid}
 use Rattle.cm_base.specs.Number.{is_digit}
 use Rattle.cm_strace_text.proofs.Cuts.{no_blank}
-use Rattle.model_cred.specs.Process.{as_pid}
+use Rattle.model_cred.specs.Process.{as_pid, is_pid}
 use Rattle.model_strace.specs.Marks.{first_word, after_first_word}
 use Rattle.model_text.specs.Cut.{is_blank}
 
@@ -50,3 +52,15 @@ rest_goes_on digit text low =
     let more : 1 + n ≡ suc n = omega arith in
     let longer : length ((48 + digit) ∷ take n text) ≡ suc (length (take n text)) = omega arith in
     rw (digit_shows digit low, more, longer) refl
+
+-- digits with no more of them after them spell their number, where it is a pid
+pub pid_ends : (number pid : ℕ) (text : List ℕ) → first_word text ≡ [] → (1 ≤ number) × (number ≤ last_pid) → pid ≡ number
+    → pid_on number (first_word text) ≡ Some pid
+pid_ends number pid text none fits same =
+    let small : number ≤ 4194304 = fits.1 in
+    let low : number ≤ 4294967295 = omega (arith, small) in
+    ap (pid_on number) none
+    ∙ cond-true (nat_le number greatest_number) (as_pid number) None (le-leb number greatest_number low)
+    ∙ cond-true (is_pid number) (Some number) None
+    (and_from (nat_le 1 number) (nat_le number last_pid) (le-leb 1 number fits.0) (le-leb number last_pid fits.1))
+    ∙ ap (λ (n : ℕ). Some n) (sym same)

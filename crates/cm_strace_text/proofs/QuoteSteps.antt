@@ -1,11 +1,9 @@
 -- Quoted texts byte by byte.
-use Rattle.std.proofs.Common.{◌≡◌, ◌≢◌, ℕ, zero, suc, ◌-◌, ◌≤◌, List, [], ◌∷◌, ◌++◌, Option, Some, None, length, take, drop}
+use Rattle.std.proofs.Common.{◌≡◌, ◌≢◌, ℕ, zero, suc, ◌-◌, ◌<◌, ◌≤◌, List, [], ◌∷◌, ◌++◌, Option, Some, None, length, take, drop}
 use Rattle.std.proofs.Common.{get_or, refl, ap, sym, ◌∙◌, append_assoc, append-nil, arith}
-use Rattle.std.proofs.Math.Seq.{take-length}
 use Rattle.std.proofs.lemmas.Bool.{ne_eqb}
 use Rattle.std.specs.Prelude.{option_map}
-use Rattle.memchr.specs.Find.{Nowhere, Passes, is_byte2}
-use Rattle.cm_strace_text.proofs.Runs.{is_neither}
+use Rattle.cm_strace_text.proofs.Cuts.{after_first}
 use Rattle.cm_strace_text.specs.Quotes.{preceded}
 use Rattle.model_strace.specs.Quoted.{Reach, Step, Text, Breaks, Closes, Goes, after_bytes, step, stepped, unquoted}
 
@@ -21,10 +19,6 @@ step_after : (old : List ℕ) (s : Step) (text : List ℕ) (next : Reach → Opt
 step_after old Breaks text next = refl
 step_after old (Closes made) text next = refl
 step_after old (Goes made reach) text next = after_both old made (next reach)
-
--- the bytes after the first one
-after_first : (byte : ℕ) (text : List ℕ) → take (length (byte ∷ text) - 1) text ≡ text
-after_first byte text = let count : length (byte ∷ text) - 1 ≡ length text = omega arith in rw count (take-length text)
 
 -- a byte more of what is left, after which the reader goes on
 pub byte_more : (old made : List ℕ) (reach reached : Reach) (text : List ℕ) → 1 ≤ length text
@@ -51,14 +45,15 @@ plain_byte old byte text quote slash =
     (sym (plain_step byte quote slash))
 
 -- so many of them
-pub plain_run : (old text : List ℕ) (n : ℕ) → n ≤ length text → Nowhere (Passes (is_byte2 34 92) text) 0 n
+pub plain_run : (old text : List ℕ) (n : ℕ) → n ≤ length text
+    → ((k : ℕ) → 0 ≤ k → k < n → (get_or text k 0 ≢ 34) × (get_or text k 0 ≢ 92))
     → option_map (after_bytes (old ++ take n text)) (unquoted Text (drop n text))
     ≡ option_map (after_bytes old) (unquoted Text text)
 plain_run old text zero within none =
     ap (λ (bytes : List ℕ). option_map (after_bytes bytes) (unquoted Text text)) (append-nil old)
 plain_run old [] (suc n) within none = absurd (omega (arith, within))
 plain_run old (byte ∷ text) (suc n) within none =
-    let here = is_neither 34 92 byte (none 0 (omega arith) (omega arith)) in
+    let here : (byte ≢ 34) × (byte ≢ 92) = none 0 (omega arith) (omega arith) in
     ap (λ (bytes : List ℕ). option_map (after_bytes bytes) (unquoted Text (drop n text)))
     (sym (append_assoc old (byte ∷ []) (take n text)))
     ∙ plain_run (old ++ byte ∷ []) text n (omega (arith, within))

@@ -4,8 +4,11 @@ use Rattle.std.proofs.Common.{Option, Some, None, refl, ap, subst, sym, arith, i
 use Rattle.std.proofs.lemmas.Bool.{cases_Bool, cond-true, cond-false, eqb-true, ne_eqb}
 use Rattle.std.proofs.lemmas.List.{drop_more, drop_all}
 use Rattle.std.specs.Option.{option_or}
+use Rattle.std.specs.Prelude.{IfSome}
 use Rattle.model_rules.proofs.Options.{or_none}
-use Rattle.cm_strace_text.specs.Places.{sign_from}
+use Rattle.cm_strace_text.proofs.QuoteEnds.{quote_signs}
+use Rattle.cm_strace_text.proofs.Runs.{same_along}
+use Rattle.cm_strace_text.specs.Places.{quote_end, sign_from}
 use Rattle.model_strace.specs.Written.{Place, Plain, After, Quoted, Escaped, plain_after, place_after, sign_here, last_sign}
 use Rattle.model_text.specs.Cut.{is_blank}
 
@@ -23,42 +26,23 @@ moves place next text at byte below is after none =
     ∙ rw (after, none) (or_none (sign_from next (at + 1) text))
 
 -- a quote in no quotes
-pub quote_begins : (text : List ℕ) (at : ℕ) → at < length text → get_or text at 0 ≡ 34
+quote_begins : (text : List ℕ) (at : ℕ) → at < length text → get_or text at 0 ≡ 34
     → sign_from Plain at text ≡ sign_from Quoted (at + 1) text
 quote_begins text at below is = moves Plain Quoted text at 34 below is refl refl
+
+-- a quoted text
+pub quote_passes : (text : List ℕ) (at to : ℕ) → at < length text → get_or text at 0 ≡ 34 → to ≡ quote_end (at + 1) text
+    → sign_from Plain at text ≡ option_or (sign_from Plain to text) None
+quote_passes text at to below is ends =
+    quote_begins text at below is ∙ quote_signs text (at + 1) to ends ∙ sym (or_none (sign_from Plain to text))
 
 -- a closing parenthesis in no quotes
 pub paren_stands : (text : List ℕ) (at : ℕ) → at < length text → get_or text at 0 ≡ 41
     → sign_from Plain at text ≡ sign_from (After at) (at + 1) text
 paren_stands text at below is = moves Plain (After at) text at 41 below is refl refl
 
--- a quote in quotes
-pub quote_ends : (text : List ℕ) (at : ℕ) → at < length text → get_or text at 0 ≡ 34
-    → sign_from Quoted at text ≡ sign_from Plain (at + 1) text
-quote_ends text at below is = moves Quoted Plain text at 34 below is refl refl
-
--- a backslash in quotes
-slash_stands : (text : List ℕ) (at : ℕ) → at < length text → get_or text at 0 ≡ 92
-    → sign_from Quoted at text ≡ sign_from Escaped (at + 1) text
-slash_stands text at below is = moves Quoted Escaped text at 92 below is refl refl
-
--- a backslash in quotes, and a byte after it
-pub escape_stands : (text : List ℕ) (at : ℕ) → at < length text → at + 1 < length text → get_or text at 0 ≡ 92
-    → sign_from Quoted at text ≡ sign_from Quoted (at + 2) text
-escape_stands text at below inside is =
-    let two : at + 1 + 1 ≡ at + 2 = omega arith in
-    slash_stands text at below is
-    ∙ moves Escaped Quoted text (at + 1) (get_or text (at + 1) 0) inside refl refl refl
-    ∙ ap (λ (n : ℕ). sign_from Quoted n text) two
-
--- a backslash in quotes at the text's end
-pub slash_ends : (text : List ℕ) (at : ℕ) → at < length text → length text ≤ at + 1 → get_or text at 0 ≡ 92
-    → sign_from Quoted at text ≡ sign_from Quoted (at + 1) text
-slash_ends text at below ends is =
-    slash_stands text at below is ∙ none_left Escaped text (at + 1) ends ∙ sym (none_left Quoted text (at + 1) ends)
-
 -- another byte in no quotes
-pub plain_passes : (text : List ℕ) (at : ℕ) → at < length text → get_or text at 0 ≢ 34 → get_or text at 0 ≢ 41
+plain_passes : (text : List ℕ) (at : ℕ) → at < length text → get_or text at 0 ≢ 34 → get_or text at 0 ≢ 41
     → sign_from Plain at text ≡ sign_from Plain (at + 1) text
 plain_passes text at below quote paren =
     let byte : ℕ = get_or text at 0 in
@@ -66,17 +50,13 @@ plain_passes text at below quote paren =
     (cond-false (byte == 34) Quoted (if byte == 41 then After at else Plain) (ne_eqb byte 34 quote)
     ∙ cond-false (byte == 41) (After at) Plain (ne_eqb byte 41 paren)) refl
 
--- what a byte in no quotes does
-pub ruleset plain_steps = (quote_begins, paren_stands, none_left)
-
--- another byte in quotes
-pub quoted_passes : (text : List ℕ) (at : ℕ) → at < length text → get_or text at 0 ≢ 34 → get_or text at 0 ≢ 92
-    → sign_from Quoted at text ≡ sign_from Quoted (at + 1) text
-quoted_passes text at below quote slash =
-    let byte : ℕ = get_or text at 0 in
-    moves Quoted Quoted text at byte below refl
-    (cond-false (byte == 34) Plain (if byte == 92 then Escaped else Quoted) (ne_eqb byte 34 quote)
-    ∙ cond-false (byte == 92) Escaped Quoted (ne_eqb byte 92 slash)) refl
+-- so many of them
+pub plain_run : (text : List ℕ) (from to : ℕ) → from ≤ to → to ≤ length text
+    → ((k : ℕ) → from ≤ k → k < to → (get_or text k 0 ≢ 34) × (get_or text k 0 ≢ 41))
+    → sign_from Plain from text ≡ sign_from Plain to text
+plain_run text from to up within none =
+    same_along (λ (at : ℕ). sign_from Plain at text) from to up
+    (λ k low below. let other = none k low below in plain_passes text k (omega arith) other.0 other.1)
 
 -- a blank is no equals sign
 blank_no_sign : (byte : ℕ) → is_blank byte ≡ true → (byte == 61) ≡ false
@@ -124,6 +104,7 @@ pub no_sign_ends : (text : List ℕ) (paren at : ℕ) → length text ≤ at
 no_sign_ends text paren at ends =
     none_left (After paren) text at ends ∙ sym (none_left Plain text at ends) ∙ sym (or_none (sign_from Plain at text))
 
--- the text's end in quotes
-pub quote_open : (text : List ℕ) (at : ℕ) → length text ≤ at → sign_from Quoted at text ≡ sign_from Plain at text
-quote_open text at ends = none_left Quoted text at ends ∙ sym (none_left Plain text at ends)
+-- what two answers keep, the first of them does
+pub or_keeps : (P : ℕ × ℕ → Type 0) (x y : Option (ℕ × ℕ)) → IfSome x P → IfSome y P → IfSome (option_or x y) P
+or_keeps P None y first second = second
+or_keeps P (Some places) y first second = first

@@ -1,25 +1,15 @@
--- How deep the code's reader of arguments is, in the words of the definitions, and the arguments that are left.
-use Rattle.std.specs.Prelude.{ℕ, ◌+◌, ◌==◌, ◌&&◌, Bool, map, List, [], ◌∷◌, Option, Some, None, if◌then◌else◌}
+-- Where the code's reader of arguments stops, in the words of the definitions, and the arguments that are left.
+use Rattle.std.specs.Prelude.{ℕ, ◌+◌, ◌==◌, ◌&&◌, ◌||◌, Bool, map, List, [], ◌∷◌, Option, Some, None, if◌then◌else◌}
 use Rattle.std.specs.Borrow.{Bor}
-use Rattle.cm_strace_text.specs.declared.arguments.Depth.{Depth}
-use Rattle.cm_strace_text.specs.declared.arguments.Depth.TheVariants as code
 use Rattle.cm_strace_text.specs.declared.arguments.End.{End}
 use Rattle.cm_strace_text.specs.declared.arguments.End.TheVariants as end
 use Rattle.model_strace.specs.Marks.{trimmed}
 use Rattle.model_strace.specs.Written as model
-use Rattle.model_strace.specs.Written.{depth_after, is_outside, comma_parts, closes}
+use Rattle.model_strace.specs.Written.{depth_after, is_outside, comma_parts, opens, closes}
 
--- the depth of the definitions
-abbrev pub depth_is : Depth → model.Depth
-depth_is (code.Open depth) = model.Open depth
-depth_is (code.InQuotes depth) = model.InQuotes depth
-depth_is (code.InEscape depth) = model.InEscape depth
-
--- the number of brackets
-abbrev pub brackets : Depth → ℕ
-brackets (code.Open depth) = depth
-brackets (code.InQuotes depth) = depth
-brackets (code.InEscape depth) = depth
+-- the byte is a quote, a comma or a bracket
+abbrev pub is_stop : ℕ → Bool
+is_stop byte = byte == 34 || byte == 44 || opens byte || closes byte
 
 -- the byte is such an end
 abbrev pub ends_at : End → ℕ → Bool

@@ -1,13 +1,12 @@
 // What the body of a line is: the end of a process, a call, or a part of one (strace(1), "-f").
-ghost use Rattle.std.specs.Prelude.{◌≡◌, ◌==◌, ◌||◌, ◌∷◌, [], Some, IsTrue, codes, is_some, option_map, option_and_then};
+ghost use Rattle.std.specs.Prelude.{◌≡◌, ◌∷◌, [], Some, codes, is_some, option_map, option_and_then};
 ghost use Rattle.cm_base.specs.Number.{is_number};
 ghost use Rattle.cm_strace_text.specs.Lines.{body_is};
-ghost use Rattle.model_strace.specs.Body.{Whole, body_of, marked_body, end_body, words_before_plus, call_body, after_dots, is_end, are_number, after_words};
+ghost use Rattle.model_strace.specs.Body.{body_of, marked_body, end_body, words_before_plus, call_body, after_dots, is_end, are_number, after_words};
 ghost use Rattle.model_strace.specs.Marks.{without_front, after_mark};
 ghost use Rattle.model_text.specs.Cut.{tokens_of};
 
-use crate::blanks::{cut_word, without_front};
-use crate::marks::{after_mark, before_mark, is_word};
+use crate::marks::{after_mark, before_mark, cut_word, is_word, without_front};
 use cm_base::{BadNumber, read_u32};
 use cm_tokens::next_token;
 
@@ -28,38 +27,22 @@ pub enum Body<'a> {
     Whole(&'a [u8]),
 }
 
-/// What a body is: one that begins with `---` tells of a signal, one between two marks `+++` of an end.
+/// What a body is: one that begins with `---` tells of a signal, one between two marks `+++` of an end. The bytes at its
+/// ends tell most bodies to be calls: no mark begins or ends with them.
 #[inline]
+#[tactic(auto, using(crate::proofs::Unmarked::unmarked))]
 pub fn read_body(text: &[u8]) -> Body<'_>
     ensures { body_is result ≡ body_of text.now }
 {
-    if is_unmarked(text) {
+    if let [first, .., last] = text
+        && *first != b'-'
+        && *first != b'+'
+        && *first != b'<'
+        && *last != b'>'
+    {
         return Body::Whole(text);
     }
     read_marked(text)
-}
-
-// The bytes at its ends tell that the text is a call: no mark begins or ends with them.
-#[inline]
-#[tactic(auto, using(crate::proofs::Unmarked::unmarked))]
-fn is_unmarked(text: &[u8]) -> bool
-    ensures { IsTrue result → Whole text.now ≡ body_of text.now }
-{
-    if text.is_empty() {
-        return false;
-    }
-    if begins_mark(text[0]) {
-        return false;
-    }
-    text[text.len() - 1] != b'>'
-}
-
-// A mark at a body's front begins with the byte.
-#[inline]
-fn begins_mark(byte: u8) -> bool
-    ensures { result ≡ (byte == 45 || byte == 43 || byte == 60) }
-{
-    byte == b'-' || byte == b'+' || byte == b'<'
 }
 
 // What a body is that may have marks.

@@ -4,23 +4,19 @@
 #![tactic(auto)]
 
 mod arguments;
-mod blanks;
 mod body;
 mod marks;
 mod members;
-mod names;
-mod pids;
 mod quoted;
 mod row;
-mod spans;
 mod written;
 
 pub use arguments::{next_argument, read_arguments};
-pub use blanks::{trimmed, without_front};
 pub use body::{Body, read_body};
-pub use marks::{after_mark, before_mark, cut_at, is_word};
+pub use marks::{
+    after_mark, before_mark, cut_at, cut_name, ends_name, is_word, trimmed, without_front,
+};
 pub use members::{bracketed, bracketed_whole, value_of};
-pub use names::{call_name, cut_name, ends_name, without_32};
 pub use quoted::{Quote, read_quote};
 pub use row::{PidLine, read_row};
-pub use written::{Written, read_written};
+pub use written::{Written, call_name, read_written, without_32};

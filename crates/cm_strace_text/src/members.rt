@@ -4,8 +4,7 @@ ghost use Rattle.model_strace.specs.Marks.{after_mark};
 ghost use Rattle.model_strace.specs.Written.{bracketed, bracketed_whole, value_of};
 
 use crate::arguments::before_closing;
-use crate::blanks::without_front;
-use crate::marks::{after_mark, before_mark};
+use crate::marks::{after_mark, before_mark, without_front};
 
 /// What stands between the brackets of a text that begins with this one. None exactly where it begins otherwise.
 pub fn bracketed<'a>(left: &[u8], text: &'a [u8]) -> Option<&'a [u8]>

@@ -7,9 +7,7 @@ ghost use Rattle.model_strace.specs.Quoted as model;
 ghost use Rattle.model_strace.specs.Quoted.{escapes, escape_step, is_octal, octal_end, slash_step, step, text_step};
 ghost use Rattle.model_strace.specs.Quoted.{after_bytes, unquoted, quote_of, quote_before, whole_text};
 
-use crate::blanks::trimmed;
-use crate::marks::{after_mark, is_word};
-use crate::spans::span_to;
+use crate::marks::{after_mark, is_word, next_of, trimmed};
 use cm_base::NoMemory;
 use cm_tokens::put;
 use std::alloc::Global;
@@ -128,7 +126,7 @@ fn take_run<'a>(bytes: &mut Vec<u8>, text: &'a [u8]) -> Result<&'a [u8], NoMemor
         ≡ option_map (after_bytes bytes.old.items) (unquoted model.Text text.now)) }
     ensures shorter { OrNoMemory result (λ rest. length rest.now ≤ length text.now) }
 {
-    let (run, rest) = text.split_at(span_to(b'"', b'\\', text));
+    let (run, rest) = text.split_at(next_of(b'"', b'\\', text, 0));
     put(bytes, run)?;
     Ok(rest)
 }
