@@ -9,7 +9,7 @@ use Rattle.model_rules.proofs.Options.{or_none}
 use Rattle.cm_strace_text.proofs.QuoteEnds.{quote_signs}
 use Rattle.cm_strace_text.proofs.Runs.{same_along}
 use Rattle.cm_strace_text.specs.Places.{quote_end, sign_from}
-use Rattle.model_strace.specs.Written.{Place, Plain, After, Quoted, Escaped, plain_after, place_after, sign_here, last_sign}
+use Rattle.model_strace.specs.Written.{Place, Plain, After, Quoted, plain_after, place_after, sign_here, last_sign}
 use Rattle.model_text.specs.Cut.{is_blank}
 
 -- no sign at the text's end

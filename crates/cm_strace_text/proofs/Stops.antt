@@ -1,5 +1,5 @@
 -- A reader of arguments, byte by byte: the bytes that are passed over, those that end a part, and the brackets.
-use Rattle.std.proofs.Common.{◌≡◌, ◌≢◌, ◌∙◌, ◌<◌, ◌≤◌, ◌+◌, ◌-◌, ◌&&◌, ◌||◌, ◌==◌, ℕ, zero, suc, Bool, true, false, List, ◌∷◌}
+use Rattle.std.proofs.Common.{◌≡◌, ◌∙◌, ◌<◌, ◌≤◌, ◌+◌, ◌-◌, ◌&&◌, ◌||◌, ◌==◌, ℕ, zero, suc, Bool, true, false, List, ◌∷◌}
 use Rattle.std.proofs.Common.{refl, ap, sym, arith, get_or, length, drop, if◌then◌else◌}
 use Rattle.std.proofs.lemmas.Bool.{cond-true, cond-false, and_right, eq-eqb, ne_eqb, or_parts}
 use Rattle.std.proofs.lemmas.List.{drop_more, drop_all, drop-drop}

@@ -1,4 +1,4 @@
-use Rattle.std.proofs.Common.{ℕ, ◌∙◌, sym, arith}
+use Rattle.std.proofs.Common.{◌∙◌, sym, arith}
 use Rattle.cm_strace_text.proofs.Stops.{end_stands, none_left}
 use Rattle.cm_strace_text.proofs.arguments.len_to.Goals as goal
 
