@@ -14,9 +14,9 @@ returns-then-ends_here-clause-len c =
 
 pub stops-preserved : goal.stops-preserved
 stops-preserved c = record {
-  len = c.after_stop.ensures.same c.args.end (sym c.if-ends_here.ensures)
+  len = c.after_stop-inside.ensures.same c.args.end (sym c.if-ends_here.ensures)
       ∙ c.next_stop-at.ensures.same c.args.end c.stops.depth
       ∙ c.stops.invariant.len;
   near = omega arith;
-  inside = c.after_stop.ensures.within;
+  inside = c.after_stop-inside.ensures.within;
 }

@@ -9,7 +9,7 @@ returns-in-len1-up c =
     let part = c.trimmed-part.result.now in
     let rest = c.split_at.result.1.now in
     record {
-      parts = ap arguments_in c.in_ok-text.is
+      parts = ap arguments_in c.in_ok-text.was
           ∙ argument_cut c.in_ok-text.text.now part rest c.len_to.result c.len_to.ensures.len
           (c.trimmed-part.ensures ∙ ap trimmed c.split_at.ensures.front) c.split_at.ensures.back
           ∙ ap (λ (later : List (List ℕ)). part ∷ map trimmed later) (parts_follow rest c.in-len1-up.len_at_least);
@@ -20,7 +20,7 @@ returns-in-empty c =
     let part = c.trimmed-part.result.now in
     let rest = c.split_at.result.1.now in
     record {
-      parts = ap arguments_in c.in_ok-text.is
+      parts = ap arguments_in c.in_ok-text.was
           ∙ argument_cut c.in_ok-text.text.now part rest c.len_to.result c.len_to.ensures.len
           (c.trimmed-part.ensures ∙ ap trimmed c.split_at.ensures.front) c.split_at.ensures.back
           ∙ ap (λ (later : List (List ℕ)). part ∷ map trimmed later) (no_parts rest (omega arith));

@@ -20,16 +20,16 @@ signs-preserved c =
     let text = c.args.text.now in
     let at = c.next_of-at in
     let last = c.signs.last in
-    let sign = c.sign_at.result.0 in
-    let left = sign_from Plain c.sign_at.result.1 text in
+    let sign = c.sign_at-sign.result.0 in
+    let left = sign_from Plain c.sign_at-sign.result.1 text in
     let run = plain_run text c.signs.from at.result at.ensures.after at.ensures.within at.ensures.before in
     let Stands : ℕ × ℕ → Type 0 = λ places. (places.0 < places.1) × (places.1 < length text) in
     record {
       places = ap (option_or left) c.or-last.ensures
           ∙ sym (or_assoc left sign last)
-          ∙ sym (ap (λ (o : Option (ℕ × ℕ)). option_or o last) (run ∙ c.sign_at.ensures.same))
+          ∙ sym (ap (λ (o : Option (ℕ × ℕ)). option_or o last) (run ∙ c.sign_at-sign.ensures.same))
           ∙ c.signs.invariant.places;
       within = subst (λ (o : Option (ℕ × ℕ)). IfSome o Stands) (sym c.or-last.ensures)
-          (or_keeps Stands sign last c.sign_at.ensures.places c.signs.invariant.within);
-      inside = c.sign_at.ensures.within;
+          (or_keeps Stands sign last c.sign_at-sign.ensures.places c.signs.invariant.within);
+      inside = c.sign_at-sign.ensures.within;
     }
