@@ -104,6 +104,9 @@ pub no_sign_ends : (text : List ℕ) (paren at : ℕ) → length text ≤ at
 no_sign_ends text paren at ends =
     none_left (After paren) text at ends ∙ sym (none_left Plain text at ends) ∙ sym (or_none (sign_from Plain at text))
 
+-- what the bytes after a closing parenthesis do
+pub ruleset sign_steps = (paren_stands, blank_passes, sign_stands, no_sign_stands, no_sign_ends)
+
 -- what two answers keep, the first of them does
 pub or_keeps : (P : ℕ × ℕ → Type 0) (x y : Option (ℕ × ℕ)) → IfSome x P → IfSome y P → IfSome (option_or x y) P
 or_keeps P None y first second = second

@@ -1,8 +1,8 @@
 -- The code's rows, bodies and parts of calls as those of the definitions.
 use Rattle.cm_strace_text.specs.declared.body.Body.{Body}
 use Rattle.cm_strace_text.specs.declared.body.Body.TheVariants as code
-use Rattle.cm_strace_text.specs.declared.row.PidLine.{PidLine}
-use Rattle.cm_strace_text.specs.declared.row.PidLine.TheVariants as row
+use Rattle.cm_strace_text.specs.declared.body.PidLine.{PidLine}
+use Rattle.cm_strace_text.specs.declared.body.PidLine.TheVariants as row
 use Rattle.model_strace.specs.Body as model
 
 -- the row of the definitions

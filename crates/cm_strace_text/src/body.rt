@@ -1,14 +1,31 @@
-// What the body of a line is: the end of a process, a call, or a part of one (strace(1), "-f").
-ghost use Rattle.std.specs.Prelude.{◌≡◌, ◌∷◌, [], Some, codes, is_some, option_map, option_and_then};
+// A line of a log of strace -f, a pid, blanks, and a body; and what a body is: the end of a process, a call, or a part of one
+// (strace(1), "-f").
+ghost use Rattle.std.specs.Prelude.{◌≡◌, ◌∷◌, [], IfSome, Some, codes, is_some, option_map, option_and_then};
 ghost use Rattle.cm_base.specs.Number.{is_number};
-ghost use Rattle.cm_strace_text.specs.Lines.{body_is};
-ghost use Rattle.model_strace.specs.Body.{body_of, marked_body, end_body, words_before_plus, call_body, after_dots, is_end, are_number, after_words};
-ghost use Rattle.model_strace.specs.Marks.{without_front, after_mark};
+ghost use Rattle.cm_strace_text.specs.Lines.{body_is, row_is};
+ghost use Rattle.model_strace.specs.Body.{row_of, pid_row};
+ghost use Rattle.model_strace.specs.Body.{body_of, end_body, words_before_plus, call_body, after_dots, is_end, are_number, after_words};
+ghost use Rattle.model_strace.specs.Marks.{after_first_word, after_mark, first_word, without_front};
 ghost use Rattle.model_text.specs.Cut.{tokens_of};
+ghost use Rattle.model_text.specs.Token.{pid_token};
 
-use crate::marks::{after_mark, before_mark, cut_word, is_word, without_front};
-use cm_base::{BadNumber, read_u32};
-use cm_tokens::next_token;
+use crate::marks::{after_mark, before_mark, cut_word, is_word, without_end, without_front};
+use cm_base::{BadNumber, Pid, read_u32};
+use cm_tokens::{is_blank, next_token, read_pid, take_digit};
+
+// No pid has a greater number before its last digit.
+const GREATEST_TENTH: u32 = 419_430;
+
+/// What a line is.
+#[derive(Clone, Copy, Debug)]
+pub enum PidLine<'a> {
+    /// A line of blanks alone.
+    Blank,
+    /// One that doesn't begin with a pid.
+    NoPid,
+    /// A pid, and a body.
+    Of(Pid, &'a [u8]),
+}
 
 /// What a body is.
 #[derive(Clone, Copy, Debug)]
@@ -25,6 +42,55 @@ pub enum Body<'a> {
     Resumed(&'a [u8], &'a [u8]),
     /// A call.
     Whole(&'a [u8]),
+}
+
+/// What a line is: its pid stands before the first blank, and nothing before the pid.
+pub fn read_row(line: &[u8]) -> PidLine<'_>
+    ensures { row_is result ≡ row_of line.now }
+{
+    let text = without_end(line);
+    if text.is_empty() {
+        return PidLine::Blank;
+    }
+    match cut_pid(text) {
+        Some((pid, body)) => PidLine::Of(pid, body),
+        None => worded_row(text),
+    }
+}
+
+// The pid that is the first word, read digit by digit, and what follows the blanks after it. None says nothing of the text.
+fn cut_pid(text: &[u8]) -> Option<(Pid, &[u8])>
+    ensures pid { IfSome result (λ cut. pid_token (first_word text.now) ≡ Some cut.0) }
+    ensures rest { IfSome result (λ cut. after_first_word text.now ≡ cut.1.now) }
+{
+    let mut number: u32 = 0;
+    let mut rest = text;
+    while let Some((digit, after)) = take_digit(rest) {
+        if number > GREATEST_TENTH {
+            return None;
+        }
+        number = 10 * number + u32::from(digit);
+        rest = after;
+    }
+    let [byte, after @ ..] = rest else {
+        return None;
+    };
+    if !is_blank(*byte) {
+        return None;
+    }
+    let pid = Pid::new(number)?;
+    Some((pid, without_front(after)))
+}
+
+// What a line is that isn't empty and has no blanks at its end, by its first word, whatever that is.
+fn worded_row(text: &[u8]) -> PidLine<'_>
+    ensures { row_is result ≡ pid_row (pid_token (first_word text.now)) (after_first_word text.now) }
+{
+    let (word, body) = cut_word(text);
+    match read_pid(word) {
+        Some(pid) => PidLine::Of(pid, body),
+        None => PidLine::NoPid,
+    }
 }
 
 /// What a body is: one that begins with `---` tells of a signal, one between two marks `+++` of an end. The bytes at its

@@ -8,15 +8,13 @@ mod body;
 mod marks;
 mod members;
 mod quoted;
-mod row;
 mod written;
 
 pub use arguments::{next_argument, read_arguments};
-pub use body::{Body, read_body};
+pub use body::{Body, PidLine, read_body, read_row};
 pub use marks::{
     after_mark, before_mark, cut_at, cut_name, ends_name, is_word, trimmed, without_front,
 };
 pub use members::{bracketed, bracketed_whole, value_of};
 pub use quoted::{Quote, read_quote};
-pub use row::{PidLine, read_row};
 pub use written::{Written, call_name, read_written, without_32};

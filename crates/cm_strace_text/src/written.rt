@@ -68,7 +68,7 @@ fn last_sign(text: &[u8]) -> Option<(usize, usize)>
 // The places of a closing parenthesis and of the equals sign after it, where the first stands at that place and blanks alone
 // between them, and where the reader goes on: after the quoted text that begins there, or after the parenthesis and blanks.
 #[inline]
-#[tactic(auto, using(crate::proofs::SignSteps::paren_stands, crate::proofs::SignSteps::blank_passes, crate::proofs::SignSteps::sign_stands, crate::proofs::SignSteps::no_sign_stands, crate::proofs::SignSteps::no_sign_ends))]
+#[tactic(auto, using(crate::proofs::SignSteps::sign_steps))]
 fn sign_at(text: &[u8], at: usize) -> (Option<(usize, usize)>, usize)
     requires here { slice_index text.now at ≢ 34 → slice_index text.now at ≡ 41 }
     requires within { at < length text.now }

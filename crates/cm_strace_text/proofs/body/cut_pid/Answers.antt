@@ -1,7 +1,7 @@
 use Rattle.std.proofs.Common.{◌∙◌, ◌+◌, ◌*◌, ℕ, List, ap, sym}
 use Rattle.cm_strace_text.proofs.Cuts.{blank_rest, blank_word}
 use Rattle.cm_strace_text.proofs.PidDigits.{pid_ends, pid_on, pid_goes_on, rest_goes_on}
-use Rattle.cm_strace_text.proofs.row.cut_pid.Goals as goal
+use Rattle.cm_strace_text.proofs.body.cut_pid.Goals as goal
 use Rattle.model_strace.specs.Marks.{first_word, after_first_word}
 
 pub loop-digit-preserved : goal.loop-digit-preserved

@@ -1,6 +1,6 @@
 use Rattle.std.proofs.Common.{◌≡◌, length}
 use Rattle.cm_strace_text.proofs.PidDigits.{pid_on}
-use Rattle.cm_strace_text.proofs.row.cut_pid.Given as goal
+use Rattle.cm_strace_text.proofs.body.cut_pid.Given as goal
 use Rattle.model_strace.specs.Marks.{first_word, after_first_word}
 use Rattle.model_text.specs.Token.{pid_token}
 

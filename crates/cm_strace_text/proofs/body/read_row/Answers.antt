@@ -1,7 +1,7 @@
 use Rattle.std.proofs.Common.{◌∙◌, ap, arith, rules, sym}
 use Rattle.std.proofs.lemmas.Grind.{common_steps}
 use Rattle.cm_strace_text.proofs.Rows.{begun_row, blank_row}
-use Rattle.cm_strace_text.proofs.row.read_row.Goals as goal
+use Rattle.cm_strace_text.proofs.body.read_row.Goals as goal
 use Rattle.model_strace.specs.Body.{row_cut}
 
 pub returns-then-is_empty : goal.returns-then-is_empty
