@@ -4,7 +4,7 @@ use Rattle.std.proofs.Math.ListN.{set, length-set}
 use Rattle.std.proofs.lemmas.List.Elements.{All-set}
 use Rattle.cm_credentials.specs.Kept.{Keeps, KeepsLine}
 use Rattle.cm_credentials.specs.declared.kept.KeptLines.{KeptLines}
-use Rattle.cm_credentials.specs.declared.kept_line.KeptLine.{KeptLine}
+use Rattle.cm_credentials.specs.declared.kept.KeptLine.{KeptLine}
 
 -- what the lines keep stays, where another line that keeps it stands in one slot
 pub Keeps-set : (names : List (List ℕ)) (old new : KeptLines) (slot : ℕ) (line : KeptLine) → Keeps names old

@@ -2,7 +2,7 @@
 use Rattle.std.proofs.Common.{◌≡◌, Bool, true, false, codes, length, refl, arith, length-append}
 use Rattle.std.specs.Prelude.{if◌then◌else◌}
 use Rattle.cm_credentials.specs.Shown.{tail_text}
-use Rattle.cm_credentials.specs.declared.shown_tail.Tail.{Tail}
+use Rattle.cm_credentials.specs.declared.shown_parts.Tail.{Tail}
 use Rattle.model_text.proofs.HexTexts.{hex_length}
 use Rattle.model_text.specs.Hex.{hex_bits, hex_set}
 

@@ -3,10 +3,10 @@ use Rattle.std.specs.Prelude.{◌≡◌, ◌<◌, ◌≤◌, ◌++◌, ℕ, List
 use Rattle.model_text.specs.Print.{groups_text}
 use Rattle.model_text.specs.SpaceToken.{space_token}
 use Rattle.cm_credentials.specs.declared.kept.KeptLines.{KeptLines}
-use Rattle.cm_credentials.specs.declared.kept_line.KeptLine.{KeptLine}
-use Rattle.cm_credentials.specs.declared.kept_number.KeptNumber.{KeptNumber}
-use Rattle.cm_credentials.specs.declared.kept_place.KeptPlace.{KeptPlace}
-use Rattle.cm_credentials.specs.declared.kept_groups.KeptGroups.{KeptGroups}
+use Rattle.cm_credentials.specs.declared.kept.KeptLine.{KeptLine}
+use Rattle.cm_credentials.specs.declared.short_text.KeptNumber.{KeptNumber}
+use Rattle.cm_credentials.specs.declared.short_text.KeptPlace.{KeptPlace}
+use Rattle.cm_credentials.specs.declared.kept.KeptGroups.{KeptGroups}
 
 -- a pid and a space, where the declared spaces have these names
 abbrev pub KeepsPlace : List (List ℕ) → KeptPlace → Type 0
@@ -21,7 +21,7 @@ pub record KeepsGroups (part : KeptGroups) : Type 0 where
 -- The place and the groups. The ids and the end keep what they show by their types.
 pub record KeepsLine (names : List (List ℕ)) (line : KeptLine) : Type 0 where
   pub place : KeepsPlace names line.place
-  pub groups : KeepsGroups line.ids.groups
+  pub groups : KeepsGroups line.groups
 
 -- the number of the last line, with a colon and a space after it
 abbrev pub KeepsNumber : KeptNumber → Type 0

@@ -2,10 +2,10 @@
 use Rattle.std.specs.Prelude.{◌≡◌, ◌++◌, ◌∷◌, [], ℕ, List, IfSome, codes, take, if◌then◌else◌}
 use Rattle.model_text.specs.Print.{ids_text, sets_text, bounds_text, flags_text}
 use Rattle.model_text.specs.Hex.{hex_set, hex_bits}
-use Rattle.cm_credentials.specs.declared.shown_ids.LabelledIds.{LabelledIds}
-use Rattle.cm_credentials.specs.declared.shown_ids.ShownIds.TheInside.{Inside as InsideIds}
-use Rattle.cm_credentials.specs.declared.shown_tail.Tail.{Tail}
-use Rattle.cm_credentials.specs.declared.shown_tail.ShownTail.TheInside.{Inside as InsideTail}
+use Rattle.cm_credentials.specs.declared.shown_parts.LabelledIds.{LabelledIds}
+use Rattle.cm_credentials.specs.declared.shown_parts.ShownIds.TheInside.{Inside as InsideIds}
+use Rattle.cm_credentials.specs.declared.shown_parts.Tail.{Tail}
+use Rattle.cm_credentials.specs.declared.shown_parts.ShownTail.TheInside.{Inside as InsideTail}
 use Rattle.model_cred.specs.Credential.{Credential}
 
 -- what the end of a credential's line shows

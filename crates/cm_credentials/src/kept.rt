@@ -1,17 +1,19 @@
 // The last credential lines of some processes, and the number of the last line, kept as text: most of what comes next is
 // the same.
-ghost use Rattle.std.specs.Prelude.{◌++◌, ◌∷◌, [], ℕ, List, None, codes, decimal};
+ghost use Rattle.std.specs.Prelude.{◌≡◌, ◌++◌, ◌<◌, ◌≤◌, ◌∷◌, [], ℕ, List, None, codes, decimal, length};
 ghost use Rattle.cm_base.specs.Outcome.{OrNoMemory};
-ghost use Rattle.cm_credentials.specs.Kept.{Keeps, KeepsNumber};
+ghost use Rattle.cm_credentials.specs.Kept.{Keeps, KeepsGroups, KeepsLine, KeepsNumber};
 ghost use Rattle.cm_tokens.specs.Pieces.{Appends};
-ghost use Rattle.model_text.specs.Print.{credential_line};
+ghost use Rattle.model_text.specs.Print.{credential_line, groups_text};
 
-use crate::credential_line::put_credential_line;
-use crate::kept_line::KeptLine;
-use crate::kept_number::KeptNumber;
-use cm_base::{NoMemory, Pid, SpaceId};
+use crate::credential_line::{put_credential_line, put_groups};
+use crate::short_text::{KeptNumber, KeptPlace};
+use crate::shown_parts::{LabelledIds, ShownIds, ShownTail};
+use crate::two_shown::TwoShown;
+use cm_base::{Kgid, NoMemory, Pid, SpaceId};
 use cm_declared::World;
 use cm_state::Cred;
+use cm_tokens::put;
 use std::alloc::Global;
 
 /// How many lines are kept.
@@ -55,7 +57,14 @@ impl KeptLines {
         ensures text { OrNoMemory result (λ _. Appends text.old.items text.new.items (decimal number ++ codes ": ")) }
         ensures keeps { OrNoMemory result (λ _. (names : List (List ℕ)) → Keeps names self.old → Keeps names self.new) }
     {
-        self.number.put(text, number)
+        let last = &mut self.number;
+        if number % 10 > 0 && last.shown == Some(number - 1) {
+            last.shown = Some(number);
+            last.text.count(number);
+            last.text.put(text)?;
+            return Ok(());
+        }
+        last.write(text, number)
     }
 
     /// The credential line of a process of that pid in that user namespace, with its LF, at the end of a text: the
@@ -81,5 +90,124 @@ impl KeptLines {
         let slot = (pid.number() % LINES) as usize;
         let line = &mut self.lines[slot];
         line.put(text, cred, pid, space, w)
+    }
+}
+
+/// The credential line of some process, in parts.
+#[derive(Debug, Drop)]
+pub(crate) struct KeptLine {
+    place: KeptPlace,
+    user: TwoShown<ShownIds>,
+    group: TwoShown<ShownIds>,
+    groups: KeptGroups,
+    tail: TwoShown<ShownTail>,
+}
+
+impl KeptLine {
+    /// No part is kept. It takes no memory.
+    fn none(alloc: Global) -> KeptLine
+        ensures { (names : List (List ℕ)) → KeepsLine names result }
+    {
+        KeptLine {
+            place: KeptPlace::none(),
+            user: TwoShown::of(ShownIds::none(), ShownIds::none()),
+            group: TwoShown::of(ShownIds::none(), ShownIds::none()),
+            groups: KeptGroups::none(alloc),
+            tail: TwoShown::of(ShownTail::none(), ShownTail::none()),
+        }
+    }
+
+    /// The credential line of a process and its LF at the end of a text.
+    #[inline]
+    fn put(
+        &mut self,
+        text: &mut Vec<u8>,
+        cred: &Cred,
+        pid: Pid,
+        space: SpaceId,
+        w: &World,
+    ) -> Result<(), NoMemory>
+        requires keeps { KeepsLine w.now.names self.old }
+        requires few { length cred.now.groups ≤ 40 }
+        ensures text { OrNoMemory result (λ _. Appends text.old.items text.new.items (credential_line w.now.names
+            (record { pid = pid; forebear = None; space = space.0; cred = cred.now }) ++ 10 ∷ [])) }
+        ensures keeps { OrNoMemory result (λ _. KeepsLine w.now.names self.new) }
+    {
+        self.place.put(text, pid, space, w)?;
+        let user = LabelledIds {
+            letter: b'u',
+            ids: cred.user_ids(),
+        };
+        self.user.put(text, &user)?;
+        let group = LabelledIds {
+            letter: b'g',
+            ids: cred.group_ids(),
+        };
+        self.group.put(text, &group)?;
+        self.groups.put(text, cred.groups.items())?;
+        self.tail.put(text, cred)
+    }
+}
+
+/// The supplementary groups, where there is one, with their text.
+#[derive(Debug, Drop)]
+pub(crate) struct KeptGroups {
+    groups: Vec<Kgid>,
+    text: Vec<u8>,
+}
+
+impl KeptGroups {
+    /// Nothing is kept.
+    fn none(alloc: Global) -> KeptGroups
+        ensures { KeepsGroups result }
+    {
+        KeptGroups {
+            groups: Vec::new(alloc),
+            text: Vec::new(alloc),
+        }
+    }
+
+    /// The groups at the end of a text.
+    #[inline]
+    fn put(&mut self, text: &mut Vec<u8>, groups: &[Kgid]) -> Result<(), NoMemory>
+        requires keeps { KeepsGroups self.old }
+        requires few { length groups.now ≤ 40 }
+        ensures text { OrNoMemory result (λ _. Appends text.old.items text.new.items (codes " groups=" ++
+            groups_text groups.now)) }
+        ensures keeps { OrNoMemory result (λ _. KeepsGroups self.new) }
+    {
+        if groups.is_empty() {
+            return put(text, b" groups=-");
+        }
+        self.show(groups)?;
+        put(text, &self.text)
+    }
+
+    // Sees to it that the part shows these.
+    #[inline]
+    fn show(&mut self, groups: &[Kgid]) -> Result<(), NoMemory>
+        requires keeps { KeepsGroups self.old }
+        requires some { 0 < length groups.now }
+        requires few { length groups.now ≤ 40 }
+        ensures text { OrNoMemory result (λ _. self.new.text.items ≡ codes " groups=" ++ groups_text groups.now) }
+        ensures keeps { OrNoMemory result (λ _. KeepsGroups self.new) }
+    {
+        if self.groups.as_slice() == groups {
+            return Ok(());
+        }
+        self.write(groups)
+    }
+
+    // The text anew.
+    fn write(&mut self, groups: &[Kgid]) -> Result<(), NoMemory>
+        requires { length groups.now ≤ 40 }
+        ensures text { OrNoMemory result (λ _. self.new.text.items ≡ codes " groups=" ++ groups_text groups.now) }
+        ensures keeps { OrNoMemory result (λ _. KeepsGroups self.new) }
+    {
+        self.groups.clear();
+        self.groups.extend_from_slice(groups)?;
+        self.text.clear();
+        put(&mut self.text, b" groups=")?;
+        put_groups(&mut self.text, groups)
     }
 }

@@ -3,13 +3,8 @@
 
 mod credential_line;
 mod kept;
-mod kept_groups;
-mod kept_line;
-mod kept_number;
-mod kept_place;
 mod short_text;
-mod shown_ids;
-mod shown_tail;
+mod shown_parts;
 mod two_shown;
 
 pub use credential_line::{credentials, put_credential_line, put_credentials};

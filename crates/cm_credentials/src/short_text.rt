@@ -1,9 +1,12 @@
-// A short text that is kept and put again and again.
-ghost use Rattle.std.specs.Prelude.{◌≡◌, ◌++◌, ◌+◌, ◌<◌, ◌≤◌, [], decimal, length, slice_set};
+// Short texts that are kept and put again and again; the number of a line and the place of a credential line are such.
+ghost use Rattle.std.specs.Prelude.{◌≡◌, ◌++◌, ◌+◌, ◌-◌, ◌%◌, ◌<◌, ◌≤◌, [], ℕ, List, codes, decimal, length};
 ghost use Rattle.cm_base.specs.Outcome.{OrNoMemory};
 ghost use Rattle.cm_tokens.specs.Pieces.{Appends};
+ghost use Rattle.model_text.specs.SpaceToken.{space_token};
 
-use cm_base::NoMemory;
+use crate::credential_line::put_place;
+use cm_base::{NoMemory, Pid, SpaceId};
+use cm_declared::World;
 use cm_tokens::put;
 use itoa::write_digits;
 use std::marker::Model;
@@ -42,14 +45,6 @@ impl ShortText {
             bytes: [0; ROOM],
             from: MOST,
         }
-    }
-
-    /// How many bytes it has.
-    #[inline]
-    pub(crate) fn len(&self) -> usize
-        ensures { result ≡ length self.now }
-    {
-        MOST - self.from
     }
 
     /// Takes all bytes out.
@@ -95,12 +90,121 @@ impl ShortText {
         Ok(())
     }
 
-    /// Makes a byte another.
+    /// Makes the text of a number, with a colon and a space after it, that of the next number, which differs in its last
+    /// digit alone.
     #[inline]
-    pub(crate) fn set(&mut self, at: usize, byte: u8)
-        requires { at < length self.old }
-        ensures { self.new ≡ slice_set self.old at byte }
+    pub(crate) fn count(&mut self, number: u64)
+        requires last { self.old ≡ decimal (number - 1) ++ codes ": " }
+        requires digit { 0 < number % 10 }
+        ensures { self.new ≡ decimal number ++ codes ": " }
     {
-        self.bytes[self.from + at] = byte;
+        self.bytes[MOST - 3] = b'0' + (number % 10) as u8;
+    }
+}
+
+/// A number in decimal, and a colon and a space. Most numbers are one more than the last one.
+#[derive(Debug, Drop)]
+pub(crate) struct KeptNumber {
+    pub shown: Option<u64>,
+    pub text: ShortText,
+}
+
+impl KeptNumber {
+    ghost use Rattle.cm_credentials.specs.Kept.{KeepsNumber};
+
+    /// Nothing is kept. It takes no memory.
+    pub(crate) fn none() -> KeptNumber
+        ensures { KeepsNumber result }
+    {
+        KeptNumber {
+            shown: None,
+            text: ShortText::empty(),
+        }
+    }
+
+    /// The number anew, a colon and a space at the end of a text, and their text kept.
+    pub(crate) fn write(&mut self, text: &mut Vec<u8>, number: u64) -> Result<(), NoMemory>
+        ensures text { OrNoMemory result (λ _. Appends text.old.items text.new.items (decimal number ++ codes ": ")) }
+        ensures keeps { OrNoMemory result (λ _. KeepsNumber self.new) }
+    {
+        self.text.clear();
+        self.text.write_before(b": ");
+        self.text.write_decimal_before(number);
+        self.shown = Some(number);
+        self.text.put(text)
+    }
+}
+
+/// A pid and a space.
+#[derive(Clone, Copy, Debug)]
+pub(crate) struct Place {
+    pid: Pid,
+    space: SpaceId,
+}
+
+/// The pid and the token of the space, where their text has no more than 48 bytes.
+#[derive(Debug, Drop)]
+pub(crate) struct KeptPlace {
+    shown: Option<Place>,
+    text: ShortText,
+}
+
+impl KeptPlace {
+    ghost use Rattle.cm_credentials.specs.Kept.{KeepsPlace};
+
+    /// Nothing is kept. It takes no memory.
+    pub(crate) fn none() -> KeptPlace
+        ensures { (names : List (List ℕ)) → KeepsPlace names result }
+    {
+        KeptPlace {
+            shown: None,
+            text: ShortText::empty(),
+        }
+    }
+
+    /// The pid and the token of the space at the end of a text.
+    #[inline]
+    pub(crate) fn put(
+        &mut self,
+        text: &mut Vec<u8>,
+        pid: Pid,
+        space: SpaceId,
+        w: &World,
+    ) -> Result<(), NoMemory>
+        requires { KeepsPlace w.now.names self.old }
+        ensures text { OrNoMemory result (λ _. Appends text.old.items text.new.items (codes "> " ++ decimal pid ++
+            codes " " ++ space_token w.now.names space.0)) }
+        ensures keeps { OrNoMemory result (λ _. KeepsPlace w.now.names self.new) }
+    {
+        match self.shown {
+            Some(place) if place.pid.number() == pid.number() && place.space.0 == space.0 => {
+                self.text.put(text)
+            }
+            _ => self.write(text, pid, space, w),
+        }
+    }
+
+    // The pid and the token anew, and their text kept where it is short.
+    fn write(
+        &mut self,
+        text: &mut Vec<u8>,
+        pid: Pid,
+        space: SpaceId,
+        w: &World,
+    ) -> Result<(), NoMemory>
+        ensures text { OrNoMemory result (λ _. Appends text.old.items text.new.items (codes "> " ++ decimal pid ++
+            codes " " ++ space_token w.now.names space.0)) }
+        ensures keeps { OrNoMemory result (λ _. KeepsPlace w.now.names self.new) }
+    {
+        let from = text.len();
+        put_place(text, pid, space, w)?;
+        self.shown = None;
+        if text.len() - from > MOST {
+            return Ok(());
+        }
+        self.text.clear();
+        self.text.write_before(&text[from..]);
+        self.shown = Some(Place { pid, space });
+        Ok(())
     }
 }

@@ -1,5 +1,5 @@
 // Two texts of a part of a line, as it was shown last and before.
-ghost use Rattle.std.specs.Prelude.{◌≡◌, ℕ, List, true};
+ghost use Rattle.std.specs.Prelude.{◌≡◌, ℕ, List, false, true};
 ghost use Rattle.cm_base.specs.Outcome.{OrNoMemory};
 ghost use Rattle.cm_tokens.specs.Pieces.{Appends};
 
@@ -13,16 +13,10 @@ pub(crate) trait Shown {
     /// The text of the values.
     ghost text_of: { Self.Key → List ℕ };
 
-    /// The text that is kept.
-    ghost kept: { Self → List ℕ };
-
-    /// The text is that of these values.
-    fn shows(&self, key: &Self::Key) -> bool
-        ensures { result ≡ true → kept self.now ≡ text_of key.now };
-
-    /// The text at the end of another.
-    fn put(&self, text: &mut Vec<u8>) -> Result<(), NoMemory>
-        ensures { OrNoMemory result (λ _. Appends text.old.items text.new.items (kept self.now)) };
+    /// The text at the end of another, where it is that of these values: says whether it is. Else nothing is put.
+    fn put(&self, text: &mut Vec<u8>, key: &Self::Key) -> Result<bool, NoMemory>
+        ensures same { OrNoMemory result (λ is. is ≡ true → Appends text.old.items text.new.items (text_of key.now)) }
+        ensures other { OrNoMemory result (λ is. is ≡ false → text.new.items ≡ text.old.items) };
 
     /// The text of these values, anew, at the end of another; it is kept.
     fn write(&mut self, text: &mut Vec<u8>, key: &Self::Key) -> Result<(), NoMemory>
@@ -53,13 +47,13 @@ impl<S: Shown> TwoShown<S> {
     pub(crate) fn put(&mut self, text: &mut Vec<u8>, key: &S::Key) -> Result<(), NoMemory>
         ensures { OrNoMemory result (λ _. Appends text.old.items text.new.items (S.text_of key.now)) }
     {
-        if self.first.shows(key) {
+        if self.first.put(text, key)? {
             self.second_is_older = true;
-            return self.first.put(text);
+            return Ok(());
         }
-        if self.second.shows(key) {
+        if self.second.put(text, key)? {
             self.second_is_older = false;
-            return self.second.put(text);
+            return Ok(());
         }
         self.write(text, key)
     }

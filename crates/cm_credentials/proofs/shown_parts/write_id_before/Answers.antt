@@ -1,6 +1,6 @@
 use Rattle.std.proofs.Common.{decimal, arith, length-append}
 use Rattle.cm_credentials.proofs.Decimals.{id_length}
-use Rattle.cm_credentials.proofs.shown_ids.write_id_before.Goals as goal
+use Rattle.cm_credentials.proofs.shown_parts.write_id_before.Goals as goal
 
 pub returns-clause-few : goal.returns-clause-few
 returns-clause-few c =

@@ -5,7 +5,7 @@ use Rattle.cm_credentials.proofs.TailText.{tail_length}
 use Rattle.cm_credentials.specs.Shown.{tail_of, tail_text}
 use Rattle.model_text.specs.Hex.{hex_set}
 use Rattle.model_text.specs.Print.{sets_text, bounds_text, flags_text}
-use Rattle.cm_credentials.proofs.shown_tail.ShownTailShown.write.Goals as goal
+use Rattle.cm_credentials.proofs.shown_parts.ShownTailShown.write.Goals as goal
 
 pub keep_end-requires : goal.keep_end-requires
 unfolding sets_text bounds_text flags_text hex_set

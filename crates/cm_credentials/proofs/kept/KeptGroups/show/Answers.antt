@@ -2,7 +2,7 @@ use Rattle.std.proofs.Common.{◌≡◌, ◌<◌, ◌++◌, ℕ, List, codes, le
 use Rattle.std.proofs.lemmas.Slice.Eq.{slice_eq-Decides}
 use Rattle.std.proofs.lemmas.Bool.Decides.{Decides-eqb}
 use Rattle.model_text.specs.Print.{groups_text}
-use Rattle.cm_credentials.proofs.kept_groups.KeptGroups.show.Goals as goal
+use Rattle.cm_credentials.proofs.kept.KeptGroups.show.Goals as goal
 
 pub returns-then-eq-clause-text : goal.returns-then-eq-clause-text
 returns-then-eq-clause-text c =

@@ -1,6 +1,6 @@
 use Rattle.std.proofs.Common.{codes, decimal, arith, length-append}
 use Rattle.cm_credentials.proofs.Decimals.{number_length}
-use Rattle.cm_credentials.proofs.kept_number.KeptNumber.write.Goals as goal
+use Rattle.cm_credentials.proofs.short_text.KeptNumber.write.Goals as goal
 
 pub write_decimal_before-requires : goal.write_decimal_before-requires
 write_decimal_before-requires c =
