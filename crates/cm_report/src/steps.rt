@@ -5,7 +5,7 @@ ghost use Rattle.cm_credentials.specs.Kept.{Keeps};
 ghost use Rattle.cm_declared.specs.World.{world_of};
 ghost use Rattle.cm_tokens.specs.Pieces.{Appends};
 ghost use Rattle.model_cred.specs.Process.{process_at};
-ghost use Rattle.model_report.specs.Replay.{text_of, step_lines, child_lines, credentials_if, Credentials, Told};
+ghost use Rattle.model_report.specs.Replay.{text_of, step_lines, credentials_if, Credentials};
 ghost use Rattle.model_text.specs.Print.{event_text};
 
 use cm_base::{NoMemory, Pid, Res};
@@ -18,6 +18,7 @@ use cm_tokens::put;
 /// The lines of a step to the state: the event, the caller's credentials where it lives on, and those of a child that
 /// was born. Where the event's line stands as events are written, it is given as `own`, and is copied; the number of the
 /// line and the credential lines are made of those that are kept, and are kept.
+#[tactic(auto, unfolding(model_text::specs::Print::event_line))]
 pub fn put_step(
     text: &mut Vec<u8>,
     w: &World,
@@ -31,34 +32,19 @@ pub fn put_step(
     ensures text { OrNoMemory result (λ _. text.new.items ≡ text.old.items ++ text_of (step_lines (world_of w.now) state.now event.now)) }
     ensures keeps { OrNoMemory result (λ _. Keeps w.now.names kept.new) }
 {
-    put_event(text, w, event, own, kept)?;
-    put_living(text, w, state, event.event.pid, kept)?;
-    put_child(text, w, state, &event.event.res, kept)
-}
-
-// The event, with the number of its line.
-#[inline]
-#[tactic(auto, unfolding(model_text::specs::Print::event_line))]
-fn put_event(
-    text: &mut Vec<u8>,
-    w: &World,
-    event: &Placed,
-    own: Option<&[u8]>,
-    kept: &mut KeptLines,
-) -> Result<(), NoMemory>
-    requires own { IfSome own (λ line. event_text (world_of w.now) event.now.event ≡ line.now) }
-    requires keeps { Keeps w.now.names kept.old }
-    ensures text { OrNoMemory result (λ _. text.new.items ≡ text.old.items ++ text_of (Told (world_of w.now) event.now ∷ [])) }
-    ensures keeps { OrNoMemory result (λ _. Keeps w.now.names kept.new) }
-{
     kept.put_number(text, event.line)?;
-    put_event_text(text, w, &event.event, own)?;
-    put(text, b"\n")
+    put_event(text, w, &event.event, own)?;
+    put(text, b"\n")?;
+    put_living(text, w, state, event.event.pid, kept)?;
+    match event.event.res {
+        Res::Child(pid) => put_living(text, w, state, pid, kept),
+        _ => Ok(()),
+    }
 }
 
 // The event as a script line.
 #[inline]
-fn put_event_text(
+fn put_event(
     text: &mut Vec<u8>,
     w: &World,
     event: &Event,
@@ -73,8 +59,9 @@ fn put_event_text(
     }
 }
 
-// The credential line of the live process of that pid, where there is one.
+// The credential line of the live process of that pid, where there is one, made of what is kept.
 #[inline]
+#[tactic(auto, unfolding(model_text::specs::Print::credential_line, model_text::specs::Print::place_text))]
 fn put_living(
     text: &mut Vec<u8>,
     w: &World,
@@ -87,38 +74,12 @@ fn put_living(
     ensures keeps { OrNoMemory result (λ _. Keeps w.now.names kept.new) }
 {
     match state.procs.find(pid) {
-        Some(at) => put_kept(text, w, &state.procs.items()[at], kept),
+        Some(at) => {
+            let p = &state.procs.items()[at];
+            kept.put(text, &p.cred, p.pid, p.space, w)
+        }
         None => Ok(()),
     }
-}
-
-// The credential line of the child that a result tells.
-#[inline]
-fn put_child(
-    text: &mut Vec<u8>,
-    w: &World,
-    state: &State,
-    res: &Res,
-    kept: &mut KeptLines,
-) -> Result<(), NoMemory>
-    requires keeps { Keeps w.now.names kept.old }
-    ensures text { OrNoMemory result (λ _. text.new.items ≡ text.old.items ++ text_of (child_lines (world_of w.now) state.now res.now)) }
-    ensures keeps { OrNoMemory result (λ _. Keeps w.now.names kept.new) }
-{
-    match res {
-        Res::Child(pid) => put_living(text, w, state, *pid, kept),
-        _ => Ok(()),
-    }
-}
-
-// The credential line of a process, made of what is kept.
-#[inline]
-fn put_kept(text: &mut Vec<u8>, w: &World, p: &Proc, kept: &mut KeptLines) -> Result<(), NoMemory>
-    requires keeps { Keeps w.now.names kept.old }
-    ensures text { OrNoMemory result (λ _. text.new.items ≡ text.old.items ++ text_of (Credentials (world_of w.now) p.now ∷ [])) }
-    ensures keeps { OrNoMemory result (λ _. Keeps w.now.names kept.new) }
-{
-    kept.put(text, &p.cred, p.pid, p.space, w)
 }
 
 /// The credential line of a process.
