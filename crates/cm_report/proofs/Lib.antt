@@ -1,4 +1,5 @@
 -- Lemmas of this crate, by topic.
 pub mod ReportText
+pub mod StepText
 pub mod Waiting
 pub mod Told

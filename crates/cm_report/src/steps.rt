@@ -18,7 +18,6 @@ use cm_tokens::put;
 /// The lines of a step to the state: the event, the caller's credentials where it lives on, and those of a child that
 /// was born. Where the event's line stands as events are written, it is given as `own`, and is copied; the number of the
 /// line and the credential lines are made of those that are kept, and are kept.
-#[tactic(auto, unfolding(model_text::specs::Print::event_line))]
 pub fn put_step(
     text: &mut Vec<u8>,
     w: &World,
@@ -32,11 +31,12 @@ pub fn put_step(
     ensures text { OrNoMemory result (λ _. text.new.items ≡ text.old.items ++ text_of (step_lines (world_of w.now) state.now event.now)) }
     ensures keeps { OrNoMemory result (λ _. Keeps w.now.names kept.new) }
 {
+    let told = &event.event;
     kept.put_number(text, event.line)?;
-    put_event(text, w, &event.event, own)?;
+    put_event(text, w, told, own)?;
     put(text, b"\n")?;
-    put_living(text, w, state, event.event.pid, kept)?;
-    match event.event.res {
+    put_living(text, w, state, told.pid, kept)?;
+    match told.res {
         Res::Child(pid) => put_living(text, w, state, pid, kept),
         _ => Ok(()),
     }
@@ -61,7 +61,6 @@ fn put_event(
 
 // The credential line of the live process of that pid, where there is one, made of what is kept.
 #[inline]
-#[tactic(auto, unfolding(model_text::specs::Print::credential_line, model_text::specs::Print::place_text))]
 fn put_living(
     text: &mut Vec<u8>,
     w: &World,
@@ -75,7 +74,8 @@ fn put_living(
 {
     match state.procs.find(pid) {
         Some(at) => {
-            let p = &state.procs.items()[at];
+            let procs = state.procs.items();
+            let p = &procs[at];
             kept.put(text, &p.cred, p.pid, p.space, w)
         }
         None => Ok(()),
