@@ -1,12 +1,11 @@
 // The replay of a log as it comes: its lines are cut out of the file and told one by one, and none is kept.
-ghost use Rattle.std.specs.Prelude.{◌≡◌, ◌≤◌, ◌<◌, ◌+◌, ◌++◌, [], false, length, Ok, Err, IfOk, IfErr, IfSome, OnOk, OnErr};
+ghost use Rattle.std.specs.Prelude.{◌≡◌, ◌≤◌, ◌<◌, ◌+◌, ◌++◌, length, Ok, Err, IfOk, IfErr, IfSome, OnOk, OnErr};
 ghost use Rattle.cm_base.specs.Limited.{limit_number};
 ghost use Rattle.cm_base.specs.declared.limited.Limited.TheVariants as limit;
 ghost use Rattle.cm_declared.specs.World.{world_of};
-ghost use Rattle.cm_io.specs.Cutter.{Fits, is_at_hand, left_of};
+ghost use Rattle.cm_io.specs.Cutter.{Fits, left_of};
 ghost use Rattle.cm_io.specs.Account.{account, ReadsFile};
 ghost use Rattle.cm_io.specs.Shelf.{bytes_at};
-ghost use Rattle.cm_io.specs.Sink.{WriteFaults};
 ghost use Rattle.cm_log.specs.Left.{left};
 ghost use Rattle.cm_replay.specs.Coming.{Begins, ComesTo, IsReplayAnswer, KeepsAtEnd, Sends, SendsBy};
 ghost use Rattle.cm_replay.specs.Shown.{shown_report};
@@ -23,11 +22,11 @@ use crate::replay::{Replay, Turn, replay_end, replay_line};
 use crate::untold::Untold;
 use cm_base::{Limited, Status};
 use cm_declared::World;
-use cm_io::{CutError, LineCutter, Outside, Shelf, Sink};
+use cm_io::{CutError, LineCutter, Shelf, Sink};
 use cm_lines::Past;
 use cm_log::Log;
 use cm_machine::Machine;
-use cm_report::send;
+use cm_report::{send, send_unless};
 use std::alloc::Global;
 
 /// Replays the log of that name in a world, from the world's state on, as it is read: says the report's status, and with
@@ -139,17 +138,4 @@ fn replay_lines<H: Shelf, K: Sink>(
         }
         send_unless(cutter, text, out)?;
     }
-}
-
-// Sends what waits before a read of the log.
-fn send_unless<K: Sink>(cutter: &LineCutter, text: &mut Vec<u8>, out: &mut K) -> Result<(), Outside>
-    ensures none_waits { OnOk result (is_at_hand cutter.now ≡ false → cutter.now.ended ≡ false → text.new.items ≡ []) }
-    ensures sent { OnOk result (IsSent (K.written out.old) (K.written out.new) text.new.items text.old.items) }
-    ensures front { OnErr result (IsFront (K.written out.old) (K.written out.new) text.old.items) }
-    ensures cause { WriteFaults (K.faults out.old) (K.faults out.new) result }
-{
-    if cutter.is_at_hand() || cutter.has_ended() {
-        return Ok(());
-    }
-    send(text, out)
 }

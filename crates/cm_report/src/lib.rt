@@ -7,7 +7,7 @@ mod short;
 mod steps;
 mod verdicts;
 
-pub use sending::{send, send_full};
+pub use sending::{send, send_full, send_unless};
 pub use short::{Short, stopped, tell_short};
 pub use steps::{put_process, put_step};
 pub use verdicts::{put_bad_log, put_bad_world, put_end, put_impossible, put_limit, put_usage};
