@@ -134,16 +134,10 @@ impl KeptLine {
         ensures keeps { OrNoMemory result (λ _. KeepsLine w.now.names self.new) }
     {
         self.place.put(text, pid, space, w)?;
-        let user = LabelledIds {
-            letter: b'u',
-            ids: cred.user_ids(),
-        };
-        self.user.put(text, &user)?;
-        let group = LabelledIds {
-            letter: b'g',
-            ids: cred.group_ids(),
-        };
-        self.group.put(text, &group)?;
+        let ids = cred.user_ids();
+        self.user.put(text, &LabelledIds { letter: b'u', ids })?;
+        let ids = cred.group_ids();
+        self.group.put(text, &LabelledIds { letter: b'g', ids })?;
         self.groups.put(text, cred.groups.items())?;
         self.tail.put(text, cred)
     }

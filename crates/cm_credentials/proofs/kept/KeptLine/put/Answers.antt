@@ -1,8 +1,11 @@
-use Rattle.std.proofs.Common.{rules, append_assoc, append-nil}
-use Rattle.std.proofs.lemmas.Result.{IfOk-equal}
-use Rattle.model_text.specs.Print.{all_ids_text, credential_line, place_text}
+use Rattle.std.proofs.Common.{◌≡◌, ◌∙◌, None, ap}
+use Rattle.cm_credentials.proofs.LineText.{line_put}
 use Rattle.cm_credentials.proofs.kept.KeptLine.put.Goals as goal
+use Rattle.model_cred.specs.Credential.{Credential}
 
 pub returns-clause-text : goal.returns-clause-text
-unfolding all_ids_text credential_line place_text
-returns-clause-text c = search (rules, IfOk-equal, append_assoc, append-nil)
+returns-clause-text c =
+    let groups : c.items.result.now ≡ c.args.cred.now.groups = c.items.ensures ∙ ap (λ (d : Credential). d.groups) c.cred.view_is in
+    line_put _ c.args.w.now.names (record { pid = c.args.pid; forebear = None; space = c.args.space.0; cred = c.args.cred.now })
+    _ _ _ _ _ _ _ _ _ c.in_ok-put.ensures.text c.in_ok-put-2.ensures c.in_ok-put-3.ensures c.in_ok-put-4.ensures.text c.put-5.ensures
+    c.user_ids-ids.ensures c.group_ids-ids.ensures groups
