@@ -31,12 +31,12 @@ pub fn put_step(
     ensures text { OrNoMemory result (λ _. text.new.items ≡ text.old.items ++ text_of (step_lines (world_of w.now) state.now event.now)) }
     ensures keeps { OrNoMemory result (λ _. Keeps w.now.names kept.new) }
 {
-    let told = &event.event;
+    let e = &event.event;
     kept.put_number(text, event.line)?;
-    put_event(text, w, told, own)?;
+    put_event(text, w, e, own)?;
     put(text, b"\n")?;
-    put_living(text, w, state, told.pid, kept)?;
-    match told.res {
+    put_living(text, w, state, e.pid, kept)?;
+    match e.res {
         Res::Child(pid) => put_living(text, w, state, pid, kept),
         _ => Ok(()),
     }

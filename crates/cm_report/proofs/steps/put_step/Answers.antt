@@ -15,8 +15,8 @@ returns-in-Child-clause-text c =
     let s = c.args.state.now in
     let event = c.event.inside.event in
     let four = c.put_living.new.text.items in
-    let pid : c.told.inside.pid ≡ event.pid = ap (λ (e : Event). e.pid) c.told.view_is in
-    let res : Child c.in-Child.pid ≡ event.res = sym c.in-Child.is ∙ ap (λ (e : Event). e.res) c.told.view_is in
+    let pid : c.e.inside.pid ≡ event.pid = ap (λ (event : Event). event.pid) c.e.view_is in
+    let res : Child c.in-Child.pid ≡ event.res = sym c.in-Child.is ∙ ap (λ (event : Event). event.res) c.e.view_is in
     let living = subst (λ (n : ℕ). four ≡ c.put.new.text.items ++ text_of (credentials_if w (process_at s.processes n))) pid
     c.in_ok-put_living.ensures.text in
     rw (sym c.event.view_is)
@@ -31,9 +31,9 @@ returns-in_default-clause-text c =
     let s = c.args.state.now in
     let event = c.event.inside.event in
     let four = c.put_living.new.text.items in
-    let pid : c.told.inside.pid ≡ event.pid = ap (λ (e : Event). e.pid) c.told.view_is in
-    let none : child_lines w s event.res ≡ [] = ap (λ (e : Event). child_lines w s e.res) (sym c.told.view_is)
-    ∙ no_child w s c.told.inside.res c.in_default.not-Child in
+    let pid : c.e.inside.pid ≡ event.pid = ap (λ (event : Event). event.pid) c.e.view_is in
+    let none : child_lines w s event.res ≡ [] = ap (λ (event : Event). child_lines w s event.res) (sym c.e.view_is)
+    ∙ no_child w s c.e.inside.res c.in_default.not-Child in
     let living = subst (λ (n : ℕ). four ≡ c.put.new.text.items ++ text_of (credentials_if w (process_at s.processes n))) pid
     c.in_ok-put_living.ensures.text in
     rw (sym c.event.view_is)
