@@ -9,6 +9,9 @@ use Rattle.model_cred.specs.Call.{Event}
 use Rattle.model_cred.specs.Process.{process_at}
 use Rattle.model_report.specs.Replay.{ReportLine, child_lines, credentials_if, text_of}
 
+pub put_living-requires : goal.put_living-requires
+put_living-requires c = record { keeps = c.in_ok-put_number.ensures.keeps c.args.w.now.names c.requires.keeps }
+
 pub returns-in-Child-clause-text : goal.returns-in-Child-clause-text
 returns-in-Child-clause-text c =
     let w = world_of c.args.w.now in
