@@ -6,7 +6,7 @@ ghost use Rattle.cm_state.specs.Call.{call_of};
 ghost use Rattle.cm_declared.specs.World.{world_of};
 ghost use Rattle.model_text.specs.Arguments.{Id, arguments_of, spaced_texts, triple_of};
 ghost use Rattle.model_text.specs.Hex.{hex_set};
-ghost use Rattle.model_text.specs.Print.{call_text, event_text};
+ghost use Rattle.model_text.specs.Print.{event_text};
 ghost use Rattle.model_text.specs.SpaceToken.{space_token};
 ghost use Rattle.model_text.specs.Token.{cap_name_or_number, file_text, id_text, res_text, word_text};
 
@@ -35,20 +35,11 @@ pub fn put_line(text: &mut Vec<u8>, event: &Event, w: &World) -> Result<(), NoMe
     ensures { OrNoMemory result (λ _. Appends text.old.items text.new.items (event_text (world_of w.now) event.now)) }
 {
     put_decimal(text, event.pid.number() as u64)?;
-    put_call(text, &event.call, w)?;
+    put(text, b" ")?;
+    put(text, event.call.kind().name().as_bytes())?;
+    put_arguments(text, &event.call, w)?;
     put(text, b" = ")?;
     put_res(text, &event.res)
-}
-
-// A call after a space: its name and its arguments.
-#[inline]
-fn put_call(text: &mut Vec<u8>, call: &Call, w: &World) -> Result<(), NoMemory>
-    ensures { OrNoMemory result (λ _. Appends text.old.items text.new.items (call_text (world_of w.now)
-        (call_of call.now))) }
-{
-    put(text, b" ")?;
-    put(text, call.kind().name().as_bytes())?;
-    put_arguments(text, call, w)
 }
 
 // The arguments of a call, each after a space.
