@@ -20,7 +20,9 @@ use Rattle.model_box.proofs.Readers.{reads_alone, read_rows_are_above}
 use Rattle.model_box.proofs.Starts.{row_back, number_back, covers_start, holds_start}
 use Rattle.model_box.proofs.Worlds.{state_fits}
 use Rattle.cm_box_rows.specs.Rows.{RowHolds, RowsHold}
-use Rattle.cm_maker.specs.Widening.{Widens, Visits, Rests, OthersRest, MayRead, is_listed}
+use Rattle.cm_box.specs.declared.setting.Setting.{Setting}
+use Rattle.cm_maker.specs.Widening.{Widens, Visits, Rests, OthersRest, Passes, MayRead, is_listed}
+use Rattle.cm_maker.proofs.Widenings.{then_widens}
 use Rattle.model_verdict.specs.Least.{Test, IsLeast}
 use Rattle.model_verdict.specs.Rows.{AreLow}
 use Rattle.model_verdict.specs.Sweep.{row_count}
@@ -29,9 +31,9 @@ use Rattle.model_verdict.proofs.Limits.{start_low}
 use Rattle.model_verdict.proofs.Rounds.{standing_low}
 use Rattle.model_verdict.proofs.Sweeps.{row_stands, start_stands}
 
-module _ (permitted : CallKind → Bool) (files : FileTable) (spaces : Spaces) where
+module _ {permitted : CallKind → Bool} {files : FileTable} {spaces : Spaces} where
   -- a row that doesn't read the one that changed still rests
-  module _ (y : ℕ) (old new : List BoxRow) (more : Bool) (visits : Visits permitted files spaces y old new more) where
+  module _ {y : ℕ} {old new : List BoxRow} {more : Bool} (visits : Visits permitted files spaces y old new more) where
     same_elsewhere : (from : Row) → (row_number from ≡ y → ⊥) → (part : Part) (x : ℕ) → RowsHold new from part x → RowsHold old from part x
     same_elsewhere from other part x held =
         subst (λ (r : BoxRow). RowHolds r part x) (visits.elsewhere (row_number from) other) held
@@ -83,6 +85,7 @@ module _ (permitted : CallKind → Bool) (files : FileTable) (spaces : Spaces) w
           let unlisted : is_listed mid z ≡ false = sym (get_or-set_other mid y z false false other) ∙ listed in
           still_rests earlier z low other (λ reads. apart unlisted (put z low reads)) (rests z low (was unlisted (is_listed list z) refl))
 
+module _ (permitted : CallKind → Bool) (files : FileTable) (spaces : Spaces) where
   -- an empty list: all rests
   pub all_rest : (list : List Bool) (rows : List BoxRow) → OthersRest permitted files spaces list rows
       → ((y : ℕ) → y < row_count spaces → is_listed list y ≡ false) → Closed permitted files spaces (RowsHold rows)
@@ -98,6 +101,26 @@ module _ (permitted : CallKind → Bool) (files : FileTable) (spaces : Spaces) w
       absurd (false≢true (sym unlisted ∙ full y (subst (λ (m : ℕ). y < m) (sym is) low)))
 
 -- ---- a pass
+module _ {setting : Setting} {waiting list after : List Bool} {old mid new : List BoxRow} {a b : Bool}
+    (first : Passes setting waiting list old mid a) (second : Passes setting list after mid new b) where
+  -- a row after which they hold more
+  pub passes_more : b ≡ true → Passes setting waiting after old new true
+  passes_more is = record {
+    widens = then_widens first.widens second.widens;
+    list = second.list ∙ first.list;
+    rest = second.rest;
+    larger = λ _ back. second.larger is (λ row part x held. first.widens.grown row part x (back row part x held));
+  }
+
+  -- and one after which nothing is said of that
+  pub passes_same : Passes setting waiting after old new a
+  passes_same = record {
+    widens = then_widens first.widens second.widens;
+    list = second.list ∙ first.list;
+    rest = second.rest;
+    larger = λ is back. first.larger is (λ row part x held. back row part x (second.widens.grown row part x held));
+  }
+
 earlier_or_here : (i k : ℕ) → i < k + 1 → (i < k) ⊎ (i ≡ k)
 earlier_or_here i k low = grind (arith, low)
 

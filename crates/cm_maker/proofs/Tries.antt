@@ -1,6 +1,5 @@
 -- The rules at one row, one after the other.
 use Rattle.std.proofs.Common.{◌≡◌, ◌⊎◌, ℕ, ◌+◌, ◌<◌, ◌≤◌, Bool, true, false, ◌||◌, List, refl, sym, ap, ◌∙◌, subst, inl, inr, arith}
-use Rattle.std.proofs.lemmas.Bool.{false≢true}
 use Rattle.cm_filter.specs.declared.kind.CallKind.{CallKind}
 use Rattle.model_cred.specs.Files.{FileTable}
 use Rattle.model_cred.specs.Space.{Spaces}
@@ -29,17 +28,20 @@ or_false : (a : Bool) → a ≡ a || false
 or_false true = refl
 or_false false = refl
 
-module _ (permitted : CallKind → Bool) (files : FileTable) (spaces : Spaces) (y : ℕ) (old mid new : List BoxRow) (a b : Bool)
+module _ {permitted : CallKind → Bool} {files : FileTable} {spaces : Spaces} {y : ℕ} {old mid new : List BoxRow} {a b : Bool}
     (first : Visits permitted files spaces y old mid a) where
   -- a visit after which the row holds more
   pub visits_more : Visits permitted files spaces y mid new b → b ≡ true → Visits permitted files spaces y old new true
-  visits_more second is =
-      then_visits permitted files spaces y old mid new a b true first second (or_true a ∙ ap (λ (d : Bool). a || d) (sym is))
+  visits_more second is = then_visits first second (or_true a ∙ ap (λ (d : Bool). a || d) (sym is))
 
   -- and one after which it holds the same
   pub visits_same : Visits permitted files spaces y mid new b → b ≡ false → Visits permitted files spaces y old new a
-  visits_same second is =
-      then_visits permitted files spaces y old mid new a b a first second (or_false a ∙ ap (λ (d : Bool). a || d) (sym is))
+  visits_same second is = then_visits first second (or_false a ∙ ap (λ (d : Bool). a || d) (sym is))
+
+  -- and after two of which the second one adds, a third
+  pub visits_all : {last : List BoxRow} {d : Bool} → Visits permitted files spaces y mid new b → b ≡ true
+      → Visits permitted files spaces y new last d → Visits permitted files spaces y old last true
+  visits_all second is third = then_visits (visits_more second is) third refl
 
   pub rests_next : (rule : Rule) (from k : ℕ) → rule_number rule ≡ k → RestsUnder permitted files spaces mid y from k
       → Visits permitted files spaces y mid new b → b ≡ false → ClosedAt permitted files spaces (RowsHold new) rule (row_at y)
@@ -58,11 +60,6 @@ module _ (permitted : CallKind → Bool) (files : FileTable) (spaces : Spaces) (
       → RestsUnder permitted files spaces new y from to
   rests_still from to second none rests =
       subst (λ (rows : List BoxRow). RestsUnder permitted files spaces rows y from to) (sym (second.same none)) rests
-
-pub either_false : (a b : Bool) → a || b ≡ false → (a ≡ false) × (b ≡ false)
-either_false false false is = (refl, refl)
-either_false true b is = absurd (false≢true (sym is))
-either_false false true is = absurd (false≢true (sym is))
 
 which_third : (n : ℕ) → n < 14 → (n < 7) ⊎ ((7 ≤ n) × (n < 10)) ⊎ (10 ≤ n)
 which_third n low = grind (arith, low)

@@ -1,8 +1,7 @@
 -- A turn in code is a turn of the sweep.
-use Rattle.std.proofs.Common.{◌≡◌, ℕ, suc, ◌+◌, ◌*◌, ◌<◌, Bool, List, length, set, sym, ap, ◌∙◌, subst, inl, inr}
+use Rattle.std.proofs.Common.{◌≡◌, ℕ, suc, ◌+◌, ◌*◌, ◌<◌, Bool, List, length, set, refl, sym, ap, ◌∙◌, subst, inl, inr, arith}
 use Rattle.std.specs.Prelude.{◌↔◌}
 use Rattle.cm_filter.specs.declared.kind.CallKind.{CallKind}
-use Rattle.std.proofs.Common.{arith}
 use Rattle.model_cred.specs.Files.{FileTable}
 use Rattle.model_cred.specs.Process.{State}
 use Rattle.model_box.specs.Bounds.{BoxRow, bounds_hold}
@@ -58,13 +57,31 @@ module _ (permitted : CallKind → Bool) (files : FileTable) (s : State) where
   unfolding TurnsGoByRounds
   turn_is round rule y low = turns_go_by_rounds s.spaces round rule y low
 
-  pub none_sweep : (from k : ℕ) (rows : List BoxRow) → k ≡ from → Sweeps permitted files s from k rows rows
-  none_sweep from k rows is members says = subst (λ (n : ℕ). IsSweptTo permitted files s members n rows) (sym is) says
-
   pub then_sweep : (from mid to k : ℕ) (old new last : List BoxRow) → Sweeps permitted files s from mid old new
       → Sweeps permitted files s mid to new last → k ≡ to → Sweeps permitted files s from k old last
   then_sweep from mid to k old new last first second is members says =
       subst (λ (n : ℕ). IsSweptTo permitted files s members n last) (sym is) (second members (first members says))
+
+  -- over the next row
+  pub next_turn : (from y k : ℕ) (old mid new : List BoxRow)
+      → ((n : ℕ) → n ≡ from + y → Sweeps permitted files s from n old mid)
+      → Sweeps permitted files s (from + y) (suc (from + y)) mid new → k ≡ from + (y + 1)
+      → Sweeps permitted files s from k old new
+  next_turn from y k old mid new before turn is =
+      then_sweep from (from + y) (suc (from + y)) k old mid new (before (from + y) refl) turn (omega (arith, is))
+
+  -- and by the next rule
+  pub next_rule : (round n k : ℕ) (old mid new : List BoxRow)
+      → ((m : ℕ) → m ≡ (14 * round + n) * row_count s.spaces
+      → Sweeps permitted files s (14 * round * row_count s.spaces) m old mid)
+      → Sweeps permitted files s ((14 * round + n) * row_count s.spaces) ((14 * round + suc n) * row_count s.spaces) mid new
+      → k ≡ (14 * round + (n + 1)) * row_count s.spaces
+      → Sweeps permitted files s (14 * round * row_count s.spaces) k old new
+  next_rule round n k old mid new before rule is =
+      let rows : ℕ = row_count s.spaces in
+      let next : n + 1 ≡ suc n = omega arith in
+      then_sweep (14 * round * rows) ((14 * round + n) * rows) ((14 * round + suc n) * rows) k old mid new
+      (before ((14 * round + n) * rows) refl) rule (is ∙ ap (λ (m : ℕ). (14 * round + m) * rows) next)
 
   -- rows with what the rule adds to one
   pub joined_sweeps : (rule : Rule) (y : ℕ) (old new : List BoxRow) → y < row_count s.spaces

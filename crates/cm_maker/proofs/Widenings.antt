@@ -59,21 +59,18 @@ low_closed permitted files spaces rule row standing part x added =
     (adds_low id_count cap_count 1 permitted files spaces (tested (low_test spaces))
     (λ r p y held. subst (λ (n : ℕ). y < n) (limit_is p) (low_below spaces r p y held)) (omega arith) (omega arith) rule row part x added))
 
-module _ (permitted : CallKind → Bool) (files : FileTable) (spaces : Spaces) where
+module _ {permitted : CallKind → Bool} {files : FileTable} {spaces : Spaces} where
   -- ---- growth goes on
-  pub widens_none : (rows : List BoxRow) → Widens permitted files spaces rows rows
-  widens_none rows = record { count = refl; grown = λ row part x held. held; within = λ other closed holds. holds }
-
-  pub then_widens : (old mid new : List BoxRow) → Widens permitted files spaces old mid → Widens permitted files spaces mid new
+  pub then_widens : {old mid new : List BoxRow} → Widens permitted files spaces old mid → Widens permitted files spaces mid new
       → Widens permitted files spaces old new
-  then_widens old mid new first second = record {
+  then_widens first second = record {
     count = second.count ∙ first.count;
     grown = λ row part x held. second.grown row part x (first.grown row part x held);
     within = λ other closed holds. second.within other closed (first.within other closed holds);
   }
 
-  pub low_kept : (old new : List BoxRow) → Widens permitted files spaces old new → AreLow spaces (RowsHold old) → AreLow spaces (RowsHold new)
-  low_kept old new widens low =
+  pub low_kept : {old new : List BoxRow} → Widens permitted files spaces old new → AreLow spaces (RowsHold old) → AreLow spaces (RowsHold new)
+  low_kept {new = new} widens low =
       let within : IsWithin (RowsHold new) (tested (low_test spaces))
       = widens.within (low_test spaces) (low_closed permitted files spaces)
       (λ row part x held. is_low spaces row part x (low.stand row part x held) (low.low row part x held)) in
@@ -83,19 +80,11 @@ module _ (permitted : CallKind → Bool) (files : FileTable) (spaces : Spaces) w
       }
 
   -- ---- visits
-  pub visits_none : (y : ℕ) (rows : List BoxRow) → Visits permitted files spaces y rows rows false
-  visits_none y rows = record {
-    widens = widens_none rows;
-    elsewhere = λ z other. refl;
-    same = λ is. refl;
-    larger = λ wrong. absurd (false≢true wrong);
-  }
-
-  -- one that adds nothing, and then one more
-  pub then_visits : (y : ℕ) (old mid new : List BoxRow) (a b c : Bool) → Visits permitted files spaces y old mid a
+  -- one after the other
+  pub then_visits : {y : ℕ} {old mid new : List BoxRow} {a b c : Bool} → Visits permitted files spaces y old mid a
       → Visits permitted files spaces y mid new b → c ≡ a || b → Visits permitted files spaces y old new c
-  then_visits y old mid new a b c first second is = record {
-    widens = then_widens old mid new first.widens second.widens;
+  then_visits {old = old} {new = new} {a = a} {b = b} first second is = record {
+    widens = then_widens first.widens second.widens;
     elsewhere = λ z other. second.elsewhere z other ∙ first.elsewhere z other;
     same = λ none. same a b refl refl (sym is ∙ none);
     larger = λ some back. larger a b refl refl (sym is ∙ some) back;
@@ -111,6 +100,7 @@ module _ (permitted : CallKind → Bool) (files : FileTable) (spaces : Spaces) w
         second.larger there (λ row part x held. first.widens.grown row part x (back row part x held))
     larger false false here there none back = false≢true none
 
+module _ (permitted : CallKind → Bool) (files : FileTable) (spaces : Spaces) where
   -- a row that is put in its place: it holds the old one, and else only what a rule adds
   module _ (rule : Rule) (y : ℕ) (old : List BoxRow) (wider : BoxRow) (there : y < length old) (low : y < row_count spaces)
       (holds : (part : Part) (x : ℕ) → RowsHold old (row_at y) part x → RowHolds wider part x)
@@ -191,19 +181,23 @@ module _ (permitted : CallKind → Bool) (files : FileTable) (spaces : Spaces) w
       (λ back. unmet (λ part x added.
       back (row_at y) part x (held_put rule y old wider there low holds adds part x ((same part x).1 (inr added)))))
 
-  -- ---- fewer numbers lack
-  pub lacks_less : (old new : List BoxRow) → AreLow spaces (RowsHold new) → IsWithin (RowsHold old) (RowsHold new)
+-- ---- fewer numbers lack
+module _ {permitted : CallKind → Bool} {files : FileTable} {spaces : Spaces} where
+  pub lacks_less : {old new : List BoxRow} → Widens permitted files spaces old new → AreLow spaces (RowsHold old)
       → (IsWithin (RowsHold new) (RowsHold old) → ⊥)
       → lacking (row_count spaces) (bounds_hold new) < lacking (row_count spaces) (bounds_hold old)
-  lacks_less old new low grown more =
+  lacks_less {old = old} {new = new} widens before more =
       elim (grown_or_not (lacking (row_count spaces) (bounds_hold new)) (lacking (row_count spaces) (bounds_hold old))) [
         | inl same ↦ absurd (more (same_lack (row_count spaces) (bounds_hold old) (bounds_hold new) by_number in_range same))
         | inr less ↦ less
       ] where
+        low : AreLow spaces (RowsHold new)
+        low = low_kept widens before
+
         by_number : (y : ℕ) (part : Part) (x : ℕ) → bounds_hold old y part x ≡ true → bounds_hold new y part x ≡ true
         by_number y part x held =
             let Held : List BoxRow → ℕ → Type 0 = λ rows n. bounds_hold rows n part x ≡ true in
-            subst (Held new) (number_back y) (grown (row_at y) part x (subst (Held old) (sym (number_back y)) held))
+            subst (Held new) (number_back y) (widens.grown (row_at y) part x (subst (Held old) (sym (number_back y)) held))
 
         in_range : (row : Row) (part : Part) (x : ℕ) → tested (bounds_hold new) row part x → (row_number row < row_count spaces) × (x < id_count)
         in_range row part x held =

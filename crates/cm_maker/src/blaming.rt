@@ -1,10 +1,11 @@
 // What is blamed where the least bounds meet a right.
-ghost use Rattle.std.specs.Prelude.{◌≡◌, ℕ, suc, ◌<◌, ◌+◌, ◌*◌, ◌^◌, All, IfNone, IfSome, false, true, length};
+ghost use Rattle.std.specs.Prelude.{◌≡◌, ℕ, ◌<◌, ◌+◌, ◌*◌, ◌^◌, All, IfNone, IfSome, false, true, length};
 ghost use Rattle.cm_base.specs.Outcome.{OrNoMemory};
 ghost use Rattle.cm_box.specs.Rules.{rule_of};
 ghost use Rattle.cm_box_rows.specs.Rows.{RowsHold};
 ghost use Rattle.cm_filter.specs.Filters.{permits};
-ghost use Rattle.cm_maker.specs.Sweeping.{Sweeps, StopsAt, Stopped, KeepsApart, blame_told};
+ghost use Rattle.cm_maker.specs.Sweeping.{KeepsApart, Stopped, StopsAt, SweepsRound, SweepsRule, SweepsTurn, blame_told};
+ghost use Rattle.cm_maker.specs.Widening.{IsReady, IsReadyAt};
 ghost use Rattle.cm_state.specs.Right.{right_of};
 ghost use Rattle.model_box.specs.Bounds.{bounds_hold};
 ghost use Rattle.model_box.specs.Meets.{IsOverStanding};
@@ -89,15 +90,12 @@ fn try_round(
     right: &Right,
     bounds: &mut Bounds,
 ) -> Result<Option<(Rule, u32)>, NoMemory>
-    requires rows { length bounds.old ≡ row_count setting.now.state.now.spaces }
-    requires few { length setting.now.state.now.spaces < 2 ^ 31 }
+    requires ready { IsReady setting.now bounds.old }
     requires named { IsOverStanding setting.now.state.now.spaces (right_of right.now) }
     ensures count { length bounds.new ≡ length bounds.old }
     ensures apart { OrNoMemory result (λ _. KeepsApart setting.now.state.now.spaces
         (right_of right.now) bounds.old bounds.new) }
-    ensures none { OrNoMemory result (λ o. IfNone o ((round : ℕ) → Sweeps (permits setting.now.filter)
-        setting.now.files.now setting.now.state.now (14 * round * row_count setting.now.state.now.spaces)
-        (14 * suc round * row_count setting.now.state.now.spaces) bounds.old bounds.new)) }
+    ensures none { OrNoMemory result (λ o. IfNone o (SweepsRound setting.now bounds.old bounds.new)) }
     ensures some { OrNoMemory result (λ o. IfSome o (λ t. (t.1 < row_count setting.now.state.now.spaces) ×
         ((round : ℕ) → Stopped (permits setting.now.filter) setting.now.files.now setting.now.state.now
         (right_of right.now) (14 * round * row_count setting.now.state.now.spaces)
@@ -122,16 +120,12 @@ fn try_rows(
     rule: Rule,
     bounds: &mut Bounds,
 ) -> Result<Option<u32>, NoMemory>
-    requires rows { length bounds.old ≡ row_count setting.now.state.now.spaces }
-    requires few { length setting.now.state.now.spaces < 2 ^ 31 }
+    requires ready { IsReady setting.now bounds.old }
     requires named { IsOverStanding setting.now.state.now.spaces (right_of right.now) }
     ensures count { length bounds.new ≡ length bounds.old }
     ensures apart { OrNoMemory result (λ _. KeepsApart setting.now.state.now.spaces
         (right_of right.now) bounds.old bounds.new) }
-    ensures none { OrNoMemory result (λ o. IfNone o ((round : ℕ) → Sweeps (permits setting.now.filter)
-        setting.now.files.now setting.now.state.now ((14 * round + rule_number (rule_of rule)) * row_count
-        setting.now.state.now.spaces) ((14 * round + suc (rule_number (rule_of rule))) * row_count
-        setting.now.state.now.spaces) bounds.old bounds.new)) }
+    ensures none { OrNoMemory result (λ o. IfNone o (SweepsRule setting.now rule bounds.old bounds.new)) }
     ensures some { OrNoMemory result (λ o. IfSome o (λ row. (row < row_count setting.now.state.now.spaces) ×
         ((round : ℕ) → Stopped (permits setting.now.filter) setting.now.files.now setting.now.state.now
         (right_of right.now) ((14 * round + rule_number (rule_of rule)) * row_count setting.now.state.now.spaces)
@@ -156,18 +150,12 @@ fn try_turn(
     row: u32,
     bounds: &mut Bounds,
 ) -> Result<bool, NoMemory>
-    requires rows { length bounds.old ≡ row_count setting.now.state.now.spaces }
-    requires few { length setting.now.state.now.spaces < 2 ^ 31 }
+    requires ready { IsReadyAt setting.now bounds.old row }
     requires named { IsOverStanding setting.now.state.now.spaces (right_of right.now) }
-    requires there { row < row_count setting.now.state.now.spaces }
     ensures count { length bounds.new ≡ length bounds.old }
     ensures apart { OrNoMemory result (λ _. KeepsApart setting.now.state.now.spaces
         (right_of right.now) bounds.old bounds.new) }
-    ensures goes { OrNoMemory result (λ met. met ≡ false → (round : ℕ) → Sweeps
-        (permits setting.now.filter) setting.now.files.now setting.now.state.now ((14 * round + rule_number
-        (rule_of rule)) * row_count setting.now.state.now.spaces + row)
-        (suc ((14 * round + rule_number (rule_of rule)) * row_count setting.now.state.now.spaces + row)) bounds.old
-        bounds.new) }
+    ensures goes { OrNoMemory result (λ met. met ≡ false → SweepsTurn setting.now rule row bounds.old bounds.new) }
     ensures stops { OrNoMemory result (λ met. met ≡ true → (bounds.new ≡ bounds.old) × ((round : ℕ) → StopsAt
         (permits setting.now.filter) setting.now.files.now setting.now.state.now (right_of right.now)
         ((14 * round + rule_number (rule_of rule)) * row_count setting.now.state.now.spaces + row) bounds.old)) }

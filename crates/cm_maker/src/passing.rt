@@ -1,12 +1,7 @@
 // A pass over the rows that are to be looked at.
-ghost use Rattle.std.specs.Prelude.{◌≡◌, ℕ, ◌<◌, ◌^◌, false, true, length, slice_set};
+ghost use Rattle.std.specs.Prelude.{◌≡◌, ℕ, ◌<◌, false, slice_set};
 ghost use Rattle.cm_base.specs.Outcome.{OrNoMemory};
-ghost use Rattle.cm_box_rows.specs.Rows.{RowsHold};
-ghost use Rattle.cm_filter.specs.Filters.{permits};
-ghost use Rattle.cm_maker.specs.Widening.{Widens, OthersRest, is_listed};
-ghost use Rattle.model_box.specs.Covers.{Earlier};
-ghost use Rattle.model_box.specs.Row.{IsWithin};
-ghost use Rattle.model_verdict.specs.Rows.{AreLow};
+ghost use Rattle.cm_maker.specs.Widening.{AreWaiting, IsReady, IsReadyAt, Passes, is_listed};
 ghost use Rattle.model_verdict.specs.Sweep.{row_count};
 
 use crate::resting::rest;
@@ -25,20 +20,9 @@ pub(crate) fn pass(
     waiting: &mut Waiting,
     bounds: &mut Bounds,
 ) -> Result<bool, NoMemory>
-    requires rows { length bounds.old ≡ row_count setting.now.state.now.spaces }
-    requires list { length waiting.old ≡ row_count setting.now.state.now.spaces }
-    requires few { length setting.now.state.now.spaces < 2 ^ 31 }
-    requires earlier { Earlier setting.now.state.now.spaces }
-    requires low { AreLow setting.now.state.now.spaces (RowsHold bounds.old) }
-    requires rest { OthersRest (permits setting.now.filter) setting.now.files.now setting.now.state.now.spaces
-        waiting.old bounds.old }
-    ensures widens { OrNoMemory result (λ _. Widens (permits setting.now.filter) setting.now.files.now
-        setting.now.state.now.spaces bounds.old bounds.new) }
-    ensures list { OrNoMemory result (λ _. length waiting.new ≡ length waiting.old) }
-    ensures rest { OrNoMemory result (λ _. OthersRest (permits setting.now.filter) setting.now.files.now
-        setting.now.state.now.spaces waiting.new bounds.new) }
-    ensures larger { OrNoMemory result (λ more. more ≡ true → IsWithin (RowsHold bounds.new) (RowsHold bounds.old)
-        → ⊥) }
+    requires ready { IsReady setting.now bounds.old }
+    requires waits { AreWaiting setting.now waiting.old bounds.old }
+    ensures passes { OrNoMemory result (Passes setting.now waiting.old waiting.new bounds.old bounds.new) }
     ensures empty { OrNoMemory result (λ more. more ≡ false → (y : ℕ) → y < row_count setting.now.state.now.spaces
         → is_listed waiting.new y ≡ false) }
 {
@@ -64,21 +48,9 @@ fn look(
     waiting: &mut Waiting,
     bounds: &mut Bounds,
 ) -> Result<bool, NoMemory>
-    requires rows { length bounds.old ≡ row_count setting.now.state.now.spaces }
-    requires list { length waiting.old ≡ row_count setting.now.state.now.spaces }
-    requires few { length setting.now.state.now.spaces < 2 ^ 31 }
-    requires earlier { Earlier setting.now.state.now.spaces }
-    requires there { row < row_count setting.now.state.now.spaces }
-    requires low { AreLow setting.now.state.now.spaces (RowsHold bounds.old) }
-    requires rest { OthersRest (permits setting.now.filter) setting.now.files.now setting.now.state.now.spaces
-        waiting.old bounds.old }
-    ensures widens { OrNoMemory result (λ _. Widens (permits setting.now.filter) setting.now.files.now
-        setting.now.state.now.spaces bounds.old bounds.new) }
-    ensures list { OrNoMemory result (λ _. length waiting.new ≡ length waiting.old) }
-    ensures rest { OrNoMemory result (λ _. OthersRest (permits setting.now.filter) setting.now.files.now
-        setting.now.state.now.spaces waiting.new bounds.new) }
-    ensures larger { OrNoMemory result (λ more. more ≡ true → IsWithin (RowsHold bounds.new) (RowsHold bounds.old)
-        → ⊥) }
+    requires ready { IsReadyAt setting.now bounds.old row }
+    requires waits { AreWaiting setting.now waiting.old bounds.old }
+    ensures passes { OrNoMemory result (Passes setting.now waiting.old waiting.new bounds.old bounds.new) }
     ensures taken { OrNoMemory result (λ more. more ≡ false → waiting.new ≡ slice_set waiting.old row false) }
 {
     let st = setting.state;

@@ -1,15 +1,14 @@
 // A row is brought to rest: rules are applied to it, in place, until it holds what each adds; those that look through the
 // files once the others add nothing.
-ghost use Rattle.std.specs.Prelude.{◌≡◌, ◌<◌, ◌≤◌, ◌^◌, false, length};
+ghost use Rattle.std.specs.Prelude.{◌≡◌, ◌≤◌, false};
 ghost use Rattle.cm_base.specs.Outcome.{OrNoMemory};
 ghost use Rattle.cm_box.specs.Rules.{rule_of};
 ghost use Rattle.cm_box_rows.specs.Rows.{RowsHold};
 ghost use Rattle.cm_filter.specs.Filters.{permits};
-ghost use Rattle.cm_maker.specs.Widening.{Visits, Rests, RestsUnder};
+ghost use Rattle.cm_maker.specs.Widening.{IsReadyAt, Rests, RestsIn, VisitsIn};
 ghost use Rattle.model_box.specs.Closed.{ClosedAt};
 ghost use Rattle.model_box.specs.Row.{row_at};
 ghost use Rattle.model_verdict.specs.Rows.{AreLow};
-ghost use Rattle.model_verdict.specs.Sweep.{row_count};
 
 use crate::runners::Runners;
 use crate::running::run_programs;
@@ -25,12 +24,9 @@ pub(crate) fn rest(
     row: u32,
     bounds: &mut Bounds,
 ) -> Result<bool, NoMemory>
-    requires rows { length bounds.old ≡ row_count setting.now.state.now.spaces }
-    requires few { length setting.now.state.now.spaces < 2 ^ 31 }
-    requires there { row < row_count setting.now.state.now.spaces }
+    requires ready { IsReadyAt setting.now bounds.old row }
     requires low { AreLow setting.now.state.now.spaces (RowsHold bounds.old) }
-    ensures visits { OrNoMemory result (λ more. Visits (permits setting.now.filter) setting.now.files.now
-        setting.now.state.now.spaces row bounds.old bounds.new more) }
+    ensures visits { OrNoMemory result (VisitsIn setting.now row bounds.old bounds.new) }
     ensures rests { OrNoMemory result (λ _. Rests (permits setting.now.filter) setting.now.files.now
         setting.now.state.now.spaces bounds.new row) }
 {
@@ -57,15 +53,10 @@ fn try_near(
     row: u32,
     bounds: &mut Bounds,
 ) -> Result<bool, NoMemory>
-    requires rows { length bounds.old ≡ row_count setting.now.state.now.spaces }
-    requires few { length setting.now.state.now.spaces < 2 ^ 31 }
-    requires there { row < row_count setting.now.state.now.spaces }
-    ensures visits { OrNoMemory result (λ more. Visits (permits setting.now.filter) setting.now.files.now
-        setting.now.state.now.spaces row bounds.old bounds.new more) }
-    ensures last { OrNoMemory result (λ more. more ≡ false → RestsUnder (permits setting.now.filter)
-        setting.now.files.now setting.now.state.now.spaces bounds.new row 10 14) }
-    ensures first { OrNoMemory result (λ more. more ≡ false → RestsUnder (permits setting.now.filter)
-        setting.now.files.now setting.now.state.now.spaces bounds.new row 0 7) }
+    requires { IsReadyAt setting.now bounds.old row }
+    ensures visits { OrNoMemory result (VisitsIn setting.now row bounds.old bounds.new) }
+    ensures last { OrNoMemory result (λ more. more ≡ false → RestsIn setting.now bounds.new row 10 14) }
+    ensures first { OrNoMemory result (λ more. more ≡ false → RestsIn setting.now bounds.new row 0 7) }
 {
     let last = try_rules(alloc, setting, BY_FILES.1, RULES, row, bounds)?;
     let first = try_rules(alloc, setting, 0, BY_FILES.0, row, bounds)?;
@@ -82,14 +73,10 @@ fn try_rules(
     row: u32,
     bounds: &mut Bounds,
 ) -> Result<bool, NoMemory>
-    requires rows { length bounds.old ≡ row_count setting.now.state.now.spaces }
-    requires few { length setting.now.state.now.spaces < 2 ^ 31 }
-    requires there { row < row_count setting.now.state.now.spaces }
+    requires ready { IsReadyAt setting.now bounds.old row }
     requires rules { to ≤ 14 }
-    ensures visits { OrNoMemory result (λ more. Visits (permits setting.now.filter) setting.now.files.now
-        setting.now.state.now.spaces row bounds.old bounds.new more) }
-    ensures rests { OrNoMemory result (λ more. more ≡ false → RestsUnder (permits setting.now.filter)
-        setting.now.files.now setting.now.state.now.spaces bounds.new row from to) }
+    ensures visits { OrNoMemory result (VisitsIn setting.now row bounds.old bounds.new) }
+    ensures rests { OrNoMemory result (λ more. more ≡ false → RestsIn setting.now bounds.new row from to) }
 {
     let mut more = false;
     for k in from..to {
@@ -108,11 +95,8 @@ fn try_rule(
     row: u32,
     bounds: &mut Bounds,
 ) -> Result<bool, NoMemory>
-    requires rows { length bounds.old ≡ row_count setting.now.state.now.spaces }
-    requires few { length setting.now.state.now.spaces < 2 ^ 31 }
-    requires there { row < row_count setting.now.state.now.spaces }
-    ensures visits { OrNoMemory result (λ more. Visits (permits setting.now.filter) setting.now.files.now
-        setting.now.state.now.spaces row bounds.old bounds.new more) }
+    requires { IsReadyAt setting.now bounds.old row }
+    ensures visits { OrNoMemory result (VisitsIn setting.now row bounds.old bounds.new) }
     ensures closed { OrNoMemory result (λ more. more ≡ false → ClosedAt (permits setting.now.filter)
         setting.now.files.now setting.now.state.now.spaces (RowsHold bounds.new) (rule_of rule) (row_at row)) }
 {

@@ -1,13 +1,13 @@
 // Set-id programs are run for the members of a row, one by what another gave, so that a long chain of them takes no
 // round of the rules for each link.
-ghost use Rattle.std.specs.Prelude.{◌≡◌, ◌<◌, ◌^◌, length, IfSome};
+ghost use Rattle.std.specs.Prelude.{◌≡◌, ◌<◌, length, IfSome};
 ghost use Rattle.cm_base.specs.Limits.{id_count};
 ghost use Rattle.cm_base.specs.Outcome.{OrNoMemory};
 ghost use Rattle.cm_box_rows.specs.Kinds.{SpreadsId};
 ghost use Rattle.cm_box_rows.specs.Rows.{RowHolds, AreSameRows, InEitherRow};
 ghost use Rattle.cm_filter.specs.Filters.{permits};
 ghost use Rattle.cm_maker.specs.Running.{Comes};
-ghost use Rattle.cm_maker.specs.Widening.{Visits};
+ghost use Rattle.cm_maker.specs.Widening.{IsReadyAt, VisitsIn};
 ghost use Rattle.model_verdict.specs.Sweep.{row_count};
 
 use crate::runners::{Runner, Runners};
@@ -42,11 +42,8 @@ pub(crate) fn run_programs(
     row: u32,
     bounds: &mut Bounds,
 ) -> Result<bool, NoMemory>
-    requires rows { length bounds.old ≡ row_count setting.now.state.now.spaces }
-    requires few { length setting.now.state.now.spaces < 2 ^ 31 }
-    requires there { row < row_count setting.now.state.now.spaces }
-    ensures { OrNoMemory result (λ more. Visits (permits setting.now.filter) setting.now.files.now
-        setting.now.state.now.spaces row bounds.old bounds.new more) }
+    requires { IsReadyAt setting.now bounds.old row }
+    ensures { OrNoMemory result (VisitsIn setting.now row bounds.old bounds.new) }
 {
     let mut more = false;
     let mut new: Vec<NewId> = Vec::new(alloc);
@@ -85,11 +82,8 @@ fn run_each(
     bounds: &mut Bounds,
     new: &mut Vec<NewId>,
 ) -> Result<bool, NoMemory>
-    requires rows { length bounds.old ≡ row_count setting.now.state.now.spaces }
-    requires few { length setting.now.state.now.spaces < 2 ^ 31 }
-    requires there { row < row_count setting.now.state.now.spaces }
-    ensures { OrNoMemory result (λ more. Visits (permits setting.now.filter) setting.now.files.now
-        setting.now.state.now.spaces row bounds.old bounds.new more) }
+    requires { IsReadyAt setting.now bounds.old row }
+    ensures { OrNoMemory result (VisitsIn setting.now row bounds.old bounds.new) }
 {
     let mut more = false;
     for runner in list {
@@ -109,11 +103,8 @@ fn run(
     bounds: &mut Bounds,
     new: &mut Vec<NewId>,
 ) -> Result<bool, NoMemory>
-    requires rows { length bounds.old ≡ row_count setting.now.state.now.spaces }
-    requires few { length setting.now.state.now.spaces < 2 ^ 31 }
-    requires there { row < row_count setting.now.state.now.spaces }
-    ensures { OrNoMemory result (λ more. Visits (permits setting.now.filter) setting.now.files.now
-        setting.now.state.now.spaces row bounds.old bounds.new more) }
+    requires { IsReadyAt setting.now bounds.old row }
+    ensures { OrNoMemory result (VisitsIn setting.now row bounds.old bounds.new) }
 {
     let (users, groups) = (IdKind::Users, IdKind::Groups);
     let user = run_as(
@@ -150,11 +141,8 @@ fn run_as(
     bounds: &mut Bounds,
     new: &mut Vec<NewId>,
 ) -> Result<bool, NoMemory>
-    requires rows { length bounds.old ≡ row_count setting.now.state.now.spaces }
-    requires few { length setting.now.state.now.spaces < 2 ^ 31 }
-    requires there { row < row_count setting.now.state.now.spaces }
-    ensures { OrNoMemory result (λ more. Visits (permits setting.now.filter) setting.now.files.now
-        setting.now.state.now.spaces row bounds.old bounds.new more) }
+    requires { IsReadyAt setting.now bounds.old row }
+    ensures { OrNoMemory result (VisitsIn setting.now row bounds.old bounds.new) }
 {
     let kind = bit.kind;
     let Some(id) = id_to_come(setting, bit, row, bounds) else {

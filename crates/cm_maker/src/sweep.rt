@@ -1,11 +1,8 @@
 // The sweep: turns, rules over all rows, and rounds, in place.
-ghost use Rattle.std.specs.Prelude.{◌≡◌, ℕ, suc, ◌<◌, ◌+◌, ◌*◌, ◌^◌, length};
+ghost use Rattle.std.specs.Prelude.{◌≡◌, length};
 ghost use Rattle.cm_base.specs.Outcome.{OrNoMemory};
-ghost use Rattle.cm_box.specs.Rules.{rule_of};
-ghost use Rattle.cm_filter.specs.Filters.{permits};
-ghost use Rattle.cm_maker.specs.Sweeping.{Sweeps};
-ghost use Rattle.model_box.specs.Rule.{rule_number};
-ghost use Rattle.model_verdict.specs.Sweep.{row_count};
+ghost use Rattle.cm_maker.specs.Sweeping.{SweepsRound, SweepsRule, SweepsTurn};
+ghost use Rattle.cm_maker.specs.Widening.{IsReady, IsReadyAt};
 
 use cm_base::NoMemory;
 use cm_box::{Bounds, RULES, Rule, Setting, widened};
@@ -17,12 +14,9 @@ pub(crate) fn round(
     setting: &Setting<'_>,
     bounds: &mut Bounds,
 ) -> Result<(), NoMemory>
-    requires rows { length bounds.old ≡ row_count setting.now.state.now.spaces }
-    requires few { length setting.now.state.now.spaces < 2 ^ 31 }
+    requires { IsReady setting.now bounds.old }
     ensures count { length bounds.new ≡ length bounds.old }
-    ensures swept { OrNoMemory result (λ _. (round : ℕ) → Sweeps (permits setting.now.filter) setting.now.files.now
-        setting.now.state.now (14 * round * row_count setting.now.state.now.spaces)
-        (14 * suc round * row_count setting.now.state.now.spaces) bounds.old bounds.new) }
+    ensures swept { OrNoMemory result (λ _. SweepsRound setting.now bounds.old bounds.new) }
 {
     for k in 0..RULES {
         over_rows(alloc, setting, Rule::of_number(k), bounds)?;
@@ -37,13 +31,9 @@ fn over_rows(
     rule: Rule,
     bounds: &mut Bounds,
 ) -> Result<(), NoMemory>
-    requires rows { length bounds.old ≡ row_count setting.now.state.now.spaces }
-    requires few { length setting.now.state.now.spaces < 2 ^ 31 }
+    requires { IsReady setting.now bounds.old }
     ensures count { length bounds.new ≡ length bounds.old }
-    ensures swept { OrNoMemory result (λ _. (round : ℕ) → Sweeps (permits setting.now.filter) setting.now.files.now
-        setting.now.state.now ((14 * round + rule_number (rule_of rule)) * row_count setting.now.state.now.spaces)
-        ((14 * round + suc (rule_number (rule_of rule))) * row_count setting.now.state.now.spaces) bounds.old
-        bounds.new) }
+    ensures swept { OrNoMemory result (λ _. SweepsRule setting.now rule bounds.old bounds.new) }
 {
     let st = setting.state;
     for row in 0..2 * st.spaces.count() {
@@ -60,14 +50,9 @@ fn turn(
     row: u32,
     bounds: &mut Bounds,
 ) -> Result<(), NoMemory>
-    requires rows { length bounds.old ≡ row_count setting.now.state.now.spaces }
-    requires few { length setting.now.state.now.spaces < 2 ^ 31 }
-    requires there { row < row_count setting.now.state.now.spaces }
+    requires { IsReadyAt setting.now bounds.old row }
     ensures count { length bounds.new ≡ length bounds.old }
-    ensures swept { OrNoMemory result (λ _. (round : ℕ) → Sweeps (permits setting.now.filter) setting.now.files.now
-        setting.now.state.now ((14 * round + rule_number (rule_of rule)) * row_count setting.now.state.now.spaces + row)
-        (suc ((14 * round + rule_number (rule_of rule)) * row_count setting.now.state.now.spaces + row)) bounds.old
-        bounds.new) }
+    ensures swept { OrNoMemory result (λ _. SweepsTurn setting.now rule row bounds.old bounds.new) }
 {
     match widened(alloc, rule, row, setting, bounds)? {
         Some(wider) => bounds.put(row, wider),

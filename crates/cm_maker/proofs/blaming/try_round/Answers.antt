@@ -1,8 +1,8 @@
-use Rattle.std.proofs.Common.{ℕ, ◌≡◌, ◌+◌, ◌*◌, suc, refl, ◌∙◌, ap, arith}
+use Rattle.std.proofs.Common.{ℕ, ◌+◌, ◌*◌, suc, ◌∙◌, ap, arith}
 use Rattle.cm_box.specs.Rules.{rule_of}
 use Rattle.cm_filter.specs.Filters.{permits}
 use Rattle.cm_maker.proofs.Stops.{then_stopped}
-use Rattle.cm_maker.proofs.Turns.{then_sweep, round_end}
+use Rattle.cm_maker.proofs.Turns.{next_rule, round_end}
 use Rattle.cm_maker.proofs.blaming.try_round.Goals as goal
 use Rattle.cm_state.specs.Right.{right_of}
 use Rattle.model_box.specs.Rule.{rule_number}
@@ -26,14 +26,10 @@ loop-k-preserved c = record {
   count = c.in_ok-row.ensures.count ∙ c.loop-k.invariant.count;
   apart = λ apart. c.in_ok-row.ensures.apart (c.loop-k.invariant.apart apart);
   swept = λ round k is.
-      let rows : ℕ = row_count c.args.setting.now.state.now.spaces in
       let went = rw c.in-None.is at c.in_ok-row.ensures.none in
-      then_sweep (permits c.args.setting.now.filter) c.args.setting.now.files.now c.args.setting.now.state.now (14 * round * rows)
-      ((14 * round + c.loop-k.k) * rows)
-      ((14 * round + suc c.loop-k.k) * rows) k
-      c.args.bounds.now c.loop-k.bounds c.try_rows.new.bounds (c.loop-k.invariant.swept round ((14 * round + c.loop-k.k) * rows) refl)
-      (rw c.of_number-rule.ensures at went round)
-      (let next : c.loop-k.k + 1 ≡ suc c.loop-k.k = omega arith in is ∙ ap (λ (m : ℕ). (14 * round + m) * rows) next);
+      next_rule (permits c.args.setting.now.filter) c.args.setting.now.files.now c.args.setting.now.state.now round c.loop-k.k k
+      c.args.bounds.now c.loop-k.bounds c.try_rows.new.bounds (c.loop-k.invariant.swept round)
+      (rw c.of_number-rule.ensures at went round) is;
 }
 
 pub returns-clause-none : goal.returns-clause-none

@@ -2,7 +2,7 @@ use Rattle.std.proofs.Common.{ℕ, ◌+◌, ◌*◌, suc, refl, ◌∙◌, ap, a
 use Rattle.cm_box.specs.Rules.{rule_of}
 use Rattle.cm_filter.specs.Filters.{permits}
 use Rattle.cm_maker.proofs.Stops.{stopped_same}
-use Rattle.cm_maker.proofs.Turns.{then_sweep, rule_end}
+use Rattle.cm_maker.proofs.Turns.{next_turn, rule_end}
 use Rattle.cm_maker.proofs.blaming.try_rows.Goals as goal
 use Rattle.cm_state.specs.Right.{right_of}
 use Rattle.model_box.specs.Rule.{rule_number}
@@ -27,11 +27,9 @@ loop-row-preserved c = record {
   apart = λ apart. c.in_ok-try_turn.ensures.apart (c.loop-row.invariant.apart apart);
   swept = λ round k is.
       let from : ℕ = (14 * round + rule_number (rule_of c.args.rule)) * row_count c.args.setting.now.state.now.spaces in
-      then_sweep (permits c.args.setting.now.filter) c.args.setting.now.files.now c.args.setting.now.state.now from (from + c.loop-row.row)
-      (suc (from + c.loop-row.row)) k
-      c.args.bounds.now c.loop-row.bounds c.try_turn.new.bounds (c.loop-row.invariant.swept round (from + c.loop-row.row) refl)
-      (c.in_ok-try_turn.ensures.goes c.if-branch.false round)
-      (omega (arith, is));
+      next_turn (permits c.args.setting.now.filter) c.args.setting.now.files.now c.args.setting.now.state.now from c.loop-row.row k
+      c.args.bounds.now c.loop-row.bounds c.try_turn.new.bounds (c.loop-row.invariant.swept round)
+      (c.in_ok-try_turn.ensures.goes c.if-branch.false round) is;
 }
 
 pub returns-clause-none : goal.returns-clause-none

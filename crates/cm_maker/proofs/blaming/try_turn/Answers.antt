@@ -12,7 +12,7 @@ returns-then-meets_by-clause-stops c _ = (
   refl,
   wider_stops (permits c.args.setting.now.filter) c.args.setting.now.files.now c.args.setting.now.state.now (right_of c.args.right.now)
       (rule_of c.args.rule) c.args.row
-      c.args.bounds.now c.in-Some.wider (omega (arith, c.requires.there, c.requires.rows)) c.requires.there
+      c.args.bounds.now c.in-Some.wider (omega (arith, c.requires.ready.there, c.requires.ready.rows)) c.requires.ready.there
       (rw c.in-Some.is at c.in_ok-widened.ensures.wider)
       (c.meets_by.ensures.0 c.if-meets_by.true),
 )
@@ -20,16 +20,16 @@ returns-then-meets_by-clause-stops c _ = (
 pub returns-in-None-clause-goes : goal.returns-in-None-clause-goes
 returns-in-None-clause-goes c _ =
     closed_sweeps (permits c.args.setting.now.filter) c.args.setting.now.files.now c.args.setting.now.state.now (rule_of c.args.rule) c.args.row
-    c.args.bounds.now c.requires.there (rw c.in-None.is at c.in_ok-widened.ensures.closed)
+    c.args.bounds.now c.requires.ready.there (rw c.in-None.is at c.in_ok-widened.ensures.closed)
 
 pub returns-else-meets_by-clause-apart : goal.returns-else-meets_by-clause-apart
 returns-else-meets_by-clause-apart c =
     rw c.put.ensures (put_apart c.args.setting.now.state.now.spaces (right_of c.args.right.now) c.args.bounds.now c.args.row c.in-Some.wider
-    (omega (arith, c.requires.there, c.requires.rows)) (λ met. false≢true (sym c.if-meets_by.false ∙ c.meets_by.ensures.1 met)))
+    (omega (arith, c.requires.ready.there, c.requires.ready.rows)) (λ met. false≢true (sym c.if-meets_by.false ∙ c.meets_by.ensures.1 met)))
 
 pub returns-else-meets_by-clause-goes : goal.returns-else-meets_by-clause-goes
 returns-else-meets_by-clause-goes c _ =
     rw c.put.ensures (wider_sweeps (permits c.args.setting.now.filter) c.args.setting.now.files.now c.args.setting.now.state.now
     (rule_of c.args.rule) c.args.row
-    c.args.bounds.now c.in-Some.wider (omega (arith, c.requires.there, c.requires.rows)) c.requires.there
+    c.args.bounds.now c.in-Some.wider (omega (arith, c.requires.ready.there, c.requires.ready.rows)) c.requires.ready.there
     (rw c.in-Some.is at c.in_ok-widened.ensures.wider))

@@ -23,8 +23,15 @@ loop-waiting-init c =
       within = start_within p c.args.files.now s c.args.members.now rows c.see_state.ensures (λ row part x held. (holds row part x).0 held);
     }
 
-pub pass-requires-clause-earlier : goal.pass-requires-clause-earlier
-pass-requires-clause-earlier c = (fits_starts c.args.st.now (state_fits c.args.st.now c.see_state.ensures)).earlier
+pub pass-requires-clause-waits : goal.pass-requires-clause-waits
+pass-requires-clause-waits c =
+    let before = c.loop-waiting.invariant in
+    record {
+      list = before.list;
+      earlier = (fits_starts c.args.st.now (state_fits c.args.st.now c.see_state.ensures)).earlier;
+      low = before.low;
+      rest = before.rest;
+    }
 
 pub returns-then-not-branch-clause-least : goal.returns-then-not-branch-clause-least
 returns-then-not-branch-clause-least c =
@@ -32,34 +39,27 @@ returns-then-not-branch-clause-least c =
     let f = c.args.files.now in
     let s = c.args.st.now in
     let before = c.loop-waiting.invariant in
-    let widens = c.in_ok-pass.ensures.widens in
+    let passes = c.in_ok-pass.ensures.passes in
     they_are_least p f s c.args.members.now c.pass.new.bounds c.see_state.ensures
-    (all_rest p f s.spaces c.pass.new.waiting c.pass.new.bounds c.in_ok-pass.ensures.rest (c.in_ok-pass.ensures.empty c.if-not-branch.true))
-    (λ row part x has. widens.grown row part x (before.covers row part x has))
-    (then_within p f s c.args.members.now c.loop-waiting.bounds c.pass.new.bounds widens before.within)
+    (all_rest p f s.spaces c.pass.new.waiting c.pass.new.bounds passes.rest (c.in_ok-pass.ensures.empty c.if-not-branch.true))
+    (λ row part x has. passes.widens.grown row part x (before.covers row part x has))
+    (then_within p f s c.args.members.now c.loop-waiting.bounds c.pass.new.bounds passes.widens before.within)
 
 pub loop-waiting-smaller : goal.loop-waiting-smaller
 loop-waiting-smaller c =
-    let p = permits c.args.filter in
-    let f = c.args.files.now in
-    let s = c.args.st.now.spaces in
-    let widens = c.in_ok-pass.ensures.widens in
-    lacks_less p f s c.loop-waiting.bounds c.pass.new.bounds
-    (low_kept p f s c.loop-waiting.bounds c.pass.new.bounds widens c.loop-waiting.invariant.low)
-    widens.grown (c.in_ok-pass.ensures.larger c.if-not-branch.false)
+    let passes = c.in_ok-pass.ensures.passes in
+    lacks_less passes.widens c.loop-waiting.invariant.low (passes.larger c.if-not-branch.false)
 
 pub loop-waiting-preserved : goal.loop-waiting-preserved
 loop-waiting-preserved c =
-    let p = permits c.args.filter in
-    let f = c.args.files.now in
-    let s = c.args.st.now in
     let before = c.loop-waiting.invariant in
-    let widens = c.in_ok-pass.ensures.widens in
+    let passes = c.in_ok-pass.ensures.passes in
     record {
-      count = widens.count ∙ before.count;
-      list = c.in_ok-pass.ensures.list ∙ before.list;
-      low = low_kept p f s.spaces c.loop-waiting.bounds c.pass.new.bounds widens before.low;
-      rest = c.in_ok-pass.ensures.rest;
-      covers = λ row part x has. widens.grown row part x (before.covers row part x has);
-      within = then_within p f s c.args.members.now c.loop-waiting.bounds c.pass.new.bounds widens before.within;
+      count = passes.widens.count ∙ before.count;
+      list = passes.list ∙ before.list;
+      low = low_kept passes.widens before.low;
+      rest = passes.rest;
+      covers = λ row part x has. passes.widens.grown row part x (before.covers row part x has);
+      within = then_within (permits c.args.filter) c.args.files.now c.args.st.now c.args.members.now c.loop-waiting.bounds
+          c.pass.new.bounds passes.widens before.within;
     }

@@ -1,7 +1,6 @@
 use Rattle.std.proofs.Common.{◌≡◌, length}
 use Rattle.cm_box_rows.specs.Rows.{RowsHold}
-use Rattle.cm_filter.specs.Filters.{permits}
-use Rattle.cm_maker.specs.Widening.{Visits}
+use Rattle.cm_maker.specs.Widening.{VisitsIn}
 use Rattle.cm_maker.proofs.resting.rest.Given as goal
 use Rattle.model_box.specs.Bounds.{bounds_hold}
 use Rattle.model_verdict.specs.Rows.{AreLow}
@@ -12,7 +11,7 @@ abbrev pub invariant-loop-more : goal.invariant-loop-more
 invariant-loop-more l = record {
   count : length l.bounds ≡ length l.fn.bounds;
   low : AreLow l.setting.state.now.spaces (RowsHold l.bounds);
-  visits : Visits (permits l.setting.filter) l.setting.files.now l.setting.state.now.spaces l.row l.fn.bounds l.bounds l.more;
+  visits : VisitsIn l.setting l.row l.fn.bounds l.bounds l.more;
 }
 
 abbrev pub decreases-loop-more : goal.decreases-loop-more
