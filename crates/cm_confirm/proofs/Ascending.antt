@@ -1,6 +1,6 @@
 -- Pids that ascend: what a search by halves finds among them, and what is left with one more or one less.
 use Rattle.std.proofs.Common.{◌≡◌, ◌≢◌, ℕ, zero, suc, ◌<◌, ◌≤◌, ◌==◌, ◌||◌, Bool, true, false, not, List, [], ◌∷◌, filter, take, drop}
-use Rattle.std.proofs.Common.{if◌then◌else◌, refl, sym, ◌∙◌, ap, inl, inr, subst, arith, nat_cmp, get_or, length, Result, Ok, Err}
+use Rattle.std.proofs.Common.{refl, sym, ◌∙◌, ap, inl, inr, subst, arith, nat_cmp, get_or, length, Result, Ok, Err}
 use Rattle.std.specs.List.{All, insert, remove}
 use Rattle.std.specs.List.Sorted.{IsBinarySearchResult}
 use Rattle.std.specs.Result.{is_ok, MatchResult}
@@ -36,8 +36,10 @@ abbrev pub Found : List ℕ → ℕ → Result ℕ ℕ → Type 0
 Found pids pid r = MatchResult r (λ i. (i < length pids) × (get_or pids i 0 ≡ pid))
     (λ i. (i ≤ length pids) × ((k : ℕ) → k < i → get_or pids k 0 < pid) × ((k : ℕ) → i ≤ k → k < length pids → pid < get_or pids k 0))
 
-pub search_finds : (pids : List ℕ) (pid : ℕ) (r : Result ℕ ℕ) → PidsAscend pids → IsBinarySearchResult (λ y. nat_cmp y pid) pids r → Found pids pid r
-search_finds pids pid r up is = searched pids pid r is (rises pids up)
+pub search_finds : (pids : List ℕ) (pid : ℕ) (r found : Result ℕ ℕ) → r ≡ found → ∥ PidsAscend pids ∥₁
+    → IsBinarySearchResult (λ y. nat_cmp y pid) pids r → Found pids pid found
+search_finds pids pid r found same up is =
+    subst (λ (x : Result ℕ ℕ). Found pids pid x) same (searched pids pid r is (rises pids (ascends_there pids up)))
 
 -- ---- who is a member
 -- the one at a place is

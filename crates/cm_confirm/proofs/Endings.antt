@@ -1,7 +1,7 @@
 -- Where a run stands: an event is taken, or it is over.
-use Rattle.std.proofs.Common.{◌≡◌, ℕ, List}
-use Rattle.std.proofs.Common.{sym, subst, ◌∙◌, ap}
+use Rattle.std.proofs.Common.{◌≡◌, ◌≤◌, ℕ, List, [], drop, length, sym, subst, ◌∙◌, ap}
 use Rattle.std.specs.Prelude.{Result, Ok, Err}
+use Rattle.std.proofs.lemmas.List.{at_drop_all}
 use Rattle.cm_base.specs.Outcome.{OrNoMemory}
 use Rattle.cm_confirm.proofs.Sames.{run_same}
 use Rattle.cm_confirm.specs.Confirmed.{ComesTo, GoesOn, confirmed_of}
@@ -37,6 +37,14 @@ module _ (w : World) (s : State) (members : List ℕ) (right : Right) (reading r
   pub ends_with : (c : Confirmed) → ((rest : State → Confirmed) → by_outcome w members e rest (outcome w s e.event) ≡ c)
       → confirm_of w s members right reading ≡ c
   ends_with c ends = by_event ∙ ends next
+
+-- after the last event that was told what comes goes by what the reading is at
+pub all_taken : (w : World) (s : State) (members : List ℕ) (right : Right) (told : List Placed) (i : ℕ) (stage at : Stage) (later : Reading)
+    → length told ≤ i → stage ≡ at
+    → confirm_of w s members right (told_then (drop i told) stage later) ≡ confirm_of w s members right (told_then [] at later)
+all_taken w s members right told i stage at later all is =
+    at_drop_all (λ (es : List Placed). confirm_of w s members right (told_then es stage later)) told i all
+    ∙ ap (λ (x : Stage). confirm_of w s members right (told_then [] x later)) is
 
 -- what comes of what a line told is what comes of the line
 pub line_comes : (w : World) (s : State) (members : List ℕ) (right : Right) (reading later : Reading)

@@ -8,8 +8,7 @@ use Rattle.cm_confirm.proofs.Ascending.{other_than}
 use Rattle.cm_confirm.specs.Members.{SameMembers}
 use Rattle.cm_filter.specs.Filters.{permits}
 use Rattle.model_confirm.proofs.LeastHolders.{Least, least_is, least_only}
-use Rattle.model_confirm.specs.Confirm.{Confirmed, RefusesLine, by_holder, by_ending, by_outcome, unless_past, events_confirm, is_for_members}
-use Rattle.model_confirm.specs.Confirm.{least_holder}
+use Rattle.model_confirm.specs.Confirm.{Confirmed, RefusesLine, by_holder, by_ending, by_outcome, unless_past, events_confirm, is_for_members, least_holder}
 use Rattle.model_cred.specs.Call.{Call, Exit, kind_of}
 use Rattle.model_cred.specs.Process.{State}
 use Rattle.model_cred.specs.Right.{Right}

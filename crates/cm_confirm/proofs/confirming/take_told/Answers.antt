@@ -1,14 +1,11 @@
-use Rattle.std.proofs.Common.{◌∙◌, ◌+◌, List, [], ap, drop, sym}
-use Rattle.std.proofs.lemmas.List.{drop_all}
-use Rattle.cm_confirm.proofs.Endings.{ends_with, goes_on}
+use Rattle.std.proofs.Common.{◌∙◌, ◌+◌, List, ap, drop, sym}
+use Rattle.cm_confirm.proofs.Endings.{all_taken, ends_with, goes_on}
 use Rattle.cm_confirm.proofs.confirming.take_told.Goals as goal
 use Rattle.cm_confirm.specs.Confirmed.{confirmed_of}
 use Rattle.cm_declared.specs.World.{world_of}
 use Rattle.cm_log.proofs.ToldEvents.{told_from, told_on}
 use Rattle.cm_log.specs.Left.{told_then}
 use Rattle.cm_state.specs.Right.{right_of}
-use Rattle.cm_strace.specs.declared.stage.Stage.{Stage}
-use Rattle.model_confirm.specs.Confirm.{confirm_of}
 use Rattle.model_text.specs.Reading.{Placed}
 
 pub loop-event-preserved : goal.loop-event-preserved
@@ -45,38 +42,23 @@ returns-in-Ends-clause-turn c later =
 
 -- after the last event
 pub returns-in-Going-clause-turn : goal.returns-in-Going-clause-turn
-returns-in-Going-clause-turn c later =
-    let w = world_of c.args.w.now in
-    let right = right_of c.args.right.now in
-    let none = drop_all c.loop-event.event-index c.args.told.now c.loop-event-test.false in (
-      c.loop-event.invariant.same later
-          ∙ ap (λ (es : List Placed). confirm_of w c.loop-event.machine.state c.loop-event.members right
-          (told_then es c.args.stage later)) none
-          ∙ ap (λ (at : Stage). confirm_of w c.loop-event.machine.state c.loop-event.members right
-          (told_then [] at later)) c.in-Going.is,
-      c.loop-event.invariant.within,
-    )
+returns-in-Going-clause-turn c later = (
+  c.loop-event.invariant.same later
+      ∙ all_taken (world_of c.args.w.now) c.loop-event.machine.state c.loop-event.members (right_of c.args.right.now) c.args.told.now
+      c.loop-event.event-index c.args.stage _ later c.loop-event-test.false c.in-Going.is,
+  c.loop-event.invariant.within,
+)
 
 pub returns-in-Stopped-clause-turn : goal.returns-in-Stopped-clause-turn
 returns-in-Stopped-clause-turn c later =
-    let w = world_of c.args.w.now in
-    let right = right_of c.args.right.now in
-    let none = drop_all c.loop-event.event-index c.args.told.now c.loop-event-test.false in
     c.loop-event.invariant.same later
-    ∙ ap (λ (es : List Placed). confirm_of w c.loop-event.machine.state c.loop-event.members right
-    (told_then es c.args.stage later)) none
-    ∙ ap (λ (at : Stage). confirm_of w c.loop-event.machine.state c.loop-event.members right
-    (told_then [] at later)) c.in-Stopped.is
+    ∙ all_taken (world_of c.args.w.now) c.loop-event.machine.state c.loop-event.members (right_of c.args.right.now) c.args.told.now
+    c.loop-event.event-index c.args.stage _ later c.loop-event-test.false c.in-Stopped.is
     ∙ sym c.stop_run.ensures
 
 pub returns-in-Finished-clause-turn : goal.returns-in-Finished-clause-turn
 returns-in-Finished-clause-turn c later =
-    let w = world_of c.args.w.now in
-    let right = right_of c.args.right.now in
-    let none = drop_all c.loop-event.event-index c.args.told.now c.loop-event-test.false in
     c.loop-event.invariant.same later
-    ∙ ap (λ (es : List Placed). confirm_of w c.loop-event.machine.state c.loop-event.members right
-    (told_then es c.args.stage later)) none
-    ∙ ap (λ (at : Stage). confirm_of w c.loop-event.machine.state c.loop-event.members right
-    (told_then [] at later)) c.in-Finished.is
+    ∙ all_taken (world_of c.args.w.now) c.loop-event.machine.state c.loop-event.members (right_of c.args.right.now) c.args.told.now
+    c.loop-event.event-index c.args.stage _ later c.loop-event-test.false c.in-Finished.is
     ∙ sym c.end_run.ensures
