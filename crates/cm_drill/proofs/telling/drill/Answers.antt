@@ -1,5 +1,5 @@
 -- The drill goes on event by event, and its states are within the limits.
-use Rattle.std.proofs.Common.{◌≤◌, refl, sym, ◌∙◌, arith}
+use Rattle.std.proofs.Common.{refl, sym, ◌∙◌, arith}
 use Rattle.cm_drill.proofs.Counting.{goes_on, refused_few, refused_more, refused_same, state_keeps}
 use Rattle.cm_drill.proofs.telling.drill.Goals as goal
 use Rattle.cm_drill.proofs.telling.drill.Goals.{then-is_refused, else-is_refused}
@@ -19,21 +19,19 @@ overflow_add-refused c =
     let few = refused_few c.args.n c.loop-made._made c.loop-made.refused c.loop-made.invariant.1 in omega (arith, few)
 
 pub loop-made-preserved : goal.loop-made-preserved
-loop-made-preserved c =
-    elim c.if-is_refused.branch [
-      | then-is_refused w ↦ (
-        goes_on c.args.n c.loop-made._made c.loop-made.g c.loop-made.invariant.0 c.next.new.self c.in_ok-e.ensures.after,
+loop-made-preserved c = (
+  goes_on c.args.n c.loop-made._made c.loop-made.g c.loop-made.invariant.0 c.next.new.self c.in_ok-e.ensures.after,
+  elim c.if-is_refused.branch [
+    | then-is_refused w ↦
         w.refused-is
-            ∙ refused_more c.args.n c.loop-made._made c.loop-made.g c.loop-made.invariant.0 c.in_ok-e.e c.loop-made.refused
-            c.in_ok-e.ensures.event c.loop-made.invariant.1 (sym c.is_refused.ensures ∙ w.if-is_refused.true),
-      )
-      | else-is_refused w ↦ (
-        goes_on c.args.n c.loop-made._made c.loop-made.g c.loop-made.invariant.0 c.next.new.self c.in_ok-e.ensures.after,
+        ∙ refused_more c.args.n c.loop-made._made c.loop-made.g c.loop-made.invariant.0 c.in_ok-e.e c.loop-made.refused
+        c.in_ok-e.ensures.event c.loop-made.invariant.1 (sym c.is_refused.ensures ∙ w.if-is_refused.true)
+    | else-is_refused w ↦
         w.refused-is
-            ∙ refused_same c.args.n c.loop-made._made c.loop-made.g c.loop-made.invariant.0 c.in_ok-e.e c.loop-made.refused
-            c.in_ok-e.ensures.event c.loop-made.invariant.1 (sym c.is_refused.ensures ∙ w.if-is_refused.false),
-      )
-    ]
+        ∙ refused_same c.args.n c.loop-made._made c.loop-made.g c.loop-made.invariant.0 c.in_ok-e.e c.loop-made.refused
+        c.in_ok-e.ensures.event c.loop-made.invariant.1 (sym c.is_refused.ensures ∙ w.if-is_refused.false)
+  ],
+)
 
 pub verdict_on-requires-clause-state : goal.verdict_on-requires-clause-state
 verdict_on-requires-clause-state c =

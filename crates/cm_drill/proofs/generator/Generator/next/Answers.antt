@@ -17,18 +17,10 @@ answered-requires-clause-named c =
     named at (rw (← c.self.view_is) at c.requires.state) c.in_ok-pid.pid (call_of c.in_ok-pid.call) c.in_ok-pid.ensures.pid
     c.in_ok-pid.ensures.call
 
-pub returns-clause-event : goal.returns-clause-event
-returns-clause-event c =
+pub returns : goal.returns
+returns c =
     let at : Stand = record { number = c.self.inside.draws; state = c.self.inside.machine.state } in
-    rw (← c.self.view_is)
-    (turned at (rw (← c.self.view_is) at c.requires.state) c.in_ok-pid.pid (call_of c.in_ok-pid.call) c.in_ok-pid.ensures.pid
+    let both = turned at (rw (← c.self.view_is) at c.requires.state) c.in_ok-pid.pid (call_of c.in_ok-pid.call) c.in_ok-pid.ensures.pid
     c.in_ok-pid.ensures.call (world_of c.args.w.now) c.ask.new.draws c.in_ok-res.res c.answered.new.m.state c.requires.world
-    c.in_ok-pid.ensures.number c.in_ok-res.ensures).0
-
-pub returns-clause-after : goal.returns-clause-after
-returns-clause-after c =
-    let at : Stand = record { number = c.self.inside.draws; state = c.self.inside.machine.state } in
-    rw (← c.self.view_is)
-    (turned at (rw (← c.self.view_is) at c.requires.state) c.in_ok-pid.pid (call_of c.in_ok-pid.call) c.in_ok-pid.ensures.pid
-    c.in_ok-pid.ensures.call (world_of c.args.w.now) c.ask.new.draws c.in_ok-res.res c.answered.new.m.state c.requires.world
-    c.in_ok-pid.ensures.number c.in_ok-res.ensures).1
+    c.in_ok-pid.ensures.number c.in_ok-res.ensures in
+    record { event = rw (← c.self.view_is) both.0; after = rw (← c.self.view_is) both.1 }

@@ -1,8 +1,7 @@
 -- The drill goes on event by event.
-use Rattle.std.proofs.Common.{◌∙◌}
 use Rattle.cm_drill.proofs.Counting.{goes_on, state_keeps}
 use Rattle.cm_drill.proofs.telling.tests.state_after.Goals as goal
-use Rattle.model_drill.specs.Drill.{Stand, stand_after}
+use Rattle.model_drill.specs.Drill.{stand_after}
 
 pub loop-made-init : goal.loop-made-init
 unfolding stand_after
