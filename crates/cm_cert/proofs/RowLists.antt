@@ -1,6 +1,5 @@
 -- Rows, read one by one: what is done, before what is left.
-use Rattle.std.proofs.Common.{◌≡◌, ◌+◌, ◌<◌, ℕ, suc, List, [], ◌∷◌, ◌++◌, length, drop, get_or, Result, Ok, Err}
-use Rattle.std.proofs.Common.{refl, ap, sym, ◌∙◌, append_assoc, add-one}
+use Rattle.std.proofs.Common.{◌≡◌, ◌+◌, ◌<◌, ℕ, suc, List, [], ◌∷◌, ◌++◌, length, drop, get_or, Result, Ok, Err, refl, ap, sym, ◌∙◌, append_assoc, add-one}
 use Rattle.cm_cert.proofs.Items.{left_is}
 use Rattle.model_box.specs.Bounds.{BoxRow}
 use Rattle.model_cert.specs.Fault.{CertFault, ◌>>=◌}

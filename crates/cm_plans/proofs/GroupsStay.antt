@@ -1,6 +1,6 @@
 -- The calls of a walk leave the groups as they were.
-use Rattle.std.proofs.Common.{◌≡◌, ℕ, ◌==◌, Bool, true, false, if◌then◌else◌, refl, ◌∙◌, List}
-use Rattle.std.specs.Prelude.{not, ◌&&◌, Some}
+use Rattle.std.proofs.Common.{◌≡◌, ℕ, ◌==◌, Bool, true, false, if◌then◌else◌, refl, List}
+use Rattle.std.specs.Prelude.{not, Some}
 use Rattle.cm_machine.proofs.Groups.{uids_keep, gids_keep}
 use Rattle.cm_plans.specs.Moves.{IsOfWalk}
 use Rattle.model_cred.specs.Call.{Call, SetUid, SetReUid, SetResUid, SetGid, SetReGid, SetResGid, CapSet, SetNs, Exec}

@@ -1,17 +1,15 @@
 -- The states that logs lead to, in worlds that texts declare.
-use Rattle.std.proofs.Common.{◌≡◌, ℕ, ◌≤◌, List, [], ◌∷◌, length, arith}
+use Rattle.std.proofs.Common.{◌≡◌, ℕ, List, arith}
 use Rattle.cm_sound.proofs.Never.{never_held}
 use Rattle.cm_sound.specs.Never.{MountsStand}
 use Rattle.cm_sound.specs.Laws.{FitAfterLog, MountsStandAfterLog, FewAtStart, NeverHeldAfterLog}
 use Rattle.model_box.proofs.Excludes.{fits_starts}
 use Rattle.model_box.proofs.Grows.{run_grows}
 use Rattle.model_box.proofs.Worlds.{run_fits, state_fits}
-use Rattle.model_cred.specs.Call.{Event}
 use Rattle.model_cred.specs.Process.{State, KeepsState}
 use Rattle.model_cred.specs.World.{World, KeepsWorld}
 use Rattle.model_laws.proofs.Keeping.{world_run_keeps}
 use Rattle.model_laws.specs.Runs.{WorldRunKeeps}
-use Rattle.model_run.specs.Step.{Run}
 use Rattle.model_text.proofs.Keeping.{start_keeps}
 use Rattle.model_text.proofs.Starts.{start_spaces}
 use Rattle.model_text.specs.WorldText.{Reads, world_text}

@@ -1,7 +1,6 @@
 -- The answer to what is asked: its statuses come by their causes in the state that an accepted log leads to, and all that is
 -- judged of one question says one thing.
-use Rattle.std.proofs.Common.{◌≡◌, ◌⊎◌, ℕ, ◌<◌, ◌≤◌, inl, inr, Bool, cond, nat_lt, length, List, Result, Ok, Err, Some}
-use Rattle.std.proofs.Common.{refl, sym, ◌∙◌, ap, subst}
+use Rattle.std.proofs.Common.{◌≡◌, ◌⊎◌, ℕ, ◌<◌, ◌≤◌, inl, inr, Bool, cond, nat_lt, length, List, Result, Ok, Err, Some, refl, sym, ◌∙◌, ap, subst}
 use Rattle.std.proofs.lemmas.Bool.{le-ltb, lt-ltb, cases_lt}
 use Rattle.cm_base.specs.declared.limited.Limited.{Limited}
 use Rattle.cm_base.specs.declared.limited.Limited.TheVariants as limit

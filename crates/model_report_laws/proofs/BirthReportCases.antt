@@ -3,10 +3,7 @@
 use Rattle.std.proofs.Common.{◌≡◌, ℕ, List, [], ◌∷◌, ◌++◌, map, Option, None, Some}
 use Rattle.std.specs.Prelude.{codes}
 use Rattle.cm_base.specs.declared.status.Status.TheVariants as status
-use Rattle.model_report_laws.proofs.CaseReports.{RowReplays, root_line, user_line}
-use Rattle.model_report_laws.proofs.CaseReports.{root_at, user_at}
-use Rattle.model_report_laws.proofs.CaseReports.{line_of, sets_of, of_100}
-use Rattle.model_report_laws.proofs.CaseReports.{none, kill}
+use Rattle.model_report_laws.proofs.CaseReports.{RowReplays, root_line, user_line, root_at, user_at, line_of, sets_of, of_100, none, kill}
 use Rattle.model_cred.specs.Process.{State}
 use Rattle.model_report.specs.Replay.{state_after}
 use Rattle.model_run.specs.Family.{family}

@@ -24,8 +24,7 @@ use Rattle.model_report.specs.Judged.{Judged}
 use Rattle.model_report_laws.specs.Laws.{AcceptedIsRun, ImpossibleIsNoStep, ReportTellsOfLog, TellsOfLog, EndCountsEvents}
 use Rattle.model_report_laws.specs.Laws.{ImpossibleIsNumbered, BadLogIsNumbered, LimitIsLast, those_shown}
 use Rattle.model_report_laws.specs.Laws.{FormStandsFor, LineStandsFor, told_in, EndsIn}
-use Rattle.model_report.specs.Replay.{Report, ReportLine, silent, Plain, at_line, bad_log_text, impossible_text, limit_text, reason, stopped}
-use Rattle.model_report.specs.Replay.{state_after}
+use Rattle.model_report.specs.Replay.{Report, ReportLine, silent, Plain, at_line, bad_log_text, impossible_text, limit_text, reason, stopped, state_after}
 use Rattle.model_report.specs.Report.{report, replay_of, start_lines, shown, shows, go_on}
 use Rattle.model_report.specs.Task.{Task}
 use Rattle.model_run.specs.Within.{RunWithin}

@@ -12,8 +12,7 @@ use Rattle.model_cred.specs.World.{World}
 use Rattle.model_drill.proofs.Callers.{HasPid}
 use Rattle.model_laws.proofs.StepParts.{Stepped, Answers, stepped}
 use Rattle.model_rules.specs.Namespaces.{clone_user}
-use Rattle.model_run.specs.Ruling.{Ruling, ruling, birth, birth_unless, clone_child, fork_child, reply_to, spaces_left}
-use Rattle.model_run.specs.Ruling.{state_left}
+use Rattle.model_run.specs.Ruling.{Ruling, ruling, birth, birth_unless, clone_child, fork_child, reply_to, spaces_left, state_left}
 use Rattle.model_run.specs.Step.{Step, Run, told_child}
 
 -- the pid of each live process is one

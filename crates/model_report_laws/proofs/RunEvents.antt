@@ -1,6 +1,5 @@
 -- The events of the runs of plans are writable: so the lines of the run that an audit tells are read again as that run.
-use Rattle.std.proofs.Common.{◌≡◌, ℕ, ◌<◌, ◌≤◌, ◌==◌, true, false, List, [], ◌∷◌, ◌++◌, length, map}
-use Rattle.std.proofs.Common.{Option, Some, None}
+use Rattle.std.proofs.Common.{◌≡◌, ℕ, ◌<◌, ◌≤◌, ◌==◌, true, false, List, [], ◌∷◌, ◌++◌, length, map, Option, Some, None}
 use Rattle.std.proofs.Common.{IfSome, IsTrue, All, refl, sym, ap, ◌∙◌, subst, arith}
 use Rattle.std.proofs.lemmas.Bool.{cond_both, ltb-true}
 use Rattle.std.proofs.lemmas.List.Elements.{All-nil, All-cons, All-weaker}
@@ -12,8 +11,7 @@ use Rattle.cm_base.specs.declared.limited.Limited.TheVariants as limit
 use Rattle.cm_base.specs.declared.res.FileRef.{FileRef}
 use Rattle.model_cred.proofs.Lookups.{pid_of_found}
 use Rattle.model_cred.proofs.Orders.{all_found}
-use Rattle.model_cred.specs.Call.{Call, SetUid, SetReUid, SetResUid, SetGid, SetReGid, SetResGid, SetGroups}
-use Rattle.model_cred.specs.Call.{CapSet, SetNs, Exec, Event, kind_of}
+use Rattle.model_cred.specs.Call.{Call, SetUid, SetReUid, SetResUid, SetGid, SetReGid, SetResGid, SetGroups, CapSet, SetNs, Exec, Event, kind_of}
 use Rattle.model_cred.specs.Credential.{Credential, Keeps}
 use Rattle.model_cred.specs.Files.{IsDeclared, KeepsFiles}
 use Rattle.model_cred.specs.IdMap.{Extent, extents_of, up}
@@ -33,8 +31,7 @@ use Rattle.model_plans.proofs.Lists.{all_at}
 use Rattle.model_plans.proofs.Walks.{own_alone}
 use Rattle.model_plans.specs.Changes.{changes_caller_alone}
 use Rattle.model_plans.specs.Firsts.{IsFirst}
-use Rattle.model_plans.specs.Move.{MayCall, Move, Raise, BecomeZero, BecomeSought, BecomeGroup, TakeGroup, RunFile}
-use Rattle.model_plans.specs.Move.{JoinSpace, Seat, Setting, seat_of}
+use Rattle.model_plans.specs.Move.{MayCall, Move, Raise, BecomeZero, BecomeSought, BecomeGroup, TakeGroup, RunFile, JoinSpace, Seat, Setting, seat_of}
 use Rattle.model_plans.specs.Move.{becoming, call_of, calls_of, calls_with, gid_calls, group_calls, raising, sought_gid}
 use Rattle.model_plans.specs.Move.{sought_uid, taking_group, uid_calls}
 use Rattle.model_plans.specs.Plan.{Plan, plans}
@@ -65,8 +62,7 @@ use Rattle.model_text.specs.Line.{groups_fit}
 use Rattle.model_text.specs.Print.{event_text}
 use Rattle.model_text.specs.Reading.{events_of, script_reading}
 use Rattle.model_text.specs.WorldText.{Reads, world_text}
-use Rattle.model_text.specs.Written.{DeclaredNamesKeep, IsInRange, IsWritable, KeepsNames, LogsReadBack}
-use Rattle.model_text.specs.Written.{MayAnswer, events_text}
+use Rattle.model_text.specs.Written.{DeclaredNamesKeep, IsInRange, IsWritable, KeepsNames, LogsReadBack, MayAnswer, events_text}
 use Rattle.model_verdict.proofs.MapsBack.{map_is_tidy}
 use Rattle.model_verdict.specs.InWorld.{each_may}
 

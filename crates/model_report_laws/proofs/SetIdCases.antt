@@ -3,8 +3,7 @@
 use Rattle.std.proofs.Common.{[], ◌∷◌, ◌++◌, refl}
 use Rattle.std.specs.Prelude.{codes}
 use Rattle.cm_base.specs.declared.status.Status.TheVariants as status
-use Rattle.model_report_laws.proofs.CaseReports.{RowReplays, root_line, user_line}
-use Rattle.model_report_laws.proofs.CaseReports.{ids_of, sets_of, user_ids, of_100}
+use Rattle.model_report_laws.proofs.CaseReports.{RowReplays, root_line, user_line, ids_of, sets_of, user_ids, of_100}
 use Rattle.model_report_laws.proofs.CaseReports.{all, none, kill, net_bind, no_flags, keep_caps, all_sets, no_sets}
 use Rattle.model_text.proofs.PrintCases.{print_on_literals}
 use Rattle.model_text.proofs.WorldCases.{world_on_literals}

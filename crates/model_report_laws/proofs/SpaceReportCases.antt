@@ -5,8 +5,7 @@ use Rattle.std.specs.Prelude.{codes}
 use Rattle.cm_base.specs.declared.status.Status.TheVariants as status
 use Rattle.model_cred.specs.Space.{Spaces, first_spaces}
 use Rattle.model_cred.specs.World.{World}
-use Rattle.model_report_laws.proofs.CaseReports.{AllSay, Replays, RowReplays, TextReplays, replay_in, world_of_100, root_line}
-use Rattle.model_report_laws.proofs.CaseReports.{user_line, user_at, user_ids}
+use Rattle.model_report_laws.proofs.CaseReports.{AllSay, Replays, RowReplays, TextReplays, replay_in, world_of_100, root_line, user_line, user_at, user_ids}
 use Rattle.model_report_laws.proofs.CaseReports.{line_of, of_user, ids_of, sets_of, all, none, kill, all_sets, no_sets}
 use Rattle.model_report_laws.proofs.CaseReports.{no_flags, three_spaces}
 use Rattle.model_run.proofs.Worlds.{in_space, ids, space, user}

@@ -1,6 +1,5 @@
 -- Each status comes exactly by its cause.
-use Rattle.std.proofs.Common.{◌≡◌, Some, ℕ, inl, inr, Bool, true, false, cond, nat_lt, length, List, []}
-use Rattle.std.proofs.Common.{◌∷◌, ◌++◌, refl, sym, ◌∙◌, ap, ap₂, subst}
+use Rattle.std.proofs.Common.{◌≡◌, Some, ℕ, inl, inr, Bool, true, false, cond, nat_lt, length, List, [], ◌∷◌, ◌++◌, refl, sym, ◌∙◌, ap, ap₂, subst}
 use Rattle.std.proofs.lemmas.Bool.{ltb-false, ltb-true, lt-ltb}
 use Rattle.cm_base.specs.declared.limited.Limited.{Limited}
 use Rattle.cm_base.specs.declared.limited.Limited.TheVariants as limit

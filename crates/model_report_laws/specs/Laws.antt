@@ -14,8 +14,7 @@ use Rattle.model_report.specs.Causes.{Begins, Cause, IsAccepted, IsDrill, IsImpo
 use Rattle.model_report.specs.Command.{Command, Replay, Audit, Check, Confirm, Drill, NoForm, command_of, task_of}
 use Rattle.model_report.specs.Given.{Gives}
 use Rattle.model_report.specs.Judged.{Judged}
-use Rattle.model_report.specs.Replay.{Report, ReportLine, Credentials, Told, Plain, at_line, bad_log_text, impossible_text, limit_text, reason}
-use Rattle.model_report.specs.Replay.{text_of}
+use Rattle.model_report.specs.Replay.{Report, ReportLine, Credentials, Told, Plain, at_line, bad_log_text, impossible_text, limit_text, reason, text_of}
 use Rattle.model_report.specs.Report.{report, log_report, shows}
 use Rattle.model_report.specs.Task.{Task}
 use Rattle.model_run.specs.Step.{Step, Run, outcome}

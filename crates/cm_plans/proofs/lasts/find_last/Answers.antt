@@ -1,7 +1,6 @@
-use Rattle.std.proofs.Common.{◌∙◌, sym, ap}
+use Rattle.std.proofs.Common.{◌∙◌, sym, ap, ◌≡◌, true, false}
 use Rattle.cm_plans.proofs.Finding.{at_first, at_second, at_third, nothing_last, at_fourth, past_fourth}
 use Rattle.cm_plans.proofs.Taking.{take_ends, take_fails}
-use Rattle.std.proofs.Common.{◌≡◌, true, false}
 use Rattle.cm_plans.proofs.lasts.find_last.Goals as goal
 use Rattle.cm_plans.specs.Moves.{setting}
 use Rattle.cm_state.specs.Right.{right_of}

@@ -1,7 +1,6 @@
 use Rattle.std.proofs.Common.{◌≡◌, ℕ, suc, ◌+◌, length, refl, subst, arith}
 use Rattle.std.specs.List.{range_with_len}
-use Rattle.cm_plans.proofs.Putting.{joins_of, join_step}
-use Rattle.cm_plans.proofs.Putting.{Towards, towards_start, towards_more, towards_end}
+use Rattle.cm_plans.proofs.Putting.{joins_of, join_step, Towards, towards_start, towards_more, towards_end}
 use Rattle.cm_plans.proofs.middles.put_joins.Goals as goal
 use Rattle.cm_plans.specs.Choices.{join_of}
 use Rattle.model_plans.specs.Plan.{joins}

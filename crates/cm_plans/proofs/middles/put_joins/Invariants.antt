@@ -1,7 +1,6 @@
 use Rattle.std.proofs.Common.{◌≡◌, ℕ, ◌+◌, length}
 use Rattle.std.specs.List.{range_with_len}
-use Rattle.cm_plans.proofs.Putting.{joins_of}
-use Rattle.cm_plans.proofs.Putting.{Towards}
+use Rattle.cm_plans.proofs.Putting.{joins_of, Towards}
 use Rattle.cm_plans.proofs.middles.put_joins.Given as goal
 use Rattle.model_plans.specs.Plan.{joins}
 

@@ -1,9 +1,7 @@
-use Rattle.std.proofs.Common.{◌≡◌, sym, ◌∙◌}
+use Rattle.std.proofs.Common.{◌≡◌, sym, ◌∙◌, subst, [], ◌∷◌, None, Some, option_map}
 use Rattle.cm_plans.specs.Moves.{setting}
-use Rattle.model_plans.specs.Move.{Seat}
+use Rattle.model_plans.specs.Move.{Seat, BecomeZero, BecomeSought}
 use Rattle.cm_plans.proofs.Finding.{moves_first, moves_second, moves_third, from_first, own_middles}
-use Rattle.std.proofs.Common.{subst, [], ◌∷◌, None, Some, option_map}
-use Rattle.model_plans.specs.Move.{BecomeZero, BecomeSought}
 use Rattle.cm_plans.proofs.walk.find_moves.Goals as goal
 use Rattle.cm_plans.specs.Choices.{moves_of_three}
 

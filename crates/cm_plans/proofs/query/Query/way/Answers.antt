@@ -1,10 +1,9 @@
-use Rattle.std.proofs.Common.{List, get_or, length, ap, ◌∙◌, arith}
+use Rattle.std.proofs.Common.{List, get_or, length, ap, ◌∙◌, arith, false, None}
 use Rattle.std.proofs.lemmas.List.FromFn.{get_or-map-range_with_len, length-map-range_with_len}
 use Rattle.cm_plans.proofs.query.Query.way.Goals as goal
 use Rattle.cm_plans.specs.Ways.{way_of}
 use Rattle.cm_plans.specs.declared.ways.Way.{Way}
 use Rattle.cm_state.specs.Right.{right_of}
-use Rattle.std.proofs.Common.{false, None}
 
 pub bounds-ways-at : goal.bounds-ways-at
 bounds-ways-at c =
