@@ -1,5 +1,6 @@
 -- What a query comes to, by the process and the right that it names: it stands, or it is refused.
-use Rattle.std.proofs.Common.{◌≡◌, ◌<◌, ◌≤◌, ℕ, List, length, Option, None, Some, Result, Ok, Err, IfOk, subst, sym, ap, ◌∙◌, true, false, arith}
+use Rattle.std.proofs.Common.{◌≡◌, ◌<◌, ◌≤◌, ℕ, List, length, Option, None, Some, Result, Ok, Err, IfOk}
+use Rattle.std.proofs.Common.{subst, sym, ap, ◌∙◌, true, false, arith}
 use Rattle.std.specs.Prelude.{IfSome, IsSomeAnd}
 use Rattle.cm_audit.specs.declared.verdict.AuditRefusal.{AuditRefusal}
 use Rattle.cm_audit.specs.declared.verdict.AuditRefusal.TheVariants as audit

@@ -1,5 +1,6 @@
 -- What is answered to a query after an accepted log, by what is judged, or why it is refused.
-use Rattle.std.proofs.Common.{◌≡◌, ℕ, ◌<◌, ◌≤◌, Bool, true, cond, length, List, Option, Some, None, refl, sym, ◌∙◌, ap, subst}
+use Rattle.std.proofs.Common.{◌≡◌, ℕ, ◌<◌, ◌≤◌, Bool, true, cond, length, List, Option, Some, None, refl, sym}
+use Rattle.std.proofs.Common.{◌∙◌, ap, subst}
 use Rattle.std.proofs.Common.{[], ◌∷◌, ◌++◌, append_assoc, is_some, Result, Ok, slice_get, inl, inr, arith}
 use Rattle.std.proofs.lemmas.Option.{slice_get_cases}
 use Rattle.std.specs.Prelude.{codes, IfOk, IsSomeAnd}
@@ -22,7 +23,8 @@ use Rattle.model_cred.specs.Right.{Right}
 use Rattle.model_cred.specs.Space.{Spaces}
 use Rattle.model_cred.specs.World.{World}
 use Rattle.model_report.proofs.Answers.{is_not, of_asked, of_large, of_no_space}
-use Rattle.model_report.specs.Answer.{answer, bad_query, certificate_line, certificate_report, undecided_text, confirmed_report, query_answer, task_report}
+use Rattle.model_report.specs.Answer.{answer, bad_query, certificate_line, certificate_report, undecided_text}
+use Rattle.model_report.specs.Answer.{confirmed_report, query_answer, task_report}
 use Rattle.model_report.specs.Causes.{Asks, AsksVerdict}
 use Rattle.model_report.specs.Checked.{IsChecked}
 use Rattle.model_report.specs.Given.{StateGives}

@@ -4,7 +4,8 @@ use Rattle.cm_audit.specs.declared.verdict.Question.{Question}
 use Rattle.cm_base.specs.declared.limited.Limited.{Limited}
 use Rattle.cm_base.specs.Limited.{limit_number}
 use Rattle.cm_base.specs.declared.status.Status.{Status}
-use Rattle.cm_cli.proofs.Auditing.{certificate_given, certificate_past, certificate_told, claim_answer, put_as, run_past}
+use Rattle.cm_cli.proofs.Auditing.{certificate_given, certificate_past, certificate_told, claim_answer, put_as}
+use Rattle.cm_cli.proofs.Auditing.{run_past}
 use Rattle.cm_cli.specs.Asking.{IsQuestion}
 use Rattle.cm_cli.specs.Claims.{IsTooMuch}
 use Rattle.cm_cli.specs.Put.{IsPut}

@@ -17,13 +17,16 @@ use Rattle.model_report.specs.Judged.{Judged}
 use Rattle.model_report.specs.Query.{Query}
 use Rattle.model_report.specs.Replay.{Report}
 use Rattle.model_report.specs.Task.{ToJudge}
-use Rattle.model_report_laws.proofs.Audits.{confirmed_is_run, no_is_run, settled_is_decided, undecided_is_open, yes_is_never, yes_prints_least}
+use Rattle.model_report_laws.proofs.Audits.{confirmed_is_run, no_is_run, settled_is_decided, undecided_is_open}
+use Rattle.model_report_laws.proofs.Audits.{yes_is_never, yes_prints_least}
 use Rattle.model_report_laws.proofs.Endings.{accepted_is_run, impossible_is_no_step}
 use Rattle.model_report_laws.proofs.Given.{judged_is_given, report_is_one}
 use Rattle.model_report_laws.proofs.Complete.{valid_is_answered}
 use Rattle.model_report_laws.proofs.Statuses.{each_by_its_cause}
-use Rattle.model_report_laws.specs.Answers.{ConfirmedIsRun, NoIsRun, SettledIsDecided, UndecidedIsOpen, YesIsNever, YesPrintsLeast}
-use Rattle.model_report_laws.specs.Laws.{AcceptedIsRun, EachByItsCause, ImpossibleIsNoStep, IsAsAsked, JudgedIsGiven, ReportIsOne, Shows, ValidIsAnswered}
+use Rattle.model_report_laws.specs.Answers.{ConfirmedIsRun, NoIsRun, SettledIsDecided, UndecidedIsOpen, YesIsNever}
+use Rattle.model_report_laws.specs.Answers.{YesPrintsLeast}
+use Rattle.model_report_laws.specs.Laws.{AcceptedIsRun, EachByItsCause, ImpossibleIsNoStep, IsAsAsked, JudgedIsGiven}
+use Rattle.model_report_laws.specs.Laws.{ReportIsOne, Shows, ValidIsAnswered}
 
 -- The answer is the report's status, with whatever is given to be judged, where it is that of a report.
 abbrev pub IsReported : List (List ℕ) → Files → Status → Type 0

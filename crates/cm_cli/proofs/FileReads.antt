@@ -1,10 +1,12 @@
 -- How often files are read, what is taken of them, and which counts of faults rise: of one file, and of some after
 -- others.
-use Rattle.std.proofs.Common.{◌≡◌, ◌≢◌, ◌<◌, ◌≤◌, ◌+◌, ◌∙◌, ℕ, Bool, List, [], ◌∷◌, ◌++◌, true, false, not, arith, bytes_eq, inl, inr, refl, subst, sym, ap}
+use Rattle.std.proofs.Common.{◌≡◌, ◌≢◌, ◌<◌, ◌≤◌, ◌+◌, ◌∙◌, ℕ, Bool, List, [], ◌∷◌, ◌++◌, true, false, not}
+use Rattle.std.proofs.Common.{arith, bytes_eq, inl, inr, refl, subst, sym, ap}
 use Rattle.std.proofs.lemmas.Bool.{cases_Bool}
 use Rattle.std.proofs.lemmas.Slice.Eq.{bytes_eq-Decides}
 use Rattle.cm_base.specs.declared.limited.Limited.{Limited}
-use Rattle.cm_cli.specs.Files.{AnyRose, ApartFor, FilesFaults, IsFileOf, ReadsFiles, ReadsFor, TakesFor, for_files, one_past, under}
+use Rattle.cm_cli.specs.Files.{AnyRose, ApartFor, FilesFaults, IsFileOf, ReadsFiles, ReadsFor, TakesFor}
+use Rattle.cm_cli.specs.Files.{for_files, one_past, under}
 use Rattle.cm_io.proofs.ReadCounts.{each_then, pieces_none}
 use Rattle.cm_io.specs.Account.{Account, ReadsFile}
 use Rattle.cm_io.specs.Shelf.{CountsApart, EachGives, FileFaults, ReadsByBytes, Rose, TakesAtMost}
@@ -204,6 +206,10 @@ faults_still files before never = record {
   fault = λ is. absurd (never is);
   others = λ none n. refl;
 }
+
+pub apart_still : (file : List ℕ × Limited) (counted : List ℕ → Bool) (faults reads : List ℕ → ℕ)
+    → ApartFor (file ∷ []) counted faults faults reads reads
+apart_still file counted faults reads = record { faults_stay = λ _ n other. refl; reads_stay = λ _. refl }
 
 -- ---- accounts
 -- one file

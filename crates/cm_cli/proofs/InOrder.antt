@@ -1,18 +1,21 @@
 -- The world of a command, and then its log and a third file: which counts of faults rose, and what was read.
-use Rattle.std.proofs.Common.{◌≡◌, ◌≢◌, ◌≤◌, ◌<◌, ◌∙◌, ℕ, Bool, List, [], ◌∷◌, Option, Ok, arith, inl, inr, le_of_eq, refl, subst, sym}
+use Rattle.std.proofs.Common.{◌≡◌, ◌≢◌, ◌≤◌, ◌<◌, ◌∙◌, ℕ, Bool, List, [], ◌∷◌, Option, Ok, arith}
+use Rattle.std.proofs.Common.{inl, inr, le_of_eq, refl, subst, sym}
 use Rattle.std.specs.Prelude.{IfSome}
 use Rattle.std.proofs.lemmas.Option.{IfSome_then}
 use Rattle.cm_base.specs.declared.limited.Limited.{Limited}
 use Rattle.cm_base.specs.declared.limited.Limited.TheVariants as limit
 use Rattle.cm_base.specs.declared.status.Status.{Status}
 use Rattle.cm_base.specs.declared.status.Status.TheVariants as answers
-use Rattle.cm_cli.proofs.FileReads.{reads_more, reads_then, rose_later, rose_since, takes_more, takes_then, unread_apart}
+use Rattle.cm_cli.proofs.FileReads.{reads_more, reads_then, rose_later, rose_since, takes_more, takes_then}
+use Rattle.cm_cli.proofs.FileReads.{unread_apart}
 use Rattle.cm_cli.proofs.Replaying.{asking_names, claiming_query}
 use Rattle.cm_cli.specs.Answers.{CountsReads, FailsInOrder, at_world, at_log, at_third}
 use Rattle.cm_cli.specs.Files.{BothApart}
 use Rattle.cm_cli.specs.LogReading.{LogFails, ThirdStaysUnread}
 use Rattle.cm_cli.specs.Query.{file_of, limit_of, query_view}
-use Rattle.cm_cli.specs.Reading.{AnyRose, ApartFor, FilesFaults, IsWorldRead, LogRefused, LogWaits, ReadsFor, ReadsInOrder, TakesFor, ThirdWaits}
+use Rattle.cm_cli.specs.Reading.{AnyRose, ApartFor, FilesFaults, IsWorldRead, LogRefused, LogWaits}
+use Rattle.cm_cli.specs.Reading.{ReadsFor, ReadsInOrder, TakesFor, ThirdWaits}
 use Rattle.cm_cli.specs.Words.{asking, claiming}
 use Rattle.cm_cli.specs.declared.query.Claim.{Claim}
 use Rattle.cm_cli.specs.declared.query.ClaimKind.{ClaimKind}

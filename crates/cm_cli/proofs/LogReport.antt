@@ -1,5 +1,6 @@
 -- The report of a log: the replay, shown or not, and then what is asked.
-use Rattle.std.proofs.Common.{◌≡◌, ◌≢◌, ◌≤◌, ℕ, List, [], ◌++◌, append-nil, ◌⊎◌, inl, inr, Bool, true, false, length, subst, refl, sym, ap, ◌∙◌, arith}
+use Rattle.std.proofs.Common.{◌≡◌, ◌≢◌, ◌≤◌, ℕ, List, [], ◌++◌, append-nil, ◌⊎◌, inl, inr, Bool, true, false, length}
+use Rattle.std.proofs.Common.{subst, refl, sym, ap, ◌∙◌, arith}
 use Rattle.cm_base.specs.declared.status.Status.{Status}
 use Rattle.cm_base.specs.declared.status.Status.TheVariants as answers
 use Rattle.cm_replay.proofs.Shown.{same_status}

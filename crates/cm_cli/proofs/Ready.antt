@@ -1,5 +1,5 @@
 -- What the bytes of a world come to, by how they were read.
-use Rattle.std.proofs.Common.{◌≡◌, ℕ, List, length, ap, sym, ◌∙◌, cond, Bool, Ok, Err, inl, inr}
+use Rattle.std.proofs.Common.{◌≡◌, ◌≤◌, ℕ, List, length, ap, sym, ◌∙◌, cond, Bool, Ok, Err, inl, inr}
 use Rattle.std.proofs.lemmas.Bool.{lt-ltb}
 use Rattle.cm_base.specs.Limited.{limit_number}
 use Rattle.cm_base.specs.declared.limited.Limited.TheVariants as limit

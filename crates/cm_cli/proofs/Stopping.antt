@@ -1,5 +1,6 @@
 -- What is answered where the report of a log isn't told to its end, and what is written of it.
-use Rattle.std.proofs.Common.{◌≡◌, ◌≢◌, ℕ, List, [], Option, refl, sym, ap, ◌∙◌, append-nil, arith, le_of_eq, Result, Err}
+use Rattle.std.proofs.Common.{◌≡◌, ◌≢◌, ℕ, List, [], Option, refl, sym, ap, ◌∙◌, append-nil, arith, le_of_eq}
+use Rattle.std.proofs.Common.{Result, Err}
 use Rattle.cm_base.specs.declared.status.Status.{Status}
 use Rattle.cm_base.specs.declared.status.Status.TheVariants as answers
 use Rattle.cm_cli.specs.LogReport.{TellsLog}

@@ -38,7 +38,8 @@ use Rattle.model_report.specs.Judged.{Judged}
 use Rattle.model_report.specs.Query.{Query}
 use Rattle.model_report.specs.Replay.{ReportLine}
 use Rattle.model_report.specs.Task.{ToConfirm}
-use Rattle.model_report_laws.specs.Answers.{AsksNever, AsksVerdictOf, ShowsBlame, ShowsHolder, ShowsLeast, ShowsNever, ShowsRun}
+use Rattle.model_report_laws.specs.Answers.{AsksNever, AsksVerdictOf, ShowsBlame, ShowsHolder, ShowsLeast, ShowsNever}
+use Rattle.model_report_laws.specs.Answers.{ShowsRun}
 use Rattle.model_report_laws.specs.Laws.{IsShown, Shows}
 use Rattle.model_run.specs.Step.{Run}
 use Rattle.model_text.specs.Reading.{events_of}

@@ -4,9 +4,11 @@ use Rattle.cm_base.specs.declared.limited.Limited.TheVariants as limit
 use Rattle.cm_cli.proofs.Apart.{apart_as}
 use Rattle.cm_cli.proofs.BeforeFault.{before_asked, lines_asked, log_before, log_lines, no_fault, no_lines, world_before, world_lines}
 use Rattle.cm_cli.proofs.FileReads.{reads_one, takes_one}
-use Rattle.cm_cli.proofs.InOrder.{all_reads, all_taken, no_read_fault, told_faults, told_waits, world_fault, world_reads, world_taken, world_waits}
+use Rattle.cm_cli.proofs.InOrder.{all_reads, all_taken, no_read_fault, told_faults, told_waits, world_fault, world_reads}
+use Rattle.cm_cli.proofs.InOrder.{world_taken, world_waits}
 use Rattle.cm_cli.proofs.Ready.{world_gives, world_refused, world_report}
-use Rattle.cm_cli.proofs.Replaying.{TellsFiles, as_told, log_answers, short_not_usage, tells_as, told_not_usage, unread_answers}
+use Rattle.cm_cli.proofs.Replaying.{TellsFiles, as_told, log_answers, short_not_usage, tells_as}
+use Rattle.cm_cli.proofs.Replaying.{told_not_usage, unread_answers}
 use Rattle.cm_cli.proofs.Stopping.{wrote_none}
 use Rattle.cm_cli.proofs.commands.run_log.Goals as goal
 use Rattle.cm_cli.specs.Query.{file_of, shows_of, task_view}

@@ -2,7 +2,8 @@ use Rattle.std.proofs.Common.{◌∙◌, refl}
 use Rattle.std.proofs.lemmas.Option.{IfSome_then}
 use Rattle.cm_cli.proofs.FileReads.{files_as}
 use Rattle.cm_cli.proofs.Replaying.{log_answer}
-use Rattle.cm_cli.proofs.Stopping.{front_told, read_untold, stopped_counts, stopped_no_read, stopped_none, stopped_not_usage, untold_counts}
+use Rattle.cm_cli.proofs.Stopping.{front_told, read_untold, stopped_counts, stopped_no_read, stopped_none}
+use Rattle.cm_cli.proofs.Stopping.{stopped_not_usage, untold_counts}
 use Rattle.cm_cli.proofs.Stopping.{untold_none, untold_not_usage, untold_read, whole_told, wrote_counts}
 use Rattle.cm_cli.proofs.telling.tell_log.Goals as goal
 use Rattle.cm_cli.specs.LogReport.{log_report}

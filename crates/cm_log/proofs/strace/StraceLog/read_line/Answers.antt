@@ -1,4 +1,3 @@
-use Rattle.std.proofs.Common.{ap}
 use Rattle.cm_declared.specs.World.{world_of}
 use Rattle.cm_lines.specs.Cut.{before}
 use Rattle.cm_log.proofs.Counted.{counted_line_if}
