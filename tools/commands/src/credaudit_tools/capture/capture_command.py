@@ -6,7 +6,7 @@ import time
 from collections.abc import Iterator, Sequence
 from contextlib import contextmanager, nullcontext
 
-from ..command_line import command
+from ..command_line import command, sudo_caller, typed_files
 from ..command_line.command import FOUND, GOOD, Broken, Failure, Progress, Says, tell
 from ..command_line.files import write_new
 from ..command_line.printable import plural
@@ -94,14 +94,18 @@ def tried(data: bytes) -> None:
 
 def put(data: bytes, evidence: bytes, path: str | None) -> None:
     """Writes the world to a file, and its evidence beside it; where none is named the world alone, to standard
-    output."""
+    output. The folder is held open: whose the files become goes by the one into which they come."""
     if path is None:
         sys.stdout.buffer.write(data)
         sys.stdout.flush()
         return
     folder, name = os.path.split(os.path.abspath(path))
-    write_new(folder, evidence_text.beside(name), evidence)
-    write_new(folder, name, data)
+    handle = os.open(folder, os.O_RDONLY | os.O_DIRECTORY | os.O_CLOEXEC)
+    try:
+        for each, text in ((evidence_text.beside(name), evidence), (name, data)):
+            write_new(f"/proc/self/fd/{handle}", each, text, owner=sudo_caller.of_file(handle, each))
+    finally:
+        os.close(handle)
 
 
 def told(capture: Capture) -> int:
@@ -116,6 +120,8 @@ def told(capture: Capture) -> int:
 def capture(kernel: Kernel, asked: argparse.Namespace) -> int:
     """The whole, over any system."""
     began, progress = time.monotonic(), Progress(NAME)
+    if asked.out is not None:
+        typed_files.check_can_be_put(asked.out)
     read = read_family(kernel, asked, progress.at)
     settled = time.monotonic()
     wishes = Wishes(not asked.no_files, asked.merge, asked.own_spaces,

@@ -11,10 +11,9 @@ from dataclasses import dataclass, field
 
 from ..command_line.command import Failure
 from ..command_line.printable import quoted
+from ..command_line.sudo_caller import Owner, caller
 
 FOLDER = os.O_RDONLY | os.O_DIRECTORY | os.O_CLOEXEC
-Owner = tuple[int, int]         # user id and group id
-LAST_ID = 4294967294
 
 
 @dataclass
@@ -45,18 +44,6 @@ class Room:
                 os.rmdir(name, dir_fd=above)
             except OSError:
                 return
-
-
-def id_of(text: str | None) -> int | None:
-    """An id of a variable that sudo(8) sets; None where it is none."""
-    good = text is not None and text.isascii() and text.isdigit() and len(text) <= len(str(LAST_ID))
-    return int(text) if good and text is not None and int(text) <= LAST_ID else None
-
-
-def caller() -> Owner | None:
-    """Who called this command by sudo(8), where it runs as root for another user."""
-    user, group = id_of(os.environ.get("SUDO_UID")), id_of(os.environ.get("SUDO_GID"))
-    return (user, group) if os.geteuid() == 0 and user and group is not None else None
 
 
 def missing(folder: str) -> tuple[str, list[str]]:
