@@ -84,16 +84,6 @@ class Borders(unittest.TestCase):
 class Cuts(unittest.TestCase):
     """Where what is so before a line needn't be so behind it, both sides are asked."""
 
-    def test_a_call_that_the_filter_excludes(self) -> None:
-        """The filter binds calls after the log alone: what is gone under it can come back by the log's own line."""
-        log = "100 setresuid -1 33 -1 = 0\n100 fork = 101\n101 setresgid -1 5 -1 = 0\n101 exit = 0\n"
-        root = ROOT + "gid = [0, 0, 5, 0]\n"
-        world = root + '[filter]\nexclude = ["setresgid"]\n'
-        answers = Answering((0, GONE), (3, OWN_CALLS))
-        self.assertEqual(searched(world, log, answers)[1:], [(1, GONE), (3, OWN_CALLS)])
-        blind = Answering((0, GONE), (3, OWN_CALLS))
-        self.assertEqual(searched(root, log, blind)[1:], [(1, GONE)])
-
     def test_another_process_acts_on_the_family(self) -> None:
         """A map of a namespace is written from outside."""
         world = 'log = "script"\n' + space_row("box", 5) + """[[process]]

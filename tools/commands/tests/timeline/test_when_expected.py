@@ -64,6 +64,19 @@ class Expecting(Case):
                 self.assertEqual(found, status, errors)
                 self.assertIn(told, errors)
 
+    def test_a_child_that_is_ahead_of_the_line_of_its_birth(self) -> None:
+        """Its first call counts (docs/STRACE.md: a child's lines may stand before the one that answers its birth);
+        those of another process of its number, which ended before, don't."""
+        early = "; mark 101 accept4 3 = 5\n100 fork = 101\n100 setresuid 33 33 33 = 0\n101 setresuid 33 33 33 = 0\n" \
+                "; mark 101 accept4 3 = 6\n"
+        found, errors = self.ends(early, f"* {GONE} before accept4")
+        self.assertEqual(found, FOUND)
+        self.assertIn("since line 4, and expected is before accept4, whose first line is 1", errors)
+        other = "90 fork = 101\n; mark 101 accept4 3 = 5\n101 exit = 0\n" + early.partition("\n")[2]
+        path = self.put("expect", f"* {GONE} before accept4\n{REST}".encode())
+        found, _, errors = self.command(*self.names(WORLD + "[[process]]\npid = 90\n", other), "100", "--expect", path)
+        self.assertEqual(found, GOOD, errors)
+
     def test_a_line_of_a_kind(self) -> None:
         """`cap:*` is for each capability without a line of its own, and `*` for what neither has."""
         rows: list[tuple[str, int]] = [

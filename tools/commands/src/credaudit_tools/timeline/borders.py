@@ -3,10 +3,10 @@ the program, and no more of it than tells the borders.
 
 Between two moments a family goes by its own calls alone, which the rules allow. So what is gone at the first is gone at
 the second: the program's bounds of the first hold all that can come. That isn't so where another process acted on the
-family, or where the world's filter excludes a call that the log has, since it binds later calls alone; nor is it for
-what comes back by own calls where a program was executed that changed a credential. Such moments part the log into
-stretches, and so do those at which a right is held. In a stretch both ends are asked, and where their classes differ
-the moment between them, and so on: a border stands between two moments that both were asked.
+family, or where the world's filter counts no more, since a member came that no line says to have it (filter_lines.py);
+nor is it for what comes back by own calls where a program was executed that changed a credential. Such moments part the
+log into stretches, and so do those at which a right is held. In a stretch both ends are asked, and where their classes
+differ the moment between them, and so on: a border stands between two moments that both were asked.
 """
 from collections.abc import Callable, Iterator, Mapping, Sequence
 from dataclasses import dataclass, field
@@ -64,7 +64,8 @@ def is_cut(walk: Walk, life: Life, moment: int) -> bool:
     members = {each.pid for each in life.descendants() if each.born < moment and each.lives(moment - 1)}
     if event.pid not in members:
         return True
-    return event.call == "execve" or event.call in (walk.world.exclude or ())
+    return event.call == "execve" or (bool(walk.world.exclude) and walk.is_bound(life, moment - 1)
+                                      and not walk.is_bound(life, moment))
 
 
 def stretches(moments: Sequence[int], free: Sequence[bool], cuts: Sequence[bool]) -> list[Stretch]:

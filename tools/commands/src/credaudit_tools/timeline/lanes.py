@@ -6,6 +6,7 @@ from dataclasses import dataclass, field
 
 from ..explain import run_words
 from ..explain.run_words import place_at
+from ..filters.filter_lines import NOBODY
 from ..formats.marked_calls import Mark
 from ..formats.report import Event
 from ..formats.rights import Right
@@ -71,8 +72,11 @@ class Lane:
 
 
 def event_text(event: Event | None) -> str:
-    """The call of an event as a line of a script has it, without the pid; nothing for the log's beginning."""
-    return "" if event is None else " ".join([event.call, *event.arguments, "=", event.result])
+    """The call of an event as a line of a script has it, without the pid; nothing for the log's beginning, and of its
+    end that the world's filter counts there."""
+    if event is None or event.pid == NOBODY:
+        return "" if event is None else event.call
+    return " ".join([event.call, *event.arguments, "=", event.result])
 
 
 def held(outcome: Outcome, walk: Walk, life: Life, moment: int, holding: Holding) -> Outcome:
@@ -111,17 +115,18 @@ def rows(walk: Walk, life: Life, course: Course, holding: Holding) -> list[Row]:
     return [Row(tuple(rights), own) for own, rights in found.values()]
 
 
-def marks_of(walk: Walk, lives: Iterable[Life], every: Iterable[Mark]) -> dict[Life, list[Mark]]:
-    """By life the marks that are its own."""
+def marks_of(walk: Walk, lives: Collection[Life], every: Iterable[Mark]) -> dict[Life, list[Mark]]:
+    """By life the marks that are its own. The lines of a child may stand before the one that answers its birth."""
     by_pid: dict[int, list[Life]] = {}
-    for life in lives:
+    for life in walk.lives:
         by_pid.setdefault(life.pid, []).append(life)
-    found: dict[Life, list[Mark]] = {}
+    found: dict[Life, list[Mark]] = {life: [] for life in lives}
     for mark in every:
-        moment = walk.moment(mark.line)
-        own = next((life for life in by_pid.get(mark.pid, ()) if life.lives(moment)), None)
-        if own is not None:
-            found.setdefault(own, []).append(mark)
+        moment, several = walk.moment(mark.line), by_pid.get(mark.pid, [])
+        own = next((life for life in several if life.lives(moment)), None) or \
+            next((life for life in several if life.born > moment), None)
+        if own is not None and own in found:
+            found[own].append(mark)
     return found
 
 

@@ -99,8 +99,9 @@ class Remembering(Asking):
         return self.made[place]
 
     def audit(self, files: Files, pid: int, right: str) -> Answer:
-        """The verdict on a right. Of an undecided one nothing more is asked here: a question that says more than an
-        audit would come in this place."""
+        """The verdict on a right. A question that says more than an undecided audit belongs into Asking.audit, for
+        summaries too: here it is remembered with the verdict, and whatever its answer has by pids, in a certificate
+        too, goes through `ranks` and `told`."""
         known = self.known.get(files.world)
         if known is None:
             return super().audit(files, pid, right)

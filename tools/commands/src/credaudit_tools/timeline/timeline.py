@@ -10,6 +10,7 @@ from hashlib import sha256
 from ..command_line.printable import few
 from ..evidence import premises
 from ..explain.explain import process_words
+from ..filters import filter_lines
 from ..formats import marked_calls
 from ..formats.report import Report
 from ..formats.rights import Right
@@ -115,8 +116,8 @@ def told(ask: Remembering, given: Given, asked: Asked) -> Timeline:
     report: Report = accepted(ask, given)
     of_older(given)
     of_recording(given, report, ask.says)
-    walk = walked(given.world, report)
-    count = len(given.log.removesuffix(b"\n").split(b"\n")) if given.log else 0
+    walk = walked(given.world, report, given.log)
+    count = filter_lines.count(given.log)
     clock = Clock() if given.kept is None else Clock(*clock_of(given.kept))
     made = Timeline(walk, count, clock, premises.SCAN in given.evidence.established)
     every = EveryLine(ask, given, walk) if asked.every_line else None
@@ -124,8 +125,17 @@ def told(ask: Remembering, given: Given, asked: Asked) -> Timeline:
         made.answers.append(answer(ask, given, walk, pid, asked, every))
     for each in made.answers:
         each.exposures = [(row, exposure(walk, count, clock, row.spans)) for row in each.lanes[0].rows]
-    made.notes = [*given.notes, *ask.notes, *left_out(walk, [each.life for each in made.answers])]
+    roots = [each.life for each in made.answers]
+    made.notes = [*given.notes, *ask.notes, *unbound(walk, roots), *left_out(walk, roots)]
     return made
+
+
+def unbound(walk: Walk, roots: Sequence[Life]) -> list[str]:
+    """A note of the processes of which no line tells when they got the world's filter."""
+    members = {life for root in roots for life in walk.family(root, walk.last)} if walk.world.exclude else set()
+    left = sorted(life.pid for life in members if life.bound is None) if walk.last else []
+    return [f"no line tells when process {few([str(pid) for pid in left])} installed the world's [filter]: for its"
+            " families it counts at the log's end alone"] if left else []
 
 
 def left_out(walk: Walk, roots: Sequence[Life]) -> list[str]:

@@ -5,6 +5,8 @@ import textwrap
 from collections.abc import Iterable, Iterator, Mapping, Sequence
 
 from ..command_line.printable import few, folded, plural, shown
+from ..filters.filter_lines import NOBODY
+from ..formats.report import Event
 from ..formats.rights import Right
 from ..judge.answer_words import label
 from ..judge.classes import (
@@ -119,11 +121,11 @@ def turns(lane: Lane) -> dict[int, list[tuple[str, list[Right]]]]:
 
 
 def first_marks(walk: Walk, lanes: Iterable[Lane]) -> dict[int, list[str]]:
-    """By moment the first mark of each call in each lane, with its line."""
+    """By moment the first mark of each call in each lane, with its line; none of a line that is a moment's own."""
     found: dict[int, list[str]] = {}
     for mark in (mark for lane in lanes for mark in lane.first_marks()):
-        told = f"line {mark.line}: {mark.pid} {mark.call} = {mark.result} (marked)"
-        found.setdefault(walk.moment(mark.line), []).append(told)
+        told, moment = f"line {mark.line}: {mark.pid} {mark.call} = {mark.result} (marked)", walk.moment(mark.line)
+        found.setdefault(moment, []).extend([told] if mark.line != walk.line(moment) else [])
     return found
 
 
@@ -160,6 +162,13 @@ class Columns:
         return "*" if any(each.life.pid == pid for each in living) else "|" if living else ""
 
 
+def act_of(event: Event | None) -> str:
+    """What happened at a moment."""
+    if event is None or event.pid == NOBODY:
+        return "the start" if event is None else "the end, where the world's [filter] counts"
+    return f"{event.pid} {event_text(event)}"
+
+
 def course_lines(walk: Walk, lanes: Sequence[Lane]) -> Iterator[str]:
     """From top to bottom each line that changes something: of a right's class, by a birth, by an exit; and the first
     marks."""
@@ -173,7 +182,7 @@ def course_lines(walk: Walk, lanes: Sequence[Lane]) -> Iterator[str]:
         yield f"{'line':>{number}}  {columns.head()}".rstrip()
     for moment in moments:
         event = walk.event(moment)
-        act = "the start" if event is None else f"{event.pid} {event_text(event)}"
+        act = act_of(event)
         front = f"{walk.line(moment):>{number}}  {columns.at(moment, None if event is None else event.pid)}"
         below = " " * (number + 2) + columns.below(moment)
         yield from folded(front + shown(act), below + "    ")

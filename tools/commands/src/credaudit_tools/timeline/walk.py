@@ -5,9 +5,10 @@ A moment is 0, before the log's first event, or N, right after its N-th event. W
 process with all that it started and that lives then, as a world of its own (end_world.py).
 """
 from bisect import bisect_right
-from collections.abc import Iterable, Iterator
+from collections.abc import Iterable, Iterator, Mapping, Sequence
 from dataclasses import dataclass, field, replace
 
+from ..filters.filter_lines import INSTALLS, events_with_filter
 from ..formats.report import BIRTHS, Event, Report, Standing
 from ..formats.worlds import World
 from ..replay.end_world import End, end_with
@@ -20,13 +21,14 @@ SPACE_CALLS = ("unshare", "clone_user", "write_uid_map", "write_gid_map", "write
 @dataclass(eq=False)
 class Life:
     """A process from its birth to its end, None where it lives at the log's end. `seen` has what it was from a moment
-    on, a pair for each change."""
+    on, a pair for each change. From `bound` on a line tells that the world's filter binds it."""
     pid: int
     maker: "Life | None" = None
     born: int = 0
     ended: int | None = None
     seen: list[tuple[int, Standing]] = field(default_factory=list)
     children: list["Life"] = field(default_factory=list)
+    bound: int | None = None
 
     def lives(self, moment: int) -> bool:
         """Whether it lives at a moment."""
@@ -64,26 +66,28 @@ def moment_of(pair: tuple[int, object]) -> int:
 
 @dataclass
 class Walk:
-    """All of it: the lives in order of birth, and by moment the namespaces from there on, a pair for each change."""
+    """All of it: the lives in order of birth, and by moment the namespaces from there on, a pair for each change.
+    `events` are those of the report, and what filter_lines.py has besides."""
     world: World
     report: Report
+    events: Sequence[Event]
     lives: list[Life] = field(default_factory=list)
     spaces: list[tuple[int, SpacesTold]] = field(default_factory=list)
 
     def __post_init__(self) -> None:
         # A child's lines may stand before the birth that answers its pid: an event comes where all of it is read.
         self.reached = [0]
-        for event in self.report.events:
+        for event in self.events:
             self.reached.append(max(self.reached[-1], event.line))
 
     @property
     def last(self) -> int:
         """The moment of the log's end."""
-        return len(self.report.events)
+        return len(self.events)
 
     def line(self, moment: int) -> int:
         """The line of the log after which a moment begins; 0 is before the first one."""
-        return self.report.events[moment - 1].line if moment else 0
+        return self.events[moment - 1].line if moment else 0
 
     def moment(self, line: int) -> int:
         """The moment that is reached once a line of the log is read."""
@@ -91,7 +95,7 @@ class Walk:
 
     def event(self, moment: int) -> Event | None:
         """The event after which a moment begins."""
-        return self.report.events[moment - 1] if moment else None
+        return self.events[moment - 1] if moment else None
 
     def spaces_at(self, moment: int) -> SpacesTold:
         """The namespaces at a moment."""
@@ -106,23 +110,34 @@ class Walk:
         found = [each for each in life.descendants() if each.lives(moment)]
         return sorted(found, key=lambda each: (each is not life, each.born))
 
+    def is_bound(self, life: Life, moment: int) -> bool:
+        """Whether the world's filter counts for that family at that moment: at the log's end it does as declared."""
+        return moment == self.last or all(each.bound is not None and each.bound <= moment
+                                          for each in self.family(life, moment))
+
+    def world_at(self, life: Life, moment: int) -> World:
+        """The world, without its filter where that doesn't count yet."""
+        return self.world if not self.world.exclude or self.is_bound(life, moment) else \
+            replace(self.world, exclude=None)
+
     def family_world(self, life: Life, moment: int) -> End:
         """That family at that moment, as a world of its own."""
         family = self.family(life, moment)
         parents = {each.pid: next((above.pid for above in each.forebears() if above in family), None)
                    for each in family}
         lineage = {above.pid for each in family for above in (each, *each.forebears())}
-        return end_with(self.world, [each.at(moment) for each in family], parents, self.spaces_at(moment), lineage)
+        return end_with(self.world_at(life, moment), [each.at(moment) for each in family], parents,
+                        self.spaces_at(moment), lineage)
 
     def changes(self, life: Life) -> list[int]:
         """The moments at which the family of a process may become another one: a credential of a member, a birth, an
-        exit, a user namespace. The first is that of its own birth.
+        exit, a user namespace, the world's filter. The first is that of its own birth.
 
         Filters that processes install belong here too, once a replay has them."""
-        found = {life.born, *(moment for moment, _ in self.spaces)}
+        found = {life.born, *(moment for moment, _ in self.spaces), *([self.last] if self.world.exclude else [])}
         for each in life.descendants():
             found.update(moment for moment, _ in each.seen)
-            found.update([each.ended] if each.ended is not None else [])
+            found.update(moment for moment in (each.ended, each.bound) if moment is not None)
         return sorted(moment for moment in found if life.lives(moment))
 
 
@@ -131,9 +146,19 @@ def copied(spaces: SpacesTold) -> SpacesTold:
     return SpacesTold({name: replace(own) for name, own in spaces.named.items()})
 
 
-def walked(world: World, report: Report) -> Walk:
-    """The walk over an accepted replay of a world."""
-    walk, living = Walk(world, report), dict[int, Life]()
+def bind(lives: Iterable[Life], told: Mapping[Life, int], broken: Mapping[Life, int]) -> None:
+    """Sets from when on the world's filter binds each of these, makers first: `told` has its last line that installs a
+    filter, `broken` the last call that the filter would have refused, and didn't: then it isn't that line's."""
+    for life in lives:
+        above = None if life.maker is None else life.maker.bound
+        found = life.born if above is not None and above <= life.born else told.get(life)
+        life.bound = found if found is not None and broken.get(life, -1) < found else None
+
+
+def walked(world: World, report: Report, log: bytes = b"") -> Walk:
+    """The walk over an accepted replay of a world and a log."""
+    walk, living = Walk(world, report, events_with_filter(world, report, log)), dict[int, Life]()
+    told, broken = dict[Life, int](), dict[Life, int]()
     spaces = of_world(world)
     walk.spaces.append((0, copied(spaces)))
 
@@ -151,8 +176,12 @@ def walked(world: World, report: Report) -> Walk:
     for row in world.processes:
         begins(row.pid, row.parent, 0)
     shown(report.start, 0)
-    for moment, event in enumerate(report.events, 1):
+    for moment, event in enumerate(walk.events, 1):
         before = living.get(event.pid)
+        if before is not None and event.call == INSTALLS:
+            told[before] = moment
+        elif before is not None and event.call in (world.exclude or ()) and event.result != "EPERM":
+            broken[before] = moment
         if event.call in SPACE_CALLS and succeeded(event):
             spaces.turn(event, None if before is None else before.seen[-1][1])
             walk.spaces.append((moment, copied(spaces)))
@@ -161,4 +190,5 @@ def walked(world: World, report: Report) -> Walk:
         shown(event.after, moment)
         if event.call == "exit" and before is not None:
             living.pop(event.pid).ended = moment
+    bind(walk.lives, told, broken)
     return walk

@@ -17,7 +17,7 @@ from .walk import Walk
 def first_call(walk: Walk, answer: Answer, name: str) -> int | None:
     """The line of the family's first call of a name; None where it never comes."""
     lives = list(answer.life.descendants())
-    found = [walk.reached[moment] for moment, event in enumerate(walk.report.events, 1)
+    found = [walk.reached[moment] for moment, event in enumerate(walk.events, 1)
              if event.call == name and succeeded(event) and any(life.pid == event.pid and life.lives(moment - 1)
                                                                 for life in lives)]
     found += [mark.line for lane in answer.lanes for each in (lane, *lane.alike) for mark in each.marks
