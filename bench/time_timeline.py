@@ -2,34 +2,49 @@
 """Times credaudit-timeline: of a daemon's usual log of 100 lines, and of a log of 100,000 lines by 10 processes, 2,000
 of which change a credential, about 60 rights.
 
-  time_timeline.py [--small]      asks the program that the commands in tools/ find; --small leaves out the long log
+  time_timeline.py [--small] [--clock] [--times N] [--page]
 
-Tells how many lines, processes and rights there were, how many borders were found, and the seconds by the clock and of
-processors: of the command itself, and of the program. Status 1: both together took more of processors than the timeline
-may by the clock, 2 seconds for the usual log and 60 for the long one; 3: there is no program, or it fails.
+Asks the program that the commands in tools/ find. Tells how many lines, processes and rights there were, how many
+borders were found, and the seconds by the clock and of processors: of the command itself, and of the program; with
+--times the medians of N timelines (1). --small leaves out the long log. Status 1: both together took more of
+processors, or with --clock by the clock, than the timeline may, 2 seconds for the usual log and 60 for the long one;
+3: there is no program, or it fails. --page, on a machine with nothing else to do, measures both logs by the clock,
+three times where --times isn't given, and writes the outcome into docs/TESTING-tools.md; it writes nothing where the
+program isn't proved, where other work goes on (status 3), or where a timeline took too long.
 """
+import argparse
 import contextlib
 import io
 import json
 import os
 import resource
-import sys
+import statistics
 import tempfile
+import textwrap
 import time
 from collections.abc import Iterator, Sequence
-from dataclasses import dataclass
+from dataclasses import dataclass, replace
 
-import tools_path  # noqa: F401
+import tools_path
 from credaudit_tools.command_line.command import FOUND, GOOD, Failure, run
 from credaudit_tools.formats import worlds
 from credaudit_tools.formats.credential import Credential, four
 from credaudit_tools.formats.kernel_names import ALL
 from credaudit_tools.formats.worlds import File, Process, World
+from credaudit_tools.provenance import programs, trees
 from credaudit_tools.replay.program import find
 from credaudit_tools.timeline import timeline_command
 
 WORKERS, TURNS, LINES, GROUPS = 9, 221, 100_000, 15
 SU = [File("/usr/bin/su", 0, 0, 0o4755)]
+PAGE = os.path.join(tools_path.TOP, "docs", "TESTING-tools.md")
+BEGINS = "**Speed of a timeline**"
+TEXT = BEGINS + """ (`bench/time_timeline.py`; `--small` leaves out the long log, `--page` writes this). A daemon's
+usual log of {usual.lines} lines, with two workers and {usual.rights} rights; one of {long.lines:,} lines by ten
+processes, {long.rights} rights, {long.spans:,} spans. Status 1: more than 2 and 60 seconds, without `--clock` of
+processors. Outcome ({day}, the proved program, medians of {times}): {usual.clock:.2f} and {long.clock:.1f}
+s; of processors {usual.own:.2f} s of the command and {usual.called:.2f} s of the program; {long.own:.1f} s and
+{long.called:.1f} s."""
 
 
 @dataclass(frozen=True)
@@ -82,8 +97,21 @@ def spent(whose: int) -> float:
     return found.ru_utime + found.ru_stime
 
 
-def timed(folder: str, job: Job) -> float:
-    """Makes the timeline and tells of it; the seconds of processors."""
+@dataclass(frozen=True)
+class Timed:
+    """A timeline: what it told of, and its seconds by the clock and of processors, of the command and the program."""
+    lines: int
+    processes: int
+    rights: int
+    spans: int
+    borders: int
+    clock: float
+    own: float
+    called: float
+
+
+def timed(folder: str, job: Job) -> Timed:
+    """Makes the timeline once."""
     paths = [os.path.join(folder, name) for name in ("world.toml", "log")]
     for path, data in zip(paths, (worlds.written(job.world), "".join(f"{line}\n" for line in job.lines).encode())):
         with open(path, "wb") as file:
@@ -99,26 +127,77 @@ def timed(folder: str, job: Job) -> float:
     lanes = json.loads(out.getvalue())["answers"][0]["lanes"]
     rows = [row for lane in lanes for row in lane["rights"]]
     rights = {right for row in rows for right in row["rights"]}
-    borders = sum(len(row["spans"]) - 1 for row in rows)
-    processes = sum(len(lane["processes"]) for lane in lanes)
-    print(f"{job.name}: {len(job.lines)} lines, {processes} processes, {len(rights)} rights, {borders} borders:"
-          f" {clock:.2f} s by the clock; of processors {own:.2f} s of the command, {called:.2f} s of the program",
-          flush=True)
-    return own + called
+    spans = sum(len(row["spans"]) for row in rows)
+    return Timed(len(job.lines), sum(len(lane["processes"]) for lane in lanes), len(rights), spans, spans - len(rows),
+                 clock, own, called)
 
 
-def main(words: Sequence[str]) -> int:
-    """Times both; the status."""
-    print(f"of {find()}")
-    bad = False
-    for job in [usual()] if "--small" in words else [usual(), long()]:
+def median(job: Job, times: int) -> Timed:
+    """The medians of so many timelines, and tells of them."""
+    every = []
+    for _ in range(times):
         with tempfile.TemporaryDirectory(prefix="credaudit-time-") as folder:
-            bad = timed(folder, job) > job.most or bad
-    return FOUND if bad else GOOD
+            every.append(timed(folder, job))
+    middle = [statistics.median(getattr(each, name) for each in every) for name in ("clock", "own", "called")]
+    found = replace(every[0], clock=middle[0], own=middle[1], called=middle[2])
+    print(f"{job.name}: {found.lines} lines, {found.processes} processes, {found.rights} rights, {found.borders}"
+          f" borders: {found.clock:.2f} s by the clock; of processors {found.own:.2f} s of the command,"
+          f" {found.called:.2f} s of the program", flush=True)
+    return found
+
+
+def check_page() -> None:
+    """Fails where what is measured can't stand on the page."""
+    program = programs.look(find(), trees.own())
+    if program.kind == programs.NOT_PROVED:
+        raise Failure(f"{find()}: {program}", "the page tells of the proved program alone")
+    if os.getloadavg()[0] > 1:
+        raise Failure(f"other work goes on: {os.getloadavg()[0]:.1f} processes ran in the last minute (uptime(1))")
+
+
+def paragraph(usual: Timed, long: Timed, times: int, day: str) -> str:
+    """What the page says."""
+    told = TEXT.format(usual=usual, long=long, times=times, day=day).replace("\n", " ")
+    return textwrap.fill(told, 120, break_on_hyphens=False, break_long_words=False)
+
+
+def put(text: str) -> None:
+    """Puts a paragraph in the place of the one on the page."""
+    with open(PAGE, encoding="utf-8") as file:
+        parts = file.read().split("\n\n")
+    [at] = [place for place, part in enumerate(parts) if part.startswith(BEGINS)]
+    parts[at] = text + "\n" * parts[at].endswith("\n")
+    with open(PAGE, "w", encoding="utf-8") as file:
+        file.write("\n\n".join(parts))
+
+
+def words_of(given: Sequence[str]) -> argparse.Namespace:
+    """The words of the command."""
+    ask = argparse.ArgumentParser(prog="time_timeline.py", description=__doc__,
+                                  formatter_class=argparse.RawDescriptionHelpFormatter)
+    ask.add_argument("--small", action="store_true")
+    ask.add_argument("--clock", action="store_true")
+    ask.add_argument("--times", metavar="N", type=int, choices=range(1, 100))
+    ask.add_argument("--page", action="store_true")
+    return ask.parse_args(given)
+
+
+def main(given: Sequence[str]) -> int:
+    """Times them; the status."""
+    asked = words_of(given)
+    times = asked.times or (3 if asked.page else 1)
+    print(f"of {find()}")
+    if asked.page:
+        check_page()
+    jobs = [usual()] if asked.small and not asked.page else [usual(), long()]
+    every = [median(job, times) for job in jobs]
+    if any((each.clock if asked.clock or asked.page else each.own + each.called) > job.most
+           for job, each in zip(jobs, every)):
+        return FOUND
+    if asked.page:
+        put(paragraph(*every, times, time.strftime("%Y-%m-%d")))
+    return GOOD
 
 
 if __name__ == "__main__":
-    if set(sys.argv[1:]) - {"--small"}:
-        print(__doc__)
-        sys.exit(2)
     run("time_timeline.py", main)

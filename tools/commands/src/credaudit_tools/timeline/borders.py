@@ -13,11 +13,12 @@ from dataclasses import dataclass, field
 
 from ..command_line.command import Failure
 from ..formats.rights import Right
-from ..judge.classes import HELD, IS_GONE, Outcome
+from ..judge.classes import GONE, GONE_BY_OWN_CALLS, HELD, Outcome
 from .held_rights import Holding
 from .walk import Life, Walk
 
 NOT_YET = "not-yet"                                 # the right's user namespace doesn't stand
+FOR_GOOD = (GONE, GONE_BY_OWN_CALLS)                # what stands against a `yes` may go later
 Ask = Callable[[int, Sequence[Right]], Mapping[Right, Outcome]]     # of a moment, about rights that nobody holds then
 
 
@@ -130,7 +131,7 @@ class Search:
             part, several = waiting.pop()
             first, last = part.first, part.last
             begin = self.answers(first, several)
-            open_ones = [right for right in several if begin[right].kind not in IS_GONE]
+            open_ones = [right for right in several if begin[right].kind not in FOR_GOOD]
             end = self.answers(last, open_ones)
             for right in several:
                 self.put(found, begin[right], first, last)

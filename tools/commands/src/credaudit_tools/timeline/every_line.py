@@ -4,7 +4,6 @@ the program. Fronts of which the program's replay tells the same are one.
 from collections.abc import Iterator, Sequence
 from dataclasses import dataclass, field, replace
 
-from ..evidence.evidence import Evidence
 from ..formats import worlds
 from ..formats.report import Report
 from ..formats.rights import Right
@@ -15,8 +14,8 @@ from ..replay.end_world import end_of
 from ..summary.summary import Given
 from .borders import NOT_YET, Course
 from .held_rights import space_of
-from .lane_judge import outcomes
-from .walk import Life, Walk
+from .lane_judge import LaneJudge, outcomes
+from .walk import Walk
 
 
 @dataclass
@@ -51,16 +50,17 @@ class EveryLine:
         self.every = list(prefixes(self.ask, self.given, self.walk))
         self.free = self.ask.put("without-filter", worlds.written(replace(self.given.world, exclude=None)))
 
-    def course(self, life: Life, rights: Sequence[Right], evidence: Evidence) -> Course:
+    def course(self, lane: LaneJudge, rights: Sequence[Right]) -> Course:
         """What each right is at each moment of a lane that a prefix ends at. Where none ends at its birth, what comes
         next stands for it."""
+        life = lane.life
         own = [each for each in self.every if life.lives(each.moment)]
         found = Course([life.born, *(each.moment for each in own[1:])], {right: [] for right in rights})
         for prefix in own:
             world = self.walk.world_at(life, prefix.moment)
             files = prefix.files if world == self.walk.world else replace(prefix.files, world=self.free)
             end = end_of(world, prefix.report, life.pid)
-            judge = Judge(self.ask, Family(files, life.pid, end, evidence))
+            judge = Judge(self.ask, Family(files, life.pid, end, lane.evidence_at(prefix.moment, end)))
             there = [right for right in rights if right.space is None
                      or space_of(right, end.spaces) in end.spaces.named]
             told = {each.right: each for each in outcomes(judge, there, f"line {self.walk.line(prefix.moment)}")}

@@ -10,7 +10,7 @@ from ..filters.filter_lines import NOBODY
 from ..formats.marked_calls import Mark
 from ..formats.report import Event
 from ..formats.rights import Right
-from ..judge.classes import HELD, IS_GONE, Outcome
+from ..judge.classes import DOUBTED, HELD, IS_GONE, Outcome
 from ..judge.held_by import holders
 from .borders import NOT_YET, Course
 from .held_rights import Holding
@@ -156,11 +156,12 @@ def folded(lanes: Sequence[Lane], alone: Collection[int]) -> list[Lane]:
 
 
 def gone_since(own: Sequence[Span]) -> int | None:
-    """The moment since which a right is gone for good; None where it isn't gone at the lane's end."""
+    """The moment since which a right is gone for good; None where it isn't gone at the lane's end. What isn't called
+    gone counts where it isn't at the end either."""
     if own[-1].kind not in IS_GONE:
         return None
-    at = len(own) - 1
-    while at > 0 and own[at - 1].kind in IS_GONE:
+    at, same = len(own) - 1, IS_GONE if own[-1].kind == DOUBTED else (own[-1].kind,)
+    while at > 0 and own[at - 1].kind in same:
         at -= 1
     return own[at].begin
 

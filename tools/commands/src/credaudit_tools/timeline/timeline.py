@@ -78,11 +78,11 @@ def lane_of(ask: Remembering, walk: Walk, life: Life, rights: Sequence[Right], e
             every: EveryLine | None) -> Lane:
     """The lane of a process."""
     holding, last = Holding(rights, walk), walk.end(life)
-    judge = LaneJudge(ask, walk, life, evidence.evidence(walk, life, walk.family_world(life, last)))
+    judge = LaneJudge(ask, walk, life, evidence.evidence(walk, life, walk.family_world(life, last)), evidence)
     there = holding.there(last)
     judge.begin([right for place, right in enumerate(rights) if there >> place & 1])
     course = Search(walk, life, holding, judge.at).course() if every is None else \
-        every.course(life, rights, judge.evidence)
+        every.course(judge, rights)
     course.shorten(judge.shortened)
     return Lane(life, [row for row in rows(walk, life, course, holding) if is_shown(row.spans)])
 

@@ -63,7 +63,7 @@ def detail(span: Span) -> str:
         return f"{few(list(own.programs))}: {span.run}"
     if span.kind == OPEN:
         return f"{own.lets} lets it in, {row_words(own.row or '')} (rule {own.rule}, row {own.row})"
-    return span.run if span.kind == OWN_CALLS else "; ".join(own.reasons)
+    return span.run if span.kind == OWN_CALLS else few(list(own.reasons), MOST_HOLDERS)
 
 
 def span_words(walk: Walk, span: Span) -> str:
