@@ -195,7 +195,7 @@ def main(given: Sequence[str]) -> int:
            for job, each in zip(jobs, every)):
         return FOUND
     if asked.page:
-        put(paragraph(*every, times, time.strftime("%Y-%m-%d")))
+        put(paragraph(every[0], every[1], times, time.strftime("%Y-%m-%d")))
     return GOOD
 
 
