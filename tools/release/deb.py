@@ -53,14 +53,23 @@ def zipped(path: str) -> None:
     os.remove(path)
 
 
+def left_out(root: str, path: str) -> bool:
+    """Whether a document is no use in a package: a license, which Debian has elsewhere, or an example's script that
+    only a checkout can run."""
+    if os.path.basename(path).startswith("LICENSE"):
+        return True
+    with open(os.path.join(root, path), "rb") as file:
+        return path.endswith(".py") and b"tools_path" in file.read()
+
+
 def as_debian_has_it(root: str) -> None:
-    """Packs the manual pages, names Debian's Python in the commands, and leaves out what Debian has elsewhere: the
-    licenses."""
+    """Packs the manual pages, names Debian's Python in the commands, and leaves out some documents."""
     for path in debian_texts.files(os.path.join(root, "usr", "share", "man")):
         zipped(os.path.join(root, "usr", "share", "man", path))
-    for name in os.listdir(os.path.join(root, DOCUMENTS)):
-        if name.startswith("LICENSE"):
-            os.remove(os.path.join(root, DOCUMENTS, name))
+    documents = os.path.join(root, DOCUMENTS)
+    for path in debian_texts.files(documents):
+        if left_out(documents, path):
+            os.remove(os.path.join(documents, path))
     for path in debian_texts.files(root):
         full = os.path.join(root, path)
         if not os.path.islink(full) and os.access(full, os.X_OK):

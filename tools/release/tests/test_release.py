@@ -228,7 +228,7 @@ class Made(Case):
                      "share/doc/credaudit/changelog.gz", "share/doc/credaudit/examples/saved_id_forgotten/world.toml"):
             self.assertTrue(os.path.exists(os.path.join(root, "usr", path)), path)
         for path in debian_texts.files(root):
-            self.assertNotRegex(path, r"LICENSE|\.pyc$|COMMIT$")
+            self.assertNotRegex(path, r"LICENSE|\.pyc$|COMMIT$|examples/run\.py$")
             full = os.path.join(root, path)
             if not os.path.islink(full):
                 with open(full, "rb") as file:
