@@ -1,5 +1,5 @@
 """Pages are for a reader: each says first for whom it is, none that is written by hand has more than 400 lines, and all
-together have at most so many words by hand. Cells of tables are short; of pages that have long ones yet, so many."""
+together have at most so many words by hand. Cells of tables are short."""
 import glob
 import os
 import unittest
@@ -13,8 +13,6 @@ MADE_TABLES = {"docs/PREMISES.md": "| Premise |"}
 MOST_LINES, MOST_IN_A_CELL = 400, 40
 MOST_WORDS, MOST_WORDS_BESIDE = 60000, 5600     # README, docs/ and the examples' READMEs; all others
 README_LINES, INDEX_LINES = 90, 250
-# How many cells with more words a page has yet; the number may fall, and a page without one goes from here.
-LONG_CELLS = {"docs/PREMISES.md": 1}
 
 
 def pages() -> dict[str, str]:
@@ -65,7 +63,7 @@ class Sizes(unittest.TestCase):
 
     def test_cells(self) -> None:
         found = {path: long_cells(text) for path, text in pages().items()}
-        self.assertEqual({path: count for path, count in found.items() if count > LONG_CELLS.get(path, 0)}, {})
+        self.assertEqual({path: count for path, count in found.items() if count}, {})
 
 
 if __name__ == "__main__":
