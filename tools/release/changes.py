@@ -38,6 +38,18 @@ def versions(text: str) -> list[Version]:
     return found
 
 
+def with_sum(text: str, architecture: str, program: str) -> str:
+    """A text whose newest version has this sum for that architecture: in the place of another one, or before all that
+    it tells. ValueError where it has no version."""
+    found = SECTION.search(text)
+    if found is None:
+        raise ValueError(f"{NAME} has no version")
+    line, part = f"- Program for {architecture}: SHA-256 `{program}`.", found[2]
+    own = next((each for each in SUM.finditer(part) if each[1] == architecture), None)
+    part = f"{line}\n{part}" if own is None else part[:own.start()] + line + part[own.end():]
+    return text[:found.start(2)] + part + text[found.end(2):]
+
+
 def of(top: str) -> list[Version]:
     """The versions of a tree. OSError, and ValueError."""
     with open(os.path.join(top, NAME), encoding="ascii") as file:

@@ -1,9 +1,12 @@
 """The tarball and the package for Debian: each is the same byte for byte from the tree and from the tarball's own
-folder, and what they hold is what `make install` puts in place. The versions and sums of CHANGELOG.md.
+folder, and what they hold is what `make install` puts in place. The versions and sums of CHANGELOG.md, and what
+readers do.
 
 The program is one of the machine's own (/bin/true), since only its bytes matter.
 """
+import contextlib
 import hashlib
+import io
 import os
 import re
 import shutil
@@ -17,9 +20,11 @@ import credaudit_check
 import credaudit_tools
 from commands.tests.support import EXAMPLES, Case
 from credaudit_tools.provenance import sources, stamp, trees
+from make import stamps
 from make.kit import Failed
+from pages.blocks import blocks
 
-from .. import built, changes, deb, debian_texts, dist, tree_files
+from .. import built, changes, deb, debian_texts, dist, roots, tree_files, try_deb, try_dist, version
 from ..changes import Version
 from ..debian_texts import Named
 
@@ -63,6 +68,21 @@ class Versions(unittest.TestCase):
         self.assertEqual(newest.named("amd64", "a" * 64), "2027.10.9")
         self.assertEqual(newest.named("arm64", "a" * 64), "2027.10.9+aaaaaaaa")
         self.assertEqual(Version("2026.1.2", {}, []).named("amd64", "c" * 64), "2026.1.2+cccccccc")
+
+    def test_with_a_sum(self) -> None:
+        """In the place of the old one, of the newest version alone; where there was none, before the rest."""
+        for architecture, other in (("amd64", "arm64"), ("arm64", "amd64")):
+            text = changes.with_sum(TEXT, architecture, "d" * 64)
+            newest, first = changes.versions(text)
+            before = changes.versions(TEXT)[0]
+            self.assertEqual(newest.programs, {architecture: "d" * 64, other: before.programs[other]})
+            self.assertEqual(newest.items[2:], before.items[2:])
+            self.assertEqual(first.programs, {})
+            self.assertEqual(changes.with_sum(text, architecture, "d" * 64), text)
+        one = changes.with_sum("# C\n\n## 2026.1.2\n\n- One.\n", "amd64", "e" * 64)
+        self.assertEqual(one, f"# C\n\n## 2026.1.2\n\n- Program for amd64: SHA-256 `{'e' * 64}`.\n- One.\n")
+        with self.assertRaisesRegex(ValueError, "no version"):
+            changes.with_sum("# Changes\n", "amd64", "e" * 64)
 
     def test_of_this_tree(self) -> None:
         """The newest version is the one that both packages tell; a version is later than the one below it."""
@@ -115,6 +135,70 @@ class Files(Case):
         self.assertEqual(modes, {"run": 0o755, "below": 0o755, "below/plain": 0o644})
         for name in ("", "run", "below", "below/plain", "link"):
             self.assertEqual(os.lstat(os.path.join(top, name)).st_mtime, 86400, name)
+
+
+class Sums(Case):
+    """version.py, with a program of the machine's own and a stamp by hand."""
+
+    def setUp(self) -> None:
+        super().setUp()
+        self.put("CHANGELOG.md", TEXT.replace("2027.10.9", credaudit_tools.VERSION).encode())
+        self.put("crates.txt", b"one:\n")
+        self.put("crates/one/src/lib.rt", b"fn f() {}\n")
+        self.program = os.path.join(self.work, dist.PLACE)
+        os.makedirs(os.path.dirname(self.program))
+        shutil.copy(PROGRAM, self.program)
+
+    def stamped(self, proved: bool) -> None:
+        """Stamps the program, as it is built of the tree now."""
+        stamps.write(self.program, trees.of(self.work), "0" * 16, proved, "said")
+
+    def refused(self, why: str) -> None:
+        """Nothing is written, for this reason."""
+        before = self.read("CHANGELOG.md")
+        with self.assertRaisesRegex(Failed, why):
+            version.written(self.work, self.program)
+        self.assertEqual(self.read("CHANGELOG.md"), before)
+
+    def read(self, name: str) -> str:
+        """A text of this test."""
+        with open(os.path.join(self.work, name), encoding="ascii") as file:
+            return file.read()
+
+    def test_written(self) -> None:
+        self.refused("not proved")
+        self.stamped(proved=False)
+        self.refused("not proved")
+        self.stamped(proved=True)
+        with contextlib.redirect_stdout(io.StringIO()) as told:
+            self.assertEqual(version.written(self.work, self.program), 0)
+        program = built.look(self.program)
+        newest = changes.of(self.work)[0]
+        self.assertEqual(newest.named(program.architecture, program.sum), credaudit_tools.VERSION)
+        self.assertIn(program.sum, told.getvalue())
+        self.put("crates/one/src/lib.rt", b"fn g() {}\n")
+        self.refused("of another tree")
+
+    def test_another_version(self) -> None:
+        self.stamped(proved=True)
+        self.put("CHANGELOG.md", TEXT.encode())
+        self.refused("the newest version")
+
+
+class Readers(Case):
+    def test_each_is_tried(self) -> None:
+        """What readers do is done by one of both tries, and has commands."""
+        self.assertEqual(sorted(os.listdir(roots.READERS)), sorted((*try_deb.WHO, try_dist.WHO)))
+        for name in os.listdir(roots.READERS):
+            with open(os.path.join(roots.READERS, name), encoding="utf-8") as file:
+                self.assertGreater(sum(len(each.commands()) for each in blocks(file.read())), 5, name)
+
+    def test_packages_are_named(self) -> None:
+        """Those of CONTRIBUTING.md, by which the tarball is tried."""
+        words = try_dist.needed()
+        self.assertEqual(words[:2], ["apt-get", "install"])
+        for name in ("python3", "strace", "make", "mypy", "flake8", "mandoc", "man-db"):
+            self.assertIn(name, words)
 
 
 class Texts(Case):

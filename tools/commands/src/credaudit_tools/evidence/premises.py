@@ -42,8 +42,8 @@ TABLE = (
             "a process that wasn't traced, a birth or an end that isn't told, strace's lines cut or stopped, strace"
             " that was ended before all had stopped"),
     Premise(ANSWERS, "the answers in the log are the kernel's",
-            "the recorder: all that lived at the end had the log's filters, as the kernel shows them, and none of these"
-            " can answer a call of the log in its place; where they aren't shown, as many as the log tells",
+            "the recorder: the kernel shows the log's filters of all that lived at the end, none of which can answer a"
+            " call of the log in its place; where it doesn't, as many stand as the log tells",
             "a filter that can answer success without making the call, one that was exchanged as it was read, or one"
             " that can't be read; another process that has the pipe of strace's lines"),
     Premise(CREDENTIALS, "at the end each member is for the kernel what it is in the replay",
