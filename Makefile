@@ -69,8 +69,8 @@ install:
 	  ln -sf credaudit.fish $(DESTDIR)$(FISH_COMPLETIONS)/$$name.fish || exit; \
 	done
 	install -m 644 completion/_credaudit $(DESTDIR)$(ZSH_COMPLETIONS)/_credaudit
-	install -m 644 README.md CHANGELOG.md SECURITY.md LICENSE LICENSE-* $(DESTDIR)$(DOCUMENTS)
-	install -m 644 docs/*.md $(DESTDIR)$(DOCUMENTS)/docs
+	install -m 644 README.md CHANGELOG.md CONTRIBUTING.md SECURITY.md LICENSE LICENSE-* $(DESTDIR)$(DOCUMENTS)
+	install -m 644 docs/*.md docs/*.svg $(DESTDIR)$(DOCUMENTS)/docs
 	cp -R examples $(DESTDIR)$(DOCUMENTS)
 	@PYTHONDONTWRITEBYTECODE=1 tools/make/install_stamps.py $(PROGRAM) $(DESTDIR)$(PREFIX)/bin/credaudit $(DESTDIR)$(LIBRARY)
 

@@ -39,7 +39,8 @@ TREE = {
     "crates/credaudit/src/main.rt": b"main", "crates/credaudit/stdout": REPORT,
     "crates/credaudit/args": b"replay\nworld.toml\nlog\n",
     "crates/credaudit/data/world.toml": b"world\n", "crates/credaudit/data/log": b"log\n", "README.md": b"x",
-    "docs/A.md": b"x", "man/a.1": b"x", "man/a.5": b"x", "examples/x": b"x", "CHANGELOG.md": b"x", "SECURITY.md": b"x",
+    "docs/A.md": b"x", "docs/a.svg": b"x", "man/a.1": b"x", "man/a.5": b"x", "examples/x": b"x", "CHANGELOG.md": b"x",
+    "CONTRIBUTING.md": b"x", "SECURITY.md": b"x",
     "completion/credaudit": b"x", "completion/credaudit.fish": b"x", "completion/_credaudit": b"x",
 }
 

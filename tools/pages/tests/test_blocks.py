@@ -16,7 +16,7 @@ HELD, NOT_RUN = "held by ", "not run: "
 MARKS = {
     "it takes hours": 1,
     "it takes minutes, and the program": 5,
-    "PROGRAM and its like stand for what the reader has": 5,
+    "PROGRAM and its like stand for what the reader has": 6,
 }
 
 

@@ -308,6 +308,7 @@ class Made(Case):
                      "share/man/man1/credaudit.1.gz", "share/man/man5/credaudit-log.5.gz",
                      "share/bash-completion/completions/credaudit", "share/zsh/vendor-completions/_credaudit",
                      "share/fish/vendor_completions.d/credaudit-lint.fish", "share/doc/credaudit/README.md",
+                     "share/doc/credaudit/CONTRIBUTING.md", "share/doc/credaudit/docs/timeline.svg",
                      "share/doc/credaudit/docs/TUTORIAL.md", "share/doc/credaudit/copyright",
                      "share/doc/credaudit/changelog.gz", "share/doc/credaudit/examples/saved_id_forgotten/world.toml"):
             self.assertTrue(os.path.exists(os.path.join(root, "usr", path)), path)

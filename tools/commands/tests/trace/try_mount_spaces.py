@@ -5,8 +5,8 @@ to be whole.
   try_mount_spaces.py [--times N] [--jobs N] [--user USER] [--test-execve PROGRAM] [NAME ..]     to be run as root
 
 100 times each where --times says nothing; --jobs so many at once, each of which is load for the others.
-Needs strace, and of Debian's packages bubblewrap, lxc, libcap-ng-utils, mmdebstrap, crun, runc and busybox-static; what
-isn't there is passed over, and told. PROGRAM is test_execve of the kernel's selftests (tools/testing/selftests/
+Needs strace, and of Debian's packages bubblewrap, lxc, libcap-ng-utils, mmdebstrap, crun, runc, podman and
+busybox-static; what isn't there is passed over, and told. PROGRAM is test_execve of the kernel's selftests (tools/testing/selftests/
 capabilities), with validate_cap beside it. Twice as many loops as processors run meanwhile: `taskset -c 3
 try_mount_spaces.py` takes one processor and two loops. A recording is whole where it ended with its program, which said
 what it says alone, nothing is in doubt but the mounts that it changed (of test_execve also the files: it makes
@@ -37,6 +37,7 @@ LOOP = "import os\nabove = os.getppid()\nwhile os.getppid() == above: pass"     
 TREE = ["--ro-bind", "/usr", "/usr", "--symlink", "usr/lib", "/lib", "--symlink", "usr/lib64", "/lib64", "--symlink",
         "usr/bin", "/bin"]
 PURE = "mount --bind /sys/fs/cgroup/unified /sys/fs/cgroup 2>/dev/null; "      # of a machine with both kinds of cgroups
+LIMITS = "--ulimit=nofile=1024:1024 --ulimit=nproc=1024:1024"      # which may be lower here than podman's own
 LOOK = "id -u; /proc/self/exe echo whole || busybox true"
 TINY = """Package: tiny
 Version: 1
@@ -110,6 +111,14 @@ def container(runtime: str) -> Callable[[str, str], list[str]]:
                               f" credaudit-{runtime}-{os.getpid()}-{time.monotonic_ns()}"]
 
 
+def pod(folder: str, _: str) -> list[str]:
+    """The words by which podman runs a container of that root directory, with a network of its own."""
+    kept = os.path.join(folder, "pods")
+    options = f"--rm --network=none --cgroups=disabled {LIMITS} --runtime=crun --rootfs {tree(folder)}"
+    return ["unshare", "-m", "sh", "-c", f"{PURE}exec podman --storage-driver=vfs --root {kept} --runroot {kept}-run"
+            f" run {options} sh -c '{LOOK}'"]
+
+
 def root_of_packages(folder: str, room: str) -> list[str]:
     """The words that make a root directory of that package."""
     return ["mmdebstrap", "--mode=root", "--variant=extract", "--include=tiny", "--skip=check/empty", "bookworm",
@@ -130,6 +139,7 @@ ROWS = [
     Row("mmdebstrap", ("mmdebstrap", "dpkg-deb"), root_of_packages, ("/usr/bin/mmdebstrap", "/usr/bin/dpkg-deb")),
     Row("crun", ("unshare", "crun", "busybox"), container("crun"), ("/usr/bin/crun", "/bin/busybox")),
     Row("runc", ("unshare", "runc", "busybox"), container("runc"), ("/usr/sbin/runc", "/bin/busybox")),
+    Row("podman", ("unshare", "podman", "crun", "busybox"), pod, ("/usr/bin/conmon", "/usr/bin/crun", "/bin/busybox")),
 ]
 
 
