@@ -4,14 +4,14 @@ to be whole.
 
   try_mount_spaces.py [--times N] [--jobs N] [--user USER] [--test-execve PROGRAM] [NAME ..]     to be run as root
 
-100 times each where --times says nothing; --jobs so many at once, each of which is load for the others.
-Needs strace, and of Debian's packages bubblewrap, lxc, libcap-ng-utils, mmdebstrap, crun, runc, podman and
-busybox-static; what isn't there is passed over, and told. PROGRAM is test_execve of the kernel's selftests (tools/testing/selftests/
-capabilities), with validate_cap beside it. Twice as many loops as processors run meanwhile: `taskset -c 3
-try_mount_spaces.py` takes one processor and two loops. A recording is whole where it ended with its program, which said
-what it says alone, nothing is in doubt but the mounts that it changed (of test_execve also the files: it makes
-set-user-ID programs), and the log names the files that were executed. With --user the programs are USER's; what only
-root can run is passed over then.
+100 times each where --times says nothing; --jobs so many at once, each of which is load for the others. Needs strace,
+and of Debian's packages bubblewrap, lxc, libcap-ng-utils, mmdebstrap, crun, runc, podman and busybox-static; what isn't
+there is passed over, and told. PROGRAM is test_execve of the kernel's selftests (tools/testing/selftests/capabilities),
+with validate_cap beside it. Twice as many loops as processors run meanwhile: `taskset -c 3 try_mount_spaces.py` takes
+one processor and two loops. A recording is whole where it ended with its program, which said what it says alone,
+nothing is in doubt but the mounts that it changed (of test_execve also the files: it makes set-user-ID programs), and
+the log names the files that were executed. With --user the programs are USER's; what only root can run is passed over
+then.
 """
 import argparse
 import hashlib
