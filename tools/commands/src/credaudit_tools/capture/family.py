@@ -21,8 +21,9 @@ RUNNING = b"running"
 TIMES = 5               # readings that agree, where threads may run meanwhile
 PAUSE = 0.02
 LISTINGS = 50           # of the folder, until nothing ended meanwhile
+OF_PROGRAMS = "for the programs alone ask for another process that sees them, as the shell: $$"
 ADVICE = ("it is read again for --patience SECONDS; --freeze stops its control group meanwhile, --running takes what"
-          f" runs where {TIMES} readings agree")
+          f" runs where {TIMES} readings agree; {OF_PROGRAMS}")
 
 
 @dataclass(frozen=True)
@@ -170,7 +171,7 @@ def refused(proc: Proc, listed: Listed, status: Status) -> None:
     again = proc.read(listed.pid, f"task/{listed.tid}/status")
     if again is not None and from_file(again).state == status.state and status.state != "R":
         raise Failure(f"process {listed.tid} ({quoted(status.name)}) can't be looked into: the kernel doesn't show its"
-                      " namespaces", "for the programs alone ask for another process that sees them, as the shell: $$")
+                      " namespaces", OF_PROGRAMS)
     raise Moved(f"process {listed.tid} ended while it was read")
 
 
