@@ -5,11 +5,11 @@ tools/release/try_deb.py DEB`.
   try_deb.py [--suite NAME] [--mirror URL] [--keep FOLDER] DEB
 
 Needs root, debootstrap and a network, and takes some minutes. In the root stand Debian's essential packages and apt
-alone. There apt installs the package, with what it depends on, and sudo. An ordinary user, who may use sudo, pastes
-each block with a `$ ` of README.md and of other documents (pages/blocks.py, PASTED), as the package brings them, and
-does what three readers do (release/readers); each command has to write what stands below it. dpkg then has to find each
-file as it was, and once the package is removed nothing of it may be left. Each step tells how long it took. FOLDER is
-made, and stays; else the root goes at the end. Status 0: all held.
+alone. There apt installs the package, with what it depends on, sudo and a C compiler. An ordinary user, who may use
+sudo, pastes each block with a `$ ` of README.md and of other documents (pages/blocks.py, PASTED), as the package brings
+them, and does what three readers do (release/readers); each command has to write what stands below it. dpkg then has to
+find each file as it was, and once the package is removed nothing of it may be left. Each step tells how long it took.
+FOLDER is made, and stays; else the root goes at the end. Status 0: all held.
 """
 import os
 import shutil
@@ -27,16 +27,17 @@ NAME = "credaudit"
 # What apt and dpkg write down of all packages, and what the user made.
 RECORDS = ("var/lib/dpkg", "var/lib/apt", "var/cache", "var/log", "tmp", "home", "proc", "deb")
 MOST = 20
+COMPILER = ("gcc", "libc6-dev")     # for the daemon of TUTORIAL.md, step 9
 WHO = ("daemon.md", "sandbox.md", "reviewer.md")
 
 
 def installed(root: Root, deb: str) -> None:
-    """Installs the package, with what it depends on, and sudo for the user."""
+    """Installs the package, with what it depends on, and for the user sudo and what TUTORIAL.md names."""
     os.mkdir(root.within("deb"))
     shutil.copy(deb, root.within("deb/credaudit.deb"))
-    root.run("apt-get", "install", "--yes", "--no-install-recommends", "sudo")
+    root.run("apt-get", "install", "--yes", "--no-install-recommends", "sudo", *COMPILER)
     root.put(f"etc/sudoers.d/{USER}", f"{USER} ALL=(ALL) NOPASSWD: ALL\n", 0o440)
-    root.told("sudo")
+    root.told(" ".join(("sudo", *COMPILER)))
     root.run("apt-get", "install", "--yes", "--no-install-recommends", "/deb/credaudit.deb")
     root.told("installed, with what it depends on: apt-get install ./credaudit.deb")
 
