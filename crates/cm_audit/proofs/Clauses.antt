@@ -33,18 +33,15 @@ found_alive ps at pid (low, is) = elim ((slice_get_cases ps at).1) [
 -- ---- one verdict and its kind
 kind_yes : (x : Told) (bounds : Test) → AreOne (verdict_in x) (Yes bounds) → IsTrue (is_yes x)
 kind_yes (TellsYes rows) bounds same = refl
-kind_yes (TellsNo found) bounds same = absurd same
-kind_yes (TellsUndecided blame rows) bounds same = absurd same
+kind_yes _ bounds same = absurd same
 
 kind_no : (x : Told) (found : Found) → AreOne (verdict_in x) (No found) → IsTrue (is_no x)
 kind_no (TellsNo found') found same = refl
-kind_no (TellsYes rows) found same = absurd same
-kind_no (TellsUndecided blame rows) found same = absurd same
+kind_no _ found same = absurd same
 
 kind_undecided : (x : Told) (blame : Blame) (below : Test) → AreOne (verdict_in x) (Undecided blame below) → IsTrue (is_undecided x)
 kind_undecided (TellsUndecided blame' rows) blame below same = refl
-kind_undecided (TellsYes rows) blame below same = absurd same
-kind_undecided (TellsNo found) blame below same = absurd same
+kind_undecided _ blame below same = absurd same
 
 module _ (w : World) (s : State) (members : List ℕ) (right : Right) where
   -- two verdicts on one question are one
@@ -55,8 +52,7 @@ module _ (w : World) (s : State) (members : List ℕ) (right : Right) where
   -- ---- no
   no_found : (x : Told) → VerdictIn w s members right (verdict_in x) → IsTrue (is_no x) → FoundIn w s members right
   no_found (TellsNo found) there said = (found, there)
-  no_found (TellsYes rows) there said = absurd (cc)
-  no_found (TellsUndecided blame rows) there said = absurd (cc)
+  no_found _ there said = absurd (cc)
 
   pub no : (x : Told) → IsVerdictOn w s members right x → IsTrue (is_no x) ↔ FoundIn w s members right
   no x is = (no_found x is.verdict, λ found. kind_no x found.0 (one x is (No found.0) found.1))
@@ -64,8 +60,7 @@ module _ (w : World) (s : State) (members : List ℕ) (right : Right) where
   run_by : (x : Told) → VerdictIn w s members right (verdict_in x) → PidsAscend members → NoIsFirst w s members right x
   unfolding NoIsFirstRun
   run_by (TellsNo found) there ascend = no_is_first_run w s members right found ascend there
-  run_by (TellsYes rows) there ascend = tt
-  run_by (TellsUndecided blame rows) there ascend = tt
+  run_by _ there ascend = tt
 
   pub run : (x : Told) → IsVerdictOn w s members right x → PidsAscend members → NoIsFirst w s members right x
   run x is ascend = run_by x is.verdict ascend
@@ -73,8 +68,7 @@ module _ (w : World) (s : State) (members : List ℕ) (right : Right) where
   -- ---- yes
   least_by : (x : Told) → VerdictIn w s members right (verdict_in x) → YesIsLeast w s members x
   least_by (TellsYes rows) (none, least, apart) = least
-  least_by (TellsNo found) there = tt
-  least_by (TellsUndecided blame rows) there = tt
+  least_by _ there = tt
 
   pub least : (x : Told) → IsVerdictOn w s members right x → YesIsLeast w s members x
   least x is = least_by x is.verdict
@@ -138,8 +132,7 @@ module _ (w : World) (s : State) (members : List ℕ) (right : Right) where
 
     blame_by : (x : Told) → VerdictIn w s members right (verdict_in x) → UndecidedIsBlamed w s members right x
     blame_by (TellsUndecided blame rows) (none, met, blamed) = blamed
-    blame_by (TellsYes rows) there = tt
-    blame_by (TellsNo found) there = tt
+    blame_by _ there = tt
 
     pub blame : (x : Told) → IsVerdictOn w s members right x → UndecidedIsBlamed w s members right x
     blame x is = blame_by x is.verdict
@@ -147,8 +140,7 @@ module _ (w : World) (s : State) (members : List ℕ) (right : Right) where
     below_by : (x : Told) → UndecidedIsBlamed w s members right x → UndecidedIsBelow w s members right x
     unfolding BlameIsBelow
     below_by (TellsUndecided blame rows) blamed = blame_is_below w s members right blame (bounds_hold rows) (state_fits s keeps) blamed
-    below_by (TellsYes rows) there = tt
-    below_by (TellsNo found) there = tt
+    below_by _ there = tt
 
     pub below : (x : Told) → IsVerdictOn w s members right x → UndecidedIsBelow w s members right x
     below x is = below_by x (blame x is)

@@ -31,12 +31,7 @@ one_told spaces (TellsNo found) (TellsNo found') a b same = ap TellsNo same
 one_told spaces (TellsYes rows) (TellsYes rows') a b same = ap TellsYes (one_list spaces rows rows' a b same)
 one_told spaces (TellsUndecided blame rows) (TellsUndecided blame' rows') a b (same, say) =
     ap₂ (λ (x : Blame) (r : List BoxRow). TellsUndecided x r) same (one_list spaces rows rows' a b say)
-one_told spaces (TellsNo found) (TellsYes rows) a b same = absurd same
-one_told spaces (TellsNo found) (TellsUndecided blame rows) a b same = absurd same
-one_told spaces (TellsYes rows) (TellsNo found) a b same = absurd same
-one_told spaces (TellsYes rows) (TellsUndecided blame rows') a b same = absurd same
-one_told spaces (TellsUndecided blame rows) (TellsNo found) a b same = absurd same
-one_told spaces (TellsUndecided blame rows) (TellsYes rows') a b same = absurd same
+one_told spaces _ _ a b same = absurd same
 
 pub verdicts_are_isolated : (s t : State) → KeepsState s → KeepsState t → VerdictsAreIsolated s t
 unfolding VerdictsAreIsolated AlikeFamilies OneVerdict

@@ -7,7 +7,7 @@ use Rattle.std.proofs.lemmas.Bool.{false≢true, cases_eq, cases_lt, ne_eqb, lt-
 use Rattle.std.proofs.lemmas.Nat.{or_lt, xor_lt, and_le_l, one_shl, pow_below}
 use Rattle.std.proofs.lemmas.Nat.Bits.{bit_at_and, bit_at_or, bit_at_xor, bit_at-lt, bit_at-zero, bit_at-pow_same}
 use Rattle.std.proofs.lemmas.Nat.Bits.{bit_at-pow_other, bit_at_ones, bit_at_ones_above, bit_at_above, same_from_bits}
-use Rattle.cm_base.specs.CapSet.{cap_count, full, none, holds, union, meet, minus, single, with, without, is_within, IsCapSet}
+use Rattle.cm_base.specs.CapSet.{cap_count, full, none, holds, union, meet, minus, single, with, is_within, IsCapSet}
 use Rattle.cm_base.specs.Laws.{Membership, InclusionByMembers, InclusionOrder, CapSetsKept}
 
 -- What holds of each pair of bits holds of two numbers below 2.
@@ -56,9 +56,6 @@ holds_minus a b c =
 
 pub holds_with : (a k c : ℕ) → holds (with a k) c ≡ (holds a c || eqb c k)
 holds_with a k c = holds_union a (single k) c ∙ ap (λ (held : Bool). holds a c || held) (holds_single k c)
-
-pub holds_without : (a k c : ℕ) → holds (without a k) c ≡ (holds a c && not (eqb c k))
-holds_without a k c = holds_minus a (single k) c ∙ ap (λ (held : Bool). holds a c && not held) (holds_single k c)
 
 -- ---- equality and inclusion
 pub same_members : (a b : ℕ) → ((c : ℕ) → holds a c ≡ holds b c) → a ≡ b
@@ -173,7 +170,7 @@ membership = record {
   in_meet = holds_meet;
   in_minus = holds_minus;
   in_with = holds_with;
-  in_without = holds_without;
+  in_without = λ a k c. holds_minus a (single k) c ∙ ap (λ (held : Bool). holds a c && not held) (holds_single k c);
 }
 
 pub inclusion_order : InclusionOrder

@@ -4,9 +4,7 @@ use Rattle.std.specs.Prelude.{slice_get, option_map, option_and_then, unwrap_or}
 use Rattle.std.proofs.lemmas.Bool.{agree_below_at, eqb-true}
 use Rattle.std.proofs.lemmas.Option.{slice_get-map, slice_get-get_or}
 use Rattle.cm_base.specs.declared.errno.Errno.{Errno}
-use Rattle.cm_base.specs.declared.errno.Errno.TheVariants.{EPERM, EINVAL, ENOSPC, ENOMEM, EAGAIN, EINTR, EFAULT, EIO}
-use Rattle.cm_base.specs.declared.errno.Errno.TheVariants.{ENOENT, EACCES, ENOTDIR, ELOOP, ENAMETOOLONG, E2BIG, ENOEXEC}
-use Rattle.cm_base.specs.declared.errno.Errno.TheVariants.{ETXTBSY, ELIBBAD}
+use Rattle.cm_base.specs.declared.errno.Errno.TheVariants.{EPERM}
 use Rattle.cm_base.specs.CapSet.{cap_count}
 use Rattle.cm_base.specs.Names.{cap_name, cap_of, errno_name, errno_of}
 use Rattle.cm_base.specs.Laws.{NamesReadBack}
@@ -31,22 +29,7 @@ cap_read_back c below =
 
 errno_read_back : (e : Errno) → errno_of (errno_name e) ≡ Some e
 errno_read_back EPERM = refl
-errno_read_back EINVAL = refl
-errno_read_back ENOSPC = refl
-errno_read_back ENOMEM = refl
-errno_read_back EAGAIN = refl
-errno_read_back EINTR = refl
-errno_read_back EFAULT = refl
-errno_read_back EIO = refl
-errno_read_back ENOENT = refl
-errno_read_back EACCES = refl
-errno_read_back ENOTDIR = refl
-errno_read_back ELOOP = refl
-errno_read_back ENAMETOOLONG = refl
-errno_read_back E2BIG = refl
-errno_read_back ENOEXEC = refl
-errno_read_back ETXTBSY = refl
-errno_read_back ELIBBAD = refl
+errno_read_back _ = refl
 
 pub names_read_back : NamesReadBack
 names_read_back = record { capability = cap_read_back; error = errno_read_back }

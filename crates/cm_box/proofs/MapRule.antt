@@ -22,10 +22,9 @@ module _ (permitted : CallKind → Bool) (spaces : Spaces) (bounds : Row → Par
       → HoldsAll (bounds row) (ByMaps permitted spaces bounds row)
   both_maps (Standing n) uids gids MappedUids x by = uids x by
   both_maps (Standing n) uids gids MappedGids x by = gids x by
-  both_maps (Standing n) uids gids _ x none = absurd none
   both_maps (Fresh n) uids gids MappedUids x by = uids x by
   both_maps (Fresh n) uids gids MappedGids x by = gids x by
-  both_maps (Fresh n) uids gids _ x none = absurd none
+  both_maps _ uids gids _ x none = absurd none
 
   -- what comes to one
   abbrev pub Comes : IdKind → Row → ℕ → Type 0

@@ -1,7 +1,6 @@
 -- What a credential puts into a row: its ids, its groups, its sets and its flags.
-use Rattle.std.proofs.Common.{◌≡◌, ◌≢◌, ℕ, zero, suc, ◌==◌, ◌||◌, Bool, true, false, not}
-use Rattle.std.proofs.Common.{List, [], ◌++◌, refl, sym, ap, subst, ◌∙◌}
-use Rattle.std.proofs.Common.{inl, inr, arith}
+use Rattle.std.proofs.Common.{◌≡◌, ◌≢◌, ℕ, zero, suc, ◌==◌, ◌||◌, Bool, true, false, not, List, [], ◌++◌, refl, sym, ap}
+use Rattle.std.proofs.Common.{subst, ◌∙◌, inl, inr, arith}
 use Rattle.std.specs.Prelude.{◌↔◌, IsTrue}
 use Rattle.std.specs.List.{list_any}
 use Rattle.std.proofs.lemmas.Bool.{false≢true, or_cases, or_left, or_right, eqb-true, eq-eqb, ne_eqb}
@@ -14,8 +13,7 @@ use Rattle.model_rules.specs.Securebits.{has_flag, lock_of, noroot}
 use Rattle.model_box.specs.Bounds.{BoxRow}
 use Rattle.model_box.specs.Row.{Uids, EffectiveUids, FsUids, Gids, EffectiveGids, FsGids, Groups, MappedUids}
 use Rattle.model_box.specs.Row.{MappedGids, PermittedCaps, InheritableCaps, BoundingCaps, NewPrivs, RootCounts}
-use Rattle.model_box.specs.Row.{LockClear}
-use Rattle.model_box.specs.Row.{CredHas}
+use Rattle.model_box.specs.Row.{LockClear, CredHas}
 use Rattle.cm_box_rows.specs.Rows.{RowHolds, AreSameRows}
 use Rattle.cm_box_rows.proofs.RowParts.{raised_is, lowered_is}
 

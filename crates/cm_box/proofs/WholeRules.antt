@@ -6,8 +6,7 @@ use Rattle.model_cred.specs.Files.{FileTable}
 use Rattle.model_cred.specs.Space.{Spaces}
 use Rattle.model_box.specs.Closed.{ClosedAt}
 use Rattle.model_box.specs.Row.{Part, Row, Standing, Fresh, HasMembers}
-use Rattle.model_box.specs.Rule.{Rule, SetUid, SetFsUid, SetGid, SetFsGid, SetGroups, CapSet, SecureBits, ExecUid}
-use Rattle.model_box.specs.Rule.{ExecGid, ExecCaps, ExecRoot, Create, Join, Maps}
+use Rattle.model_box.specs.Rule.{Rule, SetGroups, Create, Join, Maps}
 use Rattle.cm_box.specs.Closing.{Gains, CreateHeld, JoinHeld}
 use Rattle.cm_box_rows.specs.Rows.{HoldsAll}
 use Rattle.cm_box.specs.Rules.{is_permitted, rule_of}
@@ -25,40 +24,21 @@ IsOfMembers _ = Unit {0}
 -- the code's rules but the last three look at members
 pub of_members : (x : CodeRule) → (x ≡ code.Create → ⊥) → (x ≡ code.Join → ⊥) → (x ≡ code.Maps → ⊥)
     → IsOfMembers (rule_of x)
-of_members code.SetUid _ _ _ = tt
-of_members code.SetFsUid _ _ _ = tt
-of_members code.SetGid _ _ _ = tt
-of_members code.SetFsGid _ _ _ = tt
-of_members code.SetGroups _ _ _ = tt
-of_members code.CapSet _ _ _ = tt
-of_members code.SecureBits _ _ _ = tt
-of_members code.ExecUid _ _ _ = tt
-of_members code.ExecGid _ _ _ = tt
-of_members code.ExecCaps _ _ _ = tt
-of_members code.ExecRoot _ _ _ = tt
 of_members code.Create other _ _ = absurd (other refl)
 of_members code.Join _ other _ = absurd (other refl)
 of_members code.Maps _ _ other = absurd (other refl)
+of_members _ _ _ _ = tt
 
 module _ (permitted : CallKind → Bool) (files : FileTable) (spaces : Spaces) (bounds : Row → Part → ℕ → Type 0) where
   -- a rule on members is closed where the row holds what its members can gain, if it has any
   pub gains_closed : (rule : Rule) → IsOfMembers rule → IsTrue (is_permitted permitted rule) → (row : Row)
       → (HasMembers (bounds row) → HoldsAll (bounds row) (Gains files spaces bounds rule row)) ↔ ClosedAt permitted files spaces bounds rule row
-  gains_closed SetUid _ can row = (λ held part x added. held added.1 part x added.2, λ closed some part x gain. closed part x (can, some, gain))
-  gains_closed SetFsUid _ can row = (λ held part x added. held added.1 part x added.2, λ closed some part x gain. closed part x (can, some, gain))
-  gains_closed SetGid _ can row = (λ held part x added. held added.1 part x added.2, λ closed some part x gain. closed part x (can, some, gain))
-  gains_closed SetFsGid _ can row = (λ held part x added. held added.1 part x added.2, λ closed some part x gain. closed part x (can, some, gain))
   gains_closed SetGroups _ can row =
       (λ held part x added. held added.1 part x (added.2, added.3), λ closed some part x gain. closed part x (can, some, gain.0, gain.1))
-  gains_closed CapSet _ can row = (λ held part x added. held added.1 part x added.2, λ closed some part x gain. closed part x (can, some, gain))
-  gains_closed SecureBits _ can row = (λ held part x added. held added.1 part x added.2, λ closed some part x gain. closed part x (can, some, gain))
-  gains_closed ExecUid _ can row = (λ held part x added. held added.1 part x added.2, λ closed some part x gain. closed part x (can, some, gain))
-  gains_closed ExecGid _ can row = (λ held part x added. held added.1 part x added.2, λ closed some part x gain. closed part x (can, some, gain))
-  gains_closed ExecCaps _ can row = (λ held part x added. held added.1 part x added.2, λ closed some part x gain. closed part x (can, some, gain))
-  gains_closed ExecRoot _ can row = (λ held part x added. held added.1 part x added.2, λ closed some part x gain. closed part x (can, some, gain))
   gains_closed Create wrong can row = absurd wrong
   gains_closed Join wrong can row = absurd wrong
   gains_closed Maps wrong can row = absurd wrong
+  gains_closed _ _ can row = (λ held part x added. held added.1 part x added.2, λ closed some part x gain. closed part x (can, some, gain))
 
   -- the rules on creation and on joins
   pub create_closed : IsTrue (is_permitted permitted Create) → (row : Row)

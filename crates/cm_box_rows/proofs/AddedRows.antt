@@ -8,9 +8,8 @@ use Rattle.cm_sets.specs.Sets.{HoldsNone, HoldsSome}
 use Rattle.cm_idset.specs.Held.{Held}
 use Rattle.model_cred.specs.Intervals.{Interval}
 use Rattle.model_box.specs.Bounds.{BoxRow}
-use Rattle.model_box.specs.Row.{Part, MappedUids}
-use Rattle.model_box.specs.Row.{MappedGids, PermittedCaps, InheritableCaps, BoundingCaps, RootCounts, LockClear}
-use Rattle.model_box.specs.Row.{HasMembers}
+use Rattle.model_box.specs.Row.{Part, MappedUids, MappedGids, PermittedCaps, InheritableCaps, BoundingCaps, RootCounts}
+use Rattle.model_box.specs.Row.{LockClear, HasMembers}
 use Rattle.model_box.specs.Spread.{Brings}
 use Rattle.cm_box_rows.specs.Rows.{RowHolds, AreSameRows}
 

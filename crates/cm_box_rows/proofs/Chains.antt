@@ -21,19 +21,6 @@ at_or_above_end spaces n m is = ap (list_any (λ k. k == m)) (is ∙ ap (λ l. n
 abbrev pub SomeAbove : Spaces → (ℕ → Type 0) → ℕ → Type 0
 SomeAbove spaces P n = (a : ℕ) × IsTrue (is_at_or_above spaces a n) × P a
 
-pub some_step : (spaces : Spaces) (P : ℕ → Type 0) (n p : ℕ) → chain spaces n ≡ n ∷ chain_from spaces (Some p)
-    → (P n ⊎ SomeAbove spaces P p) ↔ SomeAbove spaces P n
-some_step spaces P n p is = (to, from) where
-  to : P n ⊎ SomeAbove spaces P p → SomeAbove spaces P n
-  to (inl here) = (n, at_or_above_step spaces n p n is ∙ or_left (n == n) (is_at_or_above spaces n p) (eq-eqb n n refl), here)
-  to (inr (a, above, has)) = (a, at_or_above_step spaces n p a is ∙ or_right (n == a) (is_at_or_above spaces a p) above, has)
-
-  from : SomeAbove spaces P n → P n ⊎ SomeAbove spaces P p
-  from (a, above, has) = elim (or_cases (n == a) (is_at_or_above spaces a p) (sym (at_or_above_step spaces n p a is) ∙ above)) [
-    | inl same ↦ inl (rw (eqb-true n a same) has)
-    | inr later ↦ inr (a, later, has)
-  ]
-
 pub some_end : (spaces : Spaces) (P : ℕ → Type 0) (n : ℕ) → chain spaces n ≡ n ∷ chain_from spaces None → P n ↔ SomeAbove spaces P n
 some_end spaces P n is = (to, from) where
   to : P n → SomeAbove spaces P n

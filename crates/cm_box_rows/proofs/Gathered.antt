@@ -54,10 +54,3 @@ gathered_all Gives Set n so_far none x = (to, from) where
     | inl low ↦ (so_far x).1 (k, low, gives)
     | inr past ↦ absurd (none k x past gives)
   ]
-
--- what holds of each number below one, and of it, holds of each below the next
-pub each_more : (P : ℕ → Type 0) (n : ℕ) → ((k : ℕ) → k < n → P k) → P n → (k : ℕ) → k < n + 1 → P k
-each_more P n each here k low = elim (cases_lt k n) [
-  | inl lower ↦ each k lower
-  | inr high ↦ let same : n ≡ k = omega arith in subst P same here
-]

@@ -34,11 +34,10 @@ module _ (row : Part → ℕ → Type 0) (New : ℕ → Type 0) where
   to_three_parts Users Goal one two last EffectiveUids x has = one x has
   to_three_parts Users Goal one two last Uids x has = two x has
   to_three_parts Users Goal one two last FsUids x has = last x has
-  to_three_parts Users Goal one two last _ x none = absurd none
   to_three_parts kinds.Groups Goal one two last EffectiveGids x has = one x has
   to_three_parts kinds.Groups Goal one two last Gids x has = two x has
   to_three_parts kinds.Groups Goal one two last FsGids x has = last x has
-  to_three_parts kinds.Groups Goal one two last _ x none = absurd none
+  to_three_parts _ Goal one two last _ x none = absurd none
 
 module _ (row : Part → ℕ → Type 0) (kind : IdKind) where
   -- the effective ids are among the other ones
@@ -107,19 +106,17 @@ module _ (row : Part → ℕ → Type 0) where
   spread_row Users ids now last New two one other Uids x = two x
   spread_row Users ids now last New two one other EffectiveUids x = one x
   spread_row Users ids now last New two one other FsUids x = other x
-  spread_row Users ids now last New two one other part x = nothing part x
   spread_row kinds.Groups ids now last New two one other Gids x = two x
   spread_row kinds.Groups ids now last New two one other EffectiveGids x = one x
   spread_row kinds.Groups ids now last New two one other FsGids x = other x
-  spread_row kinds.Groups ids now last New two one other part x = nothing part x
+  spread_row _ ids now last New two one other part x = nothing part x
 
   -- a row of fs ids alone
   pub fs_row : (kind : IdKind) (last : List Interval) → AreSame (Held last) (SettableId kind row)
       → AreSameRows (RowHolds (id_row kind [] [] last)) (GainsFsId kind row)
   fs_row Users last same FsUids x = same x
-  fs_row Users last same part x = nothing part x
   fs_row kinds.Groups last same FsGids x = same x
-  fs_row kinds.Groups last same part x = nothing part x
+  fs_row _ last same part x = nothing part x
 
 -- a bound as a set that holds the same
 pub within_same : (Set One Other : ℕ → Type 0) → AreSame One Other → IsWithin Set One ↔ IsWithin Set Other

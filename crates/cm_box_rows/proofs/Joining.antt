@@ -1,16 +1,14 @@
 -- What newcomers bring, and who can join a space from above it.
-use Rattle.std.proofs.Common.{◌≡◌, ℕ, ◌∷◌, Some, None, refl, sym, inl, inr}
+use Rattle.std.proofs.Common.{◌≡◌, ℕ, ◌∷◌, Some, refl, sym, inl, inr}
 use Rattle.std.specs.Prelude.{◌↔◌, ◌⊎◌}
 use Rattle.model_cred.specs.Space.{Spaces, chain, chain_from, space_of}
 use Rattle.model_box.specs.Closed.{ByJoining}
-use Rattle.model_box.specs.Row.{Part, Uids, EffectiveUids, FsUids, Gids, EffectiveGids, FsGids, Groups, MappedUids}
-use Rattle.model_box.specs.Row.{MappedGids, PermittedCaps, InheritableCaps, BoundingCaps, NewPrivs, RootCounts, LockClear}
-use Rattle.model_box.specs.Row.{Row, Standing}
+use Rattle.model_box.specs.Row.{Part, Uids, EffectiveUids, FsUids, Gids, EffectiveGids, FsGids, Groups, PermittedCaps}
+use Rattle.model_box.specs.Row.{BoundingCaps, NewPrivs, RootCounts, LockClear, Row, Standing}
 use Rattle.model_box.specs.Spread.{Brings}
 use Rattle.cm_box_rows.specs.Rows.{HoldsAll, InEitherRow, AreSameRows}
 use Rattle.cm_box_rows.specs.Spread.{IdsHeld, FullHeld, CanJoinBy, JoinsHeld, JoinedBy, ByJoiningTo}
-use Rattle.cm_box_rows.specs.Rights.{NextMet}
-use Rattle.cm_box_rows.proofs.Chains.{next_step, next_end}
+use Rattle.cm_box_rows.proofs.Chains.{next_step}
 
 -- a row holds all that newcomers bring where it holds their ids and flag, and is full
 pub brings_held : (from row : Part → ℕ → Type 0)
@@ -24,14 +22,12 @@ brings_held from row = (to, back) where
   to (ids, flag, full) EffectiveGids x has = ids.effective_gids x has
   to (ids, flag, full) FsGids x has = ids.fs_gids x has
   to (ids, flag, full) Groups x has = ids.groups x has
-  to (ids, flag, full) MappedUids x none = absurd none
-  to (ids, flag, full) MappedGids x none = absurd none
   to (ids, flag, full) PermittedCaps x has = full.permitted x has
-  to (ids, flag, full) InheritableCaps x none = absurd none
   to (ids, flag, full) BoundingCaps x has = full.bounding x has
   to (ids, flag, full) NewPrivs x has = flag x has
   to (ids, flag, full) RootCounts x has = rw has full.root_counts
   to (ids, flag, full) LockClear x has = rw has full.lock_clear
+  to (ids, flag, full) _ x none = absurd none
 
   back : HoldsAll row (Brings from) → IdsHeld from row × ((x : ℕ) → from NewPrivs x → row NewPrivs x) × FullHeld row
   back all = (
@@ -68,9 +64,6 @@ module _ (spaces : Spaces) (bounds : Row → Part → ℕ → Type 0) (row : Par
       λ a m up. all a m ((next_step spaces a n p m is parent).0 (inr up)),
     )
 
-  pub joins_end : (n : ℕ) → chain spaces n ≡ n ∷ chain_from spaces None → (space_of spaces n).parent ≡ None → JoinsHeld spaces bounds row n
-  joins_end n is parent a m next = absurd (next_end spaces a n m is parent next)
-
 -- what comes by joining is what comes from the parent, and what comes to the parent
 module _ (spaces : Spaces) (bounds : Row → Part → ℕ → Type 0) where
   pub joining_step : (n p : ℕ) → chain spaces n ≡ n ∷ chain_from spaces (Some p) → (space_of spaces n).parent ≡ Some p
@@ -86,10 +79,6 @@ module _ (spaces : Spaces) (bounds : Row → Part → ℕ → Type 0) where
       | inr up ↦ inr (a, m, up, can, brings)
     ]
 
-  pub joining_end : (n : ℕ) → chain spaces n ≡ n ∷ chain_from spaces None → (space_of spaces n).parent ≡ None
-      → (part : Part) (x : ℕ) → ByJoiningTo spaces bounds n part x → ⊥
-  joining_end n is parent part x (a, m, next, can, brings) = next_end spaces a n m is parent next
-
 -- a row holds what comes by joining where it holds what comes by each that can join
 pub joining_held : (spaces : Spaces) (bounds : Row → Part → ℕ → Type 0) (row : Part → ℕ → Type 0) (n : ℕ)
     → JoinsHeld spaces bounds row n ↔ HoldsAll row (ByJoining spaces bounds n)
@@ -99,21 +88,3 @@ joining_held spaces bounds row n = (to, from) where
 
   from : HoldsAll row (ByJoining spaces bounds n) → JoinsHeld spaces bounds row n
   from all a m next can part x brings = all part x (a, (m, next, can.0, can.1), brings)
-
--- ---- the owner of the next space
-module _ (spaces : Spaces) (row : Part → ℕ → Type 0) (a : ℕ) where
-  pub met_step : (n p : ℕ) → chain spaces n ≡ n ∷ chain_from spaces (Some p) → (space_of spaces n).parent ≡ Some p
-      → (((p ≡ a) × row EffectiveUids (space_of spaces n).owner) ⊎ NextMet spaces row a p) ↔ NextMet spaces row a n
-  met_step n p is parent = (to, from) where
-    to : ((p ≡ a) × row EffectiveUids (space_of spaces n).owner) ⊎ NextMet spaces row a p → NextMet spaces row a n
-    to (inl (at, owner)) = (n, (next_step spaces a n p n is parent).0 (inl (refl, at)), owner)
-    to (inr (m, up, owner)) = (m, (next_step spaces a n p m is parent).0 (inr up), owner)
-
-    from : NextMet spaces row a n → ((p ≡ a) × row EffectiveUids (space_of spaces n).owner) ⊎ NextMet spaces row a p
-    from (m, next, owner) = elim ((next_step spaces a n p m is parent).1 next) [
-      | inl (same, at) ↦ inl (at, rw same at owner)
-      | inr up ↦ inr (m, up, owner)
-    ]
-
-  pub met_end : (n : ℕ) → chain spaces n ≡ n ∷ chain_from spaces None → (space_of spaces n).parent ≡ None → NextMet spaces row a n → ⊥
-  met_end n is parent (m, next, owner) = next_end spaces a n m is parent next

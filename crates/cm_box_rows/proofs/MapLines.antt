@@ -4,14 +4,8 @@ use Rattle.std.specs.Prelude.{◌↔◌, IsTrue}
 use Rattle.std.proofs.lemmas.Bool.{or_cases, or_right}
 use Rattle.model_cred.specs.IdMap.{Extent, is_outside, lies_in}
 use Rattle.cm_box_rows.specs.Members.{MapHeld}
-use Rattle.cm_box_rows.proofs.OutsideIds.{outside_taken, outside_kept, Outside}
+use Rattle.cm_box_rows.proofs.OutsideIds.{outside_taken, outside_kept}
 use Rattle.cm_box_rows.proofs.Tests.{no}
-
--- an id of a line is an outside id of the map
-line_is_outside : (map : List Extent) (k : ℕ) (e : Extent) → k < length map → e ≡ get_or map k e → (x : ℕ)
-    → IsTrue (lies_in e.outside e.length x) → Outside (take (k + 1) map) x
-line_is_outside map k e low is x lies =
-    outside_taken map k e low is x ∙ or_right (is_outside (take k map) x) (lies_in e.outside e.length x) lies
 
 module _ (Set : ℕ → Type 0) (map : List Extent) (k : ℕ) where
   pub lines_more : (e : Extent) → k < length map → e ≡ get_or map k e → MapHeld (take k map) Set
@@ -27,4 +21,5 @@ module _ (Set : ℕ → Type 0) (map : List Extent) (k : ℕ) where
       → ¬ ((x : ℕ) → IsTrue (lies_in e.outside e.length x) → Set x)
       → IsTrue false ↔ MapHeld map Set
   lines_out e low is out = no (MapHeld map Set)
-      (λ all. out (λ x lies. all x (outside_kept map (k + 1) x (line_is_outside map k e low is x lies))))
+      (λ all. out (λ x lies. all x (outside_kept map (k + 1) x
+      (outside_taken map k e low is x ∙ or_right (is_outside (take k map) x) (lies_in e.outside e.length x) lies))))

@@ -4,10 +4,8 @@ use Rattle.std.specs.Prelude.{IsTrue}
 use Rattle.std.specs.List.{list_any}
 use Rattle.std.proofs.lemmas.Bool.{or_cases, eqb-true}
 use Rattle.model_cred.specs.Credential.{Credential, FourIds, is_one_of_three}
-use Rattle.model_box.specs.Row.{Part, Uids, EffectiveUids, FsUids, Gids, EffectiveGids, FsGids, Groups, MappedUids}
-use Rattle.model_box.specs.Row.{MappedGids, PermittedCaps, InheritableCaps, BoundingCaps, NewPrivs, RootCounts}
-use Rattle.model_box.specs.Row.{LockClear}
-use Rattle.model_box.specs.Row.{CredHas}
+use Rattle.model_box.specs.Row.{Part, Uids, EffectiveUids, FsUids, Gids, EffectiveGids, FsGids, Groups, PermittedCaps}
+use Rattle.model_box.specs.Row.{InheritableCaps, BoundingCaps, NewPrivs, RootCounts, LockClear, CredHas}
 use Rattle.model_box.proofs.Ids.{is_real, is_effective, is_saved}
 use Rattle.cm_box_rows.specs.Members.{FourHeld, SetsHeld, FlagsHeld}
 use Rattle.cm_box_rows.specs.Rows.{HoldsAll}
@@ -45,14 +43,13 @@ module _ (row : Part → ℕ → Type 0) (c : Credential) where
   all_of_parts held EffectiveGids x has = rw has held.gid.effective
   all_of_parts held FsGids x has = rw has held.gid.fs
   all_of_parts held Groups x has = held.groups x has
-  all_of_parts held MappedUids x none = absurd none
-  all_of_parts held MappedGids x none = absurd none
   all_of_parts held PermittedCaps x has = held.sets.permitted x has
   all_of_parts held InheritableCaps x has = held.sets.inheritable x has
   all_of_parts held BoundingCaps x has = held.sets.bounding x has
   all_of_parts held NewPrivs x has = rw has.0 (held.flags.new_privs has.1)
   all_of_parts held RootCounts x has = rw has.0 (held.flags.root has.1)
   all_of_parts held LockClear x has = rw has.0 (held.flags.lock has.1)
+  all_of_parts held _ x none = absurd none
 
   pub parts_of_all : HoldsAll row (CredHas c) → Parts
   parts_of_all all = record {

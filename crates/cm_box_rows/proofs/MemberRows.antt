@@ -1,16 +1,13 @@
 -- A row with one member more, from the first member to the last.
-use Rattle.std.proofs.Common.{◌≡◌, ℕ, ◌+◌, ◌<◌, ◌≤◌, ◌==◌, ◌||◌, Bool}
-use Rattle.std.proofs.Common.{List, Some, length, get_or, take, refl, sym, ap, subst, ◌∙◌}
-use Rattle.std.proofs.Common.{inl, inr}
-use Rattle.std.specs.Prelude.{◌↔◌, IsTrue, slice_get}
+use Rattle.std.proofs.Common.{◌≡◌, ℕ, ◌+◌, ◌<◌, ◌≤◌, ◌==◌, ◌||◌, Bool, List, Some, length, get_or, take, refl, sym, ap}
+use Rattle.std.proofs.Common.{subst, ◌∙◌, inl, inr}
+use Rattle.std.specs.Prelude.{◌↔◌, IsTrue}
 use Rattle.std.proofs.lemmas.Bool.{or_cases, or_left, or_right, eqb-true, eq-eqb}
 use Rattle.std.proofs.lemmas.List.{take_all}
 use Rattle.std.proofs.lemmas.List.Folds.{list_any_more}
-use Rattle.std.proofs.lemmas.Option.{slice_get_read}
 use Rattle.model_cred.specs.Process.{Process, State, process_at}
 use Rattle.model_run.specs.Later.{is_member}
-use Rattle.model_box.specs.Row.{Part}
-use Rattle.model_box.specs.Row.{CredHas, Standing}
+use Rattle.model_box.specs.Row.{Part, CredHas, Standing}
 use Rattle.model_box.specs.Start.{StartHas}
 use Rattle.cm_box_rows.specs.Members.{MemberGives, MemberHeld}
 use Rattle.cm_box_rows.specs.Rows.{HoldsAll, AreSameRows, InEitherRow}
@@ -30,15 +27,6 @@ row_joined both row more Gives joined same part x = (
   λ held. elim ((joined part x).0 held) [ inl a ↦ inl a | inr b ↦ inr ((same part x).0 b) ],
   λ either. (joined part x).1 (elim either [ inl a ↦ inl a | inr b ↦ inr ((same part x).1 b) ]),
 )
-
--- the process at a place where its pid was found
-pub found_at : (s : State) (processes list : List Process) (at pid : ℕ) (q : Process) → list ≡ processes
-    → processes ≡ s.processes → at < length processes
-    → slice_get processes at ≡ process_at processes pid → q ≡ get_or list at q → process_at s.processes pid ≡ Some q
-found_at s processes list at pid q same is low found there =
-    let here : q ≡ get_or processes at q = subst (λ (l : List Process). q ≡ get_or l at q) same there in
-    subst (λ (l : List Process). process_at l pid ≡ Some q) is (sym found ∙ slice_get_read processes (length processes)
-    at q refl low here)
 
 -- the test of its credentials is the test of the member
 pub member_told : (s : State) (n pid : ℕ) (row : Part → ℕ → Type 0) (q p : Process) (b : Bool)

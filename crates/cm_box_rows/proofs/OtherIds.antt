@@ -1,9 +1,8 @@
 -- What members of a row can do with one file.
-use Rattle.std.proofs.Common.{◌≡◌, ℕ, ◌≤◌, ◌<◌, ◌+◌, ◌==◌, ◌&&◌, true, false, not, List, [], ◌∷◌, Some, sym}
-use Rattle.std.proofs.Common.{ap, ◌∙◌, inl, inr, arith, leb, drop, get_or, length, subst}
+use Rattle.std.proofs.Common.{◌≡◌, ℕ, ◌≤◌, ◌<◌, ◌+◌, ◌==◌, ◌&&◌, false, not, List, [], ◌∷◌, Some, sym}
+use Rattle.std.proofs.Common.{ap, inl, inr, arith, leb, drop, get_or, length, subst}
 use Rattle.std.specs.Prelude.{◌↔◌}
-use Rattle.std.proofs.lemmas.Bool.{cases_Bool, false≢true, and_from, and_parts, or_cases, or_left, or_right}
-use Rattle.std.proofs.lemmas.Bool.{eqb-true, eq-eqb, le-leb, leb-true}
+use Rattle.std.proofs.lemmas.Bool.{cases_Bool, false≢true, and_from, or_left, le-leb}
 use Rattle.std.proofs.lemmas.List.{drop_all}
 use Rattle.model_cred.specs.Intervals.{Interval, IsCanonical, is_between, ids_hold}
 use Rattle.cm_idset.proofs.Elements.{of_ids_at}
@@ -31,27 +30,6 @@ other_here i rest id full other = elim (cases_Bool (i.first == id)) [
       let last : (i.last == id) ≡ false = rw same at other in
       (i.last, holds_last i rest full, ap not last)
 ]
-
--- where it is just the id, another one is in the rest
-pub other_later : (i : Interval) (rest : List Interval) (id : ℕ) → (i.first == id && i.last == id) ≡ true
-    → HasOther (Held rest) (Some id) ↔ HasOther (Held (i ∷ rest)) (Some id)
-other_later i rest id just = (to, from) where
-  to : HasOther (Held rest) (Some id) → HasOther (Held (i ∷ rest)) (Some id)
-  to (x, held, other) = (x, or_right (is_between i x) (ids_hold rest x) held, other)
-
-  from : HasOther (Held (i ∷ rest)) (Some id) → HasOther (Held rest) (Some id)
-  from (x, held, other) = elim (or_cases (is_between i x) (ids_hold rest x) held) [
-    | inr later ↦ (x, later, other)
-    | inl here ↦
-        let ends = and_parts (i.first == id) (i.last == id) just in
-        let first : i.first ≡ id = eqb-true i.first id ends.0 in
-        let last : i.last ≡ id = eqb-true i.last id ends.1 in
-        let between = and_parts (leb i.first x) (leb x i.last) here in
-        let low : i.first ≤ x = leb-true i.first x between.0 in
-        let high : x ≤ i.last = leb-true x i.last between.1 in
-        let same : (x == id) ≡ true = eq-eqb x id (omega (arith, first, last, low, high)) in
-        absurd (false≢true (sym (ap not same) ∙ other))
-  ]
 
 -- a set of none has no other one
 pub no_other : (id : ℕ) → HasOther (Held []) (Some id) → ⊥

@@ -10,7 +10,8 @@ use Rattle.model_box.specs.Row.{Part, NewPrivs, Row, Standing}
 use Rattle.model_box.specs.Spread.{Brings}
 use Rattle.cm_box_rows.specs.Rows.{HoldsAll, RowHolds, AreSameRows, InEitherRow}
 use Rattle.cm_box_rows.specs.Spread.{IdsHeld, FullHeld, CanJoinBy, JoinsHeld, JoinedBy, ByJoiningTo}
-use Rattle.cm_box_rows.proofs.Joining.{brings_held, joins_step, joins_end, joining_step, joining_end}
+use Rattle.cm_box_rows.proofs.Chains.{next_end}
+use Rattle.cm_box_rows.proofs.Joining.{brings_held, joins_step, joining_step}
 use Rattle.cm_box_rows.proofs.Tests.{no, yes}
 
 -- what a test told
@@ -118,10 +119,11 @@ module _ (spaces : Spaces) (bounds : Row → Part → ℕ → Type 0) (n at : �
     (parent : (space_of spaces at).parent ≡ None) where
   pub joins_all : (row : Part → ℕ → Type 0) → JoinsHeld spaces bounds row at ↔ JoinsHeld spaces bounds row n
       → IsTrue true ↔ JoinsHeld spaces bounds row n
-  joins_all row same = yes (JoinsHeld spaces bounds row n) (same.0 (joins_end spaces bounds row at is parent))
+  joins_all row same =
+      yes (JoinsHeld spaces bounds row n) (same.0 (λ a m next. absurd (next_end spaces a at m is parent next)))
 
   pub joined_all : (old Goal : Part → ℕ → Type 0) → AreSameRows (InEitherRow old (ByJoiningTo spaces bounds at)) Goal
       → AreSameRows old Goal
   joined_all old Goal same part x = (λ held. (same part x).0 (inl held), from) where
     from : Goal part x → old part x
-    from has = elim ((same part x).1 has) [ inl was ↦ was | inr here ↦ absurd (joining_end spaces bounds at is parent part x here) ]
+    from has = elim ((same part x).1 has) [ inl was ↦ was | inr here ↦ absurd (next_end spaces here.0 at here.1 is parent here.2) ]

@@ -16,10 +16,8 @@ use Rattle.serde_json.specs.declared.value.Value.{Value}
 -- ---- one interval
 
 pub not_two : (vs : List Value) → (length vs ≡ 2 → ⊥) → None ≡ two_ends (items_view vs)
-not_two [] other = refl
-not_two (a ∷ []) other = refl
 not_two (a ∷ b ∷ []) other = absurd (other refl)
-not_two (a ∷ b ∷ c ∷ vs) other = refl
+not_two _ other = refl
 
 -- ---- several
 

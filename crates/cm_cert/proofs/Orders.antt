@@ -1,5 +1,5 @@
 -- A row whose sets are known to ascend, three by three.
-use Rattle.std.proofs.Common.{◌≡◌, ◌&&◌, List, Bool, true, false, Option, Some, None}
+use Rattle.std.proofs.Common.{◌≡◌, ◌&&◌, List, Bool, true, Option, Some, None}
 use Rattle.std.specs.Prelude.{if◌then◌else◌}
 use Rattle.model_box.specs.Bounds.{BoxRow}
 use Rattle.model_cert.specs.Row.{three_ascend, sets_ascend}
@@ -36,9 +36,7 @@ all_kept : (p q r : Bool) (make : Three → Three → Three → BoxRow) (a a' b 
     → Some a ≡ kept_if p a' → Some b ≡ kept_if q b' → Some c ≡ kept_if r c'
     → Some (make a b c) ≡ kept_if (p && q && r) (make a' b' c')
 all_kept true true true make a a' b b' c c' x y z = cc
-all_kept true true false make a a' b b' c c' x y z = cc
-all_kept true false r make a a' b b' c c' x y z = cc
-all_kept false q r make a a' b b' c c' x y z = cc
+all_kept _ _ _ make a a' b b' c c' x y z = cc
 
 -- the three sets, if they ascend
 abbrev three_kept : Three → Option Three

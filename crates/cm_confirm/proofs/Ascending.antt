@@ -5,6 +5,7 @@ use Rattle.std.specs.List.{All, insert, remove}
 use Rattle.std.specs.List.Sorted.{IsBinarySearchResult}
 use Rattle.std.specs.Result.{is_ok, MatchResult}
 use mathlib.Core.Logic.{∥∥₁_elim}
+use Rattle.std.proofs.Math.Bool.{or-true}
 use Rattle.std.proofs.Math.Bridge.{le_prop}
 use Rattle.std.proofs.lemmas.Bool.{cases_Bool, cases_lt, cond-true, cond-false, eqb-true, eq-eqb, ne_eqb}
 use Rattle.std.proofs.lemmas.List.Elements.{All-append, All-cons, All-head, All-nil, All-tail, All-drop, All-take, All-from_get_or, All-get_or}
@@ -47,11 +48,7 @@ member_at : (pids : List ℕ) (i : ℕ) → i < length pids → is_member pids (
 member_at [] i within = absurd (omega (arith, within))
 member_at (pid ∷ pids) zero within = ap (λ (b : Bool). b || is_member pids pid) (eq-eqb pid pid refl)
 member_at (pid ∷ pids) (suc i) within =
-    ap (λ (b : Bool). (pid == get_or pids i 0) || b) (member_at pids i (omega (arith, within))) ∙ or_true (pid == get_or pids i 0)
-  where
-    or_true : (b : Bool) → (b || true) ≡ true
-    or_true true = refl
-    or_true false = refl
+    ap (λ (b : Bool). (pid == get_or pids i 0) || b) (member_at pids i (omega (arith, within))) ∙ or-true (pid == get_or pids i 0)
 
 -- who is none of them isn't
 pub no_member : (pids : List ℕ) (pid : ℕ) → All (λ n. n ≢ pid) pids → is_member pids pid ≡ false
@@ -114,9 +111,6 @@ other_than pid member = not (member == pid)
 is_other : (pid n : ℕ) → n ≢ pid → other_than pid n ≡ true
 is_other pid n apart = ap not (ne_eqb n pid apart)
 
-is_itself : (pid : ℕ) → other_than pid pid ≡ false
-is_itself pid = ap not (eq-eqb pid pid refl)
-
 -- who is none of them doesn't go
 pub none_leaves : (pids : List ℕ) (pid : ℕ) → All (λ n. n ≢ pid) pids → filter (other_than pid) pids ≡ pids
 none_leaves [] pid others = refl
@@ -131,7 +125,7 @@ left_is (p ∷ pids) zero pid up within there =
     let later : All (λ n. n ≢ pid) pids
     = All-from_get_or (λ n. n ≢ pid) pids 0 (λ k in_it same. absurd (omega (arith, same, there, All-get_or (λ n. p < n) pids k 0 in_it up.0))) in
     sym (cond-false (other_than pid p) (p ∷ filter (other_than pid) pids) (filter (other_than pid) pids)
-    (ap (other_than pid) there ∙ is_itself pid) ∙ none_leaves pids pid later)
+    (ap (other_than pid) there ∙ ap not (eq-eqb pid pid refl)) ∙ none_leaves pids pid later)
 left_is (p ∷ pids) (suc i) pid up within there =
     let above : p < get_or pids i 0 = All-get_or (λ n. p < n) pids i 0 (omega (arith, within)) up.0 in
     ap (λ (ps : List ℕ). p ∷ ps) (left_is pids i pid up.1 (omega (arith, within)) there)

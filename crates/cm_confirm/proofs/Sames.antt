@@ -51,16 +51,12 @@ left_members (p ∷ pids) pid other =
 
 with_same : (one other : List ℕ) (res : Res) → SameMembers one other → SameMembers (members_with one res) (members_with other res)
 with_same one other (Child pid) same q = ap (λ (b : Bool). (pid == q) || b) (same q)
-with_same one other Done same q = same q
-with_same one other (Id n) same q = same q
-with_same one other (Err e) same q = same q
+with_same one other _ same q = same q
 
 without_same : (one other : List ℕ) (pid : ℕ) (res : Res) → SameMembers one other → SameMembers (members_without one pid res) (members_without other pid res)
 without_same one other pid Done same q =
     left_members one pid q ∙ ap (λ (b : Bool). other_than pid q && b) (same q) ∙ sym (left_members other pid q)
-without_same one other pid (Child n) same q = same q
-without_same one other pid (Id n) same q = same q
-without_same one other pid (Err e) same q = same q
+without_same one other pid _ same q = same q
 
 pub after_same : (one other : List ℕ) (pid : ℕ) (call : Call) (res : Res) → SameMembers one other
     → SameMembers (members_after one pid call res) (members_after other pid call res)

@@ -50,5 +50,4 @@ only_memory s pid call error.NoProcess is dead unnamed lives named =
     absurd (let never : true ≡ false = sym lives ∙ ap is_some (dead refl) in cc)
 only_memory s pid call error.NoSpace is dead unnamed lives named = absurd (let never : true ≡ false = sym (unnamed refl).1 ∙ named in cc)
 only_memory s pid call error.NoMemory is dead unnamed lives named = refl
-only_memory s pid call error.PidInUse is dead unnamed lives named = absurd is
-only_memory s pid call (error.Wrong given) is dead unnamed lives named = absurd is
+only_memory s pid call _ is dead unnamed lives named = absurd is

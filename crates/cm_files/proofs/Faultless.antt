@@ -56,19 +56,15 @@ fault_more mounts rows n fault within none is =
 -- the row of a number among the first is that of all
 get_taken : (rows : List FileRow) (k n : ℕ) (row : FileRow) → slice_get (take k rows) n ≡ Some row → slice_get rows n ≡ Some row
 get_taken [] zero n row is = absurd (cc)
-get_taken [] (suc k) n row is = absurd (cc)
-get_taken (other ∷ rows) zero n row is = absurd (cc)
 get_taken (other ∷ rows) (suc k) zero row is = is
 get_taken (other ∷ rows) (suc k) (suc n) row is = get_taken rows k n row is
+get_taken _ _ n row is = absurd (cc)
 
 module _ (mounts : ℕ) (rows : List FileRow) (none : first_fault mounts [] rows ≡ None) where
   at_place : (k : ℕ) (d : FileRow) → k < length rows → IsFine mounts (take k rows) (get_or rows k d)
   at_place k d within =
       subst (IsFine mounts (take k rows)) (get_or_default rows k no_row d within)
       (fine mounts (take k rows) (get_or rows k no_row) (each_fine mounts [] rows none k within))
-
-  pub all_mounted : All (λ row. row.mount < mounts) rows
-  all_mounted k d within = ltb-true _ mounts (at_place k d within).mount
 
   program : (k n : ℕ) (o : Option FileRow) → slice_get (take k rows) n ≡ o → is_program o ≡ true → IsProgram rows n
   program k n None is wrong = absurd (false≢true wrong)
@@ -77,9 +73,6 @@ module _ (mounts : ℕ) (rows : List FileRow) (none : first_fault mounts [] rows
   interpreter : (k : ℕ) (o : Option ℕ) → fits_interpreter (take k rows) o ≡ true → IfSome o (IsProgram rows)
   interpreter k None is = tt
   interpreter k (Some n) is = program k n (slice_get (take k rows) n) refl is
-
-  pub all_interpreters : All (λ row. IfSome row.interpreter (IsProgram rows)) rows
-  all_interpreters k d within = interpreter k _ (at_place k d within).interpreter
 
   pub paths_differ : PathsDiffer rows
   paths_differ i j d less within same =
@@ -98,8 +91,9 @@ keeps_table mounts rows order keys views all_mounts all_rows few none index keye
   keeps = record {
     mounts = all_mounts;
     rows = all_rows;
-    mounted = all_mounted (length mounts) rows none;
-    interpreters = all_interpreters (length mounts) rows none;
+    mounted = λ k d within. ltb-true _ (length mounts) (at_place (length mounts) rows none k d within).mount;
+    interpreters = λ k d within.
+        interpreter (length mounts) rows none k _ (at_place (length mounts) rows none k d within).interpreter;
   };
   few = few;
   paths_differ = paths_differ (length mounts) rows none;

@@ -1,7 +1,6 @@
 -- What an index of rows finds, and an index with one row more.
 use Rattle.std.proofs.Common.{◌≡◌, ◌≢◌, ℕ, ◌+◌, ◌<◌, ◌≤◌, ◌==◌, ◌||◌, Bool, true, false, length, take, drop}
-use Rattle.std.proofs.Common.{◌-◌, ◌∷◌, ◌++◌, List, length-append, Some, None, refl, sym, ap, subst, ◌∙◌, inl, inr, arith, get_or}
-use Rattle.std.proofs.Math.ListN.{get_or-append}
+use Rattle.std.proofs.Common.{◌-◌, ◌∷◌, List, Some, None, sym, ap, subst, ◌∙◌, inl, inr, arith, get_or}
 use Rattle.std.specs.Prelude.{IsTrue, bytes_eq, slice_index, nat_lt}
 use Rattle.std.specs.List.{insert, list_any, position_or_len}
 use Rattle.std.proofs.lemmas.Bool.{cases_Bool, cases_eq, cases_order, cond-true, cond-false, eqb-true, eq-eqb}
@@ -11,9 +10,10 @@ use Rattle.std.proofs.lemmas.List.Edits.{length-insert, get_or-insert_below, get
 use Rattle.std.proofs.lemmas.List.Folds.{Any-from_list_any, list_any-append, list_any_at, list_any_none}
 use Rattle.std.proofs.lemmas.List.Sums.{position_or_len_is}
 use Rattle.std.proofs.lemmas.Grind.{get_or_default_zero}
+use Rattle.std.proofs.Math.Bool.{or_assoc, or_comm}
 use Rattle.cm_base.proofs.Texts.{text_other}
 use Rattle.cm_files.specs.Fault.{has_path}
-use Rattle.cm_files.specs.Index.{Ascend, HasKeys, IsIndex, IsPlace, is_before, no_row, path_at, path_key}
+use Rattle.cm_files.specs.Index.{Ascend, IsIndex, IsPlace, is_before, no_row, path_at}
 use Rattle.cm_files.proofs.Paths.{before_itself, before_through, before_other, equal_path}
 use Rattle.model_cred.specs.Files.{FileRow, row_named}
 
@@ -143,53 +143,18 @@ absent_path rows count order path at index place apart =
     ∙ text_other _ path (none_has rows count order path at index place apart k low)))
 
 -- ---- one row more
-or_middle : (a b c : Bool) → (a || (b || c)) ≡ ((a || c) || b)
-or_middle true b c = refl
-or_middle false true true = refl
-or_middle false true false = refl
-or_middle false false true = refl
-or_middle false false false = refl
-
 -- the numbers with one more put in are those before and this one
 any_inserted : (order : List ℕ) (at n m : ℕ) → at ≤ length order → list_any (λ x. x == m) (insert order at n) ≡ (list_any (λ x. x == m) order || (n == m))
 any_inserted order at n m within =
     let p : ℕ → Bool = λ x. x == m in
     list_any-append p (take at order) (n ∷ drop at order)
-    ∙ or_middle (list_any p (take at order)) (n == m) (list_any p (drop at order))
+    ∙ ap (λ b. list_any p (take at order) || b) (or_comm (n == m) (list_any p (drop at order)))
+    ∙ sym (or_assoc (list_any p (take at order)) (list_any p (drop at order)) (n == m))
     ∙ ap (λ b. b || (n == m)) (sym (list_any-append p (take at order) (drop at order)) ∙ ap (list_any p) (take-append-drop at order))
 
 -- what holds of two paths holds of those that equal them
 alike : {a b c d : List ℕ} → a ≡ c → b ≡ d → IsTrue (is_before c d) → IsTrue (is_before a b)
 alike {a} {b} {c} {d} first second less = subst (λ p. IsTrue (is_before p b)) (sym first) (subst (λ p. IsTrue (is_before c p)) (sym second) less)
-
--- the path at a place of an index of the first rows, where more come after them
-path_longer : (rows more : List FileRow) (count : ℕ) (order : List ℕ) → IsIndex rows count order
-    → (i : ℕ) → i < length order → path_at (rows ++ more) order i ≡ path_at rows order i
-path_longer rows more count order index i within =
-    ap (λ (r : FileRow). r.path)
-    (get_or-append rows more no_row (slice_index order i) (omega (arith, index.first i within, index.counted)))
-
--- its keys
-pub keys_longer : (rows more : List FileRow) (count : ℕ) (order keys : List ℕ) → IsIndex rows count order → HasKeys rows order keys
-    → HasKeys (rows ++ more) order keys
-keys_longer rows more count order keys index have = record {
-  counted = have.counted;
-  each = λ i within. have.each i within ∙ ap path_key (sym (path_longer rows more count order index i within));
-}
-
--- the index of the first rows, where more come after them
-pub index_longer : (rows more : List FileRow) (count : ℕ) (order : List ℕ) → IsIndex rows count order → IsIndex (rows ++ more) count order
-index_longer rows more count order index = record {
-  ascend = record {
-    numbers = λ i within. omega (arith, length-append rows more, index.first i within, index.counted);
-    paths = λ i j less within.
-        alike (path_longer rows more count order index i (omega arith)) (path_longer rows more count order index j within)
-        (index.ascend.paths i j less within);
-  };
-  counted = omega (arith, length-append rows more, index.counted);
-  first = index.first;
-  whole = index.whole;
-}
 
 module _ (rows : List FileRow) (n : ℕ) (order path : List ℕ) (at : ℕ) (index : IsIndex rows n order) (place : IsPlace rows order path at)
     (apart : at < length order → path_at rows order at ≢ path) (there : n < length rows) (is : (get_or rows n no_row).path ≡ path) where
@@ -271,35 +236,6 @@ module _ (rows : List FileRow) (n : ℕ) (order path : List ℕ) (at : ℕ) (ind
           | inl same ↦ or_right (list_any (λ x. x == m) order) (n == m) (eq-eqb n m same)
           | inr other ↦ or_left (list_any (λ x. x == m) order) (n == m) (index.whole m (omega arith))
         ]
-
--- the keys, where a row and its path's key come to one place
-pub keys_more : (rows : List FileRow) (order keys : List ℕ) (n key at : ℕ) → HasKeys rows order keys → at ≤ length order
-    → key ≡ path_key (get_or rows n no_row).path → HasKeys rows (insert order at n) (insert keys at key)
-keys_more rows order keys n key at have within is = record { counted = long; each = each } where
-  low : at ≤ length keys
-  low = omega (arith, have.counted)
-
-  long : length (insert keys at key) ≡ length (insert order at n)
-  long = omega (arith, length-insert keys at key low, length-insert order at n within, have.counted)
-
-  of : ℕ → ℕ
-  of m = path_key (get_or rows m no_row).path
-
-  each : (i : ℕ) → i < length (insert order at n) → slice_index (insert keys at key) i ≡ of (slice_index (insert order at n) i)
-  each i less =
-      elim (cases_order i at) [
-        | inl same ↦
-            subst (λ k. slice_index (insert keys at key) k ≡ of (slice_index (insert order at n) k)) (sym same)
-            (get_or-insert_at keys at key 0 low ∙ is ∙ sym (ap of (get_or-insert_at order at n 0 within)))
-        | inr (inl before) ↦
-            get_or-insert_below keys at key 0 i before low ∙ have.each i (omega arith) ∙ sym (ap of (get_or-insert_below order at n 0 i before within))
-        | inr (inr after) ↦
-            let back : i - 1 + 1 ≡ i = omega arith in
-            subst (λ k. slice_index (insert keys at key) k ≡ of (slice_index (insert order at n) k)) back
-            (get_or-insert_above keys at key 0 (i - 1) (omega arith) low
-            ∙ have.each (i - 1) (omega (arith, length-insert order at n within))
-            ∙ sym (ap of (get_or-insert_above order at n 0 (i - 1) (omega arith) within)))
-      ]
 
 -- the path of a row that was read is that of the row of that number
 pub path_read : (rows : List FileRow) (n : ℕ) (path : List ℕ) (row : FileRow) → n < length rows → path ≡ row.path → row ≡ get_or rows n row

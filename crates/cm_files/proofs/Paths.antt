@@ -1,30 +1,24 @@
 -- The order of paths, by their keys and then byte by byte: none comes before itself, and of two that differ one comes
 -- before the other.
 use Rattle.std.proofs.Common.{◌≡◌, ◌≢◌, ℕ, true, false, List, refl, sym, ap, ◌∙◌}
-use Rattle.std.specs.Prelude.{IsTrue, bytes_eq, nat_lt}
+use Rattle.std.specs.Prelude.{IsTrue, bytes_eq}
 use Rattle.std.specs.Cmp.Lexicographic.{slice_cmp}
-use Rattle.std.specs.Ordering.{is_lt, is_eq, nat_cmp, ordering_reverse, ordering_then}
+use Rattle.std.specs.Ordering.{is_lt, is_eq, nat_cmp, ordering_reverse}
 use Rattle.std.specs.declared.cmp.Ordering.{Ordering}
 use Rattle.std.specs.declared.cmp.Ordering.TheVariants.{Less, Equal, Greater}
-use Rattle.std.proofs.Common.{arith}
 use Rattle.std.proofs.lemmas.Bool.{false≢true}
-use Rattle.std.proofs.lemmas.Bool.Decides.{nat_tests}
-use Rattle.std.proofs.lemmas.Cmp.{nat_cmp_total, nat_list_cmp_total, tied_itself}
+use Rattle.std.proofs.lemmas.Cmp.{nat_list_cmp_total, tied_itself}
 use Rattle.std.proofs.lemmas.Map.Text.{is_eq-slice_cmp}
 use Rattle.std.proofs.lemmas.Slice.Eq.{bytes_eq-Decides}
 use Rattle.cm_base.proofs.Texts.{text_other}
-use Rattle.cm_files.specs.Index.{is_before, keyed, path_key}
-
-pub same_path : (path other : List ℕ) → bytes_eq path other ≡ true → path ≡ other
-same_path path other is = (bytes_eq-Decides path other).0 is
+use Rattle.cm_files.specs.Index.{is_before, keyed}
 
 pub equal_path : (path other : List ℕ) → path ≡ other → bytes_eq path other ≡ true
 equal_path path other is = (bytes_eq-Decides path other).1 is
 
 less_is : (o : Ordering) → is_lt o ≡ true → o ≡ Less
 less_is Less is = refl
-less_is Equal wrong = absurd (false≢true wrong)
-less_is Greater wrong = absurd (false≢true wrong)
+less_is _ wrong = absurd (false≢true wrong)
 
 turned : (o p : Ordering) → p ≡ ordering_reverse o → is_lt o ≡ false → is_eq o ≡ false → is_lt p ≡ true
 turned Less p back less equal = absurd (false≢true (sym less))
@@ -43,17 +37,3 @@ before_other a b less apart =
     let differ : keyed a ≢ keyed b = λ same. apart (cc) in
     turned (slice_cmp nat_cmp (keyed a) (keyed b)) (slice_cmp nat_cmp (keyed b) (keyed a)) (nat_list_cmp_total.antisymm (keyed b) (keyed a)) less
     (is_eq-slice_cmp (keyed a) (keyed b) ∙ text_other (keyed a) (keyed b) differ)
-
--- of two paths with one key the bytes decide
-pub before_alike : (a b : List ℕ) → path_key a ≡ path_key b → is_lt (slice_cmp nat_cmp a b) ≡ is_before a b
-before_alike a b same =
-    let tied : nat_cmp (path_key a) (path_key b) ≡ Equal = ap (nat_cmp (path_key a)) (sym same) ∙ tied_itself nat_cmp_total (path_key a) in
-    sym (ap (λ o. is_lt (ordering_then o (slice_cmp nat_cmp a b))) tied)
-
--- of two numbers that differ the order of what follows them doesn't matter
-pub then_less : (k j : ℕ) (o : Ordering) → k ≢ j → nat_lt k j ≡ is_lt (ordering_then (nat_cmp k j) o)
-then_less k j o apart = grind (arith, nat_tests)
-
--- of two paths with different keys these decide
-pub before_apart : (a b : List ℕ) → path_key a ≢ path_key b → nat_lt (path_key a) (path_key b) ≡ is_before a b
-before_apart a b apart = then_less (path_key a) (path_key b) (slice_cmp nat_cmp a b) apart

@@ -26,14 +26,12 @@ extent_fits i e is =
 has_some : (n : ℕ) → (n == 0) ≡ false → 0 < n
 has_some n is = grind (arith, nat_tests, is)
 
-extent_some : (i : ℕ) (e : Extent) → extent_fault i e ≡ None → 0 < e.length
-extent_some i e is = has_some e.length (not_some (e.length == 0) (ZeroLength i) _ is).0
-
 pub all_some : (i : ℕ) (list : List Extent) → first_extent_fault i list ≡ None → All (λ (e : Extent). 0 < e.length) list
 all_some i [] is = λ k d below. absurd (omega (arith, below))
 all_some i (e ∷ list) is =
     let parts : (extent_fault i e ≡ None) × (first_extent_fault (i + 1) list ≡ None) = both_none _ _ is in
-    All-cons (λ (f : Extent). 0 < f.length) e list (extent_some i e parts.0) (all_some (i + 1) list parts.1)
+    let some = (not_some (e.length == 0) (ZeroLength i) _ parts.0).0 in
+    All-cons (λ (f : Extent). 0 < f.length) e list (has_some e.length some) (all_some (i + 1) list parts.1)
 
 all_fit : (i : ℕ) (list : List Extent) → first_extent_fault i list ≡ None → All Fits list
 all_fit i [] is = λ k d below. absurd (omega (arith, below))

@@ -20,20 +20,6 @@ pub record Halved (side : Side) (list : List Extent) (id low high before steps :
   pub left : 2 ^ (steps - before) * (high - low) ≤ length list
   pub cost : 2 ^ (steps - before) ≤ 2 * length list + 1
 
--- before the first step
-pub halved_first : (side : Side) (list : List Extent) (id steps : ℕ) → Halved side list id 0 (length list) steps steps
-halved_first side list id steps =
-    let none : steps - steps ≡ 0 = omega arith in
-    record {
-      ordered = omega arith;
-      within = omega arith;
-      below = λ k d low. absurd (omega (arith, low));
-      above = λ k d high less. absurd (omega (arith, high, less));
-      counted = omega arith;
-      left = rw none (omega arith);
-      cost = rw none (omega arith);
-    }
-
 -- ---- ids before and after an extent
 before_it : (first count id : ℕ) → id < first → lies_in first count id ≡ false
 before_it first count id low = grind (arith, low)

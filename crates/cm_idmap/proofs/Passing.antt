@@ -58,9 +58,6 @@ not_within : (a b : Bool) → (a ≡ true → b ≡ true) → b ≡ false → a 
 not_within true b within fails = let holds : b ≡ true = within refl in absurd (cc)
 not_within false b within fails = refl
 
-fails_too : {X : Type 0} (p q : X → Bool) (xs : List X) → ((x : X) → q x ≡ true → p x ≡ true) → All (λ x. p x ≡ false) xs → All (λ x. q x ≡ false) xs
-fails_too p q xs within none k d below = not_within _ _ (within (slice_index_or xs k d)) (none k d below)
-
 -- ---- the one that passes
 find_one : {X : Type 0} (p : X → Bool) (xs : List X) (k : ℕ) (x : X) → passing p xs ≤ 1 → k < length xs → slice_index_or xs k x ≡ x → p x ≡ true
     → find p xs ≡ Some x
@@ -121,7 +118,8 @@ find_narrow p q (x ∷ xs) within few =
     elim (cases_Bool (p x)) [
       | inl here ↦
           let rest : All (λ y. p y ≡ false) xs = none_passing p xs (omega (arith, passing_yes p x xs here, few)) in
-          let none : find q xs ≡ None = find_none q xs (fails_too p q xs within rest) in
+          let none : find q xs ≡ None =
+          find_none q xs (λ k d below. not_within _ _ (within (slice_index_or xs k d)) (rest k d below)) in
           ap (λ o. cond (q x) (Some x) o) none
           ∙ ap (λ o. option_and_then (λ y. if q y then Some y else None) o) (sym (cond-true (p x) (Some x) (find p xs) here))
       | inr fails ↦

@@ -243,12 +243,6 @@ extent_down_permuted xs ys e moved is some =
     (found_alike Inside xs ys e.outside moved is)
     ∙ sym (extent_down_by xs e some is))
 
-narrowed : (b : Bool) (p : Extent) → b ≡ true → (if b then Some p else None) ≡ Some p
-narrowed b p is = cond-true b (Some p) None is
-
-left_out : (b : Bool) (p : Extent) → b ≡ false → (if b then Some p else None) ≡ None
-left_out b p is = cond-false b (Some p) None is
-
 extent_down_of : (list : List Extent) (e : Extent) (o : Option Extent) → 0 < e.length → IsMap list → o ≡ find (holds Inside e.outside) list
     → option_map (taken_by e) (option_and_then (λ p. if lies_within e p then Some p else None) o) ≡ extent_down list e
 extent_down_of list e o some is found =
@@ -260,14 +254,14 @@ pub extent_taken : (list : List Extent) (e p : Extent) → 0 < e.length → IsMa
 extent_taken list e p some is found ends =
     let seat = seat_of_map Inside list e.outside p is found in
     let within : lies_within e p ≡ true = and_from _ _ (le-leb p.inside e.outside seat.low) (le-leb (e.outside + e.length) (p.inside + p.length) ends) in
-    ap (option_map (taken_by e)) (sym (narrowed (lies_within e p) p within)) ∙ extent_down_of list e (Some p) some is found
+    ap (option_map (taken_by e)) (sym (cond-true (lies_within e p) (Some p) None within)) ∙ extent_down_of list e (Some p) some is found
 
 -- it isn't, where its last one doesn't
 pub extent_past : (list : List Extent) (e p : Extent) → 0 < e.length → IsMap list → Some p ≡ find (holds Inside e.outside) list
     → p.inside + p.length < e.outside + e.length → None ≡ extent_down list e
 extent_past list e p some is found past =
     let without : lies_within e p ≡ false = grind (arith, nat_tests, past) in
-    ap (option_map (taken_by e)) (sym (left_out (lies_within e p) p without)) ∙ extent_down_of list e (Some p) some is found
+    ap (option_map (taken_by e)) (sym (cond-false (lies_within e p) (Some p) None without)) ∙ extent_down_of list e (Some p) some is found
 
 -- nor where none holds its first id
 pub extent_nowhere : (list : List Extent) (e : Extent) → 0 < e.length → IsMap list → None ≡ find (holds Inside e.outside) list → None ≡ extent_down list e

@@ -9,12 +9,8 @@ use Rattle.model_cred.specs.MapFault.{is_map, map_fault}
 
 -- each refusal but NoMemory tells a fault
 fault_told : (e : BadMap) → (e ≡ answer.NoMemory → ⊥) → is_none (fault_of e) ≡ false
-fault_told answer.Empty other = refl
-fault_told answer.TooMany other = refl
-fault_told (answer.ZeroLength i) other = refl
-fault_told (answer.PastEnd i) other = refl
-fault_told (answer.Overlap i j) other = refl
 fault_told answer.NoMemory other = absurd (other refl)
+fault_told _ other = refl
 
 -- so that the list is no map
 pub refused_no_map : (list : List Extent) (e : BadMap) → map_fault list ≡ fault_of e → (e ≡ answer.NoMemory → ⊥)

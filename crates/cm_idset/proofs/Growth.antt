@@ -28,10 +28,6 @@ abbrev pub AllBefore : ℕ → List Interval → Type 0
 AllBefore high [] = Unit {0}
 AllBefore high (i ∷ list) = (i.last + 2 ≤ high) × AllBefore high list
 
-pub before_later : (low high : ℕ) (list : List Interval) → low ≤ high → AllBefore low list → AllBefore high list
-before_later low high [] le before = tt
-before_later low high (i ∷ list) le before = (let less = before.0 in omega arith, before_later low high list le before.1)
-
 pub before_pushed : (high : ℕ) (list : List Interval) (i : Interval) → AllBefore high list → i.last + 2 ≤ high → AllBefore high (list ++ i ∷ [])
 before_pushed high [] i before last = (last, tt)
 before_pushed high (j ∷ list) i before last = (before.0, before_pushed high list i before.1 last)

@@ -1,6 +1,5 @@
 -- An id looked up by halves: the first interval that doesn't end before it is the one that may hold it.
-use Rattle.std.proofs.Common.{◌≡◌, ℕ, zero, suc, ◌+◌, ◌<◌, ◌≤◌, true, false, List, []}
-use Rattle.std.proofs.Common.{◌∷◌, refl, sym, ◌∙◌, arith}
+use Rattle.std.proofs.Common.{◌≡◌, ℕ, zero, suc, ◌+◌, ◌<◌, ◌≤◌, true, false, List, [], ◌∷◌, refl, sym, ◌∙◌, arith}
 use Rattle.std.specs.Prelude.{IsTrue, nat_le, nat_lt, slice_get, All}
 use Rattle.std.specs.Option.{option_map_or}
 use Rattle.std.specs.List.Sorted.{IsPartitionedBy, IsPartitionPoint, IsNonDecreasingBy}
@@ -20,12 +19,11 @@ lasts_above low (i ∷ list) is =
     (lasts_above (i.last + 2) list a.rest))
 
 lasts_rise : (low : ℕ) (list : List Interval) → IsTrue (ascend_from low list) → IsNonDecreasingBy (λ (i : Interval). i.last) list
-lasts_rise low [] is k l d le below = absurd (omega arith)
 lasts_rise low (i ∷ list) is zero zero d le below = omega arith
 lasts_rise low (i ∷ list) is zero (suc l) d le below =
     let a = ascend_parts low i list is in omega (arith, lasts_above (i.last + 2) list a.rest l d (omega arith))
-lasts_rise low (i ∷ list) is (suc k) zero d le below = absurd (omega arith)
 lasts_rise low (i ∷ list) is (suc k) (suc l) d le below = lasts_rise (i.last + 2) list (ascend_parts low i list is).rest k l d (omega arith) (omega arith)
+lasts_rise low _ is _ _ d le below = absurd (omega arith)
 
 -- the intervals that end before the id come first
 pub ends_first : (list : List Interval) (id : ℕ) → IsCanonical list → IsPartitionedBy (λ (i : Interval). nat_lt i.last id) list

@@ -1,11 +1,12 @@
 -- What an id map makes of a list of intervals, line by line, and that it is what `down` gives of the ids held.
-use Rattle.std.proofs.Common.{◌≡◌, ℕ, zero, suc, ◌+◌, ◌-◌, ◌<◌, ◌≤◌, ◌⊎◌, ◌&&◌, ◌||◌, Bool, true, false, List, [], ◌∷◌, ◌++◌, Option, Some, None}
+use Rattle.std.proofs.Common.{◌≡◌, ℕ, zero, suc, ◌+◌, ◌-◌, ◌<◌, ◌≤◌, ◌⊎◌, ◌&&◌, ◌||◌, Bool, false, List, [], ◌∷◌, ◌++◌, Option, Some, None}
 use Rattle.std.proofs.Common.{length, drop, get_or, max, min, refl, sym, ap, subst, ◌∙◌, inl, inr, arith}
 use Rattle.std.specs.Prelude.{IsTrue, nat_lt, All}
 use Rattle.std.specs.Option.{option_to_list}
 use Rattle.std.proofs.lemmas.Bool.{cases_Bool, and_parts, and_from, or_cases, or_left, or_right, and_right}
 use Rattle.std.proofs.lemmas.Bool.{cond-true, cond-false, ltb-true, ltb-false}
 use Rattle.std.proofs.lemmas.Bool.Decides.{nat_tests}
+use Rattle.std.proofs.Math.Bool.{and-or_distrib_left}
 use Rattle.std.proofs.lemmas.List.{append-nil, drop_all, get_or_default}
 use Rattle.std.proofs.lemmas.List.Elements.{All-cons, All-append, All-nil}
 use Rattle.cm_base.specs.Limits.{id_count}
@@ -69,10 +70,6 @@ image_of_ids e i fits = elim (image_cases e i) [
 ]
 
 -- ---- one line and all intervals
-and_or : (p q r : Bool) → ((p && q) || (p && r)) ≡ (p && (q || r))
-and_or true q r = refl
-and_or false q r = refl
-
 images_hold : (e : Extent) (list : List Interval) (out : ℕ)
     → ids_hold (images e list) out ≡ (lies_in e.outside e.length out && ids_hold list (e.inside + (out - e.outside)))
 images_hold e [] out = sym (and_right (lies_in e.outside e.length out) false refl)
@@ -81,7 +78,7 @@ images_hold e (i ∷ list) out =
     held_appended (option_to_list (image_of e i)) (images e list) out
     ∙ ap (λ (b : Bool). b || ids_hold (images e list) out) (image_holds e i out)
     ∙ ap (λ (b : Bool). (lies_in e.outside e.length out && is_between i id) || b) (images_hold e list out)
-    ∙ and_or (lies_in e.outside e.length out) (is_between i id) (ids_hold list id)
+    ∙ sym (and-or_distrib_left (lies_in e.outside e.length out) (is_between i id) (ids_hold list id))
 
 images_of_ids : (e : Extent) (list : List Interval) → e.outside + e.length ≤ id_count → AreIds (images e list)
 images_of_ids e [] fits = All-nil IsOfIds

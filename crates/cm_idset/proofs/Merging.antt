@@ -1,6 +1,7 @@
 -- Two canonical lists put into one, in the order in which their intervals begin.
 use Rattle.std.proofs.Common.{◌≡◌, ℕ, ◌+◌, ◌≤◌, ◌||◌, Bool, true, false, List, [], ◌∷◌, refl, sym, ap, subst, ◌∙◌, arith}
 use Rattle.std.specs.Prelude.{IsTrue}
+use Rattle.std.proofs.Math.Bool.{or_comm}
 use Rattle.model_cred.specs.Intervals.{Interval, is_between, ids_hold, ascend_from, IsCanonical}
 use Rattle.model_cred.proofs.Intervals.{ascend_parts, ascend_lower, from_first, rest_canonical}
 use Rattle.cm_idset.specs.Order.{InOrderFrom, Continues, Taken}
@@ -38,15 +39,8 @@ joining_start one other out none is are = subst (λ (l : List Interval). Joining
 })
 
 or_moved : (p q r s : Bool) → (p || ((q || r) || s)) ≡ ((p || q) || (r || s))
-or_moved true q r s = refl
 or_moved false true r s = refl
-or_moved false false r s = refl
-
-or_comm : (p q : Bool) → (p || q) ≡ (q || p)
-or_comm true true = refl
-or_comm true false = refl
-or_comm false true = refl
-or_comm false false = refl
+or_moved _ _ r s = refl
 
 -- the first interval of one list is put where it begins first
 pub join_one : (one other out new a b : List Interval) (x y : Interval) (xs ys : List Interval) → a ≡ x ∷ xs → b ≡ y ∷ ys → x.first ≤ y.first

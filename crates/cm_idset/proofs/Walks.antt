@@ -1,11 +1,10 @@
 -- Walks over two lists of intervals at once. Each time one of the two first intervals is left, the one that ends first.
-use Rattle.std.proofs.Common.{◌≡◌, ℕ, ◌+◌, ◌<◌, ◌≤◌, ◌&&◌, ◌||◌, Bool, true, false, List, [], ◌∷◌, ◌++◌, ◌⊎◌}
-use Rattle.std.proofs.Common.{Option, Some, None, if◌then◌else◌, max, min, refl, sym, ap}
-use Rattle.std.proofs.Common.{◌∙◌, subst, inl, inr, arith}
+use Rattle.std.proofs.Common.{◌≡◌, ℕ, ◌+◌, ◌<◌, ◌≤◌, ◌&&◌, ◌||◌, Bool, true, false, List, [], ◌∷◌, ◌++◌, ◌⊎◌, Option}
+use Rattle.std.proofs.Common.{Some, None, if◌then◌else◌, max, min, refl, sym, ap, ◌∙◌, subst, inl, inr, arith}
 use Rattle.std.specs.Prelude.{IsTrue, nat_lt, nat_le}
 use Rattle.std.proofs.lemmas.Bool.{cases_Bool, cases_lt, cond-true, cond-false, leb-true, leb-false, and_parts, and_from, or_right, ltb-true, ltb-false}
 use Rattle.std.proofs.lemmas.Bool.Decides.{nat_tests}
-use Rattle.std.proofs.Math.Bool.{or_assoc}
+use Rattle.std.proofs.Math.Bool.{and_comm, or_assoc}
 use Rattle.std.proofs.Math.Nat.{max_comm, min_comm}
 use Rattle.std.proofs.lemmas.List.{append-nil}
 use Rattle.cm_sets.specs.Sets.{InBoth, HoldsSome}
@@ -19,10 +18,8 @@ use Rattle.cm_idset.proofs.Growth.{AllBefore, held_appended, before_pushed, cano
 -- ---- steps
 and_or : (p q r s : Bool) → s ≡ false → ((p || q) && (r || s)) ≡ ((p && r) || (q && (r || s)))
 and_or true true true s is = refl
-and_or true true false s is = refl
-and_or true false true s is = refl
 and_or true false false s is = is
-and_or false q r s is = refl
+and_or _ _ _ s is = refl
 
 and_dropped : (p q r s : Bool) → p ≡ false → ((p || q) && s) ≡ ((p && r) || (q && s))
 and_dropped true q r s is = absurd (cc)
@@ -37,12 +34,6 @@ step x y xs ys are ends id = elim (cases_lt x.last id) [
   | inr upto ↦ and_or (is_between x id) (ids_hold xs id) (is_between y id) (ids_hold ys id)
       (none_below (y.last + 2) id ys (ascend_parts 0 y ys are).rest (omega arith))
 ]
-
-and_comm : (p q : Bool) → (p && q) ≡ (q && p)
-and_comm true true = refl
-and_comm true false = refl
-and_comm false true = refl
-and_comm false false = refl
 
 -- two intervals of which one ends before the other begins have nothing in common
 pub none_common : (x y : Interval) (id : ℕ) → x.last < y.first → (is_between x id && is_between y id) ≡ false

@@ -18,11 +18,9 @@ comes_by (Some past) line rest next is given then = absurd (cc)
 
 stops_by : (found : Option Past) (line : List ℕ) (rest : Cut) (past : Past) → unless_past found line ≡ Err (error_of past)
     → cut_by found line rest ≡ ends_by (Some past)
-stops_by None line rest past is = absurd (cc)
 stops_by (Some Line) line rest Line is = refl
 stops_by (Some Whole) line rest Whole is = refl
-stops_by (Some Line) line rest Whole is = absurd (cc)
-stops_by (Some Whole) line rest Line is = absurd (cc)
+stops_by _ line rest _ is = absurd (cc)
 
 -- A line comes.
 pub line_comes : (line whole size place : ℕ) (left given : List ℕ) → size - place ≡ length left → next_cut line whole place left ≡ Ok (Some given)

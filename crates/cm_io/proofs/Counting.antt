@@ -8,7 +8,7 @@ use Rattle.std.proofs.lemmas.Bool.{cases_Bool, cases_lt}
 use Rattle.std.proofs.lemmas.List.{length-map, map_push}
 use Rattle.std.proofs.lemmas.Slice.Eq.{bytes_eq-Decides}
 use Rattle.cm_io.specs.Names.{place_of, is_among}
-use Rattle.cm_io.specs.Counts.{name_of, count_of, with_more, with_read, NoneFalls, names_of, counts_name, CountsRead, NotesName, SameCounts, StartsCounts}
+use Rattle.cm_io.specs.Counts.{name_of, count_of, with_more, with_read, NoneFalls, names_of, counts_name, CountsRead, NotesName, StartsCounts}
 use Rattle.cm_io.specs.Counts.{faults_of, reads_of, taken_of}
 use Rattle.cm_io.specs.Shelf.{CountsOn, ReadFaults, Rose, reads_made, bytes_given}
 use Rattle.cm_io.specs.declared.counts.Count.{Count}
@@ -142,9 +142,8 @@ of_each P name here others n = elim (cases_Bool (bytes_eq n name)) [
 
 -- a count of faults after a read
 abbrev faults_after : ℕ → Result ℕ Outside → ℕ
-faults_after count (Ok n) = count
 faults_after count (Err Failed) = with_more count 1
-faults_after count (Err NoMemory) = count
+faults_after count _ = count
 
 -- a count with one more rose, or stands at its last value
 rose_by_one : (before now : ℕ) → now ≡ with_more before 1 → Rose before now
@@ -168,9 +167,8 @@ faults_by before now name (Err NoMemory) here rose others =
 
 -- the faults of a row after a read
 faults-with_read : (row : Count) (read : Result ℕ Outside) → faults (with_read row read) ≡ faults_after (faults row) read
-faults-with_read row (Ok n) = refl
 faults-with_read row (Err Failed) = refl
-faults-with_read row (Err NoMemory) = refl
+faults-with_read row _ = refl
 
 -- the row at the place of a name has it
 name_at : (rows : List Count) (name : List ℕ) (d : Count) → place_of (map name_of rows) name < length rows
@@ -183,23 +181,20 @@ name_at (row ∷ rows) name d below = elim (cases_Bool (bytes_eq (name_of row) n
 
 -- a read leaves the name of its row
 name-with_read : (row : Count) (read : Result ℕ Outside) → name_of (with_read row read) ≡ name_of row
-name-with_read row (Ok n) = refl
 name-with_read row (Err Failed) = refl
-name-with_read row (Err NoMemory) = refl
+name-with_read row _ = refl
 
 -- it counts a read, where one was made
 reads-with_read : (row : Count) (read : Result ℕ Outside) → row.reads ≤ (with_read row read).reads
     → RisesBy row.reads (with_read row read).reads (reads_made read)
-reads-with_read row (Ok n) later = record { later = later; most = omega arith; all = omega arith }
 reads-with_read row (Err Failed) later = record { later = later; most = omega arith; all = omega arith }
-reads-with_read row (Err NoMemory) later = record { later = later; most = omega arith; all = omega arith }
+reads-with_read row _ later = record { later = later; most = omega arith; all = omega arith }
 
 -- and the bytes that it gave
 taken-with_read : (row : Count) (read : Result ℕ Outside) → row.taken ≤ (with_read row read).taken
     → RisesBy row.taken (with_read row read).taken (bytes_given read)
-taken-with_read row (Ok n) later = record { later = later; most = omega arith; all = omega arith }
 taken-with_read row (Err Failed) later = record { later = later; most = omega arith; all = omega arith }
-taken-with_read row (Err NoMemory) later = record { later = later; most = omega arith; all = omega arith }
+taken-with_read row _ later = record { later = later; most = omega arith; all = omega arith }
 
 -- a read that is counted in the row of its name
 pub counts_read : (old new : Counts) (name : List ℕ) (row : Count) (read : Result ℕ Outside)
@@ -269,10 +264,6 @@ noted_not old new name done past is not_done =
       reads = λ n. ap (λ rs. count_of (λ r. r.reads) rs n) is;
       taken = λ n. ap (λ rs. count_of (λ r. r.taken) rs n) is;
     }
-
--- that changes nothing
-pub noted_none : (old new : Counts) (name : List ℕ) → NotesName old new name false → SameCounts old new
-noted_none old new name none = record { names = none.names; faults = none.faults; reads = none.reads; taken = none.taken }
 
 -- rows in which nothing is counted
 pub starts_fresh : (counts : Counts) (names : List (String Global)) → counts.rows.items ≡ map fresh names → StartsCounts counts

@@ -27,7 +27,7 @@ next_line : (line whole place : ℕ) (left : List ℕ) → 0 < length left
 next_line line whole place [] some is = absurd (omega arith)
 next_line line whole place (b ∷ bs) some is = ap (λ p. unless_past p (take (line_len (b ∷ bs)) (b ∷ bs))) is
 
-next_end : (line whole place : ℕ) (left : List ℕ) → length left ≤ 0 → next_cut line whole place left ≡ Ok None
+pub next_end : (line whole place : ℕ) (left : List ℕ) → length left ≤ 0 → next_cut line whole place left ≡ Ok None
 next_end line whole place [] none = refl
 next_end line whole place (b ∷ bs) none = absurd (omega arith)
 
@@ -133,10 +133,9 @@ is_past : (old new : Cutting) (text : List ℕ) (past : Past) (e : CutError) →
     → IsFound old new text (Err e)
 is_past old new text Line TooLong same is = is
 is_past old new text Whole TooMuch same is = is
-is_past old new text Line TooMuch same is = absurd (cc)
-is_past old new text Whole TooLong same is = absurd (cc)
 is_past old new text past Read same is = tt
 is_past old new text past NoMemory same is = tt
+is_past old new text _ _ same is = absurd (cc)
 
 pub past_found : (held : Option Files) (old cur new : Cutting) (more : ℕ) (past : Past) (e : CutError) → KeepsMore old cur more → e ≡ error_of past
     → IfSome held (λ files. next_of cur (bytes_at files cur.name) ≡ Err (error_of past))

@@ -2,7 +2,7 @@
 use Rattle.std.proofs.Common.{ℕ, ◌+◌, ◌≤◌, List, arith, refl, ◌∙◌, subst}
 use Rattle.cm_io.specs.Account.{Account, ReadsFile}
 use Rattle.cm_io.specs.Shelf.{Rose, TakesAtMost}
-use Rattle.cm_io.proofs.ReadCounts.{apart_none, apart_then, pieces_none, pieces_then, reads_none, reads_then, reads_within}
+use Rattle.cm_io.proofs.ReadCounts.{apart_then, pieces_none, pieces_then, reads_none, reads_then, reads_within}
 
 -- bytes that are taken
 takes_on : (a b c : List ℕ → ℕ) (name : List ℕ) (m n k : ℕ) → TakesAtMost a b name m → TakesAtMost b c name n → m + n ≤ k → TakesAtMost a c name k
@@ -19,7 +19,7 @@ none_read a name most idle failed never = record {
   faults = record { later = λ n. omega arith; fault = λ is. absurd (never is); others = λ _ n. refl };
   takes = record { here = omega arith; others = λ n other. refl };
   reads = reads_none a.reads a.taken name idle;
-  apart = apart_none a.counted a.faults a.reads name;
+  apart = record { faults_stay = λ is n other. refl; reads_stay = λ isnt. refl };
   pieces = pieces_none a.widest;
 }
 

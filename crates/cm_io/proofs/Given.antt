@@ -1,5 +1,5 @@
 -- A cutter after the line that it gave.
-use Rattle.std.proofs.Common.{◌≡◌, ℕ, ◌+◌, ◌-◌, ◌≤◌, length, List, [], take, drop, refl, ◌∙◌, sym, ap, ap₂, subst, arith}
+use Rattle.std.proofs.Common.{◌≡◌, ℕ, ◌+◌, ◌-◌, ◌≤◌, length, List, take, drop, ◌∙◌, sym, ap, ap₂, subst, arith}
 use Rattle.std.proofs.Common.{Bool, IsTrue, Option, None, Some, IfSome, Result, Ok, Err, Bor}
 use Rattle.std.proofs.lemmas.List.{drop-take, take-take, drop-drop}
 use Rattle.cm_lines.specs.Lines.{line_size}
@@ -9,7 +9,7 @@ use Rattle.cm_io.specs.CutterSteps.{KeepsMore, FindsLine, IsFound, Stays, Tells}
 use Rattle.cm_io.specs.Account.{Account, ReadsFile}
 use Rattle.cm_io.specs.Shelf.{Files, bytes_at}
 use Rattle.cm_io.specs.declared.cutter.CutError.{CutError}
-use Rattle.cm_io.specs.declared.cutter.CutError.TheVariants.{Read, TooLong, TooMuch, NoMemory}
+use Rattle.cm_io.specs.declared.cutter.CutError.TheVariants.{TooLong, TooMuch}
 use Rattle.cm_io.specs.declared.cutter.Found.{Found}
 use Rattle.cm_io.proofs.Coming.{gives_line, gives_limit}
 use Rattle.cm_io.proofs.Cutting.{no_bytes}
@@ -117,24 +117,20 @@ after_error a a' old new e stays fits found = record {
 }
   where
     same_file : (e' : CutError) → Stays old new (Err e') → SameFile old new
-    same_file Read is = record { name = ap (λ (c : Cutting). c.name) is; line = ap (λ (c : Cutting). c.line) is; whole = ap (λ (c : Cutting). c.whole) is }
-    same_file NoMemory is = record { name = ap (λ (c : Cutting). c.name) is; line = ap (λ (c : Cutting). c.line) is; whole = ap (λ (c : Cutting). c.whole) is }
     same_file TooLong is = is.0
     same_file TooMuch is = is.0
+    same_file _ is = record { name = ap (λ (c : Cutting). c.name) is; line = ap (λ (c : Cutting). c.line) is; whole = ap (λ (c : Cutting). c.whole) is }
 
     moves : (e' : CutError) → Stays old new (Err e') → Moves a.held old new (Err e')
-    moves Read is = is
-    moves NoMemory is = is
     moves TooLong is = is.1
     moves TooMuch is = is.1
+    moves _ is = is
 
     gives : (held' : Option Files) (e' : CutError) → IfSome held' (λ files. IsFound old new (bytes_at files old.name) (Err e'))
         → IfSome held' (λ files. Gives old new (bytes_at files old.name) (Err e'))
-    gives None e' is = tt
-    gives (Some files) Read is = tt
-    gives (Some files) NoMemory is = tt
     gives (Some files) TooLong is = gives_limit old (bytes_at files old.name) Line is
     gives (Some files) TooMuch is = gives_limit old (bytes_at files old.name) Whole is
+    gives _ _ is = tt
 
 pub error_after : (a a' : Account) (old mid new : Cutting) (e : CutError) → new ≡ mid → Stays old mid (Err e)
     → Fits a.held mid → IfSome a.held (λ files. IsFound old mid (bytes_at files old.name) (Err e)) → IsAfter a a' old new (Err e)
@@ -148,7 +144,6 @@ error_is (Some files) old mid e r same found =
     subst (λ (x : Result (Option (Bor (List ℕ))) CutError). IsCut old (bytes_at files old.name) x) (sym same) (by_error e found)
   where
     by_error : (e' : CutError) → IsFound old mid (bytes_at files old.name) (Err e') → IsCut old (bytes_at files old.name) (Err e')
-    by_error Read is = tt
-    by_error NoMemory is = tt
     by_error TooLong is = is
     by_error TooMuch is = is
+    by_error _ is = tt

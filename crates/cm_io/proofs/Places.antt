@@ -2,7 +2,6 @@
 use Rattle.std.proofs.Common.{◌≡◌, ◌≢◌, ◌<◌, ◌≤◌, ℕ, List, [], ◌∷◌, length, Bool, true, false, not, IsTrue}
 use Rattle.std.proofs.Common.{refl, inl, inr, arith}
 use Rattle.std.specs.Str.{bytes_eq}
-use Rattle.std.proofs.Math.Bool.{or-false}
 use Rattle.std.proofs.lemmas.Bool.{cases_Bool}
 use Rattle.std.proofs.lemmas.Slice.Eq.{bytes_eq-Decides}
 use Rattle.std.proofs.lemmas.List.Folds.{list_any-append}
@@ -50,11 +49,4 @@ pub among_noted : (names : List (List ℕ)) (name : List ℕ) → is_among (note
 among_noted names name = elim (cases_Bool (is_among names name)) [
   | inl is ↦ rw (is, is)
   | inr isnt ↦ rw (isnt, list_any-append, isnt, same_name name name refl)
-]
-
--- another one is as before
-pub among_noted_other : (names : List (List ℕ)) (name n : List ℕ) → n ≢ name → is_among (noted names name) n ≡ is_among names n
-among_noted_other names name n other = elim (cases_Bool (is_among names name)) [
-  | inl is ↦ rw is
-  | inr isnt ↦ rw (isnt, list_any-append, other_name name n other) (or-false (is_among names n))
 ]

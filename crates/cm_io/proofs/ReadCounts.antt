@@ -1,32 +1,10 @@
 -- How often a name is read, by the bytes that the reads give, and which counts that leaves.
-use Rattle.std.proofs.Common.{◌≡◌, ◌+◌, ◌-◌, ◌^◌, ◌≤◌, ℕ, List, Bool, not, IsTrue, inl, inr, arith, refl, subst, sym, ◌∙◌}
-use Rattle.std.proofs.lemmas.Bool.{cases_Bool, cases_lt}
-use Rattle.cm_io.specs.Shelf.{AsksForPieces, CountsOn, CountsApart, EachGives, OthersStay, ReadsByBytes}
+use Rattle.std.proofs.Common.{◌≡◌, ◌+◌, ◌≤◌, ℕ, List, Bool, not, IsTrue, inl, inr, arith, refl, subst, sym, ◌∙◌}
+use Rattle.cm_io.specs.Shelf.{AsksForPieces, CountsApart, EachGives, ReadsByBytes}
 
 -- counts that stay
 pub reads_none : (reads taken : List ℕ → ℕ) (name : List ℕ) (idle : ℕ) → ReadsByBytes reads reads taken taken name idle
 reads_none reads taken name idle = record { later = omega arith; here = inl (omega arith); others = λ n other. refl }
-
--- a read that is counted
-pub read_gives : (counted : List ℕ → Bool) (reads reads' taken taken' : List ℕ → ℕ) (name : List ℕ) (made given : ℕ) → made ≤ 1
-    → CountsOn counted reads reads' name made → CountsOn counted taken taken' name given
-    → ReadsByBytes reads reads' taken taken' name (1 - given)
-read_gives counted reads reads' taken taken' name made given one made_on given_on = record {
-  later = given_on.later;
-  here = elim (cases_Bool (counted name)) [
-    | inl is ↦
-        let all = given_on.all is in
-        elim (cases_lt (taken' name) (2 ^ 64 - 1)) [
-          | inl below ↦ inl (omega (arith, one, made_on.most, all, below))
-          | inr last ↦ inr last
-        ]
-    | inr isnt ↦
-        let no_reads = made_on.uncounted (rw isnt refl) in
-        let no_bytes = given_on.uncounted (rw isnt refl) in
-        inl (omega (arith, no_reads, no_bytes, given_on.later))
-  ];
-  others = made_on.others;
-}
 
 -- some reads of a name, and then some more
 pub each_then : (reads reads' reads'' taken taken' taken'' a b : ℕ) → taken' ≤ taken'' → EachGives reads reads' taken taken' a
@@ -57,20 +35,7 @@ reads_within reads reads' taken taken' name a b within gives = record {
   others = gives.others;
 }
 
--- counts that stay are apart
-pub apart_none : (counted : List ℕ → Bool) (faults reads : List ℕ → ℕ) (name : List ℕ) → CountsApart counted faults faults reads reads name
-apart_none counted faults reads name = record { faults_stay = λ is n other. refl; reads_stay = λ isnt. refl }
-
--- those of a read
-pub read_apart : (counted : List ℕ → Bool) (faults faults' reads reads' : List ℕ → ℕ) (name : List ℕ) (made : ℕ)
-    → (IsTrue (counted name) → OthersStay faults faults' name) → CountsOn counted reads reads' name made
-    → CountsApart counted faults faults' reads reads' name
-read_apart counted faults faults' reads reads' name made stay on = record {
-  faults_stay = stay;
-  reads_stay = λ isnt. let none = on.uncounted isnt in omega (arith, none, on.later);
-}
-
--- and of some reads, and then some more
+-- counts that stay apart by some reads, and then by some more, are apart
 pub apart_then : (counted counted' : List ℕ → Bool) (faults faults' faults'' reads reads' reads'' : List ℕ → ℕ) (name : List ℕ)
     → counted' name ≡ counted name → CountsApart counted faults faults' reads reads' name → CountsApart counted' faults' faults'' reads' reads'' name
     → CountsApart counted faults faults'' reads reads'' name

@@ -48,14 +48,13 @@ first_whole (byte ∷ text) rest_ below = elim (cases_Bool (byte == 10)) [
 -- none, where no LF comes
 none_whole : (text : List ℕ) (k : ℕ) → k ≤ line_len text → whole_lines (take k text) ≡ []
 none_whole [] zero within = refl
-none_whole [] (suc k) within = refl
-none_whole (byte ∷ text) zero within = refl
 none_whole (byte ∷ text) (suc k) within = elim (cases_Bool (byte == 10)) [
   | inl is ↦ absurd (let here = len_here byte text is in omega (arith, within, here))
   | inr isnt ↦
       let on = len_on byte text isnt in
       no_lf_first byte (take k text) isnt ∙ ap (grown_line byte) (none_whole text k (omega (arith, within, on)))
 ]
+none_whole _ _ within = refl
 
 -- a line that comes is the first of what is left
 given_is : (past : Option Past) (line given : List ℕ) (e : Result (Option (List ℕ)) CutError) → unless_past past line ≡ e → e ≡ Ok (Some given)
@@ -103,6 +102,3 @@ lines_seen text place lines before_ =
 pub more_lines : (lines : List (List ℕ)) (line : List ℕ) (cut : Cut) → after_lines (lines ++ line ∷ []) cut ≡ after_lines lines (before line cut)
 more_lines lines line cut =
     ap (λ (ls : List (List ℕ)). let c : Cut = record { lines = ls; stop = cut.stop } in c) (append_assoc lines (line ∷ []) cut.lines)
-
-pub no_lines : (cut : Cut) → after_lines [] cut ≡ cut
-no_lines cut = refl

@@ -65,21 +65,15 @@ regrouped c groups same = ap (λ (gs : List ℕ). record c { groups = gs }) same
 -- what is still to be made has changed nothing
 birth_still : (r : Res) (old c : Credential) → undone_cred (birth_change r) old c ≡ c
 birth_still res.Done old c = refl
-birth_still (res.Id n) old c = refl
-birth_still (res.Child n) old c = refl
-birth_still (res.Err e) old c = refl
+birth_still _ old c = refl
 
 inner_still : (r : Res) (old c : Credential) → undone_cred (inner_birth_change r) old c ≡ c
 inner_still res.Done old c = refl
-inner_still (res.Id n) old c = refl
-inner_still (res.Child n) old c = refl
-inner_still (res.Err e) old c = refl
+inner_still _ old c = refl
 
 done_still : (r : Res) (to_make : Change) (old c : Credential) → undone_cred to_make old c ≡ c → undone_cred (where_done r to_make) old c ≡ c
 done_still res.Done to_make old c same = same
-done_still (res.Id n) to_make old c same = refl
-done_still (res.Child n) to_make old c same = refl
-done_still (res.Err e) to_make old c same = refl
+done_still _ to_make old c same = refl
 
 groups_back : (s : Space) (old c : Credential) (ids : List ℕ)
     → undone_cred (groups_change (setgroups s c ids).res c.groups) old (setgroups s c ids).cred ≡ c
@@ -148,9 +142,7 @@ inner_born_kept s after p n false is = refl
 
 grouped_kept : (groups : List ℕ) (r : Res) (q : Process) (t : State) → kept (groups_change r groups) q t ≡ t
 grouped_kept groups res.Done q t = refl
-grouped_kept groups (res.Id n) q t = refl
-grouped_kept groups (res.Child n) q t = refl
-grouped_kept groups (res.Err e) q t = refl
+grouped_kept groups _ q t = refl
 
 -- a process that has its credential and its place again
 module _ (s : State) (p : Process) (same : with_cred s p p.cred ≡ s) where
@@ -204,9 +196,7 @@ module _ (s : State) (p : Process) (same : with_cred s p p.cred ≡ s) where
       → spaces ≡ spaces_told (file_of which) s.spaces m.0 given r
       → kept (where_done r (change.Map which m (stored_list (file_of which) s.spaces m.0 given))) p s ≡ left spaces p.space p.cred
   map_kept which m given res.Done spaces is = ap (λ (ss : Spaces). record s { spaces = ss }) (sym is) ∙ others spaces
-  map_kept which m given (res.Id n) spaces is = ap (λ (ss : Spaces). record s { spaces = ss }) (sym is) ∙ others spaces
-  map_kept which m given (res.Child n) spaces is = ap (λ (ss : Spaces). record s { spaces = ss }) (sym is) ∙ others spaces
-  map_kept which m given (res.Err e) spaces is = ap (λ (ss : Spaces). record s { spaces = ss }) (sym is) ∙ others spaces
+  map_kept which m given _ spaces is = ap (λ (ss : Spaces). record s { spaces = ss }) (sym is) ∙ others spaces
 
   word_kept : (m : SpaceId) (deny : Bool) → kept (where_done (write_setgroups s.spaces p.space p.cred m.0 deny).res (change.Word m deny)) p s
       ≡ left (write_setgroups s.spaces p.space p.cred m.0 deny).spaces p.space p.cred
@@ -271,22 +261,16 @@ inner_born_can n s t after false free room = tt
 
 inner_can : (n : ℕ) (s t : State) (p : Process) (spaces : Spaces) (r : Res) → (is_pid n ≡ true → is_alive t.processes n ≡ false)
     → length t.spaces < greatest_number → CanKeep (inner_birth_change (birth_unless r s (clone_child s.spaces p n) spaces).res) t
-inner_can n s t p spaces res.Done free room = inner_born_can n s t (born_of s p n spaces) (is_pid n) free room
-inner_can n s t p spaces (res.Id m) free room = inner_born_can n s t (born_of s p n spaces) (is_pid n) free room
-inner_can n s t p spaces (res.Child m) free room = inner_born_can n s t (born_of s p n spaces) (is_pid n) free room
 inner_can n s t p spaces (res.Err e) free room = tt
+inner_can n s t p spaces _ free room = inner_born_can n s t (born_of s p n spaces) (is_pid n) free room
 
 grouped_can : (groups : List ℕ) (r : Res) (t : State) → CanKeep (groups_change r groups) t
 grouped_can groups res.Done t = tt
-grouped_can groups (res.Id n) t = tt
-grouped_can groups (res.Child n) t = tt
-grouped_can groups (res.Err e) t = tt
+grouped_can groups _ t = tt
 
 done_can : (r : Res) (to_make : Change) (t : State) → CanKeep to_make t → CanKeep (where_done r to_make) t
 done_can res.Done to_make t can = can
-done_can (res.Id n) to_make t can = tt
-done_can (res.Child n) to_make t can = tt
-done_can (res.Err e) to_make t can = tt
+done_can _ to_make t can = tt
 
 can_is : (w : World) (s : State) (p : Process) (call : Call) (n : ℕ) → with_cred s p p.cred ≡ s → (is_pid n ≡ true → is_alive s.processes n ≡ false)
     → names_no_space s.spaces (call_of call) ≡ false → length s.spaces < greatest_number
@@ -399,9 +383,7 @@ module _ (w : World) (s : State) (call : Call) (child : Option ℕ) (at : ℕ) (
 
 where_made : (P : Type 0) (r : Res) (to_make : Change) → (makes_new to_make ≡ true → P) → makes_new (where_done r to_make) ≡ true → P
 where_made P res.Done to_make old is = old is
-where_made P (res.Id n) to_make old is = absurd (cc)
-where_made P (res.Child n) to_make old is = absurd (cc)
-where_made P (res.Err e) to_make old is = absurd (cc)
+where_made P _ to_make old is = absurd (cc)
 
 -- a call of which a process or a space is still to be made can
 made_takes : (spaces : Spaces) (call : Call) (r : Res) (c : Credential)

@@ -57,20 +57,16 @@ child_given processes call pid is = λ w spaces p. refl
 -- ---- another result that is told
 -- it tells no child
 no_child : (told : Res) → ((m : ℕ) → told ≡ Child m → ⊥) → told_child told ≡ 0
-no_child Done not_child = refl
-no_child (Id n) not_child = refl
 no_child (Child m) not_child = absurd (not_child m refl)
-no_child (Err e) not_child = refl
+no_child _ not_child = refl
 
 -- EAGAIN comes from outside
 not_again : (told : Res) → comes_from_outside model.Fork told ≡ false → same_res told (Err EAGAIN) ≡ false
 not_again (Err EAGAIN) inside = absurd (cc)
-not_again (Err e) inside = refl
 not_again _ inside = refl
 
 not_again_inner : (told : Res) → comes_from_outside model.CloneUser told ≡ false → same_res told (Err EAGAIN) ≡ false
 not_again_inner (Err EAGAIN) inside = absurd (cc)
-not_again_inner (Err e) inside = refl
 not_again_inner _ inside = refl
 
 -- against a birth without a pid
@@ -80,10 +76,9 @@ held : (told : Res) (b : Bool) (pid : ℕ) (s after : State) → ((m : ℕ) → 
     ≡ told_rules told (if b then record { res = Child pid; state = after } else record { res = Err EAGAIN; state = s })
     (if b then record { res = Child pid; state = after } else record { res = Err EAGAIN; state = s })
 held told false pid s after not_child other = refl
-held Done true pid s after not_child other = refl
-held (Id n) true pid s after not_child other = refl
 held (Child m) true pid s after not_child other = absurd (not_child m refl)
 held (Err e) true pid s after not_child other = cond-false (same_res (Err e) (Err EAGAIN)) _ _ other
+held _ true pid s after not_child other = refl
 
 -- against a birth, with the child that would be told and with the one of the process itself
 birth_held : (told : Res) (s : State) (child : ℕ → Process) (n : ℕ) (after : Spaces) → ((m : ℕ) → (child m).pid ≡ m)

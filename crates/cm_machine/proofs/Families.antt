@@ -194,9 +194,8 @@ none_count [] = refl
 none_count (p ∷ ps) = ap suc (none_count ps)
 
 none_known : (ps : List Process) (k : ℕ) → get_or (map {A = Process} {B = Option Bool} (λ _. None) ps) k None ≡ None
-none_known [] k = refl
-none_known (p ∷ ps) zero = refl
 none_known (p ∷ ps) (suc k) = none_known ps k
+none_known _ _ = refl
 
 -- the first marks
 pub marks_first : (s : State) (at : ℕ) (marks : List (Option Bool)) → Ascends s.processes → at < length s.processes

@@ -2,7 +2,7 @@
 use Rattle.std.proofs.Common.{◌≡◌, ◌≢◌, ℕ, zero, suc, ◌<◌, ◌≤◌, ◌+◌, ◌-◌, ◌==◌, true, false, length, List, [], ◌∷◌}
 use Rattle.std.proofs.Common.{Option, Some, None, refl, sym, ◌∙◌, ap, inl, inr, arith}
 use Rattle.std.specs.Prelude.{nat_le, is_some, SomeIff}
-use Rattle.std.proofs.lemmas.Bool.{cases_Bool, cases_order, cases_lt, cond-true, cond-false, eq-eqb, le-leb, leb-true, and_parts, and_from}
+use Rattle.std.proofs.lemmas.Bool.{cases_Bool, cases_order, cases_lt, cond-true, cond-false, cond_both, eq-eqb, le-leb, leb-true, and_parts, and_from}
 use Rattle.cm_state.proofs.Places.{ascending, not_found}
 use Rattle.cm_state.specs.Places.{pid_at}
 use Rattle.model_cred.specs.Process.{Process, State, Ascends, as_pid, process_at, is_alive, is_pid}
@@ -15,10 +15,8 @@ pub alive_at : (ps : List Process) (i pid : ℕ) → i < length ps → pid_at ps
 alive_at [] i pid h is = absurd (omega arith)
 alive_at (p ∷ ps) zero pid h is = ap is_some (cond-true (p.pid == pid) (Some p) (process_at ps pid) (eq-eqb p.pid pid is))
 alive_at (p ∷ ps) (suc i) pid h is =
-    elim (cases_Bool (p.pid == pid)) [
-      | inl same ↦ ap is_some (cond-true (p.pid == pid) (Some p) (process_at ps pid) same)
-      | inr other ↦ ap is_some (cond-false (p.pid == pid) (Some p) (process_at ps pid) other) ∙ alive_at ps i pid (omega arith) is
-    ]
+    cond_both (p.pid == pid) (Some p) (process_at ps pid) (λ (o : Option Process). is_some o ≡ true)
+    (λ same. refl) (λ other. alive_at ps i pid (omega arith) is)
 
 -- the first pids are the numbers from one on
 abbrev pub FirstPids : List Process → ℕ → Type 0

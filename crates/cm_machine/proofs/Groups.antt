@@ -74,17 +74,12 @@ pub record MovesGroups (s : Space) (c before new after : Credential) (groups ids
   pub back : (res ≡ Done → ⊥) → after ≡ regrouped new c.groups
 
 -- it is setgroups
-moved_res : (s : Space) (c before new after : Credential) (groups ids : List ℕ) (res : Res) → MovesGroups s c before new after groups ids res
-    → res ≡ (setgroups s c ids).res
-moved_res s c before new after groups ids res moves =
-    moves.answers ∙ ap (λ (k : Credential). (setgroups s k ids).res) moves.out ∙ (alike s c groups ids).res
-
 pub moved_cred : (s : Space) (c before new after : Credential) (groups ids : List ℕ) (res : Res) → MovesGroups s c before new after groups ids res
     → after ≡ (setgroups s c ids).cred
 moved_cred s c before new after groups ids res moves = by res refl
   where
     told : res ≡ (setgroups s c ids).res
-    told = moved_res s c before new after groups ids res moves
+    told = moves.answers ∙ ap (λ (k : Credential). (setgroups s k ids).res) moves.out ∙ (alike s c groups ids).res
 
     left : new ≡ (setgroups s (regrouped c groups) ids).cred
     left = moves.leaves ∙ ap (λ (k : Credential). (setgroups s k ids).cred) moves.out

@@ -18,9 +18,3 @@ map_next f (suc i) (x ∷ xs) old new h is made = ap (λ ys. f x ∷ ys) (map_ne
 pub map_whole : {A : Type 0} (f : A → A) (xs : List A) → map_first (length xs) f xs ≡ map f xs
 map_whole f [] = refl
 map_whole f (x ∷ xs) = ap (λ ys. f x ∷ ys) (map_whole f xs)
-
--- there are as many as before
-pub map_length : {A : Type 0} (f : A → A) (i : ℕ) (xs : List A) → length (map_first i f xs) ≡ length xs
-map_length f zero xs = refl
-map_length f (suc i) [] = refl
-map_length f (suc i) (x ∷ xs) = ap suc (map_length f i xs)

@@ -121,7 +121,7 @@ module _ {setting : Setting} {waiting list after : List Bool} {old mid new : Lis
     larger = λ is back. first.larger is (λ row part x held. back row part x (second.widens.grown row part x held));
   }
 
-earlier_or_here : (i k : ℕ) → i < k + 1 → (i < k) ⊎ (i ≡ k)
+pub earlier_or_here : (i k : ℕ) → i < k + 1 → (i < k) ⊎ (i ≡ k)
 earlier_or_here i k low = grind (arith, low)
 
 -- the list is empty up to a row that isn't on it

@@ -4,13 +4,13 @@ use Rattle.std.proofs.lemmas.List.{get_or-set_same, get_or-set_other}
 use Rattle.cm_filter.specs.declared.kind.CallKind.{CallKind}
 use Rattle.model_cred.specs.Files.{FileTable}
 use Rattle.model_cred.specs.Process.{State, KeepsState}
-use Rattle.model_cred.specs.Right.{Right, Cap, Uid, Gid}
+use Rattle.model_cred.specs.Right.{Right, Cap}
 use Rattle.model_cred.specs.Space.{Spaces}
 use Rattle.model_box.specs.Bounds.{BoxRow, bounds_hold, row_in, no_row}
 use Rattle.model_box.specs.Closed.{Closed}
 use Rattle.model_box.specs.Laws.{tested}
 use Rattle.model_box.specs.Meets.{Meets, MeetsAt, IsFirstMet}
-use Rattle.model_box.specs.Row.{Part, Row, Standing, Fresh, row_at, row_number}
+use Rattle.model_box.specs.Row.{Part, Row, Standing, row_at, row_number}
 use Rattle.model_box.specs.Rule.{Rule}
 use Rattle.model_box.proofs.Monotone.{meets_more, meets_at_more}
 use Rattle.model_box.proofs.Starts.{row_back, number_back}
@@ -33,16 +33,12 @@ use Rattle.model_verdict.proofs.Sweeps.{row_stands}
 own_of : (spaces : Spaces) (bounds : Row → Part → ℕ → Type 0) (right : Right) (row : Row)
     → MeetsAt spaces bounds right row → RowMeets spaces (bounds row) right row
 own_of spaces bounds (Cap cap n) (Standing a) met = met
-own_of spaces bounds (Cap cap n) (Fresh a) met = met
-own_of spaces bounds (Uid id) row met = met
-own_of spaces bounds (Gid id) row met = met
+own_of spaces bounds _ _ met = met
 
 of_own : (spaces : Spaces) (bounds : Row → Part → ℕ → Type 0) (right : Right) (row : Row)
     → RowMeets spaces (bounds row) right row → MeetsAt spaces bounds right row
 of_own spaces bounds (Cap cap n) (Standing a) met = met
-of_own spaces bounds (Cap cap n) (Fresh a) met = met
-of_own spaces bounds (Uid id) row met = met
-of_own spaces bounds (Gid id) row met = met
+of_own spaces bounds _ _ met = met
 
 -- rows that don't meet it still don't, once a row that wouldn't is put into them
 pub put_apart : (spaces : Spaces) (right : Right) (rows : List BoxRow) (y : ℕ) (wider : BoxRow) → y < length rows

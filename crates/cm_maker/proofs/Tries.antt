@@ -10,15 +10,10 @@ use Rattle.model_box.specs.Rule.{Rule, rule_number}
 use Rattle.model_box.proofs.Numbers.{rule_low}
 use Rattle.cm_box_rows.specs.Rows.{RowsHold}
 use Rattle.cm_maker.specs.Widening.{Visits, Rests, RestsUnder}
+use Rattle.cm_maker.proofs.Looks.{earlier_or_here}
 use Rattle.cm_maker.proofs.Widenings.{then_visits}
 use Rattle.model_verdict.specs.Sweep.{rule_at}
 use Rattle.model_verdict.proofs.Sweeps.{rule_back}
-
-same_rule : (one other : Rule) → rule_number one ≡ rule_number other → one ≡ other
-same_rule one other same = sym (rule_back one) ∙ ap rule_at same ∙ rule_back other
-
-earlier_or_this : (i k : ℕ) → i < k + 1 → (i < k) ⊎ (i ≡ k)
-earlier_or_this i k low = grind (arith, low)
 
 or_true : (a : Bool) → true ≡ a || true
 or_true true = refl
@@ -47,12 +42,13 @@ module _ {permitted : CallKind → Bool} {files : FileTable} {spaces : Spaces} {
       → Visits permitted files spaces y mid new b → b ≡ false → ClosedAt permitted files spaces (RowsHold new) rule (row_at y)
       → RestsUnder permitted files spaces new y from (k + 1)
   rests_next rule from k is closed second none here other late low =
-      elim (earlier_or_this (rule_number other) k low) [
+      elim (earlier_or_here (rule_number other) k low) [
         | inl earlier ↦
             subst (λ (rows : List BoxRow). ClosedAt permitted files spaces (RowsHold rows) other (row_at y)) (sym (second.same none))
             (closed other late earlier)
         | inr this ↦
-            subst (λ (r : Rule). ClosedAt permitted files spaces (RowsHold new) r (row_at y)) (same_rule rule other (is ∙ sym this)) here
+            subst (λ (r : Rule). ClosedAt permitted files spaces (RowsHold new) r (row_at y))
+            (sym (rule_back rule) ∙ ap rule_at (is ∙ sym this) ∙ rule_back other) here
       ]
 
   -- what rested under some rules still does, where nothing came since

@@ -91,8 +91,7 @@ module _ {permitted : CallKind → Bool} {files : FileTable} {spaces : Spaces} w
   } where
     same : (d e : Bool) → a ≡ d → b ≡ e → d || e ≡ false → new ≡ old
     same false false here there none = second.same there ∙ first.same here
-    same true e here there none = absurd (false≢true (sym none))
-    same false true here there none = absurd (false≢true (sym none))
+    same _ _ here there none = absurd (false≢true (sym none))
 
     larger : (d e : Bool) → a ≡ d → b ≡ e → d || e ≡ true → IsWithin (RowsHold new) (RowsHold old) → ⊥
     larger true e here there some back = first.larger here (λ row part x held. back row part x (second.widens.grown row part x held))

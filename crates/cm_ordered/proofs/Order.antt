@@ -113,9 +113,8 @@ cut_at below (x ∷ xs) (suc at) within point = (
 
 -- the place is within the list, or at its end
 pub cut_within : {A : Type 0} (below : A → Bool) (xs : List A) (at : ℕ) → IsCut below xs at → at ≤ length xs
-cut_within below [] at cut = omega arith
-cut_within below (x ∷ xs) zero cut = omega arith
 cut_within below (x ∷ xs) (suc at) cut = let rest : at ≤ length xs = cut_within below xs at cut.1 in omega arith
+cut_within below _ _ cut = omega arith
 
 -- what stands at a place stands within the list
 pub at_within : {A : Type 0} (same : A → Bool) (xs : List A) (at : ℕ) → is_at same xs at ≡ true → at < length xs

@@ -1,5 +1,5 @@
 -- What a search has found where a list is parted by what is below.
-use Rattle.std.proofs.Common.{◌≡◌, ◌<◌, ◌≤◌, ◌+◌, ◌-◌, ◌*◌, ℕ, Bool, true, false, cond, List, [], ◌∷◌, length, get_or}
+use Rattle.std.proofs.Common.{◌≡◌, ◌<◌, ◌≤◌, ◌+◌, ◌-◌, ◌*◌, ℕ, Bool, true, false, cond, List, ◌∷◌, length, get_or}
 use Rattle.std.proofs.Common.{refl, sym, ◌∙◌, ap, arith, zero, suc, ◌⊎◌, inl, inr}
 use Rattle.std.specs.List.{AllWithin}
 use Rattle.std.specs.List.Sorted.{IsPartitionedBy}
@@ -15,12 +15,11 @@ lower_too number n x y before lower = grind (arith, before, lower)
 -- a list that ascends by numbers is parted by each number
 pub parted_by : {A : Type 0} (number : A → ℕ) (n : ℕ) (xs : List A) → Ascends (before_by number) xs
     → IsPartitionedBy (below_by number n) xs
-parted_by number n [] up i j d le h = absurd (omega arith)
 parted_by number n (x ∷ xs) up zero zero d le h = λ is. is
 parted_by number n (x ∷ xs) up zero (suc j) d le h = λ is.
     lower_too number n x (get_or xs j d) (all_at (before_by number x) true xs j d up.0 (omega arith)) is
-parted_by number n (x ∷ xs) up (suc i) zero d le h = absurd (omega arith)
 parted_by number n (x ∷ xs) up (suc i) (suc j) d le h = parted_by number n xs up.1 i j d (omega arith) (omega arith)
+parted_by number n _ up _ _ d le h = absurd (omega arith)
 
 -- before one that is below all are
 lower_ones : {A : Type 0} (below : A → Bool) (xs : List A) (at end : ℕ) (d : A) → IsPartitionedBy below xs

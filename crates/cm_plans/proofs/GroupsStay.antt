@@ -4,7 +4,6 @@ use Rattle.std.specs.Prelude.{not, Some}
 use Rattle.cm_machine.proofs.Groups.{uids_keep, gids_keep}
 use Rattle.cm_plans.specs.Moves.{IsOfWalk}
 use Rattle.model_cred.specs.Call.{Call, SetUid, SetReUid, SetResUid, SetGid, SetReGid, SetResGid, CapSet, SetNs, Exec}
-use Rattle.model_cred.specs.Credential.{Credential}
 use Rattle.model_cred.specs.Space.{space_of}
 use Rattle.model_plans.specs.Move.{Setting, Seat}
 use Rattle.model_plans.specs.Walk.{seat_after}
@@ -13,11 +12,6 @@ use Rattle.model_rules.specs.CapCalls.{may_capset}
 use Rattle.model_rules.specs.Caps.{cap_sys_admin}
 use Rattle.model_rules.specs.Exec.{may_exec, would_lack, own_sets, run_file}
 use Rattle.model_rules.specs.Power.{has_over}
-
--- one of two that have the groups has them
-of_two : (b : Bool) (x y : Credential) (groups : List ℕ) → x.groups ≡ groups → y.groups ≡ groups → (if b then x else y).groups ≡ groups
-of_two true x y groups first second = first
-of_two false x y groups first second = second
 
 answer_of_two : (b : Bool) (x y : Answer) (groups : List ℕ) → x.cred.groups ≡ groups → y.cred.groups ≡ groups
     → (if b then x else y).cred.groups ≡ groups

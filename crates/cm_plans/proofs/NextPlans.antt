@@ -57,8 +57,7 @@ lasts_low (Gid id) n x is = slice_get_within (last_choices (Gid id)) n x (sym is
 
 no_sixth : (right : Right) → None ≡ slice_get (last_choices right) 5
 no_sixth (Cap cap n) = refl
-no_sixth (Uid id) = refl
-no_sixth (Gid id) = refl
+no_sixth _ = refl
 
 pub before_first : (right : Right) (ms : List CodeChoice) (pid n : ℕ) → length ms ≤ n
     → left_at right ms pid (record { first = Nothing; middle = Nothing; firsts = 0; middles = n; lasts = 5 })

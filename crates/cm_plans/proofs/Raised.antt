@@ -10,5 +10,4 @@ use Rattle.model_plans.specs.Walk.{after, after_moves}
 pub raised : (q : Setting) (seat : Seat) (c : Choice)
     → after q (after_moves q seat (choice_of c)) Raise ≡ after_moves q seat (then_raise (choice_of c))
 raised q seat code.Nothing = refl
-raised q seat (code.One move) = refl
-raised q seat (code.Two first second) = refl
+raised q seat _ = refl

@@ -4,7 +4,7 @@ use Rattle.std.proofs.Common.{◌≡◌, ℕ, ◌==◌, ◌&&◌, ◌||◌, ◌<
 use Rattle.std.proofs.Common.{if◌then◌else◌, refl, sym, ap, ◌∙◌, inl, inr, subst, arith}
 use Rattle.std.specs.Prelude.{find, All, IfSome, Result, Ok}
 use Rattle.std.specs.declared.result.Result.TheVariants.{Err}
-use Rattle.std.proofs.lemmas.Bool.{cases_Bool, cond-true, cond-false, eqb-true, eq-eqb, false≢true}
+use Rattle.std.proofs.lemmas.Bool.{cases_Bool, cond-true, cond-false, cond_both, eqb-true, eq-eqb, false≢true}
 use Rattle.cm_base.specs.Limits.{id_count}
 use Rattle.cm_base.specs.declared.errno.Errno.{Errno}
 use Rattle.cm_base.specs.declared.errno.Errno.TheVariants.{EPERM}
@@ -86,9 +86,8 @@ module _ (map : List Extent) (old : FourIds) (inside id : ℕ) (back : down map 
 -- neither of two, and not the effective one
 none_is : (a b c : Bool) → (a || c) ≡ false → b ≡ false → (a || b || c) ≡ false
 none_is false false false neither other = refl
-none_is false false true neither other = absurd (false≢true (sym neither))
 none_is false true c neither other = absurd (false≢true (sym other))
-none_is true b c neither other = absurd (false≢true (sym neither))
+none_is _ _ _ neither other = absurd (false≢true (sym neither))
 
 other_way : (a b : ℕ) → (a == b) ≡ false → (b == a) ≡ false
 other_way a b is = elim (cases_Bool (b == a)) [
@@ -162,24 +161,18 @@ module _ (q : Setting) (seat : Seat) where
   uid_stays None keeps is = refl
   uid_stays (Some id) keeps is =
       let parts = unprivileged (has_setuid seat.cred) (id == seat.cred.uid.real) (id == seat.cred.uid.saved) is in
-      let calls : List Call = calls_with uid_calls (up (extents_of (space_at_seat q seat).uids) id) in
-      elim (cases_Bool (seat.cred.uid.effective == id)) [
-        | inl same ↦ ap (λ (cs : List Call). seat_after q seat (first_of cs)) (cond-true (seat.cred.uid.effective == id) [] calls same)
-        | inr other ↦ ap (λ (cs : List Call). seat_after q seat (first_of cs)) (cond-false (seat.cred.uid.effective == id) [] calls other)
-            ∙ uid_calls_stay id keeps.uid_map parts.0 parts.1 other (up (extents_of (space_at_seat q seat).uids) id) refl
-      ]
+      cond_both (seat.cred.uid.effective == id) []
+      (calls_with uid_calls (up (extents_of (space_at_seat q seat).uids) id)) (λ cs. Stays (first_of cs)) (λ same. refl)
+      (λ other. uid_calls_stay id keeps.uid_map parts.0 parts.1 other (up (extents_of (space_at_seat q seat).uids) id) refl)
 
   gid_stays : (o : Option ℕ) → KeepsSpace (space_at_seat q seat) → may_be (has_setgid seat.cred) seat.cred.gid o ≡ false
       → Stays (first_of (becoming_gid (space_at_seat q seat) seat.cred o))
   gid_stays None keeps is = refl
   gid_stays (Some id) keeps is =
       let parts = unprivileged (has_setgid seat.cred) (id == seat.cred.gid.real) (id == seat.cred.gid.saved) is in
-      let calls : List Call = calls_with gid_calls (up (extents_of (space_at_seat q seat).gids) id) in
-      elim (cases_Bool (seat.cred.gid.effective == id)) [
-        | inl same ↦ ap (λ (cs : List Call). seat_after q seat (first_of cs)) (cond-true (seat.cred.gid.effective == id) [] calls same)
-        | inr other ↦ ap (λ (cs : List Call). seat_after q seat (first_of cs)) (cond-false (seat.cred.gid.effective == id) [] calls other)
-            ∙ gid_calls_stay id keeps.gid_map parts.0 parts.1 other (up (extents_of (space_at_seat q seat).gids) id) refl
-      ]
+      cond_both (seat.cred.gid.effective == id) []
+      (calls_with gid_calls (up (extents_of (space_at_seat q seat).gids) id)) (λ cs. Stays (first_of cs)) (λ same. refl)
+      (λ other. gid_calls_stay id keeps.gid_map parts.0 parts.1 other (up (extents_of (space_at_seat q seat).gids) id) refl)
 
   -- ---- the moves
   pub raise_stays : (seat.cred.effective == seat.cred.permitted) ≡ true → after q seat Raise ≡ seat

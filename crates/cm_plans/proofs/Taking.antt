@@ -60,11 +60,7 @@ module _ (q : Setting) (seat : Seat) (g : ℕ) where
       → (permitted && can && not none && not deny && is_the mapped g) ≡ true → has_group (group_move permitted can none deny mapped) g ≡ true
   taken_by true true false false (Some x) is = or_right (seat.cred.gid.effective == g) (x == g || false)
       (or_left (x == g) false (eq-eqb x g (sym (eqb-true g x is))))
-  taken_by true true false false None is = absurd (false≢true is)
-  taken_by true true false true mapped is = absurd (false≢true is)
-  taken_by true true true deny mapped is = absurd (false≢true is)
-  taken_by true false none deny mapped is = absurd (false≢true is)
-  taken_by false can none deny mapped is = absurd (false≢true is)
+  taken_by _ _ _ _ _ is = absurd (false≢true is)
 
   kept_by : (permitted can none deny : Bool) (mapped : Option ℕ)
       → (permitted && can && not none && not deny && is_the mapped g) ≡ false → has_group (group_move permitted can none deny mapped) g ≡ true
@@ -76,11 +72,7 @@ module _ (q : Setting) (seat : Seat) (g : ℕ) where
       | inr wrong ↦ absurd (false≢true wrong)
     ]
   ]
-  kept_by true true false false None is has = has
-  kept_by true true false true mapped is has = has
-  kept_by true true true deny mapped is has = has
-  kept_by true false none deny mapped is has = has
-  kept_by false can none deny mapped is has = has
+  kept_by _ _ _ _ _ is has = has
 
   abbrev group_call : Option ℕ → Option Call
   group_call inside = find (λ call. q.permitted (kind_of call)) (calls_with group_calls inside)

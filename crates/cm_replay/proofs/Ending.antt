@@ -1,6 +1,5 @@
 -- With which answers a replay ends, whatever it is of.
-use Rattle.std.proofs.Common.{◌≡◌, ℕ, ◌+◌, List, [], ◌∷◌, Option, None, Some, sym, ◌∙◌, subst}
-use Rattle.std.proofs.Common.{Result, Ok, Err, IfOk}
+use Rattle.std.proofs.Common.{◌≡◌, ℕ, ◌+◌, List, [], ◌∷◌, Option, None, Some, sym, ◌∙◌, subst, Result, Ok, Err, IfOk}
 use Rattle.cm_base.specs.declared.limited.Limited.{Limited}
 use Rattle.cm_base.specs.declared.status.Status.{Status}
 use Rattle.cm_replay.proofs.Shown.{same_status}
@@ -12,13 +11,12 @@ use Rattle.cm_replay.specs.declared.untold.Untold.{Untold}
 use Rattle.model_cred.specs.Process.{State}
 use Rattle.model_cred.specs.World.{World}
 use Rattle.model_report.specs.Replay.{Report, after, by_end, by_outcome, exceeded, replayed, step_lines, unless_exceeded}
-use Rattle.model_run.specs.Step.{Goes, NoProcess, NoSpace, Outcome, PidInUse, Wrong, outcome}
-use Rattle.model_text.specs.Reading.{Fault, Limit, End, AtEnd, Stops, Placed, Reading}
+use Rattle.model_run.specs.Step.{Goes, Outcome, outcome}
+use Rattle.model_text.specs.Reading.{Fault, End, Stops, Placed, Reading}
 
 end_answers : (count : ℕ) (ending : End) → IsReplayAnswer (by_end count ending).status
-end_answers count AtEnd = tt
 end_answers count (Stops (Fault number why)) = tt
-end_answers count (Stops (Limit l)) = tt
+end_answers count _ = tt
 
 unless_answers : (over : Option Limited) (r : Report) → IsReplayAnswer r.status
     → IsReplayAnswer (unless_exceeded over r).status
@@ -29,10 +27,7 @@ outcome_answers : (w : World) (e : Placed) (rest : State → Report) (become : O
     → ((s : State) → IsReplayAnswer (rest s).status)
     → IsReplayAnswer (by_outcome w e rest become).status
 outcome_answers w e rest (Goes s) each = unless_answers (exceeded s) (after (step_lines w s e) (rest s)) (each s)
-outcome_answers w e rest (Wrong res) each = tt
-outcome_answers w e rest NoProcess each = tt
-outcome_answers w e rest NoSpace each = tt
-outcome_answers w e rest PidInUse each = tt
+outcome_answers w e rest _ each = tt
 
 replayed_answers : (w : World) (s : State) (count : ℕ) (events : List Placed) (ending : End)
     → IsReplayAnswer (replayed w s count events ending).status

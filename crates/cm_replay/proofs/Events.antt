@@ -1,6 +1,6 @@
 -- What an event adds to the report, to the run and to what is counted.
 use Rattle.std.proofs.Common.{◌≡◌, ◌≢◌, ℕ, ◌+◌, Bool, List, [], ◌∷◌, ◌++◌, Option}
-use Rattle.std.proofs.Common.{Some, refl, sym, ap, ◌∙◌, subst, append_assoc, append-nil}
+use Rattle.std.proofs.Common.{refl, sym, ap, ◌∙◌, subst, append_assoc, append-nil}
 use Rattle.cm_base.specs.declared.limited.Limited.{Limited}
 use Rattle.cm_base.specs.declared.status.Status.{Status}
 use Rattle.cm_base.specs.declared.status.Status.TheVariants as status
@@ -17,8 +17,8 @@ use Rattle.model_cred.specs.World.{World}
 use Rattle.model_report.proofs.Texts.{text_of_append}
 use Rattle.model_run.specs.Step.{Outcome, Goes, NoProcess, NoSpace, PidInUse, Wrong, outcome}
 use Rattle.model_report.specs.Causes.{RunWithin}
-use Rattle.model_report.specs.Replay.{Report, ReportLine, Plain, text_of, by_outcome, after, impossible_text, limit_hit, limit_text, step_lines, replayed}
-use Rattle.model_report.specs.Replay.{exceeded, IsWithin, unless_exceeded}
+use Rattle.model_report.specs.Replay.{Report, ReportLine, Plain, text_of, by_outcome, after, impossible_text, step_lines, replayed}
+use Rattle.model_report.specs.Replay.{IsWithin, unless_exceeded}
 use Rattle.model_text.specs.Reading.{Placed, Reading, events_of, reads_on}
 
 -- ---- what an event comes to
@@ -35,18 +35,6 @@ passes shows w e rest s within =
     ap (λ (l : Option Limited). shown_report shows (unless_exceeded l (after (step_lines w s e) (rest s)))) within
     ∙ shown_after shows (step_lines w s e) (rest s) (step_plain w s e)
     ∙ ap (λ (ls : List ReportLine). after (shown_lines shows ls) (shown_report shows (rest s))) (sym alone)
-
--- a step to a state that exceeds a limit ends the replay
-pub crowds : (w : World) (e : Placed) (l : Limited) (become : Outcome) (s : State) → become ≡ Goes s → exceeded s ≡ Some l
-    → EndsWith w e status.Limit become × ((shows : Bool) → event_lines shows w e become ≡ (limit_hit l).lines)
-crowds w e l become s is over =
-    let given : (rest : State → Report) → by_outcome w e rest become ≡ limit_hit l
-    = λ rest. ap (λ (o : Outcome). by_outcome w e rest o) is
-    ∙ ap (λ (found : Option Limited). unless_exceeded found (after (step_lines w s e) (rest s))) over in
-    let lines : told_lines w e become ≡ (limit_hit l).lines = ap (λ (r : Report). r.lines) (given nothing) in (
-      record { other = λ same. cc; report = λ rest. given rest ∙ ap (λ (ls : List ReportLine). record { status = status.Limit; lines = ls }) (sym lines) },
-      λ shows. shown_line shows (limit_text l) (told_lines w e become) lines,
-    )
 
 -- What the machine says of an event that it refuses: the replay ends with it, and its line tells the machine's reason.
 pub record IsRefused (w : World) (e : Placed) (why : StepError) (become : Outcome) : Type 0 where
@@ -89,7 +77,8 @@ module _ (w : World) (from to : Replay) (reading rest : Reading) (e : Placed) (i
   abbrev Goes_on : Type 0
   Goes_on = IsTurn w e turn.Goes becomes to.machine.state
 
-  goes_on : Goes_on → to.events ≡ from.events + 1 → to.shows ≡ from.shows
+  -- the report is the event's lines, and then the rest's
+  pub goes_on : Goes_on → to.events ≡ from.events + 1 → to.shows ≡ from.shows
       → report_from w from reading ≡ after lines_here (report_from w to rest)
   goes_on step counted same =
       report_is ∙ ap (λ (o : Outcome). shown_report from.shows (by_outcome w e next o)) step.0
@@ -100,11 +89,7 @@ module _ (w : World) (from to : Replay) (reading rest : Reading) (e : Placed) (i
       (shown_report b (replayed w to.machine.state to.events rest.events rest.ending))) (sym same)
       ∙ ap (λ (o : Outcome). after (event_lines from.shows w e o) (report_from w to rest)) (sym step.0)
 
-  -- the status is that of the rest, and what is still to be written is the event's lines and the rest
-  pub next_status : Goes_on → to.events ≡ from.events + 1 → to.shows ≡ from.shows
-      → (report_from w from reading).status ≡ (report_from w to rest).status
-  next_status step counted same = ap (λ (r : Report). r.status) (goes_on step counted same)
-
+  -- what is still to be written is the event's lines and the rest
   pub next_waits : Goes_on → to.events ≡ from.events + 1 → to.shows ≡ from.shows → (text text' : List ℕ) → text' ≡ text ++ text_of lines_here
       → text ++ text_of (report_from w from reading).lines ≡ text' ++ text_of (report_from w to rest).lines
   next_waits step counted same text text' put =
@@ -122,14 +107,7 @@ module _ (w : World) (from to : Replay) (reading rest : Reading) (e : Placed) (i
       subst (λ (r : Reading). RunWithin w from.machine.state (events_of r.events) s) (sym is) (to.machine.state, step.0, step.1, run)
 
   -- ---- where it ends with it
-  ends_here : (st : Status) → EndsWith w e st becomes → report_from w from reading ≡ record { status = st; lines = lines_here }
+  pub ends_here : (st : Status) → EndsWith w e st becomes → report_from w from reading ≡ record { status = st; lines = lines_here }
   ends_here st ends =
       report_is ∙ ap (λ (r : Report). shown_report from.shows r) (ends.report next)
       ∙ shown_end from.shows st (told_lines w e becomes) ends.other
-
-  pub end_status : (st : Status) → EndsWith w e st becomes → (report_from w from reading).status ≡ st
-  end_status st ends = ap (λ (r : Report). r.status) (ends_here st ends)
-
-  pub end_waits : (st : Status) → EndsWith w e st becomes → (text text' : List ℕ)
-      → text' ≡ text ++ text_of lines_here → text ++ text_of (report_from w from reading).lines ≡ text'
-  end_waits st ends text text' put = ap (λ (r : Report). text ++ text_of r.lines) (ends_here st ends) ∙ sym put

@@ -1,13 +1,14 @@
 -- A cutter that gave a line: where it stands then, and what was read for it.
-use Rattle.std.proofs.Common.{◌≡◌, ◌≤◌, ◌<◌, ℕ, ◌+◌, ◌-◌, List, [], ◌∷◌, length, drop, length-drop, Bool, false, IsTrue, ap, Option, None, Some, Result, Ok, Err, IfOk, IfSome, Bor}
-use Rattle.std.proofs.Common.{refl, sym, cond, subst, ◌∙◌, arith}
+use Rattle.std.proofs.Common.{◌≡◌, ◌≤◌, ◌<◌, ℕ, ◌+◌, ◌-◌, List, [], length, drop, length-drop, Bool, false, IsTrue, ap, Option, None, Some, Result, Ok, Err, IfOk, IfSome, Bor}
+use Rattle.std.proofs.Common.{sym, cond, subst, ◌∙◌, arith}
 use Rattle.std.specs.Prelude.{OnOk}
 use Rattle.cm_base.specs.Limited.{limit_number}
 use Rattle.cm_base.specs.declared.limited.Limited.TheVariants as limit
 use Rattle.cm_io.proofs.FileReads.{file_then, file_within}
 use Rattle.cm_io.proofs.Coming.{gives_end}
+use Rattle.cm_io.proofs.Cutting.{next_end}
 use Rattle.cm_io.specs.Account.{Account, ReadsFile}
-use Rattle.cm_io.specs.Cutter.{Cutting, GoesPast, IsAfter, IsCut, Moves, begun, ends, left_of, next_cut, next_of, read_to}
+use Rattle.cm_io.specs.Cutter.{Cutting, GoesPast, IsAfter, IsCut, Moves, begun, ends, left_of, next_of, read_to}
 use Rattle.cm_lines.specs.Cut.{ends_by}
 use Rattle.cm_io.specs.Shelf.{Files, ReadsByBytes, bytes_at}
 use Rattle.cm_io.specs.declared.cutter.CutError.{CutError}
@@ -17,24 +18,20 @@ use Rattle.cm_io.specs.declared.cutter.CutError.TheVariants.{Read}
 abbrev Answer : Type 0
 Answer = Result (Option (Bor (List ℕ))) CutError
 
--- a fact of an answer that is a line
-of_line : (P : Answer → Type 0) (line : Bor (List ℕ)) (r : Answer) → r ≡ Ok (Some line) → P r → P (Ok (Some line))
-of_line P line r is h = subst P is h
-
 pub line_goes : (held : Option Files) (old new : Cutting) (line : Bor (List ℕ)) (r : Answer) → r ≡ Ok (Some line) → Moves held old new r
     → GoesPast held old new line.now
-line_goes held old new line r is moves = of_line (λ (x : Answer). Moves held old new x) line r is moves
+line_goes held old new line r is moves = subst (λ (x : Answer). Moves held old new x) is moves
 
 -- it is what comes next
 pub line_cut : (held : Option Files) (old : Cutting) (line : Bor (List ℕ)) (r : Answer) → r ≡ Ok (Some line)
     → IfSome held (λ files. IsCut old (bytes_at files old.name) r) → IfSome held (λ files. next_of old (bytes_at files old.name) ≡ Ok (Some line.now))
-line_cut held old line r is cut = of_line (λ (x : Answer). IfSome held (λ files. IsCut old (bytes_at files old.name) x)) line r is cut
+line_cut held old line r is cut = subst (λ (x : Answer). IfSome held (λ files. IsCut old (bytes_at files old.name) x)) is cut
 
 -- it is within its limit
 pub line_is_short : (line : Bor (List ℕ)) (most : ℕ) (r : Answer) → most ≡ limit_number limit.Line → r ≡ Ok (Some line)
     → IfOk r (λ given. IfSome given (λ l. length l.now ≤ most)) → length line.now < 4294967296
 line_is_short line most r limited is short =
-    let low : length line.now ≤ most = of_line (λ (x : Answer). IfOk x (λ given. IfSome given (λ l. length l.now ≤ most))) line r is short in
+    let low : length line.now ≤ most = subst (λ (x : Answer). IfOk x (λ given. IfSome given (λ l. length l.now ≤ most))) is short in
     omega (arith, low, limited)
 
 -- What was read of the file until then is what was read before it, and for the line: what was taken is what it gave and
@@ -45,8 +42,8 @@ pub line_file : (a b c : Account) (name : List ℕ) (old new : Cutting) (line : 
 line_file a b c name old new line r most idle named is open_ before after file =
     let none : ends old ≡ 0 = ap (λ (e : Bool). cond e 1 0) open_ in
     let given : c.taken old.name + read_to old ≤ b.taken old.name + read_to new
-    = of_line (λ (x : Answer). OnOk x (c.taken old.name + read_to old ≤ b.taken old.name + read_to new)) line r is after.takes in
-    let gives = of_line (λ (x : Answer). OnOk x (ReadsByBytes b.reads c.reads b.taken c.taken old.name (ends new))) line r is after.reads in
+    = subst (λ (x : Answer). OnOk x (c.taken old.name + read_to old ≤ b.taken old.name + read_to new)) is after.takes in
+    let gives = subst (λ (x : Answer). OnOk x (ReadsByBytes b.reads c.reads b.taken c.taken old.name (ends new))) is after.reads in
     let later = file.reads.later in
     let next : ReadsFile b c old.name (read_to new - read_to old) (ends new) ⊥ = record {
       held = file.held;
@@ -76,10 +73,10 @@ pub line_ends : (held h : Option Files) (name : List ℕ) (old new : Cutting) (l
     → OnOk r (IsTrue new.ended → new.kept ≡ [])
     → OnOk r (IsTrue new.ended → IfSome h (λ files. length (bytes_at files old.name) ≤ read_to new)) → EndsIn held name new
 line_ends held h name old new line r is same named last whole ended = (
-  of_line (λ (x : Answer). OnOk x (IsTrue new.ended → new.kept ≡ [])) line r is last ended,
+  subst (λ (x : Answer). OnOk x (IsTrue new.ended → new.kept ≡ [])) is last ended,
   subst (λ (x : Option Files). IfSome x (λ files. length (bytes_at files name) ≤ read_to new)) same
       (subst (λ (n : List ℕ). IfSome h (λ files. length (bytes_at files n) ≤ read_to new)) named
-      (of_line (λ (x : Answer). OnOk x (IsTrue new.ended → IfSome h (λ files. length (bytes_at files old.name) ≤ read_to new))) line r is whole ended)),
+      (subst (λ (x : Answer). OnOk x (IsTrue new.ended → IfSome h (λ files. length (bytes_at files old.name) ≤ read_to new))) is whole ended)),
 )
 
 -- What was read of the file until then, and for an answer more.
@@ -110,9 +107,5 @@ ended_left None c name ends_in ended = tt
 ended_left (Some files) c name ends_in ended =
     let none : length c.kept ≡ 0 = ap length (ends_in ended).0 in
     let most = (ends_in ended).1 in
-    gives_end c (bytes_at files name) (none_left c.line c.whole c.place (drop c.place (bytes_at files name))
+    gives_end c (bytes_at files name) (next_end c.line c.whole c.place (drop c.place (bytes_at files name))
     (omega (arith, length-drop c.place (bytes_at files name), most, none)))
-  where
-    none_left : (line whole place : ℕ) (left_ : List ℕ) → length left_ ≤ 0 → next_cut line whole place left_ ≡ Ok None
-    none_left line whole place [] few = refl
-    none_left line whole place (b ∷ bs) few = absurd (omega (arith, few))

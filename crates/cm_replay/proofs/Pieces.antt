@@ -12,7 +12,7 @@ use Rattle.cm_io.specs.Sink.{then_written}
 use Rattle.cm_io.specs.declared.cutter.CutError.{CutError}
 use Rattle.cm_lines.specs.Cut.{Cut, before, ends_by}
 use Rattle.cm_lines.specs.declared.limits.Past.{Past}
-use Rattle.cm_lines.specs.declared.limits.Past.TheVariants.{Line, Whole}
+use Rattle.cm_lines.specs.declared.limits.Past.TheVariants.{Line}
 use Rattle.cm_log.specs.Left.{left}
 use Rattle.cm_log.specs.declared.log.Log.{Log}
 use Rattle.cm_replay.proofs.Standing.{cut_then, ends_then, goes_then, stays}
@@ -137,16 +137,14 @@ sends_by shows w from to begun now next reading (Ok st) is grown ends fault = λ
     (subst (λ (s : Status). EndsAs w from to now next s reading) accepted ends)
 sends_by shows w from to begun now next reading (Err untold.ReadFault) is grown ends fault =
     subst (λ (t : Option (List ℕ)). SendsAll shows begun.written t begun.waits) (sym (fault refl)) (all_sent shows begun now grown)
-sends_by shows w from to begun now next reading (Err untold.WriteFault) is grown ends fault = tt
-sends_by shows w from to begun now next reading (Err untold.NoMemory) is grown ends fault = tt
+sends_by shows w from to begun now next reading (Err _) is grown ends fault = tt
 
 -- at an error that is no fault of reading nothing is asked of what was sent
 pub none_sends : (shows : Bool) (written written' : Option (List ℕ)) (waits waits' : List ℕ) (r : Result Status Untold) (why : Untold)
     → r ≡ Err why → r ≢ Err untold.ReadFault → SendsBy shows written written' waits waits' r
 none_sends shows written written' waits waits' (Ok st) why is other = absurd (cc)
 none_sends shows written written' waits waits' (Err untold.ReadFault) why is other = absurd (other refl)
-none_sends shows written written' waits waits' (Err untold.WriteFault) why is other = tt
-none_sends shows written written' waits waits' (Err untold.NoMemory) why is other = tt
+none_sends shows written written' waits waits' (Err _) why is other = tt
 
 -- ---- what is told
 pub comes_then : (w : World) (from mid to : Replay) (old now new : Outgoing) (reading between : Reading) (result : Result Status Untold)
@@ -198,19 +196,20 @@ keeps_at_end w first from to now next reading (Err why) up within cut = tt
 
 -- ---- the cutter
 -- what a cutter still gave is what it gave and what it still gives
+given_by : (held held' : Option Files) (old new : Cutting) (name : List ℕ) (P : List ℕ → Type 0)
+    (r : Result (Option (Bor (List ℕ))) CutError) → held ≡ held' → old.name ≡ name
+    → ((text : List ℕ) → Gives old new text r → P text)
+    → IfSome held (λ files. Gives old new (bytes_at files old.name) r) → IfSome held' (λ files. P (bytes_at files name))
+given_by held held' old new name P r same named tells gives =
+    subst (λ (h : Option Files). IfSome h (λ files. P (bytes_at files name))) same (IfSome_then held gives (λ files a.
+    subst (λ (n : List ℕ). P (bytes_at files n)) named (tells (bytes_at files old.name) a)))
+
 pub line_given : (held held' : Option Files) (old new : Cutting) (name : List ℕ) (line : Bor (List ℕ)) (r : Result (Option (Bor (List ℕ))) CutError)
     → held ≡ held' → old.name ≡ name → r ≡ Ok (Some line) → IfSome held (λ files. Gives old new (bytes_at files old.name) r)
     → IfSome held' (λ files. left_of old (bytes_at files name) ≡ before line.now (left_of new (bytes_at files name)))
 line_given held held' old new name line r same named is gives =
-    subst (λ (h : Option Files). IfSome h (λ files. left_of old (bytes_at files name) ≡ before line.now (left_of new (bytes_at files name)))) same
-    (by held gives)
-  where
-    by : (h : Option Files) → IfSome h (λ files. Gives old new (bytes_at files old.name) r)
-        → IfSome h (λ files. left_of old (bytes_at files name) ≡ before line.now (left_of new (bytes_at files name)))
-    by None gives' = tt
-    by (Some files) gives' =
-        subst (λ (n : List ℕ). left_of old (bytes_at files n) ≡ before line.now (left_of new (bytes_at files n))) named
-        (subst (λ (x : Result (Option (Bor (List ℕ))) CutError). Gives old new (bytes_at files old.name) x) is gives')
+    given_by held held' old new name (λ text. left_of old text ≡ before line.now (left_of new text)) r same named
+    (λ text a. subst (λ (x : Result (Option (Bor (List ℕ))) CutError). Gives old new text x) is a) gives
 
 -- how the cutting ends, by an answer that is no line
 abbrev pub EndsBy : Option Past → Result (Option (Bor (List ℕ))) CutError → Type 0
@@ -221,30 +220,30 @@ pub end_given : (held held' : Option Files) (old new : Cutting) (name : List ℕ
     → held ≡ held' → old.name ≡ name → EndsBy past r → IfSome held (λ files. Gives old new (bytes_at files old.name) r)
     → IfSome held' (λ files. left_of old (bytes_at files name) ≡ ends_by past)
 end_given held held' old new name past r same named is gives =
-    subst (λ (h : Option Files). IfSome h (λ files. left_of old (bytes_at files name) ≡ ends_by past)) same (by held gives)
+    given_by held held' old new name (λ text. left_of old text ≡ ends_by past) r same named
+    (λ text a. ended past text is a) gives
   where
     ended : (p : Option Past) (text : List ℕ) → EndsBy p r → Gives old new text r → left_of old text ≡ ends_by p
-    ended None text ends gives' = subst (λ (x : Result (Option (Bor (List ℕ))) CutError). Gives old new text x) ends gives'
     ended (Some Line) text ends gives' = subst (λ (x : Result (Option (Bor (List ℕ))) CutError). Gives old new text x) ends gives'
-    ended (Some Whole) text ends gives' = subst (λ (x : Result (Option (Bor (List ℕ))) CutError). Gives old new text x) ends gives'
-
-    by : (h : Option Files) → IfSome h (λ files. Gives old new (bytes_at files old.name) r)
-        → IfSome h (λ files. left_of old (bytes_at files name) ≡ ends_by past)
-    by None gives' = tt
-    by (Some files) gives' =
-        subst (λ (n : List ℕ). left_of old (bytes_at files n) ≡ ends_by past) named (ended past (bytes_at files old.name) is gives')
+    ended _ text ends gives' = subst (λ (x : Result (Option (Bor (List ℕ))) CutError). Gives old new text x) ends gives'
 
 -- ---- a line, and an end, where it is told what the shelf holds
-module _ (held : Option Files) (w : World) (name : List ℕ) (first : Replay) (begun : Outgoing) (reading : Files → Reading) where
+module _ (held : Option Files) (w : World) (first : Replay) (begun : Outgoing) (first_log : Log) (whole : Cutting) where
+  abbrev name : List ℕ
+  name = whole.name
+
+  -- what was to be read of the log
+  abbrev reading : Files → Reading
+  reading files = left w first_log (left_of whole (bytes_at files name))
+
   -- how far the replay has gone, where the cutter still gives this
   abbrev pub Gone : Replay → Outgoing → Log → Cutting → Type 0
   Gone replay out log cutter =
       IfSome held (λ files. GoesOn w first replay begun out (reading files) (left w log (left_of cutter (bytes_at files name))))
 
   -- at first
-  pub gone_start : (log : Log) (cutter : Cutting) → ((files : Files) → reading files ≡ left w log (left_of cutter (bytes_at files name)))
-      → Gone first begun log cutter
-  gone_start log cutter is = always held (λ files. stays w first begun (reading files) (left w log (left_of cutter (bytes_at files name))) (is files))
+  pub gone_start : Gone first begun first_log whole
+  gone_start = always held (λ files. stays w first begun (reading files) (reading files) refl)
 
   pub gone_on : (mid to : Replay) (now next : Outgoing) (log log' : Log) (old new : Cutting) (line : List ℕ)
       → Gone mid now log old

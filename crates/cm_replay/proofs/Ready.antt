@@ -1,43 +1,22 @@
--- A replay and a log between two lines: there is room for the next one; and what an event leaves.
-use Rattle.std.proofs.Common.{◌≡◌, ◌≤◌, ◌<◌, ℕ, ◌+◌, List, [], ◌∷◌, length, cond, refl, subst, arith}
+-- What an event leaves of a replay and a log that stand between two lines.
+use Rattle.std.proofs.Common.{◌≡◌, ◌≤◌, ℕ, ◌+◌, List, [], ◌∷◌, length, cond, refl, arith}
 use Rattle.std.proofs.lemmas.List.Sums.{sum_by-cons}
-use Rattle.cm_base.specs.Limited.{limit_number}
-use Rattle.cm_base.specs.Limits.{greatest_number}
-use Rattle.cm_base.specs.declared.limited.Limited.TheVariants as limit
 use Rattle.cm_credentials.specs.Kept.{Keeps}
-use Rattle.cm_log.proofs.Known.{knows_more, spaces_few}
-use Rattle.cm_log.specs.Counts.{Counts, IsFresh, KnowsWithin, events_due, lines_read, spaces_in}
+use Rattle.cm_log.proofs.Known.{knows_more}
+use Rattle.cm_log.specs.Counts.{Counts, KnowsWithin, events_due, lines_read}
 use Rattle.cm_log.specs.declared.log.Log.{Log}
-use Rattle.cm_replay.specs.Following.{Advances, IsReady, Took}
+use Rattle.cm_replay.specs.Following.{Advances, Took}
 use Rattle.cm_replay.specs.Replay.{IsTurn}
 use Rattle.cm_replay.specs.declared.replay.Replay.{Replay}
 use Rattle.cm_replay.specs.declared.replay.Turn.TheVariants as turn
 use Rattle.model_cred.specs.Call.{Event}
 use Rattle.model_cred.specs.Made.{makes_space, spaces_made}
 use Rattle.model_cred.specs.World.{World}
-use Rattle.model_laws.proofs.MadeSpaces.{steps_make_spaces, within_few}
+use Rattle.model_laws.proofs.MadeSpaces.{steps_make_spaces}
 use Rattle.model_laws.specs.Steps.{StepsMakeSpaces}
 use Rattle.model_report.specs.Replay.{IsWithin}
 use Rattle.model_run.specs.Step.{outcome}
 use Rattle.model_text.specs.Reading.{Placed, events_of}
-
--- there is a number for each user namespace that the line may make
-pub ready_room : (w : World) (replay : Replay) (log : Log) → IsReady w replay log → spaces_in log < greatest_number
-ready_room w replay log ready =
-    let few : spaces_in log ≤ length replay.machine.state.spaces + limit_number limit.Held =
-    spaces_few (length replay.machine.state.spaces) log ready.knows in
-    let spaces : length replay.machine.state.spaces ≤ limit_number limit.Spaces =
-    within_few replay.machine.state ready.within in
-    omega (arith, few, spaces)
-
--- A replay that begins, and a log no line of which has come, are between two lines.
-pub fresh_ready : (w : World) (replay : Replay) (log : Log) (n : ℕ) → Keeps w.names replay.kept → IsWithin replay.machine.state
-    → n ≡ length replay.machine.state.spaces → IsFresh n log → IsReady w replay log
-fresh_ready w replay log n keeps within is fresh = record {
-  keeps = keeps;
-  within = within;
-  knows = subst (λ (k : ℕ). KnowsWithin k log) is fresh.knows;
-}
 
 -- an event's state has the user namespaces that it makes
 pub event_spaces : (w : World) (from to : Replay) (e : Placed) → IsTurn w e turn.Goes (outcome w from.machine.state e.event) to.machine.state

@@ -1,8 +1,8 @@
 -- How a replay follows a log: an event, an end, and one thing after another.
 use Rattle.std.proofs.Common.{◌≡◌, ◌∙◌, ◌≤◌, ℕ, ◌+◌, List, [], ◌∷◌, ◌++◌, length}
-use Rattle.std.proofs.Common.{false, Option, Result, Ok, Err, refl, sym, ap, subst, append-nil, arith}
+use Rattle.std.proofs.Common.{false, Option, Ok, refl, sym, ap, subst, append-nil, arith}
 use Rattle.cm_base.specs.declared.status.Status.{Status}
-use Rattle.cm_replay.proofs.Events.{end_status, end_waits, next_status, next_waits, passed_lines, run_on}
+use Rattle.cm_replay.proofs.Events.{ends_here, goes_on, next_waits, passed_lines, run_on}
 use Rattle.cm_replay.proofs.Ready.{event_spaces}
 use Rattle.cm_replay.proofs.Shown.{no_step_lines, same_status}
 use Rattle.cm_replay.specs.Following.{EndsAs, Follows, GoesOn, IsCutOff, Outgoing}
@@ -12,7 +12,6 @@ use Rattle.cm_replay.specs.Replay.{told_lines, EndsBy, EndsWith, IsTurn}
 use Rattle.cm_replay.specs.declared.replay.Replay.{Replay}
 use Rattle.cm_replay.specs.declared.replay.Turn.{Turn}
 use Rattle.cm_replay.specs.declared.replay.Turn.TheVariants as turn
-use Rattle.cm_replay.specs.declared.untold.Untold.{Untold}
 use Rattle.cm_report.proofs.Waiting.{all_waits, front_of_more, front_on, more_waits, sent_on, waits_as}
 use Rattle.cm_report.specs.Sent.{IsFront, IsSent}
 use Rattle.cm_strace.specs.Answers.{stop_is}
@@ -20,7 +19,7 @@ use Rattle.cm_strace.specs.declared.stage.Stage.{Stage}
 use Rattle.cm_strace.specs.declared.stage.Stage.TheVariants as stage
 use Rattle.model_cred.specs.Made.{spaces_made}
 use Rattle.model_cred.specs.World.{World}
-use Rattle.model_report.specs.Replay.{ReportLine, text_of, by_end, step_lines}
+use Rattle.model_report.specs.Replay.{Report, ReportLine, text_of, by_end, step_lines}
 use Rattle.model_run.specs.Step.{outcome}
 use Rattle.model_text.specs.Reading.{Placed, End, AtEnd, Stops, Reading, ends_at, reads_on}
 
@@ -59,12 +58,6 @@ pub cut_then : (w : World) (from mid : Replay) (old now new : Outgoing) (reading
     → GoesOn w from mid old now reading between → IsCutOff w mid now new between → IsCutOff w from old new reading
 cut_then w from mid old now new reading between a b = front_on a.sent b
 
-pub follows_then : (w : World) (from mid to : Replay) (old now new : Outgoing) (result : Result Turn Untold) (reading between rest : Reading)
-    → GoesOn w from mid old now reading between → Follows w mid to now new result between rest → Follows w from to old new result reading rest
-follows_then w from mid to old now new (Ok turn.Goes) reading between rest a b = goes_then a b
-follows_then w from mid to old now new (Ok (turn.Ends st)) reading between rest a b = ends_then a b
-follows_then w from mid to old now new (Err why) reading between rest a b = cut_then w from mid old now new reading between a b
-
 -- nothing of it is sent
 pub none_sent : (written : Option (List ℕ)) (whole : List ℕ) → IsFront written written whole
 none_sent written whole = (whole, all_waits written whole)
@@ -90,7 +83,7 @@ pub event_goes : (w : World) (from to : Replay) (reading rest : Reading) (e : Pl
     → reading ≡ reads_on e rest → Goes_on w from to e old.waits text → IsSent old.written new.written new.waits text
     → GoesOn w from to old new reading rest
 event_goes w from to reading rest e old text new is goes sent = record {
-  status = sym (next_status w from to reading rest e is goes.turn goes.events goes.shows);
+  status = sym (ap (λ (r : Report). r.status) (goes_on w from to reading rest e is goes.turn goes.events goes.shows));
   sent = sent_on (whole_waits w from to reading rest e old text is goes) (more_waits sent (text_of (report_from w to rest).lines));
   reached = λ s run. run_on w from to reading rest e is goes.turn s run;
   shows = goes.shows;
@@ -121,12 +114,14 @@ pub event_ends : (w : World) (from to : Replay) (reading rest : Reading) (e : Pl
     → reading ≡ reads_on e rest → EndsWith w e st (outcome w from.machine.state e.event)
     → text ≡ old.waits ++ text_of (event_lines from.shows w e (outcome w from.machine.state e.event))
     → EndsAs w from to old (record { written = old.written; waits = text }) st reading
-event_ends w from to reading rest e old text st is ends lines = record {
-  status = end_status w from to reading rest e is st ends;
-  sent = waits_as _ _ (end_waits w from to reading rest e is st ends old.waits text lines)
-      (all_waits old.written (old.waits ++ text_of (report_from w from reading).lines));
-  reached = λ accepted. absurd (ends.other accepted);
-}
+event_ends w from to reading rest e old text st is ends lines =
+    let here = ends_here w from to reading rest e is st ends in
+    record {
+      status = ap (λ (r : Report). r.status) here;
+      sent = waits_as _ _ (ap (λ (r : Report). old.waits ++ text_of r.lines) here ∙ sym lines)
+          (all_waits old.written (old.waits ++ text_of (report_from w from reading).lines));
+      reached = λ accepted. absurd (ends.other accepted);
+    }
 
 -- ---- an end
 
@@ -162,5 +157,4 @@ told_ends w from to old now told stage.Finished answer text later goes ends =
 pub goes_by : (replay : Replay) (at : Stage) (text text' : List ℕ) → EndsBy replay at turn.Goes text text'
     → at ≡ stage.Going
 goes_by replay stage.Going text text' ends = refl
-goes_by replay (stage.Stopped stop) text text' ends = let is = ends.status in cc
-goes_by replay stage.Finished text text' ends = let is = ends.status in cc
+goes_by replay _ text text' ends = let is = ends.status in cc

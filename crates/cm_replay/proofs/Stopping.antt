@@ -40,11 +40,6 @@ none_failed before now r same other = record {
   others = λ _. same;
 }
 
--- why nothing came of one thing is why nothing came of another
-pub read_as : {T U : Type 0} (why : Untold) (r : Result T Untold) (s : Result U Untold) → r ≡ Err why → s ≡ Err why
-    → r ≢ Err untold.ReadFault → s ≢ Err untold.ReadFault
-read_as why r s one two none is = none (let same : why ≡ untold.ReadFault = cc in one ∙ ap (λ (e : Untold). Err e) same)
-
 pub untold_as : {T U : Type 0} (why : Untold) (before now : ℕ) (r : Result T Untold) (s : Result U Untold) → r ≡ Err why
     → s ≡ Err why
     → UntoldFaults before now r → UntoldFaults before now s

@@ -25,7 +25,7 @@ use Rattle.cm_strace.specs.declared.stage.Stage.{Stage}
 use Rattle.cm_strace.specs.declared.stage.Stage.TheVariants as stage
 use Rattle.model_cred.specs.World.{World}
 use Rattle.model_report.specs.Replay.{Report, by_end, replayed, text_of}
-use Rattle.model_strace.specs.Rest.{Finished, Going, Session, Stopped, rest}
+use Rattle.model_strace.specs.Rest.{Going, Session, rest}
 use Rattle.model_text.specs.Reading.{Placed, Reading}
 
 -- ---- a replay between two lines
@@ -106,14 +106,12 @@ none_too_long w (Script log) = by log.stage (log.lines + 1)
   where
     by : (s : Stage) (n : ℕ) → (lines_left w s n (ends_by (Some Line))).events ≡ []
     by stage.Going n = refl
-    by (stage.Stopped stop) n = refl
-    by stage.Finished n = refl
+    by _ n = refl
 none_too_long w (Strace log) = by log.tracer
   where
     by : (session : Session) → (rest w session (ends_by (Some Line))).events ≡ []
     by (Going t) = refl
-    by (Stopped count stop) = refl
-    by (Finished count) = refl
+    by _ = refl
 
 -- so its report is the line that ends it
 only_end : (w : World) (replay : Replay) (reading : Reading) (shows : Bool) → reading.events ≡ [] → replay.shows ≡ shows

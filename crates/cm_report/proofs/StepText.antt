@@ -1,31 +1,19 @@
--- The lines of a step: the process at a place, and what the pieces put one after another come to.
-use Rattle.std.proofs.Common.{◌≡◌, ◌<◌, ℕ, List, [], ◌∷◌, ◌++◌, Option, Some, decimal, codes, length, get_or, slice_get, refl, sym, ap, subst, ◌∙◌, append_assoc}
-use Rattle.std.proofs.lemmas.Option.{slice_get_read}
+-- The lines of a step: what the pieces put one after another come to.
+use Rattle.std.proofs.Common.{◌≡◌, ℕ, List, [], ◌∷◌, ◌++◌, decimal, codes, refl, sym, ap, ◌∙◌, append_assoc}
 use Rattle.cm_base.specs.declared.res.Res.{Res}
-use Rattle.cm_base.specs.declared.res.Res.TheVariants.{Done, Id, Child, Err}
+use Rattle.cm_base.specs.declared.res.Res.TheVariants.{Child}
 use Rattle.cm_report.proofs.ReportText.{text_of_one}
-use Rattle.model_cred.specs.Process.{Process, State, process_at}
+use Rattle.model_cred.specs.Process.{State, process_at}
 use Rattle.model_cred.specs.World.{World}
 use Rattle.model_report.proofs.Texts.{text_of_append}
-use Rattle.model_report.specs.Replay.{ReportLine, Told, child_lines, credentials_if, step_lines, text_of}
+use Rattle.model_report.specs.Replay.{Told, child_lines, credentials_if, step_lines, text_of}
 use Rattle.model_text.specs.Print.{event_line, event_text}
 use Rattle.model_text.specs.Reading.{Placed}
 
--- the process at a place where its pid was found
-pub found_at : (s : State) (processes list : List Process) (at pid : ℕ) (p : Process) → list ≡ processes
-    → processes ≡ s.processes → at < length processes
-    → slice_get processes at ≡ process_at processes pid → p ≡ get_or list at p → process_at s.processes pid ≡ Some p
-found_at s processes list at pid p same is low found there =
-    let here : p ≡ get_or processes at p = subst (λ (l : List Process). p ≡ get_or l at p) same there in
-    subst (λ (l : List Process). process_at l pid ≡ Some p) is (sym found ∙ slice_get_read processes (length processes)
-    at p refl low here)
-
 -- a result that tells no child has no lines of one
 pub no_child : (w : World) (s : State) (res : Res) → ((m : ℕ) → res ≡ Child m → ⊥) → child_lines w s res ≡ []
-no_child w s Done not_child = refl
-no_child w s (Id n) not_child = refl
 no_child w s (Child m) not_child = absurd (not_child m refl)
-no_child w s (Err e) not_child = refl
+no_child w s _ not_child = refl
 
 -- the pieces of the event's line, and those after it
 pieces_put : (old one two three four number colon event lf caller child : List ℕ) → one ≡ old ++ (number ++ colon) → two ≡ one ++ event

@@ -1,7 +1,6 @@
 -- The two parts after a call's name, as they are found, and how long the name is.
-use Rattle.std.proofs.Common.{◌≡◌, ℕ, List, [], ◌∷◌, Option, Some, None, refl, ap, ◌∙◌}
+use Rattle.std.proofs.Common.{◌≡◌, ℕ, List, [], ◌∷◌, Option, Some, None, refl, ap, ◌∙◌, inl, inr}
 use Rattle.std.proofs.lemmas.Bool.{cases_Bool}
-use Rattle.std.proofs.Common.{inl, inr}
 use Rattle.std.specs.Prelude.{option_map}
 use Rattle.model_text.specs.Line.{Tokens, Parts, parts_of, after_argument, outcome_alone}
 use Rattle.model_text.specs.Token.{is_equals}
@@ -13,9 +12,8 @@ with_arguments arguments outcome = option_map (λ token. record { arguments = ar
 
 -- the only one of tokens is the result without arguments
 alone : (tokens : Tokens) → outcome_alone tokens ≡ with_arguments [] (only_one tokens)
-alone [] = refl
 alone (token ∷ []) = refl
-alone (token ∷ other ∷ tokens) = refl
+alone _ = refl
 
 -- one argument more in front
 one_more : (token : List ℕ) (arguments : Tokens) (outcome : Option (List ℕ))

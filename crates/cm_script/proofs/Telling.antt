@@ -100,9 +100,8 @@ id_before : (place id : ℕ) (told : Result (List ℕ) LineFault) (read : Result
     → as_ids (and_make (λ (ids : List ℕ). id ∷ ids) told) ≡ as_told (argument_before (place + 1) (Some (Id id)) read)
 unfolding as_ids as_told
 id_before place id (Ok ids) (Ok arguments) same = ap (and_make (λ (arguments : List Argument). Id id ∷ arguments)) same
-id_before place id (Ok ids) (Err n) same = absurd (cc)
-id_before place id (Err why) (Ok arguments) same = absurd (cc)
 id_before place id (Err why) (Err n) same = same
+id_before place id _ _ same = absurd (cc)
 
 ids_from : (w : World) (place : ℕ) (tokens : Tokens) → as_ids (ids_told place tokens) ≡ as_told (arguments_from w Ids place tokens)
 unfolding as_ids as_told
@@ -151,9 +150,8 @@ triple_before : (p i o n : ℕ) (told : Result (List Extent) LineFault) (read : 
 unfolding as_triples as_told
 triple_before p i o n (Ok list) (Ok arguments) same =
     ap (and_make (λ (arguments : List Argument). Number i ∷ Number o ∷ Number n ∷ arguments)) same
-triple_before p i o n (Ok list) (Err m) same = absurd (cc)
-triple_before p i o n (Err why) (Ok arguments) same = absurd (cc)
 triple_before p i o n (Err why) (Err m) same = same
+triple_before p i o n _ _ same = absurd (cc)
 
 -- places of an extent's numbers
 suc_add : (p n : ℕ) → suc (p + n) ≡ suc p + n
@@ -175,8 +173,6 @@ extents_from : (w : World) (p : ℕ) (tokens : Tokens) → length tokens % 3 ≡
     → as_triples (extents_told (suc p) tokens) ≡ as_told (arguments_from w Triples (suc p) tokens)
 unfolding as_triples as_told
 extents_from w p [] even = refl
-extents_from w p (a ∷ []) even = absurd (cc)
-extents_from w p (a ∷ b ∷ []) even = absurd (cc)
 extents_from w p (a ∷ b ∷ c ∷ tokens) even =
     let rest : as_triples (extents_told (suc p + 3) tokens) ≡ as_told (arguments_from w Triples (suc p + 3) tokens) =
     rw (suc_add p 3) at (extents_from w (p + 3) tokens (omega arith)) in
@@ -194,6 +190,7 @@ extents_from w p (a ∷ b ∷ c ∷ tokens) even =
         ]
       ]
     ])
+extents_from w p (a ∷ _) even = absurd (cc)
 
 -- the call of a space, and of extents that are read so
 module _ (w : World) (kind : CallKind) (tokens : Tokens) (t : List ℕ) (more : Tokens) (shape : shape_of kind ≡ SpaceAndMap)

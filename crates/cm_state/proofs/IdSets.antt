@@ -29,8 +29,7 @@ or_twice false b = refl
 
 pub or_swapped : (a b c : Bool) → (a || (b || c)) ≡ (b || (a || c))
 or_swapped true true c = refl
-or_swapped true false c = refl
-or_swapped false b c = refl
+or_swapped _ _ c = refl
 
 -- where the first tests fail, the rest decide
 or_rest : (a b c d : Bool) → a ≡ false → b ≡ false → (a || c) ≡ (b || d) → c ≡ d

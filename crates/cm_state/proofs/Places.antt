@@ -1,5 +1,5 @@
 -- Processes whose pids ascend, by their places.
-use Rattle.std.proofs.Common.{◌==◌, not, filter, find, cond, ◌∙◌, ◌≡◌, ◌≢◌, true, false, ℕ, zero, suc, ◌<◌, length}
+use Rattle.std.proofs.Common.{◌==◌, not, filter, find, cond, ◌∙◌, ◌≡◌, ◌≢◌, true, false, ℕ, zero, suc, ◌<◌, subst, length}
 use Rattle.std.proofs.Common.{List, [], ◌∷◌, Option, Some, None, refl, sym, ap, arith, get_or, slice_get, slice_set}
 use Rattle.std.specs.Prelude.{IfSome, IfNone}
 use Rattle.std.specs.List.{remove}
@@ -8,7 +8,7 @@ use Rattle.cm_ordered.specs.Order.{AllSay, StandsAt, before_by, has_number, put_
 use Rattle.cm_ordered.proofs.Order as ordered_proofs
 use Rattle.cm_ordered.proofs.Order.{all_along, got, keeps_others, removed_ascends, stands_there}
 use Rattle.cm_state.specs.Places.{pid_at, pid_of}
-use Rattle.model_cred.specs.Process.{Process, Ascends, process_at, put_process, is_alive, insert_process}
+use Rattle.model_cred.specs.Process.{Process, State, Ascends, process_at, put_process, is_alive, insert_process}
 
 -- the pid at the place of a process is its pid
 pub pid_of_at : (ps : List Process) (i : ℕ) (p : Process) → i < length ps → p ≡ get_or ps i p → pid_at ps i ≡ p.pid
@@ -21,6 +21,14 @@ pub get_of_at : (ps : List Process) (i : ℕ) (p : Process) → i < length ps �
 get_of_at [] i p h is = absurd (omega arith)
 get_of_at (q ∷ ps) zero p h is = ap Some (sym is)
 get_of_at (q ∷ ps) (suc i) p h is = get_of_at ps i p (omega arith) is
+
+-- so it is where its pid was found, in a list that is a state's
+pub process_found : (s : State) (processes list : List Process) (at pid : ℕ) (p : Process) → list ≡ processes
+    → processes ≡ s.processes → at < length processes
+    → slice_get processes at ≡ process_at processes pid → p ≡ get_or list at p → process_at s.processes pid ≡ Some p
+process_found s processes list at pid p same is low found there =
+    let here : p ≡ get_or processes at p = subst (λ (l : List Process). p ≡ get_or l at p) same there in
+    subst (λ (l : List Process). process_at l pid ≡ Some p) is (sym found ∙ get_of_at processes at p low here)
 
 -- the first pid is below each later one
 pub head_below : (p : Process) (ps : List Process) → Ascends (p ∷ ps) → (j : ℕ) → j < length ps → p.pid < pid_at ps j
@@ -35,11 +43,9 @@ tail_ascends p (q ∷ qs) up = up.1
 
 -- pids ascend by their places
 pub ascending : (ps : List Process) → Ascends ps → (i j : ℕ) → i < j → j < length ps → pid_at ps i < pid_at ps j
-ascending [] up i j lt h = absurd (omega arith)
-ascending (p ∷ ps) up zero zero lt h = absurd (omega arith)
 ascending (p ∷ ps) up zero (suc j) lt h = head_below p ps up j (omega arith)
-ascending (p ∷ ps) up (suc i) zero lt h = absurd (omega arith)
 ascending (p ∷ ps) up (suc i) (suc j) lt h = ascending ps (tail_ascends p ps up) i j (omega arith) (omega arith)
+ascending _ up _ _ lt h = absurd (omega arith)
 
 -- the process that is found by its pid is the one at the place of that pid
 pub found_at : (ps : List Process) → Ascends ps → (i pid : ℕ) → i < length ps → pid_at ps i ≡ pid → slice_get ps i ≡ process_at ps pid
@@ -60,12 +66,11 @@ not_found (p ∷ ps) pid h =
 
 -- another process with the pid of the one at its place keeps the order
 pub put_ascends : (ps : List Process) (i : ℕ) (new : Process) → Ascends ps → i < length ps → new.pid ≡ pid_at ps i → Ascends (slice_set ps i new)
-put_ascends [] i new up h is = tt
-put_ascends (p ∷ []) zero new up h is = tt
 put_ascends (p ∷ []) (suc i) new up h is = absurd (omega arith)
 put_ascends (p ∷ q ∷ qs) zero new up h is = (omega (arith, up.0, is), up.1)
 put_ascends (p ∷ q ∷ qs) (suc zero) new up h is = (omega (arith, up.0, is), put_ascends (q ∷ qs) zero new up.1 (omega arith) is)
 put_ascends (p ∷ q ∷ qs) (suc (suc i)) new up h is = (up.0, put_ascends (q ∷ qs) (suc i) new up.1 (omega arith) is)
+put_ascends _ _ new up h is = tt
 
 -- putting a process back writes at the place of its pid
 pub put_at : (ps : List Process) (i : ℕ) (new : Process) → Ascends ps → i < length ps → new.pid ≡ pid_at ps i → put_process new ps ≡ slice_set ps i new
@@ -99,9 +104,8 @@ rises (p ∷ ps) up = (rises_first p ps up, rises ps (tail_ascends p ps up))
 
 -- and the other way round
 pub falls : (ps : List Process) → ordered.Ascends (before_by pid_of) ps → Ascends ps
-falls [] up = tt
-falls (p ∷ []) up = tt
 falls (p ∷ q ∷ ps) up = (grind (arith, up.0.0), falls (q ∷ ps) up.1)
+falls _ up = tt
 
 -- the process of a pid is what is found by its number
 pub is_found : (ps : List Process) (pid : ℕ) → process_at ps pid ≡ find (has_number pid_of pid) ps

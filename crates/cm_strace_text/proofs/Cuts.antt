@@ -9,9 +9,8 @@ use Rattle.std.specs.Prelude.{not}
 use Rattle.std.specs.List.{prefix_len, suffix_len}
 use Rattle.cm_strace_text.specs.Depths.{ends_at, len_to, parts_after}
 use Rattle.cm_strace_text.specs.declared.arguments.End.TheVariants as end
-use Rattle.model_strace.specs.Written.{Depth, Open, InQuotes, InEscape, depth_after, is_outside, closes, comma_parts}
+use Rattle.model_strace.specs.Written.{Depth, Open, depth_after, is_outside, closes, comma_parts, before_closing}
 use Rattle.model_strace.specs.Marks.{after_first_word, first_word, trimmed, without_front}
-use Rattle.model_strace.specs.Written.{before_closing}
 use Rattle.model_text.specs.Cut.{is_blank}
 
 -- ---- blanks
@@ -60,9 +59,7 @@ blank_rest (byte ∷ text) some blank =
 -- a comma leaves a reader outside of all brackets
 after_comma : (depth : Depth) (byte : ℕ) → (is_outside depth && byte == 44) ≡ true → depth_after depth byte ≡ Open 0
 after_comma (Open zero) byte here = rw (eqb-true byte 44 here) refl
-after_comma (Open (suc depth)) byte here = absurd cc
-after_comma (InQuotes depth) byte here = absurd cc
-after_comma (InEscape depth) byte here = absurd cc
+after_comma _ byte here = absurd cc
 
 -- a text is its first part, and the parts after it
 pub comma_cut : (depth : Depth) (text : List ℕ)

@@ -5,7 +5,7 @@ use Rattle.std.proofs.lemmas.Bool.{ne_eqb}
 use Rattle.std.specs.Prelude.{option_map}
 use Rattle.cm_strace_text.proofs.Cuts.{after_first}
 use Rattle.cm_strace_text.specs.Quotes.{preceded}
-use Rattle.model_strace.specs.Quoted.{Reach, Step, Text, Breaks, Closes, Goes, after_bytes, step, stepped, unquoted}
+use Rattle.model_strace.specs.Quoted.{Reach, Step, Text, Goes, after_bytes, step, stepped, unquoted}
 
 -- bytes before others, and these before what is read
 after_both : (old made : List ℕ) (read : Option (List ℕ × List ℕ))
@@ -16,9 +16,8 @@ after_both old made (Some sides) = ap (λ bytes. Some (bytes, sides.1)) (sym (ap
 -- what is read after bytes is what is read of the step after them
 step_after : (old : List ℕ) (s : Step) (text : List ℕ) (next : Reach → Option (List ℕ × List ℕ))
     → option_map (after_bytes old) (stepped s text next) ≡ stepped (preceded old s) text next
-step_after old Breaks text next = refl
-step_after old (Closes made) text next = refl
 step_after old (Goes made reach) text next = after_both old made (next reach)
+step_after old _ text next = refl
 
 -- a byte more of what is left, after which the reader goes on
 pub byte_more : (old made : List ℕ) (reach reached : Reach) (text : List ℕ) → 1 ≤ length text

@@ -25,16 +25,12 @@ moves place next text at byte below is after none =
     ∙ ap (λ (b : ℕ). last_sign place at (b ∷ drop (at + 1) text)) is
     ∙ rw (after, none) (or_none (sign_from next (at + 1) text))
 
--- a quote in no quotes
-quote_begins : (text : List ℕ) (at : ℕ) → at < length text → get_or text at 0 ≡ 34
-    → sign_from Plain at text ≡ sign_from Quoted (at + 1) text
-quote_begins text at below is = moves Plain Quoted text at 34 below is refl refl
-
 -- a quoted text
 pub quote_passes : (text : List ℕ) (at to : ℕ) → at < length text → get_or text at 0 ≡ 34 → to ≡ quote_end (at + 1) text
     → sign_from Plain at text ≡ option_or (sign_from Plain to text) None
 quote_passes text at to below is ends =
-    quote_begins text at below is ∙ quote_signs text (at + 1) to ends ∙ sym (or_none (sign_from Plain to text))
+    moves Plain Quoted text at 34 below is refl refl ∙ quote_signs text (at + 1) to ends
+    ∙ sym (or_none (sign_from Plain to text))
 
 -- a closing parenthesis in no quotes
 pub paren_stands : (text : List ℕ) (at : ℕ) → at < length text → get_or text at 0 ≡ 41

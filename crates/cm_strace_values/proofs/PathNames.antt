@@ -6,8 +6,7 @@ use Rattle.std.proofs.lemmas.List.{length-reverse}
 use Rattle.std.proofs.lemmas.Bool.{cases_Bool}
 use Rattle.std.specs.Prelude.{codes, reverse, bytes_eq, true, false, ◌&&◌}
 use Rattle.std.specs.List.{onto_first}
-use Rattle.model_rules.proofs.Options.{or_none}
-use Rattle.model_strace.specs.Files.{path_names, file_of, last_file, map_named, proc_file}
+use Rattle.model_strace.specs.Files.{path_names, file_of, last_file, proc_file}
 
 -- a byte onto the first of some pieces leaves pieces
 onto_some : (byte : ℕ) (pieces : List (List ℕ)) → (first : List ℕ) × (more : List (List ℕ)) × (onto_first byte pieces ≡ first ∷ more)
@@ -32,12 +31,6 @@ two_count : (first : List ℕ) (names : List (List ℕ)) (folder other : List �
     → last_file (first ∷ names ++ folder ∷ other ∷ []) ≡ last_file (first ∷ names ++ folder ∷ [])
 two_count first [] folder other = refl
 two_count first (name ∷ names) folder other = refl
-
--- no folder is told as an empty one
-pub no_folder : (names : List (List ℕ)) → last_file (names ++ [] ∷ []) ≡ last_file names
-no_folder [] = refl
-no_folder (name ∷ []) = or_none (map_named name)
-no_folder (name ∷ folder ∷ names) = refl
 
 -- a list of some names has a first one
 has_first : (names : List (List ℕ)) → 0 < length names → (first : List ℕ) × (more : List (List ℕ)) × (names ≡ first ∷ more)

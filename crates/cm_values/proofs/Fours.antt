@@ -7,9 +7,5 @@ use Rattle.toml.specs.declared.value.Value.{Value}
 
 -- an array of another length is none
 pub four_of-not_four : (values : List Value) → length values ≢ 4 → four_of (items_view values) ≡ all_four 0
-four_of-not_four [] other = refl
-four_of-not_four (a ∷ []) other = refl
-four_of-not_four (a ∷ b ∷ []) other = refl
-four_of-not_four (a ∷ b ∷ c ∷ []) other = refl
 four_of-not_four (a ∷ b ∷ c ∷ d ∷ []) other = absurd (other refl)
-four_of-not_four (a ∷ b ∷ c ∷ d ∷ e ∷ values) other = refl
+four_of-not_four _ other = refl

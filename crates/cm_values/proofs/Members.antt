@@ -22,8 +22,5 @@ count_items (value ∷ values) = ap (λ n. 1 + n) (count_items values) ∙ omega
 
 -- an array of another length is no extent
 pub extent_of-not_three : (values : List Value) → length values ≢ 3 → extent_of (array (items_view values)) ≡ record { inside = 0; outside = 0; length = 0 }
-extent_of-not_three [] other = refl
-extent_of-not_three (a ∷ []) other = refl
-extent_of-not_three (a ∷ b ∷ []) other = refl
 extent_of-not_three (a ∷ b ∷ c ∷ []) other = absurd (other refl)
-extent_of-not_three (a ∷ b ∷ c ∷ d ∷ values) other = refl
+extent_of-not_three _ other = refl

@@ -2,22 +2,17 @@
 use Rattle.std.proofs.Common.{◌≡◌, ℕ, ◌==◌, Bool, true, false, List, [], ◌∷◌, Option, Some, None, refl, inl, inr, map, not}
 use Rattle.std.specs.List.{list_all}
 use Rattle.std.proofs.lemmas.Bool.{and_parts, and_from, or_cases, or_left, or_right}
-use Rattle.model_text.specs.Keys.{Kind, Text, Word, Flag, Number, Ids, Groups, Extents, Texts, Rows, Section, Key, last_id}
+use Rattle.model_text.specs.Keys.{Kind, Number, Ids, Groups, Extents, Key, last_id}
 use Rattle.cm_base.specs.declared.faults.WorldFault.TheVariants.{UnknownKey, MissingKey, WrongType, BadNumber}
 use Rattle.model_text.specs.Keys.{is_number, is_array_of, is_list_of, is_of, fits, are_of_kinds, has_as_needed, key_checks}
 use Rattle.model_text.specs.Refusal.{Fault, first_standing}
 use Rattle.cm_base.specs.Limits.{greatest_number}
 use Rattle.model_text.specs.Toml.{all_items, count, has_only}
-use Rattle.toml.specs.Data.{Data, string, integer, float, boolean, datetime, array, table, Items, no_items, item, Members, get_member}
+use Rattle.toml.specs.Data.{Data, integer, array, Items, no_items, item, Members, get_member}
 
 number_of_kind : (low high : ℕ) (v : Data) → is_number true low high v ≡ true → is_number false low high v ≡ true
-number_of_kind low high (string s) is = is
 number_of_kind low high (integer n) is = refl
-number_of_kind low high (float x) is = is
-number_of_kind low high (boolean b) is = is
-number_of_kind low high (datetime d) is = is
-number_of_kind low high (array vs) is = is
-number_of_kind low high (table ms) is = is
+number_of_kind low high _ is = is
 
 all_of_kind : (p q : Data → Bool) → ((v : Data) → p v ≡ true → q v ≡ true) → (vs : Items) → all_items p vs ≡ true → all_items q vs ≡ true
 all_of_kind p q each no_items is = refl
@@ -26,30 +21,17 @@ all_of_kind p q each (item v vs) is =
     and_from (q v) (all_items q vs) (each v parts.0) (all_of_kind p q each vs parts.1)
 
 array_of_kind : (p q : Data → Bool) → ((v : Data) → p v ≡ true → q v ≡ true) → (v : Data) → is_array_of p v ≡ true → is_array_of q v ≡ true
-array_of_kind p q each (string s) is = is
-array_of_kind p q each (integer n) is = is
-array_of_kind p q each (float x) is = is
-array_of_kind p q each (boolean b) is = is
-array_of_kind p q each (datetime d) is = is
 array_of_kind p q each (array vs) is = all_of_kind p q each vs is
-array_of_kind p q each (table ms) is = is
+array_of_kind p q each _ is = is
 
 list_of_kind : (n : ℕ) (p q : Data → Bool) → ((v : Data) → p v ≡ true → q v ≡ true) → (v : Data) → is_list_of n p v ≡ true → is_list_of n q v ≡ true
-list_of_kind n p q each (string s) is = is
-list_of_kind n p q each (integer z) is = is
-list_of_kind n p q each (float x) is = is
-list_of_kind n p q each (boolean b) is = is
-list_of_kind n p q each (datetime d) is = is
 list_of_kind n p q each (array vs) is =
     let parts = and_parts (count vs == n) (all_items p vs) is in
     and_from (count vs == n) (all_items q vs) parts.0 (all_of_kind p q each vs parts.1)
-list_of_kind n p q each (table ms) is = is
+list_of_kind n p q each _ is = is
 
 -- a value in range is of the kind
 value_of_kind : (kind : Kind) (v : Data) → is_of true kind v ≡ true → is_of false kind v ≡ true
-value_of_kind Text v is = is
-value_of_kind (Word words) v is = is
-value_of_kind Flag v is = is
 value_of_kind (Number low high) v is = number_of_kind low high v is
 value_of_kind Ids v is =
     elim (or_cases (is_number true 0 last_id v) (is_list_of 4 (is_number true 0 last_id) v) is) [
@@ -62,9 +44,7 @@ value_of_kind Groups v is = array_of_kind (is_number true 0 last_id) (is_number 
 value_of_kind Extents v is =
     array_of_kind (is_list_of 3 (is_number true 0 greatest_number)) (is_list_of 3 (is_number false 0 greatest_number))
     (list_of_kind 3 (is_number true 0 greatest_number) (is_number false 0 greatest_number) (number_of_kind 0 greatest_number)) v is
-value_of_kind Texts v is = is
-value_of_kind Rows v is = is
-value_of_kind Section v is = is
+value_of_kind _ v is = is
 
 fits_of_kind : (kind : Kind) (o : Option Data) → fits true kind o ≡ true → fits false kind o ≡ true
 fits_of_kind kind None is = refl

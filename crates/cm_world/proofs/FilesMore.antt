@@ -6,7 +6,7 @@ use Rattle.std.specs.Option.{option_or}
 use Rattle.std.proofs.lemmas.List.{append-nil}
 use Rattle.cm_files.specs.Fault.{Diagnoses, first_fault, row_fault}
 use Rattle.cm_files.specs.declared.fault.BadFiles.{BadFiles}
-use Rattle.cm_files.specs.declared.fault.BadFiles.TheVariants.{Twice, NoMount, NoInterpreter, NoMemory}
+use Rattle.cm_files.specs.declared.fault.BadFiles.TheVariants.{NoMemory}
 use Rattle.model_rules.proofs.Options.{both_none}
 use Rattle.model_cred.specs.Files.{FileRow, FileTable, Mount}
 use Rattle.model_text.specs.Refusal.{Refusal, then_read}
@@ -30,9 +30,7 @@ none_more mounts before (first ∷ rows) row is none =
 -- an answer that tells of no fault is NoMemory
 pub tells_memory : (e : BadFiles) → Diagnoses e None → e ≡ NoMemory
 tells_memory NoMemory tells = refl
-tells_memory (Twice n) tells = absurd (cc)
-tells_memory (NoMount n) tells = absurd (cc)
-tells_memory (NoInterpreter n) tells = absurd (cc)
+tells_memory _ tells = absurd (cc)
 
 -- the table of the mounts and of the files that are read
 pub table_read : (mounts : List Mount) (files : List FileRow) (r : Result (List FileRow) Refusal) (v : List Mount)

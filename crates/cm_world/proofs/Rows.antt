@@ -74,10 +74,6 @@ module _ {A : Type 0} (t : Table) (read : A → Members → Result A Cause) (sta
   abbrev pub ReadTo : ℕ → A → Type 0
   ReadTo at before = rows_from t read (at + 1) before (items_view (drop at rows)) ≡ rows_from t read 1 start (items_view rows)
 
-  -- all are read
-  all_read : (at : ℕ) (before : A) → ReadTo at before → length rows ≤ at → rows_from t read 1 start (items_view rows) ≡ Ok before
-  all_read at before is end = sym is ∙ ap (λ vs. rows_from t read (at + 1) before (items_view vs)) (drop_all at rows end)
-
   module _ (at : ℕ) (before : A) (row : Value) (is : ReadTo at before) (within : at < length rows) (here : row ≡ get_or rows at row) where
     from_here : rows_from t read 1 start (items_view rows)
         ≡ then_read (in_row t (at + 1) (row_of (read before) (view row))) (λ all. rows_from t read (at + 1 + 1) all (items_view (drop (at + 1) rows)))
@@ -86,15 +82,11 @@ module _ {A : Type 0} (t : Table) (read : A → Members → Result A Cause) (sta
         sym is ∙ ap (λ vs. rows_from t read (at + 1) before (items_view vs)) rest
 
     -- this one is refused
-    row_refused : (cause : Cause) → row_of (read before) (view row) ≡ Err cause
-        → rows_from t read 1 start (items_view rows) ≡ Err (refusal_at t (at + 1) cause)
-    row_refused cause err =
-        from_here ∙ ap (λ r. then_read (in_row t (at + 1) r) (λ all. rows_from t read (at + 1 + 1) all (items_view (drop (at + 1) rows)))) err
-
     refused_or_not : (o : Option Cause) → IfSome o (λ cause. row_of (read before) (view row) ≡ Err cause)
         → IfSome (option_map (refusal_at t (at + 1)) o) (λ refusal. rows_from t read 1 start (items_view rows) ≡ Err refusal)
     refused_or_not None gives = tt
-    refused_or_not (Some cause) gives = row_refused cause gives
+    refused_or_not (Some cause) gives =
+        from_here ∙ ap (λ r. then_read (in_row t (at + 1) r) (λ all. rows_from t read (at + 1 + 1) all (items_view (drop (at + 1) rows)))) gives
 
     rows_refused : (e : RowError) (told : WorldError) → IfSome (cause_of e) (λ cause. row_of (read before) (view row) ≡ Err cause)
         → refusal_of told ≡ option_map (refusal_at t (at + 1)) (cause_of e)
@@ -121,7 +113,9 @@ module _ {A : Type 0} (t : Table) (read : A → Members → Result A Cause) (sta
   -- all rows, of which there are few enough
   pub read_all : (limit : Limited) (standing at : ℕ) (before : A) → standing + length rows ≤ limit_number limit → ReadTo at before
       → length rows ≤ at → read_rows t limit standing read start (items_view rows) ≡ Ok before
-  read_all limit standing at before few is end = within_limit limit standing few ∙ all_read at before is end
+  read_all limit standing at before few is end =
+      within_limit limit standing few ∙ sym is
+      ∙ ap (λ vs. rows_from t read (at + 1) before (items_view vs)) (drop_all at rows end)
 
   -- one of them is refused
   pub read_refused : (limit : Limited) (standing at : ℕ) (before : A) (row : Value) (e : RowError) (told : WorldError)

@@ -2,7 +2,7 @@
 use Rattle.std.proofs.Common.{◌≡◌, ℕ, ◌+◌, ◌<◌, List, [], ◌∷◌, ◌++◌, length, drop, get_or, refl, sym, ap, ◌∙◌}
 use Rattle.std.proofs.lemmas.List.{append-nil, append_assoc, drop_more}
 use Rattle.model_text.specs.Toml.{texts_among}
-use Rattle.toml.specs.Data.{Data, string, integer, float, boolean, datetime, array, table, Items, no_items, item}
+use Rattle.toml.specs.Data.{Data, string, Items, no_items, item}
 use Rattle.toml.specs.View.{items_view, view}
 use Rattle.toml.specs.declared.value.Value.{Value}
 
@@ -13,12 +13,7 @@ and_nothing texts = append-nil texts
 -- the first item, and the others
 one_among : (value : Data) (values : Items) → texts_among (item value no_items) ++ texts_among values ≡ texts_among (item value values)
 one_among (string text) values = refl
-one_among (integer n) values = refl
-one_among (float x) values = refl
-one_among (boolean flag) values = refl
-one_among (datetime time) values = refl
-one_among (array items) values = refl
-one_among (table entries) values = refl
+one_among _ values = refl
 
 -- the texts up to one item, and those from it on, are those up to the next, and those from that on
 pub texts_more : (values : List Value) (at : ℕ) (value : Value) (before after all : List (List ℕ)) → at < length values

@@ -53,11 +53,6 @@ mapped_in map (Some x) Set maps held = maps x held
 id_from : (o : Option ℕ) (z : ℕ) (Set : ℕ → Type 0) → o ≡ Some z → Set z → IdIn o Set
 id_from o z Set same held = rw same held
 
--- an id that is in a set is there
-id_there : (o : Option ℕ) (Set : ℕ → Type 0) → IdIn o Set → (x : ℕ) × (o ≡ Some x)
-id_there None Set wrong = absurd wrong
-id_there (Some x) Set held = (x, refl)
-
 -- ---- who may run a file
 module _ (row : Part → ℕ → Type 0) (c : Credential) (fine : Fine row c) (s : Space) (maps : MapsIn s row) (f : FileView) where
   cap_here : (cap : ℕ) → IsTrue (holds c.effective cap) → row PermittedCaps cap
@@ -140,8 +135,7 @@ module _ (old new : Spaces) (bounds : Row → Part → ℕ → Type 0) (fit : Tr
 
   same_id : (a b : Option ℕ) → IsTrue (is_same_id a b) → (z : ℕ) × (a ≡ Some z) × (b ≡ Some z)
   same_id (Some a) (Some b) same = (a, refl, ap Some (sym (eqb-true a b same)))
-  same_id (Some a) None wrong = absurd (false≢true wrong)
-  same_id None b wrong = absurd (false≢true wrong)
+  same_id _ _ wrong = absurd (false≢true wrong)
 
   zero_above : (id : Option ℕ) (m z n : ℕ) → id ≡ Some z → zero_of (space_of new m) ≡ Some z → n < length old
       → IsTrue (is_at_or_above new m n) → ZeroAbove old bounds n id

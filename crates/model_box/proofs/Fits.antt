@@ -1,9 +1,8 @@
 -- What every step keeps, in parts: of the spaces whatever the bounds, of the spaces by bounds, and of one member. Beside
 -- what covering bounds say, the spaces are a tree, a member's space stands, and its sets are within one another.
-use Rattle.std.proofs.Common.{◌≡◌, ℕ, suc, ◌<◌, ◌≤◌, Bool, ◌||◌, true, Some, length, arith}
+use Rattle.std.proofs.Common.{◌≡◌, ℕ, suc, ◌<◌, ◌≤◌, Bool, ◌||◌, true, Some, length, arith, ◌∙◌, sym, ap, eqb}
 use Rattle.std.specs.Prelude.{IsTrue}
 use Rattle.std.specs.List.{list_any}
-use Rattle.std.proofs.Common.{◌∙◌, sym, ap, eqb}
 use Rattle.std.proofs.lemmas.Bool.{lt-ltb}
 use Rattle.cm_filter.specs.declared.kind.CallKind.{CallKind}
 use Rattle.cm_filter.specs.declared.kind.CallKind.TheVariants as kind

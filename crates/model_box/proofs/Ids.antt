@@ -149,14 +149,12 @@ module _ (Old Effective Fs Mapped : ℕ → Type 0) (Privileged : Type 0) (map :
           if privileged || (is_one_of_three old real && is_one_of_three old effective && is_one_of_three old saved)
           then Ok (record { real = real; effective = effective; saved = saved; fs = effective })
           else Err EPERM))
-      go None b c _ _ _ = tt
-      go (Some real) None c _ _ _ = tt
-      go (Some real) (Some effective) None _ _ _ = tt
       go (Some real) (Some effective) (Some saved) a b c =
           choose (OkIn (IdsIn Old Effective Fs))
           (privileged || (is_one_of_three old real && is_one_of_three old effective && is_one_of_three old saved))
           (Ok (record { real = real; effective = effective; saved = saved; fs = effective })) (Err EPERM)
           (λ may. ids real effective saved a b c may) (λ _. tt)
+      go _ _ _ _ _ _ = tt
 
     -- setreuid and setregid
     setreid_in : (r e : ℕ) → OkIn (IdsIn Old Effective Fs) (setreid map privileged old r e)
@@ -191,8 +189,6 @@ module _ (Old Effective Fs Mapped : ℕ → Type 0) (Privileged : Type 0) (map :
           if privileged || ((real == old.real || real == old.effective) && is_one_of_three old effective)
           then Ok (record { real = real; effective = effective; saved = saved_after old r e effective; fs = effective })
           else Err EPERM))
-      go None b _ _ = tt
-      go (Some real) None _ _ = tt
       go (Some real) (Some effective) a b =
           choose (OkIn (IdsIn Old Effective Fs))
           (privileged || ((real == old.real || real == old.effective) && is_one_of_three old effective))
@@ -201,6 +197,7 @@ module _ (Old Effective Fs Mapped : ℕ → Type 0) (Privileged : Type 0) (map :
           ids real effective a b (both real effective
           (or_cases privileged ((real == old.real || real == old.effective) && is_one_of_three old effective) may)))
           (λ _. tt)
+      go _ _ _ _ = tt
 
     -- setuid and setgid
     setid_in : (argument : ℕ) → OkIn (IdsIn Old Effective Fs) (setid map privileged old argument)

@@ -12,9 +12,8 @@ use Rattle.model_cred.specs.Space.{Spaces, space_of, is_at_or_above}
 use Rattle.model_rules.specs.Caps.{cap_sys_admin}
 use Rattle.model_rules.specs.Namespaces.{as_newcomer}
 use Rattle.model_rules.specs.Power.{has_over}
-use Rattle.model_box.specs.Row.{Part, EffectiveUids, MappedUids}
-use Rattle.model_box.specs.Row.{MappedGids, PermittedCaps, InheritableCaps, BoundingCaps, RootCounts}
-use Rattle.model_box.specs.Row.{LockClear, Row, Standing, Fresh, HasMembers, CredHas}
+use Rattle.model_box.specs.Row.{Part, EffectiveUids, MappedUids, MappedGids, PermittedCaps, InheritableCaps}
+use Rattle.model_box.specs.Row.{BoundingCaps, RootCounts, LockClear, Row, Standing, Fresh, HasMembers, CredHas}
 use Rattle.model_box.specs.Rule.{Join}
 use Rattle.model_box.specs.Spread.{Brings, CanJoin, IsNext}
 use Rattle.model_box.specs.Closed.{Closed}
@@ -35,11 +34,6 @@ brought row c held BoundingCaps x has = has
 brought row c held RootCounts x has = has.0
 brought row c held LockClear x has = has.0
 brought row c held part x has = held part x has
-
--- who is a newcomer in a row already brings no more
-pub brought_again : (row : Part → ℕ → Type 0) (c : Credential) → InRow row (as_newcomer c) → (part : Part) (x : ℕ) → CredHas (as_newcomer c) part x
-    → Brings row part x
-brought_again row c held part x has = brought row (as_newcomer c) held part x has
 
 -- a row that holds what the members of another bring holds what its own members bring
 pub filled_again : (row fresh : Part → ℕ → Type 0) → ((part : Part) (x : ℕ) → Brings row part x → fresh part x)
@@ -135,7 +129,7 @@ module _ (permitted : CallKind → Bool) (files : FileTable) (old new : Spaces) 
         record { peopled = (c.uid.effective, held EffectiveUids c.uid.effective refl); brings = brought (bounds (Standing a)) c held }
 
     above : InRow (bounds (Standing a)) (as_newcomer c) → BringsAs (bounds (Standing a)) c
-    above joined = record { peopled = (c.uid.effective, joined EffectiveUids c.uid.effective refl); brings = brought_again (bounds (Standing a)) c joined }
+    above joined = record { peopled = (c.uid.effective, joined EffectiveUids c.uid.effective refl); brings = brought (bounds (Standing a)) (as_newcomer c) joined }
 
     parent : RowOf (length old) new at (Fresh a) ⊎ (at ≡ a) → RowOf (length old) new at (Fresh a) ⊎ BringsAs (bounds (Standing a)) c
     parent (inl row_at) = inl row_at

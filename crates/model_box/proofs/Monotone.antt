@@ -1,8 +1,7 @@
 -- To larger bounds each rule adds at least as much, and they meet at least as much; where more calls are permitted each
 -- rule adds at least as much.
 use Rattle.std.proofs.Common.{ℕ, Bool, Option, None, Some, inl, inr, arith}
-use Rattle.std.specs.Prelude.{List}
-use Rattle.std.specs.Prelude.{IsTrue, ◌||◌, true, false, refl}
+use Rattle.std.specs.Prelude.{List, IsTrue, ◌||◌, true, false, refl}
 use Rattle.std.proofs.lemmas.Bool.{or_left, or_right}
 use Rattle.cm_filter.specs.declared.kind.CallKind.{CallKind}
 use Rattle.cm_filter.specs.declared.kind.CallKind.TheVariants as kind
@@ -196,12 +195,11 @@ module _ (bounds wider : Row → Part → ℕ → Type 0) (within : IsWithin bou
   )
   adds_more_here permitted files spaces ExecRoot row part x (p, m, added) =
       (p, members_more row m, only_caps_more (CapByRoot spaces bounds row) (CapByRoot spaces wider row) (cap_by_root_more spaces row) part x added)
-  adds_more_here permitted files spaces Create (Standing n) part x added = added
   adds_more_here permitted files spaces Create (Fresh n) part x (p, makes, brings) =
       (p, can_make_more spaces n makes, brings_more (bounds (Standing n)) (wider (Standing n)) (within (Standing n)) part x brings)
   adds_more_here permitted files spaces Join (Standing n) part x (p, added) = (p, joining_more spaces n part x added)
-  adds_more_here permitted files spaces Join (Fresh n) part x added = added
   adds_more_here permitted files spaces Maps row part x added = maps_more permitted spaces row part x added
+  adds_more_here permitted files spaces _ _ part x added = added
 
 -- To larger bounds each rule adds at least as much.
 pub adds_more : (permitted : CallKind → Bool) (files : FileTable) (spaces : Spaces) (bounds wider : Row → Part → ℕ → Type 0)
@@ -251,8 +249,7 @@ module _ (permitted wider : CallKind → Bool) (more : (k : CallKind) → IsTrue
   maps_permit_more (Standing n) MappedGids x (p, one, added) = (more kind.WriteGidMap p, one, added)
   maps_permit_more (Fresh n) MappedUids x (p, one, added) = (more kind.WriteUidMap p, one, added)
   maps_permit_more (Fresh n) MappedGids x (p, one, added) = (more kind.WriteGidMap p, one, added)
-  maps_permit_more (Standing n) _ x added = added
-  maps_permit_more (Fresh n) _ x added = added
+  maps_permit_more _ _ x added = added
 
   -- Where more calls are permitted each rule adds at least as much.
   pub permits_more : (rule : Rule) (row : Row) (part : Part) (x : ℕ)

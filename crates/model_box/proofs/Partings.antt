@@ -4,7 +4,7 @@ use Rattle.std.specs.Prelude.{IsTrue, filter}
 use Rattle.std.proofs.lemmas.Bool.{false≢true, eqb-true, eq-eqb, ne_eqb}
 use Rattle.cm_base.specs.declared.errno.Errno.{Errno}
 use Rattle.cm_base.specs.declared.res.Res.{Res}
-use Rattle.cm_base.specs.declared.res.Res.TheVariants.{Done, Id, Child, Err}
+use Rattle.cm_base.specs.declared.res.Res.TheVariants.{Done, Child, Err}
 use Rattle.cm_filter.specs.declared.kind.CallKind.TheVariants as kind
 use Rattle.model_cred.specs.Call.{Call, Exit, kind_of}
 use Rattle.model_cred.specs.Process.{Process, is_alive}
@@ -76,13 +76,9 @@ is_child _ k wrong = absurd (false≢true wrong)
 
 -- an error ends no process
 pub no_end : (res : Res) (e : Errno) → IsTrue (same_res res (Err e)) → res ≡ Done → ⊥
-no_end (Err d) e same is = cc
 no_end Done e wrong is = false≢true wrong
-no_end (Id j) e wrong is = cc
-no_end (Child k) e wrong is = cc
+no_end _ e wrong is = cc
 
 pub outside_ends_none : (call : Call) (res : Res) → comes_from_outside call res ≡ true → res ≡ Done → ⊥
 outside_ends_none call Done wrong is = false≢true wrong
-outside_ends_none call (Id j) wrong is = cc
-outside_ends_none call (Child k) wrong is = cc
-outside_ends_none call (Err e) same is = cc
+outside_ends_none call _ same is = cc

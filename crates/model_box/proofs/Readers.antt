@@ -78,8 +78,7 @@ module _ (permitted : CallKind → Bool) (files : FileTable) (spaces : Spaces) (
     (has.0, same (Fresh n) (inl refl) _ has.0 has.1),
     fresh_gid_read n x (same (Standing n) (inr refl)) (same (Fresh n) (inl refl)) new,
   )
-  maps_read (Standing n) same _ x wrong = wrong
-  maps_read (Fresh n) same _ x wrong = wrong
+  maps_read _ same _ x wrong = wrong
 
   -- a rule that reads the row alone
   alone : (rule : Rule) (row : Row) → HoldsNoMore (bounds row) (other row) → (part : Part) (x : ℕ)
@@ -106,7 +105,6 @@ module _ (permitted : CallKind → Bool) (files : FileTable) (spaces : Spaces) (
   reads_alone ExecCaps row same _ x (may, has, wrong) = absurd wrong
   reads_alone ExecRoot (Standing n) same part x added = alone ExecRoot (Standing n) (same (Standing n) refl) part x added
   reads_alone ExecRoot (Fresh n) same part x added = alone ExecRoot (Fresh n) (same (Fresh n) refl) part x added
-  reads_alone Create (Standing n) same part x wrong = wrong
   reads_alone Create (Fresh n) same part x added =
       adds_more permitted files spaces (λ _. bounds (Standing n)) (λ _. other (Standing n)) (λ _. same (Standing n) refl) Create (Fresh n) part x added
   reads_alone Join (Standing n) same part x (may, (a, (m, next, members, cause), brings)) =
@@ -118,8 +116,8 @@ module _ (permitted : CallKind → Bool) (files : FileTable) (spaces : Spaces) (
           brings_more (bounds (Standing a)) (other (Standing a)) above part x brings,
         ),
       )
-  reads_alone Join (Fresh n) same part x wrong = wrong
   reads_alone Maps row same part x added = maps_read row same part x added
+  reads_alone _ _ same part x wrong = wrong
 
 pub rules_read_these_alone : RulesReadTheseAlone
 rules_read_these_alone permitted files spaces bounds other rule row same part x added =

@@ -9,9 +9,8 @@ use Rattle.cm_base.specs.CapSet.{holds}
 use Rattle.cm_base.proofs.CapSets.{holds_meet, holds_none}
 use Rattle.model_cred.specs.Credential.{Credential, Included}
 use Rattle.model_rules.specs.Securebits.{has_flag, lock_of, noroot, locks, locked_flags}
-use Rattle.model_box.specs.Row.{Part, Uids, EffectiveUids, FsUids, Gids, EffectiveGids, FsGids, Groups, MappedUids}
-use Rattle.model_box.specs.Row.{MappedGids, PermittedCaps, InheritableCaps, BoundingCaps, NewPrivs, RootCounts}
-use Rattle.model_box.specs.Row.{LockClear}
+use Rattle.model_box.specs.Row.{Part, Uids, EffectiveUids, FsUids, Gids, EffectiveGids, FsGids, Groups, PermittedCaps}
+use Rattle.model_box.specs.Row.{InheritableCaps, BoundingCaps, NewPrivs, RootCounts, LockClear}
 use Rattle.model_box.proofs.Fits.{InRow}
 use Rattle.model_box.proofs.Ids.{IdsIn}
 
@@ -48,14 +47,13 @@ in_row row c held Gids x has = held.gid.three x has
 in_row row c held EffectiveGids x has = held.gid.effective x has
 in_row row c held FsGids x has = held.gid.fs x has
 in_row row c held Groups x has = held.groups x has
-in_row row c held MappedUids x has = absurd has
-in_row row c held MappedGids x has = absurd has
 in_row row c held PermittedCaps x has = held.permitted x has
 in_row row c held InheritableCaps x has = held.inheritable x has
 in_row row c held BoundingCaps x has = held.bounding x has
 in_row row c held NewPrivs x has = rw has.0 (held.new_privs has.1)
 in_row row c held RootCounts x has = rw has.0 (held.root has.1)
 in_row row c held LockClear x has = rw has.0 (held.lock has.1)
+in_row row c held _ x has = absurd has
 
 -- a member's credential: within the row, and its sets within one another
 pub record Fine (row : Part → ℕ → Type 0) (c : Credential) : Type 0 where
@@ -65,14 +63,12 @@ pub record Fine (row : Part → ℕ → Type 0) (c : Credential) : Type 0 where
 -- ---- bits of securebits
 -- the flag SECBIT_NOROOT is bit 0
 one_bit : (b : ℕ) → b < 2 → not (eqb (b * 1) 0) ≡ eqb b 1
-one_bit zero low = refl
-one_bit (suc zero) low = refl
 one_bit (suc (suc b)) low = absurd (omega arith)
+one_bit _ low = refl
 
 two_bit : (b : ℕ) → b < 2 → not (eqb (b * 2) 0) ≡ eqb b 1
-two_bit zero low = refl
-two_bit (suc zero) low = refl
 two_bit (suc (suc b)) low = absurd (omega arith)
+two_bit _ low = refl
 
 pub noroot_is : (c : Credential) → has_flag c noroot ≡ holds c.securebits 0
 noroot_is c = ap (λ (n : ℕ). not (eqb n 0)) (and_pow c.securebits 0) ∙ one_bit (bit_at c.securebits 0) (bit_at-lt c.securebits 0)

@@ -59,9 +59,6 @@ module _ (w : World) (old : Spaces) (Cell : ℕ → Type 0) (permits : ℕ → C
 
   module _ (s : State) (members : List ℕ) (parting : List InCell) (kept : KeptIn s members parting)
       (pid : ℕ) (p : Process) (caller : IsTrue (is_member members pid)) (at : process_at s.processes pid ≡ Some p) where
-    mine : ℕ
-    mine = cell_of parting pid
-
     the_caller : MemberKept old s Cell permits bounds may (cell_of parting pid) pid p
     the_caller = kept.members_kept pid p caller at
 

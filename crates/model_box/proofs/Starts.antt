@@ -87,9 +87,7 @@ module _ (permitted : CallKind → Bool) (files : FileTable) (spaces : Spaces) (
   merged_adds : (rule : Rule) (n : ℕ) (part : Part) (x : ℕ) → Adds permitted files spaces (merged other bounds) rule (Standing n) part x
       → Adds permitted files spaces other rule (Standing n) part x
   merged_adds Maps n MappedUids x added = added
-  merged_adds Maps n MappedGids x added = added
-  merged_adds Maps n _ x added = added
-  merged_adds _ n part x added = added
+  merged_adds _ n _ x added = added
 
   -- No later space is above a standing one, so what comes to a standing row is read from standing rows alone.
   pub standing_apart : ((n : ℕ) (part : Part) (x : ℕ) → bounds (Standing n) part x → other (Standing n) part x) → (rule : Rule) (n : ℕ) (part : Part) (x : ℕ)
@@ -115,8 +113,7 @@ module _ (permitted : CallKind → Bool) (files : FileTable) (spaces : Spaces) (
   maps_need_writes uid gid (Standing n) MappedGids x added = false≢true (sym gid ∙ added.0)
   maps_need_writes uid gid (Fresh n) MappedUids x added = false≢true (sym uid ∙ added.0)
   maps_need_writes uid gid (Fresh n) MappedGids x added = false≢true (sym gid ∙ added.0)
-  maps_need_writes uid gid (Standing n) _ x added = added
-  maps_need_writes uid gid (Fresh n) _ x added = added
+  maps_need_writes uid gid _ _ x added = added
 
   -- Where the filter excludes all calls that a rule rests on, it adds nothing.
   pub excluded_adds_nothing : (rule : Rule) → ((k : CallKind) → RestsOn rule k → permitted k ≡ false) → (row : Row) (part : Part) (x : ℕ)

@@ -109,8 +109,7 @@ module _ (files : FileTable) where
   maps_in (Fresh n) here MappedGids x (allowed, members, (mapped, inl id)) = id
   maps_in (Fresh n) here MappedGids x (allowed, members, (mapped, inr (inl id))) = id
   maps_in (Fresh n) here MappedGids x (allowed, members, (mapped, inr (inr held))) = absurd held
-  maps_in (Standing n) here _ x added = absurd added
-  maps_in (Fresh n) here _ x added = absurd added
+  maps_in _ here _ x added = absurd added
 
   caps_in : (row : Row) (Set : ℕ → Type 0) → ((x : ℕ) → Set x → ⊥) → (part : Part) (x : ℕ) → OnlyCaps Set part x → plain_bounds row part x
   caps_in row Set none_ PermittedCaps x added = absurd (none_ x added)
@@ -137,11 +136,10 @@ module _ (files : FileTable) where
       caps_in (Standing n) (CapByRoot first_spaces plain_bounds (Standing n)) (λ y held. held.1) part x added
   plain_closed ExecRoot (Fresh n) here part x (allowed, members, added) =
       caps_in (Fresh n) (CapByRoot first_spaces plain_bounds (Fresh n)) (λ y held. held.1) part x added
-  plain_closed Create (Standing n) here part x added = absurd added
   plain_closed Create (Fresh n) here part x (allowed, makes, brings) = brings_in n n part x brings
   plain_closed Join (Standing n) here part x (allowed, (a, joins, brings)) = absurd (nothing_above a joins.0 (rw (only_one n here) at joins.1))
-  plain_closed Join (Fresh n) here part x added = absurd added
   plain_closed Maps row here part x added = maps_in row here part x added
+  plain_closed _ _ here part x added = absurd added
 
 -- ---- covering
 -- an id that is one of four times 1000

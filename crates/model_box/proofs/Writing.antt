@@ -1,10 +1,9 @@
 -- Writing the maps of a space and its setgroups word keeps the spaces and the members covered.
-use Rattle.std.proofs.Common.{◌≡◌, ℕ, Bool, true, false, Some, List, [], ◌∷◌, length, refl, sym, ap, ◌∙◌, inl, inr, eqb}
+use Rattle.std.proofs.Common.{◌≡◌, ℕ, Bool, true, false, [], ◌∷◌, length, refl, sym, ap, ◌∙◌, subst, inl, inr, eqb}
 use Rattle.std.specs.Prelude.{◌⊎◌, if◌then◌else◌}
 use Rattle.std.proofs.lemmas.Bool.{cases_eq, eqb-true}
 use Rattle.model_cred.proofs.Spaces.{length_put}
 use Rattle.model_cred.specs.Credential.{Credential}
-use Rattle.model_cred.specs.IdMap.{Extent}
 use Rattle.model_cred.specs.Space.{Space, Spaces, space_of, put_space}
 use Rattle.model_box.specs.Row.{Part, Row, Fresh}
 use Rattle.model_box.specs.Covers.{RowOf, Stays, MapsIn, MapsAreIn, OwnersIn}
@@ -51,58 +50,34 @@ put_cases t new (s ∷ older) n =
 
 -- A changed space that keeps what stays, and whose maps are in its row, keeps the spaces covered.
 module _ (old new : Spaces) (fit : TreeFits old new) (t : ℕ) (s : Space) (stays : Stays (space_of new t) s) where
-  put_parent : (n : ℕ) → (space_of (put_space t s new) n).parent ≡ (space_of new n).parent
-  put_parent n =
+  -- each space keeps what stays
+  put_stays : (n : ℕ) → Stays (space_of new n) (space_of (put_space t s new) n)
+  put_stays n =
       elim (put_cases t s new n) [
-        | inl at ↦ ap (λ (x : Space). x.parent) at.1 ∙ stays.parent ∙ ap (λ (k : ℕ). (space_of new k).parent) (sym at.0)
-        | inr same ↦ ap (λ (x : Space). x.parent) same
-      ]
-
-  put_owner : (n : ℕ) → (space_of (put_space t s new) n).owner ≡ (space_of new n).owner
-  put_owner n =
-      elim (put_cases t s new n) [
-        | inl at ↦ ap (λ (x : Space). x.owner) at.1 ∙ stays.owner ∙ ap (λ (k : ℕ). (space_of new k).owner) (sym at.0)
-        | inr same ↦ ap (λ (x : Space). x.owner) same
-      ]
-
-  put_deny : (n : ℕ) → (space_of new n).deny ≡ true → (space_of (put_space t s new) n).deny ≡ true
-  put_deny n word =
-      elim (put_cases t s new n) [
-        | inl at ↦ ap (λ (x : Space). x.deny) at.1 ∙ stays.deny (ap (λ (k : ℕ). (space_of new k).deny) (sym at.0) ∙ word)
-        | inr same ↦ ap (λ (x : Space). x.deny) same ∙ word
-      ]
-
-  put_uids : (n : ℕ) (map : List Extent) → (space_of new n).uids ≡ Some map → (space_of (put_space t s new) n).uids ≡ Some map
-  put_uids n map written =
-      elim (put_cases t s new n) [
-        | inl at ↦ ap (λ (x : Space). x.uids) at.1 ∙ stays.uids map (ap (λ (k : ℕ). (space_of new k).uids) (sym at.0) ∙ written)
-        | inr same ↦ ap (λ (x : Space). x.uids) same ∙ written
-      ]
-
-  put_gids : (n : ℕ) (map : List Extent) → (space_of new n).gids ≡ Some map → (space_of (put_space t s new) n).gids ≡ Some map
-  put_gids n map written =
-      elim (put_cases t s new n) [
-        | inl at ↦ ap (λ (x : Space). x.gids) at.1 ∙ stays.gids map (ap (λ (k : ℕ). (space_of new k).gids) (sym at.0) ∙ written)
-        | inr same ↦ ap (λ (x : Space). x.gids) same ∙ written
+        | inl at ↦
+            subst (λ (x : Space). Stays (space_of new n) x) (sym at.1)
+            (subst (λ (k : ℕ). Stays (space_of new k) s) (sym at.0) stays)
+        | inr same ↦ subst (λ (x : Space). Stays (space_of new n) x) (sym same)
+            (record { parent = refl; owner = refl; uids = λ map is. is; gids = λ map is. is; deny = λ is. is })
       ]
 
   put_row : (n : ℕ) (row : Row) → RowOf (length old) (put_space t s new) n row → RowOf (length old) new n row
-  put_row n row row_n = row_same (put_space t s new) new put_parent row_n
+  put_row n row row_n = row_same (put_space t s new) new (λ m. (put_stays m).parent) row_n
 
   pub put_tree : TreeFits old (put_space t s new)
   put_tree = record {
     before = fit.before;
-    earlier = λ n p parent. fit.earlier n p (sym (put_parent n) ∙ parent);
+    earlier = λ n p parent. fit.earlier n p (sym (put_stays n).parent ∙ parent);
     grown = rw (length_put t s new) (fit.grown);
     stay = λ n low. record {
-      parent = put_parent n ∙ (fit.stay n low).parent;
-      owner = put_owner n ∙ (fit.stay n low).owner;
-      uids = λ map written. put_uids n map ((fit.stay n low).uids map written);
-      gids = λ map written. put_gids n map ((fit.stay n low).gids map written);
-      deny = λ word. put_deny n ((fit.stay n low).deny word);
+      parent = (put_stays n).parent ∙ (fit.stay n low).parent;
+      owner = (put_stays n).owner ∙ (fit.stay n low).owner;
+      uids = λ map written. (put_stays n).uids map ((fit.stay n low).uids map written);
+      gids = λ map written. (put_stays n).gids map ((fit.stay n low).gids map written);
+      deny = λ word. (put_stays n).deny ((fit.stay n low).deny word);
     };
-    deny = λ n a row word. put_deny n (fit.deny n a (put_row n (Fresh a) row) word);
-    parents = λ n late here. let up = fit.parents n late (rw (length_put t s new) at here) in (up.0, put_parent n ∙ up.1, up.2);
+    deny = λ n a row word. (put_stays n).deny (fit.deny n a (put_row n (Fresh a) row) word);
+    parents = λ n late here. let up = fit.parents n late (rw (length_put t s new) at here) in (up.0, (put_stays n).parent ∙ up.1, up.2);
   }
 
   -- No later space comes.
@@ -120,7 +95,7 @@ module _ (old new : Spaces) (fit : TreeFits old new) (t : ℕ) (s : Space) (stay
         ]
 
     pub put_owners : OwnersIn old new bounds → OwnersIn old (put_space t s new) bounds
-    put_owners owners n p row late parent row_p = rw (put_owner n) (owners n p row late (sym (put_parent n) ∙ parent) (put_row p row row_p))
+    put_owners owners n p row late parent row_p = rw ((put_stays n).owner) (owners n p row late (sym (put_stays n).parent ∙ parent) (put_row p row row_p))
 
     pub put_members : (at : ℕ) (c : Credential) → MemberFits old new bounds at c → MemberFits old (put_space t s new) bounds at c
     put_members at c member = record {

@@ -19,9 +19,8 @@ HasRows n (Err e) = ⊤
 
 one_more : (n : ℕ) (first : Result BoxRow CertFault) (rest : Result (List BoxRow) CertFault) → HasRows n rest
     → HasRows (suc n) (first >>= λ row. rest >>= λ rows. Ok (row ∷ rows))
-one_more n (Err e) rest h = tt
-one_more n (Ok row) (Err e) h = tt
 one_more n (Ok row) (Ok rows) h = ap suc h
+one_more n _ _ h = tt
 
 shapes : (y : ℕ) (ds : Items) → HasRows (items_len ds) (rows_shape y ds)
 shapes y no_items = refl

@@ -66,15 +66,7 @@ next_ends : (ts : List Token) (rest : List ℕ) → ends_word rest ≡ true → 
 unfolding print_from
 next_ends [] rest h = h
 next_ends (begin_object ∷ ts) rest h = refl
-next_ends (end_object ∷ ts) rest h = refl
-next_ends (begin_array ∷ ts) rest h = refl
-next_ends (end_array ∷ ts) rest h = refl
-next_ends (key s ∷ ts) rest h = refl
-next_ends (string s ∷ ts) rest h = refl
-next_ends (number s ∷ ts) rest h = refl
-next_ends (boolean b ∷ ts) rest h = refl
-next_ends (null ∷ ts) rest h = refl
-next_ends (bad ∷ ts) rest h = refl
+next_ends (_ ∷ ts) rest h = refl
 
 tokens_lexed : (later : Bool) (ts : List Token) → ArePrintable ts → HasLexemes true (print_from later ts)
 unfolding print_from ArePrintable

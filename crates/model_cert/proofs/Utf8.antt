@@ -106,5 +106,4 @@ certificate_utf8 rows h = text_utf8 (certificate_data rows) (rw (decimal_ascii 1
 
 pub line_utf8 : (rows : List BoxRow) → RowByRow rows → IsUtf8 (certificate_text rows ++ 10 ∷ [])
 line_utf8 rows h =
-    let lf = IsUtf8-are_ascii (10 ∷ []) refl in
-    IsUtf8-append (certificate_text rows) (10 ∷ []) (certificate_utf8 rows h) lf
+    IsUtf8-append (certificate_text rows) (10 ∷ []) (certificate_utf8 rows h) (IsUtf8-are_ascii (10 ∷ []) refl)

@@ -106,9 +106,6 @@ all_insert P new (p ∷ processes) holds all =
     ]
 
 -- ---- one process less
-pub pid_after : (gone p : Process) → (after_exit gone p).pid ≡ p.pid
-pid_after gone p = sym (like_after_exit gone p).pid
-
 pub ascends_filter : (low : ℕ) (test : Process → Bool) (processes : List Process) → AscendsFrom low processes → AscendsFrom low (filter test processes)
 ascends_filter low test [] ascends = tt
 ascends_filter low test (p ∷ processes) ascends =
@@ -125,7 +122,7 @@ ascends_filter low test (p ∷ processes) ascends =
 pub ascends_after : (low : ℕ) (gone : Process) (processes : List Process) → AscendsFrom low processes → AscendsFrom low (map (after_exit gone) processes)
 ascends_after low gone [] ascends = tt
 ascends_after low gone (p ∷ processes) ascends =
-    let e : p.pid ≡ (after_exit gone p).pid = sym (pid_after gone p) in (
+    let e : p.pid ≡ (after_exit gone p).pid = (like_after_exit gone p).pid in (
       subst (λ (n : ℕ). low ≤ n) e ascends.0,
       subst (λ (n : ℕ). AscendsFrom (suc n) (map (after_exit gone) processes)) e (ascends_after (suc p.pid) gone processes ascends.1),
     )

@@ -70,9 +70,8 @@ one_gives None f gives = gives_error EINVAL
 one_gives (Some a) f gives = gives a refl
 
 both_give : (o p : Option ℕ) (f : ℕ → ℕ → Result FourIds Errno) → ((a b : ℕ) → o ≡ Some a → p ≡ Some b → GivesIds (f a b)) → GivesIds (both_mapped o p f)
-both_give None p f gives = gives_error EINVAL
-both_give (Some a) None f gives = gives_error EINVAL
 both_give (Some a) (Some b) f gives = gives a b refl refl
+both_give _ _ f gives = gives_error EINVAL
 
 all_give : (o p q : Option ℕ) (f : ℕ → ℕ → ℕ → Result FourIds Errno)
     → ((a b c : ℕ) → o ≡ Some a → p ≡ Some b → q ≡ Some c → GivesIds (f a b c)) → GivesIds (all_mapped o p q f)

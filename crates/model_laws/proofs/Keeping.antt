@@ -202,13 +202,12 @@ keeps_clone : (r : Res) (s : State) (p : Process) (n : ℕ) → IsPlain r → Ke
     → (is_pid n ≡ true → is_alive s.processes n ≡ false)
     → KeepsState (birth_unless r s (clone_child s.spaces p n) (spaces_with r s.spaces p.space p.cred)).state
 keeps_clone (Err e) s p n plain keeps there cred dead = keeps
-keeps_clone (Id m) s p n plain keeps there cred dead = absurd plain
-keeps_clone (Child m) s p n plain keeps there cred dead = absurd plain
 keeps_clone Done s p n plain keeps there cred dead =
     let new : Made s.spaces p.space Done (spaces_with Done s.spaces p.space p.cred) = made Done s.spaces p.space p.cred there (tree_of s keeps) cred in
     keeps_birth s (clone_child s.spaces p n) (spaces_with Done s.spaces p.space p.cred) (is_pid n) keeps (λ is.
     keeps_born s (clone_child s.spaces p n) (spaces_with Done s.spaces p.space p.cred) keeps (dead is) new.place
     (keeps_newcomer p.cred cred) new.grows new.tree)
+keeps_clone _ s p n plain keeps there cred dead = absurd plain
 
 -- a call that is neither a birth nor an exit
 keeps_call : (w : World) (s : State) (p : Process) (call : Call) → KeepsFiles w.files → KeepsState s → p.space < length s.spaces → Keeps p.cred

@@ -12,7 +12,7 @@ use Rattle.model_cred.specs.IdMap.{Extent}
 use Rattle.model_cred.specs.MapFault.{is_map}
 use Rattle.model_cred.specs.Made.{spaces_made}
 use Rattle.model_cred.specs.Process.{Process, State, is_pid, insert_process}
-use Rattle.model_cred.specs.Space.{Space, Spaces, space_of}
+use Rattle.model_cred.specs.Space.{Spaces, space_of}
 use Rattle.model_cred.specs.World.{World}
 use Rattle.model_laws.proofs.Keeping.{IsPlain, clone_plain}
 use Rattle.model_laws.proofs.StepParts.{Stepped, Answers, stepped}
@@ -68,12 +68,6 @@ fork_makes : (s : State) (child : Process) (b : Bool)
     else record { res = Err EAGAIN; state = s })
 fork_makes s child true = omega arith
 fork_makes s child false = omega arith
-
-new_makes : (s : State) (child : Process) (new : Space) (b : Bool)
-    → Makes s CloneUser (if b then record { res = Child child.pid; state = record { processes = insert_process child s.processes; spaces = new ∷ s.spaces } }
-    else record { res = Err EAGAIN; state = s })
-new_makes s child new true = omega arith
-new_makes s child new false = omega arith
 
 clone_makes : (r : Res) (s : State) (p : Process) (n : ℕ) → IsPlain r
     → Makes s CloneUser (birth_unless r s (clone_child s.spaces p n) (spaces_with r s.spaces p.space p.cred))

@@ -14,7 +14,7 @@ use Rattle.model_cred.specs.World.{World}
 use Rattle.model_run.specs.Family.{Family, child, family}
 use Rattle.model_run.specs.Later.{Later, is_member, members_after}
 use Rattle.model_run.specs.Step.{Step}
-use Rattle.model_laws.specs.Families.{ChainEnds, first, next, ChainsEnd, AreFamily, NeverExits, StepKeepsChains}
+use Rattle.model_laws.specs.Families.{ChainEnds, next, ChainsEnd, AreFamily, NeverExits, StepKeepsChains}
 use Rattle.model_laws.specs.Families.{MembersAreFamily, MemberAt, CallersAreMembers, ChildrenAreMembers, StaysOutside}
 use Rattle.model_laws.specs.Families.{OthersStay, IsForebearOutside, OthersStayWhole, StrangersStay}
 use Rattle.model_laws.proofs.Effects.{Effect, Does, IsChildless, does}
@@ -283,11 +283,6 @@ unfolding OthersStayWhole
 others_stay_whole = whole_later
 
 -- ---- whoever isn't of the family
--- the forebear at the head of a chain that ends is alive
-head_alive : (s : State) (pid : ℕ) → ChainEnds s pid → is_alive s.processes pid ≡ true
-head_alive s pid (first n p at ends) = alive_found s.processes n p at
-head_alive s pid (next n f p at forebear rest) = alive_found s.processes n p at
-
 forebear_lives : (s : State) (pid f : ℕ) (p : Process) → process_at s.processes pid ≡ Some p → p.forebear ≡ Some f
     → ChainEnds s pid → is_alive s.processes f ≡ true
 forebear_lives s pid f p at forebear ends = grind arith

@@ -113,8 +113,8 @@ pid_bounds n is = let parts = and_parts (nat_le 1 n) (nat_le n last_pid) is in (
 no_pid : (n : ℕ) → 1 ≤ n → is_pid n ≡ false → last_pid < n
 no_pid n low is = grind arith
 
-least_free : (s : State) → IsLeastFree s (free_pid s)
-least_free s =
+pub free_is_least : (s : State) → IsLeastFree s (free_pid s)
+free_is_least s =
     elim (search s.processes (suc (length s.processes)) 1) [
       | inl none ↦ absurd (some_free s.processes none.1)
       | inr found ↦
@@ -131,7 +131,4 @@ least_free s =
 
 pub least_free_pid : LeastFreePid
 unfolding LeastFreePid
-least_free_pid = least_free
-
-pub free_is_least : (s : State) → IsLeastFree s (free_pid s)
-free_is_least = least_free
+least_free_pid = free_is_least

@@ -104,9 +104,8 @@ root_sets = root_rule
 -- what is done leaves the credential after execve
 exec_done : (c d : Credential) (a b : Bool) → (let x : Answer = if a then refused EACCES c else if b then refused EPERM c else done d in x).res ≡ Done
     → (let x : Answer = if a then refused EACCES c else if b then refused EPERM c else done d in x).cred ≡ d
-exec_done c d true b wrong = absurd (cc)
-exec_done c d false true wrong = absurd (cc)
 exec_done c d false false is = refl
+exec_done c d _ _ wrong = absurd (cc)
 
 full_meet : (b : ℕ) → IsCapSet b → meet full b ≡ b
 full_meet b small = within_antisymmetric (meet full b) b (meet_within_second full b) (within_meet full b b (within_full b small) (within_reflexive b))

@@ -1,20 +1,17 @@
 -- The saved id after setreuid and setregid.
-use Rattle.std.proofs.Common.{arith, ◌≡◌, ℕ, ◌==◌, ◌&&◌, ◌||◌, not, Bool, true, Option, Some, None, List, refl, sym}
-use Rattle.std.proofs.Common.{◌∙◌, subst}
+use Rattle.std.proofs.Common.{arith, ◌≡◌, ℕ, ◌&&◌, not, Bool, List, refl, sym, ◌∙◌, subst}
 use Rattle.std.specs.Prelude.{Result, Ok}
 use Rattle.std.specs.declared.result.Result.TheVariants.{Err as Failed}
 use Rattle.cm_base.specs.declared.errno.Errno.{Errno}
-use Rattle.cm_base.specs.declared.errno.Errno.TheVariants.{EINVAL}
 use Rattle.cm_base.specs.declared.res.Res.TheVariants.{Done}
 use Rattle.model_cred.specs.Credential.{Credential, FourIds}
 use Rattle.model_cred.specs.IdMap.{Extent, extents_of}
 use Rattle.model_cred.specs.Space.{Space}
 use Rattle.model_rules.specs.Fixups.{fixed_up, following_effective, after_losing_root, without_root}
 use Rattle.model_rules.specs.Securebits.{has_flag, keep_caps, no_setuid_fixup}
-use Rattle.model_rules.specs.SetId.{is_given, both_mapped, setreid, saved_after, with_uids, with_gids, has_setuid}
-use Rattle.model_rules.specs.SetId.{has_setgid}
+use Rattle.model_rules.specs.SetId.{setreid, with_uids, with_gids, has_setuid, has_setgid}
 use Rattle.model_rules.specs.Zero.{has_zero}
-use Rattle.model_laws.specs.Sentences.{SetsSaved, SavedId, SavedAfterSetReUid, SavedAfterSetReGid}
+use Rattle.model_laws.specs.Sentences.{SavedId, SavedAfterSetReUid, SavedAfterSetReGid}
 use Rattle.model_laws.proofs.Ids.{either}
 
 -- ---- the fixups leave the user ids
@@ -35,38 +32,9 @@ fixed_uid s old c =
     (following_uid s old (after_losing_root s old c) ∙ losing_uid s old c)
 
 -- ---- the saved id
--- the test as the sentence
-sets_saved : (old new : FourIds) (r e : ℕ) → (is_given r || (is_given e && not (new.effective == old.real))) ≡ true → SetsSaved old new r e
-sets_saved old new r e is = grind arith
-
--- the sentence as the test
-saved_set : (old new : FourIds) (r e : ℕ) → SetsSaved old new r e → (is_given r || (is_given e && not (new.effective == old.real))) ≡ true
-saved_set old new r e saved = grind arith
-
-saved_is : (old : FourIds) (r e real effective : ℕ)
-    → SavedId old (record {
-      real = real;
-      effective = effective;
-      saved = saved_after old r e effective;
-      fs = effective;
-    }) r e
-saved_is old r e real effective = grind arith
-
 -- the new ids, if there are any, have the saved id as the sentence says
 record Saves (old : FourIds) (r e : ℕ) (result : Result FourIds Errno) : Type 0 where
   ids : (ids : FourIds) → result ≡ Ok ids → SavedId old ids r e
-
-saves_error : (old : FourIds) (r e : ℕ) (k : Errno) → Saves old r e (Failed k)
-saves_error old r e k = record { ids = λ ids wrong. absurd (cc) }
-
-saves_both : (old : FourIds) (r e : ℕ) (o p : Option ℕ) (f : ℕ → ℕ → Result FourIds Errno)
-    → ((a b : ℕ) → Saves old r e (f a b)) → Saves old r e (both_mapped o p f)
-saves_both old r e None p f saves = saves_error old r e EINVAL
-saves_both old r e (Some a) None f saves = saves_error old r e EINVAL
-saves_both old r e (Some a) (Some b) f saves = saves a b
-
-saves_ok : (old : FourIds) (r e : ℕ) (ids : FourIds) → SavedId old ids r e → Saves old r e (Ok ids)
-saves_ok old r e ids saved = record { ids = λ others is. let same : ids ≡ others = cc in subst (λ (new : FourIds). SavedId old new r e) same saved }
 
 setreid_saves : (map : List Extent) (privileged : Bool) (old : FourIds) (r e : ℕ) → Saves old r e (setreid map privileged old r e)
 setreid_saves map privileged old r e = grind arith

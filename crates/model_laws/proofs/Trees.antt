@@ -8,7 +8,7 @@ use Rattle.cm_base.specs.Limits.{id_count}
 use Rattle.cm_base.specs.declared.errno.Errno.{Errno}
 use Rattle.cm_base.specs.declared.errno.Errno.TheVariants.{EPERM, EINVAL}
 use Rattle.model_cred.proofs.Spaces.{length_put}
-use Rattle.model_cred.specs.Credential.{Credential, Keeps}
+use Rattle.model_cred.specs.Credential.{Credential}
 use Rattle.model_cred.specs.IdMap.{Extent, HasIds, extents_of}
 use Rattle.model_cred.specs.MapFault.{IsMap, is_map}
 use Rattle.model_rules.proofs.Downs.{stored_is_map}
@@ -16,7 +16,6 @@ use Rattle.model_rules.proofs.Spaces.{keeps_space_of}
 use Rattle.model_cred.specs.Space.{Space, Spaces, KeepsSpace, IsTree, space_of, put_space}
 use Rattle.model_rules.specs.Maps.{MapFile, UidMap, GidMap, Written, write_done, write_refused, write_map, write_stored}
 use Rattle.model_rules.specs.Maps.{write_setgroups, map_of, with_map, parent_map, extent_down, list_down}
-use Rattle.model_rules.specs.Namespaces.{created_by}
 use Rattle.model_cred.proofs.Trees.{put_newest, put_older, tree_put}
 use Rattle.model_laws.proofs.Ids.{FitsIds}
 
@@ -39,9 +38,6 @@ all_put n new (t ∷ older) keeps each =
 pub keeps_put : (n : ℕ) (new : Space) (spaces : Spaces) → n < length spaces → new.parent ≡ (space_of spaces n).parent → KeepsSpace new
     → KeepsTree spaces → KeepsTree (put_space n new spaces)
 keeps_put n new spaces there same keeps kept = record { tree = tree_put n new spaces there same kept.tree; each = all_put n new spaces keeps kept.each }
-
-pub keeps_created : (spaces : Spaces) (at : ℕ) (c : Credential) → at < length spaces → Keeps c → KeepsTree spaces → KeepsTree (created_by spaces at c ∷ spaces)
-keeps_created spaces at c there keeps kept = grind arith
 
 -- ---- writes
 extent_fits : (map : List Extent) (e out : Extent) → HasIds map → extent_down map e ≡ Some out → FitsIds out
@@ -69,9 +65,8 @@ extent_fits (p ∷ map) e out ids is =
 list_step : (first : Option Extent) (rest : Option (List Extent)) (out : List Extent) → ((e : Extent) → first ≡ Some e → FitsIds e)
     → ((list : List Extent) → rest ≡ Some list → HasIds list)
     → option_and_then (λ f. option_map (λ r. f ∷ r) rest) first ≡ Some out → HasIds out
-list_step None rest out fits all is = absurd (cc)
-list_step (Some e) None out fits all is = absurd (cc)
 list_step (Some e) (Some list) out fits all is = let it : (e ∷ list) ≡ out = cc in subst HasIds it (All-cons FitsIds e list (fits e refl) (all list refl))
+list_step _ _ out fits all is = absurd (cc)
 
 list_fits : (map list out : List Extent) → HasIds map → list_down map list ≡ Some out → HasIds out
 list_fits map [] out ids is = let it : [] ≡ out = cc in subst HasIds it (All-nil FitsIds)

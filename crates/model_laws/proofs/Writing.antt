@@ -85,10 +85,6 @@ extent_length (p ∷ map) e out is =
       | inr rest ↦ extent_length map e out (sym rest ∙ is)
     ]
 
--- a test that one id is in a range
-next_le : (n m : ℕ) → nat_lt n m ≡ nat_le (n + 1) m
-next_le n m = grind arith
-
 -- of one id alone it is what the map takes the id to
 one_down : (map : List Extent) (e : Extent) → e.length ≡ 1 → down map e.outside ≡ option_map (λ m. m.outside) (extent_down map e)
 one_down [] e one = refl
@@ -363,14 +359,12 @@ done_passed file spaces at c target list is =
         x).res
         ≡ Done
         → Passed file spaces at c target list
-    by false b o x y z wrong = absurd (cc)
-    by true false o x y z wrong = absurd (cc)
-    by true true None x y z wrong = absurd (cc)
     by true true (Some mapped) x y z it =
         let both : (setfcap_allows file spaces at c (space_of spaces target) list && may_map file spaces at c (space_of spaces target) mapped) ≡ true
         = last mapped (setfcap_allows file spaces at c (space_of spaces target) list && may_map file spaces at c (space_of spaces target) mapped) refl it in
         let parts = and_parts (setfcap_allows file spaces at c (space_of spaces target) list) (may_map file spaces at c (space_of spaces target) mapped) both in
         record { may = x; valid = y; mapped = mapped; mapped_is = z; setfcap = parts.0; maps = parts.1 }
+    by _ _ _ x y z wrong = absurd (cc)
 
 passed_done : (file : MapFile) (spaces : Spaces) (at : ℕ) (c : Credential) (target : ℕ) (list : List Extent) → Passed file spaces at c target list
     → (write_map file spaces at c target list).res ≡ Done

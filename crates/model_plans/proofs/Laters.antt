@@ -169,11 +169,10 @@ module _ (files : FileTable) (spaces : Spaces) where
       (All-cons (MovesStand files spaces) (BecomeSought ∷ []) [] (tt, tt) (All-nil (MovesStand files spaces))))
 
   stand_group : (right : Right) → All (MovesStand files spaces) (group_choices right)
-  stand_group (Cap cap n) = All-nil (MovesStand files spaces)
-  stand_group (Uid id) = All-nil (MovesStand files spaces)
   stand_group (Gid id) =
       All-cons (MovesStand files spaces) (BecomeGroup ∷ []) ((TakeGroup ∷ []) ∷ []) (tt, tt)
       (All-cons (MovesStand files spaces) (TakeGroup ∷ []) [] (tt, tt) (All-nil (MovesStand files spaces)))
+  stand_group _ = All-nil (MovesStand files spaces)
 
   stand_last : (right : Right) → All (MovesStand files spaces) (last_choices right)
   stand_last right =

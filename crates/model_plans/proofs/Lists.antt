@@ -102,10 +102,6 @@ all_flat_map P f (x ∷ xs) all =
     All-append P (f x) (flat_map f xs) (All-head (λ y. All P (f y)) x xs all)
     (all_flat_map P f xs (All-tail (λ y. All P (f y)) x xs all))
 
-pub all_of : {A : Type 0} (P : A → Type 0) (xs : List A) → ((x : A) → P x) → All P xs
-all_of P [] each = All-nil P
-all_of P (x ∷ xs) each = All-cons P x xs (each x) (all_of P xs each)
-
 -- the numbers of a range
 pub all_range : (P : ℕ → Type 0) (from count : ℕ) → ((n : ℕ) → from ≤ n → n < from + count → P n) → All P (range_with_len from count)
 all_range P from zero each = All-nil P

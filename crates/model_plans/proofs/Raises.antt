@@ -1,6 +1,5 @@
 -- A raise is never refused.
-use Rattle.std.proofs.Common.{◌≡◌, ℕ, ◌==◌, true, List, [], ◌∷◌, Option, None, Some}
-use Rattle.std.proofs.Common.{ap, ◌∙◌, inl, inr}
+use Rattle.std.proofs.Common.{◌≡◌, ℕ, ◌==◌, true, List, [], ◌∷◌, Option, None, Some, ap, ◌∙◌, inl, inr}
 use Rattle.std.specs.Prelude.{find}
 use Rattle.std.proofs.lemmas.Bool.{cases_Bool, cond-true, cond-false, eqb-true, and_from, or_right}
 use Rattle.cm_base.proofs.CapSets.{within_reflexive, first_within_union}

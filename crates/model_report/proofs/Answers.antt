@@ -7,7 +7,7 @@ use Rattle.cm_base.specs.declared.limited.Limited.TheVariants as limit
 use Rattle.cm_base.specs.Limited.{limit_number}
 use Rattle.model_box.specs.Meets.{IsOverStanding}
 use Rattle.model_cred.specs.Process.{Process, State}
-use Rattle.model_cred.specs.Right.{Right, Cap, Uid, Gid}
+use Rattle.model_cred.specs.Right.{Right, Cap}
 use Rattle.model_cred.specs.Space.{Spaces}
 use Rattle.model_cred.specs.World.{World}
 use Rattle.model_report.specs.Answer.{query_answer, asked_answer, right_answer, task_report, bad_query, unless_large, is_over_standing}
@@ -21,13 +21,11 @@ use Rattle.model_run.specs.Family.{family}
 -- ---- the right's space
 pub stands_or_not : (spaces : Spaces) (right : Right) → is_over_standing spaces right ≡ true → IsOverStanding spaces right
 stands_or_not spaces (Cap cap n) is = is
-stands_or_not spaces (Uid id) is = tt
-stands_or_not spaces (Gid id) is = tt
+stands_or_not spaces _ is = tt
 
 pub standing_is : (spaces : Spaces) (right : Right) → IsOverStanding spaces right → is_over_standing spaces right ≡ true
 standing_is spaces (Cap cap n) is = is
-standing_is spaces (Uid id) is = refl
-standing_is spaces (Gid id) is = refl
+standing_is spaces _ is = refl
 
 pub not_standing : (spaces : Spaces) (right : Right) → is_over_standing spaces right ≡ false → IsOverStanding spaces right → ⊥
 not_standing spaces right none is = let both : false ≡ true = sym none ∙ standing_is spaces right is in absurd (cc)

@@ -82,12 +82,10 @@ changes_by : (s : State) (p : Process) (told own : Res) (given : Ruling) (s' : S
     → same_res told given.res ≡ same → Changes s p given.res given.state
     → cond absent NoSpace (cond living PidInUse (cond outside (Goes s) (cond same (Goes given.state) (Wrong own)))) ≡ Goes s' → Changes s p told s'
 unfolding Changes
-changes_by s p told own given s' true living outside same is leaves goes = absurd (cc)
-changes_by s p told own given s' false true outside same is leaves goes = absurd (cc)
 changes_by s p told own given s' false false true same is leaves goes = inl (ap (λ (x : State). x.processes) (sym (goes_to s s' goes)))
 changes_by s p told own given s' false false false true is leaves goes =
     changes_told s p told given.res s' is (subst (λ (x : State). Changes s p given.res x) (goes_to given.state s' goes) leaves)
-changes_by s p told own given s' false false false false is leaves goes = absurd (cc)
+changes_by s p told own given s' _ _ _ _ is leaves goes = absurd (cc)
 
 -- the caller is found, and its step changes the state so
 Made : State → Event → State → Type 0

@@ -80,19 +80,13 @@ verdict_status (Undecided blame below) = status.Undecided
 
 told_status : (w : World) (spaces : Spaces) (x : Told) → (verdict_report w spaces x).status ≡ verdict_status (verdict_in x)
 told_status w spaces (TellsNo found) = refl
-told_status w spaces (TellsYes rows) = refl
-told_status w spaces (TellsUndecided blame rows) = refl
+told_status w spaces _ = refl
 
 one_status : (v other : Verdict) → AreOne v other → verdict_status v ≡ verdict_status other
 one_status (No found) (No found') same = refl
 one_status (Yes bounds) (Yes bounds') same = refl
 one_status (Undecided blame below) (Undecided blame' below') same = refl
-one_status (No found) (Yes bounds) same = absurd same
-one_status (No found) (Undecided blame below) same = absurd same
-one_status (Yes bounds) (No found) same = absurd same
-one_status (Yes bounds) (Undecided blame below) same = absurd same
-one_status (Undecided blame below) (No found) same = absurd same
-one_status (Undecided blame below) (Yes bounds) same = absurd same
+one_status _ _ same = absurd same
 
 -- the status of what is told is that of any verdict on the question
 pub status_is : (w : World) (s : State) (members : List ℕ) (right : Right) (x : Told) (u : Verdict) → IsVerdictOn w s members right x

@@ -73,8 +73,6 @@ module _ (words : List (List ℕ)) (bytes : List ℕ → List ℕ) where
       excluding.encloses.covers excluding.encloses.closed excluding.apart events later members_then run pid member
 
   never_by : (is : IsAccepted words bytes) (task : Task) → the_task ≡ task → AsksNever task → IsDone task is.world is.state → ShowsNever words bytes
-  never_by is NoTask same asks done = absurd asks
-  never_by is (ToConfirm q text) same asks done = absurd asks
   never_by is (ToJudge q) same asks (p, right, asked, excluding) = record {
     asking = asked_so is q p right (ap query_in same) asked;
     excluding = excluding;
@@ -88,6 +86,7 @@ module _ (words : List (List ℕ)) (bytes : List ℕ → List ℕ) where
         excluding = excluding;
         never = excluded_never is (family is.state p.pid) right asked.standing excluding;
       }
+  never_by is _ same asks done = absurd asks
 
   never_of : AsksNever the_task → Cause words bytes status.Accepted → ShowsNever words bytes
   never_of asks (inl (is, done)) = never_by is the_task refl asks done

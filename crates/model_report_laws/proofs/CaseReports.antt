@@ -3,7 +3,7 @@ use Rattle.std.proofs.Common.{◌≡◌, ℕ, List, [], ◌∷◌, ◌++◌, con
 use Rattle.std.specs.Prelude.{codes, flat_map}
 use Rattle.cm_base.specs.declared.status.Status.{Status}
 use Rattle.model_cred.specs.World.{World}
-use Rattle.model_report.specs.Checked.{Checked, Holds}
+use Rattle.model_report.specs.Checked.{Holds}
 use Rattle.model_report.specs.Judged.{Judged}
 use Rattle.model_report.specs.Replay.{Report, text_of}
 use Rattle.model_report.specs.Report.{by_world, report}
@@ -22,9 +22,6 @@ none_judged = record { verdict = TellsYes []; checked = Holds }
 -- a verdict is judged, and what rows are found to be
 abbrev pub judged : Told → Judged
 judged x = record { verdict = x; checked = Holds }
-
-abbrev pub found_so : Checked → Judged
-found_so x = record { verdict = TellsYes []; checked = x }
 
 -- lines, each with its LF
 abbrev pub written : List (List ℕ) → List ℕ

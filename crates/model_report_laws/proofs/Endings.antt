@@ -98,9 +98,6 @@ module _ (words : List (List ℕ)) (bytes : List ℕ → List ℕ) (j : Judged) 
   abbrev passed_of : IsAccepted words bytes → List ReportLine
   passed_of is = passed_lines is.world is.world.start is.comes.events
 
-  accepted_lines : (is : IsAccepted words bytes) → (replay_of is.world (whole words bytes j is)).lines ≡ passed_of is ++ Plain (end_of is) ∷ []
-  accepted_lines is = ap (λ (r : Report). r.lines) (over_all is.world is.comes.events AtEnd is.state is.comes.run)
-
   accepted_written : (is : IsAccepted words bytes) → shows the_task ≡ true
       → IsWritten is.world is.comes.events is.state (end_of is) (report words bytes j).lines
   accepted_written is shown_so =
@@ -113,7 +110,8 @@ module _ (words : List (List ℕ)) (bytes : List ℕ → List ℕ) (j : Judged) 
         cut =
             ap (λ (r : Report). r.lines) (of_accepted words bytes j is)
             ∙ ap (λ (b : Bool). (shown b is.world (whole words bytes j is)).lines ++ last) shown_so
-            ∙ ap (λ (ls : List ReportLine). (start_lines is.world ++ ls) ++ last) (accepted_lines is)
+            ∙ ap (λ (r : Report). (start_lines is.world ++ r.lines) ++ last)
+            (over_all is.world is.comes.events AtEnd is.state is.comes.run)
             ∙ append_assoc (start_lines is.world) (passed_of is ++ Plain (end_of is) ∷ []) last
             ∙ ap (λ (ls : List ReportLine). start_lines is.world ++ ls) (append_assoc (passed_of is) (Plain (end_of is) ∷ []) last);
       }

@@ -287,16 +287,13 @@ verdict_form v form spaces (TellsNo found) =
       status = status.No;
       lines = Plain (at_line (codes "no ") (length found.run)) ∷ calls ++ Plain (at_line (codes "holder ") found.holder) ∷ [];
     }) (runs_form v form found.run)
-verdict_form v form spaces (TellsYes rows) = refl
-verdict_form v form spaces (TellsUndecided blame rows) = refl
+verdict_form v form spaces _ = refl
 
 certificate_form : (v : World) (form : LogForm) (spaces : Spaces) (x : Checked) (read : Result (List BoxRow) CertFault)
     → certificate_report (in_form v form) spaces x read ≡ certificate_report v spaces x read
 certificate_form v form spaces x (Err why) = refl
 certificate_form v form spaces (NotStart row) (Ok rows) = refl
-certificate_form v form spaces (NotClosed turn) (Ok rows) = refl
-certificate_form v form spaces (MeetsRight row) (Ok rows) = refl
-certificate_form v form spaces Holds (Ok rows) = refl
+certificate_form v form spaces _ (Ok rows) = refl
 
 task_form : (v : World) (form : LogForm) (task : Task) (j : Judged) (s : State) (members : List ℕ) (right : Right)
     → task_report task j (in_form v form) s members right ≡ task_report task j v s members right
@@ -318,9 +315,8 @@ right_form v form task j s p right =
 
 asked_form : (v : World) (form : LogForm) (task : Task) (j : Judged) (s : State) (p : Option Process) (right : Option Right)
     → asked_answer task j (in_form v form) s p right ≡ asked_answer task j v s p right
-asked_form v form task j s None right = refl
-asked_form v form task j s (Some p) None = refl
 asked_form v form task j s (Some p) (Some right) = right_form v form task j s p right
+asked_form v form task j s _ _ = refl
 
 query_form : (v : World) (form : LogForm) (task : Task) (j : Judged) (s : State) (q : Query)
     → query_answer task j (in_form v form) s q ≡ query_answer task j v s q
@@ -364,13 +360,12 @@ asks_form v form q s p right asked =
     record { asks = record { process = asked.asks.process; asked = asked.asks.asked }; standing = asked.standing; size = asked.size }
 
 state_gives_form : (v : World) (form : LogForm) (task : Task) (s : State) (j : Judged) → StateGives task (in_form v form) s j → StateGives task v s j
-state_gives_form v form NoTask s j gives = tt
-state_gives_form v form (ToConfirm q text) s j gives = tt
 state_gives_form v form (ToJudge q) s j gives = λ p right asked.
     let is : IsVerdictOn (in_form v form) s (family s p.pid) right j.verdict = gives p right (asks_form v form q s p right asked) in
     record { verdict = is_verdict_form v form s (family s p.pid) right (verdict_in j.verdict) is.verdict; bounds = is.bounds }
 state_gives_form v form (ToCheck q text) s j gives = λ p right rows asked reads.
     checked_form v form s (family s p.pid) right rows j.checked (gives p right rows (asks_form v form q s p right asked) reads)
+state_gives_form v form _ s j gives = tt
 
 -- what a log gives in a world that declares another form, it gives
 pub gives_form : (v : World) (form : LogForm) (task : Task) (reading : Reading) (j : Judged)

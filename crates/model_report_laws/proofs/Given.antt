@@ -49,8 +49,6 @@ any = record { verdict = TellsYes []; checked = Holds }
 
 -- a state gives what is asked in it
 state_gives : (task : Task) (w : World) (s : State) → KeepsState s → (j : Judged) × StateGives task w s j
-state_gives NoTask w s keeps = (any, tt)
-state_gives (ToConfirm q text) w s keeps = (any, tt)
 state_gives (ToJudge q) w s keeps = by (comes q w s) where
   by : Comes q w s → (j : Judged) × StateGives (ToJudge q) w s j
   by (bad is) = (any, λ p right asked. absurd (bad_asks_none q w s is p right asked))
@@ -82,6 +80,7 @@ state_gives (ToCheck q text) w s keeps = by (comes q w s) where
   by (bad is) = (any, λ p right rows asked reads. absurd (bad_asks_none q w s is p right asked))
   by (large is) = (any, λ p right rows asked reads. absurd (large_asks_none q w s is p right asked))
   by (asks p right asked) = by_read p right asked (certificate (length s.spaces) text) refl
+state_gives _ w s keeps = (any, tt)
 
 -- so does a log that is read so
 pub log_gives : (task : Task) (w : World) (reading : Reading) → KeepsWorld w → (j : Judged) × LogGives task w reading j
@@ -225,9 +224,8 @@ module _ (j other : Judged) where
       → ((w : World) → text ≡ Reads w → LogGives task w (log_reading w log) j)
       → ((w : World) → text ≡ Reads w → LogGives task w (log_reading w log) other)
       → report.by_world task j text log ≡ report.by_world task other text log
-  one_by_world task (Bad table row why) log gives gives' = refl
-  one_by_world task (Exceeds l) log gives gives' = refl
   one_by_world task (Reads w) log gives gives' = one_log_report task w (log_reading w log) (gives w refl) (gives' w refl)
+  one_by_world task _ log gives gives' = refl
 
   one_files_report : (task : Task) (world log : List ℕ) → FilesGive task world log j → FilesGive task world log other
       → files_report task j world log ≡ files_report task other world log

@@ -143,12 +143,7 @@ told_once w s members right x y is are =
     by (TellsYes rows) (TellsYes rows') is are same = ap TellsYes (one_list s rows rows' is.bounds are.bounds same)
     by (TellsUndecided blame rows) (TellsUndecided blame' rows') is are (same, say) =
         ap₂ TellsUndecided same (one_list s rows rows' is.bounds are.bounds say)
-    by (TellsNo found) (TellsYes rows) is are same = absurd same
-    by (TellsNo found) (TellsUndecided blame rows) is are same = absurd same
-    by (TellsYes rows) (TellsNo found) is are same = absurd same
-    by (TellsYes rows) (TellsUndecided blame rows') is are same = absurd same
-    by (TellsUndecided blame rows) (TellsNo found) is are same = absurd same
-    by (TellsUndecided blame rows) (TellsYes rows') is are same = absurd same
+    by _ _ is are same = absurd same
 
 -- ---- what rows are found to be
 -- something is found

@@ -26,7 +26,7 @@ use Rattle.model_report.proofs.Replays.{passed_lines, passed_step}
 use Rattle.model_report_laws.proofs.Showing.{silent_shown, run_shows, start_shows}
 use Rattle.model_report.specs.Answer.{answer, asked_answer, right_answer, task_report, verdict_report, certificate_report, confirmed_report}
 use Rattle.model_report.specs.Answer.{unless_large, bad_query, is_over_standing}
-use Rattle.model_report.specs.Checked.{Checked, NotStart, NotClosed, MeetsRight, Holds}
+use Rattle.model_report.specs.Checked.{Checked, NotStart}
 use Rattle.model_report.specs.Judged.{Judged}
 use Rattle.model_report_laws.specs.Laws.{Shows, last_credentials, told_in, AreTrue, EndsIn}
 use Rattle.model_report.specs.Query.{asked_process, right_token}
@@ -34,7 +34,7 @@ use Rattle.model_report.specs.Replay.{Report, ReportLine, Credentials, Told, Pla
 use Rattle.model_report.specs.Replay.{plain_lines, silenced, silent, state_or}
 use Rattle.model_report.specs.Report.{start_lines}
 use Rattle.model_report.specs.Task.{Task, NoTask, ToJudge, ToCheck, ToConfirm}
-use Rattle.model_report.specs.Told.{TellsNo, TellsYes, TellsUndecided}
+use Rattle.model_report.specs.Told.{TellsNo}
 use Rattle.model_report.specs.Told as verdict
 use Rattle.model_cred.proofs.Finds.{IsFound, each_found}
 use Rattle.model_report.proofs.Texts.{silenced_other}
@@ -55,27 +55,23 @@ ArePlain (Told w e ∷ lines) = ⊥
 plain_silent : (lines : List ReportLine) → ArePlain lines → (pid : ℕ) → last_credentials pid lines ≡ None
 plain_silent [] plain pid = refl
 plain_silent (Plain text ∷ lines) plain pid = plain_silent lines plain pid
-plain_silent (Credentials w p ∷ lines) plain pid = absurd plain
-plain_silent (Told w e ∷ lines) plain pid = absurd plain
+plain_silent (_ ∷ lines) plain pid = absurd plain
 
 pub plain_untold : (lines : List ReportLine) → ArePlain lines → told_in lines ≡ []
 plain_untold [] plain = refl
 plain_untold (Plain text ∷ lines) plain = plain_untold lines plain
-plain_untold (Credentials w p ∷ lines) plain = absurd plain
-plain_untold (Told w e ∷ lines) plain = absurd plain
+plain_untold (_ ∷ lines) plain = absurd plain
 
 pub plain_true : (w : World) (s : State) (lines : List ReportLine) → ArePlain lines → AreTrue w s lines
 plain_true w s [] plain = tt
 plain_true w s (Plain text ∷ lines) plain = plain_true w s lines plain
-plain_true w s (Credentials v p ∷ lines) plain = absurd plain
-plain_true w s (Told v e ∷ lines) plain = absurd plain
+plain_true w s (_ ∷ lines) plain = absurd plain
 
 -- the lines of plain text among lines are such
 pub plain_plain : (lines : List ReportLine) → ArePlain (plain_lines lines)
 plain_plain [] = tt
 plain_plain (Plain text ∷ lines) = plain_plain lines
-plain_plain (Credentials w p ∷ lines) = plain_plain lines
-plain_plain (Told w e ∷ lines) = plain_plain lines
+plain_plain (_ ∷ lines) = plain_plain lines
 
 plain_silenced : (st : Status) (lines : List ReportLine) → ArePlain (silenced st lines)
 plain_silenced status.Accepted lines = tt
@@ -89,8 +85,7 @@ plain_unshown r = plain_silenced r.status r.lines
 pub plain_append : (one other : List ReportLine) → ArePlain one → ArePlain other → ArePlain (one ++ other)
 plain_append [] other plain more = more
 plain_append (Plain text ∷ one) other plain more = plain_append one other plain more
-plain_append (Credentials w p ∷ one) other plain more = absurd plain
-plain_append (Told w e ∷ one) other plain more = absurd plain
+plain_append (_ ∷ one) other plain more = absurd plain
 
 -- an answer is of plain text
 plain_run : (w : World) (run : List Event) (last : List ℕ) → ArePlain (map (λ e. Plain (event_text w e)) run ++ Plain last ∷ [])
@@ -99,16 +94,13 @@ plain_run w (e ∷ run) last = plain_run w run last
 
 plain_verdict : (w : World) (spaces : Spaces) (x : verdict.Told) → ArePlain (verdict_report w spaces x).lines
 plain_verdict w spaces (TellsNo found) = plain_run w found.run (at_line (codes "holder ") found.holder)
-plain_verdict w spaces (TellsYes rows) = tt
-plain_verdict w spaces (TellsUndecided blame rows) = tt
+plain_verdict w spaces _ = tt
 
 plain_checked : (w : World) (spaces : Spaces) (x : Checked) (read : Result (List BoxRow) CertFault)
     → ArePlain (certificate_report w spaces x read).lines
 plain_checked w spaces x (Err why) = tt
 plain_checked w spaces (NotStart row) (Ok rows) = tt
-plain_checked w spaces (NotClosed turn) (Ok rows) = tt
-plain_checked w spaces (MeetsRight row) (Ok rows) = tt
-plain_checked w spaces Holds (Ok rows) = tt
+plain_checked w spaces _ (Ok rows) = tt
 
 plain_confirmed : (x : Confirmed) → ArePlain (confirmed_report x).lines
 plain_confirmed (Confirms pid) = tt
@@ -139,9 +131,8 @@ plain_right task j w s p right =
 
 plain_asked : (task : Task) (j : Judged) (w : World) (s : State) (p : Option Process) (right : Option Right)
     → ArePlain (asked_answer task j w s p right).lines
-plain_asked task j w s None right = tt
-plain_asked task j w s (Some p) None = tt
 plain_asked task j w s (Some p) (Some right) = plain_right task j w s p right
+plain_asked task j w s _ _ = tt
 
 pub plain_answer : (task : Task) (j : Judged) (w : World) (s : State) → ArePlain (answer task j w s).lines
 plain_answer NoTask j w s = tt
@@ -152,9 +143,8 @@ plain_answer (ToConfirm q text) j w s = plain_asked (ToConfirm q text) j w s (as
 -- ---- what lines tell
 pub told_append : (one other : List ReportLine) → told_in (one ++ other) ≡ told_in one ++ told_in other
 told_append [] other = refl
-told_append (Credentials w p ∷ one) other = told_append one other
 told_append (Told w e ∷ one) other = ap (λ (es : List Placed). e ∷ es) (told_append one other)
-told_append (Plain text ∷ one) other = told_append one other
+told_append (_ ∷ one) other = told_append one other
 
 told_start : (w : World) (ps : List Process) → told_in (map (Credentials w) ps) ≡ []
 told_start w [] = refl

@@ -13,7 +13,7 @@ use Rattle.model_report.proofs.Replays.{passed_lines, passed_step}
 use Rattle.model_cred.proofs.Lookups.{pid_of_found, IsLike}
 use Rattle.model_report.proofs.StepFacts.{WasThere, others_were_there}
 use Rattle.model_report_laws.specs.Laws.{Shows, last_credentials}
-use Rattle.model_report.specs.Replay.{ReportLine, Credentials, Told, Plain, credentials_if, child_lines, step_lines}
+use Rattle.model_report.specs.Replay.{ReportLine, Credentials, credentials_if, child_lines, step_lines}
 use Rattle.model_text.specs.Reading.{Placed, events_of}
 use Rattle.model_cred.proofs.Finds.{dead_below}
 use Rattle.model_cred.proofs.Orders.{AscendsFrom, ascends_forth}
@@ -26,23 +26,18 @@ last_append pid [] second = elim (last_credentials pid second) as (λ o. o ≡ o
 last_append pid (Credentials w p ∷ first) second =
     ap (λ (o : Option Process). option_or o (cond (p.pid == pid) (Some p) None)) (last_append pid first second)
     ∙ or_assoc (last_credentials pid second) (last_credentials pid first) (cond (p.pid == pid) (Some p) None)
-last_append pid (Told w e ∷ first) second = last_append pid first second
-last_append pid (Plain text ∷ first) second = last_append pid first second
+last_append pid (_ ∷ first) second = last_append pid first second
 
 -- ---- what is shown
 -- the second is shown of the first
 abbrev IsShown : Process → Process → Type 0
 IsShown p q = (q.pid ≡ p.pid) × (q.space ≡ p.space) × (q.cred ≡ p.cred)
 
--- lines with the same last credential lines show the same
-pub same_shown : (one other : List ReportLine) (s : State) → ((pid : ℕ) → last_credentials pid one ≡ last_credentials pid other) → Shows other s → Shows one s
-same_shown one other s same shows p found = subst (λ (o : Option Process). IsSomeAnd o (IsShown p)) (sym (same p.pid)) (shows p found)
-
--- and so do lines after which none is a credential line
+-- lines after which none is a credential line show the same
 pub silent_shown : (lines silent : List ReportLine) (s : State) → ((pid : ℕ) → last_credentials pid silent ≡ None) → Shows lines s → Shows (lines ++ silent) s
-silent_shown lines silent s none shows =
-    same_shown (lines ++ silent) lines s
-    (λ pid. last_append pid lines silent ∙ ap (λ (o : Option Process). option_or o (last_credentials pid lines)) (none pid)) shows
+silent_shown lines silent s none shows p found =
+    subst (λ (o : Option Process). IsSomeAnd o (IsShown p)) (sym (last_append p.pid lines silent
+    ∙ ap (λ (o : Option Process). option_or o (last_credentials p.pid lines)) (none p.pid))) (shows p found)
 
 -- ---- the credential lines of a step
 -- that of the pid of a process tells it

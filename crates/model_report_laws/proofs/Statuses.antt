@@ -143,18 +143,14 @@ module _ (words : List (List ℕ)) (bytes : List ℕ → List ℕ) (j : Judged) 
       ]
 
 module _ (words : List (List ℕ)) (bytes : List ℕ → List ℕ) (j : Judged) where
-  caused_by_log : (log : List ℕ) (w : World) (task : Task) → task_of (command_of words) bytes ≡ task → Names words bytes (Reads w) log
-      → LogGives task w (log_reading w (bytes log)) j → Cause words bytes (log_report task j w (log_reading w (bytes log))).status
-  caused_by_log log w task asked names gives =
-      caused_by_answer words bytes j w task asked (log_reading w (bytes log)) (record { log = log; names = names; reads = refl }) gives
-
   caused_by_world : (log : List ℕ) (task : Task) (text : WorldText) → task_of (command_of words) bytes ≡ task
       → (names : Names words bytes text log) → FilesGive task (bytes names.world) (bytes log) j
       → Cause words bytes (report.by_world task j text (bytes log)).status
   caused_by_world log task (Bad table row why) asked names gives = (table, row, why, log, names)
   caused_by_world log task (Exceeds l) asked names gives = by_row l log names
   caused_by_world log task (Reads w) asked names gives =
-      caused_by_log log w task asked names (gives w names.size names.reads)
+      caused_by_answer words bytes j w task asked (log_reading w (bytes log))
+      (record { log = log; names = names; reads = refl }) (gives w names.size names.reads)
 
   caused_by_size : (world log : List ℕ) (more : List (List ℕ × Limited)) (task : Task)
       → files_of (command_of words) ≡ (world, limit.World) ∷ (log, limit.Log) ∷ more
@@ -208,8 +204,6 @@ second_of {a} {b} {c} {d} {l} {m} {l'} {m'} is = let same : (b, m) ≡ (d, m') =
 of_first : (command : Command) (bytes : List ℕ → List ℕ) (j : Judged) (world : List ℕ) (more : List (List ℕ × Limited))
     → files_of command ≡ (world, limit.World) ∷ more
     → (log : List ℕ) × (command_report command bytes j ≡ files_report (task_of command bytes) j (bytes world) log)
-of_first NoForm bytes j world more is = absurd (cc)
-of_first (Drill n) bytes j world more is = absurd (cc)
 of_first (Replay world' log') bytes j world more is =
     (bytes log', ap (λ (n : List ℕ). files_report NoTask j (bytes n) (bytes log')) (first_of is))
 of_first (Audit world' log' pid right) bytes j world more is =
@@ -218,12 +212,11 @@ of_first (Check world' log' pid right text) bytes j world more is =
     (bytes log', ap (λ (n : List ℕ). files_report (ToCheck (query pid right) (bytes text)) j (bytes n) (bytes log')) (first_of is))
 of_first (Confirm world' log' pid right text) bytes j world more is =
     (bytes log', ap (λ (n : List ℕ). files_report (ToConfirm (query pid right) (bytes text)) j (bytes n) (bytes log')) (first_of is))
+of_first _ bytes j world more is = absurd (cc)
 
 of_files : (command : Command) (bytes : List ℕ → List ℕ) (j : Judged) (world log : List ℕ) (more : List (List ℕ × Limited))
     → files_of command ≡ (world, limit.World) ∷ (log, limit.Log) ∷ more
     → command_report command bytes j ≡ files_report (task_of command bytes) j (bytes world) (bytes log)
-of_files NoForm bytes j world log more is = absurd (cc)
-of_files (Drill n) bytes j world log more is = absurd (cc)
 of_files (Replay world' log') bytes j world log more is =
     ap₂ (λ (m n : List ℕ). files_report NoTask j (bytes m) (bytes n)) (first_of is) (second_of is)
 of_files (Audit world' log' pid right) bytes j world log more is =
@@ -232,13 +225,12 @@ of_files (Check world' log' pid right text) bytes j world log more is =
     ap₂ (λ (m n : List ℕ). files_report (ToCheck (query pid right) (bytes text)) j (bytes m) (bytes n)) (first_of is) (second_of is)
 of_files (Confirm world' log' pid right text) bytes j world log more is =
     ap₂ (λ (m n : List ℕ). files_report (ToConfirm (query pid right) (bytes text)) j (bytes m) (bytes n)) (first_of is) (second_of is)
+of_files _ bytes j world log more is = absurd (cc)
 
 -- what is given of its files
 files_give : (command : Command) (bytes : List ℕ → List ℕ) (j : Judged) (world log : List ℕ) (more : List (List ℕ × Limited))
     → files_of command ≡ (world, limit.World) ∷ (log, limit.Log) ∷ more → CommandGives command bytes j
     → FilesGive (task_of command bytes) (bytes world) (bytes log) j
-files_give NoForm bytes j world log more is gives = absurd (cc)
-files_give (Drill n) bytes j world log more is gives = absurd (cc)
 files_give (Replay world' log') bytes j world log more is gives = λ w size reads s ending run. tt
 files_give (Audit world' log' pid right) bytes j world log more is gives =
     subst (λ (m : List ℕ). FilesGive (ToJudge (query pid right)) (bytes m) (bytes log) j) (first_of is)
@@ -247,6 +239,7 @@ files_give (Check world' log' pid right text) bytes j world log more is gives =
     subst (λ (m : List ℕ). FilesGive (ToCheck (query pid right) (bytes text)) (bytes m) (bytes log) j) (first_of is)
     (subst (λ (n : List ℕ). FilesGive (ToCheck (query pid right) (bytes text)) (bytes world') (bytes n) j) (second_of is) gives)
 files_give (Confirm world' log' pid right text) bytes j world log more is gives = λ w size reads s ending run. tt
+files_give _ bytes j world log more is gives = absurd (cc)
 
 -- the report where the words name a world and a log
 of_names : (words : List (List ℕ)) (bytes : List ℕ → List ℕ) (j : Judged) (text : WorldText) (log : List ℕ) → Names words bytes text log
@@ -332,14 +325,6 @@ module _ (words : List (List ℕ)) (bytes : List ℕ → List ℕ) (j : Judged) 
     why = crowds is.after l is.step is.over;
   }
 
-  by_impossible : (is : IsImpossible words bytes) → (report words bytes j).status ≡ status.Impossible
-  by_impossible is =
-      break_status is.world (record { events = is.before ++ is.event ∷ is.later; ending = is.ending }) is.begins (impossible_break is)
-
-  by_crowded : (l : Limited) (is : IsCrowded words bytes l) → (report words bytes j).status ≡ status.Limit
-  by_crowded l is =
-      break_status is.world (record { events = is.before ++ is.event ∷ is.later; ending = is.ending }) is.begins (crowded_break l is)
-
   by_stop : (stop : Stop) → IsStopped words bytes stop → (report words bytes j).status ≡ (stopped stop).status
   by_stop stop is =
       let reading : Reading = record { events = is.comes.events; ending = Stops stop } in
@@ -369,7 +354,9 @@ module _ (words : List (List ℕ)) (bytes : List ℕ → List ℕ) (j : Judged) 
     by_limit (by_world long) = by_long_world long
     by_limit (by_row l log names) = status_of (report words bytes j) _ (of_names words bytes j (Exceeds l) log names)
     by_limit (by_line l is) = by_stop (Limit l) is
-    by_limit (by_step l is) = by_crowded l is
+    by_limit (by_step l is) =
+        break_status is.world (record { events = is.before ++ is.event ∷ is.later; ending = is.ending }) is.begins
+        (crowded_break l is)
     by_limit (by_family (is, h)) = by_answer is status.Limit (inl h)
     by_limit (by_size (is, h)) = by_answer is status.Limit (inr (inl h))
     by_limit (by_run (is, h)) = by_answer is status.Limit (inr (inr h))
@@ -382,7 +369,9 @@ module _ (words : List (List ℕ)) (bytes : List ℕ → List ℕ) (j : Judged) 
     by_its_cause status.Undecided (is, h) = by_answer is status.Undecided h
     by_its_cause status.Refused (is, h) = by_answer is status.Refused h
     by_its_cause status.BadQuery (is, h) = by_answer is status.BadQuery h
-    by_its_cause status.Impossible is = by_impossible is
+    by_its_cause status.Impossible is =
+        break_status is.world (record { events = is.before ++ is.event ∷ is.later; ending = is.ending }) is.begins
+        (impossible_break is)
     by_its_cause status.BadWorld (table, row, why, log, names) =
         status_of (report words bytes j) _ (of_names words bytes j (Bad table row why) log names)
     by_its_cause status.BadLog (number, why, is) = by_stop (Fault number why) is

@@ -143,9 +143,8 @@ record Step (first : Option Extent) (rest : Option (List Extent)) (out : List Ex
 
 step : (first : Option Extent) (rest : Option (List Extent)) (out : List Extent)
     → option_and_then (λ f. option_map (λ r. f ∷ r) rest) first ≡ Some out → Step first rest out
-step None rest out is = absurd (cc)
-step (Some e) None out is = absurd (cc)
 step (Some e) (Some list) out is = record { head = e; tail = list; first_is = refl; rest_is = refl; out_is = cc }
+step _ _ out is = absurd (cc)
 
 step_of : (map : List Extent) (e : Extent) (given out : List Extent) → list_down map (e ∷ given) ≡ Some out
     → Step (extent_down map e) (list_down map given) out

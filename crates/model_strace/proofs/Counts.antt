@@ -129,9 +129,8 @@ line_within w l t =
     ]
 
 row_within : (w : World) (row : PidLine) (t : Work) → Within holds (1 + length t.held) (row_fed w row t)
-row_within w Blank t = omega arith
-row_within w NoPid t = omega arith
 row_within w (Of pid body) t = line_within w (record { number = t.count; pid = pid; body = body }) t
+row_within w _ t = omega arith
 
 fed_within : (w : World) (line : List ℕ) (t : Work) → Within holds (1 + length t.held) (fed w line t)
 fed_within w line t = row_within w (row_of line) (record t { count = t.count + 1 })
@@ -173,8 +172,7 @@ pub events_within_lines : EventsWithinLines
 unfolding EventsWithinLines
 events_within_lines w (Going t) cut =
     ended_within w cut.stop (length t.held + length cut.lines) (all_fed w cut.lines t) (all_within w cut.lines t)
-events_within_lines w (Stopped count stop) cut = omega arith
-events_within_lines w (Finished count) cut = omega arith
+events_within_lines w _ cut = omega arith
 
 -- ---- one line, and the end
 answer_within : (most count : ℕ) (a : After Work) → Within holds most a → length (answer_of a).events + held_count (session_of count a) ≤ most
@@ -187,14 +185,12 @@ events_of_line w (Going t) line =
     let fits : length (answer_of (fed w line t)).events + held_count (session_of (t.count + 1) (fed w line t)) ≤ 1 + length t.held =
     answer_within (1 + length t.held) (t.count + 1) (fed w line t) (fed_within w line t) in
     omega (arith, fits)
-events_of_line w (Stopped count stop) line = omega arith
-events_of_line w (Finished count) line = omega arith
+events_of_line w _ line = omega arith
 
 pub events_of_end : EventsOfEnd
 unfolding EventsOfEnd
 events_of_end w (Going t) = end_within w t.held (without_any_kept t.parts)
-events_of_end w (Stopped count stop) = omega arith
-events_of_end w (Finished count) = omega arith
+events_of_end w _ = omega arith
 
 -- ---- how many are held
 -- where it goes on, it holds no more than this
@@ -312,8 +308,7 @@ line_is_counted w t line =
 pub lines_are_counted : LinesAreCounted
 unfolding LinesAreCounted
 lines_are_counted w (Going t) line = let is : lines_fed (after_line w (Going t) line) ≡ t.count + 1 = line_is_counted w t line in omega (arith, is)
-lines_are_counted w (Stopped count stop) line = omega arith
-lines_are_counted w (Finished count) line = omega arith
+lines_are_counted w _ line = omega arith
 
 ended_counted : (count : ℕ) (ending : End) → lines_fed (session_ended count ending) ≡ count
 ended_counted count AtEnd = refl
@@ -322,5 +317,4 @@ ended_counted count (Stops stop) = refl
 pub ends_are_not_counted : EndsAreNotCounted
 unfolding EndsAreNotCounted
 ends_are_not_counted w (Going t) = ended_counted t.count (work_end w t).ending
-ends_are_not_counted w (Stopped count stop) = refl
-ends_are_not_counted w (Finished count) = refl
+ends_are_not_counted w _ = refl

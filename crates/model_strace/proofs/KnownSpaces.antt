@@ -19,9 +19,9 @@ use Rattle.model_strace.specs.Body.{PidLine, Blank, NoPid, Of, row_of}
 use Rattle.model_strace.specs.Counts.{SpacesByEvents, spaces_known}
 use Rattle.model_strace.specs.Lines.{Line, Read, Next, given_at, next_line, read_line}
 use Rattle.model_strace.specs.Parts.{Parts, after_end, is_known, without_kept}
-use Rattle.model_strace.specs.Rest.{Work, Going, Stopped, Finished, answer_of, session_of, fed, held_fed, line_fed, read_fed, row_fed}
+use Rattle.model_strace.specs.Rest.{Work, Going, answer_of, session_of, fed, held_fed, line_fed, read_fed, row_fed}
 use Rattle.model_strace.specs.Rest.{released, then_released, without_first}
-use Rattle.model_strace.specs.Turn.{Turn, Quiet, Gives, Refused, Exceeds, birth_call, done, turn, with_child}
+use Rattle.model_strace.specs.Turn.{Turn, Quiet, Gives, birth_call, done, turn, with_child}
 use Rattle.model_text.specs.Reading.{Placed, Limit, events_of}
 
 -- ---- turns
@@ -68,11 +68,6 @@ module _ (n pid : ℕ) where
 abbrev made : List Placed → ℕ
 made events = spaces_made (events_of events)
 
-made_both : (one other : List Placed) → made (one ++ other) ≡ made one + made other
-made_both one other =
-    ap spaces_made (map-append (λ (e : Placed). e.event) one other)
-    ∙ sum_by-append (λ e. cond (makes_space e.call e.res) 1 0) (events_of one) (events_of other)
-
 -- Where so many were known, no more are after these events than that, and those that the events make.
 abbrev AfterMakes : {S : Type 0} → (S → Parts) → ℕ → After S → Type 0
 AfterMakes parts n (Goes events s) = (parts s).spaces ≤ n + made events
@@ -81,7 +76,9 @@ AfterMakes parts n (Halts events stop) = Unit {0}
 preceded_makes : {S : Type 0} (parts : S → Parts) (n : ℕ) (one : List Placed) (a : After S) → AfterMakes parts (n + made one) a
     → AfterMakes parts n (preceded one a)
 preceded_makes parts n one (Goes events s) low =
-    let both : made (one ++ events) ≡ made one + made events = made_both one events in
+    let both : made (one ++ events) ≡ made one + made events =
+    ap spaces_made (map-append (λ (e : Placed). e.event) one events)
+    ∙ sum_by-append (λ e. cond (makes_space e.call e.res) 1 0) (events_of one) (events_of events) in
     let is : (parts s).spaces ≤ n + made one + made events = low in
     omega (arith, both, is)
 preceded_makes parts n one (Halts events stop) low = tt
@@ -95,8 +92,7 @@ then_makes parts later n (Halts events stop) next low each = tt
 given_makes : (n number : ℕ) (t : Turn) → TurnMakes n t → AfterMakes (λ r. r.parts) n (given_at number t)
 given_makes n number (Quiet p) low = omega (arith, low)
 given_makes n number (Gives p e born) low = low
-given_makes n number (Refused why) low = tt
-given_makes n number (Exceeds l) low = tt
+given_makes n number _ low = tt
 
 module _ (w : World) where
   read_makes : (n : ℕ) (l : Line) (p : Parts) → p.spaces ≤ n → AfterMakes (λ r. r.parts) n (read_line w l p)
@@ -158,5 +154,4 @@ unfolding SpacesByEvents
 spaces_by_events w (Going t) line =
     session_makes t.parts.spaces (t.count + 1) (fed w line t)
     (row_makes w t.parts.spaces (row_of line) (record t { count = t.count + 1 }) (omega arith))
-spaces_by_events w (Stopped count stop) line = omega arith
-spaces_by_events w (Finished count) line = omega arith
+spaces_by_events w _ line = omega arith

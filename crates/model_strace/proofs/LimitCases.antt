@@ -1,6 +1,5 @@
 -- Worked cases, by computation, of the limits of a log of strace(1).
-use Rattle.std.proofs.Common.{◌≡◌, ℕ, false, true, Bool, List, [], ◌∷◌, ◌++◌, map, replicate, flat_map}
-use Rattle.std.proofs.Common.{None}
+use Rattle.std.proofs.Common.{◌≡◌, ℕ, false, true, Bool, List, [], ◌∷◌, ◌++◌, map, replicate, flat_map, None}
 use Rattle.std.specs.Prelude.{codes}
 use Rattle.cm_base.specs.declared.faults.LineFault.TheVariants as fault
 use Rattle.cm_base.specs.declared.limited.Limited.TheVariants as limit

@@ -56,14 +56,13 @@ module _ (w : World) (all : List (List ℕ)) where
   IsLine l = (p : Parts) → StandsFor w all l.number (told_by (turn w l.pid l.body p))
 
   given_stands : (number : ℕ) (t : Turn) → StandsFor w all number (told_by t) → Stands (λ (r : Read). Unit {0}) (given_at number t)
-  given_stands number (Quiet p) is = (All-nil (λ e. StandsFor w all e.line (text.Tells e.event)), tt)
   given_stands number (Gives p e born) is = (
     All-cons (λ x. StandsFor w all x.line (text.Tells x.event))
         (record { line = number; event = e }) [] is (All-nil (λ x. StandsFor w all x.line (text.Tells x.event))),
     tt,
   )
   given_stands number (Refused why) is = (All-nil (λ e. StandsFor w all e.line (text.Tells e.event)), is)
-  given_stands number (Exceeds l) is = (All-nil (λ e. StandsFor w all e.line (text.Tells e.event)), tt)
+  given_stands number _ is = (All-nil (λ e. StandsFor w all e.line (text.Tells e.event)), tt)
 
   line_stands : (l : Line) (p : Parts) → IsLine l → Stands (λ (r : Read). Unit {0}) (read_line w l p)
   line_stands l p is = given_stands l.number (turn w l.pid l.body p) (is p)

@@ -16,10 +16,9 @@ use Rattle.model_strace.specs.Lines.{Line, Read, Moment, Next, Progress, is_amon
 use Rattle.model_strace.specs.Lines.{next_line, moment_after, then_rest, read_born, read_now, hold, arrives}
 use Rattle.model_strace.specs.Lines.{row_read, rows_read, beginning, ended, log_end}
 use Rattle.model_strace.specs.Parts.{is_known}
-use Rattle.model_strace.specs.Rest.{Work, first_work, without_first, then_released, released, read_fed}
-use Rattle.model_strace.specs.Rest.{held_fed, line_fed, row_fed, fed, all_fed, work_end, work_ended}
-use Rattle.model_strace.specs.Rest.{Going, Stopped, Finished, session_of, answer_of, answered_then, rest}
-use Rattle.model_strace.specs.Rest.{BeginsWithReading, LinesGoOn, EndsForGood, session_ended}
+use Rattle.model_strace.specs.Rest.{Work, first_work, without_first, then_released, released, read_fed, held_fed}
+use Rattle.model_strace.specs.Rest.{line_fed, row_fed, fed, all_fed, work_end, work_ended, Going, session_of, answer_of}
+use Rattle.model_strace.specs.Rest.{answered_then, rest, BeginsWithReading, LinesGoOn, EndsForGood, session_ended}
 use Rattle.model_text.specs.Reading.{Placed, Stop, Limit, End, AtEnd, Stops, Reading, ends_at}
 
 -- The same events, and the same stop, or what is known on both sides is so related.
@@ -32,9 +31,8 @@ Same related _ _ = ⊥
 same_preceded : {S T : Type 0} (related : S → T → Type 0) (es : List Placed) (a : After S) (b : After T)
     → Same related a b → Same related (preceded es a) (preceded es b)
 same_preceded related es (Goes fs s) (Goes gs t) same = (ap (λ (l : List Placed). es ++ l) same.0, same.1)
-same_preceded related es (Goes fs s) (Halts gs t) same = absurd same
-same_preceded related es (Halts fs s) (Goes gs t) same = absurd same
 same_preceded related es (Halts fs s) (Halts gs t) same = (ap (λ (l : List Placed). es ++ l) same.0, same.1)
+same_preceded related es _ _ same = absurd same
 
 -- one thing after another is the same where both are
 same_then : {S T X Y : Type 0} (related : S → T → Type 0) (later : X → Y → Type 0) (a : After S) (b : After T) (f : S → After X) (g : T → After Y)
@@ -42,9 +40,8 @@ same_then : {S T X Y : Type 0} (related : S → T → Type 0) (later : X → Y �
 same_then related later (Goes es s) (Goes fs t) f g same next =
     subst (λ (l : List Placed). Same later (preceded es (f s)) (preceded l (g t))) same.0
     (same_preceded later es (f s) (g t) (next s t same.1))
-same_then related later (Goes es s) (Halts fs t) f g same next = absurd same
-same_then related later (Halts es s) (Goes fs t) f g same next = absurd same
 same_then related later (Halts es s) (Halts fs t) f g same next = same
+same_then related later _ _ f g same next = absurd same
 
 -- a thing is the same as itself
 same_self : {S : Type 0} (a : After S) → Same (λ (s t : S). s ≡ t) a a
@@ -157,9 +154,8 @@ record Together (count : ℕ) (at : Progress) (t : Work) : Type 0 where
 same_made : {S T X : Type 0} (related : S → T → Type 0) (later : X → T → Type 0) (make : S → X) (a : After S) (b : After T)
     → Same related a b → ((s : S) (t : T) → related s t → later (make s) t) → Same later (and_then a (λ s. Goes [] (make s))) b
 same_made related later make (Goes es s) (Goes fs t) same made = (append-nil es ∙ same.0, made s t same.1)
-same_made related later make (Goes es s) (Halts fs t) same made = absurd same
-same_made related later make (Halts es s) (Goes fs t) same made = absurd same
 same_made related later make (Halts es s) (Halts fs t) same made = same
+same_made related later make _ _ same made = absurd same
 
 -- a row of the next number comes alike
 row_alike : (w : World) (count : ℕ) (row : PidLine) (at : Progress) → Rise 1 (count + 1) at.lines → Below (count + 1) at.now.read
@@ -200,10 +196,9 @@ ends_alike : (w : World) (stop : Option Past) (a : After Progress) (b : After Wo
 ends_alike w stop (Goes es at) (Goes fs t) same =
     sym (ap₂ (λ (events : List Placed) (t' : Work). ended (work_ended w stop) (Goes events t')) same.0 (sym same.1.1))
     ∙ ap (λ (end : Reading). let r : Reading = record { events = es ++ end.events; ending = end.ending } in r) (end_alike w stop same.1.0 at)
-ends_alike w stop (Goes es at) (Halts fs other) same = absurd same
-ends_alike w stop (Halts es other) (Goes fs t) same = absurd same
 ends_alike w stop (Halts es one) (Halts fs other) same =
     sym (ap₂ (λ (events : List Placed) (s : Stop). ended (work_ended w stop) (Halts events s)) same.0 same.1)
+ends_alike w stop _ _ same = absurd same
 
 -- A session that has just begun gives the reading.
 pub begins_with_reading : BeginsWithReading
@@ -230,8 +225,7 @@ goes_on w count (Halts es stop) cut = refl
 pub lines_go_on : LinesGoOn
 unfolding LinesGoOn
 lines_go_on w (Going t) line cut = goes_on w (t.count + 1) (fed w line t) cut
-lines_go_on w (Stopped count stop) line cut = refl
-lines_go_on w (Finished count) line cut = refl
+lines_go_on w _ line cut = refl
 
 -- ---- the log's end
 -- a session that ended so gives nothing, and ends so
@@ -243,5 +237,4 @@ gives_no_more w count (Stops stop) cut = refl
 pub ends_for_good : EndsForGood
 unfolding EndsForGood
 ends_for_good w (Going t) cut = gives_no_more w t.count (work_end w t).ending cut
-ends_for_good w (Stopped count stop) cut = refl
-ends_for_good w (Finished count) cut = refl
+ends_for_good w _ cut = refl

@@ -8,14 +8,12 @@ use Rattle.cm_lines.specs.declared.limits.Past.{Past}
 use Rattle.cm_lines.specs.declared.limits.Past.TheVariants as past
 use Rattle.model_cred.specs.World.{World, Script, Strace}
 use Rattle.model_strace.specs.After.{After, Goes, Halts, preceded, and_then}
-use Rattle.model_strace.specs.Body.{PidLine, Blank, NoPid, Of, row_of}
+use Rattle.model_strace.specs.Body.{PidLine, Of, row_of}
 use Rattle.model_strace.specs.Lines.{Line, Moment, Next, Progress, arrives, at_end, at_end_turn, beginning, ended, given_at, held, hold}
 use Rattle.model_strace.specs.Lines.{log_end, moment_after, next_line, read_born, read_line, read_now, row_read, rows_read, then_rest}
-use Rattle.model_strace.specs.Parts.{Parts, is_known}
-use Rattle.model_strace.specs.Parts.{without_any_kept}
+use Rattle.model_strace.specs.Parts.{Parts, is_known, without_any_kept}
 use Rattle.model_strace.specs.Stops.{EndsAsCut, StopsAsCut}
-use Rattle.model_strace.specs.Turn.{Turn, Quiet, Gives, Refused, Exceeds}
-use Rattle.model_strace.specs.Turn.{turn}
+use Rattle.model_strace.specs.Turn.{Turn, Quiet, Exceeds, turn}
 use Rattle.model_text.proofs.Numbers.{numbers_are_lines}
 use Rattle.model_text.specs.Numbers.{NumbersAreLines}
 use Rattle.model_text.specs.Reading.{End, AtEnd, Fault, Limit, Placed, Reading, Stop, Stops, cut_ending, limit_past}
@@ -58,9 +56,8 @@ EndStops (Stops stop) = StopStops stop
 end_turn_stops : (number : ℕ) (t : Turn) (later : Parts → Reading) → TurnStops t → ((p : Parts) → EndStops (later p).ending)
     → EndStops (at_end_turn number t later).ending
 end_turn_stops number (Quiet p) later stops each = each p
-end_turn_stops number (Gives p e born) later stops each = tt
-end_turn_stops number (Refused why) later stops each = tt
 end_turn_stops number (Exceeds l) later stops each = stops
+end_turn_stops number _ later stops each = tt
 
 -- such an end is at neither limit
 no_such_end : (past : Past) (ending : End) → EndStops ending → ending ≡ Stops (Limit (limit_past past)) → ⊥
@@ -68,11 +65,9 @@ no_such_end past ending stops is = not_past past (limit_past past) (subst EndSto
 
 -- the limit at which what comes ends
 cut_end : (stop : Option Past) (past : Past) → cut_ending stop ≡ Stops (Limit (limit_past past)) → stop ≡ Some past
-cut_end None past is = absurd (cc)
 cut_end (Some past.Line) past.Line is = refl
-cut_end (Some past.Line) past.Whole is = absurd (cc)
-cut_end (Some past.Whole) past.Line is = absurd (cc)
 cut_end (Some past.Whole) past.Whole is = refl
+cut_end _ _ is = absurd (cc)
 
 module _ (w : World) where
   read_stops : (l : Line) (p : Parts) → AfterStops (read_line w l p)
@@ -106,12 +101,11 @@ module _ (w : World) where
       if_after (is_known l.pid m.parts) (read_now w lines l m) (hold lines m) (now_stops lines l m) (hold_stops lines m)
 
   row_stops : (number : ℕ) (row : PidLine) (at : Progress) → AfterStops (row_read w number row at)
-  row_stops number Blank at = tt
-  row_stops number NoPid at = tt
   row_stops number (Of pid body) at =
       let l : Line = record { number = number; pid = pid; body = body } in
       and_then_stops (arrives w (at.lines ++ l ∷ []) l at.now) (λ m. Goes [] (record { lines = at.lines ++ l ∷ []; now = m }))
       (arrives_stops (at.lines ++ l ∷ []) l at.now) (λ m. tt)
+  row_stops number _ at = tt
 
   rows_stops : (number : ℕ) (lines : List (List ℕ)) (at : Progress) → AfterStops (rows_read w number lines at)
   rows_stops number [] at = tt

@@ -128,12 +128,11 @@ turn_tells w _ e fits is = absurd (cc)
 
 row_tells : (w : World) (p : Parts) (row : PidLine) (e : Event) → AreFew w → RowFits row → row_told w p row ≡ Tells e
     → CanWrite w e
-row_tells w p Blank e few fits is = absurd (cc)
-row_tells w p NoPid e few fits is = absurd (cc)
 row_tells w p (Of pid body) e few fits is =
     turn_tells w (turn w pid body p) e
     (way_fits w pid fits p (turn w pid body p)
     (turn_way (ToldFits w) pid w (λ text. call_told_fits w pid text few) body p)) is
+row_tells w p _ e few fits is = absurd (cc)
 
 -- the event that a line stands for
 pub line_can_write : (w : World) (lines : List (List ℕ)) (number : ℕ) (e : Event) → AreFew w

@@ -20,9 +20,9 @@ use Rattle.model_strace.specs.Calls.{Listed, SetsIds, SetsGroups, SetsCaps, Prct
 use Rattle.model_strace.specs.Calls.{ExecveAt, OpenFile, OpenAt, Creat, Close, Dup, DupTo, Fcntl, Write, Told, Nothing}
 use Rattle.model_strace.specs.Calls.{Faulty, Does, Joins, Opens, Closes, Copies, CopiesTo, Writes, then_tells}
 use Rattle.model_strace.specs.Calls.{where_some, read_argument, needed, deciding, text_of, number_of, with_result}
-use Rattle.model_strace.specs.Calls.{plain_call, ids_result, ids_read, ids_told, ids_of_length, groups_call}
+use Rattle.model_strace.specs.Calls.{plain_call, ids_result, ids_read, ids_of_length, groups_call}
 use Rattle.model_strace.specs.Calls.{groups_told, own_header, caps_call, caps_told, number_told, capability_argument}
-use Rattle.model_strace.specs.Calls.{cap_told, ambient_told, option_told, birth_with, birth_told, setns_told}
+use Rattle.model_strace.specs.Calls.{cap_told, ambient_told, option_told, birth_with, birth_told}
 use Rattle.model_strace.specs.Calls.{file_quoted, execve_told, execve_at, opening, dup_told, makes_copy, returned}
 use Rattle.model_strace.specs.Calls.{outcome_told, written_told, listed_told, listed_named, call_told}
 use Rattle.model_strace.specs.Flags.{birth_flags, has_flag}
@@ -116,11 +116,6 @@ plain_stops outcome value call =
     then_stops (ok_or (plain_result outcome) fault.Outcome) (λ r. then_tells value (λ v. Does (call v) r))
     (λ r. then_stops value (λ v. Does (call v) r) (λ v. tt))
 
-ids_stops : (w : World) (kind : CallKind) (arguments : List (List ℕ)) (outcome : Outcome) → ToldStops (ids_told w kind arguments outcome)
-ids_stops w kind arguments outcome =
-    then_stops (ok_or (ids_result kind outcome) fault.Outcome) (λ r. then_tells (ids_read w kind arguments) (λ call. Does call r))
-    (λ r. then_stops (ids_read w kind arguments) (λ call. Does call r) (λ call. tt))
-
 groups_stops : (arguments : List (List ℕ)) (outcome : Outcome) → ToldStops (groups_told arguments outcome)
 groups_stops arguments outcome =
     then_stops (ok_or (plain_result outcome) fault.Outcome)
@@ -177,11 +172,6 @@ birth_stops flags outcome =
     let shares : Bool = has_flag (codes "CLONE_FILES") flags in
     then_stops (ok_or (birth_result outcome) fault.Outcome) (birth_with user shares) (λ r. birth_with_stops user shares r)
 
-setns_stops : (arguments : List (List ℕ)) (outcome : Outcome) → ToldStops (setns_told arguments outcome)
-setns_stops arguments outcome =
-    then_stops (needed 1 arguments) (λ descriptor. then_tells (needed 2 arguments) (λ flags. Joins (number_token descriptor) flags outcome))
-    (λ descriptor. then_stops (needed 2 arguments) (λ flags. Joins (number_token descriptor) flags outcome) (λ flags. tt))
-
 execve_stops : (w : World) (number : ℕ) (arguments : List (List ℕ)) (outcome : Outcome) → ToldStops (execve_told w number arguments outcome)
 execve_stops w number arguments outcome = plain_stops outcome (read_argument (file_quoted w) number arguments) model.Exec
 
@@ -195,7 +185,9 @@ dup_stops arguments outcome =
     where_stops (success outcome) (λ n. where_some (number_of 1 arguments) Copies) (λ n. where_stops (number_of 1 arguments) Copies (λ m. tt))
 
 returned_stops : (w : World) (pid : ℕ) (call : Listed) (arguments : List (List ℕ)) (outcome : Outcome) → ToldStops (returned w pid call arguments outcome)
-returned_stops w pid (SetsIds kind) arguments outcome = ids_stops w kind arguments outcome
+returned_stops w pid (SetsIds kind) arguments outcome =
+    then_stops (ok_or (ids_result kind outcome) fault.Outcome) (λ r. then_tells (ids_read w kind arguments) (λ call. Does call r))
+    (λ r. then_stops (ids_read w kind arguments) (λ call. Does call r) (λ call. tt))
 returned_stops w pid SetsGroups arguments outcome = groups_stops arguments outcome
 returned_stops w pid SetsCaps arguments outcome = caps_stops pid arguments outcome
 returned_stops w pid Prctl arguments outcome =
@@ -204,7 +196,9 @@ returned_stops w pid Birth arguments outcome = birth_stops (birth_flags argument
 returned_stops w pid Unshare arguments outcome =
     if_told (has_flag (codes "CLONE_NEWUSER") (text_of 1 arguments)) (with_result (plain_result outcome) (Does model.Unshare)) Nothing
     (result_stops outcome model.Unshare) tt
-returned_stops w pid SetNs arguments outcome = setns_stops arguments outcome
+returned_stops w pid SetNs arguments outcome =
+    then_stops (needed 1 arguments) (λ descriptor. then_tells (needed 2 arguments) (λ flags. Joins (number_token descriptor) flags outcome))
+    (λ descriptor. then_stops (needed 2 arguments) (λ flags. Joins (number_token descriptor) flags outcome) (λ flags. tt))
 returned_stops w pid Execve arguments outcome = execve_stops w 1 arguments outcome
 returned_stops w pid ExecveAt arguments outcome =
     then_stops (deciding 1 arguments outcome) (λ folder. execve_at w folder arguments outcome) (λ folder. execve_at_stops w folder arguments outcome)

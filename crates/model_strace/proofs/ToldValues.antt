@@ -1,9 +1,7 @@
 -- The values that the text of a line stands for are in their ranges: numbers, capabilities, sets, lists of ids,
 -- extents, results.
-use Rattle.std.proofs.Common.{◌≡◌, ℕ, ◌<◌, ◌≤◌, ◌==◌, ◌^◌, Bool, true, List, [], ◌∷◌}
-use Rattle.std.proofs.Common.{map}
-use Rattle.std.proofs.Common.{Option, Some, None, Result, Ok, Err, IfSome, All, IsTrue, refl, arith}
-use Rattle.std.proofs.Common.{if◌then◌else◌, nat_le, nat_lt}
+use Rattle.std.proofs.Common.{◌≡◌, ℕ, ◌<◌, ◌≤◌, ◌==◌, ◌^◌, Bool, true, List, [], ◌∷◌, map, Option, Some, None, Result}
+use Rattle.std.proofs.Common.{Ok, Err, IfSome, All, IsTrue, refl, arith, if◌then◌else◌, nat_le, nat_lt}
 use Rattle.std.proofs.lemmas.Bool.{and_parts, cond_both, leb-true, ltb-true}
 use Rattle.std.proofs.lemmas.List.Elements.{All-nil, All-cons}
 use Rattle.std.proofs.lemmas.Nat.{or_lt, pow_below}
@@ -21,24 +19,18 @@ use Rattle.cm_base.specs.declared.number.BadNumber.TheVariants.{NotNumber, TooLa
 use Rattle.cm_base.specs.declared.res.Res.TheVariants as res
 use Rattle.model_cred.specs.IdMap.{Extent}
 use Rattle.model_cred.specs.Process.{as_pid, is_pid}
-use Rattle.model_strace.specs.Files.{extent_of}
-use Rattle.model_strace.specs.Files.{extent_before, extents_of}
-use Rattle.model_strace.specs.Marks.{after_mark, barred, cut_at, name_at, trimmed}
-use Rattle.model_strace.specs.Marks.{without_front}
+use Rattle.model_strace.specs.Files.{extent_of, extent_before, extents_of}
+use Rattle.model_strace.specs.Marks.{after_mark, barred, cut_at, name_at, trimmed, without_front}
 use Rattle.model_strace.specs.Numbers.{Sets, bare_capability, capability, capability_cut, ends_with_comment, hex_digits}
-use Rattle.model_strace.specs.Numbers.{hex_number}
-use Rattle.model_strace.specs.Numbers.{id_before, id_list, ids_of, mask, mask_term, member_set, members_of, securebit}
-use Rattle.model_strace.specs.Numbers.{securebit_names, securebits}
-use Rattle.model_strace.specs.Numbers.{sets_in, sets_of, three_sets, union_of, union_with}
-use Rattle.model_strace.specs.Outcome.{Outcome, NoReturn, Number, Error, Other, birth_result, id_result, minus_outcome}
+use Rattle.model_strace.specs.Numbers.{hex_number, id_before, id_list, ids_of, mask, mask_term, member_set, members_of}
+use Rattle.model_strace.specs.Numbers.{securebit, securebit_names, securebits, sets_in, sets_of, three_sets, union_of}
+use Rattle.model_strace.specs.Numbers.{union_with}
+use Rattle.model_strace.specs.Outcome.{Outcome, NoReturn, Number, Other, birth_result, id_result, minus_outcome}
 use Rattle.model_strace.specs.Outcome.{error_after, error_named, known_error}
 use Rattle.model_strace.specs.Outcome.{number_outcome, outcome_of, past_greatest, plain_result}
-use Rattle.model_strace.specs.Written.{arguments_of as parts_of, bracketed_whole}
-use Rattle.model_strace.specs.Written.{value_of as member_value}
+use Rattle.model_strace.specs.Written.{arguments_of as parts_of, bracketed_whole, value_of as member_value}
 use Rattle.model_text.proofs.CapTexts.{if_then, if_mapped, if_either, named_is, none_is}
-use Rattle.model_text.proofs.ToldEvents.{Fits}
-use Rattle.model_text.proofs.ToldEvents.{cap_fits, id_fits}
-use Rattle.model_text.proofs.ToldEvents.{number_fits}
+use Rattle.model_text.proofs.ToldEvents.{Fits, cap_fits, id_fits, number_fits}
 use Rattle.model_text.specs.CapText.{hex_after}
 use Rattle.model_text.specs.Cut.{is_blank, tokens_of}
 use Rattle.model_text.specs.Token.{cap_token, id_token, number_token}
@@ -236,9 +228,8 @@ outcome_fits text =
     minus_fits (Some rest) = after_fits rest
 
     by_number : (read : Result ℕ BadNumber) → IfOk read Fits → OutcomeFits (number_outcome text read)
-    by_number (Ok n) fits = omega arith
-    by_number (Err TooLarge) fits = omega arith
     by_number (Err NotNumber) fits = minus_fits (after_mark (codes "-1") text)
+    by_number _ fits = omega arith
 
     read_fits : IfOk (read_decimal text) Fits
     read_fits =
@@ -252,7 +243,6 @@ outcome_fits text =
 
 pub plain_may : (outcome : Outcome) → IfSome (plain_result outcome) IsOutcome
 plain_may (Number n) = cond_both (n == 0) (Some res.Done) None (λ o. IfSome o IsOutcome) (λ _. tt) (λ _. tt)
-plain_may (Error e) = tt
 plain_may _ = tt
 
 pub id_may : (outcome : Outcome) → OutcomeFits outcome → IfSome (id_result outcome) IsOldId
@@ -267,5 +257,4 @@ birth_may (Number n) =
     if_mapped (λ pid. IsTrue (is_pid pid)) IsBirth res.Child (as_pid n)
     (cond_both (is_pid n) (Some n) None (λ o. IfSome o (λ pid. IsTrue (is_pid pid))) (λ is. is) (λ _. tt))
     (λ pid is. is)
-birth_may (Error e) = tt
 birth_may _ = tt

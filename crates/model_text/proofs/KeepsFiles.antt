@@ -27,13 +27,11 @@ use Rattle.toml.specs.Data.{Items, Members, get_member}
 
 -- ---- attributes
 -- the attribute of bytes has sets of capabilities, whatever its root id
-caps_keep : (root : ℕ) (bytes : List ℕ) → KeepsCaps (caps_with root bytes)
-caps_keep root bytes = record { permitted = meet_full_is _; inheritable = meet_full_is _ }
-
 version_keeps : (version root : ℕ) (bytes : List ℕ) → IfSome (result_ok (attribute_as version root bytes)) KeepsCaps
 version_keeps version root bytes =
     cond_both (minus (word_at bytes 0) effective_bit == version) (Ok (caps_with root bytes)) (Err (Version (word_at bytes 0)))
-    (λ r. IfSome (result_ok r) KeepsCaps) (λ _. caps_keep root bytes) (λ _. tt)
+    (λ r. IfSome (result_ok r) KeepsCaps) (λ _. record { permitted = meet_full_is _; inheritable = meet_full_is _ })
+    (λ _. tt)
 
 attribute_keeps : (bytes : List ℕ) → IfSome (result_ok (attribute_of bytes)) KeepsCaps
 attribute_keeps bytes =

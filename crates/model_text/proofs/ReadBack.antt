@@ -248,8 +248,6 @@ old_id_written (res.Id n) fits = record { token = decimal_token n fits; back = a
 old_id_written _ never = absurd never
 
 birth_written : (answer : Res) → IsBirth answer → ResultWritten birth_token answer
-birth_written res.Done never = absurd never
-birth_written (res.Id n) never = absurd never
 birth_written (res.Child pid) is = record {
   token = decimal_token pid (pid_fits pid is);
   back = ap (λ (found : Option ℕ). option_or (option_map res.Child found) (option_map res.Err (errno_of (decimal pid)))) (pid_back pid is);
@@ -260,12 +258,12 @@ birth_written (res.Err e) _ = record {
       ap (λ (found : Option ℕ). option_or (option_map res.Child found) (option_map res.Err (errno_of (errno_name e)))) (error_written e).number
       ∙ ap (option_map res.Err) (names_read_back.error e);
 }
+birth_written _ never = absurd never
 
 outcome_written : (answer : Res) → IsOutcome answer → ResultWritten result_token answer
 outcome_written res.Done _ = record { token = record { some = lit< tt; short = lit< tt; plain = refl }; back = refl }
-outcome_written (res.Id n) never = absurd never
-outcome_written (res.Child pid) never = absurd never
 outcome_written (res.Err e) _ = record { token = (error_written e).token; back = (error_written e).back }
+outcome_written _ never = absurd never
 
 done_written : (answer : Res) → answer ≡ res.Done → ResultWritten done_token answer
 done_written answer is = rw is (record { token = record { some = lit< tt; short = lit< tt; plain = refl }; back = refl })

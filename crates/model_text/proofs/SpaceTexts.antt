@@ -42,17 +42,12 @@ name_byte_above byte is =
           absurd (both_ways (is_name_byte byte) none is)
     ]
 
--- and none that no name has
-name_byte_not : (byte other : ℕ) → is_name_byte byte ≡ true → is_name_byte other ≡ false → eqb byte other ≡ false
-name_byte_not byte other is none =
-    ne_eqb byte other (λ same. both_ways (is_name_byte other) none (ap is_name_byte (sym same) ∙ is))
-
 -- a name begins with no byte that no name has
 name_begins : (name rest : List ℕ) (other : ℕ) → list_all is_name_byte name ≡ true → is_name_byte other ≡ false → bytes_eq name (other ∷ rest) ≡ false
 name_begins [] rest other all none = refl
 name_begins (b ∷ name) rest other all none =
     let here : is_name_byte b ≡ true = (and_parts (is_name_byte b) (list_all is_name_byte name) all).0 in
-    rw (name_byte_not b other here none) refl
+    rw (ne_eqb b other (λ same. both_ways (is_name_byte other) none (ap is_name_byte (sym same) ∙ here))) refl
 
 plain_name : (name : List ℕ) → IsName name → IsToken name
 plain_name name is = record {

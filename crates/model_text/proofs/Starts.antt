@@ -130,8 +130,7 @@ processes_have_pids : (names : List (List ℕ)) (before : List Process) (row : M
     → All (λ p. IsTrue (is_pid p.pid)) before → Unit {0}
     → process_row names before row ≡ Ok all → All (λ p. IsTrue (is_pid p.pid)) all
 processes_have_pids names before row all pids any is =
-    let parts = process_read names before row all is in
-    subst (All (λ (p : Process). IsTrue (is_pid p.pid))) parts.1
+    subst (All (λ (p : Process). IsTrue (is_pid p.pid))) (process_read names before row all is).1
     (all_insert (λ p. IsTrue (is_pid p.pid)) (process_declared names row) before (pid_is row) pids)
 
 length_insert : (p : Process) (ps : List Process) → length (insert_process p ps) ≤ length ps + 1

@@ -158,11 +158,10 @@ argument_fits w AFile text few =
 before_fits : (w : World) (number : ℕ) (first : Option Argument) (rest : Result (List Argument) ℕ) (arguments : List Argument)
     → IfSome first (IsInRange w) → ((more : List Argument) → rest ≡ Ok more → All (IsInRange w) more)
     → argument_before number first rest ≡ Ok arguments → All (IsInRange w) arguments
-before_fits w number None rest arguments one others is = absurd (cc)
-before_fits w number (Some argument) (Err n) arguments one others is = absurd (cc)
 before_fits w number (Some argument) (Ok more) arguments one others is =
     let same : argument ∷ more ≡ arguments = cc in subst (All (IsInRange w)) same
     (All-cons (IsInRange w) argument more one (others more refl))
+before_fits w number _ _ arguments one others is = absurd (cc)
 
 pub arguments_fit : (w : World) (pattern : Pattern) (place : ℕ) (tokens : Tokens) (arguments : List Argument) → AreFew w
     → arguments_from w pattern place tokens ≡ Ok arguments → All (IsInRange w) arguments

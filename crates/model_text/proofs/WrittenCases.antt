@@ -34,14 +34,12 @@ not_among text (other ∷ texts) (suc j) d none within same =
 
 pairs_differ : (texts : List (List ℕ)) → are_distinct texts ≡ true → AllPairs (λ text other. text ≢ other) texts
 unfolding are_distinct
-pairs_differ [] all i j d before within same = omega arith
-pairs_differ (text ∷ texts) all zero zero d before within same = omega arith
 pairs_differ (text ∷ texts) all zero (suc j) d before within same =
     let first : not (list_any (bytes_eq text) texts) ≡ true = (and_parts (not (list_any (bytes_eq text) texts)) (are_distinct texts) all).0 in
     not_among text texts j d (not-true (list_any (bytes_eq text) texts) first) (omega arith) same
-pairs_differ (text ∷ texts) all (suc i) zero d before within same = omega arith
 pairs_differ (text ∷ texts) all (suc i) (suc j) d before within same =
     pairs_differ texts (and_parts (not (list_any (bytes_eq text) texts)) (are_distinct texts) all).1 i j d (omega arith) (omega arith) same
+pairs_differ _ all _ _ d before within same = omega arith
 
 -- the names and paths of the cases' world keep their rules
 names_keep : AreNames the_world.names

@@ -68,20 +68,13 @@ module _ (permitted : CallKind → Bool) (files : FileTable) (spaces : Spaces) (
     as_before n part x which (inr (same, added)) = absurd (is.here n (sym same) part x which added)
 
     -- an id of a row is in it, or in its standing row
-    uid_before : (row : Row) (x : ℕ) → After row EffectiveUids x → bounds row EffectiveUids x ⊎ bounds (Standing (space_under row)) EffectiveUids x
-    uid_before row x (inl held) = inl held
-    uid_before row x (inr (same, added)) =
-        inr (subst (λ (r : Row). bounds (Standing (space_under r)) EffectiveUids x) (sym same) (is.uid x added))
-
-    gid_before : (row : Row) (x : ℕ) → After row EffectiveGids x → bounds row EffectiveGids x ⊎ bounds (Standing (space_under row)) EffectiveGids x
-    gid_before row x (inl held) = inl held
-    gid_before row x (inr (same, added)) =
-        inr (subst (λ (r : Row). bounds (Standing (space_under r)) EffectiveGids x) (sym same) (is.gid x added))
-
-    group_before : (row : Row) (x : ℕ) → After row Groups x → bounds row Groups x ⊎ bounds (Standing (space_under row)) Groups x
-    group_before row x (inl held) = inl held
-    group_before row x (inr (same, added)) =
-        inr (subst (λ (r : Row). bounds (Standing (space_under r)) Groups x) (sym same) (is.group x added))
+    part_before : (part : Part)
+        → ((x : ℕ) → Adds permitted files spaces bounds turn.rule turn.row part x
+        → bounds (Standing (space_under turn.row)) part x)
+        → (row : Row) (x : ℕ) → After row part x → bounds row part x ⊎ bounds (Standing (space_under row)) part x
+    part_before part quiet row x (inl held) = inl held
+    part_before part quiet row x (inr (same, added)) =
+        inr (subst (λ (r : Row). bounds (Standing (space_under r)) part x) (sym same) (quiet x added))
 
     -- what they meet after the turn they met before
     met_before : (right : Right) (row : Row) → IsTrue (stands spaces (space_under row)) → MeetsAt spaces After right row → Meets spaces bounds right
@@ -90,15 +83,15 @@ module _ (permitted : CallKind → Bool) (files : FileTable) (spaces : Spaces) (
     met_before (Cap c n) (Standing a) standing (inr (m, next, owner)) =
         (Standing a, standing, inr (m, next, as_before a EffectiveUids _ (inl refl) owner))
     met_before (Cap c n) (Fresh a) standing wrong = absurd wrong
-    met_before (Uid id) row standing held = elim (uid_before row id held) [
+    met_before (Uid id) row standing held = elim (part_before EffectiveUids is.uid row id held) [
       | inl here ↦ (row, standing, here)
       | inr there ↦ (Standing (space_under row), standing, there)
     ]
-    met_before (Gid id) row standing (inl held) = elim (gid_before row id held) [
+    met_before (Gid id) row standing (inl held) = elim (part_before EffectiveGids is.gid row id held) [
       | inl here ↦ (row, standing, inl here)
       | inr there ↦ (Standing (space_under row), standing, inl there)
     ]
-    met_before (Gid id) row standing (inr held) = elim (group_before row id held) [
+    met_before (Gid id) row standing (inr held) = elim (part_before Groups is.group row id held) [
       | inl here ↦ (row, standing, inr here)
       | inr there ↦ (Standing (space_under row), standing, inr there)
     ]

@@ -285,8 +285,7 @@ module _ (permitted : CallKind → Bool) (files : FileTable) (spaces : Spaces) (
       (both (fine.each (Standing n) MappedGids x)
       (either (fine.each (Standing n) EffectiveGids x)
       (either (fine.each (Fresh n) EffectiveGids x) (fine.each (Standing n) PermittedCaps cap_setgid))))
-  by_maps (Standing n) _ x = never
-  by_maps (Fresh n) _ x = never
+  by_maps _ _ x = never
 
   -- What a rule adds is decided.
   pub adds_decided : (rule : Rule) (row : Row) (part : Part) (x : ℕ) → Decided (Adds permitted files spaces bounds rule row part x)
@@ -321,13 +320,12 @@ module _ (permitted : CallKind → Bool) (files : FileTable) (spaces : Spaces) (
       three (tested_so (permitted kind.Exec)) (members row) (only_caps (CapByFile files spaces bounds row) (cap_by_file row) part x)
   adds_decided ExecRoot row part x =
       three (tested_so (permitted kind.Exec)) (members row) (only_caps (CapByRoot spaces bounds row) (cap_by_root row) part x)
-  adds_decided Create (Standing n) part x = never
   adds_decided Create (Fresh n) part x =
       three (tested_so (permitted kind.Unshare || permitted kind.CloneUser)) (can_make n)
       (brings (bounds (Standing n)) (fine.each (Standing n)) limit (fine.low (Standing n)) part x)
   adds_decided Join (Standing n) part x = both (tested_so (permitted kind.SetNs)) (by_joining n part x)
-  adds_decided Join (Fresh n) part x = never
   adds_decided Maps row part x = by_maps row part x
+  adds_decided _ _ part x = never
 
   -- So is whether bounds meet a right by a row.
   pub meets_at_decided : (right : Right) (row : Row) → Decided (MeetsAt spaces bounds right row)

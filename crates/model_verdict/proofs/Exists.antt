@@ -51,14 +51,13 @@ cred_decided c Gids x = tested_so (is_one_of_three c.gid x)
 cred_decided c EffectiveGids x = same_number x c.gid.effective
 cred_decided c FsGids x = same_number x c.gid.fs
 cred_decided c Groups x = tested_so (list_any (λ group. group == x) c.groups)
-cred_decided c MappedUids x = never
-cred_decided c MappedGids x = never
 cred_decided c PermittedCaps x = tested_so (holds c.permitted x)
 cred_decided c InheritableCaps x = tested_so (holds c.inheritable x)
 cred_decided c BoundingCaps x = tested_so (holds c.bounding x)
 cred_decided c NewPrivs x = both (same_number x 0) (tested_not c.no_new_privs)
 cred_decided c RootCounts x = both (same_number x 0) (tested_not (has_flag c noroot))
 cred_decided c LockClear x = both (same_number x 0) (tested_not (has_flag c (lock_of noroot)))
+cred_decided c _ x = never
 
 member_decided : (s : State) (members : List ℕ) (n : ℕ) (part : Part) (x : ℕ) → Decided (MemberHas s members n part x)
 member_decided s members n part x = as_much to from (tested_so (some_in s members n test)) where

@@ -30,21 +30,13 @@ use Rattle.model_verdict.specs.Rows.{part_limit}
 -- ---- what rules add
 -- a limit of ids, one of capabilities, and one of flags
 abbrev pub part_bar : (ids caps flag : ℕ) → Part → ℕ
-part_bar ids caps flag Uids = ids
-part_bar ids caps flag EffectiveUids = ids
-part_bar ids caps flag FsUids = ids
-part_bar ids caps flag Gids = ids
-part_bar ids caps flag EffectiveGids = ids
-part_bar ids caps flag FsGids = ids
-part_bar ids caps flag Groups = ids
-part_bar ids caps flag MappedUids = ids
-part_bar ids caps flag MappedGids = ids
 part_bar ids caps flag PermittedCaps = caps
 part_bar ids caps flag InheritableCaps = caps
 part_bar ids caps flag BoundingCaps = caps
 part_bar ids caps flag NewPrivs = flag
 part_bar ids caps flag RootCounts = flag
 part_bar ids caps flag LockClear = flag
+part_bar ids caps flag _ = ids
 
 module _ (ids caps flag : ℕ) (row : Part → ℕ → Type 0) (low : (part : Part) (x : ℕ) → row part x → x < part_bar ids caps flag part)
     (all_caps : cap_count ≤ caps) (zero_flag : 0 < flag) where
@@ -133,8 +125,7 @@ module _ (ids caps flag : ℕ) (permitted : CallKind → Bool) (files : FileTabl
   maps_low (Standing n) MappedGids x (may, none, (q, parent, (mapped, cause))) = low (Standing q) MappedGids x mapped
   maps_low (Fresh n) MappedUids x (may, has, (mapped, cause)) = low (Standing n) MappedUids x mapped
   maps_low (Fresh n) MappedGids x (may, has, (mapped, cause)) = low (Standing n) MappedGids x mapped
-  maps_low (Standing n) _ x wrong = absurd wrong
-  maps_low (Fresh n) _ x wrong = absurd wrong
+  maps_low _ _ x wrong = absurd wrong
 
   pub adds_low : (rule : Rule) (row : Row) (part : Part) (x : ℕ) → Adds permitted files spaces bounds rule row part x → x < part_bar ids caps flag part
   adds_low SetUid row part x (may, has, is) =

@@ -147,9 +147,8 @@ record Parts (first : Option Extent) (rest : Option (List Extent)) (out : List E
 
 parts_of : (first : Option Extent) (rest : Option (List Extent)) (out : List Extent)
     → option_and_then (λ f. option_map (λ r. f ∷ r) rest) first ≡ Some out → Parts first rest out
-parts_of None rest out is = absurd (cc)
-parts_of (Some e) None out is = absurd (cc)
 parts_of (Some e) (Some list) out is = record { head = e; tail = list; first_is = refl; rest_is = refl; out_is = cc }
+parts_of _ _ out is = absurd (cc)
 
 away_down : (map : List Extent) (e d : Extent) (given out : List Extent) → (d.inside ≡ e.inside) × (d.length ≡ e.length) → list_down map given ≡ Some out
     → Away e given → Away d out

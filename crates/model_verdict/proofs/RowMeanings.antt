@@ -26,10 +26,9 @@ same_flags : (one other : Bool) → (IsTrue one ↔ IsTrue other) → one ≡ ot
 same_flags one other same = same_tests one other same.0 same.1
 
 not_back : (one other : Bool) → not one ≡ not other → one ≡ other
-not_back true true is = refl
 not_back true false is = absurd (false≢true is)
 not_back false true is = absurd (false≢true (sym is))
-not_back false false is = refl
+not_back _ _ is = refl
 
 -- the row of these parts
 written : List Interval → List Interval → List Interval → List Interval → List Interval → List Interval → List Interval → List Interval

@@ -3,6 +3,7 @@ use Rattle.std.proofs.Common.{◌≡◌, ◌≢◌, ◌⊎◌, ℕ, zero, suc, �
 use Rattle.std.specs.Prelude.{◌↔◌, ◌&&◌, IsTrue, not}
 use Rattle.std.proofs.lemmas.Bool.{or_cases, cases_lt, eqb-true, eq-eqb, false≢true, and_parts}
 use Rattle.std.proofs.lemmas.List.Elements.{All-nil, All-cons}
+use Rattle.std.proofs.Math.Bool.{not-not}
 use Rattle.cm_base.proofs.CapSets.{holds_none, holds_with}
 use Rattle.cm_base.specs.CapSet.{holds, none, with, cap_count}
 use Rattle.cm_base.specs.Limits.{id_count}
@@ -48,10 +49,6 @@ put_ascends n (i ∷ list) low is = by (i.first == n + 1) refl where
         rest = ascend_made (n + 2) i list (record { above = omega (arith, far, parts.above); full = parts.full; ids = parts.ids; rest = parts.rest });
       })
 
--- one or the other test
-either_test : (a b : Bool) → IsTrue (a || b) → IsTrue a ⊎ IsTrue b
-either_test a b is = or_cases a b is
-
 first_test : (a b : Bool) → IsTrue a → IsTrue (a || b)
 first_test true b is = refl
 first_test false b is = absurd (false≢true is)
@@ -63,7 +60,7 @@ second_test false b is = is
 -- it holds the number, and what the list holds
 put_to : (n x : ℕ) (list : List Interval) → IsTrue (ascend_from (suc n) list) → IsTrue (ids_hold (put_first n list) x)
     → (x ≡ n) ⊎ IsTrue (ids_hold list x)
-put_to n x [] is held = elim (either_test (is_between (record { first = n; last = n }) x) false held) [
+put_to n x [] is held = elim (or_cases (is_between (record { first = n; last = n }) x) false held) [
   | inl here ↦ inl (let ends : (n ≤ x) × (x ≤ n) = between_parts (record { first = n; last = n }) x here in omega (arith, ends.0, ends.1))
   | inr wrong ↦ absurd (false≢true wrong)
 ]
@@ -71,7 +68,7 @@ put_to n x (i ∷ list) is held = by (i.first == n + 1) refl held where
   by : (b : Bool) → (i.first == n + 1) ≡ b → IsTrue (ids_hold (joined b n i list) x) → (x ≡ n) ⊎ IsTrue (ids_hold (i ∷ list) x)
   by true next held =
       let first : i.first ≡ n + 1 = eqb-true i.first (n + 1) next in
-      elim (either_test (is_between (record { first = n; last = i.last }) x) (ids_hold list x) held) [
+      elim (or_cases (is_between (record { first = n; last = i.last }) x) (ids_hold list x) held) [
         | inl here ↦ by_place (x == n) refl (between_parts (record { first = n; last = i.last }) x here) first
         | inr later ↦ inr (second_test (is_between i x) (ids_hold list x) later)
       ]
@@ -81,7 +78,7 @@ put_to n x (i ∷ list) is held = by (i.first == n + 1) refl held where
       by_place false apart ends first =
           let far : x ≢ n = λ same. false≢true (sym apart ∙ eq-eqb x n same) in
           inr (first_test (is_between i x) (ids_hold list x) (between_from i x (omega (arith, far, ends.0, first)) ends.1))
-  by false apart held = elim (either_test (is_between (record { first = n; last = n }) x) (ids_hold (i ∷ list) x) held) [
+  by false apart held = elim (or_cases (is_between (record { first = n; last = n }) x) (ids_hold (i ∷ list) x) held) [
     | inl here ↦ inl (let ends : (n ≤ x) × (x ≤ n) = between_parts (record { first = n; last = n }) x here in omega (arith, ends.0, ends.1))
     | inr later ↦ inr later
   ]
@@ -102,7 +99,7 @@ put_from n x (i ∷ list) is held = by (i.first == n + 1) refl held where
       (between_from (record { first = n; last = i.last }) x (omega (arith, same)) (omega (arith, same, first, parts.full)))
   by true next (inr held) =
       let first : i.first ≡ n + 1 = eqb-true i.first (n + 1) next in
-      elim (either_test (is_between i x) (ids_hold list x) held) [
+      elim (or_cases (is_between i x) (ids_hold list x) held) [
         | inl here ↦
             let ends : (i.first ≤ x) × (x ≤ i.last) = between_parts i x here in
             first_test (is_between (record { first = n; last = i.last }) x) (ids_hold list x)
@@ -189,7 +186,7 @@ module _ (f : ℕ → Bool) where
 
   one_below_to : (n c set : ℕ) → (IsTrue (holds set c) → (c < n) × IsTrue (f c)) → (b : Bool) → f n ≡ b
       → IsTrue (holds (cond b (with set n) set) c) → (c < suc n) × IsTrue (f c)
-  one_below_to n c set before true is held = elim (either_test (holds set c) (c == n) (sym (holds_with set n c) ∙ held)) [
+  one_below_to n c set before true is held = elim (or_cases (holds set c) (c == n) (sym (holds_with set n c) ∙ held)) [
     | inl there ↦ (let it : (c < n) × IsTrue (f c) = before there in (omega (arith, it.0), it.1))
     | inr same ↦
         let one : c ≡ n = eqb-true c n same in
@@ -232,10 +229,6 @@ module _ (f : ℕ → Bool) where
         let zero_is : x ≡ 0 = omega (arith, low is) in
         subst (λ (n : ℕ). IsTrue (n == 0 && f 0)) (sym zero_is) (subst (λ (n : ℕ). IsTrue (f n)) zero_is is),
   )
-
-not_not : (b : Bool) → not (not b) ≡ b
-not_not true = refl
-not_not false = refl
 
 -- ---- a row
 -- the row that says what a test of parts and numbers says
@@ -294,7 +287,7 @@ row_says g PermittedCaps x low = caps_say (g PermittedCaps) x low
 row_says g InheritableCaps x low = caps_say (g InheritableCaps) x low
 row_says g BoundingCaps x low = caps_say (g BoundingCaps) x low
 row_says g NewPrivs x low =
-    subst (λ (b : Bool). IsTrue (x == 0 && b) ↔ IsTrue (g NewPrivs x)) (sym (not_not (g NewPrivs 0))) (flag_says (g NewPrivs) x low)
+    subst (λ (b : Bool). IsTrue (x == 0 && b) ↔ IsTrue (g NewPrivs x)) (sym (not-not (g NewPrivs 0))) (flag_says (g NewPrivs) x low)
 row_says g RootCounts x low = flag_says (g RootCounts) x low
 row_says g LockClear x low = flag_says (g LockClear) x low
 

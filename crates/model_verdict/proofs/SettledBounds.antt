@@ -323,10 +323,9 @@ module _ (permitted : CallKind → Bool) (files : FileTable) (s : State) (member
   closed_fresh ExecRoot n part x (may, (id, has), added) = absurd (false≢true has)
   closed_fresh Create n part x (may, makes, brings) =
       absurd (false≢true (sym (or_from (permitted kind.Unshare) (permitted kind.CloneUser) settled.excluded.unshare settled.excluded.clone_user) ∙ may))
-  closed_fresh Join n part x wrong = absurd wrong
   closed_fresh Maps n MappedUids x (may, (id, has), added) = absurd (false≢true has)
   closed_fresh Maps n MappedGids x (may, (id, has), added) = absurd (false≢true has)
-  closed_fresh Maps n _ x wrong = absurd wrong
+  closed_fresh _ n _ x wrong = absurd wrong
 
   closed_standing : (rule : Rule) (n : ℕ) → IsTrue (stands s.spaces n) → ClosedAt permitted files s.spaces Reached rule (Standing n)
   closed_standing SetUid n standing part x added = closed_uid n part x added

@@ -36,9 +36,8 @@ bit true = 1
 
 pub bit_more : (a b : Bool) → (a ≡ true → b ≡ true) → bit a ≤ bit b
 unfolding bit
-bit_more false b more = omega arith
-bit_more true true more = omega arith
 bit_more true false more = absurd (let no : false ≡ true = more refl in cc)
+bit_more _ _ more = omega arith
 
 pub more_bit : (a b : Bool) → bit b ≤ bit a → b ≡ true → a ≡ true
 unfolding bit

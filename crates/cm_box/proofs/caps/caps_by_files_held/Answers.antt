@@ -1,7 +1,7 @@
 use Rattle.std.proofs.Common.{ℕ, length, refl, ap, arith}
 use Rattle.cm_sets.specs.Sets.{IsWithin}
 use Rattle.cm_box_rows.proofs.ByFiles.{each_cap}
-use Rattle.cm_box_rows.proofs.Gathered.{each_more}
+use borrow.Author.Count.{below_more}
 use Rattle.cm_box.proofs.caps.caps_by_files_held.Goals as goal
 use Rattle.cm_box_rows.specs.Programs.{CapGiven}
 use Rattle.cm_box.specs.Places.{row_of}
@@ -13,7 +13,7 @@ loop-k-preserved c =
     let bounds = RowsHold c.args.bounds.now in
     let row = row_of c.args.at in
     let Gives = CapGiven c.args.files.now c.args.spaces.now bounds row in
-    each_more (λ (k : ℕ). IsWithin (Gives k) (bounds row PermittedCaps)) c.loop-k.k c.loop-k.invariant
+    below_more (λ (k : ℕ). IsWithin (Gives k) (bounds row PermittedCaps)) c.loop-k.k c.loop-k.invariant
     (c.caps_by_file_held.ensures.0 c.if-not-caps_by_file_held.false)
 
 pub returns : goal.returns

@@ -1,6 +1,6 @@
 use Rattle.std.proofs.Common.{ℕ, length, ap, arith}
 use Rattle.cm_box_rows.proofs.ByFiles.{each_id}
-use Rattle.cm_box_rows.proofs.Gathered.{each_more}
+use borrow.Author.Count.{below_more}
 use Rattle.cm_box_rows.proofs.Spreading.{refused, granted}
 use Rattle.cm_box_rows.proofs.Tests.{no, yes}
 use Rattle.cm_box_rows.proofs.given.given_within.Goals as goal
@@ -15,7 +15,7 @@ returns-then-not-file_within c = no _ (λ within. refused _ c.if-not-file_within
 
 pub loop-k-preserved : goal.loop-k-preserved
 loop-k-preserved c =
-    each_more (λ (k : ℕ). IsWithin
+    below_more (λ (k : ℕ). IsWithin
     (IdGiven c.args.kind c.args.files.now c.args.spaces.now c.args.n.0 (RowHolds c.args.row.now) k)
     (RowHolds c.args.row.now (effective c.args.kind))) c.loop-k.k c.loop-k.invariant
     (granted _ c.if-not-file_within.ensures)

@@ -1,7 +1,6 @@
 use Rattle.cm_box_rows.specs.contracts.row.BoxRow.{the_view}
 use Rattle.cm_box_rows.proofs.CredParts.{uids_out, gids_out, groups_out, sets_out, all_in}
-use Rattle.std.proofs.Common.{◌∙◌}
-use Rattle.std.proofs.Common.{ap}
+use Rattle.std.proofs.Common.{◌∙◌, ap}
 use Rattle.model_cred.specs.Credential.{Credential}
 use Rattle.cm_box_rows.proofs.members.cred_held.Goals as goal
 

@@ -2,13 +2,14 @@ use Rattle.std.proofs.Common.{ap}
 use Rattle.model_cred.specs.Process.{State}
 use Rattle.cm_box_rows.specs.Rows.{RowHolds}
 use Rattle.cm_state.specs.contracts.proc.Proc as proc
-use Rattle.cm_box_rows.proofs.MemberRows.{found_at, member_told}
+use Rattle.cm_state.proofs.Places.{process_found}
+use Rattle.cm_box_rows.proofs.MemberRows.{member_told}
 use Rattle.cm_box_rows.proofs.Elsewhere.{held_none, held_elsewhere}
 use Rattle.cm_box_rows.proofs.members.member_held.Goals as goal
 
 pub returns-else-p-n : goal.returns-else-p-n
 returns-else-p-n c =
-    let found = found_at c.args.st.now c.st.inside.procs c.items-procs.result.now c.in-Some.at c.args.pid
+    let found = process_found c.args.st.now c.st.inside.procs c.items-procs.result.now c.in-Some.at c.args.pid
     c.index-procs-at.result
     c.items-procs.ensures (ap (λ (s : State). s.processes) c.st.view_is) c.in-Some.ensures.found.0
     c.in-Some.ensures.found.1 c.index-procs-at.is in
@@ -23,7 +24,7 @@ returns-in-None c =
 
 pub returns-then-p-n : goal.returns-then-p-n
 returns-then-p-n c =
-    let found = found_at c.args.st.now c.st.inside.procs c.items-procs.result.now c.in-Some.at c.args.pid
+    let found = process_found c.args.st.now c.st.inside.procs c.items-procs.result.now c.in-Some.at c.args.pid
     c.index-procs-at.result
     c.items-procs.ensures (ap (λ (s : State). s.processes) c.st.view_is) c.in-Some.ensures.found.0
     c.in-Some.ensures.found.1 c.index-procs-at.is in

@@ -15,6 +15,5 @@ pub returns : goal.returns
 returns c = (
   λ wrong. absurd (cc),
   λ other.
-      let list = c.args.list.now in
-      absurd (other_missed list c.loop-ids.ids-index c.args.id (omega arith) c.loop-ids.invariant other),
+      absurd (other_missed c.args.list.now c.loop-ids.ids-index c.args.id (omega arith) c.loop-ids.invariant other),
 )

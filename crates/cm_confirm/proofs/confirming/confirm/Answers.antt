@@ -34,7 +34,6 @@ loop-line-init c =
 pub loop-line-preserved : goal.loop-line-preserved
 loop-line-preserved c =
     let w = world_of c.args.w.now in
-    let right = right_of c.args.right.now in
     let rest = lines_come (limit_number limit.Line) (lines_of c.in-Some.after.now) in
     let later = left w c.read_line.new.run rest in
     let cut : lines_of c.loop-line.rest.now ≡ c.in-Some.line.now ∷ lines_of c.in-Some.after.now = c.in-Some.ensures.line in
@@ -42,7 +41,7 @@ loop-line-preserved c =
     let is = ap (λ (ls : List (List ℕ)). left w c.loop-line.run (lines_come (limit_number limit.Line) ls)) cut
     ∙ c.in_ok-stage.ensures.told rest in
     let goes = rw c.in-Goes.is at c.in_ok-take_told.ensures.turn in
-    let comes = line_comes w c.loop-line.machine.state c.loop-line.members right reading later
+    let comes = line_comes w c.loop-line.machine.state c.loop-line.members (right_of c.args.right.now) reading later
     (told_of c.read_line.new.run) c.events-told.result.now
     c.in_ok-stage.stage turn.Goes c.take_told.new.machine.state c.take_told.new.members is c.events-told.ensures
     (goes later) in

@@ -10,7 +10,6 @@ use Rattle.model_text.specs.Reading.{Placed}
 
 pub loop-event-preserved : goal.loop-event-preserved
 loop-event-preserved c =
-    let w = world_of c.args.w.now in
     let i = c.loop-event.event-index in
     let e = c.event-item.result in
     let told = c.args.told.now in
@@ -18,7 +17,7 @@ loop-event-preserved c =
     let goes = rw c.in-Goes.is at c.in_ok-take_event.ensures in
     record {
       same = λ later. c.loop-event.invariant.same later
-          ∙ goes_on w c.loop-event.machine.state c.loop-event.members (right_of c.args.right.now)
+          ∙ goes_on (world_of c.args.w.now) c.loop-event.machine.state c.loop-event.members (right_of c.args.right.now)
           (told_then (drop i told) c.args.stage later) (told_then (drop (i + 1) told) c.args.stage later) e
           (ap (λ (es : List Placed). told_then es c.args.stage later) left_
           ∙ told_on e (drop (i + 1) told) c.args.stage later)
@@ -28,13 +27,12 @@ loop-event-preserved c =
 
 pub returns-in-Ends-clause-turn : goal.returns-in-Ends-clause-turn
 returns-in-Ends-clause-turn c later =
-    let w = world_of c.args.w.now in
     let i = c.loop-event.event-index in
     let e = c.event-item.result in
     let told = c.args.told.now in
     let left_ = told_from told i e c.loop-event-test.true c.event-item.is in
     c.loop-event.invariant.same later
-    ∙ ends_with w c.loop-event.machine.state c.loop-event.members (right_of c.args.right.now)
+    ∙ ends_with (world_of c.args.w.now) c.loop-event.machine.state c.loop-event.members (right_of c.args.right.now)
     (told_then (drop i told) c.args.stage later) (told_then (drop (i + 1) told) c.args.stage later) e
     (ap (λ (es : List Placed). told_then es c.args.stage later) left_
     ∙ told_on e (drop (i + 1) told) c.args.stage later)

@@ -2,8 +2,8 @@ use Rattle.std.proofs.Common.{arith, rules, refl, sym, ◌∙◌, ap, None, Some
 use Rattle.std.proofs.lemmas.Result.{err_from_is_err_and}
 use Rattle.cm_declared.specs.World.{world_of}
 use Rattle.cm_io.proofs.FileReads.{none_read}
-use Rattle.cm_io.specs.Cutter.{Fits, GoesPast, left_of}
-use Rattle.cm_io.specs.Shelf.{Files, bytes_at}
+use Rattle.cm_io.specs.Cutter.{Fits, GoesPast}
+use Rattle.cm_io.specs.Shelf.{Files}
 use Rattle.cm_lines.specs.Cut.{before, ends_by}
 use Rattle.cm_lines.specs.declared.limits.Past.TheVariants.{Line, Whole}
 use Rattle.cm_log.specs.Left.{left}
@@ -16,7 +16,6 @@ use Rattle.cm_replay.proofs.Told.{past_line, past_none, past_sent, sent_first, t
 use Rattle.cm_replay.proofs.coming.replay_lines.Goals as goal
 use Rattle.cm_replay.specs.Following.{Outgoing}
 use Rattle.cm_replay.specs.Untold.{untold_by}
-use Rattle.model_text.specs.Reading.{Reading}
 
 -- before the first line
 pub loop-replay-init : goal.loop-replay-init
@@ -26,7 +25,6 @@ loop-replay-init g c =
     let name = c.args.cutter.now.name in
     let begun : Outgoing = record { written = g.K.Sink.written c.args.out.now; waits = c.args.text.now.items } in
     let now : Outgoing = record { written = g.K.Sink.written c.send.new.out; waits = c.send.new.text.items } in
-    let reading : Files → Reading = λ files. left w c.args.log.now (left_of c.args.cutter.now (bytes_at files name)) in
     let begins = c.requires.begins in
     let sent = c.in_ok-send.ensures.sent in
     let empty = c.in_ok-send.ensures.empty in
@@ -48,8 +46,9 @@ loop-replay-init g c =
       spaces = omega arith;
       grown = grown_first c.args.replay.now.shows begun now sent empty;
       sink = search rules;
-      goes = gone_sent held w name c.args.replay.now begun reading c.args.replay.now begun c.args.log.now c.args.cutter.now _ _
-          (gone_start held w name c.args.replay.now begun reading c.args.log.now c.args.cutter.now (λ files. refl)) sent;
+      goes = gone_sent held w c.args.replay.now begun c.args.log.now c.args.cutter.now c.args.replay.now begun
+          c.args.log.now c.args.cutter.now _ _
+          (gone_start held w c.args.replay.now begun c.args.log.now c.args.cutter.now) sent;
     }
 
 -- what waited couldn't be sent before the first read
@@ -58,14 +57,12 @@ returns-in_err-send g c =
     let p = err_from_is_err_and c.from_residual.result c.from_residual.ensures.1 in
     let held = g.H.Shelf.held c.args.shelf.now in
     let w = world_of c.args.w.now in
-    let name = c.args.cutter.now.name in
     let begun : Outgoing = record { written = g.K.Sink.written c.args.out.now; waits = c.args.text.now.items } in
-    let reading : Files → Reading = λ files. left w c.args.log.now (left_of c.args.cutter.now (bytes_at files name)) in
     rw (p.1, p.2) (record {
-      told = gone_cut held w name c.args.replay.now begun reading c.args.replay.now begun
+      told = gone_cut held w c.args.replay.now begun c.args.log.now c.args.cutter.now c.args.replay.now begun
           (record { written = g.K.Sink.written c.send.new.out; waits = c.send.new.text.items }) c.args.log.now c.args.cutter.now
           c.args.replay.now (untold_by c.in_err-send.field-0.0)
-          (gone_start held w name c.args.replay.now begun reading c.args.log.now c.args.cutter.now (λ files. refl)) c.in_err-send.ensures.front;
+          (gone_start held w c.args.replay.now begun c.args.log.now c.args.cutter.now) c.in_err-send.ensures.front;
       sends = none_sends c.args.replay.now.shows (g.K.Sink.written c.args.out.now) (g.K.Sink.written c.send.new.out)
           c.args.text.now.items c.send.new.text.items (Err (untold_by c.in_err-send.field-0.0)) (untold_by c.in_err-send.field-0.0) refl
           (stops_no_read _ _ refl);
@@ -73,7 +70,7 @@ returns-in_err-send g c =
       answers = tt;
       keeps = tt;
       cause = stops_at _ _ _ _ refl c.in_err-send.ensures.cause;
-      file = none_read _ name _ _ _ (stops_no_read _ _ refl);
+      file = none_read _ c.args.cutter.now.name _ _ _ (stops_no_read _ _ refl);
     })
 
 -- the line is within its limit
@@ -87,16 +84,15 @@ pub returns-in-Ends-clause-told : goal.returns-in-Ends-clause-told
 returns-in-Ends-clause-told g c =
     let held = g.H.Shelf.held c.args.shelf.now in
     let w = world_of c.args.w.now in
-    let name = c.args.cutter.now.name in
     let begun : Outgoing = record { written = g.K.Sink.written c.args.out.now; waits = c.args.text.now.items } in
-    let reading : Files → Reading = λ files. left w c.args.log.now (left_of c.args.cutter.now (bytes_at files name)) in
     let inv = c.loop-replay.invariant in
     let is = c.in-Ok-Some.is ∙ ap (λ o. Ok o) c.in-Ok-Some.field-0-is in
     let after = c.next_line.follows.holds-at-none in
     let follows = rw c.in-Ends.is at c.in_ok-replay_line-in-Ok-Some.ensures.follows in
-    gone_to_line held w name c.args.replay.now begun reading c.loop-replay.replay c.replay_line.new.replay _ _ c.loop-replay.log
-    c.loop-replay.cutter c.next_line.follows.lender-at-none c.in-Ok-Some.line.now (Ok c.in-Ends.status) inv.goes
-    (line_given _ held c.loop-replay.cutter c.next_line.follows.lender-at-none name c.in-Ok-Some.line _ inv.file.held inv.name is after.gives)
+    gone_to_line held w c.args.replay.now begun c.args.log.now c.args.cutter.now c.loop-replay.replay
+    c.replay_line.new.replay _ _ c.loop-replay.log c.loop-replay.cutter c.next_line.follows.lender-at-none
+    c.in-Ok-Some.line.now (Ok c.in-Ends.status) inv.goes
+    (line_given _ held c.loop-replay.cutter c.next_line.follows.lender-at-none _ c.in-Ok-Some.line _ inv.file.held inv.name is after.gives)
     (λ cut. follows cut)
 
 pub returns-in-Ends-clause-sends : goal.returns-in-Ends-clause-sends
@@ -130,18 +126,16 @@ pub returns-in_err-replay_line-in-Ok-Some-clause-told : goal.returns-in_err-repl
 returns-in_err-replay_line-in-Ok-Some-clause-told g c =
     let held = g.H.Shelf.held c.args.shelf.now in
     let w = world_of c.args.w.now in
-    let name = c.args.cutter.now.name in
     let begun : Outgoing = record { written = g.K.Sink.written c.args.out.now; waits = c.args.text.now.items } in
-    let reading : Files → Reading = λ files. left w c.args.log.now (left_of c.args.cutter.now (bytes_at files name)) in
     let inv = c.loop-replay.invariant in
     let is = c.in-Ok-Some.is ∙ ap (λ o. Ok o) c.in-Ok-Some.field-0-is in
     let after = c.next_line.follows.holds-at-none in
     let p = err_from_is_err_and c.from_residual-in_err-replay_line-in-Ok-Some.result c.from_residual-in_err-replay_line-in-Ok-Some.ensures.1 in
-    rw p.1 (gone_to_line held w name c.args.replay.now begun reading c.loop-replay.replay c.replay_line.new.replay
-    (record { written = g.K.Sink.written c.loop-replay.out; waits = c.loop-replay.text.items })
+    rw p.1 (gone_to_line held w c.args.replay.now begun c.args.log.now c.args.cutter.now c.loop-replay.replay
+    c.replay_line.new.replay (record { written = g.K.Sink.written c.loop-replay.out; waits = c.loop-replay.text.items })
     (record { written = g.K.Sink.written c.replay_line.new.out; waits = c.replay_line.new.text.items }) c.loop-replay.log
     c.loop-replay.cutter c.next_line.follows.lender-at-none c.in-Ok-Some.line.now (Err p.0) inv.goes
-    (line_given _ held c.loop-replay.cutter c.next_line.follows.lender-at-none name c.in-Ok-Some.line _ inv.file.held inv.name is after.gives)
+    (line_given _ held c.loop-replay.cutter c.next_line.follows.lender-at-none _ c.in-Ok-Some.line _ inv.file.held inv.name is after.gives)
     (λ cut. c.in_err-replay_line-in-Ok-Some.ensures.follows cut))
 
 -- what waited couldn't be sent after the line
@@ -149,21 +143,20 @@ pub returns-in_err-send_unless-clause-told : goal.returns-in_err-send_unless-cla
 returns-in_err-send_unless-clause-told g c =
     let held = g.H.Shelf.held c.args.shelf.now in
     let w = world_of c.args.w.now in
-    let name = c.args.cutter.now.name in
     let begun : Outgoing = record { written = g.K.Sink.written c.args.out.now; waits = c.args.text.now.items } in
-    let reading : Files → Reading = λ files. left w c.args.log.now (left_of c.args.cutter.now (bytes_at files name)) in
     let inv = c.loop-replay.invariant in
     let is = c.in-Ok-Some.is ∙ ap (λ o. Ok o) c.in-Ok-Some.field-0-is in
     let after = c.next_line.follows.holds-at-none in
     let follows = rw c.in-Goes.is at c.in_ok-replay_line-in-Ok-Some.ensures.follows in
     let p = err_from_is_err_and c.from_residual-in_err-send_unless.result c.from_residual-in_err-send_unless.ensures.1 in
-    rw p.1 (gone_cut held w name c.args.replay.now begun reading c.replay_line.new.replay
+    rw p.1 (gone_cut held w c.args.replay.now begun c.args.log.now c.args.cutter.now c.replay_line.new.replay
     (record { written = g.K.Sink.written c.replay_line.new.out; waits = c.replay_line.new.text.items })
     (record { written = g.K.Sink.written c.send_unless.new.out; waits = c.send_unless.new.text.items }) c.replay_line.new.log
     c.next_line.follows.lender-at-none c.replay_line.new.replay p.0
-    (gone_on held w name c.args.replay.now begun reading c.loop-replay.replay c.replay_line.new.replay _ _ c.loop-replay.log c.replay_line.new.log
-    c.loop-replay.cutter c.next_line.follows.lender-at-none c.in-Ok-Some.line.now inv.goes
-    (line_given _ held c.loop-replay.cutter c.next_line.follows.lender-at-none name c.in-Ok-Some.line _ inv.file.held inv.name is after.gives)
+    (gone_on held w c.args.replay.now begun c.args.log.now c.args.cutter.now c.loop-replay.replay
+    c.replay_line.new.replay _ _ c.loop-replay.log c.replay_line.new.log c.loop-replay.cutter
+    c.next_line.follows.lender-at-none c.in-Ok-Some.line.now inv.goes
+    (line_given _ held c.loop-replay.cutter c.next_line.follows.lender-at-none _ c.in-Ok-Some.line _ inv.file.held inv.name is after.gives)
     (λ cut. follows cut))
     c.in_err-send_unless.ensures.front)
 
@@ -172,13 +165,12 @@ pub returns-then-has_ended-clause-told : goal.returns-then-has_ended-clause-told
 returns-then-has_ended-clause-told g c =
     let held = g.H.Shelf.held c.args.shelf.now in
     let w = world_of c.args.w.now in
-    let name = c.args.cutter.now.name in
     let begun : Outgoing = record { written = g.K.Sink.written c.args.out.now; waits = c.args.text.now.items } in
-    let reading : Files → Reading = λ files. left w c.args.log.now (left_of c.args.cutter.now (bytes_at files name)) in
     let inv = c.loop-replay.invariant in
-    gone_to_end held w name c.args.replay.now begun reading c.loop-replay.replay c.replay_end.new.replay _ _ c.loop-replay.log c.loop-replay.cutter None _
-    inv.goes
-    (ended_left held c.loop-replay.cutter name inv.ended (sym c.has_ended.ensures ∙ c.if-has_ended.true))
+    gone_to_end held w c.args.replay.now begun c.args.log.now c.args.cutter.now c.loop-replay.replay
+    c.replay_end.new.replay _ _ c.loop-replay.log c.loop-replay.cutter None _ inv.goes
+    (ended_left held c.loop-replay.cutter c.args.cutter.now.name inv.ended
+    (sym c.has_ended.ensures ∙ c.if-has_ended.true))
     c.replay_end.ensures.told
 
 pub returns-then-has_ended-clause-sends : goal.returns-then-has_ended-clause-sends
@@ -206,13 +198,11 @@ pub returns-in-Ok-None-clause-told : goal.returns-in-Ok-None-clause-told
 returns-in-Ok-None-clause-told g c =
     let held = g.H.Shelf.held c.args.shelf.now in
     let w = world_of c.args.w.now in
-    let name = c.args.cutter.now.name in
     let begun : Outgoing = record { written = g.K.Sink.written c.args.out.now; waits = c.args.text.now.items } in
-    let reading : Files → Reading = λ files. left w c.args.log.now (left_of c.args.cutter.now (bytes_at files name)) in
     let inv = c.loop-replay.invariant in
-    gone_to_end held w name c.args.replay.now begun reading c.loop-replay.replay c.replay_end-in-Ok-None.new.replay _ _ c.loop-replay.log c.loop-replay.cutter None _
-    inv.goes
-    (end_given _ held c.loop-replay.cutter c.next_line.follows.lender-at-none name None _ inv.file.held inv.name
+    gone_to_end held w c.args.replay.now begun c.args.log.now c.args.cutter.now c.loop-replay.replay
+    c.replay_end-in-Ok-None.new.replay _ _ c.loop-replay.log c.loop-replay.cutter None _ inv.goes
+    (end_given _ held c.loop-replay.cutter c.next_line.follows.lender-at-none _ None _ inv.file.held inv.name
     (c.in-Ok-None.is ∙ ap (λ o. Ok o) c.in-Ok-None.field-0-is) c.next_line.follows.holds-at-none.gives)
     c.replay_end-in-Ok-None.ensures.told
 
@@ -241,13 +231,11 @@ pub returns-in-Err-TooLong-clause-told : goal.returns-in-Err-TooLong-clause-told
 returns-in-Err-TooLong-clause-told g c =
     let held = g.H.Shelf.held c.args.shelf.now in
     let w = world_of c.args.w.now in
-    let name = c.args.cutter.now.name in
     let begun : Outgoing = record { written = g.K.Sink.written c.args.out.now; waits = c.args.text.now.items } in
-    let reading : Files → Reading = λ files. left w c.args.log.now (left_of c.args.cutter.now (bytes_at files name)) in
     let inv = c.loop-replay.invariant in
-    gone_to_end held w name c.args.replay.now begun reading c.loop-replay.replay c.replay_end-in-Err-TooLong.new.replay _ _ c.loop-replay.log
-    c.loop-replay.cutter (Some Line) _ inv.goes
-    (end_given _ held c.loop-replay.cutter c.next_line.follows.lender-at-none name (Some Line) _ inv.file.held inv.name
+    gone_to_end held w c.args.replay.now begun c.args.log.now c.args.cutter.now c.loop-replay.replay
+    c.replay_end-in-Err-TooLong.new.replay _ _ c.loop-replay.log c.loop-replay.cutter (Some Line) _ inv.goes
+    (end_given _ held c.loop-replay.cutter c.next_line.follows.lender-at-none _ (Some Line) _ inv.file.held inv.name
     (c.in-Err-TooLong.is ∙ ap (λ o. Err o) c.in-Err-TooLong.field-0-is) c.next_line.follows.holds-at-none.gives)
     c.replay_end-in-Err-TooLong.ensures.told
 
@@ -271,13 +259,11 @@ pub returns-in-Err-TooMuch-clause-told : goal.returns-in-Err-TooMuch-clause-told
 returns-in-Err-TooMuch-clause-told g c =
     let held = g.H.Shelf.held c.args.shelf.now in
     let w = world_of c.args.w.now in
-    let name = c.args.cutter.now.name in
     let begun : Outgoing = record { written = g.K.Sink.written c.args.out.now; waits = c.args.text.now.items } in
-    let reading : Files → Reading = λ files. left w c.args.log.now (left_of c.args.cutter.now (bytes_at files name)) in
     let inv = c.loop-replay.invariant in
-    gone_to_end held w name c.args.replay.now begun reading c.loop-replay.replay c.replay_end-in-Err-TooMuch.new.replay _ _ c.loop-replay.log
-    c.loop-replay.cutter (Some Whole) _ inv.goes
-    (end_given _ held c.loop-replay.cutter c.next_line.follows.lender-at-none name (Some Whole) _ inv.file.held inv.name
+    gone_to_end held w c.args.replay.now begun c.args.log.now c.args.cutter.now c.loop-replay.replay
+    c.replay_end-in-Err-TooMuch.new.replay _ _ c.loop-replay.log c.loop-replay.cutter (Some Whole) _ inv.goes
+    (end_given _ held c.loop-replay.cutter c.next_line.follows.lender-at-none _ (Some Whole) _ inv.file.held inv.name
     (c.in-Err-TooMuch.is ∙ ap (λ o. Err o) c.in-Err-TooMuch.field-0-is) c.next_line.follows.holds-at-none.gives)
     c.replay_end-in-Err-TooMuch.ensures.told
 
@@ -304,7 +290,6 @@ loop-replay-preserved g c =
     let w = world_of c.args.w.now in
     let name = c.args.cutter.now.name in
     let begun : Outgoing = record { written = g.K.Sink.written c.args.out.now; waits = c.args.text.now.items } in
-    let reading : Files → Reading = λ files. left w c.args.log.now (left_of c.args.cutter.now (bytes_at files name)) in
     let inv = c.loop-replay.invariant in
     let is = c.in-Ok-Some.is ∙ ap (λ o. Ok o) c.in-Ok-Some.field-0-is in
     let new = c.next_line.follows.lender-at-none in
@@ -340,8 +325,9 @@ loop-replay-preserved g c =
           (grown_more c.args.replay.now.shows begun _ sent _ _ inv.grown one.sent (λ none. one.quiet (inv.shows ∙ none)))
           c.in_ok-send_unless.ensures.sent (λ _. c.in_ok-send_unless.ensures.sent);
       sink = c.in_ok-send_unless.ensures.cause.ok ∙ c.in_ok-replay_line-in-Ok-Some.ensures.cause.others (λ is. cc) ∙ inv.sink;
-      goes = gone_sent held w name c.args.replay.now begun reading c.replay_line.new.replay sent c.replay_line.new.log new _ _
-          (gone_on held w name c.args.replay.now begun reading c.loop-replay.replay c.replay_line.new.replay _ sent c.loop-replay.log c.replay_line.new.log
+      goes = gone_sent held w c.args.replay.now begun c.args.log.now c.args.cutter.now c.replay_line.new.replay sent
+          c.replay_line.new.log new _ _ (gone_on held w c.args.replay.now begun c.args.log.now c.args.cutter.now
+          c.loop-replay.replay c.replay_line.new.replay _ sent c.loop-replay.log c.replay_line.new.log
           c.loop-replay.cutter new c.in-Ok-Some.line.now inv.goes
           (line_given _ held c.loop-replay.cutter new name c.in-Ok-Some.line _ inv.file.held inv.name is after.gives) (λ cut. goes cut))
           c.in_ok-send_unless.ensures.sent;
@@ -371,75 +357,66 @@ returns-then-has_ended-clause-file g c =
 
 pub returns-in-Ends-clause-file : goal.returns-in-Ends-clause-file
 returns-in-Ends-clause-file g c =
-    let name = c.args.cutter.now.name in
     let inv = c.loop-replay.invariant in
     let open_ = sym c.has_ended.ensures ∙ c.if-has_ended.false in
     let is = c.in-Ok-Some.is ∙ ap (λ o. Ok o) c.in-Ok-Some.field-0-is in
-    file_on _ _ _ name c.loop-replay.cutter _ inv.name inv.whole open_ c.next_line.ensures.few inv.file c.next_line.ensures.file
+    file_on _ _ _ _ c.loop-replay.cutter _ inv.name inv.whole open_ c.next_line.ensures.few inv.file c.next_line.ensures.file
     (λ bad. let two = sym is ∙ bad in cc) (λ bad. absurd (cc))
 
 pub returns-in_err-replay_line-in-Ok-Some-clause-file : goal.returns-in_err-replay_line-in-Ok-Some-clause-file
 returns-in_err-replay_line-in-Ok-Some-clause-file g c =
     let p = err_from_is_err_and c.from_residual-in_err-replay_line-in-Ok-Some.result c.from_residual-in_err-replay_line-in-Ok-Some.ensures.1 in
-    let name = c.args.cutter.now.name in
     let inv = c.loop-replay.invariant in
     let open_ = sym c.has_ended.ensures ∙ c.if-has_ended.false in
     let is = c.in-Ok-Some.is ∙ ap (λ o. Ok o) c.in-Ok-Some.field-0-is in
-    rw (p.1, p.2) (file_on _ _ _ name c.loop-replay.cutter _ inv.name inv.whole open_ c.next_line.ensures.few inv.file c.next_line.ensures.file
+    rw (p.1, p.2) (file_on _ _ _ _ c.loop-replay.cutter _ inv.name inv.whole open_ c.next_line.ensures.few inv.file c.next_line.ensures.file
     (λ bad. let two = sym is ∙ bad in cc)
     (λ bad. absurd (c.in_err-replay_line-in-Ok-Some.ensures.no_read_fault (err_as _ _ _ _ refl refl bad))))
 
 pub returns-in_err-send_unless-clause-file : goal.returns-in_err-send_unless-clause-file
 returns-in_err-send_unless-clause-file g c =
     let p = err_from_is_err_and c.from_residual-in_err-send_unless.result c.from_residual-in_err-send_unless.ensures.1 in
-    let name = c.args.cutter.now.name in
     let inv = c.loop-replay.invariant in
     let open_ = sym c.has_ended.ensures ∙ c.if-has_ended.false in
     let is = c.in-Ok-Some.is ∙ ap (λ o. Ok o) c.in-Ok-Some.field-0-is in
-    rw (p.1, p.2) (file_on _ _ _ name c.loop-replay.cutter _ inv.name inv.whole open_ c.next_line.ensures.few inv.file c.next_line.ensures.file
+    rw (p.1, p.2) (file_on _ _ _ _ c.loop-replay.cutter _ inv.name inv.whole open_ c.next_line.ensures.few inv.file c.next_line.ensures.file
     (λ bad. let two = sym is ∙ bad in cc) (λ bad. absurd (stops_no_read _ _ refl bad)))
 
 pub returns-in-Ok-None-clause-file : goal.returns-in-Ok-None-clause-file
 returns-in-Ok-None-clause-file g c =
-    let name = c.args.cutter.now.name in
     let inv = c.loop-replay.invariant in
     let open_ = sym c.has_ended.ensures ∙ c.if-has_ended.false in
     let is = c.in-Ok-None.is ∙ ap (λ o. Ok o) c.in-Ok-None.field-0-is in
-    file_on _ _ _ name c.loop-replay.cutter _ inv.name inv.whole open_ c.next_line.ensures.few inv.file c.next_line.ensures.file
+    file_on _ _ _ _ c.loop-replay.cutter _ inv.name inv.whole open_ c.next_line.ensures.few inv.file c.next_line.ensures.file
     (λ bad. let two = sym is ∙ bad in cc) (λ bad. absurd (c.replay_end-in-Ok-None.ensures.no_read_fault bad))
 
 pub returns-in-Err-TooLong-clause-file : goal.returns-in-Err-TooLong-clause-file
 returns-in-Err-TooLong-clause-file g c =
-    let name = c.args.cutter.now.name in
     let inv = c.loop-replay.invariant in
     let open_ = sym c.has_ended.ensures ∙ c.if-has_ended.false in
     let is = c.in-Err-TooLong.is ∙ ap (λ o. Err o) c.in-Err-TooLong.field-0-is in
-    file_on _ _ _ name c.loop-replay.cutter _ inv.name inv.whole open_ c.next_line.ensures.few inv.file c.next_line.ensures.file
+    file_on _ _ _ _ c.loop-replay.cutter _ inv.name inv.whole open_ c.next_line.ensures.few inv.file c.next_line.ensures.file
     (λ bad. let two = sym is ∙ bad in cc) (λ bad. absurd (c.replay_end-in-Err-TooLong.ensures.no_read_fault bad))
 
 pub returns-in-Err-TooMuch-clause-file : goal.returns-in-Err-TooMuch-clause-file
 returns-in-Err-TooMuch-clause-file g c =
-    let name = c.args.cutter.now.name in
     let inv = c.loop-replay.invariant in
     let open_ = sym c.has_ended.ensures ∙ c.if-has_ended.false in
     let is = c.in-Err-TooMuch.is ∙ ap (λ o. Err o) c.in-Err-TooMuch.field-0-is in
-    file_on _ _ _ name c.loop-replay.cutter _ inv.name inv.whole open_ c.next_line.ensures.few inv.file c.next_line.ensures.file
+    file_on _ _ _ _ c.loop-replay.cutter _ inv.name inv.whole open_ c.next_line.ensures.few inv.file c.next_line.ensures.file
     (λ bad. let two = sym is ∙ bad in cc) (λ bad. absurd (c.replay_end-in-Err-TooMuch.ensures.no_read_fault bad))
 
 pub returns-in-Err-Read-clause-file : goal.returns-in-Err-Read-clause-file
 returns-in-Err-Read-clause-file g c =
-    let name = c.args.cutter.now.name in
     let inv = c.loop-replay.invariant in
     let open_ = sym c.has_ended.ensures ∙ c.if-has_ended.false in
-    let is = c.in-Err-Read.is ∙ ap (λ o. Err o) c.in-Err-Read.field-0-is in
-    file_on _ _ _ name c.loop-replay.cutter _ inv.name inv.whole open_ c.next_line.ensures.few inv.file c.next_line.ensures.file
-    (λ _. refl) (λ _. is)
+    file_on _ _ _ _ c.loop-replay.cutter _ inv.name inv.whole open_ c.next_line.ensures.few inv.file c.next_line.ensures.file
+    (λ _. refl) (λ _. c.in-Err-Read.is ∙ ap (λ o. Err o) c.in-Err-Read.field-0-is)
 
 pub returns-in-Err-NoMemory-clause-file : goal.returns-in-Err-NoMemory-clause-file
 returns-in-Err-NoMemory-clause-file g c =
-    let name = c.args.cutter.now.name in
     let inv = c.loop-replay.invariant in
     let open_ = sym c.has_ended.ensures ∙ c.if-has_ended.false in
     let is = c.in-Err-NoMemory.is ∙ ap (λ o. Err o) c.in-Err-NoMemory.field-0-is in
-    file_on _ _ _ name c.loop-replay.cutter _ inv.name inv.whole open_ c.next_line.ensures.few inv.file c.next_line.ensures.file
+    file_on _ _ _ _ c.loop-replay.cutter _ inv.name inv.whole open_ c.next_line.ensures.few inv.file c.next_line.ensures.file
     (λ bad. let two = sym is ∙ bad in cc) (λ bad. absurd (cc))

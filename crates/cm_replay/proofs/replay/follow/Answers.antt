@@ -65,13 +65,12 @@ returns-in-Ends-clause-follows g c later =
 
 pub returns-in_err-take_and_send-clause-follows : goal.returns-in_err-take_and_send-clause-follows
 returns-in_err-take_and_send-clause-follows g c later =
-    let w = world_of c.args.w.now in
     let i = c.loop-event.event-index in
     let e = c.event-item.result in
     let told = c.args.told.now in
     let left_ = told_from told i e c.loop-event-test.true c.event-item.is in
     let p = err_from_is_err_and c.from_residual.result c.from_residual.ensures.1 in
-    rw p.1 (cut_then w c.args.replay.now c.loop-event.replay
+    rw p.1 (cut_then (world_of c.args.w.now) c.args.replay.now c.loop-event.replay
     (record { written = g.K.Sink.written c.args.out.now; waits = c.args.text.now.items })
     (record { written = g.K.Sink.written c.loop-event.out; waits = c.loop-event.text.items })
     (record { written = g.K.Sink.written c.take_and_send.new.out; waits = c.take_and_send.new.text.items })

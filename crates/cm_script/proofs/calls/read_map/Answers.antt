@@ -13,8 +13,7 @@ use Rattle.cm_script.proofs.calls.read_map.Goals as goal
 
 pub returns : goal.returns
 returns c =
-    let w = world_of c.args.w.now in
-    map_call w _ _ _ _ c.requires.shape c.requires.counted c.first.ensures.arguments _ _ _
+    map_call (world_of c.args.w.now) _ _ _ _ c.requires.shape c.requires.counted c.first.ensures.arguments _ _ _
     (sym c.space.ensures ∙ ap (option_map (λ (s : SpaceId). s.0)) c.in_ok-space.ensures.stands)
     (c.in_ok-read_extents.ensures ∙ ap Ok (sym c.from_vec-list.ensures)) c.with_map.ensures.kind c.with_map.ensures.arguments
 

@@ -9,8 +9,7 @@ returns-clause-same c =
     let old = c.args.bytes.now.items in
     let text = c.args.text.now in
     let n = c.next_of.result in
-    let rest = c.split_at.result.1.now in
-    ap (λ (bytes : List ℕ). option_map (after_bytes bytes) (unquoted Text rest))
+    ap (λ (bytes : List ℕ). option_map (after_bytes bytes) (unquoted Text c.split_at.result.1.now))
     (c.in_ok-put.ensures ∙ ap (λ (run : List ℕ). old ++ run) c.split_at.ensures.front)
     ∙ ap (λ (left : List ℕ). option_map (after_bytes (old ++ take n text)) (unquoted Text left)) c.split_at.ensures.back
     ∙ plain_run old text n c.next_of.ensures.within c.next_of.ensures.before
