@@ -11,8 +11,8 @@ use cm_state::{Cred, FourIds};
 use cm_tokens::{put, put_decimal, put_hex2, put_hex16};
 use std::alloc::Global;
 
-/// The credential line of a process of that pid in that user namespace, without LF: the namespace by its name in the world,
-/// where it has one. It tells nothing of the process's forebear. It fails only where memory runs out.
+/// The credential line of a process of that pid in that user namespace, without LF: the namespace by its name in the
+/// world, where it has one. It tells nothing of the process's forebear. It fails only where memory runs out.
 pub fn credentials(
     alloc: Global,
     cred: &Cred,

@@ -1,5 +1,5 @@
-// The last credential lines of some processes, and the number of the last line, kept as text: most of what comes next is
-// the same.
+// The last credential lines of some processes, and the number of the last line, kept as text: most of what comes next
+// is the same.
 ghost use Rattle.std.specs.Prelude.{◌≡◌, ◌++◌, ◌<◌, ◌≤◌, ◌∷◌, [], ℕ, List, None, codes, decimal, length};
 ghost use Rattle.cm_base.specs.Outcome.{OrNoMemory};
 ghost use Rattle.cm_credentials.specs.Kept.{Keeps, KeepsGroups, KeepsLine, KeepsNumber};
@@ -22,11 +22,11 @@ const LINES: u32 = 16;
 /// A line is kept where it has no more groups than these.
 const MOST_KEPT_GROUPS: usize = 40;
 
-/// The last credential lines of some processes, as text in parts, and the number of the last line of the report, each with
-/// the values that the text shows. A report has a credential line after each event, and most of it is the same as the
-/// last time: what is the same is copied, what differs is written anew. Each line is compared with all that it is to show,
-/// so that what is kept needs no tie to the state: whatever process a line was of, the next one is right. Memory is
-/// bounded: there are sixteen lines, by the pid's remainder, and a line of more than forty groups isn't kept.
+/// The last credential lines of some processes, as text in parts, and the number of the last line of the report, each
+/// with the values that the text shows. A report has a credential line after each event, and most of it is the same as
+/// the last time: what is the same is copied, what differs is written anew. Each line is compared with all that it is
+/// to show, so that what is kept needs no tie to the state: whatever process a line was of, the next one is right.
+/// Memory is bounded: there are sixteen lines, by the pid's remainder, and a line of more than forty groups isn't kept.
 #[derive(Debug, Drop)]
 pub struct KeptLines {
     lines: Vec<KeptLine>,
@@ -48,9 +48,9 @@ impl KeptLines {
         })
     }
 
-    /// The number of a line in decimal, a colon and a space, at the end of a text. Where it is one more than the last one
-    /// and doesn't end in 0, one digit of the last one's text is changed. It fails only where memory runs out; what the
-    /// text holds then, and what is kept, isn't said.
+    /// The number of a line in decimal, a colon and a space, at the end of a text. Where it is one more than the last
+    /// one and doesn't end in 0, one digit of the last one's text is changed. It fails only where memory runs out; what
+    /// the text holds then, and what is kept, isn't said.
     #[inline]
     pub fn put_number(&mut self, text: &mut Vec<u8>, number: u64) -> Result<(), NoMemory>
         requires number { KeepsNumber self.old.number }
@@ -68,8 +68,8 @@ impl KeptLines {
     }
 
     /// The credential line of a process of that pid in that user namespace, with its LF, at the end of a text: the
-    /// bytes that `put_credential_line` writes. It fails only where memory runs out; what the text holds then, and what is
-    /// kept, isn't said, so that nothing more can be put.
+    /// bytes that `put_credential_line` writes. It fails only where memory runs out; what the text holds then, and what
+    /// is kept, isn't said, so that nothing more can be put.
     #[inline]
     pub fn put(
         &mut self,

@@ -90,8 +90,8 @@ impl ShortText {
         Ok(())
     }
 
-    /// Makes the text of a number, with a colon and a space after it, that of the next number, which differs in its last
-    /// digit alone.
+    /// Makes the text of a number, with a colon and a space after it, that of the next number, which differs in its
+    /// last digit alone.
     #[inline]
     pub(crate) fn count(&mut self, number: u64)
         requires last { self.old ≡ decimal (number - 1) ++ codes ": " }

@@ -1,5 +1,6 @@
-// Parts of a credential line as they were shown: four ids after their label; and the end, which is the sets, the securebits,
-// no_new_privs and the LF. The text of the end has always the same length, so that it is copied without a call.
+// Parts of a credential line as they were shown: four ids after their label; and the end, which is the sets, the
+// securebits, no_new_privs and the LF. The text of the end has always the same length, so that it is copied without a
+// call.
 ghost use Rattle.std.specs.Prelude.{◌≡◌, ◌++◌, ◌+◌, ◌≤◌, ◌-◌, ◌∷◌, decimal, drop, length, true};
 ghost use Rattle.cm_base.specs.Outcome.{OrNoMemory};
 ghost use Rattle.cm_credentials.specs.Shown.{labelled_text, tail_of, tail_text, end_text};

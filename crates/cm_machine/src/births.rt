@@ -21,8 +21,8 @@ use cm_nscalls::created_by;
 use cm_state::{Call, Proc, Procs, Space, Spaces, State};
 use std::alloc::Global;
 
-/// The pid of the child that a process has of its own by the call, if it is a birth: the least one that isn't alive. None
-/// where all are, and for any other call, which looks at no pid.
+/// The pid of the child that a process has of its own by the call, if it is a birth: the least one that isn't alive.
+/// None where all are, and for any other call, which looks at no pid.
 pub(crate) fn own_pid(procs: &Procs, call: &Call) -> Option<Pid>
     requires { Ascends procs.now }
     ensures own { GivesOwn procs.now (call_of call.now) (pid_number result) }
@@ -53,8 +53,8 @@ pub(crate) fn told_pid(procs: &Procs, call: &Call, told: &Res) -> Option<Pid>
     }
 }
 
-/// What the rules answer a birth with that pid for the child: EAGAIN where there is none (fork(2), "ERRORS"). The child is
-/// still to be born.
+/// What the rules answer a birth with that pid for the child: EAGAIN where there is none (fork(2), "ERRORS"). The child
+/// is still to be born.
 #[inline]
 pub(crate) fn birth(child: Option<Pid>) -> Asked
     ensures res { (processes : List Process) (spaces : Spaces) (p : Process) →
@@ -73,8 +73,8 @@ pub(crate) fn birth(child: Option<Pid>) -> Asked
     }
 }
 
-/// The same for a birth into a new space, which may be made or is refused: that refusal comes first. Child and space are
-/// still to be made.
+/// The same for a birth into a new space, which may be made or is refused: that refusal comes first. Child and space
+/// are still to be made.
 pub(crate) fn inner_birth(may: Result<(), Errno>, child: Option<Pid>) -> Asked
     ensures res { (processes : List Process) (spaces after : Spaces) (p : Process) → result.res
         ≡ (birth_unless (res_of may) (state_of processes spaces) (clone_child spaces p (pid_number child)) after).res }

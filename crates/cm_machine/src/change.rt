@@ -1,7 +1,7 @@
 // What a call has changed of its caller, as it was before, and what is still to be made of it: where the told result is
-// the rules' own, the change is kept, and else it is undone. A birth, an exit and what a call does to the spaces are made
-// as they are kept, since their answers are known before: an exit can't be undone, as nothing shows which children had the
-// one that is gone, and what was never made needs no undoing.
+// the rules' own, the change is kept, and else it is undone. A birth, an exit and what a call does to the spaces are
+// made as they are kept, since their answers are known before: an exit can't be undone, as nothing shows which children
+// had the one that is gone, and what was never made needs no undoing.
 ghost use Rattle.std.specs.Prelude.{◌≡◌, ◌<◌, length, true, OnErr};
 ghost use Rattle.cm_base.specs.Outcome.{OrNoMemory, UnchangedOnErr};
 ghost use Rattle.cm_machine.specs.Asking.{CanKeep, OfCaller, kept, makes_new, undone, undone_cred};
@@ -43,8 +43,8 @@ pub(crate) enum Change {
     Exit,
 }
 
-/// Keeps what the process at this place has changed, and makes what is still to be made of it. Births and new spaces alone
-/// take memory; where it runs out nothing has changed.
+/// Keeps what the process at this place has changed, and makes what is still to be made of it. Births and new spaces
+/// alone take memory; where it runs out nothing has changed.
 #[inline]
 pub(crate) fn keep(
     alloc: Global,

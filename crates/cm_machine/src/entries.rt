@@ -1,5 +1,5 @@
-// A process comes into a space: one that stands (setns(2)), or one that it makes (unshare(2) with CLONE_NEWUSER). Whether it
-// may has been asked before.
+// A process comes into a space: one that stands (setns(2)), or one that it makes (unshare(2) with CLONE_NEWUSER).
+// Whether it may has been asked before.
 ghost use Rattle.std.specs.Prelude.{◌≡◌, ◌∷◌, ◌<◌, length};
 ghost use Rattle.cm_base.specs.Limits.{greatest_number};
 ghost use Rattle.cm_base.specs.Outcome.{OrNoMemory, UnchangedOnErr};

@@ -1,5 +1,5 @@
-//! The machine: a state, and its steps. An event is one completed call of one live process with the result that was told;
-//! the machine makes it where the rules give that result, and is unchanged where they don't.
+//! The machine: a state, and its steps. An event is one completed call of one live process with the result that was
+//! told; the machine makes it where the rules give that result, and is unchanged where they don't.
 #![tactic(auto)]
 
 mod births;

@@ -38,12 +38,13 @@ impl Machine {
     }
 
     /// Makes the step of an event: one completed call of one process, with the result that is told, by the rules of the
-    /// call's manual page (docs/RULES.md). The errors come in this order (choice): NoProcess exactly where no process of
-    /// the pid is alive; NoSpace exactly where the call names a user namespace that doesn't stand; PidInUse exactly where
-    /// the result is a child that is alive; Wrong exactly where the result is neither an error from outside that the call
-    /// may answer, which changes nothing (choice), nor what the rules give (with the process's own answer); NoMemory may
-    /// come with a call that carries a list or makes a process or a space, and with no other. The machine is as it was
-    /// after each, and after a step whose result is an error. Fewer than 4294967295 spaces stand before it.
+    /// call's manual page (docs/RULES.md). The errors come in this order (choice): NoProcess exactly where no process
+    /// of the pid is alive; NoSpace exactly where the call names a user namespace that doesn't stand; PidInUse exactly
+    /// where the result is a child that is alive; Wrong exactly where the result is neither an error from outside that
+    /// the call may answer, which changes nothing (choice), nor what the rules give (with the process's own answer);
+    /// NoMemory may come with a call that carries a list or makes a process or a space, and with no other. The machine
+    /// is as it was after each, and after a step whose result is an error. Fewer than 4294967295 spaces stand before
+    /// it.
     pub fn step(&mut self, alloc: Global, w: &World, e: &Event) -> Result<(), StepError>
         requires room { length self.old.state.spaces < greatest_number }
         ensures goes { IfOk result (λ _. outcome (world_of w.now) self.old.state e.now ≡ outcome.Goes self.new.state) }
@@ -67,12 +68,12 @@ impl Machine {
         }
     }
 
-    /// Makes the call of the process as the rules give it, and says what it answers, an error of the rules too. The child
-    /// of fork has the least pid that isn't alive, or the answer is EAGAIN where all are (choice). The errors are NoProcess
-    /// exactly where no process of the pid is alive, NoSpace exactly where the call names a user namespace that doesn't
-    /// stand, and NoMemory, which may come with a call that carries a list or makes a process or a space, and with no
-    /// other. The machine is as it was after each, and after an error that the rules answer. Fewer than 4294967295 spaces
-    /// stand before it.
+    /// Makes the call of the process as the rules give it, and says what it answers, an error of the rules too. The
+    /// child of fork has the least pid that isn't alive, or the answer is EAGAIN where all are (choice). The errors are
+    /// NoProcess exactly where no process of the pid is alive, NoSpace exactly where the call names a user namespace
+    /// that doesn't stand, and NoMemory, which may come with a call that carries a list or makes a process or a space,
+    /// and with no other. The machine is as it was after each, and after an error that the rules answer. Fewer than
+    /// 4294967295 spaces stand before it.
     pub fn answer(
         &mut self,
         alloc: Global,

@@ -1,6 +1,6 @@
 // The rules are asked here, and here alone: what they answer a call of a process, and what the call changes. `ask` is
-// `ruling` of the definitions, but that a birth, an exit and what a call does to the spaces are still to be made, and any
-// change can be undone.
+// `ruling` of the definitions, but that a birth, an exit and what a call does to the spaces are still to be made, and
+// any change can be undone.
 ghost use Rattle.std.specs.Prelude.{◌≡◌, ◌<◌, ℕ, length, List, true, false, IfSome, OnErr};
 ghost use Rattle.cm_base.specs.Limits.{greatest_number};
 ghost use Rattle.cm_base.specs.Outcome.{OrNoMemory, UnchangedOnErr};
@@ -44,10 +44,10 @@ pub(crate) struct Asked {
     pub change: Change,
 }
 
-/// Asks the rules for the call of the process at this place, a birth with that pid for its child. What the call changes is
-/// written to the place that is given for it, which says before that no more than fields may change: where that is so, as
-/// for most calls, nothing is written there. It fails only where memory runs out, of a call that can take memory, and then
-/// the state is unchanged.
+/// Asks the rules for the call of the process at this place, a birth with that pid for its child. What the call changes
+/// is written to the place that is given for it, which says before that no more than fields may change: where that is
+/// so, as for most calls, nothing is written there. It fails only where memory runs out, of a call that can take
+/// memory, and then the state is unchanged.
 #[inline]
 pub(crate) fn ask(
     alloc: Global,

@@ -1,6 +1,6 @@
-// The step of a process: its call, with the result that is told. Some errors a call answers for causes outside the machine,
-// as memory that runs out, or a signal: nothing changes then (choice; the calls' manual pages, "ERRORS"). Any other result
-// is held against what the rules give.
+// The step of a process: its call, with the result that is told. Some errors a call answers for causes outside the
+// machine, as memory that runs out, or a signal: nothing changes then (choice; the calls' manual pages, "ERRORS"). Any
+// other result is held against what the rules give.
 ghost use Rattle.std.specs.Prelude.{◌≡◌, ◌<◌, length, true, false};
 ghost use Rattle.cm_base.specs.Limits.{greatest_number};
 ghost use Rattle.cm_base.specs.Outcome.{UnchangedOnErr};

@@ -105,8 +105,8 @@ fn ends_here(end: End, depth: usize, byte: u8) -> bool
     }
 }
 
-// How deep the reader is after a byte that ends nothing, and where it goes on: a quoted text is passed over whole, and a
-// bracket that closes none leaves it outside of all.
+// How deep the reader is after a byte that ends nothing, and where it goes on: a quoted text is passed over whole, and
+// a bracket that closes none leaves it outside of all.
 #[inline]
 fn after_stop(depth: usize, text: &[u8], at: usize) -> (usize, usize)
     requires few { depth < 2 ^ 63 }

@@ -1,5 +1,5 @@
-// A line of a log of strace -f, a pid, blanks, and a body; and what a body is: the end of a process, a call, or a part of one
-// (strace(1), "-f").
+// A line of a log of strace -f, a pid, blanks, and a body; and what a body is: the end of a process, a call, or a part
+// of one (strace(1), "-f").
 ghost use Rattle.std.specs.Prelude.{◌≡◌, ◌∷◌, [], IfSome, Some, codes, is_some, option_map, option_and_then};
 ghost use Rattle.cm_base.specs.Number.{is_number};
 ghost use Rattle.cm_strace_text.specs.Lines.{body_is, row_is};
@@ -58,7 +58,8 @@ pub fn read_row(line: &[u8]) -> PidLine<'_>
     }
 }
 
-// The pid that is the first word, read digit by digit, and what follows the blanks after it. None says nothing of the text.
+// The pid that is the first word, read digit by digit, and what follows the blanks after it. None says nothing of the
+// text.
 fn cut_pid(text: &[u8]) -> Option<(Pid, &[u8])>
     ensures pid { IfSome result (λ cut. pid_token (first_word text.now) ≡ Some cut.0) }
     ensures rest { IfSome result (λ cut. after_first_word text.now ≡ cut.1.now) }
@@ -93,8 +94,8 @@ fn worded_row(text: &[u8]) -> PidLine<'_>
     }
 }
 
-/// What a body is: one that begins with `---` tells of a signal, one between two marks `+++` of an end. The bytes at its
-/// ends tell most bodies to be calls: no mark begins or ends with them.
+/// What a body is: one that begins with `---` tells of a signal, one between two marks `+++` of an end. The bytes at
+/// its ends tell most bodies to be calls: no mark begins or ends with them.
 #[inline]
 #[tactic(auto, using(crate::proofs::Unmarked::unmarked))]
 pub fn read_body(text: &[u8]) -> Body<'_>

@@ -23,8 +23,8 @@ pub enum Quote {
     NoText,
 }
 
-// Where a reader of a quoted text is: after a whole byte; after a backslash; after octal digits of that value, of which so
-// many more may follow.
+// Where a reader of a quoted text is: after a whole byte; after a backslash; after octal digits of that value, of which
+// so many more may follow.
 #[derive(Clone, Copy)]
 enum Reach {
     Text,

@@ -65,8 +65,9 @@ fn last_sign(text: &[u8]) -> Option<(usize, usize)>
     }
 }
 
-// The places of a closing parenthesis and of the equals sign after it, where the first stands at that place and blanks alone
-// between them, and where the reader goes on: after the quoted text that begins there, or after the parenthesis and blanks.
+// The places of a closing parenthesis and of the equals sign after it, where the first stands at that place and blanks
+// alone between them, and where the reader goes on: after the quoted text that begins there, or after the parenthesis
+// and blanks.
 #[inline]
 #[tactic(auto, using(crate::proofs::SignSteps::sign_steps))]
 fn sign_at(text: &[u8], at: usize) -> (Option<(usize, usize)>, usize)
