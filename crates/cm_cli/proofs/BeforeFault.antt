@@ -25,7 +25,7 @@ use Rattle.cm_replay.proofs.Held.{always, if_both}
 use Rattle.cm_replay.specs.Shown.{start_shown}
 use Rattle.cm_replay.specs.Told.{TellsTaken, lines_report}
 use Rattle.model_cred.specs.World.{World}
-use Rattle.model_report.specs.Command.{Command, task_of}
+use Rattle.model_report.specs.Command.{Command, files_of, task_of}
 use Rattle.model_report.specs.Replay.{text_of}
 use Rattle.model_report.specs.Report.{shows, start_lines}
 use Rattle.model_text.specs.WorldText.{Reads, WorldText}
@@ -56,19 +56,23 @@ second_name : List (List ℕ × Limited) → List ℕ
 second_name [] = []
 second_name (file ∷ files) = first_name files
 
-module _ (held : Option Files) (counted : List ℕ → Bool) (t : Task) (world log : List ℕ) (answer : Status)
-    (before now : List ℕ → ℕ) (w w' : Option (List ℕ)) where
-  -- told of the names that it has
-  pub before_asked : (answer ≡ answers.ReadFault → WritesBefore held counted (shows_of t) world log before now w w')
-      → WritesBeforeFault held counted (asking t world log) answer before now w w'
-  unfolding first_name second_name
-  before_asked writes is world' log' more names =
-      let same = sym (asking_names t world log) ∙ names in
-      let here = subst (λ (n : List ℕ). WritesBefore held counted (shows_of t) n log before now w w')
-      (ap first_name same) (writes is) in
-      let there = subst (λ (n : List ℕ). WritesBefore held counted (shows_of t) world' n before now w w')
-      (ap second_name same) here in
-      subst (λ (b : Bool). WritesBefore held counted b world' log' before now w w') (sym (asking_shows t world log)) there
+-- what holds of its names holds of those that the command has
+names_asked : (t : Task) (world log world' log' : List ℕ) (more : List (List ℕ × Limited)) (Holds : Bool → List ℕ → List ℕ → Type 0)
+    → files_of (asking t world log) ≡ (world', limit.World) ∷ (log', limit.Log) ∷ more → Holds (shows_of t) world log
+    → Holds (shows (task_of (asking t world log) (λ name. []))) world' log'
+unfolding first_name second_name
+names_asked t world log world' log' more Holds names here =
+    let same = sym (asking_names t world log) ∙ names in
+    subst (λ (b : Bool). Holds b world' log') (sym (asking_shows t world log))
+    (subst (λ (n : List ℕ). Holds (shows_of t) world' n) (ap second_name same)
+    (subst (λ (n : List ℕ). Holds (shows_of t) n log) (ap first_name same) here))
+
+pub before_asked : (held : Option Files) (counted : List ℕ → Bool) (t : Task) (world log : List ℕ) (answer : Status)
+    (before now : List ℕ → ℕ) (w w' : Option (List ℕ))
+    → (answer ≡ answers.ReadFault → WritesBefore held counted (shows_of t) world log before now w w')
+    → WritesBeforeFault held counted (asking t world log) answer before now w w'
+before_asked held counted t world log answer before now w w' writes is world' log' more names =
+    names_asked t world log world' log' more (λ b x y. WritesBefore held counted b x y before now w w') names (writes is)
 
 -- ---- the world couldn't be read
 pub world_before : (held : Option Files) (counted : List ℕ → Bool) (b : Bool) (world log : List ℕ)
@@ -149,14 +153,8 @@ pub lines_asked : (held : Option Files) (counted : List ℕ → Bool) (t : Task)
     (before now taken taken' : List ℕ → ℕ) (w w' : Option (List ℕ))
     → (answer ≡ answers.ReadFault → LinesAsked held counted (shows_of t) world log before now taken taken' w w')
     → WritesLines held counted (asking t world log) answer before now taken taken' w w'
-unfolding first_name second_name
 lines_asked held counted t world log answer before now taken taken' w w' writes is world' log' more names =
-    let same = sym (asking_names t world log) ∙ names in
-    let here = subst (λ (n : List ℕ). LinesAsked held counted (shows_of t) n log before now taken taken' w w')
-    (ap first_name same) (writes is) in
-    let there = subst (λ (n : List ℕ). LinesAsked held counted (shows_of t) world' n before now taken taken' w w')
-    (ap second_name same) here in
-    subst (λ (b : Bool). LinesAsked held counted b world' log' before now taken taken' w w') (sym (asking_shows t world log)) there
+    names_asked t world log world' log' more (λ b x y. LinesAsked held counted b x y before now taken taken' w w') names (writes is)
 
 -- where the world couldn't be read, no count of the log's rose
 pub world_lines : (held : Option Files) (counted : List ℕ → Bool) (b : Bool) (world log : List ℕ)

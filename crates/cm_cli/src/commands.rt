@@ -8,7 +8,7 @@ ghost use Rattle.cm_cli.specs.Headline.{Headline, SaysYes, SaysNo, SaysUndecided
 ghost use Rattle.cm_cli.specs.Reading.{TakesFor, ReadsFor, ReadsInOrder};
 ghost use Rattle.cm_io.specs.Account.{account};
 ghost use Rattle.cm_io.specs.Shelf.{bytes_at, AsksForPieces};
-ghost use Rattle.cm_cli.specs.Words.{asking, bytes_of, command_in};
+ghost use Rattle.cm_cli.specs.Words.{asking, bytes_of, command_in, command_view};
 ghost use Rattle.cm_report.specs.Telling.{IsOfReport, CountsWrites};
 ghost use Rattle.model_report.specs.Command.{files_of};
 
@@ -105,11 +105,7 @@ pub fn run<H: Shelf, K: Sink>(
         (K.faults out.old) (K.faults out.new) →
         AsksOfSettled (bytes_of words.now.items) files → IsDecided result) }
 {
-    match read_words(words) {
-        Command::NoForm => tell_short(alloc, Short::Usage, out),
-        Command::Drill(n) => tell_drill(alloc, n, out),
-        Command::Log { world, log, task } => run_log(alloc, world, log, task, shelf, out),
-    }
+    carry_out(alloc, read_words(words), shelf, out)
 }
 
 /// `run` over a shelf and a sink that never fail: no fault is answered. Where nothing in the input is refused, a replay
@@ -157,6 +153,24 @@ pub fn run_surely(
         (⟦<SureSink as Sink>⟧.faults out.old) (⟦<SureSink as Sink>⟧.faults out.new) }
 {
     run(alloc, words, shelf, out)
+}
+
+// What carrying out a command comes to.
+fn carry_out<H: Shelf, K: Sink>(
+    alloc: Global,
+    command: Command<'_>,
+    shelf: &mut H,
+    out: &mut K,
+) -> Status
+    ensures { CarriesOut (command_view command.entry) result
+        (account H.Shelf shelf.old) (account H.Shelf shelf.new)
+        (K.written out.old) (K.written out.new) (K.faults out.old) (K.faults out.new) }
+{
+    match command {
+        Command::NoForm => tell_short(alloc, Short::Usage, out),
+        Command::Drill(n) => tell_drill(alloc, n, out),
+        Command::Log { world, log, task } => run_log(alloc, world, log, task, shelf, out),
+    }
 }
 
 // The replay of a log in a world, and the answer to what is asked after it.

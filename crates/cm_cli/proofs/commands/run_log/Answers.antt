@@ -3,9 +3,9 @@ use Rattle.std.proofs.lemmas.Option.{IfSome_then}
 use Rattle.cm_base.specs.declared.limited.Limited.TheVariants as limit
 use Rattle.cm_cli.proofs.Apart.{apart_as}
 use Rattle.cm_cli.proofs.BeforeFault.{before_asked, lines_asked, log_before, log_lines, no_fault, no_lines, world_before, world_lines}
+use Rattle.cm_cli.proofs.Carried.{world_carried}
 use Rattle.cm_cli.proofs.FileReads.{reads_one, takes_one}
-use Rattle.cm_cli.proofs.InOrder.{all_reads, all_taken, no_read_fault, told_faults, told_waits, world_fault, world_reads}
-use Rattle.cm_cli.proofs.InOrder.{world_taken, world_waits}
+use Rattle.cm_cli.proofs.InOrder.{all_reads, all_taken, no_read_fault, told_faults, told_waits, world_fault}
 use Rattle.cm_cli.proofs.Ready.{world_gives, world_refused, world_report}
 use Rattle.cm_cli.proofs.Replaying.{TellsFiles, as_told, log_answers, short_not_usage, tells_as}
 use Rattle.cm_cli.proofs.Replaying.{told_not_usage, unread_answers}
@@ -70,27 +70,17 @@ returns-in-Err-Refused g c =
     let log = c.args.log.now in
     let first = rw c.in-Err-Refused.field-0-is at c.in-Err-Refused.ensures in
     let told = c.tell_short.ensures in
-    let reads = reads_one _ _ _ _ world limit.World _ first.file.reads first.file.takes in
-    record {
-      report = log_answers held t world log c.tell_short.result _ _
-          (IfSome_then held first.read (λ files read j gives.
-          tells_as _ _ _ _ _
-          (world_refused (task_view t (bytes_at files)) j (bytes_at files world) (bytes_at files log)
-          c.in-Err-Refused.short read) (as_told _ _ _ _ _ _ told)))
-          (told_not_usage _ _ _ _ _ _ told
-          (short_not_usage c.in-Err-Refused.short (λ is. first.not_usage (ap (λ s. Err (unready.Refused s)) is))));
-      read_faults = no_read_fault held t world log c.tell_short.result _ _ told.never_read_fault
-          (first.file.faults.others (λ is. cc));
-      write_faults = told.counts;
-      before_fault = no_fault held _ (asking t world log) c.tell_short.result _ _ _ _ told.never_read_fault;
-      lines_told = no_lines held _ (asking t world log) c.tell_short.result _ _ _ _ _ _ told.never_read_fault;
-      pieces = first.file.pieces;
-      takes = world_taken t world log (g.H.Shelf.taken c.args.shelf.now) (g.H.Shelf.taken c.read_world_file.new.shelf)
-          (takes_one _ _ world limit.World first.file.takes);
-      reads = world_reads t world log _ _ _ _ reads;
-      waits = world_waits held _ world log _ _ _ _ _ _ reads t;
-      held = first.file.held;
-    }
+    world_carried t world log first.file
+    (log_answers held t world log c.tell_short.result _ _
+    (IfSome_then held first.read (λ files read j gives.
+    tells_as _ _ _ _ _
+    (world_refused (task_view t (bytes_at files)) j (bytes_at files world) (bytes_at files log) c.in-Err-Refused.short read)
+    (as_told _ _ _ _ _ _ told)))
+    (told_not_usage _ _ _ _ _ _ told
+    (short_not_usage c.in-Err-Refused.short (λ is. first.not_usage (ap (λ s. Err (unready.Refused s)) is)))))
+    (no_read_fault held t world log c.tell_short.result _ _ told.never_read_fault (first.file.faults.others (λ is. cc))) told.counts
+    (no_fault held _ (asking t world log) c.tell_short.result _ _ _ _ told.never_read_fault)
+    (no_lines held _ (asking t world log) c.tell_short.result _ _ _ _ _ _ told.never_read_fault)
 
 pub returns-in-Err-ReadFault : goal.returns-in-Err-ReadFault
 returns-in-Err-ReadFault g c =
@@ -99,25 +89,15 @@ returns-in-Err-ReadFault g c =
     let world = c.args.world.now in
     let log = c.args.log.now in
     let first = rw c.in-Err-ReadFault.field-0-is at c.in-Err-ReadFault.ensures in
-    let reads = reads_one _ _ _ _ world limit.World _ first.file.reads first.file.takes in
-    record {
-      report = unread_answers held t world log _ _ (λ is. is.not_read_fault refl) (λ is. cc);
-      read_faults = world_fault held t world log _ _ (first.file.faults.fault refl) first.file.faults.later;
-      write_faults = wrote_none _ _ (λ is. cc);
-      before_fault = before_asked held _ t world log _ _ _ _ _
-          (λ _. world_before held (g.H.Shelf.counted c.args.shelf.now) (shows_of t) world log _ _ _ _ _ first.file.apart);
-      lines_told = lines_asked held _ t world log _ _ _ _ _ _ _
-          (λ _. world_lines held (g.H.Shelf.counted c.args.shelf.now) (shows_of t) world log
-          (g.H.Shelf.faults c.args.shelf.now) (g.H.Shelf.faults c.read_world_file.new.shelf) _ _
-          (g.H.Shelf.taken c.args.shelf.now) (g.H.Shelf.taken c.read_world_file.new.shelf)
-          (g.K.Sink.written c.args.out.now) (g.K.Sink.written c.args.out.now) first.file.apart);
-      pieces = first.file.pieces;
-      takes = world_taken t world log (g.H.Shelf.taken c.args.shelf.now) (g.H.Shelf.taken c.read_world_file.new.shelf)
-          (takes_one _ _ world limit.World first.file.takes);
-      reads = world_reads t world log _ _ _ _ reads;
-      waits = world_waits held _ world log _ _ _ _ _ _ reads t;
-      held = first.file.held;
-    }
+    world_carried t world log first.file (unread_answers held t world log _ _ (λ is. is.not_read_fault refl) (λ is. cc))
+    (world_fault held t world log _ _ (first.file.faults.fault refl) first.file.faults.later) (wrote_none _ _ (λ is. cc))
+    (before_asked held _ t world log _ _ _ _ _
+    (λ _. world_before held (g.H.Shelf.counted c.args.shelf.now) (shows_of t) world log _ _ _ _ _ first.file.apart))
+    (lines_asked held _ t world log _ _ _ _ _ _ _
+    (λ _. world_lines held (g.H.Shelf.counted c.args.shelf.now) (shows_of t) world log
+    (g.H.Shelf.faults c.args.shelf.now) (g.H.Shelf.faults c.read_world_file.new.shelf) _ _
+    (g.H.Shelf.taken c.args.shelf.now) (g.H.Shelf.taken c.read_world_file.new.shelf)
+    (g.K.Sink.written c.args.out.now) (g.K.Sink.written c.args.out.now) first.file.apart))
 
 pub returns-in-Err-NoMemory : goal.returns-in-Err-NoMemory
 returns-in-Err-NoMemory g c =
@@ -126,17 +106,6 @@ returns-in-Err-NoMemory g c =
     let world = c.args.world.now in
     let log = c.args.log.now in
     let first = rw c.in-Err-NoMemory.field-0-is at c.in-Err-NoMemory.ensures in
-    let reads = reads_one _ _ _ _ world limit.World _ first.file.reads first.file.takes in
-    record {
-      report = unread_answers held t world log _ _ (λ is. is.not_memory refl) (λ is. cc);
-      read_faults = no_read_fault held t world log _ _ _ (λ is. cc) (first.file.faults.others (λ is. cc));
-      write_faults = wrote_none _ _ (λ is. cc);
-      before_fault = no_fault held _ (asking t world log) _ _ _ _ _ (λ is. cc);
-      lines_told = no_lines held _ (asking t world log) _ _ _ _ _ _ _ (λ is. cc);
-      pieces = first.file.pieces;
-      takes = world_taken t world log (g.H.Shelf.taken c.args.shelf.now) (g.H.Shelf.taken c.read_world_file.new.shelf)
-          (takes_one _ _ world limit.World first.file.takes);
-      reads = world_reads t world log _ _ _ _ reads;
-      waits = world_waits held _ world log _ _ _ _ _ _ reads t;
-      held = first.file.held;
-    }
+    world_carried t world log first.file (unread_answers held t world log _ _ (λ is. is.not_memory refl) (λ is. cc))
+    (no_read_fault held t world log _ _ _ (λ is. cc) (first.file.faults.others (λ is. cc))) (wrote_none _ _ (λ is. cc))
+    (no_fault held _ (asking t world log) _ _ _ _ _ (λ is. cc)) (no_lines held _ (asking t world log) _ _ _ _ _ _ _ (λ is. cc))
