@@ -54,6 +54,37 @@ pub(crate) fn answer(
     Ok((status, out.bytes().to_vec(alloc)?))
 }
 
+/// A line so many times.
+pub(crate) fn repeated(alloc: Global, line: &[u8], count: u32) -> Result<Vec<u8>, AllocError> {
+    let mut text = Vec::new(alloc);
+    for _ in 0..count {
+        text.extend_from_slice(line)?;
+    }
+    Ok(text)
+}
+
+/// A comment of so many bytes, and its LF.
+pub(crate) fn comment(alloc: Global, length: usize) -> Result<Vec<u8>, AllocError> {
+    let mut line = vec![in alloc; b';'; length]?;
+    line.push(b'\n')?;
+    Ok(line)
+}
+
+/// What the words answer and write over a world and a log, where no read and no write fails.
+pub(crate) fn outcome(
+    rt: &impl Abort,
+    alloc: Global,
+    words: &[&str],
+    (world, log): (&[u8], &[u8]),
+) -> Result<(Status, Vec<u8>), Fail> {
+    let words = strings(alloc, words)?;
+    let mut shelf = shelf(rt, alloc, world, log, &[])?;
+    answer(alloc, &words, &mut shelf, &[])
+}
+
+/// The words of the replay of the log in the world.
+pub(crate) const REPLAY: [&str; 3] = ["replay", "world", "log"];
+
 /// The replay of a log in a world comes out so.
 pub(crate) fn check(
     rt: &impl Abort,
@@ -63,9 +94,7 @@ pub(crate) fn check(
     status: Status,
     report: &[u8],
 ) -> Result<(), Fail> {
-    let words = strings(alloc, &["replay", "world", "log"])?;
-    let mut shelf = shelf(rt, alloc, world, log, &[])?;
-    let (got, text) = answer(alloc, &words, &mut shelf, &[])?;
+    let (got, text) = outcome(rt, alloc, &REPLAY, (world, log))?;
     assert_eq!(rt; got, status);
     assert!(rt; text.as_slice() == report);
     Ok(())

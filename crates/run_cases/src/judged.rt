@@ -1,6 +1,6 @@
 // Certificates and runs that no text of cases can hold: bytes that don't show, sizes at the limits, and reads that fail.
 // The answers are written by hand from docs/CERTIFICATE.md and docs/FORMATS.md.
-use crate::case::{answer, shelf_of, strings};
+use crate::case::{answer, comment, repeated, shelf_of, strings};
 use cm_cli::Status;
 use std::alloc::{AllocError, Global};
 use std::process::Abort;
@@ -195,37 +195,32 @@ fn certificates_have_a_limit(rt: HostRuntime) -> Result<(), Fail> {
     check_answer(&rt, alloc, asked, WORLD, &text, told)
 }
 
+// The run is confirmed, and with this byte after it past that limit.
+fn check_limit(
+    rt: &impl Abort,
+    alloc: Global,
+    run: Vec<u8>,
+    (byte, limit): (u8, &str),
+) -> Result<(), Fail> {
+    let told = (Status::Accepted, "confirmed 100\n");
+    check_run(rt, alloc, WORLD, &run, told)?;
+    let past = joined(alloc, &[&run, &[byte]])?;
+    check_run(rt, alloc, WORLD, &past, (Status::Limit, limit))
+}
+
 #[test]
 fn runs_have_a_limit(rt: HostRuntime) -> Result<(), Fail> {
     let alloc = rt.alloc();
     // Comments fill the run, each with its LF as long as a line may be.
-    let mut line = vec![in alloc; b';'; 1_048_575]?;
-    line.push(b'\n')?;
-    let mut run = Vec::new(alloc);
-    for _ in 0..64 {
-        run.extend_from_slice(&line)?;
-    }
-    let told = (Status::Accepted, "confirmed 100\n");
-    check_run(&rt, alloc, WORLD, &run, told)?;
-    run.push(b'\n')?;
-    let told = (Status::Limit, "limit run 67108864\n");
-    check_run(&rt, alloc, WORLD, &run, told)
+    let run = repeated(alloc, &comment(alloc, 1_048_575)?, 64)?;
+    check_limit(&rt, alloc, run, (b'\n', "limit run 67108864\n"))
 }
 
 #[test]
 fn lines_of_runs_have_a_limit(rt: HostRuntime) -> Result<(), Fail> {
     let alloc = rt.alloc();
-    let mut run = vec![in alloc; b';'; 1_048_576]?;
-    check_run(
-        &rt,
-        alloc,
-        WORLD,
-        &run,
-        (Status::Accepted, "confirmed 100\n"),
-    )?;
-    run.push(b';')?;
-    let told = (Status::Limit, "limit line 1048576\n");
-    check_run(&rt, alloc, WORLD, &run, told)
+    let run = vec![in alloc; b';'; 1_048_576]?;
+    check_limit(&rt, alloc, run, (b';', "limit line 1048576\n"))
 }
 
 #[test]

@@ -1,6 +1,6 @@
 // The limits: each is hit one past its number, and not at its number. The texts are made here, and their numbers are those of
 // docs/FORMATS.md.
-use crate::case::{answer, check, shelf, strings};
+use crate::case::{REPLAY, check, comment, outcome, repeated};
 use cm_cli::Status;
 use std::alloc::{AllocError, Global};
 use std::process::Abort;
@@ -113,12 +113,7 @@ fn worlds_have_a_limit_of_bytes(rt: HostRuntime) -> Result<(), Fail> {
 #[test]
 fn a_log_of_64_mib_and_a_byte_is_accepted(rt: HostRuntime) -> Result<(), Fail> {
     let alloc = rt.alloc();
-    let mut line = vec![in alloc; b';'; 1_048_575]?;
-    line.push(b'\n')?;
-    let mut log = Vec::new(alloc);
-    for _ in 0..64 {
-        log.extend_from_slice(&line)?;
-    }
+    let mut log = repeated(alloc, &comment(alloc, 1_048_575)?, 64)?;
     log.push(b'\n')?;
     assert_eq!(rt; log.len(), 67_108_865);
     let end = b"end 0\n";
@@ -129,8 +124,7 @@ fn a_log_of_64_mib_and_a_byte_is_accepted(rt: HostRuntime) -> Result<(), Fail> {
 fn lines_have_a_limit(rt: HostRuntime) -> Result<(), Fail> {
     let alloc = rt.alloc();
     // A comment fills the line, and counts as any other one past the limit.
-    let mut log = vec![in alloc; b';'; 1_048_576]?;
-    log.push(b'\n')?;
+    let log = comment(alloc, 1_048_576)?;
     check(
         &rt,
         alloc,
@@ -144,18 +138,15 @@ fn lines_have_a_limit(rt: HostRuntime) -> Result<(), Fail> {
     check(&rt, alloc, SCRIPT.as_bytes(), &log, Status::Limit, report)
 }
 
-// The replay of a log in a world has this status, and its report ends so.
+// The words over a world and a log have this status, and the report ends so.
 fn check_end(
     rt: &impl Abort,
     alloc: Global,
-    world: &[u8],
-    log: &[u8],
-    status: Status,
-    end: &[u8],
+    words: &[&str],
+    files: (&[u8], &[u8]),
+    (status, end): (Status, &[u8]),
 ) -> Result<(), Fail> {
-    let words = strings(alloc, &["replay", "world", "log"])?;
-    let mut shelf = shelf(rt, alloc, world, log, &[])?;
-    let (got, text) = answer(alloc, &words, &mut shelf, &[])?;
+    let (got, text) = outcome(rt, alloc, words, files)?;
     assert_eq!(rt; got, status);
     assert!(rt; text.ends_with(end));
     Ok(())
@@ -165,26 +156,34 @@ fn check_end(
 fn living_processes_have_a_limit(rt: HostRuntime) -> Result<(), Fail> {
     let alloc = rt.alloc();
     let world = with_rows(alloc, SCRIPT, 4096, "[[process]]\npid = ", "")?;
-    let end = b"\nlimit processes 4096\n";
-    check_end(&rt, alloc, &world, b"1 fork = 5000\n", Status::Limit, end)?;
-    check_end(
-        &rt,
-        alloc,
-        &world,
-        b"1 clone_user = 5000\n",
-        Status::Limit,
-        end,
-    )?;
     // An event that is no step isn't past a limit.
-    let end = b"\nimpossible line 1: the rules give 4097\n";
-    check_end(
-        &rt,
-        alloc,
-        &world,
-        b"1 fork = EPERM\n",
-        Status::Impossible,
-        end,
-    )
+    let told: [(&[u8], Status, &[u8]); 3] = [
+        (
+            b"1 fork = 5000\n",
+            Status::Limit,
+            b"\nlimit processes 4096\n",
+        ),
+        (
+            b"1 clone_user = 5000\n",
+            Status::Limit,
+            b"\nlimit processes 4096\n",
+        ),
+        (
+            b"1 fork = EPERM\n",
+            Status::Impossible,
+            b"\nimpossible line 1: the rules give 4097\n",
+        ),
+    ];
+    for (log, status, end) in &told {
+        check_end(
+            &rt,
+            alloc,
+            &REPLAY,
+            (world.as_slice(), *log),
+            (*status, *end),
+        )?;
+    }
+    Ok(())
 }
 
 #[test]
@@ -193,43 +192,40 @@ fn standing_spaces_have_a_limit(rt: HostRuntime) -> Result<(), Fail> {
     let row = "\"\nparent = \"init\"\nowner = 0";
     let mut world = with_rows(alloc, SCRIPT, 254, "[[space]]\nname = \"s", row)?;
     world.extend_from_slice(b"[[process]]\npid = 1\n[[process]]\npid = 2\n")?;
-    let log = b"1 unshare = 0\n2 unshare = 0\n";
+    let log: &[u8] = b"1 unshare = 0\n2 unshare = 0\n";
+    let end: &[u8] = b"\nlimit spaces 256\n";
     check_end(
         &rt,
         alloc,
-        &world,
-        log,
-        Status::Limit,
-        b"\nlimit spaces 256\n",
+        &REPLAY,
+        (world.as_slice(), log),
+        (Status::Limit, end),
     )
 }
 
 #[test]
 fn groups_of_a_line_have_a_limit(rt: HostRuntime) -> Result<(), Fail> {
     let alloc = rt.alloc();
-    let world = b"log = \"script\"\n[[process]]\npid = 1\n";
-    let mut log = b"1 setgroups".to_vec(alloc)?;
-    for _ in 0..1024 {
-        log.extend_from_slice(b" 7")?;
-    }
-    let mut within = log.to_vec(alloc)?;
-    within.extend_from_slice(b" = 0\n")?;
-    check_end(&rt, alloc, world, &within, Status::Accepted, b"\nend 1\n")?;
-    log.extend_from_slice(b" 7 = ")?;
-    let mut past = log.to_vec(alloc)?;
-    past.extend_from_slice(b"0\n")?;
-    check_end(
-        &rt,
-        alloc,
-        world,
-        &past,
-        Status::Limit,
-        b"\nlimit groups 1024\n",
-    )?;
+    let world: &[u8] = b"log = \"script\"\n[[process]]\npid = 1\n";
     // The faults of the line come before.
-    log.extend_from_slice(b"00\n")?;
-    let end = b"\nbad log line 1: result\n";
-    check_end(&rt, alloc, world, &log, Status::BadLog, end)
+    let told: [(&[u8], Status, &[u8]); 3] = [
+        (b" = 0\n", Status::Accepted, b"\nend 1\n"),
+        (b" 7 = 0\n", Status::Limit, b"\nlimit groups 1024\n"),
+        (b" 7 = 00\n", Status::BadLog, b"\nbad log line 1: result\n"),
+    ];
+    for (rest, status, end) in &told {
+        let mut log = b"1 setgroups".to_vec(alloc)?;
+        log.extend_from_slice(&repeated(alloc, b" 7", 1024)?)?;
+        log.extend_from_slice(*rest)?;
+        check_end(
+            &rt,
+            alloc,
+            &REPLAY,
+            (world, log.as_slice()),
+            (*status, *end),
+        )?;
+    }
+    Ok(())
 }
 
 // The audit of the process 1000 for user id 0 has this status, and its report ends so, where it has so many children. They
@@ -238,27 +234,22 @@ fn check_family(
     rt: &impl Abort,
     alloc: Global,
     children: u32,
-    status: Status,
-    end: &[u8],
+    told: (Status, &[u8]),
 ) -> Result<(), Fail> {
     let root = format!(in alloc; "{SCRIPT}[[process]]\npid = 1000\nuid = 7\n")?;
     let child = "[[process]]\nparent = 1000\npid = ";
     let world = with_rows(alloc, root.as_str(), children, child, "")?;
-    let words = strings(alloc, &["audit", "world", "log", "1000", "uid:0"])?;
-    let mut shelf = shelf(rt, alloc, &world, b"", &[])?;
-    let (got, text) = answer(alloc, &words, &mut shelf, &[])?;
-    assert_eq!(rt; got, status);
-    assert!(rt; text.ends_with(end));
-    Ok(())
+    let words = ["audit", "world", "log", "1000", "uid:0"];
+    check_end(rt, alloc, &words, (world.as_slice(), b""), told)
 }
 
 #[test]
 fn families_have_a_limit(rt: HostRuntime) -> Result<(), Fail> {
     let alloc = rt.alloc();
-    let end = b"\nend 0\nlimit family 256\n";
-    check_family(&rt, alloc, 256, Status::Limit, end)?;
-    let end = b"\nend 0\nno 0\nholder 1\n";
-    check_family(&rt, alloc, 255, Status::No, end)
+    let end: &[u8] = b"\nend 0\nlimit family 256\n";
+    check_family(&rt, alloc, 256, (Status::Limit, end))?;
+    let end: &[u8] = b"\nend 0\nno 0\nholder 1\n";
+    check_family(&rt, alloc, 255, (Status::No, end))
 }
 
 // A claim over this world and this log, of process 1 and user id 0, is past a limit, and the line that says so stands alone.
@@ -270,9 +261,8 @@ fn check_alone(
     log: &[u8],
     report: &[u8],
 ) -> Result<(), Fail> {
-    let words = strings(alloc, &[command, "world", "log", "1", "uid:0", "third"])?;
-    let mut shelf = shelf(rt, alloc, world, log, &[])?;
-    let (got, text) = answer(alloc, &words, &mut shelf, &[])?;
+    let words = [command, "world", "log", "1", "uid:0", "third"];
+    let (got, text) = outcome(rt, alloc, &words, (world, log))?;
     assert_eq!(rt; got, Status::Limit);
     assert!(rt; text.as_slice() == report);
     Ok(())

@@ -1,8 +1,8 @@
 // Reads and writes that fail in turn, and a shelf and a sink that never fail.
-use crate::case::{answer, shelf, shelf_of, strings};
+use crate::case::{REPLAY, answer, outcome, repeated, shelf, shelf_of, strings};
 use cm_cli::{Status, run_surely};
 use cm_io::{SureShelf, SureSink, are_distinct};
-use std::alloc::{AllocError, Global};
+use std::alloc::Global;
 use std::process::Abort;
 use std::test::Fail;
 
@@ -12,23 +12,19 @@ const START: &str =
     "> 100 init uid=0,0,0,0 gid=0,0,0,0 groups=- inh=0000000000000000 prm=000001ffffffffff \
                      eff=000001ffffffffff bnd=000001ffffffffff amb=0000000000000000 sec=00 nnp=0\n";
 
-// A log whose report leaves in several pieces.
-fn long_log(alloc: Global) -> Result<Vec<u8>, AllocError> {
-    let mut log = Vec::new(alloc);
-    for _ in 0..1000 {
-        log.extend_from_slice(b"100 setresuid 1000 1000 1000 = 0\n")?;
-    }
-    Ok(log)
+// A log whose report leaves in several pieces, and that report.
+fn long_replay(rt: &impl Abort, alloc: Global) -> Result<(Vec<u8>, Vec<u8>), Fail> {
+    let log = repeated(alloc, b"100 setresuid 1000 1000 1000 = 0\n", 1000)?;
+    let (status, whole) = outcome(rt, alloc, &REPLAY, (WORLD, log.as_slice()))?;
+    assert_eq!(rt; status, Status::Accepted);
+    Ok((log, whole))
 }
 
 #[test]
 fn reads_fail_in_turn(rt: HostRuntime) -> Result<(), Fail> {
     let alloc = rt.alloc();
-    let words = strings(alloc, &["replay", "world", "log"])?;
-    let log = long_log(alloc)?;
-    let mut sound = shelf(&rt, alloc, WORLD, &log, &[])?;
-    let (status, whole) = answer(alloc, &words, &mut sound, &[])?;
-    assert_eq!(rt; status, Status::Accepted);
+    let words = strings(alloc, &REPLAY)?;
+    let (log, whole) = long_replay(&rt, alloc)?;
 
     // A read of each file, and one that finds its end. Before those of the log nothing is written; then the start lines
     // are, and once all lines are read what they tell: all but the last line, which counts the events.
@@ -54,11 +50,8 @@ fn reads_fail_in_turn(rt: HostRuntime) -> Result<(), Fail> {
 #[test]
 fn writes_fail_in_turn(rt: HostRuntime) -> Result<(), Fail> {
     let alloc = rt.alloc();
-    let words = strings(alloc, &["replay", "world", "log"])?;
-    let log = long_log(alloc)?;
-    let mut sound = shelf(&rt, alloc, WORLD, &log, &[])?;
-    let (status, whole) = answer(alloc, &words, &mut sound, &[])?;
-    assert_eq!(rt; status, Status::Accepted);
+    let words = strings(alloc, &REPLAY)?;
+    let (log, whole) = long_replay(&rt, alloc)?;
     assert!(rt; whole.ends_with(b"end 1000\n"));
     let mut met = 0;
     let mut before = 0;
@@ -125,7 +118,7 @@ fn a_sure_shelf_is_replayed(rt: HostRuntime) -> Result<(), Fail> {
     assert_eq!(rt; texts.len(), names.len());
     let mut shelf = SureShelf::new(alloc, names, texts)?;
     let mut out = SureSink::new(alloc);
-    let words = strings(alloc, &["replay", "world", "log"])?;
+    let words = strings(alloc, &REPLAY)?;
     let status = run_surely(alloc, &words, &mut shelf, &mut out);
     assert_eq!(rt; status, Status::Accepted);
     assert!(rt; out.bytes().ends_with(b"\n1: 100 exit = 0\nend 1\n"));

@@ -1,6 +1,6 @@
 // Logs of many pieces of 65,536 bytes: how far a report goes before a read that fails, how wide the reads are, and lines that
 // are no events. The reports are written by hand, or made here line by line.
-use crate::case::{answer, check, shelf, shelf_of, strings};
+use crate::case::{REPLAY, answer, check, comment, repeated, shelf, shelf_of, strings};
 use cm_cli::Status;
 use std::alloc::{AllocError, Global};
 use std::process::Abort;
@@ -17,11 +17,7 @@ const USER: &str = "> 100 init uid=1000,1000,1000,1000 gid=0,0,0,0 groups=- inh=
 
 // A log of 60,000 lines, 19 bytes each.
 fn log_of_root(alloc: Global) -> Result<Vec<u8>, AllocError> {
-    let mut log = Vec::new(alloc);
-    for _ in 0..60_000 {
-        log.extend_from_slice(b"100 setfsuid 0 = 0\n")?;
-    }
-    Ok(log)
+    repeated(alloc, b"100 setfsuid 0 = 0\n", 60_000)
 }
 
 // What a report tells of so many of these lines.
@@ -45,7 +41,7 @@ fn what_was_read_before_a_fault_is_told(rt: HostRuntime) -> Result<(), Fail> {
     // 55,188 lines end before the place from which on reads fail. The clauses promise a front of the report that holds the
     // start lines, and not how much of it: so that all of these lines are told is seen here.
     let front = told(alloc, 55_188)?;
-    let words = strings(alloc, &["replay", "world", "log"])?;
+    let words = strings(alloc, &REPLAY)?;
     let mut shelf = shelf(&rt, alloc, WORLD, &log, &[])?;
     shelf.fail_from(alloc, "log", 1_048_576)?;
     let (status, text) = answer(alloc, &words, &mut shelf, &[])?;
@@ -76,12 +72,7 @@ fn a_judgement_writes_nothing_before_a_fault(rt: HostRuntime) -> Result<(), Fail
 #[test]
 fn comments_of_many_pieces_are_lines(rt: HostRuntime) -> Result<(), Fail> {
     let alloc = rt.alloc();
-    let mut comment = vec![in alloc; b';'; 1023]?;
-    comment.push(b'\n')?;
-    let mut log = Vec::new(alloc);
-    for _ in 0..70_000 {
-        log.extend_from_slice(&comment)?;
-    }
+    let mut log = repeated(alloc, &comment(alloc, 1023)?, 70_000)?;
     log.extend_from_slice(b"100 setresuid 1000 1000 1000 = 0\n")?;
     let report = format!(in alloc; "{ROOT}70001: 100 setresuid 1000 1000 1000 = 0\n{USER}end 1\n")?;
     check(&rt, alloc, WORLD, &log, Status::Accepted, report.as_bytes())
