@@ -57,7 +57,8 @@ second_name [] = []
 second_name (file ∷ files) = first_name files
 
 -- what holds of its names holds of those that the command has
-names_asked : (t : Task) (world log world' log' : List ℕ) (more : List (List ℕ × Limited)) (Holds : Bool → List ℕ → List ℕ → Type 0)
+names_asked : (t : Task) (world log world' log' : List ℕ) (more : List (List ℕ × Limited))
+    (Holds : Bool → List ℕ → List ℕ → Type 0)
     → files_of (asking t world log) ≡ (world', limit.World) ∷ (log', limit.Log) ∷ more → Holds (shows_of t) world log
     → Holds (shows (task_of (asking t world log) (λ name. []))) world' log'
 unfolding first_name second_name
@@ -72,7 +73,8 @@ pub before_asked : (held : Option Files) (counted : List ℕ → Bool) (t : Task
     → (answer ≡ answers.ReadFault → WritesBefore held counted (shows_of t) world log before now w w')
     → WritesBeforeFault held counted (asking t world log) answer before now w w'
 before_asked held counted t world log answer before now w w' writes is world' log' more names =
-    names_asked t world log world' log' more (λ b x y. WritesBefore held counted b x y before now w w') names (writes is)
+    names_asked t world log world' log' more (λ b x y. WritesBefore held counted b x y before now w w')
+    names (writes is)
 
 -- ---- the world couldn't be read
 pub world_before : (held : Option Files) (counted : List ℕ → Bool) (b : Bool) (world log : List ℕ)
@@ -154,7 +156,8 @@ pub lines_asked : (held : Option Files) (counted : List ℕ → Bool) (t : Task)
     → (answer ≡ answers.ReadFault → LinesAsked held counted (shows_of t) world log before now taken taken' w w')
     → WritesLines held counted (asking t world log) answer before now taken taken' w w'
 lines_asked held counted t world log answer before now taken taken' w w' writes is world' log' more names =
-    names_asked t world log world' log' more (λ b x y. LinesAsked held counted b x y before now taken taken' w w') names (writes is)
+    names_asked t world log world' log' more (λ b x y. LinesAsked held counted b x y before now taken taken' w w')
+    names (writes is)
 
 -- where the world couldn't be read, no count of the log's rose
 pub world_lines : (held : Option Files) (counted : List ℕ → Bool) (b : Bool) (world log : List ℕ)

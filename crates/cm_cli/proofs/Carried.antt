@@ -9,7 +9,8 @@ use Rattle.cm_cli.proofs.Complete.{by_cause, completed, decided, meaning, says_n
 use Rattle.cm_cli.proofs.Drills.{nothing_read}
 use Rattle.cm_cli.proofs.FileReads.{reads_one, reads_still, takes_one, takes_still}
 use Rattle.cm_cli.proofs.InOrder.{world_reads, world_taken, world_waits}
-use Rattle.cm_cli.specs.Answers.{AnswersReport, AsksOfSettled, ComesByCause, CountsReads, IsCompleted, IsDecided, IsValid, NoneRose}
+use Rattle.cm_cli.specs.Answers.{AnswersReport, AsksOfSettled, ComesByCause, CountsReads, IsCompleted, IsDecided}
+use Rattle.cm_cli.specs.Answers.{IsValid, NoneRose}
 use Rattle.cm_cli.specs.BeforeFault.{WritesBeforeFault, WritesLines}
 use Rattle.cm_cli.specs.Carried.{CarriesOut}
 use Rattle.cm_cli.specs.Files.{one_past}
@@ -42,14 +43,16 @@ none_carried command answer a w w' f f' report fine counts waits = record {
 }
 
 -- one of which the world alone was read
-pub world_carried : {answer : Status} {a b : Account} {w w' : Option (List ℕ)} {f f' : ℕ} {failed : Type 0} (t : Task) (world log : List ℕ)
+pub world_carried : {answer : Status} {a b : Account} {w w' : Option (List ℕ)} {f f' : ℕ} {failed : Type 0}
+    (t : Task) (world log : List ℕ)
     → ReadsFile a b world (one_past limit.World) 1 failed → AnswersReport a.held (asking t world log) answer w w'
     → CountsReads a.held (asking t world log) answer a.faults b.faults → CountsWrites answer f f'
     → WritesBeforeFault a.held a.counted (asking t world log) answer a.faults b.faults w w'
     → WritesLines a.held a.counted (asking t world log) answer a.faults b.faults a.taken b.taken w w'
     → CarriesOut (asking t world log) answer a b w w' f f'
 world_carried {a = a} {b = b} t world log file report faults counts before lines =
-    let reads = reads_one a.reads b.reads a.taken b.taken world limit.World (one_past limit.World) file.reads file.takes in
+    let reads = reads_one a.reads b.reads a.taken b.taken world limit.World (one_past limit.World)
+    file.reads file.takes in
     record {
       report = report;
       read_faults = faults;

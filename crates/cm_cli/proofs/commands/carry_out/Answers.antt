@@ -10,7 +10,8 @@ pub returns-in-NoForm : goal.returns-in-NoForm
 returns-in-NoForm g c =
     let a = account g.H.Shelf c.args.shelf.now in
     let told = c.tell_short.ensures in
-    rw c.in-NoForm.is (none_carried NoForm _ a _ _ _ _ (usage_answers a.held _ _ _ _ _ told) told.never_read_fault told.counts tt)
+    rw c.in-NoForm.is (none_carried NoForm _ a _ _ _ _
+    (usage_answers a.held _ _ _ _ _ told) told.never_read_fault told.counts tt)
 
 pub returns-in-Drill : goal.returns-in-Drill
 returns-in-Drill g c =

@@ -74,11 +74,13 @@ returns-in-Err-Refused g c =
     (log_answers held t world log c.tell_short.result _ _
     (IfSome_then held first.read (λ files read j gives.
     tells_as _ _ _ _ _
-    (world_refused (task_view t (bytes_at files)) j (bytes_at files world) (bytes_at files log) c.in-Err-Refused.short read)
+    (world_refused (task_view t (bytes_at files)) j (bytes_at files world) (bytes_at files log)
+    c.in-Err-Refused.short read)
     (as_told _ _ _ _ _ _ told)))
     (told_not_usage _ _ _ _ _ _ told
     (short_not_usage c.in-Err-Refused.short (λ is. first.not_usage (ap (λ s. Err (unready.Refused s)) is)))))
-    (no_read_fault held t world log c.tell_short.result _ _ told.never_read_fault (first.file.faults.others (λ is. cc))) told.counts
+    (no_read_fault held t world log c.tell_short.result _ _ told.never_read_fault (first.file.faults.others (λ is. cc)))
+    told.counts
     (no_fault held _ (asking t world log) c.tell_short.result _ _ _ _ told.never_read_fault)
     (no_lines held _ (asking t world log) c.tell_short.result _ _ _ _ _ _ told.never_read_fault)
 
@@ -90,7 +92,8 @@ returns-in-Err-ReadFault g c =
     let log = c.args.log.now in
     let first = rw c.in-Err-ReadFault.field-0-is at c.in-Err-ReadFault.ensures in
     world_carried t world log first.file (unread_answers held t world log _ _ (λ is. is.not_read_fault refl) (λ is. cc))
-    (world_fault held t world log _ _ (first.file.faults.fault refl) first.file.faults.later) (wrote_none _ _ (λ is. cc))
+    (world_fault held t world log _ _ (first.file.faults.fault refl) first.file.faults.later)
+    (wrote_none _ _ (λ is. cc))
     (before_asked held _ t world log _ _ _ _ _
     (λ _. world_before held (g.H.Shelf.counted c.args.shelf.now) (shows_of t) world log _ _ _ _ _ first.file.apart))
     (lines_asked held _ t world log _ _ _ _ _ _ _
@@ -108,4 +111,5 @@ returns-in-Err-NoMemory g c =
     let first = rw c.in-Err-NoMemory.field-0-is at c.in-Err-NoMemory.ensures in
     world_carried t world log first.file (unread_answers held t world log _ _ (λ is. is.not_memory refl) (λ is. cc))
     (no_read_fault held t world log _ _ _ (λ is. cc) (first.file.faults.others (λ is. cc))) (wrote_none _ _ (λ is. cc))
-    (no_fault held _ (asking t world log) _ _ _ _ _ (λ is. cc)) (no_lines held _ (asking t world log) _ _ _ _ _ _ _ (λ is. cc))
+    (no_fault held _ (asking t world log) _ _ _ _ _ (λ is. cc))
+    (no_lines held _ (asking t world log) _ _ _ _ _ _ _ (λ is. cc))
