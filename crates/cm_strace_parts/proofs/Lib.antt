@@ -6,5 +6,6 @@ pub mod ListOrders
 pub mod Counts
 pub mod Slots
 pub mod Noted
+pub mod Bare
 pub mod Saved
 pub mod LeftAt

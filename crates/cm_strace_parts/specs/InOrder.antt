@@ -1,6 +1,6 @@
 -- The orders of what is known, the count of descriptors, and the pids that are noted; and the same at a savepoint.
 use Rattle.std.specs.Prelude.{◌≡◌, ℕ, length, List, Option, Some, None, is_some, IfSome}
-use Rattle.cm_strace_parts.specs.Slots.{NotesKnown}
+use Rattle.cm_strace_parts.specs.Slots.{NotesBare, NotesKnown}
 use Rattle.cm_strace_parts.specs.Lists.{FdList, ListsInOrder, descriptors_in}
 use Rattle.cm_ordered.specs.Undone.{Tracked}
 use Rattle.model_strace.specs.Parts.{Parts, Task, Kept}
@@ -17,11 +17,12 @@ pub record SavedInOrder (ts : Option (List Task)) (ks : Option (List Kept)) (fs 
   pub files : is_some fs ≡ is_some ts
   pub counted : IfSome fs (λ fs. Counted fs followed)
 
--- Such lists, and each pid that is noted is known.
-pub record InOrder (ts : Tracked Task) (ks : Tracked Kept) (fs : Tracked FdList) (followed saved_followed : ℕ) (slots : List ℕ) : Type 0 where
+-- Such lists, and each pid that is noted as known is, and each that is noted as bare has no descriptor that is followed.
+pub record InOrder (ts : Tracked Task) (ks : Tracked Kept) (fs : Tracked FdList) (followed saved_followed : ℕ) (known_slots bare_slots : List ℕ) : Type 0 where
   pub counted : Counted fs.items followed
   pub saved : SavedInOrder ts.saved ks.saved fs.saved saved_followed
-  pub noted : NotesKnown slots ts.items
+  pub noted : NotesKnown known_slots ts.items
+  pub bare : NotesBare bare_slots (descriptors_in fs.items)
 
 -- what was known at the savepoint, where one is set
 abbrev pub saved_parts : Option (List Task) → Option (List Kept) → Option (List FdList) → ℕ → Option Parts

@@ -1,6 +1,7 @@
--- The pids that are noted as known, in slots by their remainders.
-use Rattle.std.specs.Prelude.{◌≡◌, ℕ, ◌+◌, ◌/◌, ◌%◌, ◌==◌, Bool, true, List, find, is_some, slice_index}
-use Rattle.model_strace.specs.Parts.{Task, is_task}
+-- The pids that are noted, in slots by their remainders.
+use Rattle.std.specs.Prelude.{◌≡◌, ℕ, ◌+◌, ◌/◌, ◌%◌, ◌==◌, Bool, true, false, List, find, is_some, slice_index}
+use Rattle.std.specs.List.{list_any}
+use Rattle.model_strace.specs.Parts.{Descriptor, Task, is_of, is_task}
 
 -- how many slots there are
 abbrev pub slot_count : ℕ
@@ -21,3 +22,7 @@ notes slots pid = slice_index slots (slot_of pid) == mark_of pid
 -- Each pid that is noted is that of a process.
 pub record NotesKnown (slots : List ℕ) (ts : List Task) : Type 0 where
   pub known : (pid : ℕ) → notes slots pid ≡ true → is_some (find (is_task pid) ts) ≡ true
+
+-- None of these descriptors is that of a process whose pid is noted.
+pub record NotesBare (slots : List ℕ) (ds : List Descriptor) : Type 0 where
+  pub bare : (pid : ℕ) → notes slots pid ≡ true → list_any (is_of pid) ds ≡ false

@@ -1,5 +1,6 @@
-// The pids that are noted as known, so that they needn't be looked for. A slot for each remainder of pids holds the
-// last one that was noted of those with that remainder: a pid that isn't noted may be known too.
+// Pids of which something is known without a search: that they are those of processes, or that none of their descriptors
+// is followed. A slot for each remainder of pids holds the last one that was noted of those with that remainder: of a
+// pid that isn't noted the same may be true.
 ghost use Rattle.std.specs.Prelude.{◌≡◌, ◌≢◌, ℕ, true, false};
 ghost use Rattle.cm_base.specs.Outcome.{OrNoMemory};
 ghost use Rattle.cm_strace_parts.specs.Slots.{notes, slot_count, slot_of, mark_of, NotesKnown};
@@ -66,7 +67,7 @@ impl Known {
     }
 
     // No pid is noted.
-    fn clear(&mut self)
+    pub(crate) fn clear(&mut self)
         ensures { (pid : ℕ) → notes self.new pid ≡ false }
     {
         self.slots.fill(0);
@@ -85,6 +86,18 @@ impl Known {
         ensures others { (other : ℕ) → other ≢ pid → notes self.new other ≡ true → notes self.old other ≡ true }
     {
         self.slots[slot(pid)] = mark(pid);
+    }
+
+    // The pid is noted if that is so, instead of any of its slot; else it isn't noted any more.
+    pub(crate) fn note_if(&mut self, pid: Pid, is: bool)
+        ensures own { notes self.new pid ≡ is }
+        ensures others { (other : ℕ) → other ≢ pid → notes self.new other ≡ true → notes self.old other ≡ true }
+    {
+        if is {
+            self.note(pid);
+        } else {
+            self.forget(pid);
+        }
     }
 
     // The pid isn't noted any more.

@@ -35,8 +35,9 @@ pub struct Parts {
     // The same at the savepoint, where one is set.
     saved_followed: u128,
     saved_spaces: u32,
-    // Pids that are noted as known.
+    // Pids that are known to be those of processes, and pids of which no descriptor is known to be followed.
     known: Known,
+    bare: Known,
 }
 
 impl Model for Parts {
@@ -56,7 +57,7 @@ impl Model for Parts {
       saved = saved_parts p.tasks.saved p.kept.saved p.files.saved p.saved_spaces;
     } };
 
-    ghost invariant = { λ p. InOrder p.tasks p.kept p.files p.followed p.saved_followed p.known };
+    ghost invariant = { λ p. InOrder p.tasks p.kept p.files p.followed p.saved_followed p.known p.bare };
 }
 
 // ---- what is known
@@ -69,6 +70,7 @@ impl Parts {
         let start = &w.start;
         let tasks = task::first_tasks(alloc, start.procs.items())?;
         let known = Known::of(alloc, &tasks)?;
+        let bare = known.copy(alloc)?;
         Ok(Parts {
             tasks: Tracked::of(alloc, tasks),
             kept: Tracked::of(alloc, Vec::new(alloc)),
@@ -78,6 +80,7 @@ impl Parts {
             spaces: start.spaces.count(),
             saved_spaces: 0,
             known,
+            bare,
         })
     }
 
@@ -89,6 +92,7 @@ impl Parts {
         let kept = self.kept.copy(alloc)?;
         let files = self.files.copy(alloc)?;
         let known = self.known.copy(alloc)?;
+        let bare = self.bare.copy(alloc)?;
         Ok(Parts {
             tasks,
             kept,
@@ -98,6 +102,7 @@ impl Parts {
             spaces: self.spaces,
             saved_spaces: 0,
             known,
+            bare,
         })
     }
 
@@ -163,7 +168,7 @@ impl Parts {
     pub fn has_descriptor(&self, pid: Pid) -> bool
         ensures { result ≡ has_descriptor pid self.now.known }
     {
-        files::has_any(self.files.items(), pid)
+        !self.bare.has(pid) && files::has_any(self.files.items(), pid)
     }
 
     /// How many descriptors are followed.
@@ -211,6 +216,7 @@ impl Parts {
         self.followed = self.saved_followed;
         self.spaces = self.saved_spaces;
         self.known.renew(self.tasks.items());
+        self.bare.clear();
     }
 
     /// The savepoint isn't set any more, and all is as it is now.
@@ -298,6 +304,7 @@ impl Parts {
         let own = files::count_of(self.files.items(), new.pid);
         file_changes::follow(&mut self.files, alloc, &new)?;
         self.followed = files::count_after(self.files.items(), new.pid, self.followed, own);
+        self.bare.forget(new.pid);
         Ok(())
     }
 
@@ -313,9 +320,14 @@ impl Parts {
         ensures saved { self.new.saved ≡ self.old.saved }
         ensures unchanged { LeftOnErr result self.new self.old }
     {
+        if self.bare.has(pid) {
+            return Ok(());
+        }
         let own = files::count_of(self.files.items(), pid);
         file_changes::forget(&mut self.files, alloc, pid, number)?;
         self.followed = files::count_after(self.files.items(), pid, self.followed, own);
+        let any = files::has_any(self.files.items(), pid);
+        self.bare.note_if(pid, !any);
         Ok(())
     }
 
@@ -326,9 +338,14 @@ impl Parts {
         ensures saved { self.new.saved ≡ self.old.saved }
         ensures unchanged { LeftOnErr result self.new self.old }
     {
+        if self.bare.has(pid) {
+            return Ok(());
+        }
         let own = files::count_of(self.files.items(), pid);
         file_changes::execute(&mut self.files, alloc, pid)?;
         self.followed = files::count_after(self.files.items(), pid, self.followed, own);
+        let any = files::has_any(self.files.items(), pid);
+        self.bare.note_if(pid, !any);
         Ok(())
     }
 }
@@ -355,6 +372,8 @@ impl Parts {
         let own = files::count_of(self.files.items(), child);
         file_changes::bear_unless(&mut self.files, alloc, parent, child, shares)?;
         self.followed = files::count_after(self.files.items(), child, self.followed, own);
+        let any = files::has_any(self.files.items(), child);
+        self.bare.note_if(child, !any);
         let born = Task {
             pid: child,
             space,

@@ -1,5 +1,6 @@
-use Rattle.std.proofs.Common.{◌∙◌, List, ap, arith, filter, length, sym}
+use Rattle.std.proofs.Common.{◌∙◌, List, ap, arith, filter, length, refl, sym}
 use Rattle.std.proofs.lemmas.List.{length-map}
+use Rattle.cm_strace_parts.proofs.Bare.{asked_bare}
 use Rattle.cm_strace_parts.proofs.Counts.{born_stay, counted_anew, recounted}
 use Rattle.cm_strace_parts.proofs.Noted.{born_noted, changed_noted}
 use Rattle.cm_strace_parts.proofs.Saved.{left_never, unset}
@@ -18,6 +19,7 @@ invariant_of-self-in_err-bear_unless c = record {
   counted = rw c.in_err-bear_unless.ensures.unchanged c.self.invariant.counted;
   saved = rw (c.in_err-bear_unless.ensures.saved, c.in_ok-reserve_one.ensures.saved) c.self.invariant.saved;
   noted = rw c.in_ok-reserve_one.ensures.items c.self.invariant.noted;
+  bare = rw c.in_err-bear_unless.ensures.unchanged c.self.invariant.bare;
 }
 
 pub invariant_of-self-in_err-share : goal.invariant_of-self-in_err-share
@@ -26,6 +28,10 @@ invariant_of-self-in_err-share c = record {
   saved = rw (c.in_err-share.ensures.saved, c.in_ok-reserve_one.ensures.saved, c.in_ok-bear_unless.ensures.saved)
       c.self.invariant.saved;
   noted = rw (c.in_err-share.ensures.unchanged, c.in_ok-reserve_one.ensures.items) c.self.invariant.noted;
+  bare = rw c.in_ok-bear_unless.ensures.items (asked_bare c.args.child c.has_any-any.result c.note_if.ensures.own
+      (c.has_any-any.ensures ∙ rw (c.items-3.ensures, c.in_ok-bear_unless.ensures.items) refl) c.note_if.ensures.others
+      (born_stay c.args.shares c.args.child (filter (is_of c.args.parent) (descriptors_in c.self.inside.files.items))
+      (descriptors_in c.self.inside.files.items)) c.self.invariant.bare);
 }
 
 pub invariant_of-self-in_err-put : goal.invariant_of-self-in_err-put
@@ -40,6 +46,10 @@ invariant_of-self-in_err-put c = record {
   noted = rw (c.in_err-put.ensures.unchanged, c.in_ok-share.ensures.items) (changed_noted
       (sharing_task c.args.parent c.args.shares) (λ t. grind arith)
       (rw c.in_ok-reserve_one.ensures.items c.self.invariant.noted));
+  bare = rw c.in_ok-bear_unless.ensures.items (asked_bare c.args.child c.has_any-any.result c.note_if.ensures.own
+      (c.has_any-any.ensures ∙ rw (c.items-3.ensures, c.in_ok-bear_unless.ensures.items) refl) c.note_if.ensures.others
+      (born_stay c.args.shares c.args.child (filter (is_of c.args.parent) (descriptors_in c.self.inside.files.items))
+      (descriptors_in c.self.inside.files.items)) c.self.invariant.bare);
 }
 
 pub invariant_of-self-2 : goal.invariant_of-self-2
@@ -54,6 +64,10 @@ invariant_of-self-2 c = record {
   noted = rw (c.in_ok-put.ensures.items, c.in_ok-share.ensures.items) (born_noted _
       c.note.ensures.others (changed_noted (sharing_task c.args.parent c.args.shares)
       (λ t. grind arith) (rw c.in_ok-reserve_one.ensures.items c.self.invariant.noted)));
+  bare = rw c.in_ok-bear_unless.ensures.items (asked_bare c.args.child c.has_any-any.result c.note_if.ensures.own
+      (c.has_any-any.ensures ∙ rw (c.items-3.ensures, c.in_ok-bear_unless.ensures.items) refl) c.note_if.ensures.others
+      (born_stay c.args.shares c.args.child (filter (is_of c.args.parent) (descriptors_in c.self.inside.files.items))
+      (descriptors_in c.self.inside.files.items)) c.self.invariant.bare);
 }
 
 pub returns-in_err-share-clause-unchanged : goal.returns-in_err-share-clause-unchanged

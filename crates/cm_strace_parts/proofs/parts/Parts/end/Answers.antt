@@ -1,4 +1,5 @@
 use Rattle.std.proofs.Common.{sym}
+use Rattle.cm_strace_parts.proofs.Bare.{filtered_bare}
 use Rattle.cm_strace_parts.proofs.Counts.{counted_anew, ended_stay, recounted}
 use Rattle.cm_strace_parts.proofs.Noted.{ended_noted}
 use Rattle.cm_strace_parts.proofs.Saved.{left_never, unset}
@@ -15,6 +16,7 @@ invariant_of-self-in_err-remove-2 c = record {
   saved = rw (c.in_err-remove-2.ensures.saved, c.in_ok-remove.ensures.saved) c.self.invariant.saved;
   noted = rw c.in_ok-remove.ensures.items (ended_noted c.args.pid c.forget.ensures.gone c.forget.ensures.others
       c.self.invariant.noted);
+  bare = c.self.invariant.bare;
 }
 
 pub invariant_of-self-in_err-remove-3 : goal.invariant_of-self-in_err-remove-3
@@ -24,6 +26,7 @@ invariant_of-self-in_err-remove-3 c = record {
       c.self.invariant.saved;
   noted = rw c.in_ok-remove.ensures.items (ended_noted c.args.pid c.forget.ensures.gone c.forget.ensures.others
       c.self.invariant.noted);
+  bare = rw c.in_err-remove-3.ensures.unchanged c.self.invariant.bare;
 }
 
 pub invariant_of-self-2 : goal.invariant_of-self-2
@@ -33,6 +36,7 @@ invariant_of-self-2 c = record {
       c.self.invariant.saved;
   noted = rw c.in_ok-remove.ensures.items (ended_noted c.args.pid c.forget.ensures.gone c.forget.ensures.others
       c.self.invariant.noted);
+  bare = rw c.in_ok-remove-3.ensures.items (filtered_bare _ c.self.invariant.bare);
 }
 
 pub returns-in_err-remove-clause-never : goal.returns-in_err-remove-clause-never

@@ -1,3 +1,5 @@
+use Rattle.std.proofs.Common.{◌∙◌, refl, sym}
+use Rattle.cm_strace_parts.proofs.Bare.{asked_bare, none_closed, same_parts}
 use Rattle.cm_strace_parts.proofs.Counts.{counted_anew, executed_stay, recounted}
 use Rattle.cm_strace_parts.proofs.parts.Parts.execute.Goals as goal
 
@@ -11,4 +13,12 @@ invariant_of-self-2 c = record {
   counted = counted_anew c.in_ok-execute.ensures.ordered c.items-2.ensures c.count_after-self-inside.ensures;
   saved = rw c.in_ok-execute.ensures.saved c.self.invariant.saved;
   noted = c.self.invariant.noted;
+  bare = rw c.in_ok-execute.ensures.items (asked_bare c.args.pid c.has_any-any.result c.note_if.ensures.own
+      (c.has_any-any.ensures ∙ rw (c.items-3.ensures, c.in_ok-execute.ensures.items) refl) c.note_if.ensures.others
+      (executed_stay c.args.pid _) c.self.invariant.bare);
 }
+
+pub returns-then-has-clause-changed : goal.returns-then-has-clause-changed
+returns-then-has-clause-changed c =
+    let same = none_closed c.args.pid c.self.invariant.bare (sym c.has.ensures ∙ c.if-has.true) in
+    rw c.self.view_is (same_parts _ _ same)

@@ -1,4 +1,5 @@
 use Rattle.std.proofs.Common.{refl}
+use Rattle.cm_strace_parts.proofs.Bare.{empty_bare}
 use Rattle.cm_strace_parts.proofs.Orders.{first_ascends}
 use Rattle.cm_strace_parts.proofs.parts.Parts.first.Goals as goal
 
@@ -17,4 +18,5 @@ invariant_of-result c = record {
     counted = tt;
   });
   noted = rw (c.of-2.ensures.items, ← c.deref.ensures.value) c.in_ok-known.ensures;
+  bare = rw (c.of-4.ensures.items, c.new-2.ensures.items) (empty_bare _);
 }

@@ -9,4 +9,5 @@ invariant_of-self-2 c = record {
   saved = rw c.in_ok-move_to.ensures.saved c.self.invariant.saved;
   noted = rw c.in_ok-move_to.ensures.items (changed_noted (moved_task c.args.pid c.args.space.0) (λ t. grind arith)
       c.self.invariant.noted);
+  bare = c.self.invariant.bare;
 }

@@ -1,4 +1,5 @@
 use Rattle.std.proofs.Common.{◌∙◌, sym, ap, refl, is_some}
+use Rattle.cm_strace_parts.proofs.Bare.{cleared_bare}
 use Rattle.cm_strace_parts.proofs.Saved.{lists_then, was_saved}
 use Rattle.cm_strace_parts.proofs.parts.Parts.roll_back.Goals as goal
 use Rattle.cm_strace_parts.specs.Savepoints.{Saved}
@@ -17,6 +18,7 @@ invariant_of-self c =
         counted = tt;
       });
       noted = rw (← c.items.ensures) c.renew.ensures;
+      bare = cleared_bare c.clear.ensures;
     }
 
 pub returns-clause-back : goal.returns-clause-back
