@@ -1,18 +1,17 @@
 // The arguments of a call, one after another: each is taken from the front of those that are left. Their numbers, from
 // 1 on, are for the faults alone.
 ghost use Rattle.std.specs.Prelude.{◌≡◌, ◌∷◌, [], IfErr, IfOk, drop};
-ghost use Rattle.cm_strace_calls.specs.Readers.{first_read, first_capability, next_is, next_read};
-ghost use Rattle.cm_strace_calls.specs.Told.{and_make};
+ghost use Rattle.cm_strace_calls.specs.Readers.{first_read, first_capability};
 ghost use Rattle.cm_strace_text.specs.Depths.{arguments_in};
 ghost use Rattle.cm_strace_values.specs.Outcomes.{outcome_is};
 ghost use Rattle.model_strace.specs.Calls.{lacking, number_of, text_of};
 ghost use Rattle.model_strace.specs.Numbers.{securebits};
-ghost use Rattle.model_text.specs.Token.{id_token, number_token};
+ghost use Rattle.model_text.specs.Token.{number_token};
 
 use cm_base::LineFault;
 use cm_strace_text::next_argument;
 use cm_strace_values::{Outcome, read_capability, read_securebits};
-use cm_tokens::{read_id, read_number};
+use cm_tokens::read_number;
 
 /// The next argument, and what is left after it; this fault where there is none.
 pub(crate) fn needed(
@@ -57,17 +56,6 @@ pub(crate) fn number_of(left: Option<&[u8]>) -> Option<u32>
 {
     let (text, _) = next_text(left);
     read_number(text)
-}
-
-/// The id that the next argument is, which has that number, and what is left after it; or its fault.
-pub(crate) fn id(number: u32, left: Option<&[u8]>) -> Result<(u32, Option<&[u8]>), LineFault>
-    ensures { and_make next_is result ≡ next_read id_token number (arguments_in left.entry) }
-{
-    let (text, rest) = needed(left, LineFault::Argument(number))?;
-    match read_id(text) {
-        Some(id) => Ok((id, rest)),
-        None => Err(LineFault::Argument(number)),
-    }
 }
 
 /// The number that the next argument is, which has that number, or its fault.

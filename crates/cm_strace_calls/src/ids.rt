@@ -3,18 +3,21 @@ ghost use Rattle.std.specs.Prelude.{◌≡◌, IsTrue};
 ghost use Rattle.cm_filter.specs.Shapes.{shape_of};
 ghost use Rattle.cm_state.specs.Call.{call_of};
 ghost use Rattle.cm_strace_calls.specs.Made.{has_ids};
+ghost use Rattle.cm_strace_calls.specs.Readers.{next_is, next_read};
 ghost use Rattle.cm_strace_calls.specs.Told.{and_make, told_is};
 ghost use Rattle.cm_strace_text.specs.Depths.{arguments_in};
 ghost use Rattle.cm_strace_values.specs.Outcomes.{outcome_is};
 ghost use Rattle.model_cred.specs.World.{World};
 ghost use Rattle.model_strace.specs.Calls.{ids_result, ids_read, ids_told};
+ghost use Rattle.model_text.specs.Token.{id_token};
 
-use crate::arguments::id;
 use crate::told::Told;
 use cm_base::{LineFault, Res};
 use cm_filter::{CallKind, Shape};
 use cm_state::Call;
+use cm_strace_text::next_argument;
 use cm_strace_values::Outcome;
+use cm_tokens::read_id;
 
 /// A line of such a call.
 pub(crate) fn read<'a>(kind: CallKind, arguments: Option<&[u8]>, outcome: Outcome) -> Told<'a>
@@ -58,5 +61,18 @@ fn read_call(kind: CallKind, arguments: Option<&[u8]>) -> Result<Call, LineFault
             let (third, _) = id(3, left)?;
             Ok(Call::with_three_ids(kind, first, second, third))
         }
+    }
+}
+
+// The id that the next argument is, which has that number, and what is left after it; or its fault.
+fn id(number: u32, left: Option<&[u8]>) -> Result<(u32, Option<&[u8]>), LineFault>
+    ensures { and_make next_is result ≡ next_read id_token number (arguments_in left.entry) }
+{
+    let Some((text, rest)) = next_argument(left) else {
+        return Err(LineFault::Argument(number));
+    };
+    match read_id(text) {
+        Some(id) => Ok((id, rest)),
+        None => Err(LineFault::Argument(number)),
     }
 }

@@ -11,11 +11,9 @@ mod files;
 mod groups;
 mod ids;
 mod listed;
-mod names;
 mod prctl;
 mod told;
 
-pub use call::{read_call, read_named};
+pub use call::{named_call, read_call, read_named};
 pub use listed::{Listed, ReadFor};
-pub use names::named_call;
 pub use told::{Opening, Told};

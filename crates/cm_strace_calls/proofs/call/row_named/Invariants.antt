@@ -1,5 +1,5 @@
 use Rattle.std.proofs.Common.{◌≡◌, drop}
-use Rattle.cm_strace_calls.proofs.names.row_named.Given as goal
+use Rattle.cm_strace_calls.proofs.call.row_named.Given as goal
 use Rattle.cm_strace_calls.specs.Names.{named_in}
 use Rattle.cm_strace_calls.specs.Told.{read_for_is}
 use Rattle.cm_strace_values.specs.Tables.{rows_of}

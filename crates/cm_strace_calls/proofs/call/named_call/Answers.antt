@@ -1,6 +1,6 @@
 use Rattle.std.proofs.Common.{◌∙◌}
 use Rattle.cm_strace_calls.proofs.FirstBytes.{named_begun, short_names_none}
-use Rattle.cm_strace_calls.proofs.names.call_begun.Goals as goal
+use Rattle.cm_strace_calls.proofs.call.named_call.Goals as goal
 use Rattle.cm_strace_calls.specs.Told.{read_for_is}
 use Rattle.cm_strace_values.specs.Tables.{rows_of}
 
