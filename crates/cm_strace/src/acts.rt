@@ -6,14 +6,13 @@ ghost use Rattle.cm_base.specs.Limited.{limit_number};
 ghost use Rattle.cm_base.specs.Limits.{greatest_number};
 ghost use Rattle.cm_base.specs.Outcome.{OrNoMemory};
 ghost use Rattle.cm_base.specs.declared.limited.Limited.TheVariants.{Descriptors};
-ghost use Rattle.cm_base.specs.declared.res.Res.TheVariants.{Done};
 ghost use Rattle.cm_state.specs.Call.{call_of};
 ghost use Rattle.cm_strace.specs.Deeds.{child_of, left_of, line_turn, GivesEvent};
 ghost use Rattle.cm_strace.specs.Given.{placed_at, read_is, Gave};
 ghost use Rattle.cm_strace_parts.specs.Savepoints.{LeftOnErr};
 ghost use Rattle.model_strace.specs.After.{preceded};
 ghost use Rattle.model_strace.specs.Lines.{given_at};
-ghost use Rattle.model_strace.specs.Turn.{after_call, done, with_child};
+ghost use Rattle.model_strace.specs.Turn.{after_call, with_child};
 
 use crate::deed::{Birth, Deed, Origin};
 use crate::stage::{Stage, Stop};
@@ -48,7 +47,13 @@ pub(crate) fn conclude(
         }
         Deed::Refused(why) => Ok(Stage::Stopped(Stop::Fault(origin.line, why))),
         Deed::Exceeds(limit) => Ok(Stage::Stopped(Stop::Limit(limit))),
-        Deed::Does(call, answer) => does(alloc, parts, origin, call, answer, events),
+        Deed::Does(call, answer) => {
+            events.reserve(1)?;
+            change(alloc, parts, origin.pid, &call, &answer)?;
+            forget(parts, origin.pid, origin.resumed)?;
+            put_event(events, origin, call, answer);
+            Ok(Stage::Going)
+        }
         Deed::Bears(birth) => bears(alloc, parts, origin, birth, events),
         Deed::Ends => ends(parts, origin, events),
     }
@@ -65,32 +70,6 @@ fn forget(parts: &mut Parts, pid: Pid, resumed: bool) -> Result<(), NoMemory>
         parts.forget_kept(pid)?;
     }
     Ok(())
-}
-
-// A call with its result.
-fn does(
-    alloc: Global,
-    parts: &mut Parts,
-    origin: Origin,
-    call: Call,
-    answer: Res,
-    events: &mut Vec<Placed>,
-) -> Result<Stage, NoMemory>
-    requires { parts.old.known.spaces < greatest_number }
-    ensures given { OrNoMemory result (λ stage. Gave stage events.new.items (read_is None parts.new.known)
-        (preceded events.old.items (given_at origin.line
-        (done origin.pid (call_of call) answer (left_of origin.resumed origin.pid parts.old.known))))) }
-    ensures saved { parts.new.saved ≡ parts.old.saved }
-    ensures unchanged { LeftOnErr result parts.new parts.old }
-    ensures spaces { OrNoMemory result (λ _. parts.new.known.spaces ≤ parts.old.known.spaces + 1) }
-{
-    events.reserve(1)?;
-    let pid = origin.pid;
-    let resumed = origin.resumed;
-    change(alloc, parts, pid, &call, &answer)?;
-    forget(parts, pid, resumed)?;
-    put_event(events, origin, call, answer);
-    Ok(Stage::Going)
 }
 
 // The end of a process.
@@ -166,25 +145,13 @@ fn change(
     ensures spaces { OrNoMemory result (λ _. parts.new.known.spaces ≤ parts.old.known.spaces + 1) }
 {
     match answer {
-        Res::Done => change_done(alloc, parts, pid, call),
+        Res::Done => match call {
+            Call::Unshare => parts.move_to_new(pid),
+            Call::SetNs(space) => parts.move_to(pid, *space),
+            Call::Exec(_) => parts.execute(alloc, pid),
+            _ => Ok(()),
+        },
         Res::Id(_) | Res::Child(_) | Res::Err(_) => Ok(()),
-    }
-}
-
-// The same after one that is done.
-fn change_done(alloc: Global, parts: &mut Parts, pid: Pid, call: &Call) -> Result<(), NoMemory>
-    requires { parts.old.known.spaces < greatest_number }
-    ensures changed { OrNoMemory result (λ _. parts.new.known
-        ≡ after_call pid (call_of call.now) Done parts.old.known) }
-    ensures saved { parts.new.saved ≡ parts.old.saved }
-    ensures unchanged { LeftOnErr result parts.new parts.old }
-    ensures spaces { OrNoMemory result (λ _. parts.new.known.spaces ≤ parts.old.known.spaces + 1) }
-{
-    match call {
-        Call::Unshare => parts.move_to_new(pid),
-        Call::SetNs(space) => parts.move_to(pid, *space),
-        Call::Exec(_) => parts.execute(alloc, pid),
-        _ => Ok(()),
     }
 }
 

@@ -2,7 +2,7 @@ use Rattle.std.proofs.Common.{◌≡◌, ℕ, Bool, true, false, List, [], ◌�
 use Rattle.cm_base.specs.declared.res.Res.{Res}
 use Rattle.cm_state.specs.Call.{call_of}
 use Rattle.cm_strace.proofs.Resumed.{after_without}
-use Rattle.cm_strace.proofs.acts.does.Goals as goal
+use Rattle.cm_strace.proofs.acts.conclude.Goals as goal
 use Rattle.model_cred.specs.Call.{Call}
 use Rattle.model_strace.specs.After.{Goes, preceded}
 use Rattle.model_strace.specs.Lines.{given_at}
@@ -20,9 +20,10 @@ call_given true line pid call answer old events start changed made first second 
     rw (third, second, first, after_without pid pid call answer start) refl
 call_given false line pid call answer old events start changed made first second third = rw (third, second, first) refl
 
-pub returns-clause-given : goal.returns-clause-given
-returns-clause-given c =
-    call_given c.args.origin.resumed c.args.origin.line c.args.origin.pid
-    (call_of c.args.call) c.args.answer c.args.events.now.items _
-    c.args.parts.now.known _ _ c.in_ok-change.ensures.changed c.in_ok-forget.ensures.changed
-    (rw c.reserve.ensures.items at c.put_event.ensures)
+pub returns-in_ok-forget-in-Does-clause-given : goal.returns-in_ok-forget-in-Does-clause-given
+returns-in_ok-forget-in-Does-clause-given c =
+    rw c.in-Does.is
+    (call_given c.args.origin.resumed c.args.origin.line c.args.origin.pid
+    (call_of c.in-Does.call) c.in-Does.answer c.args.events.now.items _
+    c.args.parts.now.known _ _ c.in_ok-change-in-Does.ensures.changed c.in_ok-forget-in-Does.ensures.changed
+    (rw c.reserve.ensures.items at c.put_event.ensures))
